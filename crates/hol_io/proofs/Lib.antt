@@ -1,0 +1,4 @@
+mod EntryLemmas
+mod Fronts
+mod NameOrder
+mod Pieces
