@@ -1,8 +1,8 @@
 -- A map in memory and the store that it stands for.
-use Rattle.std.proofs.Common.{◌≡◌, ℕ, Bool, true, false, cond, ◌&&◌, List, [], ◌∷◌, map, Option, Some, None, Vec, Global, T, Ordering, refl, ap, sym, ◌∙◌, subst}
-use Rattle.std.specs.declared.cmp.Ordering.TheVariants.{Less, Equal, Greater}
+use Rattle.std.proofs.Common.{◌≡◌, ℕ, Bool, true, false, cond, ◌&&◌, List, [], ◌∷◌, map, Option, Some, Vec, Global, T, Ordering, refl, ap, sym, ◌∙◌, subst}
+use Rattle.std.specs.declared.cmp.Ordering.TheVariants.{Less}
 use Rattle.std.specs.Option.{option_map}
-use Rattle.std.specs.Ordering.{is_eq, is_lt, eq_by_cmp}
+use Rattle.std.specs.Ordering.{is_eq, is_lt}
 use Rattle.std.specs.Cmp.{eq_by_cmp_equiv}
 use Rattle.std.specs.List.{AllByRecursion}
 use Rattle.std.specs.List.Sorted.{IsStrictlySortedBy}
@@ -73,8 +73,8 @@ pub names_same : (entries : List Entry) → IsStrictlySortedBy derived_cmp (map 
 names_same entries s =
     let sorted = sorted_same entries s in
     let whole : store_of entries ≡ store.from_sorted (map bytes_of entries) =
-      store.same_map name_cmp_total name_cmp-IsAntisymmetric (store_of entries) (store.from_sorted (map bytes_of entries))
-      (λ name. store.get-from_entries name_cmp_total (map bytes_of entries) name ∙ sym (store.get-from_sorted name_cmp (map bytes_of entries) name sorted)) in
+    store.same_map name_cmp_total name_cmp-IsAntisymmetric (store_of entries) (store.from_sorted (map bytes_of entries))
+    (λ name. store.get-from_entries name_cmp_total (map bytes_of entries) name ∙ sym (store.get-from_sorted name_cmp (map bytes_of entries) name sorted)) in
     ap (λ m. map (λ e. e.0) (store.entries m)) whole
     ∙ ap (map (λ e. e.0)) (store.entries-from_sorted name_cmp (map bytes_of entries) sorted)
     ∙ names_list entries

@@ -1,7 +1,5 @@
 -- The order of names: it is total, only equal names tie, and it is the one that is derived.
-use Rattle.std.proofs.Common.{◌≡◌, ℕ, List, Ordering, refl, ap, rules}
-use Rattle.std.specs.Ordering.{nat_cmp, on}
-use Rattle.std.specs.declared.cmp.Ordering.TheVariants.{Less, Equal, Greater}
+use Rattle.std.proofs.Common.{◌≡◌, Ordering, refl, rules}
 use Rattle.std.specs.Cmp.{IsTotalOrder, on_total}
 use Rattle.std.specs.Cmp.Lexicographic.{nat_list_cmp_total}
 use Rattle.std.specs.FinMap.{IsAntisymmetric, nat_cmp-IsAntisymmetric, slice_cmp-IsAntisymmetric}

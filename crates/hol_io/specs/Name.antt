@@ -1,5 +1,5 @@
 -- The names of blobs: which there are, their texts, and the order in which a store lists them.
-use Rattle.std.specs.Prelude.{◌≡◌, ℕ, ◌^◌, ◌<◌, ◌≤◌, List, [], ◌∷◌, ◌++◌, codes}
+use Rattle.std.specs.Prelude.{◌≡◌, ◌≢◌, ℕ, ◌^◌, ◌<◌, ◌≤◌, List, [], ◌∷◌, ◌++◌, codes, Option, None, Some}
 use Rattle.std.specs.Fmt.{decimal}
 use Rattle.std.specs.declared.cmp.Ordering.{Ordering}
 use Rattle.std.specs.Ordering.{nat_cmp, on}
@@ -43,3 +43,18 @@ IsName Announced = Unit {0}
 -- The text is that of this name.
 abbrev pub Names : List ℕ → BlobName → Type 0
 Names text name = IsName name × (text_of_name name ≡ text)
+
+-- What reading a text as a version answers.
+abbrev pub TellsVersion : List ℕ → Option ℕ → Type 0
+TellsVersion text None = (version : ℕ) → IsVersion version → decimal version ≢ text
+TellsVersion text (Some version) = IsVersion version × (decimal version ≡ text)
+
+-- What reading a text as two versions answers.
+abbrev pub TellsStep : List ℕ → Option (ℕ × ℕ) → Type 0
+TellsStep text None = (from to : ℕ) → IsVersion from → IsVersion to → text_of_step from to ≢ text
+TellsStep text (Some step) = IsVersion step.0 × IsVersion step.1 × (text_of_step step.0 step.1 ≡ text)
+
+-- What reading a text as a name answers.
+abbrev pub TellsName : List ℕ → Option BlobName → Type 0
+TellsName text None = (name : BlobName) → ¬ Names text name
+TellsName text (Some name) = Names text name

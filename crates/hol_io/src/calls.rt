@@ -1,6 +1,6 @@
 //! Which calls of an object in memory fail.
 ghost use Rattle.std.specs.Prelude.{◌≡◌, ◌≤◌, ◌↔◌, IsTrue};
-ghost use Rattle.hol_io.specs.Calls.{FailsNext, after_call};
+ghost use Rattle.hol_io.specs.Calls.{FailsNext, after_call, first_calls};
 
 use std::marker::Model;
 
@@ -23,7 +23,7 @@ impl Model for Counter {
 impl Counter {
     // No call was made.
     pub(crate) fn new(fails: Vec<u64>) -> Counter
-        ensures { result ≡ record { fails = fails.items; made = 0; faults = 0 } }
+        ensures { result ≡ first_calls fails.items }
     {
         Counter {
             fails,
@@ -48,5 +48,16 @@ impl Counter {
         if failed {
             self.faults = self.faults.saturating_add(1);
         }
+    }
+
+    // Counts a call, and says whether it fails.
+    pub(crate) fn fails_now(&mut self) -> bool
+        ensures listed { IsTrue result ↔ FailsNext self.old }
+        ensures counted { self.new ≡ after_call self.old result }
+        ensures later { self.old.faults ≤ self.new.faults }
+    {
+        let failed = self.next_fails();
+        self.count(failed);
+        failed
     }
 }

@@ -6,6 +6,7 @@ mod buffer;
 mod calls;
 mod mem_sink;
 mod mem_source;
+mod mem_store;
 mod name;
 mod sink;
 mod source;
@@ -14,8 +15,12 @@ mod sure_store;
 
 pub use mem_sink::MemSink;
 pub use mem_source::MemSource;
-pub use name::{BlobName, name_text};
+pub use mem_store::MemStore;
+pub use name::{BlobName, name_text, parse_name};
 pub use sink::{Sink, WriteFailed, write_all};
 pub use source::{ReadFailed, Source};
 pub use store::{BlobStore, PutFault, StoreFailed};
 pub use sure_store::SureStore;
+
+#[cfg(test)]
+mod tests;

@@ -1,11 +1,11 @@
 //! A sink in memory.
 ghost use Rattle.std.specs.Prelude.{◌≡◌, [], IfOk};
-
-use std::alloc::{AllocError, Global};
-use std::marker::Model;
+ghost use Rattle.hol_io.specs.Calls.{first_calls};
 
 use crate::calls::Counter;
 use crate::sink::{Sink, WriteFailed};
+use std::alloc::{AllocError, Global};
+use std::marker::Model;
 
 /// A sink of bytes in memory. It takes at most so many bytes a call and so many in all, and the
 /// calls of given numbers fail.
@@ -41,7 +41,7 @@ impl MemSink {
         ensures taken { IfOk result (λ sink. sink.taken ≡ []) }
         ensures room { IfOk result (λ sink. sink.room ≡ room) }
         ensures piece { IfOk result (λ sink. sink.piece ≡ piece) }
-        ensures calls { IfOk result (λ sink. sink.calls ≡ record { fails = fails.items; made = 0; faults = 0 }) }
+        ensures calls { IfOk result (λ sink. sink.calls ≡ first_calls fails.items) }
     {
         Ok(MemSink {
             bytes: Vec::with_capacity(alloc, room)?,

@@ -1,11 +1,11 @@
 //! A source in memory.
 ghost use Rattle.std.specs.Prelude.{◌≡◌, ◌≤◌};
-
-use std::marker::Model;
+ghost use Rattle.hol_io.specs.Calls.{first_calls};
 
 use crate::buffer::place;
 use crate::calls::Counter;
 use crate::source::{ReadFailed, Source};
+use std::marker::Model;
 
 /// A source of bytes in memory. It gives at most so many bytes a call, and the calls of given
 /// numbers fail.
@@ -35,7 +35,7 @@ impl MemSource {
         requires { 1 ≤ piece }
         ensures left { result.left ≡ bytes.items }
         ensures piece { result.piece ≡ piece }
-        ensures calls { result.calls ≡ record { fails = fails.items; made = 0; faults = 0 } }
+        ensures calls { result.calls ≡ first_calls fails.items }
     {
         MemSource {
             bytes,
@@ -53,7 +53,7 @@ impl Source for MemSource {
     ghost use Rattle.hol_io.specs.Calls.{FailsNext, after_call};
     ghost use Rattle.hol_io.specs.Causes.{HasCause};
     ghost use Rattle.hol_io.specs.Memory.{given};
-    ghost use Rattle.hol_io.specs.Outside.{KeepsRest};
+    ghost use Rattle.hol_io.specs.Buffer.{KeepsRest};
 
     ghost faults = { λ s. s.calls.faults };
 
@@ -73,9 +73,7 @@ impl Source for MemSource {
         ensures calls { self.new.calls ≡ after_call self.old.calls (is_err result) }
         ensures piece { self.new.piece ≡ self.old.piece }
     {
-        let failed = self.calls.next_fails();
-        self.calls.count(failed);
-        if failed {
+        if self.calls.fails_now() {
             return Err(ReadFailed);
         }
         let most = self.piece.min(self.bytes.len() - self.at);

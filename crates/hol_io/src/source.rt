@@ -11,7 +11,7 @@ pub trait Source {
     ghost use Rattle.std.specs.Io.{ReadsAtMost};
     ghost use Rattle.std.specs.Io.KnownBytes.{ReadConsumes};
     ghost use Rattle.hol_io.specs.Causes.{HasCause};
-    ghost use Rattle.hol_io.specs.Outside.{KeepsRest};
+    ghost use Rattle.hol_io.specs.Buffer.{KeepsRest};
 
     // How many faults came so far.
     ghost faults: { Self → ℕ };

@@ -1,7 +1,6 @@
 //! Where blobs are kept.
-use std::alloc::{AllocError, AllocFailed};
-
 use crate::name::BlobName;
+use std::alloc::{AllocError, AllocFailed};
 
 /// A size, a reading or so failed. It comes only where the store's count of faults rose.
 #[derive(Debug, Clone, Copy, PartialEq, Eq)]
@@ -44,7 +43,7 @@ pub trait BlobStore {
     ghost use Rattle.std.specs.Option.{option_map};
     ghost use Rattle.std.specs.Io.{ReadsAtMost};
     ghost use Rattle.hol_io.specs.Causes.{HasCause, HasPutCause};
-    ghost use Rattle.hol_io.specs.Outside.{KeepsRest};
+    ghost use Rattle.hol_io.specs.Buffer.{KeepsRest};
     ghost use Rattle.hol_io.specs.Store.{Store, told, with_content, names, IsFront};
 
     // How many faults came so far.

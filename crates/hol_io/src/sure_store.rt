@@ -3,13 +3,12 @@ ghost use Rattle.std.specs.Prelude.{◌≡◌};
 ghost use Rattle.std.specs.Option.{option_copied};
 ghost use Rattle.std.specs.FinMap as map;
 
-use std::alloc::Global;
-use std::collections::BTreeMap;
-use std::marker::Model;
-
 use crate::buffer::place_from;
 use crate::name::BlobName;
 use crate::store::{BlobStore, PutFault, StoreFailed};
+use std::alloc::Global;
+use std::collections::BTreeMap;
+use std::marker::Model;
 
 /// A store of blobs in memory, which never fails.
 #[derive(Debug, Drop)]
@@ -56,7 +55,7 @@ impl BlobStore for SureStore {
     ghost use Rattle.std.specs.Prelude.{◌≡◌, ◌-◌, [], Some, Ok, length, take, drop, min, IfOk, OnOk, OnErr, IsOkUnless};
     ghost use Rattle.std.specs.Option.{option_map};
     ghost use Rattle.std.specs.FinMap as map;
-    ghost use Rattle.hol_io.specs.Outside.{KeepsRest};
+    ghost use Rattle.hol_io.specs.Buffer.{KeepsRest};
     ghost use Rattle.hol_io.specs.Store.{content, names, IsFront};
 
     ghost faults = { λ _. 0 };
