@@ -7,10 +7,12 @@ mod octets;
 mod ordinals;
 mod units;
 mod varint;
+mod zigzag;
 
-pub use fault::VarFault;
+pub use fault::{UnitsFault, UtfFault, VarFault};
 pub use gap_list::GapList;
 pub use octets::Octets;
 pub use ordinals::Ordinals;
 pub use units::Units;
 pub use varint::{get_vint, get_vlong, put_vint, put_vlong};
+pub use zigzag::{unzigzag32, unzigzag64, zigzag32, zigzag64};
