@@ -3,6 +3,7 @@
 
 mod fault;
 mod gap_list;
+mod java_utf;
 mod octets;
 mod ordinals;
 mod units;
@@ -11,6 +12,7 @@ mod zigzag;
 
 pub use fault::{UnitsFault, UtfFault, VarFault};
 pub use gap_list::GapList;
+pub use java_utf::{get_utf, put_utf};
 pub use octets::Octets;
 pub use ordinals::Ordinals;
 pub use units::Units;
