@@ -1,6 +1,7 @@
 pub mod JavaTexts
 pub mod JavaUnits
 pub mod Runs
+pub mod StringUnits
 pub mod VarReading
 pub mod VarWriting
 pub mod Varints
