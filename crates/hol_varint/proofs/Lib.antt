@@ -1,3 +1,4 @@
+pub mod Characters
 pub mod JavaTexts
 pub mod JavaUnits
 pub mod Runs
