@@ -6,3 +6,4 @@ pub mod StringUnits
 pub mod VarReading
 pub mod VarWriting
 pub mod Varints
+pub mod Windows

@@ -2,7 +2,7 @@
 use Rattle.std.proofs.Common.{◌≡◌, ◌≢◌, inl, inr, ℕ, zero, suc, ◌+◌, ◌-◌, ◌*◌, ◌/◌, ◌%◌, ◌^◌, ◌<◌, ◌≤◌, List, [], ◌∷◌, ◌++◌, length, take, drop, set, get_or, map, refl, sym, ◌∙◌, ap, subst, arith, append_assoc}
 use Rattle.std.proofs.Math.Nat.{pow-suc}
 use Rattle.std.proofs.lemmas.Bool.{cases_eq}
-use Rattle.std.proofs.lemmas.List.{append_cancel_left, drop-drop, drop-set, map_push, length-append, length-drop, length-set, take_at, take-append-drop}
+use Rattle.std.proofs.lemmas.List.{append_cancel_left, drop-drop, drop-set, map_push, length-append, length-drop, length-set, take_at, drop_at, take-append-drop}
 use Rattle.std.proofs.lemmas.Int.Digits.{digits_of_step, first_digits_of, all_below_base_digits_of, number_digits_of}
 use Rattle.std.specs.Int.Digits.{digits_of, AllBelowBase, number_from_digits_after}
 use Rattle.hol_varint.specs.Varint.{SpellsOn, IsVarint, VarStandsBelow, varint_bytes, high_bytes}
@@ -131,3 +131,12 @@ stands_begins limit bytes at number next stands =
     sym (take-append-drop (next - at) (drop at bytes))
     ∙ ap (λ bs. bs ++ drop (next - at) (drop at bytes)) (varint_only _ number stands.spelled)
     ∙ ap (λ bs. varint_bytes number ++ bs) (drop-drop (next - at) at bytes ∙ ap (λ n. drop n bytes) next_is)
+
+pub stands_between : (limit : ℕ) (before behind : List ℕ) (number : ℕ) → number < limit → VarStandsBelow limit (before ++ varint_bytes number ++ behind) (length before) number (length (before ++ varint_bytes number))
+stands_between limit before behind number below =
+    let begins : drop (length before) (before ++ varint_bytes number ++ behind) ≡ varint_bytes number ++ behind =
+      ap (drop (length before)) (append_assoc before (varint_bytes number) behind) ∙ drop_at before (varint_bytes number ++ behind) (length before) refl in
+    let within : length before ≤ length (before ++ varint_bytes number ++ behind) =
+      omega (arith, length-append (before ++ varint_bytes number) behind, length-append before (varint_bytes number)) in
+    subst (VarStandsBelow limit (before ++ varint_bytes number ++ behind) (length before) number) (sym (length-append before (varint_bytes number)))
+    (begins_stands limit (before ++ varint_bytes number ++ behind) (length before) number behind within begins below)

@@ -4,6 +4,7 @@
 mod fault;
 mod gap_list;
 mod java_utf;
+pub mod laws;
 mod octets;
 mod ordinals;
 mod text_units;
