@@ -1,7 +1,8 @@
 -- Java UTF texts, unit by unit, and what stands at a place as a text.
 use Rattle.std.proofs.Common.{◌≡◌, ℕ, suc, ◌+◌, ◌-◌, ◌*◌, ◌/◌, ◌%◌, ◌^◌, ◌<◌, ◌≤◌, List, [], ◌∷◌, ◌++◌, length, take, drop, set, get_or, Some, None, Result, Ok, Err, inl, inr, refl, sym, ◌∙◌, ap, subst, arith, append_assoc}
 use Rattle.std.proofs.lemmas.List.{take_rest, drop-drop, drop_more, length-drop, length-append, length-take-le, take_at, drop_at, set_at, append_cancel_left, take-append-drop}
-use Rattle.hol_varint.specs.JavaUtf.{unit_bytes, java_bytes, utf_bytes, text_length, UtfStandsAt, UtfEndsInside, IsBadUtf, IsFreeUtf, TellsUtf, TellsUnit, AreJavaBytes}
+use Rattle.hol_varint.specs.JavaUtf.{unit_bytes, java_bytes, utf_bytes, text_length, UtfStandsAt, UtfEndsInside, IsBadUtf, IsFreeUtf, TellsUtf, AreJavaBytes}
+use Rattle.hol_varint.specs.JavaBytes.{TellsUnit}
 use Rattle.hol_varint.specs.TextUnits.{AreUnits}
 use Rattle.hol_varint.specs.Yields.{Yields}
 use Rattle.hol_varint.specs.declared.fault.UtfFault.{UtfFault}
@@ -92,13 +93,13 @@ module _ (bytes : List ℕ) (at : ℕ) (units : List ℕ) (next : ℕ) (stands :
       let within = stands.within in
       sym (length-take-le (next - at) (drop at bytes) (omega (arith, length-drop at bytes))) ∙ ap length stands.spelled
 
-  pub utf_stands_inside : UtfEndsInside (drop at bytes) → ⊥
+  utf_stands_inside : UtfEndsInside (drop at bytes) → ⊥
   utf_stands_inside inside = omega (arith, inside, front_within (drop at bytes) units _ begins_there)
 
-  pub utf_stands_bad : IsBadUtf (drop at bytes) → ⊥
+  utf_stands_bad : IsBadUtf (drop at bytes) → ⊥
   utf_stands_bad bad = bad.other units (stands.are, front_text (drop at bytes) units _ begins_there)
 
-pub utf_stands_once : (bytes : List ℕ) (at : ℕ) (us vs : List ℕ) (j k : ℕ) → UtfStandsAt bytes at us j → UtfStandsAt bytes at vs k → (us ≡ vs) × (j ≡ k)
+utf_stands_once : (bytes : List ℕ) (at : ℕ) (us vs : List ℕ) (j k : ℕ) → UtfStandsAt bytes at us j → UtfStandsAt bytes at vs k → (us ≡ vs) × (j ≡ k)
 utf_stands_once bytes at us vs j k p q =
     let same = utf_once us vs _ _ p.are q.are (sym (begins_there bytes at us j p) ∙ begins_there bytes at vs k q) in
     let counts = next_is bytes at us j p ∙ ap (λ ws. length (utf_bytes ws)) same ∙ sym (next_is bytes at vs k q) in

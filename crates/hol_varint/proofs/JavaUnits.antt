@@ -3,13 +3,14 @@ use Rattle.std.proofs.Common.{◌≡◌, ◌⊎◌, inl, inr, ℕ, ◌+◌, ◌-
 use Rattle.std.proofs.lemmas.Bool.{lt-ltb, le-ltb, cases_lt, cases_eq}
 use Rattle.std.proofs.lemmas.List.{append_cancel_left, length-append}
 use Rattle.hol_varint.proofs.Runs.{IsCode}
-use Rattle.hol_varint.specs.JavaUtf.{unit_bytes, java_bytes, BeginsWithUnit, TellsUnit}
+use Rattle.hol_varint.specs.JavaUtf.{unit_bytes, java_bytes}
+use Rattle.hol_varint.specs.JavaBytes.{BeginsWithUnit, TellsUnit}
 
 pub bytes_one : (unit : ℕ) → 0 < unit → unit < 0x80 → unit_bytes unit ≡ unit ∷ []
 unfolding unit_bytes
 bytes_one unit some small = rw (lt-ltb 0 unit some, lt-ltb unit 0x80 small) refl
 
-pub bytes_two : (unit : ℕ) → (unit ≡ 0) ⊎ (0x80 ≤ unit) → unit < 0x800 → unit_bytes unit ≡ (0xC0 + unit / 64) ∷ (0x80 + unit % 64) ∷ []
+bytes_two : (unit : ℕ) → (unit ≡ 0) ⊎ (0x80 ≤ unit) → unit < 0x800 → unit_bytes unit ≡ (0xC0 + unit / 64) ∷ (0x80 + unit % 64) ∷ []
 unfolding unit_bytes
 bytes_two unit (inl none) small = subst (λ u. unit_bytes u ≡ (0xC0 + u / 64) ∷ (0x80 + u % 64) ∷ []) (sym none) refl
 bytes_two unit (inr low) small =

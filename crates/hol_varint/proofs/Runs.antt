@@ -1,8 +1,8 @@
 -- Bytes that are one code of a unit after another, read from their front.
-use Rattle.std.proofs.Common.{◌≡◌, ℕ, ◌^◌, ◌<◌, ◌≤◌, List, [], ◌∷◌, ◌++◌, length, drop, get_or, refl, sym, ◌∙◌, ap, arith, append_assoc, append-nil}
+use Rattle.std.proofs.Common.{◌≡◌, ℕ, ◌^◌, ◌<◌, ◌≤◌, List, [], ◌∷◌, ◌++◌, length, drop, get_or, refl, sym, ◌∙◌, ap, arith, append_assoc}
 use Rattle.std.specs.List.{flat_map}
-use Rattle.std.proofs.lemmas.List.{get_or_default, drop_all, length-drop, length-append, flat_map_more}
-use Rattle.std.proofs.lemmas.List.Elements.{All-nil, All-head, All-tail, All-push}
+use Rattle.std.proofs.lemmas.List.{get_or_default, length-drop, length-append, flat_map_more}
+use Rattle.std.proofs.lemmas.List.Elements.{All-head, All-tail, All-push}
 use Rattle.hol_varint.specs.TextUnits.{AreUnits}
 
 -- numbers that fit in 16 bits, by place, are units
@@ -24,9 +24,6 @@ pub record ReadSoFar (code : ℕ → List ℕ) (bytes : List ℕ) (place : ℕ) 
   pub are : AreUnits units
   pub spelled : bytes ≡ flat_map code units ++ drop place bytes
   pub only : (all : List ℕ) → AreCodes code bytes all → (more : List ℕ) × AreCodes code (drop place bytes) more
-
-pub read_none : (code : ℕ → List ℕ) (bytes : List ℕ) → ReadSoFar code bytes 0 []
-read_none code bytes = record { within = omega arith; are = All-nil (λ unit. unit < 2 ^ 16); spelled = refl; only = λ all are. (all, are) }
 
 module _ (code : ℕ → List ℕ) (is : IsCode code) where
   pub codes_once : (xs ys : List ℕ) → AreUnits xs → AreUnits ys → flat_map code xs ≡ flat_map code ys → xs ≡ ys
@@ -65,6 +62,3 @@ pub read_refused : (code : ℕ → List ℕ) (bytes : List ℕ) (place : ℕ) (u
 read_refused code bytes place units so_far inside none all are =
     let more = so_far.only all are in
     none_from_front code (drop place bytes) more.0 (omega (arith, length-drop place bytes)) none more.1
-
-pub read_whole : (code : ℕ → List ℕ) (bytes : List ℕ) (place : ℕ) (units : List ℕ) → ReadSoFar code bytes place units → length bytes ≤ place → AreCodes code bytes units
-read_whole code bytes place units so_far past = (so_far.are, so_far.spelled ∙ ap (λ bs. flat_map code units ++ bs) (drop_all place bytes past) ∙ append-nil (flat_map code units))

@@ -1,6 +1,7 @@
 //! Java UTF texts: a length of two bytes, and one to three bytes for each UTF-16 unit.
 ghost use Rattle.std.specs.Prelude.{◌≡◌, ℕ, List, ◌<◌, ◌≤◌, ◌++◌, ◌^◌, slice_index, length, take, drop, OnOk, OnErr};
-ghost use Rattle.hol_varint.specs.JavaUtf.{unit_bytes, java_bytes, utf_bytes, UtfStandsAt, UtfEndsInside, IsBadUtf, IsFreeUtf, TellsUtf, TellsJavaBytes, TellsUnit, TellsLowBits};
+ghost use Rattle.hol_varint.specs.JavaUtf.{unit_bytes, java_bytes, utf_bytes, UtfStandsAt, UtfEndsInside, IsBadUtf, IsFreeUtf, TellsUtf};
+ghost use Rattle.hol_varint.specs.JavaBytes.{TellsJavaBytes, TellsUnit, TellsLowBits};
 ghost use Rattle.hol_varint.specs.TextUnits.{AreUnits};
 ghost use Rattle.hol_varint.specs.Yields.{Yields};
 
