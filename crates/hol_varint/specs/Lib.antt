@@ -1,1 +1,6 @@
+pub mod JavaBytes
+pub mod JavaUtf
+pub mod TextUnits
+pub mod Varint
 pub mod Yields
+pub mod Zigzag
