@@ -1,24 +1,23 @@
 -- Lemmas on the populations of word arrays.
-use Rattle.std.proofs.Common.{◌≡◌, ◌↔◌, ℕ, ◌+◌, ◌-◌, ◌*◌, ◌/◌, ◌%◌, ◌^◌, ◌<◌, ◌≤◌, suc, zero, Bool, true, false, List, [], ◌∷◌, ◌++◌, ◌⊎◌, Option, Some, None, length, get_or, set, replicate, refl, sym, ap, ◌∙◌, subst, inl, inr, arith, eqb, min, Fits, w64}
+use Rattle.std.proofs.Common.{◌≡◌, ◌↔◌, ℕ, ◌+◌, ◌-◌, ◌*◌, ◌/◌, ◌%◌, ◌^◌, ◌<◌, ◌≤◌, suc, Bool, true, false, List, [], Option, Some, None, length, get_or, set, refl, sym, ap, ◌∙◌, subst, inl, inr, arith, eqb, min, w64}
 use Rattle.std.specs.Int.{bit_at, trailing_zeros}
 use Rattle.std.specs.Int.Bits.{bit_and, bit_or}
 use Rattle.std.specs.Int.Count.{count_leading_zeros}
-use Rattle.std.specs.Prelude.{Contains, filter}
+use Rattle.std.specs.Prelude.{Contains}
 use Rattle.std.specs.List.{range_with_len}
 use Rattle.std.specs.List.Sorted.{IsStrictlyIncreasing}
-use Rattle.std.proofs.lemmas.Bool.{eq-eqb, ne_eqb, eqb-true, eqb-false, cases_lt, cases_eq, cases_Bool, false≢true}
-use Rattle.std.proofs.lemmas.List.{get_or_append_left, get_or_past, get_or-set_same, get_or-set_other, get_or-replicate}
-use Rattle.std.proofs.Math.Seq.{get_or-append_right}
+use Rattle.std.proofs.lemmas.Bool.{eq-eqb, ne_eqb, eqb-true, cases_lt, cases_eq}
+use Rattle.std.proofs.lemmas.List.{get_or_past, get_or-set_same, get_or-set_other}
 use Rattle.std.proofs.lemmas.List.Kept.{IsStrictlyIncreasing-filter}
 use Rattle.std.proofs.lemmas.Nat.{div-mul-add, mod-mul-add, leading_top, le-div, shr_below, pow_pos}
 use Rattle.std.proofs.Math.Nat.{one-mul}
 use Rattle.std.proofs.Math.Numerals.{one-add}
-use Rattle.std.proofs.Math.ListN.{length-set, length-replicate}
+use Rattle.std.proofs.Math.ListN.{length-set}
 use Rattle.std.proofs.lemmas.List.Elements.{Contains-get_or}
 use Rattle.std.proofs.lemmas.Nat.Bits.{bit_at-zero, bit_at-lt, bit_at_and, bit_at_above, bit_at_mask_inside, bit_at_mask_below, bit_at-trailing_zeros, bit_at_set_same, bit_at_set_other, ones_shl, shr_and_one}
 use Rattle.ordinal_set.specs.Ordinals.{AreOrdinals, with_ordinal, bound_of, IsNextMember, TellsNext}
 use Rattle.ordinal_set.specs.Population.{has_bit, population_of, FitOrdinals}
-use Rattle.ordinal_set.proofs.Members.{Contains-filter, passes-from_filter, Contains-kept, rising-range, Contains-range, same_rising, bound_of-above, bound_of-le, least_from-told, rising-with_ordinal, Contains-with_ordinal_cases, Contains-with_ordinal_itself, Contains-with_ordinal_kept}
+use Rattle.ordinal_set.proofs.Members.{passes-from_filter, Contains-kept, rising-range, Contains-range, same_rising, bound_of-above, bound_of-le, rising-with_ordinal, Contains-with_ordinal_cases, Contains-with_ordinal_itself, Contains-with_ordinal_kept}
 
 -- ---- members and bits
 
@@ -26,12 +25,12 @@ bit_inside : (words : List ℕ) (o : ℕ) → has_bit words o ≡ true → o < 6
 unfolding has_bit
 bit_inside words o h =
     elim (cases_lt (o / 64) (length words)) [
-        inl inside ↦ omega arith
-        | inr past ↦
-            let one = eqb-true (bit_at (get_or words (o / 64) 0) (o % 64)) 1 h in
-            let none : bit_at (get_or words (o / 64) 0) (o % 64) ≡ 0 =
-                ap (λ w. bit_at w (o % 64)) (get_or_past words (o / 64) 0 past) ∙ bit_at-zero (o % 64) in
-            absurd (omega arith)
+      | inl inside ↦ omega arith
+      | inr past ↦
+          let one = eqb-true (bit_at (get_or words (o / 64) 0) (o % 64)) 1 h in
+          let none : bit_at (get_or words (o / 64) 0) (o % 64) ≡ 0 =
+          ap (λ w. bit_at w (o % 64)) (get_or_past words (o / 64) 0 past) ∙ bit_at-zero (o % 64) in
+          absurd (omega arith)
     ]
 
 pub bit_from_member : (words : List ℕ) (o : ℕ) → Contains (population_of words) o → has_bit words o ≡ true
@@ -49,17 +48,17 @@ rising-population words = IsStrictlyIncreasing-filter (has_bit words) (range_wit
 
 pub ordinals-population : (words : List ℕ) → FitOrdinals words → AreOrdinals (population_of words)
 ordinals-population words fit = record {
-    rising = rising-population words;
-    small =
-        λ k d within.
-            let o = get_or (population_of words) k d in
-            fit.small o (bit_from_member words o (Contains-get_or (population_of words) k d within));
+  rising = rising-population words;
+  small =
+      λ k d within.
+      let o = get_or (population_of words) k d in
+      fit.small o (bit_from_member words o (Contains-get_or (population_of words) k d within));
 }
 
 pub fit_few : (words : List ℕ) → length words < 2 ^ 26 → FitOrdinals words
 fit_few words few = record {
-    few = omega arith;
-    small = λ o bit. let inside = bit_inside words o bit in omega arith;
+  few = omega arith;
+  small = λ o bit. let inside = bit_inside words o bit in omega arith;
 }
 
 pub fit_none : FitOrdinals []
@@ -100,21 +99,21 @@ AreClear words low high = (o : ℕ) → low ≤ o → o < high → has_bit words
 
 next_is : (words : List ℕ) (low next : ℕ) → has_bit words next ≡ true → low ≤ next → AreClear words low next → IsNextMember low (population_of words) next
 next_is words low next bit from clear = record {
-    member = member_from_bit words next bit;
-    from = from;
-    least = λ o h reached.
-        elim (cases_lt o next) [
-            inl before ↦ let one = bit_from_member words o h in let none = clear o reached before in absurd cc
-            | inr after ↦ after
-        ];
+  member = member_from_bit words next bit;
+  from = from;
+  least = λ o h reached.
+      elim (cases_lt o next) [
+        | inl before ↦ let one = bit_from_member words o h in let none = clear o reached before in absurd cc
+        | inr after ↦ after
+      ];
 }
 
 pub next_none : (words : List ℕ) (low : ℕ) → AreClear words low (64 * length words) → TellsNext low (population_of words) None
 next_none words low clear o h =
     let one = bit_from_member words o h in
     elim (cases_lt o low) [
-        inl before ↦ before
-        | inr after ↦ let none = clear o after (bit_inside words o one) in absurd cc
+      | inl before ↦ before
+      | inr after ↦ let none = clear o after (bit_inside words o one) in absurd cc
     ]
 
 -- a word whose lower bits may be cut off has the bits of the array's word from `low` on
@@ -131,45 +130,45 @@ next_in_word words low place word some fits is clear =
     let next = place * 64 + zeros in
     let inside : zeros < 64 = lowest.0 in
     let from : low ≤ next =
-        elim (cases_lt next low) [
-            inl before ↦ let none = is.cut zeros inside before in let one = lowest.1 in absurd (omega arith)
-            | inr after ↦ after
-        ] in
+    elim (cases_lt next low) [
+      | inl before ↦ let none = is.cut zeros inside before in let one = lowest.1 in absurd (omega arith)
+      | inr after ↦ after
+    ] in
     let row : next / 64 ≡ place = div-mul-add place 64 zeros inside in
     let column : next % 64 ≡ zeros = mod-mul-add place 64 zeros inside in
     let bit : bit_at (get_or words (next / 64) 0) (next % 64) ≡ 1 =
-        ap (λ k. bit_at (get_or words k 0) (next % 64)) row
-        ∙ ap (λ k. bit_at (get_or words place 0) k) column
-        ∙ sym (is.kept zeros inside from)
-        ∙ lowest.1 in
+    ap (λ k. bit_at (get_or words k 0) (next % 64)) row
+    ∙ ap (λ k. bit_at (get_or words place 0) k) column
+    ∙ sym (is.kept zeros inside from)
+    ∙ lowest.1 in
     next_is words low next (set_bit words next bit) from (λ o reached before.
-        elim (cases_lt o (place * 64)) [
-            inl earlier ↦ clear o reached earlier
-            | inr here ↦
-                let same : o / 64 ≡ place = omega arith in
-                let at : o ≡ place * 64 + o % 64 = omega arith in
-                let lower : o % 64 < zeros = omega arith in
-                let none = lowest.2 (o % 64) lower in
-                let kept = is.kept (o % 64) (omega arith) (omega arith) in
-                clear_bit words o (ap (λ k. bit_at (get_or words k 0) (o % 64)) same ∙ sym kept ∙ none)
-        ])
+    elim (cases_lt o (place * 64)) [
+      | inl earlier ↦ clear o reached earlier
+      | inr here ↦
+          let same : o / 64 ≡ place = omega arith in
+          let at : o ≡ place * 64 + o % 64 = omega arith in
+          let lower : o % 64 < zeros = omega arith in
+          let none = lowest.2 (o % 64) lower in
+          let kept = is.kept (o % 64) (omega arith) (omega arith) in
+          clear_bit words o (ap (λ k. bit_at (get_or words k 0) (o % 64)) same ∙ sym kept ∙ none)
+    ])
 
 -- a word without a bit is passed over
 pub clear_past_word : (words : List ℕ) (low place word : ℕ) → word ≡ 0 → IsWordFrom words low place word → AreClear words low (place * 64) → AreClear words low ((place + 1) * 64)
 clear_past_word words low place word zero_word is clear o reached before =
     elim (cases_lt o (place * 64)) [
-        inl earlier ↦ clear o reached earlier
-        | inr here ↦
-            let same : o / 64 ≡ place = omega arith in
-            let kept = is.kept (o % 64) (omega arith) (omega arith) in
-            clear_bit words o (ap (λ k. bit_at (get_or words k 0) (o % 64)) same ∙ sym kept ∙ ap (λ w. bit_at w (o % 64)) zero_word ∙ bit_at-zero (o % 64))
+      | inl earlier ↦ clear o reached earlier
+      | inr here ↦
+          let same : o / 64 ≡ place = omega arith in
+          let kept = is.kept (o % 64) (omega arith) (omega arith) in
+          clear_bit words o (ap (λ k. bit_at (get_or words k 0) (o % 64)) same ∙ sym kept ∙ ap (λ w. bit_at w (o % 64)) zero_word ∙ bit_at-zero (o % 64))
     ]
 
 -- a word as it stands, asked from its first bit on
 pub whole_word : (words : List ℕ) (low place : ℕ) → low ≤ place * 64 → IsWordFrom words low place (get_or words place 0)
 whole_word words low place h = record {
-    kept = λ i inside from. refl;
-    cut = λ i inside before. absurd (omega arith);
+  kept = λ i inside from. refl;
+  cut = λ i inside before. absurd (omega arith);
 }
 
 -- a word with the bits below an ordinal cut off
@@ -179,34 +178,34 @@ masked_word words o =
     let mask = (2 ^ 64 - 1) * 2 ^ (o % 64) % 2 ^ 64 in
     let high : mask ≡ 2 ^ 64 - 2 ^ (o % 64) = ones_shl 64 (o % 64) (omega arith) in
     record {
-        kept = λ i inside from.
-            let one : bit_at mask i ≡ 1 = ap (λ m. bit_at m i) high ∙ bit_at_mask_inside (o % 64) 64 i (omega arith) inside in
-            let bit = bit_at-lt word i in
-            bit_at_and word mask i ∙ ap (λ b. min (bit_at word i) b) one ∙ omega arith;
-        cut = λ i inside before.
-            let none : bit_at mask i ≡ 0 = ap (λ m. bit_at m i) high ∙ bit_at_mask_below (o % 64) 64 i (omega arith) in
-            bit_at_and word mask i ∙ ap (λ b. min (bit_at word i) b) none ∙ omega arith;
+      kept = λ i inside from.
+          let one : bit_at mask i ≡ 1 = ap (λ m. bit_at m i) high ∙ bit_at_mask_inside (o % 64) 64 i (omega arith) inside in
+          let bit = bit_at-lt word i in
+          bit_at_and word mask i ∙ ap (λ b. min (bit_at word i) b) one ∙ omega arith;
+      cut = λ i inside before.
+          let none : bit_at mask i ≡ 0 = ap (λ m. bit_at m i) high ∙ bit_at_mask_below (o % 64) 64 i (omega arith) in
+          bit_at_and word mask i ∙ ap (λ b. min (bit_at word i) b) none ∙ omega arith;
     }
 
 -- what a look-up from a later ordinal tells, where no bit is set before it
 pub tells_earlier : (words : List ℕ) (low high : ℕ) (answer : Option ℕ) → low ≤ high → AreClear words low high → TellsNext high (population_of words) answer → TellsNext low (population_of words) answer
 tells_earlier words low high None h clear tells =
     λ o member.
-        let one = bit_from_member words o member in
-        let below = tells o member in
-        elim (cases_lt o low) [
-            inl before ↦ before
-            | inr after ↦ let none = clear o after below in absurd cc
-        ]
+    let one = bit_from_member words o member in
+    let below = tells o member in
+    elim (cases_lt o low) [
+      | inl before ↦ before
+      | inr after ↦ let none = clear o after below in absurd cc
+    ]
 tells_earlier words low high (Some next) h clear tells = record {
-    member = tells.member;
-    from = let from = tells.from in omega arith;
-    least = λ o member reached.
-        let one = bit_from_member words o member in
-        elim (cases_lt o high) [
-            inl before ↦ let none = clear o reached before in absurd cc
-            | inr after ↦ tells.least o member after
-        ];
+  member = tells.member;
+  from = let from = tells.from in omega arith;
+  least = λ o member reached.
+      let one = bit_from_member words o member in
+      elim (cases_lt o high) [
+        | inl before ↦ let none = clear o reached before in absurd cc
+        | inr after ↦ tells.least o member after
+      ];
 }
 
 -- ---- the bound
@@ -242,21 +241,20 @@ bound_in_word words place some fits clear =
     let row : (place * 64 + j) / 64 ≡ place = div-mul-add place 64 j under in
     let column : (place * 64 + j) % 64 ≡ j = mod-mul-add place 64 j under in
     let bit : bit_at (get_or words ((place * 64 + j) / 64) 0) ((place * 64 + j) % 64) ≡ 1 =
-        ap (λ k. bit_at (get_or words k 0) ((place * 64 + j) % 64)) row
-        ∙ ap (λ k. bit_at word k) column
-        ∙ top_bit word j top.2 top.3 in
-    (
-        place * 64 + j,
-        omega arith,
-        set_bit words (place * 64 + j) bit,
-        λ o from before.
-            elim (cases_lt o ((place + 1) * 64)) [
-                inl here ↦
-                    let same : o / 64 ≡ place = omega arith in
-                    let past : suc j ≤ o % 64 = omega arith in
-                    clear_bit words o (ap (λ k. bit_at (get_or words k 0) (o % 64)) same ∙ bit_at_above word (suc j) (o % 64) top.3 past)
-                | inr after ↦ clear o after before
-            ]
+    ap (λ k. bit_at (get_or words k 0) ((place * 64 + j) % 64)) row
+    ∙ ap (λ k. bit_at word k) column
+    ∙ top_bit word j top.2 top.3 in (
+      place * 64 + j,
+      omega arith,
+      set_bit words (place * 64 + j) bit,
+      λ o from before.
+          elim (cases_lt o ((place + 1) * 64)) [
+            | inl here ↦
+                let same : o / 64 ≡ place = omega arith in
+                let past : suc j ≤ o % 64 = omega arith in
+                clear_bit words o (ap (λ k. bit_at (get_or words k 0) (o % 64)) same ∙ bit_at_above word (suc j) (o % 64) top.3 past)
+            | inr after ↦ clear o after before
+          ],
     )
 
 -- ---- one bit more
@@ -288,13 +286,13 @@ bit_left words o m inside apart =
     let word = get_or words (o / 64) 0 in
     let new = bit_or word (1 * 2 ^ (o % 64) % 2 ^ 64) in
     let bits = elim (cases_eq (m / 64) (o / 64)) as (λ _. bit_at (get_or (words_with words o) (m / 64) 0) (m % 64) ≡ bit_at (get_or words (m / 64) 0) (m % 64)) [
-        inl same ↦
-            let other : m % 64 ≡ o % 64 → ⊥ = λ e. apart (omega arith) in
-            ap (λ k. bit_at (get_or (words_with words o) k 0) (m % 64)) same
-            ∙ ap (λ w. bit_at w (m % 64)) (get_or-set_same words (o / 64) new 0 inside)
-            ∙ bit_at_set_other w64 word (o % 64) (omega arith) (m % 64) other
-            ∙ ap (λ k. bit_at (get_or words k 0) (m % 64)) (sym same)
-        | inr other ↦ ap (λ w. bit_at w (m % 64)) (get_or-set_other words (o / 64) (m / 64) new 0 other)
+      | inl same ↦
+          let other : m % 64 ≡ o % 64 → ⊥ = λ e. apart (omega arith) in
+          ap (λ k. bit_at (get_or (words_with words o) k 0) (m % 64)) same
+          ∙ ap (λ w. bit_at w (m % 64)) (get_or-set_same words (o / 64) new 0 inside)
+          ∙ bit_at_set_other w64 word (o % 64) (omega arith) (m % 64) other
+          ∙ ap (λ k. bit_at (get_or words k 0) (m % 64)) (sym same)
+      | inr other ↦ ap (λ w. bit_at w (m % 64)) (get_or-set_other words (o / 64) (m / 64) new 0 other)
     ] in
     ap (λ b. eqb b 1) bits
 
@@ -302,41 +300,41 @@ bit_left words o m inside apart =
 pub population-words_with : (words : List ℕ) (o : ℕ) → o / 64 < length words → population_of (words_with words o) ≡ with_ordinal o (population_of words)
 population-words_with words o inside =
     same_rising
-        (population_of (words_with words o))
-        (with_ordinal o (population_of words))
-        (rising-population (words_with words o))
-        (rising-with_ordinal o (population_of words) (rising-population words))
-        (λ m h.
-            let bit = bit_from_member (words_with words o) m h in
-            elim (cases_eq o m) [
-                inl same ↦ subst (λ n. Contains (with_ordinal o (population_of words)) n) same (Contains-with_ordinal_itself o (population_of words))
-                | inr other ↦
-                    Contains-with_ordinal_kept o (population_of words) m (member_from_bit words m (sym (bit_left words o m inside other) ∙ bit))
-            ])
-        (λ m h.
-            elim (cases_eq o m) [
-                inl same ↦ subst (λ n. Contains (population_of (words_with words o)) n) same (member_from_bit (words_with words o) o (bit_put words o inside))
-                | inr other ↦
-                    elim (Contains-with_ordinal_cases o (population_of words) m h) [
-                        inl old ↦ member_from_bit (words_with words o) m (bit_left words o m inside other ∙ bit_from_member words m old)
-                        | inr same ↦ absurd (other same)
-                    ]
-            ])
+    (population_of (words_with words o))
+    (with_ordinal o (population_of words))
+    (rising-population (words_with words o))
+    (rising-with_ordinal o (population_of words) (rising-population words))
+    (λ m h.
+    let bit = bit_from_member (words_with words o) m h in
+    elim (cases_eq o m) [
+      | inl same ↦ subst (λ n. Contains (with_ordinal o (population_of words)) n) same (Contains-with_ordinal_itself o (population_of words))
+      | inr other ↦
+          Contains-with_ordinal_kept o (population_of words) m (member_from_bit words m (sym (bit_left words o m inside other) ∙ bit))
+    ])
+    (λ m h.
+    elim (cases_eq o m) [
+      | inl same ↦ subst (λ n. Contains (population_of (words_with words o)) n) same (member_from_bit (words_with words o) o (bit_put words o inside))
+      | inr other ↦
+          elim (Contains-with_ordinal_cases o (population_of words) m h) [
+            | inl old ↦ member_from_bit (words_with words o) m (bit_left words o m inside other ∙ bit_from_member words m old)
+            | inr same ↦ absurd (other same)
+          ]
+    ])
 
 -- words that read as words that fit do, and are not too many, fit
 pub fit_alike : (old new : List ℕ) → FitOrdinals old → ((k : ℕ) → get_or new k 0 ≡ get_or old k 0) → length new ≤ 2 ^ 26 → FitOrdinals new
 fit_alike old new fit same few = record {
-    few = few;
-    small = λ m bit. fit.small m (sym (same_bit new old m (same (m / 64))) ∙ bit);
+  few = few;
+  small = λ m bit. fit.small m (sym (same_bit new old m (same (m / 64))) ∙ bit);
 }
 
 -- the words with the bit of an ordinal set reach no further than the ordinals do
 pub fit-words_with : (words : List ℕ) (o : ℕ) → FitOrdinals words → o < 2 ^ 32 - 1 → o / 64 < length words → FitOrdinals (words_with words o)
 fit-words_with words o fit small inside = record {
-    few = let few = fit.few in simp length-set (omega arith);
-    small = λ m bit.
-        elim (cases_eq o m) [
-            inl same ↦ omega arith
-            | inr other ↦ fit.small m (sym (bit_left words o m inside other) ∙ bit)
-        ];
+  few = let few = fit.few in simp length-set (omega arith);
+  small = λ m bit.
+      elim (cases_eq o m) [
+        | inl same ↦ omega arith
+        | inr other ↦ fit.small m (sym (bit_left words o m inside other) ∙ bit)
+      ];
 }

@@ -1,2 +1,3 @@
 pub mod Ordinals
 pub mod Population
+pub mod Gaps

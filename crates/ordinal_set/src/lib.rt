@@ -5,3 +5,6 @@ mod scan;
 mod set;
 
 pub use set::OrdinalSet;
+
+#[cfg(test)]
+mod tests;

@@ -2,12 +2,10 @@ ghost use Rattle.std.specs.Prelude.{◌≡◌, ◌-◌, ◌^◌, ◌<◌, ◌↔
 ghost use Rattle.ordinal_set.specs.Ordinals.{AreOrdinals, with_ordinal, bound_of, least_from, TellsNext};
 ghost use Rattle.ordinal_set.specs.Population.{population_of};
 
+use crate::scan::{has_set, last_set, lengthen, next_set};
+use hol_varint::Ordinals;
 use std::alloc::{AllocError, Global};
 use std::marker::Model;
-
-use hol_varint::Ordinals;
-
-use crate::scan::{has_set, last_set, lengthen, next_set};
 
 /// A set of ordinals of rows, numbers below 2^32 - 1, seen as the rising list of its members.
 ///

@@ -1,4 +1,4 @@
-use Rattle.std.proofs.Common.{◌≡◌, ◌+◌, ◌*◌, ◌<◌, get_or, arith}
+use Rattle.std.proofs.Common.{◌≡◌, ◌*◌, ◌<◌, get_or, arith}
 use Rattle.ordinal_set.proofs.Populations.{next_none, next_in_word, clear_past_word, whole_word}
 use Rattle.ordinal_set.proofs.scan.first_set.Goals as goal
 
@@ -16,8 +16,8 @@ loop-place-preserved c =
     let place = c.loop-place.place in
     let none : get_or words place 0 ≡ 0 = omega arith in
     record {
-        from = omega arith;
-        clear = clear_past_word words (c.args.from * 64) place (get_or words place 0) none (whole_word words (c.args.from * 64) place (omega arith)) c.loop-place.invariant.clear;
+      from = omega arith;
+      clear = clear_past_word words (c.args.from * 64) place (get_or words place 0) none (whole_word words (c.args.from * 64) place (omega arith)) c.loop-place.invariant.clear;
     }
 
 pub returns : goal.returns

@@ -1,4 +1,4 @@
-use Rattle.std.proofs.Common.{◌≡◌, ◌+◌, ◌-◌, ◌*◌, ◌/◌, ◌%◌, ◌^◌, ◌<◌, ◌≤◌, get_or, bit_and, arith, ◌∙◌, subst}
+use Rattle.std.proofs.Common.{◌≡◌, ◌+◌, ◌-◌, ◌*◌, ◌/◌, ◌%◌, ◌^◌, ◌<◌, get_or, bit_and, arith}
 use Rattle.std.proofs.lemmas.Nat.{and_le_l}
 use Rattle.ordinal_set.proofs.Populations.{next_none, next_in_word, clear_past_word, masked_word, tells_earlier}
 use Rattle.ordinal_set.proofs.scan.next_set.Goals as goal

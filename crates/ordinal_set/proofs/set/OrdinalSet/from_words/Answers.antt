@@ -1,4 +1,4 @@
-use Rattle.std.proofs.Common.{vec_len, arith}
+use Rattle.std.proofs.Common.{arith}
 use Rattle.ordinal_set.proofs.Populations.{fit_few, ordinals-population}
 use Rattle.ordinal_set.proofs.set.OrdinalSet.from_words.Goals as goal
 

@@ -1,10 +1,10 @@
-use Rattle.std.proofs.Common.{◌≡◌, ◌+◌, ◌*◌, ◌/◌, ◌%◌, ◌^◌, ◌<◌, ◌≤◌, length, get_or, set, bit_or, subst, sym, ap, ◌∙◌, arith}
+use Rattle.std.proofs.Common.{◌≡◌, ◌*◌, ◌/◌, ◌%◌, ◌^◌, ◌<◌, length, set, bit_or, subst, sym, ap, ◌∙◌, arith}
 use Rattle.std.specs.Prelude.{⊤}
 use Rattle.std.proofs.lemmas.Result.{MatchResult-from_err}
 use Rattle.std.proofs.lemmas.List.{get_or_read}
-use Rattle.ordinal_set.specs.Ordinals.{AreOrdinals, with_ordinal}
+use Rattle.ordinal_set.specs.Ordinals.{with_ordinal}
 use Rattle.ordinal_set.specs.Population.{FitOrdinals, population_of}
-use Rattle.ordinal_set.proofs.Populations.{ordinals-population, same_bits, fit_alike, fit-words_with, population-words_with, words_with}
+use Rattle.ordinal_set.proofs.Populations.{ordinals-population, same_bits, fit_alike, fit-words_with, population-words_with}
 use Rattle.ordinal_set.proofs.set.OrdinalSet.insert.Goals as goal
 
 pub invariant_of-self : goal.invariant_of-self
@@ -26,13 +26,13 @@ invariant_of-self-2 c =
     let grown = c.lengthen.new.words.items in
     let o = c.args.o in
     let fit : FitOrdinals grown =
-        fit_alike c.self.inside.words.items grown c.self.invariant c.in_ok-lengthen.ensures.kept (omega (arith, c.lengthen.new.words.ok, c.self.inside.words.ok)) in
+    fit_alike c.self.inside.words.items grown c.self.invariant c.in_ok-lengthen.ensures.kept (omega (arith, c.lengthen.new.words.ok, c.self.inside.words.ok)) in
     let inside : o / 64 < length grown = omega (arith, c.lengthen.new.words.ok, c.in_ok-lengthen.ensures.reached) in
     let read = get_or_read grown (o / 64) c.index_mut.result.now inside c.index_mut.ensures.value 0 in
     subst
-        (λ word. FitOrdinals (set grown (o / 64) (bit_or word (1 * 2 ^ (o % 64) % 2 ^ 64))))
-        (sym read)
-        (fit-words_with grown o fit c.requires inside)
+    (λ word. FitOrdinals (set grown (o / 64) (bit_or word (1 * 2 ^ (o % 64) % 2 ^ 64))))
+    (sym read)
+    (fit-words_with grown o fit c.requires inside)
 
 pub returns-clause-ok : goal.returns-clause-ok
 returns-clause-ok c =

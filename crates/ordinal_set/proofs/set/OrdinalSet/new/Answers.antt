@@ -1,4 +1,4 @@
-use Rattle.std.proofs.Common.{◌≡◌, sym, subst, ap, ◌∙◌}
+use Rattle.std.proofs.Common.{sym, subst, ap, ◌∙◌}
 use Rattle.ordinal_set.specs.Population.{population_of, FitOrdinals}
 use Rattle.ordinal_set.proofs.Populations.{fit_none, population-none}
 use Rattle.ordinal_set.proofs.set.OrdinalSet.new.Goals as goal
