@@ -1,6 +1,6 @@
 -- Java UTF texts, unit by unit, and what stands at a place as a text.
 use Rattle.std.proofs.Common.{◌≡◌, ℕ, suc, ◌+◌, ◌-◌, ◌*◌, ◌/◌, ◌%◌, ◌^◌, ◌<◌, ◌≤◌, List, [], ◌∷◌, ◌++◌, length, take, drop, set, get_or, Some, None, Result, Ok, Err, inl, inr, refl, sym, ◌∙◌, ap, subst, arith, append_assoc}
-use Rattle.std.proofs.lemmas.List.{take_rest, drop-drop, drop_more, get_or-drop, length-drop, length-append, length-take-le, take_at, set_at, take-append-drop}
+use Rattle.std.proofs.lemmas.List.{take_rest, drop-drop, drop_more, get_or-drop, length-drop, length-append, length-take-le, take_at, drop_at, set_at, append_cancel_left, take-append-drop}
 use Rattle.hol_varint.specs.JavaUtf.{unit_bytes, java_bytes, utf_bytes, text_length, UtfStandsAt, UtfEndsInside, IsBadUtf, IsFreeUtf, TellsUtf, TellsUnit, AreJavaBytes}
 use Rattle.hol_varint.specs.TextUnits.{AreUnits}
 use Rattle.hol_varint.specs.Yields.{Yields}
@@ -77,7 +77,7 @@ module _ (rest units behind : List ℕ) (begins : rest ≡ utf_bytes units ++ be
   front_text = ap (λ n. take n (drop 2 rest)) front_length ∙ ap (λ bs. take (length (java_bytes units)) (drop 2 bs)) begins ∙ take_at (java_bytes units) behind (length (java_bytes units)) refl
 
 -- no text's bytes begin those of another one
-pub utf_once : (us vs x y : List ℕ) → AreUnits us → AreUnits vs → utf_bytes us ++ x ≡ utf_bytes vs ++ y → us ≡ vs
+utf_once : (us vs x y : List ℕ) → AreUnits us → AreUnits vs → utf_bytes us ++ x ≡ utf_bytes vs ++ y → us ≡ vs
 utf_once us vs x y p q same =
     codes_once unit_bytes java_code us vs p q
     (sym (front_text (utf_bytes us ++ x) us x refl) ∙ front_text (utf_bytes us ++ x) vs y same)
@@ -129,3 +129,28 @@ module _ (bytes : List ℕ) (at : ℕ) where
   bad (Err Short) tells = (λ e. absurd cc, λ is_bad. absurd (utf_inside_bad (drop at bytes) tells is_bad))
   bad (Err BadName) tells = (λ _. tells, λ _. inl refl)
   bad (Err Memory) tells = (λ e. absurd cc, λ is_bad. inr tt)
+
+pub utf_stands_begins : (bytes : List ℕ) (at : ℕ) (units : List ℕ) (next : ℕ) → UtfStandsAt bytes at units next → drop at bytes ≡ utf_bytes units ++ drop next bytes
+utf_stands_begins bytes at units next stands =
+    let from = stands.from in
+    let next_is : at + (next - at) ≡ next = omega arith in
+    begins_there bytes at units next stands ∙ ap (λ bs. utf_bytes units ++ bs) (drop-drop (next - at) at bytes ∙ ap (λ n. drop n bytes) next_is)
+
+pub utf_stands_between : (before behind units : List ℕ) → AreUnits units → length (java_bytes units) < 2 ^ 16 → UtfStandsAt (before ++ utf_bytes units ++ behind) (length before) units (length (before ++ utf_bytes units))
+utf_stands_between before behind units are fits =
+    let begins : drop (length before) (before ++ utf_bytes units ++ behind) ≡ utf_bytes units ++ behind =
+      ap (drop (length before)) (append_assoc before (utf_bytes units) behind) ∙ drop_at before (utf_bytes units ++ behind) (length before) refl in
+    let count : length (before ++ utf_bytes units) - length before ≡ length (utf_bytes units) = omega (arith, length-append before (utf_bytes units)) in
+    record {
+      from = omega (arith, length-append before (utf_bytes units));
+      within = omega (arith, length-append (before ++ utf_bytes units) behind);
+      are = are;
+      fits = fits;
+      spelled = ap (λ n. take n (drop (length before) (before ++ utf_bytes units ++ behind))) count ∙ ap (take (length (utf_bytes units))) begins ∙ take_at (utf_bytes units) behind (length (utf_bytes units)) refl;
+    }
+
+-- no text's bytes begin those of another one, and what stands behind is the same
+pub utf_apart : (us vs x y : List ℕ) → AreUnits us → AreUnits vs → utf_bytes us ++ x ≡ utf_bytes vs ++ y → (us ≡ vs) × (x ≡ y)
+utf_apart us vs x y p q same =
+    let one = utf_once us vs x y p q same in
+    (one, append_cancel_left (utf_bytes us) x y (same ∙ ap (λ ws. utf_bytes ws ++ y) (sym one)))
