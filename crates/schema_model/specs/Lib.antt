@@ -1,1 +1,5 @@
+pub mod Checked
+pub mod Model
+pub mod Parts
+pub mod Path
 pub mod Reason

@@ -2,14 +2,18 @@
 #![tactic(auto)]
 
 mod areas;
+mod faults;
 mod fields;
 mod name;
+mod name_index;
 mod names;
 mod pairs;
 mod path;
 mod paths;
 mod reason;
 mod row;
+mod rule;
+mod rules;
 mod schema;
 mod schemas;
 mod values;
@@ -17,6 +21,7 @@ mod widths;
 mod words;
 
 pub use areas::Areas;
+pub use faults::{ModelFault, PathFault};
 pub use fields::Fields;
 pub use name::Name;
 pub use names::Names;
@@ -25,6 +30,7 @@ pub use path::Path;
 pub use paths::Paths;
 pub use reason::Reason;
 pub use row::{Row, Value};
+pub use rule::Rule;
 pub use schema::{Field, FieldKind, Schema, Shape};
 pub use schemas::Schemas;
 pub use values::Values;

@@ -1,0 +1,21 @@
+-- What the test of one rule of a model answers, and what an index of names keeps.
+use Rattle.std.specs.Prelude.{◌≡◌, ℕ, ◌<◌, List, Option, Result, Ok, Err}
+use Rattle.std.specs.BTreeMap.{BTreeMap, get_by_text}
+use Rattle.std.specs.declared.alloc.Global.{Global}
+use Rattle.std.specs.declared.string.String.{String}
+use Rattle.schema_model.specs.Parts.{name_index}
+use Rattle.schema_model.specs.Model.{BreaksAt, IsKept}
+use Rattle.schema_model.specs.declared.schema.Schema.{Schema}
+use Rattle.schema_model.specs.declared.rule.Rule.{Rule}
+use Rattle.schema_model.specs.declared.faults.ModelFault.{ModelFault}
+use Rattle.schema_model.specs.declared.faults.ModelFault.TheVariants.{Broken, Memory}
+
+-- The rule is kept, or this is the first type that breaks it.
+abbrev pub TellsRule : {T : Type 0} → List Schema → Rule → Result T ModelFault → Type 0
+TellsRule schemas rule (Ok x) = IsKept schemas rule
+TellsRule schemas rule (Err (Broken r t)) = (r ≡ rule) × BreaksAt schemas rule t × ((u : ℕ) → u < t → ¬ BreaksAt schemas rule u)
+TellsRule schemas rule (Err Memory) = Unit {0}
+
+-- The map has each of the names at the first index at which it stands, and no other name.
+abbrev pub Indexes : List (List ℕ) → BTreeMap (String Global) ℕ → Type 0
+Indexes names places = (name : List ℕ) → get_by_text places name ≡ name_index names name
