@@ -1,1 +1,3 @@
 pub mod Indexing
+pub mod ReferenceChains
+pub mod RuleTests

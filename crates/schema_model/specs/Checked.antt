@@ -1,5 +1,6 @@
 -- What the test of one rule of a model answers, and what an index of names keeps.
-use Rattle.std.specs.Prelude.{◌≡◌, ℕ, ◌<◌, List, Option, Result, Ok, Err}
+use Rattle.std.specs.Prelude.{◌≡◌, ℕ, zero, suc, ◌<◌, Bool, true, false, List, Option, Result, Ok, Err, length, map, replicate, slice_index_or}
+use Rattle.std.specs.List.{list_any}
 use Rattle.std.specs.BTreeMap.{BTreeMap, get_by_text}
 use Rattle.std.specs.declared.alloc.Global.{Global}
 use Rattle.std.specs.declared.string.String.{String}
@@ -19,3 +20,12 @@ TellsRule schemas rule (Err Memory) = Unit {0}
 -- The map has each of the names at the first index at which it stands, and no other name.
 abbrev pub Indexes : List (List ℕ) → BTreeMap (String Global) ℕ → Type 0
 Indexes names places = (name : List ℕ) → get_by_text places name ≡ name_index names name
+
+-- Whether one of these types is marked.
+abbrev pub has_chained : List Bool → List ℕ → Bool
+has_chained marks row = list_any (λ u. slice_index_or marks u false) row
+
+-- For each type, whether a chain of this many references can be followed from it.
+abbrev pub chained : List (List ℕ) → ℕ → List Bool
+chained rows zero = replicate (length rows) true
+chained rows (suc n) = map (has_chained (chained rows n)) rows

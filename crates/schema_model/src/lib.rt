@@ -2,6 +2,7 @@
 #![tactic(auto)]
 
 mod areas;
+mod chains;
 mod faults;
 mod fields;
 mod name;

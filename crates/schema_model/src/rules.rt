@@ -1,8 +1,7 @@
-ghost use Rattle.std.specs.Prelude.{◌≡◌, ◌<◌, ◌≤◌, ◌↔◌, ◌⊎◌, ℕ, length, Some, IfOk, OnOk, IsTrue, SomeIndex, slice_get};
+ghost use Rattle.std.specs.Prelude.{◌≡◌, ◌<◌, ◌≤◌, ◌↔◌, ◌⊎◌, ℕ, List, length, Some, IfOk, OnOk, IsTrue, SomeIndex, slice_get, slice_index_or, []};
 ghost use Rattle.schema_model.specs.Checked.{Indexes, TellsRule};
-ghost use Rattle.schema_model.specs.Model.{BreaksAt, Breaks};
+ghost use Rattle.schema_model.specs.Model.{BreaksAt, IsKept, StandsEarlier, reference_rows};
 ghost use Rattle.schema_model.specs.Parts.{fields_of, type_names};
-ghost use Rattle.schema_model.specs.declared.schema.Schema.{Schema};
 
 use crate::name_index::{Places, has_repeated_field, place_of};
 use crate::{Field, ModelFault, Rule, Schema, Schemas, Shape};
@@ -26,17 +25,36 @@ pub(crate) fn fields_of(schema: &Schema) -> &[Field]
     }
 }
 
+/// Whether a type is past the greatest number of types, or has too many fields.
+fn is_too_many(schemas: &Schemas, t: usize) -> bool
+    requires { t < length schemas.now }
+    ensures { IsTrue result ↔ BreaksAt schemas.now Rule.TooMany t }
+{
+    let fields = fields_of(schemas.get(t));
+    t >= MAX_TYPES || fields.len() > MAX_FIELDS
+}
+
 /// Tries the numbers of types and of fields.
 pub(crate) fn check_sizes(schemas: &Schemas) -> Result<(), ModelFault>
     ensures tells { TellsRule schemas.now Rule.TooMany result }
     ensures few { OnOk result (length schemas.now ≤ 512) }
 {
     for t in 0..schemas.len() {
-        if t >= MAX_TYPES || fields_of(schemas.get(t)).len() > MAX_FIELDS {
+        if is_too_many(schemas, t) {
             return Err(ModelFault::Broken(Rule::TooMany, t as u32));
         }
     }
     Ok(())
+}
+
+/// Whether the name at an index stands earlier in an indexed list.
+fn stands_earlier(places: &Places, name: &str, t: usize) -> bool
+    ensures { (names : List (List ℕ)) → Indexes names places.now → t < length names → slice_index_or names t [] ≡ name.now → (IsTrue result ↔ StandsEarlier names t) }
+{
+    match place_of(places, name) {
+        Some(first) => (first as usize) < t,
+        None => false,
+    }
 }
 
 /// Whether the name of a type stands earlier, or the name of a field within it.
@@ -48,12 +66,31 @@ fn has_repeated_name(
 ) -> Result<bool, AllocError>
     requires inside { t < length schemas.now }
     requires indexed { Indexes (type_names schemas.now) places.now }
-    requires few { (schema : Schema) → slice_get schemas.now t ≡ Some schema → length (fields_of schema) ≤ 1024 }
+    requires few { IsKept schemas.now Rule.TooMany }
     ensures { IfOk result (λ repeated. IsTrue repeated ↔ BreaksAt schemas.now Rule.DuplicateName t) }
 {
     let schema = schemas.get(t);
-    match place_of(places, schema.name.text()) {
-        Some(first) if (first as usize) < t => Ok(true),
-        _ => has_repeated_field(alloc, fields_of(schema)),
+    if stands_earlier(places, schema.name.text(), t) {
+        return Ok(true);
     }
+    has_repeated_field(alloc, fields_of(schema))
+}
+
+/// Tries the names of types and of fields, which stand once.
+pub(crate) fn check_names(
+    alloc: Global,
+    schemas: &Schemas,
+    places: &Places,
+) -> Result<(), ModelFault>
+    requires indexed { Indexes (type_names schemas.now) places.now }
+    requires few { IsKept schemas.now Rule.TooMany }
+    requires short { length schemas.now ≤ 512 }
+    ensures { TellsRule schemas.now Rule.DuplicateName result }
+{
+    for t in 0..schemas.len() {
+        if has_repeated_name(alloc, schemas, places, t)? {
+            return Err(ModelFault::Broken(Rule::DuplicateName, t as u32));
+        }
+    }
+    Ok(())
 }

@@ -1,0 +1,49 @@
+-- From what a loop over the types finds to what the test of a rule tells.
+use Rattle.std.proofs.Common.{◌≡◌, ℕ, ◌<◌, ◌≤◌, ◌∙◌, sym, ap, subst, List, Option, Some, None, length, slice_get, arith, ◌⊎◌, inl, inr, true, false, Bool, get_or, []}
+use Rattle.std.specs.Prelude.{IsTrue, ◌↔◌}
+use Rattle.std.proofs.lemmas.Option.{slice_get_within, slice_get-get_or}
+use Rattle.std.proofs.lemmas.Bool.{cases_lt}
+use Rattle.std.specs.Prelude.{SomeIndex}
+use Rattle.schema_model.specs.Model.{BreaksAt, Breaks, IsKept, StandsEarlier}
+use Rattle.schema_model.specs.Parts.{fields_of, field_names, type_names}
+use Rattle.schema_model.specs.declared.rule.Rule.TheVariants.{TooMany, DuplicateName}
+use Rattle.schema_model.specs.declared.rule.Rule.{Rule}
+use Rattle.schema_model.specs.declared.schema.Field.{Field}
+use Rattle.schema_model.specs.declared.schema.Schema.{Schema}
+use Rattle.schema_model.specs.declared.schema.Shape.TheVariants.{Set}
+
+-- a rule that no type breaks at an index below the length is kept
+pub kept_below : (schemas : List Schema) (rule : Rule) (n : ℕ) → length schemas ≤ n → ((u : ℕ) → u < n → ¬ BreaksAt schemas rule u) → IsKept schemas rule
+kept_below schemas rule n all below t breaks = below t (let inside = slice_get_within schemas t breaks.0 breaks.1 in omega arith) breaks
+
+-- a test that says no
+pub told_no : {P : Type 0} (b : Bool) → (IsTrue b ↔ P) → b ≡ false → P → ⊥
+told_no b tells e p = let good = tells.1 p in let bad : false ≡ true = sym e ∙ good in cc
+
+-- the type at an index has one schema
+pub same_schema : (schemas : List Schema) (t : ℕ) (r s : Schema) → slice_get schemas t ≡ Some r → slice_get schemas t ≡ Some s → r ≡ s
+same_schema schemas t r s a b = let e : Some r ≡ Some s = sym a ∙ b in cc
+
+-- what a type breaks is a fact of its schema
+pub breaks_itself : (schemas : List Schema) (rule : Rule) (t : ℕ) (s : Schema) → slice_get schemas t ≡ Some s → BreaksAt schemas rule t → Breaks schemas rule t s
+breaks_itself schemas rule t s at (r, e, breaks) = subst (λ x. Breaks schemas rule t x) (same_schema schemas t r s e at) breaks
+
+-- how many fields a type has where no type has too many
+pub few_fields : (schemas : List Schema) (t : ℕ) (s : Schema) → slice_get schemas t ≡ Some s → IsKept schemas TooMany → length (fields_of s) ≤ 1024
+few_fields schemas t s at kept = elim (cases_lt 1024 (length (fields_of s))) [ inl more ↦ absurd (kept t (s, at, inr more)) | inr few ↦ few ]
+
+-- what is left of the test of names, where the type's name stands first
+pub repeated_name : (schemas : List Schema) (t : ℕ) (s : Schema) → slice_get schemas t ≡ Some s → ¬ StandsEarlier (type_names schemas) t → (fields : List Field)
+    → fields ≡ fields_of s → (b : Bool) → (IsTrue b ↔ SomeIndex (field_names fields) (StandsEarlier (field_names fields))) → IsTrue b ↔ BreaksAt schemas DuplicateName t
+repeated_name schemas t s at first fields same b tells =
+    let again = subst (λ (fs : List Field). IsTrue b ↔ SomeIndex (field_names fs) (StandsEarlier (field_names fs))) same tells in
+    (λ e. (s, at, inr (again.0 e)),
+        λ breaks. elim (breaks_itself schemas DuplicateName t s at breaks) [ inl stands ↦ absurd (first stands) | inr twice ↦ again.1 twice ])
+
+-- a type that breaks nothing is not past the 512th
+pub few_types : (schemas : List Schema) (t : ℕ) → t < length schemas → ¬ BreaksAt schemas TooMany t → t < 512
+few_types schemas t inside kept =
+    elim (cases_lt t 512) [
+        inl few ↦ few
+      | inr many ↦ let d : Schema = record { name = []; shape = Set [] } in absurd (kept (get_or schemas t d, slice_get-get_or schemas t d inside, inl many))
+    ]
