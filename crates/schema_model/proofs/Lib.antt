@@ -1,3 +1,4 @@
 pub mod Indexing
+pub mod NamedTypes
 pub mod ReferenceChains
 pub mod RuleTests

@@ -1,6 +1,6 @@
 -- What the test of one rule of a model answers, and what an index of names keeps.
-use Rattle.std.specs.Prelude.{◌≡◌, ℕ, zero, suc, ◌<◌, Bool, true, false, List, Option, Result, Ok, Err, length, map, replicate, slice_index_or}
-use Rattle.std.specs.List.{list_any}
+use Rattle.std.specs.Prelude.{◌≡◌, ℕ, zero, suc, ◌<◌, Bool, true, false, List, Option, Result, Ok, Err, length, map, replicate, slice_index_or, is_some, Some, None, if◌then◌else◌}
+use Rattle.std.specs.List.{list_any, list_all, filter_map}
 use Rattle.std.specs.BTreeMap.{BTreeMap, get_by_text}
 use Rattle.std.specs.declared.alloc.Global.{Global}
 use Rattle.std.specs.declared.string.String.{String}
@@ -29,3 +29,11 @@ has_chained marks row = list_any (λ u. slice_index_or marks u false) row
 abbrev pub chained : List (List ℕ) → ℕ → List Bool
 chained rows zero = replicate (length rows) true
 chained rows (suc n) = map (has_chained (chained rows n)) rows
+
+-- Whether an index is found for each name.
+abbrev pub are_known : (List ℕ → Option ℕ) → List (List ℕ) → Bool
+are_known find names = list_all (λ name. is_some (find name)) names
+
+-- the indexes of all the names, if each has one
+abbrev pub all_references : (List ℕ → Option ℕ) → List (List ℕ) → Option (List ℕ)
+all_references find names = if are_known find names then Some (filter_map find names) else None

@@ -1,7 +1,7 @@
-ghost use Rattle.std.specs.Prelude.{◌≡◌, ◌<◌, ◌≤◌, ◌+◌, ℕ, List, [], Option, Some, None, length, map, IfOk, IfSome, IfNone, MatchOption, slice_index_or, false};
-ghost use Rattle.std.specs.List.{list_any, position};
+ghost use Rattle.std.specs.Prelude.{◌≡◌, ◌<◌, ◌≤◌, ◌+◌, ℕ, length, map, IfOk};
+ghost use Rattle.std.specs.List.{position};
 ghost use Rattle.schema_model.specs.Checked.{TellsRule, chained, has_chained};
-ghost use Rattle.schema_model.specs.Model.{HasChain, reference_rows};
+ghost use Rattle.schema_model.specs.Model.{reference_rows};
 
 use crate::{ModelFault, Rule, Schemas};
 use hol_varint::Ordinals;
@@ -20,6 +20,13 @@ fn has_marked(row: &[u32], marks: &[bool]) -> bool
         }
     }
     false
+}
+
+/// The first marked type.
+fn first_mark(marks: &[bool]) -> Option<usize>
+    ensures { result ≡ position (λ mark. mark) marks.now }
+{
+    marks.iter().position(|mark| *mark)
 }
 
 /// Marks the types that refer to a marked one.
@@ -55,5 +62,39 @@ fn endless_marks(alloc: Global, rows: &[Ordinals]) -> Result<Vec<bool>, AllocErr
             return Ok(marks);
         }
         marks = next;
+    }
+}
+
+/// Tries that no type's references lead into a cycle.
+pub(crate) fn check_cycles(
+    alloc: Global,
+    schemas: &Schemas,
+    rows: &[Ordinals],
+) -> Result<(), ModelFault>
+    requires rows { rows.now ≡ reference_rows schemas.now }
+    requires short { length schemas.now ≤ 512 }
+    ensures { TellsRule schemas.now Rule.CyclicModel result }
+{
+    let marks = endless_marks(alloc, rows)?;
+    match first_mark(marks.as_slice()) {
+        Some(t) => Err(ModelFault::Broken(Rule::CyclicModel, t as u32)),
+        None => Ok(()),
+    }
+}
+
+/// Tries that no chain of references goes through too many types.
+pub(crate) fn check_depth(
+    alloc: Global,
+    schemas: &Schemas,
+    rows: &[Ordinals],
+) -> Result<(), ModelFault>
+    requires rows { rows.now ≡ reference_rows schemas.now }
+    requires short { length schemas.now ≤ 512 }
+    ensures { TellsRule schemas.now Rule.TooDeep result }
+{
+    let marks = marks_after(alloc, rows, MAX_DEPTH)?;
+    match first_mark(marks.as_slice()) {
+        Some(t) => Err(ModelFault::Broken(Rule::TooDeep, t as u32)),
+        None => Ok(()),
     }
 }
