@@ -66,7 +66,8 @@ name_found names name i found =
     let known = position-Some p names i [] (position_from-zero p names ∙ found) in
     (known.0, (bytes_eq-Decides (get_or names i []) name).0 known.1, λ k below same. let no = known.2 k below in let good = (bytes_eq-Decides (get_or names k []) name).1 same in cc)
 
-passes_none : {X : Type 0} (p : X → Bool) (d : X) (k : ℕ) (xs : List X) → position_from p k xs ≡ None → (i : ℕ) → i < length xs → p (get_or xs i d) ≡ true → ⊥
+-- no element passes where no first one is found
+pub passes_none : {X : Type 0} (p : X → Bool) (d : X) (k : ℕ) (xs : List X) → position_from p k xs ≡ None → (i : ℕ) → i < length xs → p (get_or xs i d) ≡ true → ⊥
 passes_none p d k [] none i below good = omega arith
 passes_none p d k (x ∷ xs) none zero below good = let e : cond true (Some k) (position_from p (k + 1) xs) ≡ None = subst (λ b. cond b (Some k) (position_from p (k + 1) xs) ≡ None) good none in cc
 passes_none p d k (x ∷ xs) none (suc i) below good =

@@ -26,7 +26,7 @@ abbrev pub has_chained : List Bool → List ℕ → Bool
 has_chained marks row = list_any (λ u. slice_index_or marks u false) row
 
 -- For each type, whether a chain of this many references can be followed from it.
-abbrev pub chained : List (List ℕ) → ℕ → List Bool
+unfoldable pub chained : List (List ℕ) → ℕ → List Bool
 chained rows zero = replicate (length rows) true
 chained rows (suc n) = map (has_chained (chained rows n)) rows
 

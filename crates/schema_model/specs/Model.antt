@@ -22,7 +22,7 @@ abbrev pub reference_rows : List Schema → List (List ℕ)
 reference_rows schemas = map (references schemas) schemas
 
 -- From the type at an index a chain of this many references can be followed.
-abbrev pub HasChain : List (List ℕ) → ℕ → ℕ → Type 0
+unfoldable pub HasChain : List (List ℕ) → ℕ → ℕ → Type 0
 HasChain rows zero t = t < length rows
 HasChain rows (suc n) t = Any (HasChain rows n) (slice_index_or rows t [])
 

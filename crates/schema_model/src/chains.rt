@@ -41,6 +41,7 @@ fn next_marks(alloc: Global, rows: &[Ordinals], marks: &[bool]) -> Result<Vec<bo
 }
 
 /// Marks the types from which a chain of this many references can be followed.
+#[tactic(auto, unfolding(crate::specs::Checked::chained))]
 fn marks_after(alloc: Global, rows: &[Ordinals], count: u32) -> Result<Vec<bool>, AllocError>
     ensures { IfOk result (λ marks. marks.items ≡ chained rows.now count) }
 {
@@ -52,6 +53,7 @@ fn marks_after(alloc: Global, rows: &[Ordinals], count: u32) -> Result<Vec<bool>
 }
 
 /// Marks the types from which chains of every length can be followed.
+#[tactic(auto, unfolding(crate::specs::Checked::chained))]
 fn endless_marks(alloc: Global, rows: &[Ordinals]) -> Result<Vec<bool>, AllocError>
     ensures { IfOk result (λ marks. (k : ℕ) × (marks.items ≡ chained rows.now k) × (chained rows.now (k + 1) ≡ chained rows.now k)) }
 {

@@ -4,6 +4,7 @@ use Rattle.schema_model.proofs.ReferenceChains.{fewer_after_round, marks_same}
 use Rattle.schema_model.proofs.chains.endless_marks.Goals as goal
 
 pub returns-then-eq : goal.returns-then-eq
+unfolding chained
 returns-then-eq c =
     let k = c.loop-marks.invariant.0 in
     let next : c.in_ok-next.next.items ≡ chained c.args.rows.now (suc k) =
@@ -19,6 +20,7 @@ loop-marks-smaller c =
     (sym c.eq.ensures ∙ c.if-eq.false)
 
 pub loop-marks-preserved : goal.loop-marks-preserved
+unfolding chained
 loop-marks-preserved c =
     (suc c.loop-marks.invariant.0,
         c.in_ok-next.ensures ∙ ap (λ marks. map (has_chained marks) c.args.rows.now) (c.as_slice.ensures.value ∙ c.loop-marks.invariant.1))
