@@ -1,5 +1,5 @@
 -- What the test of one rule of a model answers, and what an index of names keeps.
-use Rattle.std.specs.Prelude.{◌≡◌, ℕ, zero, suc, ◌<◌, Bool, true, false, List, Option, Result, Ok, Err, length, map, replicate, slice_index_or, is_some, Some, None, if◌then◌else◌}
+use Rattle.std.specs.Prelude.{◌≡◌, ℕ, zero, suc, ◌<◌, Bool, true, false, List, Option, Result, Ok, Err, length, map, replicate, slice_index_or, is_some, Some, None, if◌then◌else◌, slice_get, ◌++◌}
 use Rattle.std.specs.List.{list_any, list_all, filter_map}
 use Rattle.std.specs.BTreeMap.{BTreeMap, get_by_text}
 use Rattle.std.specs.declared.alloc.Global.{Global}
@@ -8,6 +8,11 @@ use Rattle.schema_model.specs.Parts.{name_index}
 use Rattle.schema_model.specs.Model.{BreaksAt, IsKept}
 use Rattle.schema_model.specs.declared.schema.Schema.{Schema}
 use Rattle.schema_model.specs.declared.rule.Rule.{Rule}
+use Rattle.schema_model.specs.Path.{RefersTo}
+use Rattle.schema_model.specs.declared.schema.Field.{Field}
+use Rattle.schema_model.specs.declared.schema.FieldKind.{FieldKind}
+use Rattle.schema_model.specs.declared.faults.PathFault.{PathFault}
+use Rattle.schema_model.specs.declared.faults.PathFault.TheVariants.{BadPath as Bad, Memory as Want}
 use Rattle.schema_model.specs.declared.faults.ModelFault.{ModelFault}
 use Rattle.schema_model.specs.declared.faults.ModelFault.TheVariants.{Broken, Memory}
 
@@ -37,3 +42,19 @@ are_known find names = list_all (λ name. is_some (find name)) names
 -- the indexes of all the names, if each has one
 abbrev pub all_references : (List ℕ → Option ℕ) → List (List ℕ) → Option (List ℕ)
 all_references find names = if are_known find names then Some (filter_map find names) else None
+
+-- The place of the field of a name, if the fields have one.
+abbrev pub TellsField : List Field → List ℕ → Option ℕ → Type 0
+TellsField fields name (Some i) = (f : Field) × (slice_get fields i ≡ Some f) × (f.name ≡ name)
+TellsField fields name None = (i : ℕ) (f : Field) → slice_get fields i ≡ Some f → f.name ≡ name → ⊥
+
+-- The type that a field of this kind refers to, if it refers to one.
+abbrev pub TellsReferred : List Schema → FieldKind → Option ℕ → Type 0
+TellsReferred schemas kind (Some u) = RefersTo schemas kind u
+TellsReferred schemas kind None = (u : ℕ) → ¬ RefersTo schemas kind u
+
+-- The fields of a way were added, or there is no such way.
+abbrev pub TellsWay : {T : Type 0} → (List ℕ → Type 0) → List ℕ → List ℕ → Result T PathFault → Type 0
+TellsWay way old new (Ok x) = (more : List ℕ) × (new ≡ old ++ more) × way more
+TellsWay way old new (Err Bad) = (more : List ℕ) → ¬ way more
+TellsWay way old new (Err Want) = Unit {0}

@@ -14,6 +14,7 @@ mod path;
 mod paths;
 mod reason;
 mod references;
+mod resolve;
 mod row;
 mod rule;
 mod rules;
