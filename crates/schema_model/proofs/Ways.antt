@@ -1,16 +1,16 @@
 -- The ways that paths lead: how one goes on, and that there is no other.
 use Rattle.std.proofs.Common.{◌≡◌, ℕ, zero, suc, ◌+◌, ◌-◌, ◌<◌, ◌≤◌, ◌∙◌, sym, ap, subst, refl, List, [], ◌∷◌, ◌++◌, Option, Some, None, length, slice_get, take, get_or, map, arith, ◌⊎◌, inl, inr, eqb, cond, not, Bool, true, false, append_assoc, Result, Ok, Err}
-use Rattle.std.specs.List.{filter_map, Contains, cons_option, position_or_len, onto_first, before_first, after_first}
-use Rattle.std.proofs.lemmas.List.Splits.{slice_split-cons_no, slice_split_first}
-use Rattle.std.specs.Option.{option_map}
+use Rattle.std.specs.List.{filter_map, Contains, cons_option, position_or_len, onto_first, before_first, after_first, count_by}
+use Rattle.std.proofs.lemmas.List.Splits.{slice_split-cons_no, slice_split_first, length-slice_split}
+use Rattle.std.specs.Option.{option_map, MatchOption, IfSome}
 use Rattle.std.proofs.lemmas.Bool.{cases_order, cases_lt, cases_Bool}
 use Rattle.std.proofs.lemmas.List.{get_or-take, length-take, length-map}
 use Rattle.std.proofs.lemmas.List.Elements.{Contains-get_or}
-use Rattle.std.proofs.lemmas.Option.{slice_get_within, get_or_from_slice_get, slice_get-map}
+use Rattle.std.proofs.lemmas.Option.{slice_get_within, get_or_from_slice_get, slice_get-map, slice_get-get_or, MatchOption-at_none, MatchOption-at_some}
 use Rattle.schema_model.specs.Model.{HasChain, reference_rows, references, IsKept, StandsEarlier}
 use Rattle.schema_model.specs.Parts.{fields_of, field_names, shape_fields, shape_names, named_types, referenced, referenced_names, type_index, type_names}
 use Rattle.schema_model.specs.Path.{HasField, HasOnlyField, RefersTo, GoesOn, Leads, path_names}
-use Rattle.schema_model.specs.declared.rule.Rule.TheVariants.{DuplicateName}
+use Rattle.schema_model.specs.declared.rule.Rule.TheVariants.{DuplicateName, TooDeep}
 use Rattle.schema_model.specs.declared.schema.Field.{Field}
 use Rattle.schema_model.specs.declared.schema.FieldKind.{FieldKind}
 use Rattle.schema_model.specs.declared.schema.Schema.{Schema}
@@ -18,7 +18,7 @@ use Rattle.schema_model.specs.declared.schema.Shape.{Shape}
 use Rattle.schema_model.specs.declared.schema.Shape.TheVariants.{Object, Set, List as ListShape, Map}
 use Rattle.schema_model.specs.declared.faults.PathFault.{PathFault}
 use Rattle.schema_model.specs.declared.faults.PathFault.TheVariants.{BadPath, Memory}
-use Rattle.schema_model.specs.Checked.{TellsWay}
+use Rattle.schema_model.specs.Checked.{TellsField, TellsWay}
 use Rattle.schema_model.proofs.Indexing.{item_name, name_found}
 use Rattle.schema_model.proofs.RuleTests.{same_schema}
 
@@ -88,6 +88,10 @@ no_field_more fields name i item at other before k f below there same =
           let fields_same : f ≡ item = cc in
           other (ap (λ (g : Field). g.name) (sym fields_same) ∙ same)
     ]
+
+some_part : (k : ℕ) (parts : List (List ℕ)) → length parts ≡ k + 1 → (name : List ℕ) × (names : List (List ℕ)) × (parts ≡ name ∷ names)
+some_part k [] long = absurd (omega arith)
+some_part k (name ∷ names) long = (name, names, refl)
 
 -- a text without a '.' is one name
 pub one_name : (text : List ℕ) → position_or_len (λ b. eqb b 46) text ≡ length text → path_names text ≡ text ∷ []
@@ -214,3 +218,37 @@ pub no_lead_on : (schemas : List Schema) (t i : ℕ) (field : Field) (name next 
 no_lead_on schemas t i field name next names apart has same none [] leads = leads
 no_lead_on schemas t i field name next names apart has same none (j ∷ more) (other, u, again, equal, refers, way) =
     none u (subst (λ (f : Field). RefersTo schemas f.kind u) (same_field schemas t i j field other apart has again (same ∙ sym equal)) refers)
+
+-- the field at a place that was found
+pub found_field : (schemas : List Schema) (t i : ℕ) (s : Schema) (fields : List Field) (name : List ℕ) (item : Field) → slice_get schemas t ≡ Some s → fields ≡ fields_of s → TellsField fields name (Some i)
+    → item ≡ get_or fields i item → HasField schemas t i item × (item.name ≡ name)
+found_field schemas t i s fields name item at own (f, there, same) here =
+    let e : item ≡ f = here ∙ get_or_from_slice_get fields i f item there in
+    ((s, at, ap (λ x. slice_get x i) (sym own) ∙ there ∙ ap Some (sym e)), ap (λ (x : Field). x.name) e ∙ same)
+
+-- a path has a name
+pub some_name : (text : List ℕ) → (name : List ℕ) × (names : List (List ℕ)) × (path_names text ≡ name ∷ names)
+some_name text = some_part (count_by (λ b. eqb b 46) text) (path_names text) (length-slice_split (λ b. eqb b 46) text)
+
+-- no chain is too long from a type that a field refers to, where none is from any type
+pub none_deep : (schemas : List Schema) → IsKept schemas TooDeep → (kind : FieldKind) (u : ℕ) → RefersTo schemas kind u → HasChain (reference_rows schemas) 32 u → ⊥
+none_deep schemas kept kind u (name, refers, index) chain =
+    let d : Schema = record { name = []; shape = Set [] } in
+    kept u (get_or schemas u d, slice_get-get_or schemas u d (type_inside schemas name u index), chain)
+
+-- the names behind the first, whether there are any
+pub behind_first : {A : Type 0} (o : Option A) (f : A → List (List ℕ)) (name : List ℕ) (names : List (List ℕ)) → MatchOption o (names ≡ name ∷ []) (λ a. names ≡ name ∷ f a) → (xs : List (List ℕ)) × (names ≡ name ∷ xs)
+behind_first None f name names e = ([], e)
+behind_first (Some a) f name names e = (f a, e)
+
+-- the last name has none behind it
+pub names_last : {A : Type 0} (o : Option A) (f : A → List (List ℕ)) (name : List ℕ) (names : List (List ℕ)) → o ≡ None → MatchOption o (names ≡ name ∷ []) (λ a. names ≡ name ∷ f a) → names ≡ name ∷ []
+names_last o f name names e m = MatchOption-at_none (names ≡ name ∷ []) (λ a. names ≡ name ∷ f a) e m
+
+-- another name has those of the rest behind it
+pub names_rest : {A : Type 0} (o : Option A) (f : A → List (List ℕ)) (name : List ℕ) (names : List (List ℕ)) (rest : A) → o ≡ Some rest → MatchOption o (names ≡ name ∷ []) (λ a. names ≡ name ∷ f a) → names ≡ name ∷ f rest
+names_rest o f name names rest e m = MatchOption-at_some (names ≡ name ∷ []) (λ a. names ≡ name ∷ f a) rest e m
+
+-- what is told of the rest, where there is one
+pub rest_told : {A : Type 0} (P : A → Type 0) (o : Option A) (rest : A) → o ≡ Some rest → IfSome o P → P rest
+rest_told P o rest e m = subst (λ x. IfSome x P) e m

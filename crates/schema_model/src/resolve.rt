@@ -22,12 +22,13 @@ fn cut(text: &str) -> (&str, Option<&str>)
 }
 
 /// The place of the field of this name.
-fn field_of(fields: &[Field], name: &str) -> Option<usize>
+fn field_of(fields: &[Field], name: &str) -> Option<u32>
+    requires { length fields.now ≤ 1024 }
     ensures { TellsField fields.now name.now result }
 {
     for (i, field) in fields.iter().enumerate() {
         if field.name.text() == name {
-            return Some(i);
+            return Some(i as u32);
         }
     }
     None
@@ -91,14 +92,14 @@ fn lead(
     let Some(place) = field_of(own, name) else {
         return Err(PathFault::BadPath);
     };
-    let kind = &own[place].kind;
+    let kind = &own[place as usize].kind;
     let Some(rest) = rest else {
-        fields.push(place as u32)?;
+        fields.push(place)?;
         return go_on(schemas, places, kind, MAX_DEPTH, fields);
     };
     let Some(next) = referred(schemas, places, kind) else {
         return Err(PathFault::BadPath);
     };
-    fields.push(place as u32)?;
+    fields.push(place)?;
     lead(schemas, places, next, rest, fields)
 }
