@@ -1,4 +1,5 @@
 pub mod Indexing
+pub mod JavaSizes
 pub mod NamedTypes
 pub mod ReferenceChains
 pub mod RuleTests

@@ -3,7 +3,8 @@ use Rattle.std.proofs.Common.{◌≡◌, ℕ, ◌<◌, ◌≤◌, ◌∙◌, sym
 use Rattle.std.specs.Prelude.{IsTrue, ◌↔◌}
 use Rattle.std.proofs.lemmas.Option.{slice_get_within, slice_get-get_or}
 use Rattle.std.proofs.lemmas.Bool.{cases_lt}
-use Rattle.std.specs.Prelude.{SomeIndex}
+use Rattle.std.specs.Prelude.{SomeIndex, Any}
+use Rattle.std.proofs.lemmas.List.{get_or_default}
 use Rattle.schema_model.specs.Model.{BreaksAt, Breaks, IsKept, StandsEarlier}
 use Rattle.schema_model.specs.Parts.{fields_of, field_names, type_names}
 use Rattle.schema_model.specs.declared.rule.Rule.TheVariants.{TooMany, DuplicateName}
@@ -47,3 +48,8 @@ few_types schemas t inside kept =
         inl few ↦ few
       | inr many ↦ let d : Schema = record { name = []; shape = Set [] } in absurd (kept (get_or schemas t d, slice_get-get_or schemas t d inside, inl many))
     ]
+
+-- no item has a property that each index rules out
+pub none_any : (P : List ℕ → Type 0) (xs : List (List ℕ)) (n : ℕ) → length xs ≤ n → ((k : ℕ) → k < n → P (get_or xs k []) → ⊥) → Any P xs → ⊥
+none_any P xs n all none (k, x, inside, same, holds) =
+    none k (omega arith) (subst P (sym same ∙ get_or_default xs k x [] inside) holds)

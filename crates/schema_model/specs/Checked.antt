@@ -58,3 +58,9 @@ abbrev pub TellsWay : {T : Type 0} → (List ℕ → Type 0) → List ℕ → Li
 TellsWay way old new (Ok x) = (more : List ℕ) × (new ≡ old ++ more) × way more
 TellsWay way old new (Err Bad) = (more : List ℕ) → ¬ way more
 TellsWay way old new (Err Want) = Unit {0}
+
+-- These fields are a way, or there is none.
+abbrev pub TellsFields : (List ℕ → Type 0) → Result (List ℕ) PathFault → Type 0
+TellsFields way (Ok fields) = way fields
+TellsFields way (Err Bad) = (fields : List ℕ) → ¬ way fields
+TellsFields way (Err Want) = Unit {0}

@@ -1,10 +1,10 @@
 -- The rules that a list of schemas keeps to be a model, in the order in which they are tried, and the rule that a list breaks first.
-use Rattle.std.specs.Prelude.{◌≡◌, ℕ, zero, suc, ◌<◌, ◌≤◌, ◌⊎◌, List, [], ◌∷◌, ◌++◌, Option, Some, None, map, length, take, slice_get, slice_index_or, Any, Contains, SomeIndex}
-use Rattle.std.specs.List.{filter_map, flat_map}
-use Rattle.std.specs.Option.{option_to_list, option_map_or}
-use Rattle.schema_model.specs.Parts.{shape_fields, fields_of, field_names, shape_key, named_types, type_names, type_index, referenced}
+use Rattle.std.specs.Prelude.{◌≡◌, ℕ, zero, suc, ◌<◌, ◌≤◌, ◌⊎◌, List, [], Option, Some, None, map, length, take, slice_get, slice_index_or, Any, Contains, SomeIndex}
+use Rattle.std.specs.List.{filter_map}
+use Rattle.hol_varint.specs.JavaUtf.{java_bytes}
+use Rattle.hol_varint.specs.TextUnits.{text_units}
+use Rattle.schema_model.specs.Parts.{fields_of, field_names, shape_key, named_types, texts_of, type_names, type_index}
 use Rattle.schema_model.specs.Path.{path_names, Leads}
-use Rattle.schema_model.specs.declared.schema.Field.{Field}
 use Rattle.schema_model.specs.declared.schema.Schema.{Schema}
 use Rattle.schema_model.specs.declared.rule.Rule.{Rule}
 use Rattle.schema_model.specs.declared.rule.Rule.TheVariants.{TooMany, LongName, DuplicateName, FloatField, UnknownType, CyclicModel, TooDeep, BadPath}
@@ -35,6 +35,10 @@ abbrev pub IsBadKey : List Schema → ℕ → Option (List (List ℕ)) → Type 
 IsBadKey schemas t None = ⊥
 IsBadKey schemas t (Some paths) = (paths ≡ []) ⊎ Any (IsBadPath schemas t) paths
 
+-- A name or a path that has more bytes of Java UTF than two bytes of length can say.
+abbrev pub IsLongText : List ℕ → Type 0
+IsLongText text = 65535 < length (java_bytes (text_units text))
+
 -- The type at an index, which has this schema, breaks a rule:
 -- it is past the 512th, or has more than 1,024 fields;
 -- a text of its schema is too long to be spelled;
@@ -46,7 +50,7 @@ IsBadKey schemas t (Some paths) = (paths ≡ []) ⊎ Any (IsBadPath schemas t) p
 -- it has a primary key without a path, or with one that does not resolve.
 abbrev pub Breaks : List Schema → Rule → ℕ → Schema → Type 0
 Breaks schemas TooMany t s = (512 ≤ t) ⊎ (1024 < length (fields_of s))
-Breaks schemas LongName t s = ⊥
+Breaks schemas LongName t s = Any IsLongText (texts_of s)
 Breaks schemas DuplicateName t s = StandsEarlier (type_names schemas) t ⊎ SomeIndex (field_names (fields_of s)) (StandsEarlier (field_names (fields_of s)))
 Breaks schemas FloatField t s = ⊥
 Breaks schemas UnknownType t s = Any (λ name. type_index schemas name ≡ None) (named_types s)

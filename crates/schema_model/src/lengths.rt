@@ -1,12 +1,22 @@
 ghost use Rattle.std.specs.Prelude.{◌≡◌, ◌<◌, ◌≤◌, ◌↔◌, length, IsTrue, Any};
+ghost use Rattle.std.specs.Char.Escape.{encode_utf16};
 ghost use Rattle.hol_varint.specs.JavaUtf.{java_bytes};
 ghost use Rattle.hol_varint.specs.TextUnits.{text_units};
+ghost use Rattle.std.specs.List.{flat_map};
+ghost use Rattle.schema_model.specs.Checked.{TellsRule};
+ghost use Rattle.schema_model.specs.Model.{IsLongText};
+ghost use Rattle.schema_model.specs.Parts.{field_texts, shape_texts};
+
+use crate::{Field, FieldKind, ModelFault, Names, Rule, Schemas, Shape};
 
 /// How many bytes of Java UTF a name has at most.
 pub const MAX_NAME_BYTES: usize = 65535;
 
 /// How many bytes of Java UTF a character has.
-fn java_size(character: char) -> usize {
+fn java_size(character: char) -> usize
+    ensures size { result ≡ length (java_bytes (encode_utf16 character)) }
+    ensures small { result ≤ 6 }
+{
     match character as u32 {
         0 => 2,
         1..0x80 => 1,
@@ -28,4 +38,67 @@ fn is_long(text: &str) -> bool
         }
     }
     false
+}
+
+/// Whether one of the key paths is too long.
+fn has_long_path(paths: &Names) -> bool
+    ensures { IsTrue result ↔ Any IsLongText paths.now }
+{
+    for path in paths.as_slice() {
+        if is_long(path.text()) {
+            return true;
+        }
+    }
+    false
+}
+
+/// Whether the name of a field, or that of the type that it refers to, is too long.
+fn is_long_field(field: &Field) -> bool
+    ensures { IsTrue result ↔ Any IsLongText (field_texts field.now) }
+{
+    match &field.kind {
+        FieldKind::Reference(name) => is_long(field.name.text()) || is_long(name.text()),
+        _ => is_long(field.name.text()),
+    }
+}
+
+/// Whether a text of one of the fields is too long.
+fn has_long_field(fields: &[Field]) -> bool
+    ensures { IsTrue result ↔ Any IsLongText (flat_map field_texts fields.now) }
+{
+    for field in fields {
+        if is_long_field(field) {
+            return true;
+        }
+    }
+    false
+}
+
+/// Whether a text of a shape is too long.
+fn has_long_text(shape: &Shape) -> bool
+    ensures { IsTrue result ↔ Any IsLongText (shape_texts shape.now) }
+{
+    match shape {
+        Shape::Object(Some(paths), fields) => {
+            has_long_path(paths) || has_long_field(fields.as_slice())
+        }
+        Shape::Object(None, fields) => has_long_field(fields.as_slice()),
+        Shape::Set(element) => is_long(element.text()),
+        Shape::List(element) => is_long(element.text()),
+        Shape::Map(key, value) => is_long(key.text()) || is_long(value.text()),
+    }
+}
+
+/// Tries the lengths of all names and key paths.
+pub(crate) fn check_lengths(schemas: &Schemas) -> Result<(), ModelFault>
+    requires { length schemas.now ≤ 512 }
+    ensures { TellsRule schemas.now Rule.LongName result }
+{
+    for t in 0..schemas.len() {
+        let schema = schemas.get(t);
+        if is_long(schema.name.text()) || has_long_text(&schema.shape) {
+            return Err(ModelFault::Broken(Rule::LongName, t as u32));
+        }
+    }
+    Ok(())
 }

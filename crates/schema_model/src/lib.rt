@@ -5,6 +5,7 @@ mod areas;
 mod chains;
 mod faults;
 mod fields;
+mod keys;
 mod lengths;
 mod name;
 mod name_index;

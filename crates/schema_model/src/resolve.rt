@@ -1,5 +1,5 @@
 ghost use Rattle.std.specs.Prelude.{◌≡◌, ◌<◌, ◌≤◌, ◌∷◌, [], ℕ, List, length, IfSome, MatchOption};
-ghost use Rattle.schema_model.specs.Checked.{Indexes, TellsField, TellsReferred, TellsWay};
+ghost use Rattle.schema_model.specs.Checked.{Indexes, TellsField, TellsFields, TellsReferred, TellsWay};
 ghost use Rattle.schema_model.specs.Model.{HasChain, IsKept, reference_rows};
 ghost use Rattle.schema_model.specs.Parts.{type_names};
 ghost use Rattle.schema_model.specs.Path.{GoesOn, Leads, RefersTo, path_names};
@@ -9,6 +9,7 @@ use crate::name_index::{Places, place_of};
 use crate::rules::fields_of;
 use crate::{Field, FieldKind, PathFault, Rule, Schemas};
 use hol_varint::Ordinals;
+use std::alloc::Global;
 
 /// The first name of a path, and the text behind the '.' that ends it.
 fn cut(text: &str) -> (&str, Option<&str>)
@@ -102,4 +103,24 @@ fn lead(
     };
     fields.push(place)?;
     lead(schemas, places, next, rest, fields)
+}
+
+/// The places of the fields that a path goes through from a type.
+pub(crate) fn way_of(
+    alloc: Global,
+    schemas: &Schemas,
+    places: &Places,
+    t: u32,
+    text: &str,
+) -> Result<Ordinals, PathFault>
+    requires inside { t < length schemas.now }
+    requires indexed { Indexes (type_names schemas.now) places.now }
+    requires few { IsKept schemas.now Rule.TooMany }
+    requires apart { IsKept schemas.now Rule.DuplicateName }
+    requires shallow { IsKept schemas.now Rule.TooDeep }
+    ensures { TellsFields (Leads schemas.now t (path_names text.now)) result }
+{
+    let mut fields = Ordinals::new(alloc);
+    lead(schemas, places, t, text, &mut fields)?;
+    Ok(fields)
 }
