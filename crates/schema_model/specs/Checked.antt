@@ -1,9 +1,11 @@
 -- What the test of one rule of a model answers, and what an index of names keeps.
-use Rattle.std.specs.Prelude.{◌≡◌, ℕ, zero, suc, ◌<◌, Bool, true, false, List, Option, Result, Ok, Err, length, map, replicate, slice_index_or, is_some, Some, None, if◌then◌else◌, slice_get, ◌++◌}
+use Rattle.std.specs.Prelude.{◌≡◌, ℕ, zero, suc, ◌<◌, Bool, true, false, List, Option, Result, Ok, Err, length, map, replicate, slice_index_or, is_some, Some, None, if◌then◌else◌, slice_get, ◌++◌, nat_lt}
 use Rattle.std.specs.List.{list_any, list_all, filter_map}
 use Rattle.std.specs.BTreeMap.{BTreeMap, get_by_text}
 use Rattle.std.specs.declared.alloc.Global.{Global}
 use Rattle.std.specs.declared.string.String.{String}
+use Rattle.hol_varint.specs.JavaUtf.{java_bytes}
+use Rattle.hol_varint.specs.TextUnits.{text_units}
 use Rattle.schema_model.specs.Parts.{name_index}
 use Rattle.schema_model.specs.Model.{BreaksAt, IsKept}
 use Rattle.schema_model.specs.declared.schema.Schema.{Schema}
@@ -64,3 +66,7 @@ abbrev pub TellsFields : (List ℕ → Type 0) → Result (List ℕ) PathFault �
 TellsFields way (Ok fields) = way fields
 TellsFields way (Err Bad) = (fields : List ℕ) → ¬ way fields
 TellsFields way (Err Want) = Unit {0}
+
+-- Whether a name or a path has too many bytes of Java UTF.
+abbrev pub is_long_text : List ℕ → Bool
+is_long_text text = nat_lt 65535 (length (java_bytes (text_units text)))

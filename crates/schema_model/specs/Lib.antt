@@ -1,4 +1,5 @@
 pub mod Checked
+pub mod Faults
 pub mod Model
 pub mod Parts
 pub mod Path

@@ -1,13 +1,11 @@
-ghost use Rattle.std.specs.Prelude.{◌≡◌, ◌<◌, ◌≤◌, ◌↔◌, length, IsTrue, Any};
+ghost use Rattle.std.specs.Prelude.{◌≡◌, ◌≤◌, length};
 ghost use Rattle.std.specs.Char.Escape.{encode_utf16};
 ghost use Rattle.hol_varint.specs.JavaUtf.{java_bytes};
-ghost use Rattle.hol_varint.specs.TextUnits.{text_units};
-ghost use Rattle.std.specs.List.{flat_map};
-ghost use Rattle.schema_model.specs.Checked.{TellsRule};
-ghost use Rattle.schema_model.specs.Model.{IsLongText};
-ghost use Rattle.schema_model.specs.Parts.{field_texts, shape_texts};
+ghost use Rattle.std.specs.List.{flat_map, list_any};
+ghost use Rattle.schema_model.specs.Checked.{TellsRule, is_long_text};
+ghost use Rattle.schema_model.specs.Parts.{field_texts, shape_texts, texts_of};
 
-use crate::{Field, FieldKind, ModelFault, Names, Rule, Schemas, Shape};
+use crate::{Field, FieldKind, ModelFault, Names, Rule, Schema, Schemas, Shape};
 
 /// How many bytes of Java UTF a name has at most.
 pub const MAX_NAME_BYTES: usize = 65535;
@@ -28,7 +26,7 @@ fn java_size(character: char) -> usize
 
 /// Whether a text has too many bytes of Java UTF.
 fn is_long(text: &str) -> bool
-    ensures { IsTrue result ↔ (65535 < length (java_bytes (text_units text.now))) }
+    ensures { result ≡ is_long_text text.now }
 {
     let mut size = 0;
     for character in text.chars() {
@@ -42,7 +40,7 @@ fn is_long(text: &str) -> bool
 
 /// Whether one of the key paths is too long.
 fn has_long_path(paths: &Names) -> bool
-    ensures { IsTrue result ↔ Any IsLongText paths.now }
+    ensures { result ≡ list_any is_long_text paths.now }
 {
     for path in paths.as_slice() {
         if is_long(path.text()) {
@@ -54,7 +52,7 @@ fn has_long_path(paths: &Names) -> bool
 
 /// Whether the name of a field, or that of the type that it refers to, is too long.
 fn is_long_field(field: &Field) -> bool
-    ensures { IsTrue result ↔ Any IsLongText (field_texts field.now) }
+    ensures { result ≡ list_any is_long_text (field_texts field.now) }
 {
     match &field.kind {
         FieldKind::Reference(name) => is_long(field.name.text()) || is_long(name.text()),
@@ -64,7 +62,7 @@ fn is_long_field(field: &Field) -> bool
 
 /// Whether a text of one of the fields is too long.
 fn has_long_field(fields: &[Field]) -> bool
-    ensures { IsTrue result ↔ Any IsLongText (flat_map field_texts fields.now) }
+    ensures { result ≡ list_any is_long_text (flat_map field_texts fields.now) }
 {
     for field in fields {
         if is_long_field(field) {
@@ -76,7 +74,7 @@ fn has_long_field(fields: &[Field]) -> bool
 
 /// Whether a text of a shape is too long.
 fn has_long_text(shape: &Shape) -> bool
-    ensures { IsTrue result ↔ Any IsLongText (shape_texts shape.now) }
+    ensures { result ≡ list_any is_long_text (shape_texts shape.now) }
 {
     match shape {
         Shape::Object(Some(paths), fields) => {
@@ -89,14 +87,20 @@ fn has_long_text(shape: &Shape) -> bool
     }
 }
 
+/// Whether a name or a key path of a schema is too long.
+fn has_long_name(schema: &Schema) -> bool
+    ensures { result ≡ list_any is_long_text (texts_of schema.now) }
+{
+    is_long(schema.name.text()) || has_long_text(&schema.shape)
+}
+
 /// Tries the lengths of all names and key paths.
 pub(crate) fn check_lengths(schemas: &Schemas) -> Result<(), ModelFault>
     requires { length schemas.now ≤ 512 }
     ensures { TellsRule schemas.now Rule.LongName result }
 {
     for t in 0..schemas.len() {
-        let schema = schemas.get(t);
-        if is_long(schema.name.text()) || has_long_text(&schema.shape) {
+        if has_long_name(schemas.get(t)) {
             return Err(ModelFault::Broken(Rule::LongName, t as u32));
         }
     }

@@ -1,0 +1,17 @@
+-- What the making of a model and the resolving of a path answer.
+use Rattle.std.specs.Prelude.{◌≡◌, ℕ, List, Result, Ok, Err}
+use Rattle.schema_model.specs.Model.{IsModel, IsFirstBroken}
+use Rattle.schema_model.specs.declared.schema.Schema.{Schema}
+use Rattle.schema_model.specs.declared.faults.ModelFault.{ModelFault}
+use Rattle.schema_model.specs.declared.faults.ModelFault.TheVariants.{Broken, Memory}
+
+-- Want of memory may come in place of any answer.
+abbrev pub IsFreeModel : ModelFault → Type 0
+IsFreeModel (Broken rule t) = ⊥
+IsFreeModel Memory = Unit {0}
+
+-- What each answer tells of the schemas.
+abbrev pub TellsModel : List Schema → Result (List Schema) ModelFault → Type 0
+TellsModel schemas (Ok model) = (model ≡ schemas) × IsModel schemas
+TellsModel schemas (Err (Broken rule t)) = IsFirstBroken schemas rule t
+TellsModel schemas (Err Memory) = Unit {0}
