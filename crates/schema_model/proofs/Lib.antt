@@ -1,3 +1,4 @@
+pub mod FirstBroken
 pub mod Indexing
 pub mod JavaSizes
 pub mod NamedTypes

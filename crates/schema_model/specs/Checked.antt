@@ -18,11 +18,15 @@ use Rattle.schema_model.specs.declared.faults.PathFault.TheVariants.{BadPath as 
 use Rattle.schema_model.specs.declared.faults.ModelFault.{ModelFault}
 use Rattle.schema_model.specs.declared.faults.ModelFault.TheVariants.{Broken, Memory}
 
--- The rule is kept, or this is the first type that breaks it.
+-- This is the first type that breaks the rule.
+abbrev pub TellsBroken : List Schema → Rule → ModelFault → Type 0
+TellsBroken schemas rule (Broken r t) = (r ≡ rule) × BreaksAt schemas rule t × ((u : ℕ) → u < t → ¬ BreaksAt schemas rule u)
+TellsBroken schemas rule Memory = Unit {0}
+
+-- The rule is kept, or a type breaks it.
 abbrev pub TellsRule : {T : Type 0} → List Schema → Rule → Result T ModelFault → Type 0
 TellsRule schemas rule (Ok x) = IsKept schemas rule
-TellsRule schemas rule (Err (Broken r t)) = (r ≡ rule) × BreaksAt schemas rule t × ((u : ℕ) → u < t → ¬ BreaksAt schemas rule u)
-TellsRule schemas rule (Err Memory) = Unit {0}
+TellsRule schemas rule (Err fault) = TellsBroken schemas rule fault
 
 -- The map has each of the names at the first index at which it stands, and no other name.
 abbrev pub Indexes : List (List ℕ) → BTreeMap (String Global) ℕ → Type 0

@@ -10,8 +10,12 @@ abbrev pub IsFreeModel : ModelFault → Type 0
 IsFreeModel (Broken rule t) = ⊥
 IsFreeModel Memory = Unit {0}
 
+-- What each fault tells of the schemas.
+abbrev pub TellsFault : List Schema → ModelFault → Type 0
+TellsFault schemas (Broken rule t) = IsFirstBroken schemas rule t
+TellsFault schemas Memory = Unit {0}
+
 -- What each answer tells of the schemas.
 abbrev pub TellsModel : List Schema → Result (List Schema) ModelFault → Type 0
 TellsModel schemas (Ok model) = (model ≡ schemas) × IsModel schemas
-TellsModel schemas (Err (Broken rule t)) = IsFirstBroken schemas rule t
-TellsModel schemas (Err Memory) = Unit {0}
+TellsModel schemas (Err fault) = TellsFault schemas fault

@@ -1,6 +1,7 @@
-ghost use Rattle.std.specs.Prelude.{◌≡◌, ◌<◌, ◌≤◌, ◌↔◌, ℕ, [], length, Some, None, Ok, Err, IfOk, slice_get, Contains};
+ghost use Rattle.std.specs.Prelude.{◌≡◌, ◌<◌, ◌≤◌, ◌↔◌, ℕ, [], length, Some, None, Ok, Err, IfOk, MatchResult, slice_get, Contains};
 ghost use Rattle.hol_varint.specs.Yields.{Yields};
-ghost use Rattle.schema_model.specs.Faults.{IsFreeModel, TellsModel};
+ghost use Rattle.schema_model.specs.Checked.{Indexes};
+ghost use Rattle.schema_model.specs.Faults.{IsFreeModel, TellsFault, TellsModel};
 ghost use Rattle.schema_model.specs.Model.{IsFirstBroken, IsModel};
 ghost use Rattle.schema_model.specs.Parts.{type_index, type_names};
 ghost use Rattle.schema_model.specs.declared.rule.Rule.{Rule};
@@ -36,20 +37,28 @@ impl std::marker::Model for Model {
     ghost invariant = { λ a. IsModel a.schemas × Indexes (type_names a.schemas) a.places };
 }
 
+/// Tries the rules in their order, and gives the index of the types' names.
+fn check(alloc: Global, schemas: &Schemas) -> Result<Places, ModelFault>
+    ensures { MatchResult result (λ places. IsModel schemas.now × Indexes (type_names schemas.now) places) (TellsFault schemas.now) }
+{
+    check_sizes(schemas)?;
+    check_lengths(schemas)?;
+    let places = index_types(alloc, schemas)?;
+    check_names(alloc, schemas, &places)?;
+    let rows = check_references(alloc, schemas, &places)?;
+    check_cycles(alloc, schemas, rows.as_slice())?;
+    check_depth(alloc, schemas, rows.as_slice())?;
+    check_keys(alloc, schemas, &places)?;
+    Ok(places)
+}
+
 /// Makes a model of schemas. `Broken` names the first rule that some type breaks, and the first type that breaks it.
 pub fn model_of(alloc: Global, schemas: Schemas) -> Result<Model, ModelFault>
     ensures tells { TellsModel schemas result }
     ensures made { Yields IsFreeModel result (Ok schemas) (IsModel schemas) }
     ensures broken { (rule : Rule) (t : ℕ) → Yields IsFreeModel result (Err (ModelFault.Broken rule t)) (IsFirstBroken schemas rule t) }
 {
-    check_sizes(&schemas)?;
-    check_lengths(&schemas)?;
-    let places = index_types(alloc, &schemas)?;
-    check_names(alloc, &schemas, &places)?;
-    let rows = check_references(alloc, &schemas, &places)?;
-    check_cycles(alloc, &schemas, rows.as_slice())?;
-    check_depth(alloc, &schemas, rows.as_slice())?;
-    check_keys(alloc, &schemas, &places)?;
+    let places = check(alloc, &schemas)?;
     Ok(Model { schemas, places })
 }
 
