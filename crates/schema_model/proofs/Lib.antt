@@ -1,6 +1,7 @@
 pub mod FirstBroken
 pub mod Indexing
 pub mod JavaSizes
+pub mod ModelFacts
 pub mod NamedTypes
 pub mod ReferenceChains
 pub mod RuleTests

@@ -1,5 +1,6 @@
 -- The ways that paths lead: how one goes on, and that there is no other.
 use Rattle.std.proofs.Common.{◌≡◌, ℕ, zero, suc, ◌+◌, ◌-◌, ◌<◌, ◌≤◌, ◌∙◌, sym, ap, subst, refl, List, [], ◌∷◌, ◌++◌, Option, Some, None, length, slice_get, take, get_or, map, arith, ◌⊎◌, inl, inr, eqb, cond, not, Bool, true, false, append_assoc, Result, Ok, Err}
+use Rattle.std.specs.Prelude.{IsErrAnd}
 use Rattle.std.specs.List.{filter_map, Contains, cons_option, position_or_len, onto_first, before_first, after_first, count_by}
 use Rattle.std.proofs.lemmas.List.Splits.{slice_split-cons_no, slice_split_first, length-slice_split}
 use Rattle.std.specs.Option.{option_map, MatchOption, IfSome}
@@ -9,7 +10,10 @@ use Rattle.std.proofs.lemmas.List.Elements.{Contains-get_or}
 use Rattle.std.proofs.lemmas.Option.{slice_get_within, get_or_from_slice_get, slice_get-map, slice_get-get_or, MatchOption-at_none, MatchOption-at_some}
 use Rattle.schema_model.specs.Model.{HasChain, reference_rows, references, IsKept, StandsEarlier}
 use Rattle.schema_model.specs.Parts.{fields_of, field_names, shape_fields, shape_names, named_types, referenced, referenced_names, type_index, type_names}
-use Rattle.schema_model.specs.Path.{HasField, HasOnlyField, RefersTo, GoesOn, Leads, path_names}
+use Rattle.hol_varint.specs.Yields.{Yields}
+use Rattle.schema_model.specs.Faults.{IsFreePath, TellsPath}
+use Rattle.schema_model.specs.declared.path.Path.{Path}
+use Rattle.schema_model.specs.Path.{HasField, HasOnlyField, RefersTo, GoesOn, Leads, Resolves, path_names}
 use Rattle.schema_model.specs.declared.rule.Rule.TheVariants.{DuplicateName, TooDeep}
 use Rattle.schema_model.specs.declared.schema.Field.{Field}
 use Rattle.schema_model.specs.declared.schema.FieldKind.{FieldKind}
@@ -18,7 +22,7 @@ use Rattle.schema_model.specs.declared.schema.Shape.{Shape}
 use Rattle.schema_model.specs.declared.schema.Shape.TheVariants.{Object, Set, List as ListShape, Map}
 use Rattle.schema_model.specs.declared.faults.PathFault.{PathFault}
 use Rattle.schema_model.specs.declared.faults.PathFault.TheVariants.{BadPath, Memory}
-use Rattle.schema_model.specs.Checked.{TellsField, TellsWay}
+use Rattle.schema_model.specs.Checked.{TellsField, TellsFields, TellsWay}
 use Rattle.schema_model.proofs.Indexing.{item_name, name_found}
 use Rattle.schema_model.proofs.RuleTests.{same_schema}
 
@@ -252,3 +256,63 @@ names_rest o f name names rest e m = MatchOption-at_some (names ≡ name ∷ [])
 -- what is told of the rest, where there is one
 pub rest_told : {A : Type 0} (P : A → Type 0) (o : Option A) (rest : A) → o ≡ Some rest → IfSome o P → P rest
 rest_told P o rest e m = subst (λ x. IfSome x P) e m
+
+same_only : (schemas : List Schema) (u : ℕ) (f g : Field) → HasOnlyField schemas u f → HasOnlyField schemas u g → f ≡ g
+same_only schemas u f g (s, at, own) (r, there, again) =
+    let lists : f ∷ [] ≡ g ∷ [] = sym own ∙ ap fields_of (same_schema schemas u s r at there) ∙ again in cc
+
+-- a field goes on in one way
+goes_once : (schemas : List Schema) (kind : FieldKind) (p q : List ℕ) → GoesOn schemas kind p → GoesOn schemas kind q → p ≡ q
+goes_once schemas kind [] [] a b = refl
+goes_once schemas kind [] (j ∷ q) a (v, g, (name, refers, index), has, zeroth, way) = let e : None ≡ Some name = sym a ∙ refers in cc
+goes_once schemas kind (i ∷ p) [] (u, f, (name, refers, index), has, zeroth, way) b = let e : None ≡ Some name = sym b ∙ refers in cc
+goes_once schemas kind (i ∷ p) (j ∷ q) (u, f, refers, has, zeroth, way) (v, g, again, only, first, other) =
+    let types = one_referred schemas kind v u again refers in
+    let fields = same_only schemas u g f (subst (λ w. HasOnlyField schemas w g) types only) has in
+    let rest = goes_once schemas f.kind p q way (subst (λ (x : Field). GoesOn schemas x.kind q) fields other) in
+    ap (λ n. n ∷ p) (zeroth ∙ sym first) ∙ ap (λ xs. j ∷ xs) rest
+
+-- names lead in one way, where no name stands twice
+pub leads_once : (schemas : List Schema) → IsKept schemas DuplicateName → (names : List (List ℕ)) (t : ℕ) (p q : List ℕ) → Leads schemas t names p → Leads schemas t names q → p ≡ q
+leads_once schemas apart [] t p q a b = absurd a
+leads_once schemas apart (name ∷ []) t [] q a b = absurd a
+leads_once schemas apart (name ∷ []) t (i ∷ p) [] a b = absurd b
+leads_once schemas apart (name ∷ []) t (i ∷ p) (j ∷ q) (f, has, same, way) (g, again, equal, other) =
+    let place = one_field schemas t i j f g apart has again (same ∙ sym equal) in
+    let fields = same_field schemas t i j f g apart has again (same ∙ sym equal) in
+    let rest = goes_once schemas f.kind p q way (subst (λ (x : Field). GoesOn schemas x.kind q) fields other) in
+    ap (λ n. n ∷ p) place ∙ ap (λ xs. j ∷ xs) rest
+leads_once schemas apart (name ∷ next ∷ names) t [] q a b = absurd a
+leads_once schemas apart (name ∷ next ∷ names) t (i ∷ p) [] a b = absurd b
+leads_once schemas apart (name ∷ next ∷ names) t (i ∷ p) (j ∷ q) (f, u, has, same, refers, way) (g, v, again, equal, to, other) =
+    let place = one_field schemas t i j f g apart has again (same ∙ sym equal) in
+    let fields = same_field schemas t i j f g apart has again (same ∙ sym equal) in
+    let types = one_referred schemas f.kind v u (subst (λ (x : Field). RefersTo schemas x.kind v) fields to) refers in
+    let rest = leads_once schemas apart (next ∷ names) u p q way (subst (λ w. Leads schemas w (next ∷ names) q) types other) in
+    ap (λ n. n ∷ p) place ∙ ap (λ xs. j ∷ xs) rest
+
+-- a text resolves to one path
+pub one_path : (schemas : List Schema) → IsKept schemas DuplicateName → (t : ℕ) (text : List ℕ) (p q : Path) → Resolves schemas t text p → Resolves schemas t text q → p ≡ q
+one_path schemas apart t text p q (begins, leads) (starts, other) =
+    let ways = leads_once schemas apart (path_names text) t p.fields q.fields leads other in
+    let begin : ℕ → Path = λ n. record { t = n; fields = p.fields; } in
+    let pass : List ℕ → Path = λ fields. record { t = q.t; fields = fields; } in
+    ap begin (begins ∙ sym starts) ∙ ap pass ways
+
+-- the path is told exactly where the text resolves to it
+pub path_found : (schemas : List Schema) → IsKept schemas DuplicateName → (t : ℕ) (text : List ℕ) (path : Path) (r : Result Path PathFault) → TellsPath schemas t text r → Yields IsFreePath r (Ok path) (Resolves schemas t text path)
+path_found schemas apart t text path (Ok p) told = (λ e. let same : p ≡ path = cc in subst (Resolves schemas t text) same told, λ resolves. inl (ap Ok (one_path schemas apart t text p path told resolves)))
+path_found schemas apart t text path (Err BadPath) told = (λ e. absurd cc, λ resolves. absurd (told path resolves))
+path_found schemas apart t text path (Err Memory) told = (λ e. absurd cc, λ resolves. inr tt)
+
+-- the fault is told exactly where the text does not resolve
+pub path_missing : (schemas : List Schema) (t : ℕ) (text : List ℕ) (r : Result Path PathFault) → TellsPath schemas t text r → Yields IsFreePath r (Err BadPath) ((path : Path) → ¬ Resolves schemas t text path)
+path_missing schemas t text (Ok p) told = (λ e. absurd cc, λ none. absurd (none p told))
+path_missing schemas t text (Err BadPath) told = (λ e. told, λ none. inl refl)
+path_missing schemas t text (Err Memory) told = (λ e. absurd cc, λ none. inr tt)
+
+-- what the exit of a `?` tells of a path
+pub path_exit : (schemas : List Schema) (t : ℕ) (text : List ℕ) (r : Result Path PathFault) (fault : PathFault) → IsErrAnd r (λ e. e ≡ fault) → TellsFields (Leads schemas t (path_names text)) (Err fault) → TellsPath schemas t text r
+path_exit schemas t text (Ok p) fault is told = absurd is
+path_exit schemas t text (Err BadPath) fault is told = λ path resolves. (let none = subst (λ e. TellsFields (Leads schemas t (path_names text)) (Err e)) (sym is) told in none path.fields resolves.1)
+path_exit schemas t text (Err Memory) fault is told = tt

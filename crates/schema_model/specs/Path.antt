@@ -2,6 +2,7 @@
 use Rattle.std.specs.Prelude.{◌≡◌, ℕ, ◌==◌, List, [], ◌∷◌, Option, Some, None, slice_get}
 use Rattle.std.specs.List.{slice_split}
 use Rattle.schema_model.specs.Parts.{fields_of, referenced, type_index}
+use Rattle.schema_model.specs.declared.path.Path.{Path}
 use Rattle.schema_model.specs.declared.schema.Field.{Field}
 use Rattle.schema_model.specs.declared.schema.FieldKind.{FieldKind}
 use Rattle.schema_model.specs.declared.schema.Schema.{Schema}
@@ -35,3 +36,7 @@ Leads schemas t (name ∷ names) [] = ⊥
 Leads schemas t (name ∷ []) (i ∷ more) = (field : Field) × HasField schemas t i field × (field.name ≡ name) × GoesOn schemas field.kind more
 Leads schemas t (name ∷ next ∷ names) (i ∷ more) =
     (field : Field) × (u : ℕ) × HasField schemas t i field × (field.name ≡ name) × RefersTo schemas field.kind u × Leads schemas u (next ∷ names) more
+
+-- The path resolves a text: it begins at the type, and goes through the fields to which the text's names lead.
+abbrev pub Resolves : List Schema → ℕ → List ℕ → Path → Type 0
+Resolves schemas t text path = (path.t ≡ t) × Leads schemas t (path_names text) path.fields

@@ -4,7 +4,7 @@ ghost use Rattle.schema_model.specs.Model.{BreaksAt, IsBadPath, IsKept};
 ghost use Rattle.schema_model.specs.Parts.{type_names};
 
 use crate::name_index::Places;
-use crate::resolve::way_of;
+use crate::path_walk::way_of;
 use crate::{ModelFault, Names, PathFault, Rule, Schemas, Shape};
 use std::alloc::{AllocError, Global};
 

@@ -1,18 +1,21 @@
 ghost use Rattle.std.specs.Prelude.{◌≡◌, ◌<◌, ◌≤◌, ◌↔◌, ℕ, [], length, Some, None, Ok, Err, IfOk, MatchResult, slice_get, Contains};
 ghost use Rattle.hol_varint.specs.Yields.{Yields};
 ghost use Rattle.schema_model.specs.Checked.{Indexes};
-ghost use Rattle.schema_model.specs.Faults.{IsFreeModel, TellsFault, TellsModel};
+ghost use Rattle.schema_model.specs.Faults.{IsFreeModel, IsFreePath, TellsFault, TellsModel, TellsPath};
 ghost use Rattle.schema_model.specs.Model.{IsFirstBroken, IsModel};
 ghost use Rattle.schema_model.specs.Parts.{type_index, type_names};
+ghost use Rattle.schema_model.specs.Path.{Resolves};
+ghost use Rattle.schema_model.specs.declared.path.Path.{Path};
 ghost use Rattle.schema_model.specs.declared.rule.Rule.{Rule};
 
 use crate::chains::{check_cycles, check_depth};
 use crate::keys::check_keys;
 use crate::lengths::check_lengths;
 use crate::name_index::{Places, index_types, place_of};
+use crate::path_walk::way_of;
 use crate::references::check_references;
 use crate::rules::{check_names, check_sizes};
-use crate::{ModelFault, Schema, Schemas};
+use crate::{ModelFault, Path, PathFault, Schema, Schemas};
 use std::alloc::{AllocError, Global};
 use std::collections::BTreeMap;
 
@@ -117,4 +120,16 @@ impl Model {
         let places = index_types(alloc, &schemas)?;
         Ok(Model { schemas, places })
     }
+}
+
+/// The path that a text names from a type: it is cut at each '.' into the names of fields, and goes on through types of one field.
+/// `BadPath` comes where it leads to no value.
+pub fn resolve(alloc: Global, model: &Model, t: u32, text: &str) -> Result<Path, PathFault>
+    requires { t < length model.now }
+    ensures tells { TellsPath model.now t text.now result }
+    ensures found { (path : Path) → Yields IsFreePath result (Ok path) (Resolves model.now t text.now path) }
+    ensures unresolved { Yields IsFreePath result (Err PathFault.BadPath) ((path : Path) → ¬ Resolves model.now t text.now path) }
+{
+    let fields = way_of(alloc, &model.schemas, &model.places, t, text)?;
+    Ok(Path { t, fields })
 }

@@ -1,6 +1,6 @@
 use Rattle.std.proofs.Common.{◌≡◌, ◌<◌, ℕ, slice_get, Some}
 use Rattle.schema_model.specs.declared.schema.Field.{Field}
-use Rattle.schema_model.proofs.resolve.field_of.Given as goal
+use Rattle.schema_model.proofs.path_walk.field_of.Given as goal
 
 -- none of the first fields has the name
 abbrev pub invariant-loop-i : goal.invariant-loop-i

@@ -5,7 +5,7 @@ use Rattle.schema_model.specs.Checked.{TellsWay}
 use Rattle.schema_model.specs.Path.{RefersTo, HasOnlyField, GoesOn}
 use Rattle.schema_model.specs.declared.schema.Field.{Field}
 use Rattle.schema_model.proofs.Ways.{no_way_unknown, no_way_many, only_is_field, only_from, type_inside, deep_enough, shallower, way_on, looked_up}
-use Rattle.schema_model.proofs.resolve.+go_on.Goals as goal
+use Rattle.schema_model.proofs.path_walk.+go_on.Goals as goal
 
 pub returns-in_default-place_of : goal.returns-in_default-place_of
 returns-in_default-place_of t c =

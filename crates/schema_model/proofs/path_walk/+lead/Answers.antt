@@ -5,7 +5,7 @@ use Rattle.schema_model.specs.Path.{GoesOn, Leads, RefersTo, path_names}
 use Rattle.schema_model.specs.declared.schema.Field.{Field}
 use Rattle.schema_model.proofs.RuleTests.{few_fields}
 use Rattle.schema_model.proofs.Ways.{way_last, way_next, found_field, some_name, none_deep, no_lead_name, no_lead_on, type_inside, behind_first, names_last, names_rest, rest_told}
-use Rattle.schema_model.proofs.resolve.+lead.Goals as goal
+use Rattle.schema_model.proofs.path_walk.+lead.Goals as goal
 
 pub field_of-requires : goal.field_of-requires
 field_of-requires t c =
