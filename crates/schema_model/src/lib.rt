@@ -38,7 +38,7 @@ pub use row::{Row, Value};
 pub use rule::Rule;
 pub use schema::{Field, FieldKind, Schema, Shape};
 pub use schemas::Schemas;
-pub use tree::{Tree, TreePair, TreePairs, Trees};
+pub use tree::{Tree, TreePairs, Trees};
 pub use values::Values;
 pub use widths::Widths;
 pub use words::Words;
