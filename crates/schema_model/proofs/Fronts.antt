@@ -11,3 +11,7 @@ kept_on a b c first second =
 
 pub kept_append : (a b x : List ℕ) → b ≡ a ++ x → take (length a) b ≡ a
 kept_append a b x e = rw e (take-append_seam a x)
+
+pub kept_behind : (a b now after x parts : List ℕ) → b ≡ a ++ x → now ≡ b ++ parts → take (length now) after ≡ now → take (length a) after ≡ a
+kept_behind a b now after x parts begun grown kept =
+    kept_on a now after (kept_on a b now (kept_append a b x begun) (kept_append b now parts grown)) kept
