@@ -2,11 +2,9 @@ ghost use Rattle.std.specs.Prelude.{◌≡◌, ◌<◌, ◌≤◌, ◌^◌, ◌+
 ghost use Rattle.hol_varint.specs.JavaUtf.{utf_bytes};
 ghost use Rattle.schema_model.specs.Schema.{name_bytes, kind_name, target_bytes, field_bytes, paths_bytes, fields_bytes, kind_number as kind_number_of, shape_bytes, schema_bytes, IsShortName, IsShortKind, IsShortField, IsShortShape, IsSpellable};
 
-use std::alloc::AllocError;
-
-use hol_varint::put_vint;
-
 use crate::{Field, FieldKind, Fields, Name, Names, Schema, Shape};
+use hol_varint::{put_utf, put_vint, units_of};
+use std::alloc::AllocError;
 
 /// Writes a schema at the end, in its one spelling in a blob: the kind, the name, and what the kind asks for.
 ///
@@ -136,5 +134,6 @@ fn push_name(out: &mut Vec<u8>, name: &Name) -> Result<(), AllocError>
     ensures ok { OnOk result (out.new.items ≡ out.old.items ++ name_bytes name.now) }
     ensures kept { take (length out.old.items) out.new.items ≡ out.old.items }
 {
-    Err(AllocError)
+    let units = units_of(*out.allocator(), name.text())?;
+    put_utf(out, &units)
 }
