@@ -1,63 +1,47 @@
-ghost use Rattle.std.specs.Prelude.{◌≡◌, List, [], ◌∷◌, Some, None, IfOk, codes};
-ghost use Rattle.schema_model.specs.Schema.{IsSpellable};
+ghost use Rattle.std.specs.Prelude.{◌≡◌, [], ◌∷◌, IfOk, codes};
 
 use super::*;
 use hol_varint::{Octets, Ordinals, Units};
 use std::alloc::{AllocError, Global};
 use std::test::Fail;
 
-// A record type with a field of each kind, or a part of them.
-fn a_film(alloc: Global) -> Result<Schema, AllocError>
-    ensures { IfOk result IsSpellable }
+// The one type of the worked snapshot: A, with a field n, an INT.
+fn a_type(alloc: Global) -> Result<Schema, AllocError>
+    ensures { IfOk result (λ schema. schema ≡ record { name = codes "A"; shape = Shape.Object None (record { name = codes "n"; kind = FieldKind.Int } ∷ []) }) }
 {
-    let mut key = Names::new(alloc);
-    key.push(Name::from_text(alloc, "id")?)?;
     let mut fields = Fields::new(alloc);
     fields.push(Field {
-        name: Name::from_text(alloc, "id")?,
+        name: Name::from_text(alloc, "n")?,
         kind: FieldKind::Int,
     })?;
-    fields.push(Field {
-        name: Name::from_text(alloc, "of")?,
-        kind: FieldKind::Reference(Name::from_text(alloc, "T")?),
-    })?;
     Ok(Schema {
-        name: Name::from_text(alloc, "Film")?,
-        shape: Shape::Object(Some(key), fields),
-    })
-}
-
-fn a_map(alloc: Global) -> Result<Schema, AllocError>
-    ensures { IfOk result IsSpellable }
-{
-    Ok(Schema {
-        name: Name::from_text(alloc, "M")?,
-        shape: Shape::Map(
-            Name::from_text(alloc, "T")?,
-            Name::from_text(alloc, "Film")?,
-        ),
+        name: Name::from_text(alloc, "A")?,
+        shape: Shape::Object(None, fields),
     })
 }
 
 #[test]
-fn schemas_as_bytes(rt: HostRuntime) -> Result<(), Fail> {
+fn schema_as_bytes(rt: HostRuntime) -> Result<(), Fail> {
     let mut out = Vec::new(rt.alloc());
-    put_schema(&mut out, &a_film(rt.alloc())?)?;
+    put_schema(&mut out, &a_type(rt.alloc())?)?;
     assert_eq!(rt;
         out.as_slice(),
-        b"\x06\0\x04Film\x01\0\x02id\0\x02\0\x02id\0\x03INT\0\x02of\0\x09REFERENCE\0\x01T".as_slice()
+        b"\0\0\x01A\0\x01\0\x01n\0\x03INT".as_slice()
     );
-    out.clear();
-    put_schema(&mut out, &a_map(rt.alloc())?)?;
-    assert_eq!(rt; out.as_slice(), b"\x03\0\x01M\0\x01T\0\x04Film".as_slice());
     Ok(())
 }
 
 #[test]
 fn copies_of_schemas(rt: HostRuntime) -> Result<(), Fail> {
     let mut schemas = Schemas::new(rt.alloc());
-    schemas.push(a_film(rt.alloc())?)?;
-    schemas.push(a_map(rt.alloc())?)?;
+    schemas.push(a_type(rt.alloc())?)?;
+    schemas.push(Schema {
+        name: Name::from_text(rt.alloc(), "M")?,
+        shape: Shape::Map(
+            Name::from_text(rt.alloc(), "A")?,
+            Name::from_text(rt.alloc(), "B")?,
+        ),
+    })?;
     let copy = schemas.copy(rt.alloc())?;
     assert!(rt; copy.is_same(&schemas));
     assert_eq!(rt; copy.len(), 2);
