@@ -1,5 +1,5 @@
 -- A schema has one spelling, and none begins another one.
-use Rattle.std.proofs.Common.{◌≡◌, ℕ, ◌<◌, ◌/◌, ◌%◌, suc, List, [], ◌∷◌, ◌++◌, Option, Some, None, length, get_or, drop, All, flat_map, refl, sym, ap, ◌∙◌, arith, append_assoc}
+use Rattle.std.proofs.Common.{◌≡◌, ℕ, ◌/◌, ◌%◌, suc, List, [], ◌∷◌, ◌++◌, Some, None, length, get_or, drop, All, flat_map, refl, sym, ap, ◌∙◌, arith, append_assoc}
 use Rattle.std.proofs.lemmas.List.{append_cancel_left}
 use Rattle.std.specs.Str.{IsUtf8}
 use Rattle.hol_varint.specs.JavaUtf.{utf_bytes, unit_bytes}
@@ -9,9 +9,7 @@ use Rattle.hol_varint.proofs.JavaTexts.{utf_apart}
 use Rattle.hol_varint.proofs.Characters.{text_units-are, text_once}
 use Rattle.hol_varint.proofs.VarWriting.{varint_is}
 use Rattle.hol_varint.proofs.Varints.{varint_once}
-use Rattle.schema_model.specs.declared.name.Name.{Name}
 use Rattle.schema_model.specs.declared.schema.FieldKind.{FieldKind}
-use Rattle.schema_model.specs.declared.schema.Field.{Field}
 use Rattle.schema_model.specs.declared.schema.Shape.{Shape}
 use Rattle.schema_model.specs.declared.schema.Schema.{Schema}
 use Rattle.schema_model.specs.Schema.{name_bytes, kind_name, target_bytes, field_bytes, paths_bytes, fields_bytes, kind_number, shape_bytes, schema_bytes, EachNameOfKind, EachNameOfField, EachNameOfShape, EachName}

@@ -1,9 +1,8 @@
 -- The type of the worked snapshot can be spelled.
-use Rattle.std.proofs.Common.{◌≡◌, ℕ, ◌<◌, zero, suc, [], ◌∷◌, None, All, codes, arith, lit<, lit≤, subst, sym}
+use Rattle.std.proofs.Common.{◌≡◌, zero, suc, [], ◌∷◌, None, All, codes, arith, lit<, lit≤, subst, sym}
 use Rattle.std.specs.Str.{chars}
 use Rattle.hol_varint.specs.JavaUtf.{unit_bytes}
 use Rattle.schema_model.specs.declared.schema.FieldKind.{FieldKind}
-use Rattle.schema_model.specs.declared.schema.Field.{Field}
 use Rattle.schema_model.specs.declared.schema.Shape.{Shape}
 use Rattle.schema_model.specs.declared.schema.Schema.{Schema}
 use Rattle.schema_model.specs.Schema.{IsShortName, EachNameOfField, IsSpellable}

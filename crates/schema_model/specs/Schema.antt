@@ -1,5 +1,5 @@
 -- The schema of a type as the bytes of a blob: a kind, the name, and what the kind asks for. All texts are Java UTF.
-use Rattle.std.specs.Prelude.{List, [], ◌∷◌, ◌++◌, ℕ, ◌/◌, ◌%◌, ◌^◌, ◌<◌, ◌≤◌, Option, None, Some, All, IfSome, codes, flat_map, length}
+use Rattle.std.specs.Prelude.{List, [], ◌∷◌, ◌++◌, ℕ, ◌/◌, ◌%◌, ◌^◌, ◌<◌, ◌≤◌, Option, All, IfSome, codes, flat_map, length}
 use Rattle.std.specs.Option.{option_map_or}
 use Rattle.hol_varint.specs.JavaUtf.{java_bytes, utf_bytes}
 use Rattle.hol_varint.specs.TextUnits.{text_units}
