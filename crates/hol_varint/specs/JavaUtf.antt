@@ -1,5 +1,5 @@
 -- The Java UTF texts of a blob: a length of two bytes, and one to three bytes for each UTF-16 unit.
-use Rattle.std.specs.Prelude.{◌≡◌, ℕ, ◌+◌, ◌-◌, ◌*◌, ◌/◌, ◌%◌, ◌^◌, ◌<◌, ◌≤◌, ◌&&◌, nat_lt, if◌then◌else◌, List, [], ◌∷◌, ◌++◌, length, take, drop, slice_index, Result, Ok, Err}
+use Rattle.std.specs.Prelude.{◌≡◌, ℕ, ◌+◌, ◌-◌, ◌*◌, ◌/◌, ◌%◌, ◌^◌, ◌<◌, ◌≤◌, ◌&&◌, nat_lt, if◌then◌else◌, List, [], ◌∷◌, length, take, drop, slice_index, Result, Ok, Err}
 use Rattle.std.specs.List.{flat_map}
 use Rattle.hol_varint.specs.declared.fault.UtfFault.{UtfFault}
 use Rattle.hol_varint.specs.declared.fault.UtfFault.TheVariants.{Short, BadName, Memory}
@@ -28,6 +28,10 @@ pub record UtfStandsAt (bytes : List ℕ) (at : ℕ) (units : List ℕ) (next : 
   pub fits : length (java_bytes units) < 2 ^ 16
   pub spelled : take (next - at) (drop at bytes) ≡ utf_bytes units
 
+-- The bytes are a text of these units, without its length.
+abbrev pub AreJavaBytes : List ℕ → List ℕ → Type 0
+AreJavaBytes bytes units = AreUnits units × (bytes ≡ java_bytes units)
+
 -- The length that the first two bytes give.
 abbrev pub text_length : List ℕ → ℕ
 text_length rest = slice_index rest 0 * 256 + slice_index rest 1
@@ -39,7 +43,7 @@ UtfEndsInside rest = length rest < 2 + text_length rest
 -- The announced bytes are there, and they are the bytes of no units.
 pub record IsBadUtf (rest : List ℕ) : Type 0 where
   pub whole : 2 + text_length rest ≤ length rest
-  pub other : (units : List ℕ) → AreUnits units → take (text_length rest) (drop 2 rest) ≡ java_bytes units → ⊥
+  pub other : (units : List ℕ) → AreJavaBytes (take (text_length rest) (drop 2 rest)) units → ⊥
 
 -- Want of memory may come in place of any answer.
 abbrev pub IsFreeUtf : UtfFault → Type 0

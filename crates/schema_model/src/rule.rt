@@ -1,20 +1,41 @@
-/// A rule that the schemas of a model keep. They are tried in this order.
+/// What a list of schemas must keep to be a model, in the order in which the rules are tried.
 #[derive(Clone, Copy, Debug, PartialEq, Eq)]
 pub enum Rule {
-    /// There are at most 512 types, and at most 1,024 fields in a type.
+    /// At most 512 types, and at most 1,024 fields in each.
     TooMany,
-    /// A name and a key path have at most 65,535 bytes of Java UTF.
+    /// Each name and key path has at most 65,535 bytes of Java UTF.
     LongName,
-    /// A type's name stands once in the model, and a field's name once in its type.
+    /// No two types have one name, and no two fields of a type.
     DuplicateName,
     /// No field is a FLOAT or a DOUBLE.
     FloatField,
-    /// Each named type is there.
+    /// Each type that is named is there.
     UnknownType,
     /// No type's references lead into a cycle.
     CyclicModel,
-    /// A chain of references goes through at most 32 types.
+    /// No type is more than 32 types deep.
     TooDeep,
-    /// A primary key has a path, and each of its paths ends at a value.
+    /// A primary key has a path, and each path of it resolves.
     BadPath,
+}
+
+impl Rule {
+    ghost use Rattle.std.specs.Prelude.{◌≡◌};
+    ghost use Rattle.schema_model.specs.Rule.{name_of_rule};
+
+    /// The rule's name in an answer line.
+    pub fn name(&self) -> &'static str
+        ensures { result.now ≡ name_of_rule self.now }
+    {
+        match self {
+            Rule::TooMany => "TooMany",
+            Rule::LongName => "LongName",
+            Rule::DuplicateName => "DuplicateName",
+            Rule::FloatField => "FloatField",
+            Rule::UnknownType => "UnknownType",
+            Rule::CyclicModel => "CyclicModel",
+            Rule::TooDeep => "TooDeep",
+            Rule::BadPath => "BadPath",
+        }
+    }
 }
