@@ -1,0 +1,15 @@
+pub mod Areas
+pub mod Checked
+pub mod Faults
+pub mod Limit
+pub mod Model
+pub mod Parts
+pub mod Path
+pub mod PlainTree
+pub mod Reason
+pub mod Row
+pub mod Rule
+pub mod Schema
+pub mod Table
+pub mod Tree
+pub mod Unfold
