@@ -1,0 +1,5 @@
+pub mod Form
+pub mod Item
+pub mod SchemaForm
+pub mod Header
+pub mod Scene

@@ -1,0 +1,23 @@
+use hol_io::BlobName;
+use schema_model::{Limit, Name, Reason};
+
+/// Why a blob is refused.
+#[derive(Debug, Drop)]
+pub enum BlobFault {
+    /// The store has no such name.
+    NoBlob(BlobName),
+    /// A counted number of the blob passes this limit.
+    Large(Limit),
+    /// The item at this offset cannot be read, or what it says breaks a rule, for this reason.
+    Bad(u64, Reason),
+    /// A row breaks a rule: the offset of its type's schema, the reason, the type and the ordinal.
+    BadRow(u64, Reason, Name, u64),
+    /// The blob starts from another state: the origin tag that was found, and the current tag.
+    OtherOrigin(i64, i64),
+    /// A schema of the blob is not the current one of its name: the name of the type.
+    OtherModel(Name),
+    /// The store failed. It comes only where the store's count of faults rose in the call.
+    Store,
+    /// Memory was refused.
+    Memory,
+}
