@@ -3,13 +3,18 @@
 
 mod areas;
 mod fields;
+mod limit;
 mod name;
+mod name_pairs;
 mod names;
+mod packed;
 mod pairs;
 mod path;
 mod paths;
+mod places;
 mod reason;
 mod row;
+mod rule;
 mod schema;
 mod schemas;
 mod values;
@@ -18,13 +23,18 @@ mod words;
 
 pub use areas::Areas;
 pub use fields::Fields;
+pub use limit::Limit;
 pub use name::Name;
+pub use name_pairs::NamePairs;
 pub use names::Names;
+pub use packed::{Packed, PlaceFault};
 pub use pairs::Pairs;
 pub use path::Path;
 pub use paths::Paths;
+pub use places::Places;
 pub use reason::Reason;
 pub use row::{Row, Value};
+pub use rule::Rule;
 pub use schema::{Field, FieldKind, Schema, Shape};
 pub use schemas::Schemas;
 pub use values::Values;

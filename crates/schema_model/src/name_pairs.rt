@@ -1,0 +1,87 @@
+ghost use Rattle.std.specs.Prelude.{◌≡◌, ◌<◌, ◌++◌, ◌∷◌, [], length, slice_get, Some, IfOk, IsTrue, ◌↔◌, OnOk, OnErr};
+
+use crate::Name;
+use std::alloc::{AllocError, Global};
+use std::marker::Model;
+
+/// Pairs of texts: the tags of a header, each a key and its value.
+#[derive(Debug, Drop)]
+pub struct NamePairs {
+    items: Vec<(Name, Name)>,
+}
+
+impl Model for NamePairs {
+    ghost use Rattle.std.specs.Prelude.{List};
+    ghost use Rattle.schema_model.specs.declared.name.Name.{Name};
+
+    ghost Value = { List (Name × Name) };
+
+    ghost view = { λ a. a.items.items };
+}
+
+impl NamePairs {
+    /// The empty list. It takes no memory.
+    pub fn new(alloc: Global) -> Self
+        ensures { result ≡ [] }
+    {
+        NamePairs {
+            items: Vec::new(alloc),
+        }
+    }
+
+    /// Adds one at the end. Where memory is refused the list stays as it was.
+    pub fn push(&mut self, item: (Name, Name)) -> Result<(), AllocError>
+        ensures ok { OnOk result (self.new ≡ self.old ++ item ∷ []) }
+        ensures err { OnErr result (self.new ≡ self.old) }
+    {
+        self.items.push(item)?;
+        Ok(())
+    }
+
+    /// How many there are.
+    pub fn len(&self) -> usize
+        ensures { result ≡ length self.now }
+    {
+        self.items.len()
+    }
+
+    /// Whether there is none.
+    pub fn is_empty(&self) -> bool
+        ensures { IsTrue result ↔ (self.now ≡ []) }
+    {
+        self.items.is_empty()
+    }
+
+    /// The one at a place.
+    pub fn get(&self, place: usize) -> &(Name, Name)
+        requires { place < length self.now }
+        ensures { slice_get self.now place ≡ Some result.now }
+    {
+        &self.items[place]
+    }
+
+    /// All of them, as a slice.
+    pub fn as_slice(&self) -> &[(Name, Name)]
+        ensures { result.now ≡ self.now }
+    {
+        self.items.as_slice()
+    }
+
+    /// The list of a vector's items. It takes no memory.
+    pub fn from_vec(items: Vec<(Name, Name)>) -> Self
+        ensures { result ≡ items.items }
+    {
+        NamePairs { items }
+    }
+
+    /// An equal list of its own.
+    pub fn copy(&self, alloc: Global) -> Result<Self, AllocError>
+        ensures { IfOk result (λ copy. copy ≡ self.now) }
+    {
+        let mut copy = NamePairs::new(alloc);
+        for item in self.as_slice() {
+            copy.push((item.0.copy(alloc)?, item.1.copy(alloc)?))?;
+        }
+        Ok(copy)
+    }
+}

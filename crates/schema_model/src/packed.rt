@@ -1,0 +1,21 @@
+use crate::{Areas, Reason, Words};
+
+/// The packed rows of a type: what a section of a blob holds besides its ordinals.
+#[derive(Debug, Drop)]
+pub struct Packed {
+    /// The words of the records of an OBJECT, else those of the pointers.
+    pub first: Words,
+    /// The words of the elements or buckets; none for an OBJECT.
+    pub second: Words,
+    /// The variable bytes of each field of an OBJECT; none for the other kinds.
+    pub areas: Areas,
+}
+
+/// Why the row at a place cannot be read.
+#[derive(Debug, Drop)]
+pub enum PlaceFault {
+    /// The place spells no row.
+    Bad(Reason),
+    /// Memory was refused.
+    Memory,
+}
