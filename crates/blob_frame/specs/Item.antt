@@ -1,6 +1,6 @@
 -- The items of a blob: a number of a fixed size, a variable-length number, a text, a run of bytes, and the end.
-use Rattle.std.specs.Prelude.{◌≡◌, ◌≤◌, ◌<◌, ◌+◌, ◌⊎◌, ℕ, ℤ, List, length, take, drop, w64}
-use Rattle.std.specs.Int.{Width, byte_len, from_be_bytes, cast_signed}
+use Rattle.std.specs.Prelude.{◌≡◌, ◌≤◌, ◌<◌, ◌+◌, ◌⊎◌, ℕ, ℤ, List, length, take, drop}
+use Rattle.std.specs.Int.{Width, w64, byte_len, from_be_bytes, cast_signed}
 use Rattle.hol_varint.specs.Varint.{VintStandsAt, VlongStandsAt, VarEndsInside, IsNullVar, IsLongVint, IsLongVlong}
 use Rattle.hol_varint.specs.JavaUtf.{UtfStandsAt, UtfEndsInside, IsBadUtf}
 use Rattle.hol_varint.specs.TextUnits.{IsTextOf}

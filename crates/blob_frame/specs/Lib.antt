@@ -3,3 +3,5 @@ pub mod Item
 pub mod SchemaForm
 pub mod Header
 pub mod Scene
+pub mod Filling
+pub mod Starting

@@ -21,14 +21,40 @@ pub record Scene : Type 0 where
   pub faults : ℕ
   pub place : Place
 
+abbrev pub scene : Option Store → ℕ → Place → Scene
+scene held faults place = record { held = held; faults = faults; place = place }
+
+-- The place behind so many bytes that were read ahead.
+abbrev pub moved : Place → ℕ → Place
+moved place count = record { name = place.name; size = place.size; at = place.at + count; ahead = drop count place.ahead }
+
 -- The place is one in these bytes, where they are told.
 abbrev pub IsPlaceIn : Place → Option (List ℕ) → Type 0
 IsPlaceIn place None = Unit {0}
-IsPlaceIn place (Some blob) = (place.size ≡ length blob) × (place.ahead ≡ take (length place.ahead) (drop place.at blob))
+IsPlaceIn place (Some blob) = (place.size ≡ length blob) × (place.at + length place.ahead ≤ length blob)
+  × (place.ahead ≡ take (length place.ahead) (drop place.at blob))
 
 -- The cursor stands in the blob that the store holds under its name.
 abbrev pub IsOver : Scene → Type 0
 IsOver scene = IsPlaceIn scene.place (told scene.held scene.place.name)
+
+-- The store holds what it held, the count of its faults did not fall, and the cursor is in the same blob.
+pub record Stays (before after : Scene) : Type 0 where
+  pub store : after.held ≡ before.held
+  pub later : before.faults ≤ after.faults
+  pub name : after.place.name ≡ before.place.name
+  pub size : after.place.size ≡ before.place.size
+
+-- A reader that takes no memory answers no other fault.
+abbrev pub IsReadFault : BlobFault → Type 0
+IsReadFault (fault.Bad place why) = Unit {0}
+IsReadFault fault.Store = Unit {0}
+IsReadFault fault.Memory = ⊥
+IsReadFault (fault.NoBlob name) = ⊥
+IsReadFault (fault.Large limit) = ⊥
+IsReadFault (fault.BadRow place why name ordinal) = ⊥
+IsReadFault (fault.OtherOrigin found current) = ⊥
+IsReadFault (fault.OtherModel name) = ⊥
 
 -- A reader of items answers no other fault.
 abbrev pub IsItemFault : BlobFault → Type 0
@@ -68,10 +94,8 @@ Tells form (Some blob) at (Err (fault.OtherModel name)) next = ⊥
 -- Reading such a part of the blob: the store stays, the cursor stays in its blob, and the answer is what stands there,
 -- or the first item that cannot be read.
 pub record Reads {V : Type 0} (form : Form V) (before after : Scene) (answer : Result V BlobFault) : Type 0 where
-  pub store : after.held ≡ before.held
-  pub blob : after.place.name ≡ before.place.name
+  pub stays : Stays before after
   pub over : IsOver after
-  pub later : before.faults ≤ after.faults
   pub cause : answer ≡ Err fault.Store → Rose before.faults after.faults
   pub kind : IfErr answer IsItemFault
   pub tells : Tells form (told before.held before.place.name) before.place.at answer after.place.at

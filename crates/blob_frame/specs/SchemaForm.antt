@@ -1,12 +1,13 @@
 -- The bytes of a schema: its kind, its name, and what its kind calls for.
-use Rattle.std.specs.Prelude.{◌≡◌, ◌<◌, ◌⊎◌, ℕ, List, codes, Option, Some, None, w8, w16}
+use Rattle.std.specs.Prelude.{◌≡◌, ◌<◌, ◌⊎◌, ℕ, List, codes, Option, Some, None}
+use Rattle.std.specs.Int.{w8, w16}
 use Rattle.schema_model.specs.declared.reason.Reason.{Reason}
 use Rattle.schema_model.specs.declared.reason.Reason.TheVariants.{BadSchema, FloatField, KeyedHash}
 use Rattle.schema_model.specs.declared.schema.FieldKind.{FieldKind}
 use Rattle.schema_model.specs.declared.schema.FieldKind.TheVariants.{Reference, Int, Long, Boolean, Text, Bytes}
 use Rattle.schema_model.specs.declared.schema.Field.{Field}
 use Rattle.schema_model.specs.declared.schema.Shape.{Shape}
-use Rattle.schema_model.specs.declared.schema.Shape.TheVariants.{Object, Set, List, Map} as shape
+use Rattle.schema_model.specs.declared.schema.Shape.TheVariants as shape
 use Rattle.schema_model.specs.declared.schema.Schema.{Schema}
 use Rattle.blob_frame.specs.declared.kind.SchemaKind.{SchemaKind}
 use Rattle.blob_frame.specs.declared.kind.SchemaKind.TheVariants as kind
@@ -28,8 +29,8 @@ abbrev pub IsRefusedKind : ℕ → Reason → Type 0
 IsRefusedKind byte why = (((byte ≡ 4) ⊎ (byte ≡ 5)) × (why ≡ KeyedHash)) ⊎ ((6 < byte) × (why ≡ BadSchema))
 
 -- The byte of a schema's kind.
-unfoldable pub kind : Form SchemaKind
-kind = judged (fixed w8) (λ byte k. byte ≡ kind_byte k) IsRefusedKind
+unfoldable pub schema_kind : Form SchemaKind
+schema_kind = judged (fixed w8) (λ byte k. byte ≡ kind_byte k) IsRefusedKind
 
 -- the text of a field's type
 abbrev pub type_text : FieldType → List ℕ
@@ -107,9 +108,9 @@ shape_of kind.Map = do
 -- A schema.
 unfoldable pub schema : Form Schema
 schema = do
-  schema_kind ← kind
+  of ← schema_kind
   schema_name ← name
-  schema_shape ← shape_of schema_kind
+  schema_shape ← shape_of of
   nothing (record { name = schema_name; shape = schema_shape })
 
 -- A list of schemas: their number, which is 512 at most, and each of them.

@@ -1,5 +1,6 @@
-use hol_io::BlobName;
+use hol_io::{BlobName, StoreFailed};
 use schema_model::{Limit, Name, Reason};
+use std::alloc::{AllocError, AllocFailed};
 
 /// Why a blob is refused.
 #[derive(Debug, Drop)]
@@ -20,4 +21,37 @@ pub enum BlobFault {
     Store,
     /// Memory was refused.
     Memory,
+}
+
+impl From<StoreFailed> for BlobFault {
+    ghost use Rattle.std.specs.Prelude.{◌≡◌};
+    ghost use Rattle.blob_frame.specs.declared.fault.BlobFault.TheVariants.{Store};
+
+    ghost from_gives = { λ _ fault. fault ≡ Store };
+
+    fn from(_failed: StoreFailed) -> BlobFault {
+        BlobFault::Store
+    }
+}
+
+impl From<AllocError> for BlobFault {
+    ghost use Rattle.std.specs.Prelude.{◌≡◌};
+    ghost use Rattle.blob_frame.specs.declared.fault.BlobFault.TheVariants.{Memory};
+
+    ghost from_gives = { λ _ fault. fault ≡ Memory };
+
+    fn from(_error: AllocError) -> BlobFault {
+        BlobFault::Memory
+    }
+}
+
+impl<T: Drop> From<AllocFailed<T>> for BlobFault {
+    ghost use Rattle.std.specs.Prelude.{◌≡◌};
+    ghost use Rattle.blob_frame.specs.declared.fault.BlobFault.TheVariants.{Memory};
+
+    ghost from_gives = { λ _ fault. fault ≡ Memory };
+
+    fn from(_error: AllocFailed<T>) -> BlobFault {
+        BlobFault::Memory
+    }
 }

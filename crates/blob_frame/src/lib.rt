@@ -1,13 +1,11 @@
-// A library with one function.
+//! The bytes of a blob, item by item: a cursor over a blob of a store, and its header.
 #![tactic(auto)]
 
-ghost use Rattle.std.specs.Prelude.{◌≡◌};
-ghost use Rattle.blob_frame.specs.Echo.{echo_of};
+mod cursor;
+mod fault;
+mod header;
+mod kind;
 
-// The `ensures` clause is the contract: what `echo` returns is `echo_of` of its argument, a definition
-// in `specs/Echo.antt`, which a caller's clause can cite too.
-pub fn echo(x: usize) -> usize
-    ensures { result ≡ echo_of x }
-{
-    x
-}
+pub use cursor::Cursor;
+pub use fault::BlobFault;
+pub use header::Header;
