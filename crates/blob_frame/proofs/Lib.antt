@@ -1,1 +1,4 @@
 pub mod Ahead
+pub mod Chain
+pub mod Fixed
+pub mod Runs

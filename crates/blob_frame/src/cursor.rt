@@ -1,7 +1,7 @@
-ghost use Rattle.std.specs.Prelude.{◌≡◌, ◌≤◌, ◌<◌, ◌+◌, ℕ, length, drop, min, IsTrue, IfOk, OnOk, OnSome, Result, Ok, Err};
+ghost use Rattle.std.specs.Prelude.{◌≡◌, ◌≤◌, ◌+◌, ℕ, List, Option, length, drop, min, IsTrue, IfOk, OnOk, OnSome, Result, Ok, Err};
 ghost use Rattle.hol_io.specs.Causes.{Rose};
 ghost use Rattle.hol_io.specs.Store.{Store, told};
-ghost use Rattle.blob_frame.specs.Scene.{Place, IsOver, scene, moved};
+ghost use Rattle.blob_frame.specs.Scene.{Place, IsOver, IsPlaceIn, scene, moved};
 ghost use Rattle.blob_frame.specs.Filling.{Fills, Needs};
 ghost use Rattle.blob_frame.specs.Starting.{Starts, IsStart};
 
@@ -21,7 +21,7 @@ const LARGEST: u64 = 0x1000_0000;
 /// A place in a blob of a store, from which its items are read in byte order.
 #[derive(Drop)]
 pub struct Cursor {
-    pub(crate) alloc: Global,
+    alloc: Global,
     name: BlobName,
     /// The blob's length in bytes.
     size: u64,
@@ -108,10 +108,33 @@ impl Cursor {
     /// Moves past bytes that were read ahead.
     pub(crate) fn pass(&mut self, count: usize)
         requires { count ≤ length self.old.ahead }
-        ensures { self.new ≡ moved self.old count }
+        ensures moved { self.new ≡ moved self.old count }
+        ensures within { self.new.at ≤ self.new.size }
     {
         self.begin += count;
         self.at += count as u64;
+    }
+
+    /// Moves past so many bytes, which are there, and reads none of them.
+    pub(crate) fn jump(&mut self, count: u64)
+        requires { self.old.at + count ≤ self.old.size }
+        ensures same { (self.new.name ≡ self.old.name) × (self.new.size ≡ self.old.size) }
+        ensures at { self.new.at ≡ self.old.at + count }
+        ensures over { (content : Option (List ℕ)) → IsPlaceIn self.old content → IsPlaceIn self.new content }
+    {
+        match usize::try_from(count) {
+            Ok(ahead) if ahead <= self.ahead().len() => self.pass(ahead),
+            _ => {
+                self.at += count;
+                self.begin = 0;
+                self.end = 0;
+            }
+        }
+    }
+
+    /// What the cursor takes memory from.
+    pub(crate) fn allocator(&self) -> Global {
+        self.alloc
     }
 
     /// The fault of an item at the cursor's place.

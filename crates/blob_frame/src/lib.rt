@@ -4,6 +4,7 @@
 mod cursor;
 mod fault;
 mod header;
+mod items;
 mod kind;
 
 pub use cursor::Cursor;

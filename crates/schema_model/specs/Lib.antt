@@ -1,9 +1,3 @@
 pub mod Limit
-pub mod PlainTree
 pub mod Reason
-pub mod Row
 pub mod Rule
-pub mod Schema
-pub mod Table
-pub mod Tree
-pub mod Unfold
