@@ -1,7 +1,7 @@
 -- The items of a blob: a number of a fixed size, a variable-length number, a text, a run of bytes, and the end.
-use Rattle.std.specs.Prelude.{◌≡◌, ◌≤◌, ◌<◌, ◌+◌, ◌⊎◌, ℕ, ℤ, List, length, take, drop}
+use Rattle.std.specs.Prelude.{◌≡◌, ◌≤◌, ◌<◌, ◌+◌, ◌^◌, ◌⊎◌, ℕ, ℤ, List, length, take, drop}
 use Rattle.std.specs.Int.{Width, w64, byte_len, from_be_bytes, cast_signed}
-use Rattle.hol_varint.specs.Varint.{VintStandsAt, VlongStandsAt, VarEndsInside, IsNullVar, IsLongVint, IsLongVlong}
+use Rattle.hol_varint.specs.Varint.{VarStandsBelow, VarEndsInside, IsNullVar, IsLongVar}
 use Rattle.hol_varint.specs.JavaUtf.{UtfStandsAt, UtfEndsInside, IsBadUtf}
 use Rattle.hol_varint.specs.TextUnits.{IsTextOf}
 use Rattle.schema_model.specs.declared.reason.Reason.{Reason}
@@ -20,23 +20,24 @@ fixed w = record {
 unfoldable pub signed : Form ℤ
 signed = judged (fixed w64) (λ n z. z ≡ cast_signed w64 n) (λ n why. ⊥)
 
--- Why a variable-length number cannot be read from these bytes on, Long being when a number is too large for it.
-abbrev pub VarFails : (List ℕ → Type 0) → List ℕ → Reason → Type 0
-VarFails Long rest why = (VarEndsInside rest × (why ≡ Truncated)) ⊎ ((IsNullVar rest ⊎ Long rest) × (why ≡ BadVarint))
+-- Why a variable-length number below the limit cannot be read from these bytes on.
+abbrev pub VarFails : ℕ → List ℕ → Reason → Type 0
+VarFails limit rest why = (VarEndsInside rest × (why ≡ Truncated)) ⊎ ((IsNullVar rest ⊎ IsLongVar limit rest) × (why ≡ BadVarint))
 
--- A variable-length number below 2^32.
-unfoldable pub vint : Form ℕ
-vint = record {
-    Stands = VintStandsAt;
-    Stuck = λ bytes at place why. VarFails IsLongVint (drop at bytes) why × (place ≡ at)
+-- A variable-length number below the limit.
+unfoldable pub varint : ℕ → Form ℕ
+varint limit = record {
+    Stands = VarStandsBelow limit;
+    Stuck = λ bytes at place why. VarFails limit (drop at bytes) why × (place ≡ at)
   }
 
--- A variable-length number below 2^64.
-unfoldable pub vlong : Form ℕ
-vlong = record {
-    Stands = VlongStandsAt;
-    Stuck = λ bytes at place why. VarFails IsLongVlong (drop at bytes) why × (place ≡ at)
-  }
+-- A VInt, a number below 2^32.
+abbrev pub vint : Form ℕ
+vint = varint (2 ^ 32)
+
+-- A VLong, a number below 2^64.
+abbrev pub vlong : Form ℕ
+vlong = varint (2 ^ 64)
 
 -- A Java UTF text with its length: its UTF-16 units.
 unfoldable pub units : Form (List ℕ)

@@ -6,6 +6,7 @@ mod fault;
 mod header;
 mod items;
 mod kind;
+mod varints;
 
 pub use cursor::Cursor;
 pub use fault::BlobFault;
