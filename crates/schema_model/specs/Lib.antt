@@ -1,3 +1,11 @@
+pub mod Areas
 pub mod Limit
+pub mod Parts
+pub mod PlainTree
 pub mod Reason
+pub mod Row
 pub mod Rule
+pub mod Schema
+pub mod Table
+pub mod Tree
+pub mod Unfold
