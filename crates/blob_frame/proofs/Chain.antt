@@ -163,3 +163,7 @@ reads_refused {a = a} Means F {before} {after} {x} {why} {r} p f is = subst (λ 
     kind = tt;
     tells = tells_refused a Means F (told before.held before.place.name) before.place.at after.place.at x why p.tells f
   })
+
+-- nothing is left to read, and this is the value
+pub reads_value : {A : Type 0} {v : A} {now : Scene} {r : Result A BlobFault} → IsOver now → r ≡ Ok v → Reads (nothing v) now now r
+reads_value {v = v} {now} {r} over is = subst (λ r. Reads (nothing v) now now r) (sym is) (reads_nothing over)

@@ -4,3 +4,6 @@ pub mod Fixed
 pub mod Runs
 pub mod Seeking
 pub mod Numbers
+pub mod TextReading
+pub mod Counting
+pub mod Envelopes

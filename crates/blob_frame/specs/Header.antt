@@ -13,14 +13,18 @@ use Rattle.blob_frame.specs.SchemaForm.{schemas}
 unfoldable pub format : Form Unit
 format = judged (fixed w32) (λ n u. n ≡ 1030) (λ n why. (n ≢ 1030) × (why ≡ OtherFormat))
 
--- What stands in the schema envelope behind its number: nothing behind 0, else the schemas, and bytes to skip.
-unfoldable pub enveloped_schemas : ℕ → Form (List Schema)
-enveloped_schemas zero = nothing []
-enveloped_schemas (suc n) = do
+-- The listed schemas, and behind them bytes to skip.
+unfoldable pub listed_schemas : Form (List Schema)
+listed_schemas = do
   listed ← schemas
   count ← vint
   _ ← skipped count
   nothing listed
+
+-- What stands in the schema envelope behind its number: nothing behind 0, else the listed schemas.
+unfoldable pub enveloped_schemas : ℕ → Form (List Schema)
+enveloped_schemas zero = nothing []
+enveloped_schemas (suc n) = listed_schemas
 
 -- The schema envelope.
 unfoldable pub schema_envelope : Form (List Schema)

@@ -6,6 +6,9 @@ mod fault;
 mod header;
 mod items;
 mod kind;
+mod reading;
+mod schema;
+mod texts;
 mod varints;
 
 pub use cursor::Cursor;
