@@ -7,3 +7,5 @@ pub mod Numbers
 pub mod TextReading
 pub mod Counting
 pub mod Envelopes
+pub mod Decided
+pub mod DecidedItems

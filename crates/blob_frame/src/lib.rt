@@ -6,6 +6,7 @@ mod fault;
 mod header;
 mod items;
 mod kind;
+pub mod laws;
 mod reading;
 mod schema;
 mod texts;
