@@ -23,42 +23,42 @@ use Rattle.blob_frame.proofs.Decided.{IsJudge, decided_nothing, decided_then, de
 pub decided_fixed : (w : Width) → IsDecided (fixed w)
 unfolding fixed
 decided_fixed w = record {
-    one = λ bytes at v u next end p q. (p.2 ∙ sym q.2, p.0 ∙ sym q.0);
-    once = λ bytes at place other why because p q. (p.1 ∙ sym q.1, p.2 ∙ sym q.2);
-    apart = λ bytes at v next place why p q. omega (arith, p.0, p.1, q.0)
-  }
+  one = λ bytes at v u next end p q. (p.2 ∙ sym q.2, p.0 ∙ sym q.0);
+  once = λ bytes at place other why because p q. (p.1 ∙ sym q.1, p.2 ∙ sym q.2);
+  apart = λ bytes at v next place why p q. omega (arith, p.0, p.1, q.0);
+}
 
 pub decided_signed : IsDecided signed
 unfolding signed
 decided_signed = decided_judged _ _ (decided_fixed _) (record {
-    one = λ x v u p q. p ∙ sym q;
-    once = λ x why because p q. absurd p;
-    apart = λ x v why p q. q
-  })
+  one = λ x v u p q. p ∙ sym q;
+  once = λ x why because p q. absurd p;
+  apart = λ x v why p q. q;
+})
 
 pub decided_run : (n : ℕ) → IsDecided (run n)
 unfolding run
 decided_run n = record {
-    one = λ bytes at v u next end p q. (p.2 ∙ sym q.2, p.0 ∙ sym q.0);
-    once = λ bytes at place other why because p q. (p.1 ∙ sym q.1, p.2 ∙ sym q.2);
-    apart = λ bytes at v next place why p q. omega (arith, p.0, p.1, q.0)
-  }
+  one = λ bytes at v u next end p q. (p.2 ∙ sym q.2, p.0 ∙ sym q.0);
+  once = λ bytes at place other why because p q. (p.1 ∙ sym q.1, p.2 ∙ sym q.2);
+  apart = λ bytes at v next place why p q. omega (arith, p.0, p.1, q.0);
+}
 
 pub decided_skipped : (n : ℕ) → IsDecided (skipped n)
 unfolding skipped
 decided_skipped n = decided_judged _ _ (decided_run n) (record {
-    one = λ x v u p q. refl;
-    once = λ x why because p q. absurd p;
-    apart = λ x v why p q. q
-  })
+  one = λ x v u p q. refl;
+  once = λ x why because p q. absurd p;
+  apart = λ x v why p q. q;
+})
 
 pub decided_end : IsDecided end
 unfolding end
 decided_end = record {
-    one = λ bytes at v u next end p q. (refl, p.1 ∙ sym q.1);
-    once = λ bytes at place other why because p q. (p.1 ∙ sym q.1, p.2 ∙ sym q.2);
-    apart = λ bytes at v next place why p q. omega (arith, p.0, q.0)
-  }
+  one = λ bytes at v u next end p q. (refl, p.1 ∙ sym q.1);
+  once = λ bytes at place other why because p q. (p.1 ∙ sym q.1, p.2 ∙ sym q.2);
+  apart = λ bytes at v next place why p q. omega (arith, p.0, q.0);
+}
 
 inside_or : (limit : ℕ) (rest : List ℕ) → VarEndsInside rest → IsNullVar rest ⊎ IsLongVar limit rest → ⊥
 inside_or limit rest inside (inl null) = inside.first null
@@ -78,38 +78,38 @@ apart_varint limit bytes at number next why p (inr (inr long, is)) = stands_long
 pub decided_varint : (limit : ℕ) → IsDecided (varint limit)
 unfolding varint
 decided_varint limit = record {
-    one = λ bytes at v u next end p q. stands_once limit bytes at v next p u end q;
-    once = λ bytes at place other why because p q. (p.1 ∙ sym q.1, once_varint limit (drop at bytes) why because p.0 q.0);
-    apart = λ bytes at v next place why p q. apart_varint limit bytes at v next why p q.0
-  }
+  one = λ bytes at v u next end p q. stands_once limit bytes at v next p u end q;
+  once = λ bytes at place other why because p q. (p.1 ∙ sym q.1, once_varint limit (drop at bytes) why because p.0 q.0);
+  apart = λ bytes at v next place why p q. apart_varint limit bytes at v next why p q.0;
+}
 
 once_units : (rest : List ℕ) (why because : Reason) → (UtfEndsInside rest × (why ≡ Truncated)) ⊎ (IsBadUtf rest × (why ≡ BadName)) →
-  (UtfEndsInside rest × (because ≡ Truncated)) ⊎ (IsBadUtf rest × (because ≡ BadName)) → why ≡ because
+    (UtfEndsInside rest × (because ≡ Truncated)) ⊎ (IsBadUtf rest × (because ≡ BadName)) → why ≡ because
 once_units rest why because (inl p) (inl q) = p.1 ∙ sym q.1
 once_units rest why because (inl p) (inr q) = absurd (omega (arith, p.0, q.0.whole))
 once_units rest why because (inr p) (inl q) = absurd (omega (arith, q.0, p.0.whole))
 once_units rest why because (inr p) (inr q) = p.1 ∙ sym q.1
 
 apart_units : (bytes : List ℕ) (at : ℕ) (us : List ℕ) (next : ℕ) (why : Reason) → UtfStandsAt bytes at us next →
-  (UtfEndsInside (drop at bytes) × (why ≡ Truncated)) ⊎ (IsBadUtf (drop at bytes) × (why ≡ BadName)) → ⊥
+    (UtfEndsInside (drop at bytes) × (why ≡ Truncated)) ⊎ (IsBadUtf (drop at bytes) × (why ≡ BadName)) → ⊥
 apart_units bytes at us next why p (inl q) = utf_stands_inside bytes at us next p q.0
 apart_units bytes at us next why p (inr q) = utf_stands_bad bytes at us next p q.0
 
 pub decided_units : IsDecided units
 unfolding units
 decided_units = record {
-    one = λ bytes at v u next end p q. utf_stands_once bytes at v u next end p q;
-    once = λ bytes at place other why because p q. (p.0 ∙ sym q.0, once_units (drop at bytes) why because p.1 q.1);
-    apart = λ bytes at v next place why p q. apart_units bytes at v next why p q.1
-  }
+  one = λ bytes at v u next end p q. utf_stands_once bytes at v u next end p q;
+  once = λ bytes at place other why because p q. (p.0 ∙ sym q.0, once_units (drop at bytes) why because p.1 q.1);
+  apart = λ bytes at v next place why p q. apart_units bytes at v next why p q.1;
+}
 
 pub decided_name : IsDecided name
 unfolding name
 decided_name = decided_judged _ _ decided_units (record {
-    one = λ x v u p q. text_once x v u p q;
-    once = λ x why because p q. p.0 ∙ sym q.0;
-    apart = λ x v why p q. q.1 v p
-  })
+  one = λ x v u p q. text_once x v u p q;
+  once = λ x why because p q. p.0 ∙ sym q.0;
+  apart = λ x v why p q. q.1 v p;
+})
 
 unfoldable kind_at : ℕ → SchemaKind
 kind_at byte = if byte == 0 then kind.Object else (if byte == 1 then kind.Set else (if byte == 2 then kind.List else (if byte == 3 then kind.Map else kind.KeyedObject)))
@@ -149,10 +149,10 @@ kind_not_refused byte k why is (inr p) = elim (kind_small k) [ inl h ↦ omega (
 pub decided_schema_kind : IsDecided schema_kind
 unfolding schema_kind
 decided_schema_kind = decided_judged _ _ (decided_fixed _) (record {
-    one = λ x v u p q. kinds_once v u (sym p ∙ q);
-    once = λ x why because p q. refused_kind_once x why because p q;
-    apart = λ x v why p q. kind_not_refused x v why p q
-  })
+  one = λ x v u p q. kinds_once v u (sym p ∙ q);
+  once = λ x why because p q. refused_kind_once x why because p q;
+  apart = λ x v why p q. kind_not_refused x v why p q;
+})
 
 -- the texts of the field types differ by their length
 unfoldable type_at : ℕ → FieldType
@@ -198,10 +198,10 @@ type_not_refused text t why is (inr p) = p.0 t is
 pub decided_field_type : IsDecided field_type
 unfolding field_type
 decided_field_type = decided_judged _ _ decided_name (record {
-    one = λ x v u p q. types_once v u (sym p ∙ q);
-    once = λ x why because p q. refused_type_once x why because p q;
-    apart = λ x v why p q. type_not_refused x v why p q
-  })
+  one = λ x v u p q. types_once v u (sym p ∙ q);
+  once = λ x why because p q. refused_type_once x why because p q;
+  apart = λ x v why p q. type_not_refused x v why p q;
+})
 
 pub decided_field_kind : (t : FieldType) → IsDecided (field_kind_of t)
 unfolding field_kind_of
@@ -243,10 +243,10 @@ decided_schemas = decided_then _ (decided_at_most 512 (decided_varint _)) (λ co
 pub decided_format : IsDecided format
 unfolding format
 decided_format = decided_judged _ _ (decided_fixed _) (record {
-    one = λ x v u p q. refl;
-    once = λ x why because p q. p.1 ∙ sym q.1;
-    apart = λ x v why p q. q.0 p
-  })
+  one = λ x v u p q. refl;
+  once = λ x why because p q. p.1 ∙ sym q.1;
+  apart = λ x v why p q. q.0 p;
+})
 
 pub decided_listed : IsDecided listed_schemas
 unfolding listed_schemas

@@ -34,12 +34,12 @@ pub within_ahead : (blob ahead : List ℕ) (at count : ℕ) → at + length ahea
 within_ahead blob ahead at count within h = omega arith
 
 drop_told : (blob ahead : List ℕ) (at count : ℕ) → ahead ≡ take (length ahead) (drop at blob) → count ≤ length ahead →
-  drop count ahead ≡ take (length (drop count ahead)) (drop (at + count) blob)
+    drop count ahead ≡ take (length (drop count ahead)) (drop (at + count) blob)
 drop_told blob ahead at count is h =
     let whole : length ahead ≡ count + (length ahead - count) = omega arith in
     let left : length (drop count ahead) ≡ length ahead - count = omega (arith, length-drop count ahead) in
     let e : drop count ahead ≡ drop count (take (count + (length ahead - count)) (drop at blob)) =
-        ap (λ (xs : List ℕ). drop count xs) (is ∙ ap (λ n. take n (drop at blob)) whole) in
+    ap (λ (xs : List ℕ). drop count xs) (is ∙ ap (λ n. take n (drop at blob)) whole) in
     let f = drop-take count (length ahead - count) (drop at blob) in
     let d = ap (λ (xs : List ℕ). take (length ahead - count) xs) (drop-drop count at blob) in
     e ∙ (f ∙ (d ∙ ap (λ n. take n (drop (at + count) blob)) (sym left)))
@@ -58,25 +58,27 @@ pub stays_passed : {before mid : Scene} (count : ℕ) → Stays before mid → S
 stays_passed count p = record { store = p.store; later = p.later; name = p.name; size = p.size }
 
 tells_fixed : (w : Width) (content : Option (List ℕ)) (place : Place) (v : ℕ) → IsPlaceIn place content → byte_len w ≤ length place.ahead →
-  v ≡ from_be_bytes w (take (byte_len w) place.ahead) → Tells (fixed w) content place.at (Ok v) (place.at + byte_len w)
+    v ≡ from_be_bytes w (take (byte_len w) place.ahead) → Tells (fixed w) content place.at (Ok v) (place.at + byte_len w)
 unfolding fixed
 tells_fixed w None place v over enough is = tt
-tells_fixed w (Some blob) place v over enough is =
-    (refl, within_ahead blob place.ahead place.at (byte_len w) over.1 enough,
-     is ∙ ap (from_be_bytes w) (take_ahead blob place.ahead place.at (byte_len w) over.2 enough))
+tells_fixed w (Some blob) place v over enough is = (
+  refl,
+  within_ahead blob place.ahead place.at (byte_len w) over.1 enough,
+  is ∙ ap (from_be_bytes w) (take_ahead blob place.ahead place.at (byte_len w) over.2 enough),
+)
 
 -- a number of a fixed size is read from the bytes ahead
 pub reads_fixed : (w : Width) {before mid : Scene} {place : Place} {v : ℕ} → Needs {T = Unit {0}} (byte_len w) before mid (Ok tt) → place ≡ moved mid.place (byte_len w) →
-  v ≡ from_be_bytes w (take (byte_len w) mid.place.ahead) → Reads (fixed w) before (scene mid.held mid.faults place) (Ok v)
+    v ≡ from_be_bytes w (take (byte_len w) mid.place.ahead) → Reads (fixed w) before (scene mid.held mid.faults place) (Ok v)
 reads_fixed w {before} {mid} {place} {v} p behind is = subst (λ (place : Place). Reads (fixed w) before (scene mid.held mid.faults place) (Ok v)) (sym behind) (record {
-    stays = stays_passed (byte_len w) p.stays;
-    over = over_moved mid.place (told mid.held mid.place.name) (byte_len w) p.enough p.over;
-    cause = λ e. absurd (cc);
-    kind = tt;
-    tells = subst (λ content. Tells (fixed w) content before.place.at (Ok v) (mid.place.at + byte_len w)) (told_stays p.stays)
+  stays = stays_passed (byte_len w) p.stays;
+  over = over_moved mid.place (told mid.held mid.place.name) (byte_len w) p.enough p.over;
+  cause = λ e. absurd (cc);
+  kind = tt;
+  tells = subst (λ content. Tells (fixed w) content before.place.at (Ok v) (mid.place.at + byte_len w)) (told_stays p.stays)
       (subst (λ at. Tells (fixed w) (told mid.held mid.place.name) at (Ok v) (mid.place.at + byte_len w)) p.place
-        (tells_fixed w (told mid.held mid.place.name) mid.place v p.over p.enough is))
-  })
+      (tells_fixed w (told mid.held mid.place.name) mid.place v p.over p.enough is));
+})
 
 -- a list that is long enough begins with its first items
 pub first_one : (xs : List ℕ) → 1 ≤ length xs → take 1 xs ≡ get_or xs 0 0 ∷ []
@@ -111,7 +113,7 @@ pub value_one : (xs ys : List ℕ) → 1 ≤ length ys → xs ≡ ys → get_or 
 value_one xs ys h is = rw (is, first_one ys h) (omega arith)
 
 tells_short : (w : Width) (content : Option (List ℕ)) (at end : ℕ) (e : BlobFault) → IsReadFault e →
-  TellsNeed {T = Unit {0}} (byte_len w) content at (Err e) → Tells (fixed w) content at (Err e) end
+    TellsNeed {T = Unit {0}} (byte_len w) content at (Err e) → Tells (fixed w) content at (Err e) end
 unfolding fixed
 tells_short w None at end e k p = tt
 tells_short w (Some blob) at end (fault.Bad place why) k p = p
@@ -125,11 +127,11 @@ tells_short w (Some blob) at end (fault.OtherModel name) k p = k
 
 -- the blob ends before the number does, or the store failed
 pub reads_short : (w : Width) {before after : Scene} {e : BlobFault} {r : Result ℕ BlobFault} → Needs {T = Unit {0}} (byte_len w) before after (Err e) → r ≡ Err e →
-  Reads (fixed w) before after r
+    Reads (fixed w) before after r
 reads_short w {before} {after} {e} {r} p is = subst (λ r. Reads (fixed w) before after r) (sym is) (record {
-    stays = p.stays;
-    over = p.over;
-    cause = λ k. p.cause (ap Err (cc));
-    kind = item_fault e p.kind;
-    tells = tells_short w (told before.held before.place.name) before.place.at after.place.at e p.kind p.tells
-  })
+  stays = p.stays;
+  over = p.over;
+  cause = λ k. p.cause (ap Err (cc));
+  kind = item_fault e p.kind;
+  tells = tells_short w (told before.held before.place.name) before.place.at after.place.at e p.kind p.tells;
+})

@@ -16,7 +16,7 @@ pub record Fills {T : Type 0} (count : ℕ) (before after : Scene) (answer : Res
   pub cause : answer ≡ Err fault.Store → Rose before.faults after.faults
   pub kind : IfErr answer (λ e. e ≡ fault.Store)
   pub enough : OnOk answer (IfSome (told before.held before.place.name)
-    (λ blob. min count (length blob - before.place.at) ≤ length after.place.ahead))
+      (λ blob. min count (length blob - before.place.at) ≤ length after.place.ahead))
 
 -- What an answer says where this many bytes are needed.
 abbrev pub TellsNeed : {T : Type 0} → ℕ → Option (List ℕ) → ℕ → Result T BlobFault → Type 0
@@ -49,7 +49,7 @@ pub record Seeks (before after : Scene) (answer : Result Bool BlobFault) : Type 
   pub cause : answer ≡ Err fault.Store → Rose before.faults after.faults
   pub kind : IfErr answer (λ e. e ≡ fault.Store)
   pub tells : IfSome (told before.held before.place.name) (λ blob.
-    IfOk answer (λ found. MatchBool found (StopsLater (drop before.place.at blob)) (GoOn (drop before.place.at blob))))
+      IfOk answer (λ found. MatchBool found (StopsLater (drop before.place.at blob)) (GoOn (drop before.place.at blob))))
 
 -- As many bytes stand ahead as are there, up to this count.
 abbrev pub HasAhead : ℕ → Scene → Type 0

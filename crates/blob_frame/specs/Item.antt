@@ -11,10 +11,10 @@ use Rattle.blob_frame.specs.Form.{Form, judged}
 -- A number of a fixed size, its highest byte first.
 unfoldable pub fixed : Width → Form ℕ
 fixed w = record {
-    Stands = λ bytes at v next. (next ≡ at + byte_len w) × (next ≤ length bytes)
+  Stands = λ bytes at v next. (next ≡ at + byte_len w) × (next ≤ length bytes)
       × (v ≡ from_be_bytes w (take (byte_len w) (drop at bytes)));
-    Stuck = λ bytes at place why. (length bytes < at + byte_len w) × (place ≡ at) × (why ≡ Truncated)
-  }
+  Stuck = λ bytes at place why. (length bytes < at + byte_len w) × (place ≡ at) × (why ≡ Truncated);
+}
 
 -- A signed number of 8 bytes.
 unfoldable pub signed : Form ℤ
@@ -27,9 +27,9 @@ VarFails limit rest why = (VarEndsInside rest × (why ≡ Truncated)) ⊎ ((IsNu
 -- A variable-length number below the limit.
 unfoldable pub varint : ℕ → Form ℕ
 varint limit = record {
-    Stands = VarStandsBelow limit;
-    Stuck = λ bytes at place why. VarFails limit (drop at bytes) why × (place ≡ at)
-  }
+  Stands = VarStandsBelow limit;
+  Stuck = λ bytes at place why. VarFails limit (drop at bytes) why × (place ≡ at);
+}
 
 -- A VInt, a number below 2^32.
 abbrev pub vint : Form ℕ
@@ -42,10 +42,10 @@ vlong = varint (2 ^ 64)
 -- A Java UTF text with its length: its UTF-16 units.
 unfoldable pub units : Form (List ℕ)
 units = record {
-    Stands = UtfStandsAt;
-    Stuck = λ bytes at place why. (place ≡ at)
-      × ((UtfEndsInside (drop at bytes) × (why ≡ Truncated)) ⊎ (IsBadUtf (drop at bytes) × (why ≡ BadName)))
-  }
+  Stands = UtfStandsAt;
+  Stuck = λ bytes at place why. (place ≡ at)
+      × ((UtfEndsInside (drop at bytes) × (why ≡ Truncated)) ⊎ (IsBadUtf (drop at bytes) × (why ≡ BadName)));
+}
 
 -- A name: a Java UTF text whose units are well-formed UTF-16. Its value is the name's UTF-8 bytes.
 unfoldable pub name : Form (List ℕ)
@@ -54,9 +54,9 @@ name = judged units IsTextOf (λ us why. (why ≡ BadName) × ((text : List ℕ)
 -- A run of this many bytes.
 unfoldable pub run : ℕ → Form (List ℕ)
 run n = record {
-    Stands = λ bytes at v next. (next ≡ at + n) × (next ≤ length bytes) × (v ≡ take n (drop at bytes));
-    Stuck = λ bytes at place why. (length bytes < at + n) × (place ≡ at) × (why ≡ Truncated)
-  }
+  Stands = λ bytes at v next. (next ≡ at + n) × (next ≤ length bytes) × (v ≡ take n (drop at bytes));
+  Stuck = λ bytes at place why. (length bytes < at + n) × (place ≡ at) × (why ≡ Truncated);
+}
 
 -- A run of this many bytes that mean nothing.
 unfoldable pub skipped : ℕ → Form Unit
@@ -65,6 +65,6 @@ skipped n = judged (run n) (λ bytes u. Unit {0}) (λ bytes why. ⊥)
 -- The end of the blob.
 unfoldable pub end : Form Unit
 end = record {
-    Stands = λ bytes at v next. (at ≡ length bytes) × (next ≡ at);
-    Stuck = λ bytes at place why. (at < length bytes) × (place ≡ at) × (why ≡ TrailingBytes)
-  }
+  Stands = λ bytes at v next. (at ≡ length bytes) × (next ≡ at);
+  Stuck = λ bytes at place why. (at < length bytes) × (place ≡ at) × (why ≡ TrailingBytes);
+}

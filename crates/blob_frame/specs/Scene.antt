@@ -32,7 +32,7 @@ moved place count = record { name = place.name; size = place.size; at = place.at
 abbrev pub IsPlaceIn : Place → Option (List ℕ) → Type 0
 IsPlaceIn place None = Unit {0}
 IsPlaceIn place (Some blob) = (place.size ≡ length blob) × (place.at + length place.ahead ≤ length blob)
-  × (place.ahead ≡ take (length place.ahead) (drop place.at blob))
+    × (place.ahead ≡ take (length place.ahead) (drop place.at blob))
 
 -- The cursor stands in the blob that the store holds under its name.
 abbrev pub IsOver : Scene → Type 0
@@ -104,4 +104,4 @@ pub record Reads {V : Type 0} (form : Form V) (before after : Scene) (answer : R
 pub record Exactly {V : Type 0} (form : Form V) (blob : List ℕ) (at : ℕ) (answer : Result V BlobFault) : Type 0 where
   pub found : (v : V) (next : ℕ) → form.Stands blob at v next → (answer ≡ Ok v) ⊎ IsErrAnd answer IsFree
   pub stuck : (place : ℕ) (why : Reason) → form.Stuck blob at place why →
-    (answer ≡ Err (fault.Bad place why)) ⊎ IsErrAnd answer IsFree
+      (answer ≡ Err (fault.Bad place why)) ⊎ IsErrAnd answer IsFree

@@ -48,7 +48,7 @@ IsFloatText text = (text ≡ codes "FLOAT") ⊎ (text ≡ codes "DOUBLE")
 -- why a text is no field type: one with a fraction, or none at all
 abbrev pub IsRefusedType : List ℕ → Reason → Type 0
 IsRefusedType text why = (IsFloatText text × (why ≡ FloatField))
-  ⊎ (((t : FieldType) → text ≡ type_text t → ⊥) × (IsFloatText text → ⊥) × (why ≡ BadSchema))
+    ⊎ (((t : FieldType) → text ≡ type_text t → ⊥) × (IsFloatText text → ⊥) × (why ≡ BadSchema))
 
 -- The name of a field's type.
 unfoldable pub field_type : Form FieldType

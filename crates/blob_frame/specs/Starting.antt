@@ -21,7 +21,7 @@ pub record IsStart (name : BlobName) (place : Place) : Type 0 where
 -- A cursor is made exactly where the blob is there and not too large, but for the free answers.
 pub record Starts (name : BlobName) (content : Option (List ℕ)) (answer : Result Place BlobFault) : Type 0 where
   pub found : (blob : List ℕ) → content ≡ Some blob → length blob ≤ largest →
-    ((place : Place) × (answer ≡ Ok place) × (place.size ≡ length blob)) ⊎ IsErrAnd answer IsFree
+      ((place : Place) × (answer ≡ Ok place) × (place.size ≡ length blob)) ⊎ IsErrAnd answer IsFree
   pub absent : content ≡ None → (answer ≡ Err (fault.NoBlob name)) ⊎ IsErrAnd answer IsFree
   pub large : (blob : List ℕ) → content ≡ Some blob → largest < length blob →
-    (answer ≡ Err (fault.Large Blob)) ⊎ IsErrAnd answer IsFree
+      (answer ≡ Err (fault.Large Blob)) ⊎ IsErrAnd answer IsFree

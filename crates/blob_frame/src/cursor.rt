@@ -5,12 +5,11 @@ ghost use Rattle.blob_frame.specs.Scene.{Place, IsOver, IsPlaceIn, scene, moved}
 ghost use Rattle.blob_frame.specs.Filling.{Fills, Needs};
 ghost use Rattle.blob_frame.specs.Starting.{Starts, IsStart};
 
+use crate::fault::BlobFault;
 use hol_io::{BlobName, BlobStore};
 use schema_model::{Limit, Reason};
 use std::alloc::Global;
 use std::marker::Model;
-
-use crate::fault::BlobFault;
 
 /// How many bytes a cursor reads ahead.
 const WINDOW: usize = 4096;
@@ -40,10 +39,10 @@ impl Model for Cursor {
     ghost Value = { Place };
 
     ghost view = { λ c. record {
-        name = c.name;
-        size = c.size;
-        at = c.at;
-        ahead = take (c.end - c.begin) (drop c.begin c.buffer.items)
+      name = c.name;
+      size = c.size;
+      at = c.at;
+      ahead = take (c.end - c.begin) (drop c.begin c.buffer.items);
     } };
 
     ghost invariant = { λ c. (vec_len c.buffer ≡ 4096) × (c.begin ≤ c.end) × (c.end ≤ 4096)
@@ -158,7 +157,11 @@ impl Cursor {
     }
 
     /// Reads ahead until this many bytes stand there, or the blob ends.
-    pub(crate) fn want<S: BlobStore>(&mut self, store: &mut S, count: usize) -> Result<(), BlobFault>
+    pub(crate) fn want<S: BlobStore>(
+        &mut self,
+        store: &mut S,
+        count: usize,
+    ) -> Result<(), BlobFault>
         requires few { count ≤ 4096 }
         requires over { IsOver (scene (S.held store.old) (S.faults store.old) self.old) }
         ensures fills { Fills count (scene (S.held store.old) (S.faults store.old) self.old)
@@ -171,7 +174,11 @@ impl Cursor {
     }
 
     /// Reads ahead until this many bytes stand there; `Truncated` where the blob ends before.
-    pub(crate) fn need<S: BlobStore>(&mut self, store: &mut S, count: usize) -> Result<(), BlobFault>
+    pub(crate) fn need<S: BlobStore>(
+        &mut self,
+        store: &mut S,
+        count: usize,
+    ) -> Result<(), BlobFault>
         requires few { count ≤ 4096 }
         requires over { IsOver (scene (S.held store.old) (S.faults store.old) self.old) }
         ensures needs { Needs count (scene (S.held store.old) (S.faults store.old) self.old)

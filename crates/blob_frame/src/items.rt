@@ -4,12 +4,11 @@ ghost use Rattle.hol_io.specs.Store.{Store};
 ghost use Rattle.blob_frame.specs.Item.{fixed, signed, run, skipped, end};
 ghost use Rattle.blob_frame.specs.Scene.{IsOver, IsReadFault, Reads, scene};
 
+use crate::cursor::Cursor;
+use crate::fault::BlobFault;
 use hol_io::BlobStore;
 use hol_varint::Octets;
 use schema_model::Reason;
-
-use crate::cursor::Cursor;
-use crate::fault::BlobFault;
 
 impl Cursor {
     /// The next byte. `Truncated` where the blob has none.
@@ -62,7 +61,9 @@ impl Cursor {
     {
         self.need(store, 8)?;
         let bytes = self.ahead();
-        let number = u64::from_be_bytes([bytes[0], bytes[1], bytes[2], bytes[3], bytes[4], bytes[5], bytes[6], bytes[7]]);
+        let number = u64::from_be_bytes([
+            bytes[0], bytes[1], bytes[2], bytes[3], bytes[4], bytes[5], bytes[6], bytes[7],
+        ]);
         self.pass(8);
         Ok(number)
     }

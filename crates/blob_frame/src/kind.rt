@@ -1,7 +1,7 @@
-use schema_model::Reason;
-
 ghost use Rattle.std.specs.Prelude.{◌≡◌, MatchResult};
 ghost use Rattle.blob_frame.specs.SchemaForm.{kind_byte, IsRefusedKind, type_text, IsRefusedType};
+
+use schema_model::Reason;
 
 /// The kinds of a schema, each by one byte.
 #[derive(Clone, Copy, Debug)]

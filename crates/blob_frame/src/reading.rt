@@ -1,16 +1,15 @@
-ghost use Rattle.std.specs.Prelude.{ℕ, Option};
-ghost use Rattle.hol_io.specs.Store.{Store};
+ghost use Rattle.std.specs.Prelude.{ℕ, Option, IfSome};
+ghost use Rattle.hol_io.specs.Store.{Store, told};
 ghost use Rattle.blob_frame.specs.Item.{skipped};
 ghost use Rattle.blob_frame.specs.Form.{repeated};
 ghost use Rattle.blob_frame.specs.Header.{header, format, schema_envelope, listed_schemas, name_pair, header_tags};
-ghost use Rattle.blob_frame.specs.Scene.{IsOver, Reads, scene};
-
-use hol_io::BlobStore;
-use schema_model::{Name, NamePairs, Reason, Schemas};
+ghost use Rattle.blob_frame.specs.Scene.{IsOver, Reads, Exactly, scene};
 
 use crate::cursor::Cursor;
 use crate::fault::BlobFault;
 use crate::header::Header;
+use hol_io::BlobStore;
+use schema_model::{Name, NamePairs, Reason, Schemas};
 
 /// The number of the blob format.
 const FORMAT: u32 = 1030;
@@ -19,6 +18,17 @@ impl Cursor {
     /// The header of the blob, from its start. The fault is that of the first item that cannot be read;
     /// `OtherFormat` stands at 0 where the format is not 1030.
     pub fn read_header<S: BlobStore>(&mut self, store: &mut S) -> Result<Header, BlobFault>
+        requires over { IsOver (scene (S.held store.old) (S.faults store.old) self.old) }
+        ensures reads { Reads header (scene (S.held store.old) (S.faults store.old) self.old)
+            (scene (S.held store.new) (S.faults store.new) self.new) result }
+        ensures exact { IfSome (told (S.held store.old) self.old.name)
+            (λ blob. Exactly header blob self.old.at result) }
+    {
+        self.header(store)
+    }
+
+    /// The header, as its items stand.
+    fn header<S: BlobStore>(&mut self, store: &mut S) -> Result<Header, BlobFault>
         requires over { IsOver (scene (S.held store.old) (S.faults store.old) self.old) }
         ensures reads { Reads header (scene (S.held store.old) (S.faults store.old) self.old)
             (scene (S.held store.new) (S.faults store.new) self.new) result }
@@ -105,7 +115,11 @@ impl Cursor {
     }
 
     /// So many pairs of texts.
-    fn name_pairs<S: BlobStore>(&mut self, store: &mut S, count: u16) -> Result<NamePairs, BlobFault>
+    fn name_pairs<S: BlobStore>(
+        &mut self,
+        store: &mut S,
+        count: u16,
+    ) -> Result<NamePairs, BlobFault>
         requires over { IsOver (scene (S.held store.old) (S.faults store.old) self.old) }
         ensures reads { Reads (repeated count name_pair) (scene (S.held store.old) (S.faults store.old) self.old)
             (scene (S.held store.new) (S.faults store.new) self.new) result }

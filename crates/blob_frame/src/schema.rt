@@ -1,15 +1,16 @@
+ghost use Rattle.std.specs.Prelude.{IfSome};
 ghost use Rattle.std.specs.Int.{w8, w16};
+ghost use Rattle.hol_io.specs.Store.{told};
 ghost use Rattle.blob_frame.specs.Form.{at_most, repeated};
 ghost use Rattle.blob_frame.specs.Item.{fixed, vint, name};
 ghost use Rattle.blob_frame.specs.SchemaForm.{schema_kind, field_type, field_kind_of, field, fields, key_paths, shape_of, schema, schemas};
-ghost use Rattle.blob_frame.specs.Scene.{IsOver, Reads, scene};
-
-use hol_io::BlobStore;
-use schema_model::{Field, FieldKind, Fields, Names, Reason, Schema, Schemas, Shape};
+ghost use Rattle.blob_frame.specs.Scene.{IsOver, Reads, Exactly, scene};
 
 use crate::cursor::Cursor;
 use crate::fault::BlobFault;
 use crate::kind::{FieldType, SchemaKind, kind_of, type_of};
+use hol_io::BlobStore;
+use schema_model::{Field, FieldKind, Fields, Names, Reason, Schema, Schemas, Shape};
 
 /// The most fields that a type may have.
 const MOST_FIELDS: u16 = 1024;
@@ -21,6 +22,17 @@ impl Cursor {
     /// The next schema. Its faults are those of its items; `BadSchema` stands at a kind, a count or a field's type that
     /// is none, `KeyedHash` at the kind of a set or map with a hash key, `FloatField` at FLOAT and DOUBLE.
     pub fn schema<S: BlobStore>(&mut self, store: &mut S) -> Result<Schema, BlobFault>
+        requires over { IsOver (scene (S.held store.old) (S.faults store.old) self.old) }
+        ensures reads { Reads schema (scene (S.held store.old) (S.faults store.old) self.old)
+            (scene (S.held store.new) (S.faults store.new) self.new) result }
+        ensures exact { IfSome (told (S.held store.old) self.old.name)
+            (λ blob. Exactly schema blob self.old.at result) }
+    {
+        self.whole_schema(store)
+    }
+
+    /// The next schema, as its items stand.
+    fn whole_schema<S: BlobStore>(&mut self, store: &mut S) -> Result<Schema, BlobFault>
         requires over { IsOver (scene (S.held store.old) (S.faults store.old) self.old) }
         ensures reads { Reads schema (scene (S.held store.old) (S.faults store.old) self.old)
             (scene (S.held store.new) (S.faults store.new) self.new) result }
@@ -173,7 +185,11 @@ impl Cursor {
     }
 
     /// What a field of a type holds.
-    fn field_kind<S: BlobStore>(&mut self, store: &mut S, type_name: FieldType) -> Result<FieldKind, BlobFault>
+    fn field_kind<S: BlobStore>(
+        &mut self,
+        store: &mut S,
+        type_name: FieldType,
+    ) -> Result<FieldKind, BlobFault>
         requires over { IsOver (scene (S.held store.old) (S.faults store.old) self.old) }
         ensures reads { Reads (field_kind_of type_name) (scene (S.held store.old) (S.faults store.old) self.old)
             (scene (S.held store.new) (S.faults store.new) self.new) result }
@@ -236,7 +252,11 @@ impl Cursor {
     }
 
     /// So many fields.
-    fn counted_fields<S: BlobStore>(&mut self, store: &mut S, count: u16) -> Result<Fields, BlobFault>
+    fn counted_fields<S: BlobStore>(
+        &mut self,
+        store: &mut S,
+        count: u16,
+    ) -> Result<Fields, BlobFault>
         requires over { IsOver (scene (S.held store.old) (S.faults store.old) self.old) }
         ensures reads { Reads (repeated count field) (scene (S.held store.old) (S.faults store.old) self.old)
             (scene (S.held store.new) (S.faults store.new) self.new) result }
@@ -249,14 +269,18 @@ impl Cursor {
     }
 
     /// So many schemas.
-    fn counted_schemas<S: BlobStore>(&mut self, store: &mut S, count: u32) -> Result<Schemas, BlobFault>
+    fn counted_schemas<S: BlobStore>(
+        &mut self,
+        store: &mut S,
+        count: u32,
+    ) -> Result<Schemas, BlobFault>
         requires over { IsOver (scene (S.held store.old) (S.faults store.old) self.old) }
         ensures reads { Reads (repeated count schema) (scene (S.held store.old) (S.faults store.old) self.old)
             (scene (S.held store.new) (S.faults store.new) self.new) result }
     {
         let mut list = Schemas::new(self.allocator());
         for _item in 0..count {
-            list.push(self.schema(store)?)?;
+            list.push(self.whole_schema(store)?)?;
         }
         Ok(list)
     }

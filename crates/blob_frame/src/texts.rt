@@ -1,12 +1,11 @@
 ghost use Rattle.blob_frame.specs.Item.{name, units};
 ghost use Rattle.blob_frame.specs.Scene.{IsOver, Reads, scene};
 
+use crate::cursor::Cursor;
+use crate::fault::BlobFault;
 use hol_io::BlobStore;
 use hol_varint::{Units, UtfFault, get_utf, text_of};
 use schema_model::{Name, Reason};
-
-use crate::cursor::Cursor;
-use crate::fault::BlobFault;
 
 impl Cursor {
     /// The next Java UTF text, with its length before it. `Truncated` where the blob ends inside it,

@@ -5,12 +5,11 @@ ghost use Rattle.blob_frame.specs.Item.{vint, vlong};
 ghost use Rattle.blob_frame.specs.Scene.{IsOver, IsReadFault, Reads, scene};
 ghost use Rattle.blob_frame.specs.Filling.{Seeks, HasAhead};
 
+use crate::cursor::Cursor;
+use crate::fault::BlobFault;
 use hol_io::BlobStore;
 use hol_varint::{VarFault, get_vint, get_vlong};
 use schema_model::Reason;
-
-use crate::cursor::Cursor;
-use crate::fault::BlobFault;
 
 /// So many bytes tell whether a number fits: one that goes on past them is too large, if it ends.
 const LONGEST: usize = 10;
@@ -103,5 +102,9 @@ impl Cursor {
 fn unended(stops: bool) -> Reason
     ensures { result ≡ (if stops then Reason.BadVarint else Reason.Truncated) }
 {
-    if stops { Reason::BadVarint } else { Reason::Truncated }
+    if stops {
+        Reason::BadVarint
+    } else {
+        Reason::Truncated
+    }
 }

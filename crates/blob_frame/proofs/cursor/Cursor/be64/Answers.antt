@@ -9,5 +9,5 @@ returns-in_err-need-clause-reads g c = reads_short w64 c.in_err-need.ensures.nee
 pub returns-clause-reads : goal.returns-clause-reads
 returns-clause-reads g c =
     reads_fixed w64 c.in_ok-need.ensures.needs c.pass.ensures.moved
-      (c.from_be_bytes-number.ensures ∙ (ap (λ (xs : List ℕ). from_be_bytes w64 (get_or xs 0 0 ∷ get_or xs 1 0 ∷ get_or xs 2 0 ∷ get_or xs 3 0 ∷ get_or xs 4 0 ∷ get_or xs 5 0 ∷ get_or xs 6 0 ∷ get_or xs 7 0 ∷ [])) c.ahead-bytes.ensures.value
-        ∙ ap (from_be_bytes w64) (sym (first_eight c.need.new.self.ahead c.in_ok-need.ensures.needs.enough))))
+    (c.from_be_bytes-number.ensures ∙ (ap (λ (xs : List ℕ). from_be_bytes w64 (get_or xs 0 0 ∷ get_or xs 1 0 ∷ get_or xs 2 0 ∷ get_or xs 3 0 ∷ get_or xs 4 0 ∷ get_or xs 5 0 ∷ get_or xs 6 0 ∷ get_or xs 7 0 ∷ [])) c.ahead-bytes.ensures.value
+    ∙ ap (from_be_bytes w64) (sym (first_eight c.need.new.self.ahead c.in_ok-need.ensures.needs.enough))))

@@ -14,5 +14,7 @@ returns-in-Ok g c = record { reads = reads_judged _ _ c.in_ok-text.ensures.reads
 
 pub returns : goal.returns
 unfolding field_type
-returns g c = record { reads = reads_refused _ _ c.in_ok-text.ensures.reads
-    (subst (λ (xs : List ℕ). IsRefusedType xs c.in-Err.reason) c.text-2.ensures c.in-Err.ensures) (ap (λ at. Err (Bad at c.in-Err.reason)) c.at-at.ensures) }
+returns g c = record {
+  reads = reads_refused _ _ c.in_ok-text.ensures.reads
+      (subst (λ (xs : List ℕ). IsRefusedType xs c.in-Err.reason) c.text-2.ensures c.in-Err.ensures) (ap (λ at. Err (Bad at c.in-Err.reason)) c.at-at.ensures);
+}

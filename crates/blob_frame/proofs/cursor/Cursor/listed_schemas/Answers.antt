@@ -13,8 +13,10 @@ returns-in_err-count g c = record { reads = reads_then _ c.in_ok-listed.ensures.
 
 pub returns-in_err-skip_counted : goal.returns-in_err-skip_counted
 unfolding listed_schemas
-returns-in_err-skip_counted g c = record { reads = reads_then _ c.in_ok-listed.ensures.reads (reads_then _ c.in_ok-count.ensures.reads
-    (reads_stops _ (c.in_err-skip_counted.ensures.reads _ _ c.in_ok-count.ensures.reads.over) (search rules))) }
+returns-in_err-skip_counted g c = record {
+  reads = reads_then _ c.in_ok-listed.ensures.reads (reads_then _ c.in_ok-count.ensures.reads
+      (reads_stops _ (c.in_err-skip_counted.ensures.reads _ _ c.in_ok-count.ensures.reads.over) (search rules)));
+}
 
 pub returns : goal.returns
 unfolding listed_schemas

@@ -10,8 +10,10 @@ returns-in_err-number g c = record { reads = reads_stops _ c.in_err-number.ensur
 
 pub returns-then-number-eq0 : goal.returns-then-number-eq0
 unfolding schema_envelope
-returns-then-number-eq0 g c = record { reads = reads_then _ c.in_ok-number.ensures.reads
-    (reads_unlisted c.in_ok-number.number (search rules) c.in_ok-number.ensures.reads.over (ap Ok c.new.ensures)) }
+returns-then-number-eq0 g c = record {
+  reads = reads_then _ c.in_ok-number.ensures.reads
+      (reads_unlisted c.in_ok-number.number (search rules) c.in_ok-number.ensures.reads.over (ap Ok c.new.ensures));
+}
 
 pub returns : goal.returns
 unfolding schema_envelope

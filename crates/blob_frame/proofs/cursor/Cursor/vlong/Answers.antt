@@ -6,7 +6,7 @@ use Rattle.blob_frame.proofs.cursor.Cursor.vlong.Goals as goal
 pub returns-in-Ok-clause-reads : goal.returns-in-Ok-clause-reads
 returns-in-Ok-clause-reads g c =
     reads_number (2 ^ 64) c.in_ok-want.ensures.fills
-      (subst (λ (xs : List ℕ). VarStandsBelow (2 ^ 64) xs 0 c.in-Ok.number c.in-Ok.next) c.ahead.ensures.value c.in-Ok.ensures.tells) c.pass.ensures.moved
+    (subst (λ (xs : List ℕ). VarStandsBelow (2 ^ 64) xs 0 c.in-Ok.number c.in-Ok.next) c.ahead.ensures.value c.in-Ok.ensures.tells) c.pass.ensures.moved
 
 pub returns-in-Err-Null-clause-reads : goal.returns-in-Err-Null-clause-reads
 returns-in-Err-Null-clause-reads g c =
@@ -19,4 +19,4 @@ returns-in-Err-Long-clause-reads g c =
 pub returns-in_ok-stops-in-Err-Short-clause-reads : goal.returns-in_ok-stops-in-Err-Short-clause-reads
 returns-in_ok-stops-in-Err-Short-clause-reads g c =
     reads_unended (2 ^ 64) (omega arith) c.in_ok-want.ensures.fills (subst (λ (xs : List ℕ). VarEndsInside xs) c.ahead.ensures.value (c.in-Err-Short.ensures.short.0 (ap Err c.in-Err-Short.field-0-is)))
-      c.in_ok-stops-in-Err-Short.ensures.seeks (cc (c.at-at.ensures, c.unended.ensures))
+    c.in_ok-stops-in-Err-Short.ensures.seeks (cc (c.at-at.ensures, c.unended.ensures))
