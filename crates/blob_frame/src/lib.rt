@@ -15,3 +15,6 @@ mod varints;
 pub use cursor::Cursor;
 pub use fault::BlobFault;
 pub use header::Header;
+
+#[cfg(test)]
+mod tests;
