@@ -1,4 +1,5 @@
 pub mod Limit
+pub mod Parts
 pub mod PlainTree
 pub mod Reason
 pub mod Row

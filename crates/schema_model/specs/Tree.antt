@@ -37,6 +37,10 @@ plain = fold-Tree PlainTree PlainPairs PlainTrees plain_layer (λ parts. pairs_o
 abbrev pub plain_trees : Trees → List PlainTree
 plain_trees ts = map plain (trees ts)
 
+-- the plain trees of a key and its value
+abbrev pub plain_pair : Tree × Tree → PlainTree × PlainTree
+plain_pair pair = (plain pair.0, plain pair.1)
+
 -- the plain trees of a list of pairs
 abbrev pub plain_pairs : TreePairs → List (PlainTree × PlainTree)
-plain_pairs ts = map (λ pair. (plain pair.0, plain pair.1)) (tree_pairs ts)
+plain_pairs ts = map plain_pair (tree_pairs ts)
