@@ -1,5 +1,5 @@
 -- Lemmas on the walk along the fields of a record: what is left to read decides what the place spells.
-use Rattle.std.proofs.Common.{◌≡◌, ℕ, zero, suc, ◌+◌, ◌<◌, ◌≤◌, List, [], ◌∷◌, ◌++◌, length, take, drop, get_or, arith, ap, sym, refl, ◌∙◌, subst, add-one, append_assoc, append-nil, inl, inr, ◌⊎◌}
+use Rattle.std.proofs.Common.{◌≡◌, ℕ, ◌+◌, ◌<◌, ◌≤◌, List, [], ◌∷◌, ◌++◌, length, take, drop, get_or, arith, ap, sym, refl, ◌∙◌, subst, add-one, append_assoc, append-nil, inl, inr, ◌⊎◌}
 use Rattle.std.specs.Prelude.{sum, Bool, false, Result, Ok, Err, is_err, OnOk}
 use Rattle.std.proofs.Math.Seq.{drop-cons}
 use Rattle.std.proofs.lemmas.List.{drop_all}
@@ -18,9 +18,9 @@ use Rattle.object_codec.proofs.Widths.{widths_long}
 pub record Progress (fields : List Field) (widths first : List ℕ) (areas : List (List ℕ)) (place index before : ℕ) (values : List Value) : Type 0 where
   pub summed : before ≡ sum (take index widths)
   pub spells : (rest : List Value) → SpellsFields (drop index fields) (parts_from first (sum widths) place before (drop index widths) (drop index areas)) rest
-    → SpellsObject fields widths first areas place (values ++ rest)
+      → SpellsObject fields widths first areas place (values ++ rest)
   pub fails : (reason : Reason) → FirstFails (drop index fields) (parts_from first (sum widths) place before (drop index widths) (drop index areas)) reason
-    → FailsObject fields widths first areas place reason
+      → FailsObject fields widths first areas place reason
 
 pub started : (fields : List Field) (widths first : List ℕ) (areas : List (List ℕ)) (place : ℕ) → Progress fields widths first areas place 0 0 []
 started fields widths first areas place = record { summed = refl; spells = λ rest h. h; fails = λ reason h. h }
@@ -40,7 +40,7 @@ heads fields widths first areas place index field holds inside is =
     record {
       field_first = drop_first fields index field field inside is;
       width_first = drop_first widths index 0 (get_or widths index 0) (omega (arith, widths_long fields widths first areas place holds)) refl;
-      area_first = drop_first areas index [] (area_of areas index) (omega (arith, holds.filled)) (unwrap_or-slice_get areas index [])
+      area_first = drop_first areas index [] (area_of areas index) (omega (arith, holds.filled)) (unwrap_or-slice_get areas index []);
     }
 
 spells_next : (first : List ℕ) (size place before width : ℕ) (area : List ℕ) (fields rest_fields : List Field) (widths rest_widths : List ℕ) (areas rest_areas : List (List ℕ)) (field : Field) (value : Value) (rest : List Value)
@@ -54,7 +54,7 @@ spells_next first size place before width area fields rest_fields widths rest_wi
 fails_next : (first : List ℕ) (size place before width : ℕ) (area : List ℕ) (fields rest_fields : List Field) (widths rest_widths : List ℕ) (areas rest_areas : List (List ℕ)) (field : Field) (reason : Reason)
     → fields ≡ field ∷ rest_fields → widths ≡ width ∷ rest_widths → areas ≡ area ∷ rest_areas
     → FailsValue field.kind (part_at first size place before width area) reason ⊎ (((value : Value) × SpellsValue field.kind (part_at first size place before width area) value)
-      × FirstFails rest_fields (parts_from first size place (before + width) rest_widths rest_areas) reason)
+    × FirstFails rest_fields (parts_from first size place (before + width) rest_widths rest_areas) reason)
     → FirstFails fields (parts_from first size place before widths areas) reason
 fails_next first size place before width area fields rest_fields widths rest_widths areas rest_areas field reason f w a h =
     rw (f, w, a) h
@@ -70,18 +70,18 @@ stepped fields widths first areas size place index before values field value hol
     let here = subst (λ bits. SpellsValue field.kind (part_at first bits place before (get_or widths index 0) (area_of areas index)) value) whole there in
     record {
       summed = ap (λ n. n + get_or widths index 0) done.summed
-        ∙ sym (sum_by_more (λ width. width) widths index 0 (omega (arith, widths_long fields widths first areas place holds)));
+          ∙ sym (sum_by_more (λ width. width) widths index 0 (omega (arith, widths_long fields widths first areas place holds)));
       spells = λ rest behind.
-        subst (λ all. SpellsObject fields widths first areas place all) (sym (append_assoc values (value ∷ []) rest))
-        (done.spells (value ∷ rest)
+          subst (λ all. SpellsObject fields widths first areas place all) (sym (append_assoc values (value ∷ []) rest))
+          (done.spells (value ∷ rest)
           (spells_next first (sum widths) place before (get_or widths index 0) (area_of areas index) (drop index fields) (drop (index + 1) fields)
-            (drop index widths) (drop (index + 1) widths) (drop index areas) (drop (index + 1) areas) field value rest
-            h.field_first h.width_first h.area_first here behind));
+          (drop index widths) (drop (index + 1) widths) (drop index areas) (drop (index + 1) areas) field value rest
+          h.field_first h.width_first h.area_first here behind));
       fails = λ reason behind.
-        done.fails reason
+          done.fails reason
           (fails_next first (sum widths) place before (get_or widths index 0) (area_of areas index) (drop index fields) (drop (index + 1) fields)
-            (drop index widths) (drop (index + 1) widths) (drop index areas) (drop (index + 1) areas) field reason
-            h.field_first h.width_first h.area_first (inr ((value, here), behind)))
+          (drop index widths) (drop (index + 1) widths) (drop index areas) (drop (index + 1) areas) field reason
+          h.field_first h.width_first h.area_first (inr ((value, here), behind)));
     }
 
 -- what the reader of a value tells where it gives none
@@ -95,14 +95,14 @@ failed fields widths first areas size place index before values field (PlaceFaul
     let h = heads fields widths first areas place index field holds inside is in
     let here = subst (λ bits. FailsValue field.kind (part_at first bits place before (get_or widths index 0) (area_of areas index)) reason) whole there in
     done.fails reason
-      (fails_next first (sum widths) place before (get_or widths index 0) (area_of areas index) (drop index fields) (drop (index + 1) fields)
-        (drop index widths) (drop (index + 1) widths) (drop index areas) (drop (index + 1) areas) field reason
-        h.field_first h.width_first h.area_first (inl here))
+    (fails_next first (sum widths) place before (get_or widths index 0) (area_of areas index) (drop index fields) (drop (index + 1) fields)
+    (drop index widths) (drop (index + 1) widths) (drop index areas) (drop (index + 1) areas) field reason
+    h.field_first h.width_first h.area_first (inl here))
 
 -- what a push that was not refused leaves
 pub pushed : {T E : Type 0} (result : Result T E) (refused : Bool) (P : Type 0) → refused ≡ is_err result → refused ≡ false → OnOk result P → P
-pushed (Ok x) refused P is no h = h
-pushed (Err e) refused P is no h = absurd cc
+pushed (Ok x) refused P is kept h = h
+pushed (Err e) refused P is kept h = absurd cc
 
 nothing_left : (first : List ℕ) (size place before : ℕ) (fields : List Field) (widths : List ℕ) (areas : List (List ℕ))
     → fields ≡ [] → widths ≡ [] → SpellsFields fields (parts_from first size place before widths areas) []
@@ -115,6 +115,6 @@ pub finished : (fields : List Field) (widths first : List ℕ) (areas : List (Li
 finished fields widths first areas place index before values holds past done =
     subst (λ all. SpellsObject fields widths first areas place all) (append-nil values)
     (done.spells []
-      (nothing_left first (sum widths) place before (drop index fields) (drop index widths) (drop index areas)
-        (drop_all index fields past)
-        (drop_all index widths (omega (arith, widths_long fields widths first areas place holds)))))
+    (nothing_left first (sum widths) place before (drop index fields) (drop index widths) (drop index areas)
+    (drop_all index fields past)
+    (drop_all index widths (omega (arith, widths_long fields widths first areas place holds)))))

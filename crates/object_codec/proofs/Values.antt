@@ -1,6 +1,9 @@
 -- Lemmas on what a part gives: at most one value, and not both a value and a reason.
-use Rattle.std.proofs.Common.{◌≡◌, ℕ, ◌≤◌, ◌<◌, List, [], ◌∷◌, Bool, true, false, arith, refl, ap, sym, ◌∙◌, ◌⊎◌, inl, inr}
+use Rattle.std.proofs.Common.{◌≡◌, ℕ, List, [], ◌∷◌, true, false, arith, refl, ap, sym, ◌∙◌, inl, inr}
 use Rattle.hol_varint.specs.TextUnits.{AreUnitsIn}
+use Rattle.hol_varint.specs.Varint.{varint_bytes}
+use Rattle.hol_varint.proofs.Runs.{codes_once}
+use Rattle.hol_varint.proofs.VarWriting.{varint_code}
 use Rattle.schema_model.specs.declared.schema.FieldKind.{FieldKind}
 use Rattle.schema_model.specs.declared.schema.Field.{Field}
 use Rattle.schema_model.specs.declared.row.Value.{Value}
@@ -9,7 +12,7 @@ use Rattle.object_codec.specs.Part.{Part, IsSpan, SpellsInt, SpellsLong, SpellsR
 use Rattle.object_codec.specs.ObjectPlace.{SpellsFields, FirstFails}
 
 units_once : (bytes a b : List ℕ) → AreUnitsIn bytes a → AreUnitsIn bytes b → a ≡ b
-units_once bytes a b h k = ?
+units_once bytes a b h k = codes_once varint_bytes varint_code a b h.0 k.0 (sym h.1 ∙ k.1)
 
 int_once : (width element : ℕ) (a b : Value) → SpellsInt width element a → SpellsInt width element b → a ≡ b
 int_once width element Value.Null Value.Null h k = refl

@@ -69,7 +69,7 @@ within fields widths first areas place index before holds inside summed =
       narrow = each index 0 there;
       record_holds = omega (arith, more, summed);
       words_hold = omega (arith, more, summed, holds.within);
-      fits = omega (arith, more, summed, product)
+      fits = omega (arith, more, summed, product);
     }
 
 -- a field's width is one of its kind

@@ -6,7 +6,6 @@ use Rattle.schema_model.specs.Schema.{fields_of_shape}
 use Rattle.schema_model.specs.declared.schema.FieldKind.{FieldKind}
 use Rattle.schema_model.specs.declared.schema.Field.{Field}
 use Rattle.schema_model.specs.declared.schema.Shape.{Shape}
-use Rattle.schema_model.specs.declared.schema.Schema.{Schema}
 use Rattle.schema_model.specs.declared.row.Value.{Value}
 use Rattle.schema_model.specs.declared.row.Row.{Row}
 use Rattle.schema_model.specs.declared.reason.Reason.{Reason}
@@ -29,7 +28,7 @@ part_at first size place before width area =
       width = width;
       element = element_at first size before width place;
       start = start_at first size before width place;
-      area = area
+      area = area;
     }
 
 -- The same for each of some fields that follow one another.

@@ -39,7 +39,11 @@ impl Cell {
         if self.place == 0 {
             return 0;
         }
-        let end = element(words, (self.place - 1) * self.size + self.before, self.width);
+        let end = element(
+            words,
+            (self.place - 1) * self.size + self.before,
+            self.width,
+        );
         end % (1 << (self.width - 1))
     }
 }

@@ -3,10 +3,9 @@
 
 mod cell;
 mod fixed;
-
+pub mod laws;
 mod record;
 mod span;
-mod text;
 mod value;
 
-
+pub use record::read;

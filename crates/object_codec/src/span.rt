@@ -11,7 +11,13 @@ use std::alloc::{AllocError, Global};
 
 /// The bytes of a field's area from `start` up to `end`.
 #[tactic(auto, using(crate::proofs::Places::span_more))]
-fn copy<P: Parts>(alloc: Global, parts: &P, field: u32, start: u64, end: u64) -> Result<Octets, AllocError>
+fn copy<P: Parts>(
+    alloc: Global,
+    parts: &P,
+    field: u32,
+    start: u64,
+    end: u64,
+) -> Result<Octets, AllocError>
     requires rises { start ≤ end }
     requires inside { end ≤ length (area_of (P.area_bytes parts.now) field) }
     ensures { IfOk result (λ bytes. bytes ≡ take (end - start) (drop start (area_of (P.area_bytes parts.now) field))) }
@@ -24,7 +30,12 @@ fn copy<P: Parts>(alloc: Global, parts: &P, field: u32, start: u64, end: u64) ->
 }
 
 /// The bytes of a STRING or BYTES, whose element is given; none for a null.
-pub fn span<P: Parts>(alloc: Global, parts: &P, cell: Cell, element: u64) -> Result<Option<Octets>, PlaceFault>
+pub fn span<P: Parts>(
+    alloc: Global,
+    parts: &P,
+    cell: Cell,
+    element: u64,
+) -> Result<Option<Octets>, PlaceFault>
     requires wide { 1 ≤ cell.width }
     requires within { IsWithin (P.first_words parts.now) cell.size cell.place cell.before cell.width }
     requires is { element ≡ element_at (P.first_words parts.now) cell.size cell.before cell.width cell.place }

@@ -8,13 +8,17 @@ ghost use Rattle.object_codec.specs.ObjectPlace.{element_at, part_at, IsKindWidt
 use crate::cell::Cell;
 use crate::fixed::{boolean_value, int_value, long_value, reference_value};
 use crate::span::span;
-use crate::text::get_units;
-use hol_varint::UnitsFault;
+use hol_varint::{UnitsFault, get_units};
 use schema_model::{FieldKind, Parts, PlaceFault, Reason, Value};
 use std::alloc::Global;
 
 /// The value of a field of a kind, whose element stands in the cell.
-pub fn value<P: Parts>(alloc: Global, parts: &P, kind: &FieldKind, cell: Cell) -> Result<Value, PlaceFault>
+pub fn value<P: Parts>(
+    alloc: Global,
+    parts: &P,
+    kind: &FieldKind,
+    cell: Cell,
+) -> Result<Value, PlaceFault>
     requires wide { IsKindWidth kind.now cell.width }
     requires within { IsWithin (P.first_words parts.now) cell.size cell.place cell.before cell.width }
     ensures { TellsValue kind.now (part_at (P.first_words parts.now) cell.size cell.place cell.before cell.width (area_of (P.area_bytes parts.now) cell.field)) result }
@@ -33,7 +37,12 @@ pub fn value<P: Parts>(alloc: Global, parts: &P, kind: &FieldKind, cell: Cell) -
 }
 
 /// The value of a STRING, whose element is given.
-fn text_value<P: Parts>(alloc: Global, parts: &P, cell: Cell, element: u64) -> Result<Value, PlaceFault>
+fn text_value<P: Parts>(
+    alloc: Global,
+    parts: &P,
+    cell: Cell,
+    element: u64,
+) -> Result<Value, PlaceFault>
     requires wide { 1 ≤ cell.width }
     requires within { IsWithin (P.first_words parts.now) cell.size cell.place cell.before cell.width }
     requires is { element ≡ element_at (P.first_words parts.now) cell.size cell.before cell.width cell.place }
@@ -50,7 +59,12 @@ fn text_value<P: Parts>(alloc: Global, parts: &P, cell: Cell, element: u64) -> R
 }
 
 /// The value of BYTES, whose element is given.
-fn bytes_value<P: Parts>(alloc: Global, parts: &P, cell: Cell, element: u64) -> Result<Value, PlaceFault>
+fn bytes_value<P: Parts>(
+    alloc: Global,
+    parts: &P,
+    cell: Cell,
+    element: u64,
+) -> Result<Value, PlaceFault>
     requires wide { 1 ≤ cell.width }
     requires within { IsWithin (P.first_words parts.now) cell.size cell.place cell.before cell.width }
     requires is { element ≡ element_at (P.first_words parts.now) cell.size cell.before cell.width cell.place }

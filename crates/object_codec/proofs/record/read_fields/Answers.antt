@@ -1,5 +1,4 @@
-use Rattle.std.proofs.Common.{rules, Err, ◌≡◌, ◌+◌, ◌<◌, ◌≤◌, length, arith, sym, subst, refl, get_or}
-use Rattle.std.specs.Prelude.{sum}
+use Rattle.std.proofs.Common.{rules, Err, arith, sym, subst, get_or}
 use Rattle.object_codec.specs.Cell.{IsWithin}
 use Rattle.object_codec.specs.ObjectPlace.{TellsObject}
 use Rattle.object_codec.proofs.Widths.{record_fits, widths_long, within, wide_at}
@@ -25,20 +24,23 @@ value-requires-clause-within g c =
 pub returns-in_err-value : goal.returns-in_err-value
 returns-in_err-value g c =
     let told : TellsObject c.args.fields.now c.args.widths.now (g.P.Parts.first_words c.args.parts.now) (g.P.Parts.area_bytes c.args.parts.now) c.args.place (Err c.in_err-value.field-0.0) =
-      failed c.args.fields.now c.args.widths.now _ _ c.record_size-size.result _ c.loop-index.index c.loop-index.before c.loop-index.values c.index-fields-index.result _
-      c.requires (omega arith) c.index-fields-index.is c.record_size-size.ensures c.loop-index.invariant (c.in_err-value.ensures tt) in
+    failed c.args.fields.now c.args.widths.now _ _ c.record_size-size.result _ c.loop-index.index c.loop-index.before c.loop-index.values c.index-fields-index.result _
+    c.requires (omega arith) c.index-fields-index.is c.record_size-size.ensures c.loop-index.invariant c.in_err-value.ensures in
     search rules
 
 pub overflow_add-before : goal.overflow_add-before
 overflow_add-before g c =
-    omega (arith, within c.args.fields.now c.args.widths.now _ _ _ c.loop-index.index c.loop-index.before c.requires (omega arith) c.loop-index.invariant.summed,
-      record_fits c.args.fields.now c.args.widths.now _ _ _ c.requires)
+    omega (
+      arith,
+      within c.args.fields.now c.args.widths.now _ _ _ c.loop-index.index c.loop-index.before c.requires (omega arith) c.loop-index.invariant.summed,
+      record_fits c.args.fields.now c.args.widths.now _ _ _ c.requires,
+    )
 
 pub loop-index-preserved : goal.loop-index-preserved
 loop-index-preserved g c =
     rw (c.from-before.ensures, pushed c.push.result c.is_err.result _ c.is_err.ensures.value c.if-is_err.false c.push.ensures.ok)
     (stepped c.args.fields.now c.args.widths.now _ _ c.record_size-size.result _ c.loop-index.index c.loop-index.before c.loop-index.values c.index-fields-index.result c.in_ok-value.value
-      c.requires (omega arith) c.index-fields-index.is c.record_size-size.ensures c.loop-index.invariant c.in_ok-value.ensures)
+    c.requires (omega arith) c.index-fields-index.is c.record_size-size.ensures c.loop-index.invariant c.in_ok-value.ensures)
 
 pub returns : goal.returns
 returns g c = finished c.args.fields.now c.args.widths.now _ _ _ c.loop-index.index c.loop-index.before c.loop-index.values c.requires (omega arith) c.loop-index.invariant
