@@ -1,7 +1,7 @@
 -- Lemmas on the row of a place: there is at most one, and not both a row and a reason.
 use Rattle.std.proofs.Common.{◌≡◌, ℕ, List, Result, Ok, Err, ap, subst, inl, inr}
 use Rattle.hol_varint.specs.Yields.{Yields}
-use Rattle.schema_model.specs.Schema.{fields_of_shape}
+use Rattle.schema_model.specs.Parts.{shape_fields}
 use Rattle.schema_model.specs.declared.schema.Shape.{Shape}
 use Rattle.schema_model.specs.declared.row.Row.{Row}
 use Rattle.schema_model.specs.declared.reason.Reason.{Reason}
@@ -13,7 +13,7 @@ use Rattle.object_codec.proofs.Values.{spelled_once, spelled_or_failed, failed_o
 pub row_once : (shape : Shape) (widths first : List ℕ) (areas : List (List ℕ)) (place : ℕ) (a b : Row) → SpellsObjectRow shape widths first areas place a
     → SpellsObjectRow shape widths first areas place b → a ≡ b
 row_once shape widths first areas place (Row.Object a) (Row.Object b) h k =
-    ap Row.Object (spelled_once (fields_of_shape shape) (parts_of widths first areas place) a b h k)
+    ap Row.Object (spelled_once (shape_fields shape) (parts_of widths first areas place) a b h k)
 row_once shape widths first areas place (Row.Object a) _ h k = absurd k
 row_once shape widths first areas place _ _ h k = absurd h
 
@@ -21,13 +21,13 @@ row_once shape widths first areas place _ _ h k = absurd h
 pub row_or_reason : (shape : Shape) (widths first : List ℕ) (areas : List (List ℕ)) (place : ℕ) (row : Row) (reason : Reason) → SpellsObjectRow shape widths first areas place row
     → FailsObjectRow shape widths first areas place reason → ⊥
 row_or_reason shape widths first areas place (Row.Object values) reason h k =
-    spelled_or_failed (fields_of_shape shape) (parts_of widths first areas place) values reason h k
+    spelled_or_failed (shape_fields shape) (parts_of widths first areas place) values reason h k
 row_or_reason shape widths first areas place _ reason h k = h
 
 -- it fails for at most one reason
 pub reason_once : (shape : Shape) (widths first : List ℕ) (areas : List (List ℕ)) (place : ℕ) (a b : Reason) → FailsObjectRow shape widths first areas place a
     → FailsObjectRow shape widths first areas place b → a ≡ b
-reason_once shape widths first areas place a b h k = failed_once (fields_of_shape shape) (parts_of widths first areas place) a b h k
+reason_once shape widths first areas place a b h k = failed_once (shape_fields shape) (parts_of widths first areas place) a b h k
 
 -- the reader answers a row exactly where the place spells it
 pub row_exact : (shape : Shape) (widths first : List ℕ) (areas : List (List ℕ)) (place : ℕ) (result : Result Row PlaceFault) → TellsObjectRow shape widths first areas place result

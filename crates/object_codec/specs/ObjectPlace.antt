@@ -2,7 +2,7 @@
 use Rattle.std.specs.Prelude.{◌≡◌, ℕ, zero, suc, ◌+◌, ◌*◌, ◌^◌, ◌<◌, ◌≤◌, ◌⊎◌, List, [], ◌∷◌, length, sum, Result, Ok, Err}
 use Rattle.std.specs.List.{AllZip}
 use Rattle.bit_array.specs.Element.{element_of}
-use Rattle.schema_model.specs.Schema.{fields_of_shape}
+use Rattle.schema_model.specs.Parts.{shape_fields}
 use Rattle.schema_model.specs.declared.schema.FieldKind.{FieldKind}
 use Rattle.schema_model.specs.declared.schema.Field.{Field}
 use Rattle.schema_model.specs.declared.schema.Shape.{Shape}
@@ -67,12 +67,12 @@ IsObject _ = ⊥
 
 -- The place of a type spells this row.
 abbrev pub SpellsObjectRow : Shape → List ℕ → List ℕ → List (List ℕ) → ℕ → Row → Type 0
-SpellsObjectRow shape widths first areas place (Row.Object values) = SpellsObject (fields_of_shape shape) widths first areas place values
+SpellsObjectRow shape widths first areas place (Row.Object values) = SpellsObject (shape_fields shape) widths first areas place values
 SpellsObjectRow shape widths first areas place _ = ⊥
 
 -- The place of a type spells no row, for this reason.
 abbrev pub FailsObjectRow : Shape → List ℕ → List ℕ → List (List ℕ) → ℕ → Reason → Type 0
-FailsObjectRow shape = FailsObject (fields_of_shape shape)
+FailsObjectRow shape = FailsObject (shape_fields shape)
 
 -- The widths that a field may have: 2 for a BOOLEAN, the null bit at least for a STRING or BYTES, and at most 64.
 abbrev pub IsKindWidth : FieldKind → ℕ → Type 0

@@ -9,3 +9,6 @@ mod span;
 mod value;
 
 pub use record::read;
+
+#[cfg(test)]
+mod tests;

@@ -1,6 +1,6 @@
 ghost use Rattle.std.specs.Prelude.{◌≡◌, ◌^◌, ◌<◌, sum, Ok, Err};
 ghost use Rattle.hol_varint.specs.Yields.{Yields};
-ghost use Rattle.schema_model.specs.Schema.{fields_of_shape};
+ghost use Rattle.schema_model.specs.Parts.{shape_fields};
 ghost use Rattle.schema_model.specs.declared.row.Row.{Row as StoredRow};
 ghost use Rattle.schema_model.specs.declared.reason.Reason.{Reason};
 ghost use Rattle.schema_model.specs.declared.packed.PlaceFault.TheVariants.{Bad};
@@ -28,7 +28,7 @@ pub fn read<P: Parts>(
     place: u64,
 ) -> Result<Row, PlaceFault>
     requires object { IsObject schema.now.shape }
-    requires holds { HoldsPlace (fields_of_shape schema.now.shape) widths.now (P.first_words parts.now) (P.area_bytes parts.now) place }
+    requires holds { HoldsPlace (shape_fields schema.now.shape) widths.now (P.first_words parts.now) (P.area_bytes parts.now) place }
     ensures tells { TellsObjectRow schema.now.shape widths.now (P.first_words parts.now) (P.area_bytes parts.now) place result }
     ensures spelled { (row : StoredRow) → Yields IsFreePlace result (Ok row) (SpellsObjectRow schema.now.shape widths.now (P.first_words parts.now) (P.area_bytes parts.now) place row) }
     ensures bad { (reason : Reason) → Yields IsFreePlace result (Err (Bad reason)) (FailsObjectRow schema.now.shape widths.now (P.first_words parts.now) (P.area_bytes parts.now) place reason) }
@@ -45,7 +45,7 @@ fn read_row<P: Parts>(
     place: u64,
 ) -> Result<Row, PlaceFault>
     requires object { IsObject schema.now.shape }
-    requires holds { HoldsPlace (fields_of_shape schema.now.shape) widths.now (P.first_words parts.now) (P.area_bytes parts.now) place }
+    requires holds { HoldsPlace (shape_fields schema.now.shape) widths.now (P.first_words parts.now) (P.area_bytes parts.now) place }
     ensures { TellsObjectRow schema.now.shape widths.now (P.first_words parts.now) (P.area_bytes parts.now) place result }
 {
     match &schema.shape {
@@ -77,7 +77,9 @@ fn read_fields<P: Parts>(
     ensures { TellsObject fields.now widths.now (P.first_words parts.now) (P.area_bytes parts.now) place result }
 {
     let size = record_size(widths);
-    let mut values = Values::new(alloc);
+    let Ok(mut values) = Vec::with_capacity(alloc, fields.len()) else {
+        return Err(PlaceFault::Memory);
+    };
     let mut before = 0;
     for (index, field) in fields.iter().enumerate() {
         let width = widths[index];
@@ -94,5 +96,5 @@ fn read_fields<P: Parts>(
         }
         before += u64::from(width);
     }
-    Ok(values)
+    Ok(Values::from_vec(values))
 }

@@ -1,5 +1,5 @@
 ghost use Rattle.std.specs.Prelude.{◌≡◌, ◌-◌, ◌≤◌, length, take, drop, IfOk};
-ghost use Rattle.schema_model.specs.Parts.{area_of};
+ghost use Rattle.schema_model.specs.Areas.{area_of};
 ghost use Rattle.object_codec.specs.Cell.{IsWithin};
 ghost use Rattle.object_codec.specs.Part.{TellsSpan};
 ghost use Rattle.object_codec.specs.ObjectPlace.{element_at, part_at};

@@ -1,5 +1,5 @@
 ghost use Rattle.std.specs.Prelude.{◌≡◌, ◌≤◌};
-ghost use Rattle.schema_model.specs.Parts.{area_of};
+ghost use Rattle.schema_model.specs.Areas.{area_of};
 ghost use Rattle.schema_model.specs.declared.schema.FieldKind.TheVariants.{Text, Bytes};
 ghost use Rattle.object_codec.specs.Cell.{IsWithin};
 ghost use Rattle.object_codec.specs.Part.{TellsValue};

@@ -1,6 +1,6 @@
 use Rattle.std.proofs.Common.{rules, Err, arith, sym, subst, get_or}
 use Rattle.object_codec.specs.Cell.{IsWithin}
-use Rattle.object_codec.specs.ObjectPlace.{TellsObject}
+use Rattle.object_codec.specs.ObjectPlace.{SpellsObject, TellsObject}
 use Rattle.object_codec.proofs.Widths.{record_fits, widths_long, within, wide_at}
 use Rattle.object_codec.proofs.Fields.{stepped, failed, finished, pushed}
 use Rattle.object_codec.proofs.record.read_fields.Goals as goal
@@ -24,7 +24,7 @@ value-requires-clause-within g c =
 pub returns-in_err-value : goal.returns-in_err-value
 returns-in_err-value g c =
     let told : TellsObject c.args.fields.now c.args.widths.now (g.P.Parts.first_words c.args.parts.now) (g.P.Parts.area_bytes c.args.parts.now) c.args.place (Err c.in_err-value.field-0.0) =
-    failed c.args.fields.now c.args.widths.now _ _ c.record_size-size.result _ c.loop-index.index c.loop-index.before c.loop-index.values c.index-fields-index.result _
+    failed c.args.fields.now c.args.widths.now _ _ c.record_size-size.result _ c.loop-index.index c.loop-index.before c.loop-index.values.items c.index-fields-index.result _
     c.requires (omega arith) c.index-fields-index.is c.record_size-size.ensures c.loop-index.invariant c.in_err-value.ensures in
     search rules
 
@@ -38,9 +38,13 @@ overflow_add-before g c =
 
 pub loop-index-preserved : goal.loop-index-preserved
 loop-index-preserved g c =
-    rw (c.from-before.ensures, pushed c.push.result c.is_err.result _ c.is_err.ensures.value c.if-is_err.false c.push.ensures.ok)
-    (stepped c.args.fields.now c.args.widths.now _ _ c.record_size-size.result _ c.loop-index.index c.loop-index.before c.loop-index.values c.index-fields-index.result c.in_ok-value.value
+    rw (c.from-before.ensures, pushed c.push.result c.is_err.result _ _ _ c.is_err.ensures.value c.if-is_err.false c.push.ensures.items)
+    (stepped c.args.fields.now c.args.widths.now _ _ c.record_size-size.result _ c.loop-index.index c.loop-index.before c.loop-index.values.items c.index-fields-index.result c.in_ok-value.value
     c.requires (omega arith) c.index-fields-index.is c.record_size-size.ensures c.loop-index.invariant c.in_ok-value.ensures)
 
 pub returns : goal.returns
-returns g c = finished c.args.fields.now c.args.widths.now _ _ _ c.loop-index.index c.loop-index.before c.loop-index.values c.requires (omega arith) c.loop-index.invariant
+returns g c =
+    subst
+    (λ all. SpellsObject c.args.fields.now c.args.widths.now (g.P.Parts.first_words c.args.parts.now) (g.P.Parts.area_bytes c.args.parts.now) c.args.place all)
+    (sym c.from_vec.ensures)
+    (finished c.args.fields.now c.args.widths.now _ _ _ c.loop-index.index c.loop-index.before c.loop-index.values.items c.requires (omega arith) c.loop-index.invariant)
