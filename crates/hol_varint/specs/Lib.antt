@@ -1,1 +1,5 @@
+pub mod JavaUtf
+pub mod TextUnits
+pub mod Varint
 pub mod Yields
+pub mod Zigzag

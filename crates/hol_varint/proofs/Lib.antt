@@ -1,0 +1,3 @@
+pub mod VarReading
+pub mod VarWriting
+pub mod Varints
