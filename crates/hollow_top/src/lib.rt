@@ -2,5 +2,7 @@
 #![tactic(auto)]
 
 mod reply;
+mod words;
 
 pub use reply::{Reply, reply_line};
+pub use words::{Command, command_of};
