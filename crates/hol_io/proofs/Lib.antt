@@ -1,0 +1,6 @@
+mod EntryLemmas
+mod Fronts
+mod NameKinds
+mod NameOrder
+mod Pieces
+mod Texts

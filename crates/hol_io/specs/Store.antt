@@ -1,0 +1,36 @@
+-- What a store of blobs holds, and what its calls give and leave, where it tells what it holds.
+use Rattle.std.specs.Prelude.{◌≡◌, ℕ, List, [], ◌++◌, Option, unwrap_or}
+use Rattle.std.specs.Option.{option_map, option_and_then}
+use Rattle.std.specs.Coded.{Coded, coded_list, coded_ℕ}
+use Rattle.std.specs.FinMap as map
+use Rattle.hol_io.specs.declared.name.BlobName.{BlobName}
+use Rattle.hol_io.specs.contracts.name.BlobName as blob_name
+use Rattle.hol_io.specs.Name.{name_cmp}
+
+-- A finite map from names to contents.
+abbrev pub Store : Type 0
+Store = map.FinMap name_cmp (List ℕ)
+
+-- A store is told apart by its entries.
+abbrev pub store_code : Coded Store
+store_code = map.code (blob_name.the_row).coded (coded_list coded_ℕ)
+
+-- The content that a store tells for a name: none where it tells nothing or has no such name.
+abbrev pub told : Option Store → BlobName → Option (List ℕ)
+told held name = option_and_then (λ store. map.get store name) held
+
+-- The content of a name, which is empty where the name is not there.
+abbrev pub content : Store → BlobName → List ℕ
+content store name = unwrap_or (map.get store name) []
+
+-- The store in which the name holds the bytes, and all else is as it was.
+abbrev pub with_content : Option Store → BlobName → List ℕ → Option Store
+with_content held name bytes = option_map (λ store. map.insert store name bytes) held
+
+-- Every name of the store once, in the order of the names.
+abbrev pub names : Store → List BlobName
+names store = map.keys store
+
+-- A list is the front of another.
+abbrev pub IsFront : List BlobName → List BlobName → Type 0
+IsFront front all = (rest : List BlobName) × (all ≡ front ++ rest)

@@ -1,0 +1,108 @@
+//! A store in memory that never fails.
+ghost use Rattle.std.specs.Prelude.{◌≡◌};
+ghost use Rattle.std.specs.Option.{option_copied};
+ghost use Rattle.std.specs.FinMap as map;
+
+use crate::buffer::place_from;
+use crate::name::BlobName;
+use crate::store::{BlobStore, PutFault, StoreFailed};
+use std::alloc::Global;
+use std::collections::BTreeMap;
+use std::marker::Model;
+
+/// A store of blobs in memory, which never fails.
+#[derive(Debug, Drop)]
+pub struct SureStore {
+    alloc: Global,
+    entries: BTreeMap<BlobName, Vec<u8>>,
+}
+
+impl Model for SureStore {
+    ghost use Rattle.hol_io.specs.Store.{Store, store_code};
+    ghost use Rattle.hol_io.specs.Entries.{store_of};
+
+    ghost Value = { Store };
+
+    ghost coded = { store_code };
+
+    ghost view = { λ s. store_of s.entries.entries };
+}
+
+impl SureStore {
+    /// A store without names. It takes no memory.
+    pub fn new(alloc: Global) -> SureStore
+        ensures { result ≡ map.empty }
+    {
+        SureStore {
+            alloc,
+            entries: BTreeMap::new(alloc),
+        }
+    }
+
+    // What a name holds.
+    #[tactic(auto, using(crate::proofs::EntryLemmas::get_same))]
+    fn content(&self, name: &BlobName) -> Option<&[u8]>
+        ensures { option_copied result ≡ map.get self.now name.now }
+    {
+        match self.entries.get(name) {
+            Some(bytes) => Some(bytes.as_slice()),
+            None => None,
+        }
+    }
+}
+
+impl BlobStore for SureStore {
+    ghost use Rattle.std.specs.Prelude.{◌≡◌, ◌-◌, [], Some, Ok, length, take, drop, min, IfOk, OnOk, OnErr, IsOkUnless};
+    ghost use Rattle.std.specs.Option.{option_map};
+    ghost use Rattle.std.specs.FinMap as map;
+    ghost use Rattle.hol_io.specs.Buffer.{KeepsRest};
+    ghost use Rattle.hol_io.specs.Store.{content, names, IsFront};
+
+    ghost faults = { λ _. 0 };
+
+    ghost held = { λ s. Some s };
+
+    fn size(&mut self, name: &BlobName) -> Result<Option<u64>, StoreFailed>
+        ensures size { result ≡ Ok (option_map length (map.get self.old name.now)) }
+        ensures kept { self.new ≡ self.old }
+    {
+        Ok(self.content(name).map(|bytes| bytes.len() as u64))
+    }
+
+    fn read_at(&mut self, name: &BlobName, at: u64, buf: &mut [u8]) -> Result<usize, StoreFailed>
+        ensures count { result ≡ Ok (min (length buf.old) (length (content self.old name.now) - at)) }
+        ensures placed { IfOk result (λ count. take count buf.new ≡ take count (drop at (content self.old name.now))) }
+        ensures rest { KeepsRest buf.old buf.new result }
+        ensures kept { self.new ≡ self.old }
+    {
+        match self.content(name) {
+            Some(bytes) => Ok(place_from(buf, bytes, at)),
+            None => Ok(0),
+        }
+    }
+
+    #[tactic(auto, using(crate::proofs::EntryLemmas::insert_same))]
+    fn put(&mut self, name: &BlobName, bytes: &[u8]) -> Result<(), PutFault>
+        ensures sure { IsOkUnless result PutFault.Memory }
+        ensures put { OnOk result (self.new ≡ map.insert self.old name.now bytes.now) }
+        ensures kept { OnErr result (self.new ≡ self.old) }
+    {
+        let content = Vec::from_slice(self.alloc, bytes)?;
+        self.entries.insert(*name, content)?;
+        Ok(())
+    }
+
+    #[tactic(auto, using(crate::proofs::EntryLemmas::names_same))]
+    fn list(&mut self, out: &mut Vec<BlobName>) -> Result<(), PutFault>
+        requires { out.old.items ≡ [] }
+        ensures sure { IsOkUnless result PutFault.Memory }
+        ensures listed { OnOk result (out.new.items ≡ names self.old) }
+        ensures part { OnErr result (IsFront out.new.items (names self.old)) }
+        ensures kept { self.new ≡ self.old }
+    {
+        for name in self.entries.keys() {
+            out.push(*name)?;
+        }
+        Ok(())
+    }
+}
