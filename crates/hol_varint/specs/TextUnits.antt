@@ -1,12 +1,11 @@
 -- The UTF-16 units of a text, and the bytes of a STRING: a number of variable length for each unit.
-use Rattle.std.specs.Prelude.{◌≡◌, ℕ, ◌<◌, ◌^◌, List, Option, Some, None, Result, Ok, Err}
+use Rattle.std.specs.Prelude.{◌≡◌, ℕ, ◌<◌, ◌^◌, ◌++◌, drop, List, Option, Some, None, Result, Ok, Err}
 use Rattle.std.specs.List.{All, flat_map}
 use Rattle.std.specs.Char.Escape.{encode_utf16}
 use Rattle.std.specs.Str.{IsUtf8, chars}
-use Rattle.std.specs.declared.alloc.AllocError.{AllocError}
 use Rattle.hol_varint.specs.declared.fault.UnitsFault.{UnitsFault}
 use Rattle.hol_varint.specs.declared.fault.UnitsFault.TheVariants.{BadText, Memory}
-use Rattle.hol_varint.specs.Varint.{varint_bytes}
+use Rattle.hol_varint.specs.Varint.{varint_bytes, VarStandsBelow}
 
 -- Each number is a UTF-16 unit. They need not be well formed.
 abbrev pub AreUnits : List ℕ → Type 0
@@ -47,3 +46,8 @@ pub record IsTextOf (units text : List ℕ) : Type 0 where
 -- The units are well-formed UTF-16: they are those of some text.
 abbrev pub AreWellFormed : List ℕ → Type 0
 AreWellFormed units = (text : List ℕ) × IsTextOf units text
+
+-- A unit stands at the place up to r.1, or none begins there.
+abbrev pub TellsUnitAt : List ℕ → ℕ → Option (ℕ × ℕ) → Type 0
+TellsUnitAt bytes place (Some r) = VarStandsBelow (2 ^ 16) bytes place r.0 r.1
+TellsUnitAt bytes place None = (unit : ℕ) (behind : List ℕ) → unit < 2 ^ 16 → drop place bytes ≡ varint_bytes unit ++ behind → ⊥

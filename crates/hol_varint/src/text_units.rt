@@ -1,0 +1,101 @@
+//! The UTF-16 units of texts, and the bytes of a STRING: a number of variable length for each unit.
+ghost use Rattle.std.specs.Prelude.{◌≡◌, ℕ, List, ◌<◌, ◌≤◌, ◌↔◌, ◌++◌, length, take, drop, IfOk, IfSome, IsSomeAnd, IsNone, OnOk, OnErr};
+ghost use Rattle.std.specs.String.{string_bytes};
+ghost use Rattle.hol_varint.specs.TextUnits.{AreUnits, AreUnitsIn, IsBadText, IsFreeUnits, IsTextOf, AreWellFormed, TellsUnits, TellsUnitAt, units_bytes, text_units};
+ghost use Rattle.hol_varint.specs.Yields.{Yields};
+
+use crate::fault::UnitsFault;
+use crate::units::Units;
+use crate::varint::{get_vint, put_vint};
+use std::alloc::{AllocError, Global};
+
+/// Writes the bytes of a STRING at the end. Where memory is refused nothing is written.
+pub fn put_units(out: &mut Vec<u8>, units: &Units) -> Result<(), AllocError>
+    ensures ok { OnOk result (out.new.items ≡ out.old.items ++ units_bytes units.now) }
+    ensures err { OnErr result (out.new.items ≡ out.old.items) }
+{
+    let start = out.len();
+    let written = push_units(out, units.as_slice());
+    if written.is_err() {
+        out.truncate(start);
+    }
+    written
+}
+
+// The same, but that the first units may stand at the end where memory is refused.
+fn push_units(out: &mut Vec<u8>, units: &[u16]) -> Result<(), AllocError>
+    ensures ok { OnOk result (out.new.items ≡ out.old.items ++ units_bytes units.now) }
+    ensures kept { take (length out.old.items) out.new.items ≡ out.old.items }
+{
+    for unit in units {
+        put_vint(out, u32::from(*unit))?;
+    }
+    Ok(())
+}
+
+/// The units of all the bytes of a STRING.
+///
+/// `BadText` where the bytes are not one number below 2^16 after another.
+pub fn get_units(alloc: Global, bytes: &[u8]) -> Result<Units, UnitsFault>
+    ensures tells { TellsUnits bytes.now result }
+    ensures found { (units : List ℕ) → Yields IsFreeUnits result (Ok units) (AreUnitsIn bytes.now units) }
+    ensures bad { Yields IsFreeUnits result (Err UnitsFault.BadText) (IsBadText bytes.now) }
+{
+    all_units(alloc, bytes)
+}
+
+fn all_units(alloc: Global, bytes: &[u8]) -> Result<Units, UnitsFault>
+    ensures { TellsUnits bytes.now result }
+{
+    let mut units = Vec::with_capacity(alloc, bytes.len())?;
+    let mut place = 0;
+    while place < bytes.len() {
+        let Some((unit, next)) = unit_at(bytes, place) else {
+            return Err(UnitsFault::BadText);
+        };
+        units.push(unit)?;
+        place = next;
+    }
+    Ok(Units::from_vec(units))
+}
+
+// The unit at a place, and where the bytes behind it begin.
+fn unit_at(bytes: &[u8], place: usize) -> Option<(u16, usize)>
+    requires { place ≤ length bytes.now }
+    ensures { TellsUnitAt bytes.now place result }
+{
+    match get_vint(bytes, place) {
+        Ok((number, next)) => {
+            if number >= UNIT_LIMIT {
+                return None;
+            }
+            Some((number as u16, next))
+        }
+        Err(_) => None,
+    }
+}
+
+/// A number from here on is no UTF-16 unit.
+const UNIT_LIMIT: u32 = 0x1_0000;
+
+/// The UTF-16 units of a text: one for each character below 2^16, and two for each other one.
+pub fn units_of(alloc: Global, text: &str) -> Result<Units, AllocError>
+    ensures ok { IfOk result (λ units. units ≡ text_units text.now) }
+    ensures are { IfOk result AreUnits }
+{
+    let mut units = Vec::with_capacity(alloc, text.len())?;
+    let mut pair = [0; 2];
+    for character in text.chars() {
+        units.extend_from_slice(character.encode_utf16(&mut pair))?;
+    }
+    Ok(Units::from_vec(units))
+}
+
+/// The text that has these units, or `None` where they are not well-formed UTF-16.
+pub fn text_of(alloc: Global, units: &Units) -> Result<Option<String>, AllocError>
+    ensures some { IfOk result (λ text. IfSome text (λ text. IsTextOf units.now (string_bytes text))) }
+    ensures none { IfOk result (λ text. IsNone text ↔ (AreWellFormed units.now → ⊥)) }
+    ensures found { (text : List ℕ) → IsTextOf units.now text → IfOk result (λ found. IsSomeAnd found (λ found. string_bytes found ≡ text)) }
+{
+    Ok(String::from_utf16(alloc, units.as_slice())?.ok())
+}
