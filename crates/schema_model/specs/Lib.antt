@@ -1,7 +1,10 @@
 pub mod Limit
+pub mod Parts
+pub mod PlainTree
 pub mod Reason
 pub mod Row
 pub mod Rule
 pub mod Schema
 pub mod Table
 pub mod Tree
+pub mod Unfold

@@ -80,4 +80,20 @@ impl Pairs {
             items: Vec::from_slice(alloc, self.items.as_slice())?,
         })
     }
+
+    /// Whether both are equal.
+    pub fn is_same(&self, other: &Pairs) -> bool
+        ensures { IsTrue result ↔ (self.now ≡ other.now) }
+    {
+        let others = other.as_slice();
+        if self.items.len() != others.len() {
+            return false;
+        }
+        for (place, item) in self.items.iter().enumerate() {
+            if *item != others[place] {
+                return false;
+            }
+        }
+        true
+    }
 }

@@ -1,4 +1,4 @@
-ghost use Rattle.std.specs.Prelude.{◌≡◌, IfOk};
+ghost use Rattle.std.specs.Prelude.{◌≡◌, ◌↔◌, IfOk, IsTrue};
 
 use hol_varint::Ordinals;
 use std::alloc::{AllocError, Global};
@@ -21,5 +21,12 @@ impl Path {
             t: self.t,
             fields: self.fields.copy(alloc)?,
         })
+    }
+
+    /// Whether both are equal.
+    pub fn is_same(&self, other: &Path) -> bool
+        ensures { IsTrue result ↔ (self.now ≡ other.now) }
+    {
+        self.t == other.t && self.fields.as_slice() == other.fields.as_slice()
     }
 }

@@ -1,4 +1,4 @@
-ghost use Rattle.std.specs.Prelude.{◌≡◌, IfOk};
+ghost use Rattle.std.specs.Prelude.{◌≡◌, ◌↔◌, IfOk, IsTrue};
 
 use crate::{Pairs, Values};
 use hol_varint::{Octets, Ordinals, Units};
@@ -38,6 +38,23 @@ impl Value {
             Value::Ref(ordinal) => Ok(Value::Ref(*ordinal)),
         }
     }
+
+    /// Whether both are equal.
+    pub fn is_same(&self, other: &Value) -> bool
+        ensures { IsTrue result ↔ (self.now ≡ other.now) }
+    {
+        match (self, other) {
+            (Value::Null, Value::Null) => true,
+            (Value::Int(number), Value::Int(of_other)) => number == of_other,
+            (Value::Long(number), Value::Long(of_other)) => number == of_other,
+            (Value::Bool(flag), Value::Bool(of_other)) => flag == of_other,
+            (Value::Text(units), Value::Text(of_other)) => units.as_slice() == of_other.as_slice(),
+            (Value::Bytes(bytes), Value::Bytes(of_other)) => bytes.as_slice()
+                == of_other.as_slice(),
+            (Value::Ref(ordinal), Value::Ref(of_other)) => ordinal == of_other,
+            _ => false,
+        }
+    }
 }
 
 /// What a type holds under an ordinal.
@@ -63,6 +80,20 @@ impl Row {
             Row::List(ordinals) => Ok(Row::List(ordinals.copy(alloc)?)),
             Row::Set(ordinals) => Ok(Row::Set(ordinals.copy(alloc)?)),
             Row::Map(pairs) => Ok(Row::Map(pairs.copy(alloc)?)),
+        }
+    }
+
+    /// Whether both are equal.
+    pub fn is_same(&self, other: &Row) -> bool
+        ensures { IsTrue result ↔ (self.now ≡ other.now) }
+    {
+        match (self, other) {
+            (Row::Object(values), Row::Object(of_other)) => values.is_same(of_other),
+            (Row::List(ordinals), Row::List(of_other)) => ordinals.as_slice()
+                == of_other.as_slice(),
+            (Row::Set(ordinals), Row::Set(of_other)) => ordinals.as_slice() == of_other.as_slice(),
+            (Row::Map(pairs), Row::Map(of_other)) => pairs.is_same(of_other),
+            _ => false,
         }
     }
 }

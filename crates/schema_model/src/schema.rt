@@ -1,4 +1,4 @@
-ghost use Rattle.std.specs.Prelude.{◌≡◌, IfOk};
+ghost use Rattle.std.specs.Prelude.{◌≡◌, ◌↔◌, IfOk, IsTrue};
 
 use crate::{Fields, Name, Names};
 use std::alloc::{AllocError, Global};
@@ -34,6 +34,21 @@ impl FieldKind {
             FieldKind::Bytes => Ok(FieldKind::Bytes),
         }
     }
+
+    /// Whether both are equal.
+    pub fn is_same(&self, other: &FieldKind) -> bool
+        ensures { IsTrue result ↔ (self.now ≡ other.now) }
+    {
+        match (self, other) {
+            (FieldKind::Reference(name), FieldKind::Reference(of_other)) => name.is_same(of_other),
+            (FieldKind::Int, FieldKind::Int) => true,
+            (FieldKind::Long, FieldKind::Long) => true,
+            (FieldKind::Boolean, FieldKind::Boolean) => true,
+            (FieldKind::Text, FieldKind::Text) => true,
+            (FieldKind::Bytes, FieldKind::Bytes) => true,
+            _ => false,
+        }
+    }
 }
 
 /// A field of an OBJECT type.
@@ -54,6 +69,13 @@ impl Field {
             name: self.name.copy(alloc)?,
             kind: self.kind.copy(alloc)?,
         })
+    }
+
+    /// Whether both are equal.
+    pub fn is_same(&self, other: &Field) -> bool
+        ensures { IsTrue result ↔ (self.now ≡ other.now) }
+    {
+        self.name.is_same(&other.name) && self.kind.is_same(&other.kind)
     }
 }
 
@@ -86,6 +108,26 @@ impl Shape {
             Shape::Map(key, value) => Ok(Shape::Map(key.copy(alloc)?, value.copy(alloc)?)),
         }
     }
+
+    /// Whether both are equal.
+    pub fn is_same(&self, other: &Shape) -> bool
+        ensures { IsTrue result ↔ (self.now ≡ other.now) }
+    {
+        match (self, other) {
+            (Shape::Object(None, fields), Shape::Object(None, of_other)) => fields.is_same(
+                of_other,
+            ),
+            (Shape::Object(Some(key), fields), Shape::Object(Some(other_key), of_other)) => {
+                key.is_same(other_key) && fields.is_same(of_other)
+            }
+            (Shape::Set(element), Shape::Set(of_other)) => element.is_same(of_other),
+            (Shape::List(element), Shape::List(of_other)) => element.is_same(of_other),
+            (Shape::Map(key, value), Shape::Map(other_key, of_other)) => {
+                key.is_same(other_key) && value.is_same(of_other)
+            }
+            _ => false,
+        }
+    }
 }
 
 /// A type of a model: its name and its shape.
@@ -106,5 +148,12 @@ impl Schema {
             name: self.name.copy(alloc)?,
             shape: self.shape.copy(alloc)?,
         })
+    }
+
+    /// Whether both are equal.
+    pub fn is_same(&self, other: &Schema) -> bool
+        ensures { IsTrue result ↔ (self.now ≡ other.now) }
+    {
+        self.name.is_same(&other.name) && self.shape.is_same(&other.shape)
     }
 }

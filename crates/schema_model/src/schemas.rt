@@ -84,4 +84,20 @@ impl Schemas {
         }
         Ok(copy)
     }
+
+    /// Whether both hold the same, place by place.
+    pub fn is_same(&self, other: &Schemas) -> bool
+        ensures { IsTrue result ↔ (self.now ≡ other.now) }
+    {
+        let others = other.as_slice();
+        if self.items.len() != others.len() {
+            return false;
+        }
+        for (place, item) in self.items.iter().enumerate() {
+            if !item.is_same(&others[place]) {
+                return false;
+            }
+        }
+        true
+    }
 }

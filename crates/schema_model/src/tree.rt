@@ -1,5 +1,5 @@
-ghost use Rattle.std.specs.Prelude.{◌≡◌, ◌<◌, ◌++◌, ◌∷◌, [], length, slice_get, Some, IsTrue, ◌↔◌, OnOk, OnErr};
-ghost use Rattle.schema_model.specs.Tree.{trees, tree_pairs};
+ghost use Rattle.std.specs.Prelude.{◌≡◌, ◌<◌, ◌++◌, ◌∷◌, [], length, slice_get, Some, IfOk, IsTrue, ◌↔◌, OnOk, OnErr};
+ghost use Rattle.schema_model.specs.Tree.{plain, plain_trees, plain_pairs, trees, tree_pairs};
 
 use hol_varint::{Octets, Units};
 use std::alloc::{AllocError, Global};
@@ -41,17 +41,28 @@ pub struct Trees {
 #[cycle(trees)]
 #[derive(Drop)]
 pub struct TreePairs {
-    items: Vec<TreePair>,
+    items: Vec<(Tree, Tree)>,
 }
 
-/// A key of a map and its value.
-#[cycle(trees)]
-#[derive(Drop)]
-pub struct TreePair {
-    /// The key.
-    pub key: Tree,
-    /// The value.
-    pub value: Tree,
+impl Tree {
+    /// A tree of its own that stands for the same record.
+    #[cycle(copies)]
+    pub fn copy(&self, alloc: Global) -> Result<Tree, AllocError>
+        ensures { IfOk result (λ copy. plain copy ≡ plain self.now) }
+    {
+        match self {
+            Tree::Null => Ok(Tree::Null),
+            Tree::Int(number) => Ok(Tree::Int(*number)),
+            Tree::Long(number) => Ok(Tree::Long(*number)),
+            Tree::Bool(flag) => Ok(Tree::Bool(*flag)),
+            Tree::Text(units) => Ok(Tree::Text(units.copy(alloc)?)),
+            Tree::Bytes(bytes) => Ok(Tree::Bytes(bytes.copy(alloc)?)),
+            Tree::Object(parts) => Ok(Tree::Object(parts.copy(alloc)?)),
+            Tree::List(parts) => Ok(Tree::List(parts.copy(alloc)?)),
+            Tree::Set(parts) => Ok(Tree::Set(parts.copy(alloc)?)),
+            Tree::Map(pairs) => Ok(Tree::Map(pairs.copy(alloc)?)),
+        }
+    }
 }
 
 impl Trees {
@@ -80,11 +91,98 @@ impl Trees {
         self.items.len()
     }
 
+    /// Whether there is none.
+    pub fn is_empty(&self) -> bool
+        ensures { IsTrue result ↔ (trees self.now ≡ []) }
+    {
+        self.items.is_empty()
+    }
+
     /// The one at a place.
     pub fn get(&self, place: usize) -> &Tree
         requires { place < length (trees self.now) }
         ensures { slice_get (trees self.now) place ≡ Some result.now }
     {
         &self.items[place]
+    }
+
+    /// All of them, as a slice.
+    pub fn as_slice(&self) -> &[Tree]
+        ensures { result.now ≡ trees self.now }
+    {
+        self.items.as_slice()
+    }
+
+    /// A list of its own that stands for the same records.
+    #[cycle(copies)]
+    pub fn copy(&self, alloc: Global) -> Result<Self, AllocError>
+        ensures { IfOk result (λ copy. plain_trees copy ≡ plain_trees self.now) }
+    {
+        let mut copy = Trees::new(alloc);
+        for item in self.items.iter() {
+            copy.push(item.copy(alloc)?)?;
+        }
+        Ok(copy)
+    }
+}
+
+impl TreePairs {
+    /// The empty list. It takes no memory.
+    pub fn new(alloc: Global) -> Self
+        ensures { tree_pairs result ≡ [] }
+    {
+        TreePairs {
+            items: Vec::new(alloc),
+        }
+    }
+
+    /// Adds one at the end. Where memory is refused the list stays as it was.
+    pub fn push(&mut self, item: (Tree, Tree)) -> Result<(), AllocError>
+        ensures ok { OnOk result (tree_pairs self.new ≡ tree_pairs self.old ++ item ∷ []) }
+        ensures err { OnErr result (tree_pairs self.new ≡ tree_pairs self.old) }
+    {
+        self.items.push(item)?;
+        Ok(())
+    }
+
+    /// How many there are.
+    pub fn len(&self) -> usize
+        ensures { result ≡ length (tree_pairs self.now) }
+    {
+        self.items.len()
+    }
+
+    /// Whether there is none.
+    pub fn is_empty(&self) -> bool
+        ensures { IsTrue result ↔ (tree_pairs self.now ≡ []) }
+    {
+        self.items.is_empty()
+    }
+
+    /// The one at a place.
+    pub fn get(&self, place: usize) -> &(Tree, Tree)
+        requires { place < length (tree_pairs self.now) }
+        ensures { slice_get (tree_pairs self.now) place ≡ Some result.now }
+    {
+        &self.items[place]
+    }
+
+    /// All of them, as a slice.
+    pub fn as_slice(&self) -> &[(Tree, Tree)]
+        ensures { result.now ≡ tree_pairs self.now }
+    {
+        self.items.as_slice()
+    }
+
+    /// A list of its own that stands for the same records.
+    #[cycle(copies)]
+    pub fn copy(&self, alloc: Global) -> Result<Self, AllocError>
+        ensures { IfOk result (λ copy. plain_pairs copy ≡ plain_pairs self.now) }
+    {
+        let mut copy = TreePairs::new(alloc);
+        for item in self.items.iter() {
+            copy.push((item.0.copy(alloc)?, item.1.copy(alloc)?))?;
+        }
+        Ok(copy)
     }
 }
