@@ -1,2 +1,4 @@
+pub mod Command
+pub mod Head
 pub mod Reply
 pub mod Words

@@ -36,10 +36,10 @@ IsCommand (Make seed rows cycles) = IsFrom 0 999999 seed × IsFrom 1 500000 rows
 abbrev pub Asks : List (List ℕ) → Command → Type 0
 Asks words command = IsCommand command × (words_of command ≡ words)
 
--- What reading words answers: the command that they ask for, or none exactly where they ask for none.
+-- What reading words answers: the one command that they ask for, or none exactly where they ask for none.
 abbrev pub TellsCommand : List (List ℕ) → Option Command → Type 0
 TellsCommand words None = (command : Command) → ¬ Asks words command
-TellsCommand words (Some command) = Asks words command
+TellsCommand words (Some command) = Asks words command × ((other : Command) → Asks words other → other ≡ command)
 
 -- A text begins like a number without sign or leading zeros.
 pub record BeginsPlainly (text : List ℕ) : Type 0 where

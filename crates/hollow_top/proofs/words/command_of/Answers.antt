@@ -1,12 +1,12 @@
 use Rattle.std.proofs.Common.{sym, subst, codes, string_bytes, arith}
 use Rattle.hollow_top.specs.Words.{TellsCommand}
-use Rattle.hollow_top.proofs.Orders.{is_text, one, two, four}
+use Rattle.hollow_top.proofs.Orders.{is_text, runs, one, two, four}
 use Rattle.hollow_top.proofs.words.command_of.Goals as goal
 
 pub returns-in-len1 : goal.returns-in-len1
 returns-in-len1 c =
     let order = is_text (string_bytes c.order-item.result) _ (codes "run") _ c.as_str.ensures.value c.eq.ensures c.if-eq.true in
-    (tt, sym (one string_bytes c.args.words.now c.order-item.result _ (omega arith) (omega arith) c.order-item.is order))
+    runs _ (one string_bytes c.args.words.now c.order-item.result _ (omega arith) (omega arith) c.order-item.is order)
 
 pub returns-in-len2 : goal.returns-in-len2
 returns-in-len2 c =
