@@ -2,10 +2,12 @@
 #![tactic(auto)]
 
 mod head;
+mod program;
 mod reply;
 mod stop;
 mod words;
 
+pub use program::{Keep, run};
 pub use reply::{Reply, reply_line};
 pub use stop::Stop;
 pub use words::{Command, command_of};

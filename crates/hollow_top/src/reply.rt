@@ -1,7 +1,7 @@
 //! What the program answers, and the line that it writes for each answer.
 ghost use Rattle.std.specs.Prelude.{◌≡◌, IfOk, string_bytes};
 ghost use Rattle.serde_json.specs.View.{view};
-ghost use Rattle.hollow_top.specs.Reply.{reply_data, head_data, names_data, tags_data, no_blob_data, too_large_data, bad_blob_data, not_yet_data, line_of};
+ghost use Rattle.hollow_top.specs.Reply.{reply_data, head_data, names_data, tags_data, no_blob_data, too_large_data, bad_blob_data, not_yet_data, is_refusal, line_of};
 
 use blob_frame::Header;
 use hol_io::{BlobName, name_text};
@@ -29,6 +29,15 @@ pub enum Reply {
     },
     /// The command is not built.
     NotYet,
+}
+
+impl Reply {
+    /// Whether the command is refused.
+    pub fn is_refusal(&self) -> bool
+        ensures { result ≡ is_refusal self.now }
+    {
+        !matches!(self, Reply::Head(_))
+    }
 }
 
 /// The line of an answer: one JSON object without spaces, its members in byte order of their names,
