@@ -1,0 +1,4 @@
+mod Lines
+mod Numbers
+mod Orders
+mod Heads

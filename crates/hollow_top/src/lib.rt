@@ -1,0 +1,13 @@
+//! The program behind its edge: the words of a command line, the commands, and their answer lines.
+#![tactic(auto)]
+
+mod head;
+mod program;
+mod reply;
+mod stop;
+mod words;
+
+pub use program::{Keep, run};
+pub use reply::{Reply, reply_line};
+pub use stop::Stop;
+pub use words::{Command, command_of};

@@ -1,0 +1,110 @@
+//! The top call: from the words of a command line to a status.
+ghost use Rattle.std.specs.Prelude.{◌≡◌, ◌≢◌, ◌<◌, ◌≤◌, ◌⊎◌, ◌↔◌, map, string_bytes, IfOk, IfErr, IfSome, IsErrOf};
+ghost use Rattle.hol_io.specs.Causes.{Rose};
+ghost use Rattle.hollow_top.specs.Command.{CommandReply, StopsBefore};
+ghost use Rattle.hollow_top.specs.Run.{AsksNothing, Finishes, WritesPart, Serves};
+
+use hol_io::{BlobStore, Sink, Source, write_all};
+use std::alloc::Global;
+
+use crate::head::head;
+use crate::reply::{Reply, reply_line};
+use crate::stop::Stop;
+use crate::words::{Command, command_of};
+
+/// What a run keeps from one order to the next.
+#[derive(Debug, Drop)]
+pub struct Keep {}
+
+impl Keep {
+    /// Nothing yet. It takes no memory.
+    pub fn new(_alloc: Global) -> Keep {
+        Keep {}
+    }
+}
+
+/// Does what the words ask for: reads the store, writes the answer's line to `out`, and gives the
+/// program's exit status.
+///
+/// | status | comes |
+/// |---|---|
+/// | 0 | the answer's line was written |
+/// | 1 | a refusal's line was written |
+/// | 2 | exactly where the words ask for no command; nothing is read, written or put |
+/// | 4 | the sink failed, which comes only where its count of faults rose |
+/// | 5 | the store failed, which comes only where its count of faults rose |
+/// | 6 | memory was refused |
+pub fn run<I: Source, O: Sink, S: BlobStore>(
+    alloc: Global,
+    words: &[String],
+    input: &mut I,
+    out: &mut O,
+    store: &mut S,
+    keep: &mut Keep,
+) -> u8
+    ensures status { (result ≤ 6) × (result ≢ 3) }
+    ensures words { (result ≡ 2) ↔ AsksNothing (map string_bytes words.now) }
+    ensures sink_fault { result ≡ 4 → Rose (O.faults out.old) (O.faults out.new) }
+    ensures store_fault { result ≡ 5 → Rose (S.faults store.old) (S.faults store.new) }
+
+    // The answer, where the store tells what it holds.
+    ensures answered { result < 2 → IfSome (S.held store.old)
+        (λ held. Finishes (map string_bytes words.now) held (O.taken out.old) (O.taken out.new) result) }
+    ensures part { result ≡ 4 → IfSome (S.held store.old)
+        (λ held. WritesPart (map string_bytes words.now) held (O.taken out.old) (O.taken out.new)) }
+
+    // What stays as it was.
+    ensures input { input.new ≡ input.old }
+    ensures held { S.held store.new ≡ S.held store.old }
+    ensures kept { keep.new ≡ keep.old }
+    ensures silent { 4 < result → out.new ≡ out.old }
+    ensures untouched { result ≡ 2 → (out.new ≡ out.old) × (store.new ≡ store.old) }
+
+    // No status but 0, 1 and 6 comes for a command where no count rises.
+    ensures complete { ¬ AsksNothing (map string_bytes words.now)
+        → ¬ Rose (O.faults out.old) (O.faults out.new)
+        → ¬ Rose (S.faults store.old) (S.faults store.new) → (result < 2) ⊎ (result ≡ 6) }
+{
+    let Some(command) = command_of(words) else {
+        return 2;
+    };
+    match serve(alloc, &command, out, store) {
+        Ok(refused) => u8::from(refused),
+        Err(Stop::Sink) => 4,
+        Err(Stop::Store) => 5,
+        Err(Stop::Memory) => 6,
+    }
+}
+
+// Writes the line of a command's answer, and tells whether it is a refusal.
+fn serve<O: Sink, S: BlobStore>(
+    alloc: Global,
+    command: &Command,
+    out: &mut O,
+    store: &mut S,
+) -> Result<bool, Stop>
+    ensures served { IfSome (S.held store.old)
+        (λ held. Serves held command.now (O.taken out.old) (O.taken out.new) result) }
+    ensures sink_fault { IsErrOf result Stop.Sink → Rose (O.faults out.old) (O.faults out.new) }
+    ensures store_fault { IsErrOf result Stop.Store → Rose (S.faults store.old) (S.faults store.new) }
+    ensures held { S.held store.new ≡ S.held store.old }
+    ensures silent { IfErr result (λ stop. (stop ≡ Stop.Sink → ⊥) → out.new ≡ out.old) }
+{
+    let reply = answer(alloc, command, store)?;
+    let line = reply_line(alloc, &reply)?;
+    write_all(out, line.as_bytes())?;
+    Ok(reply.is_refusal())
+}
+
+// The answer of a command.
+fn answer<S: BlobStore>(alloc: Global, command: &Command, store: &mut S) -> Result<Reply, Stop>
+    ensures reply { IfSome (S.held store.old) (λ held. IfOk result (CommandReply held command.now)) }
+    ensures stop { IfErr result (StopsBefore (S.faults store.old) (S.faults store.new)) }
+    ensures held { S.held store.new ≡ S.held store.old }
+    ensures later { S.faults store.old ≤ S.faults store.new }
+{
+    match command {
+        Command::Head(blob) => head(alloc, store, blob),
+        Command::Run | Command::Show(_) | Command::Make { .. } => Ok(Reply::NotYet),
+    }
+}
