@@ -1,0 +1,26 @@
+//! What the program says of itself.
+use thiserror::Error;
+
+/// A command line that asks for nothing.
+#[derive(Debug, Drop, Error)]
+#[error("usage: hollow FOLDER run | head NAME | show NAME | make SEED ROWS CYCLES")]
+pub struct UsageFault;
+
+/// What `--version` prints.
+pub const VERSION: &str = "hollow 0.1.0 (blob format 1030)";
+
+/// What `--help` prints.
+pub const HELP: &str = "hollow: datasets of Netflix Hollow, blob format 1030
+
+usage: hollow FOLDER run | head NAME | show NAME | make SEED ROWS CYCLES
+
+FOLDER holds blobs under the names snapshot-V, delta-U-V, reversedelta-V-U and announced.version.
+
+  head NAME    the header of a snapshot, a delta or a reverse delta, as one line of JSON
+  run          reads orders from standard input, one a line (not yet built)
+  show NAME    the rows of a snapshot, one a line (not yet built)
+  make SEED ROWS CYCLES
+               makes a chain of states, to try things on (not yet built)
+
+status: 0 answered, 1 refused, 2 no such command, 4 standard output failed, 5 the folder failed,
+6 want of memory";
