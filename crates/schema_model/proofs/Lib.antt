@@ -1,2 +1,4 @@
 pub mod Fronts
 pub mod KindNames
+pub mod Spellings
+pub mod Worked

@@ -3,6 +3,7 @@
 
 mod areas;
 mod fields;
+pub mod laws;
 mod limit;
 mod name;
 mod name_pairs;
@@ -46,3 +47,6 @@ pub use tree::{Tree, TreePairs, Trees};
 pub use values::Values;
 pub use widths::Widths;
 pub use words::Words;
+
+#[cfg(test)]
+mod tests;
