@@ -28,13 +28,31 @@ const NOTHING: [&[&str]; 20] = [
 
 /// Words of a command, and the line of its answer over a store that holds an empty snapshot-1.
 const LINES: [(&[&str], &str); 7] = [
-    (&["head", "snapshot-9"], "{\"blob\":\"snapshot-9\",\"error\":18,\"name\":\"NoBlob\"}\n"),
-    (&["head", "delta-1-2"], "{\"blob\":\"delta-1-2\",\"error\":18,\"name\":\"NoBlob\"}\n"),
-    (&["head", "reversedelta-9223372036854775807-1"], "{\"blob\":\"reversedelta-9223372036854775807-1\",\"error\":18,\"name\":\"NoBlob\"}\n"),
-    (&["head", "snapshot-1"], "{\"at\":0,\"blob\":\"snapshot-1\",\"error\":19,\"name\":\"BadBlob\",\"reason\":40}\n"),
+    (
+        &["head", "snapshot-9"],
+        "{\"blob\":\"snapshot-9\",\"error\":18,\"name\":\"NoBlob\"}\n",
+    ),
+    (
+        &["head", "delta-1-2"],
+        "{\"blob\":\"delta-1-2\",\"error\":18,\"name\":\"NoBlob\"}\n",
+    ),
+    (
+        &["head", "reversedelta-9223372036854775807-1"],
+        "{\"blob\":\"reversedelta-9223372036854775807-1\",\"error\":18,\"name\":\"NoBlob\"}\n",
+    ),
+    (
+        &["head", "snapshot-1"],
+        "{\"at\":0,\"blob\":\"snapshot-1\",\"error\":19,\"name\":\"BadBlob\",\"reason\":40}\n",
+    ),
     (&["run"], "{\"error\":90,\"name\":\"NotYet\"}\n"),
-    (&["show", "snapshot-1"], "{\"error\":90,\"name\":\"NotYet\"}\n"),
-    (&["make", "0", "1", "1000"], "{\"error\":90,\"name\":\"NotYet\"}\n"),
+    (
+        &["show", "snapshot-1"],
+        "{\"error\":90,\"name\":\"NotYet\"}\n",
+    ),
+    (
+        &["make", "0", "1", "1000"],
+        "{\"error\":90,\"name\":\"NotYet\"}\n",
+    ),
 ];
 
 #[test]
