@@ -23,7 +23,7 @@ position_from-push p k (y ∷ ys) x =
     let shift : (k + 1) + length ys ≡ k + length (y ∷ ys) = omega arith in
     let more = position_from-push p (k + 1) ys x ∙ ap (λ n. or_else (position_from p (k + 1) ys) (cond (p x) (Some n) None)) shift in
     elim (p y) as (λ b. cond b (Some k) (position_from p (k + 1) (ys ++ x ∷ [])) ≡ or_else (cond b (Some k) (position_from p (k + 1) ys)) (cond (p x) (Some (k + length (y ∷ ys))) None)) [
-        true ↦ refl
+      | true ↦ refl
       | false ↦ more
     ]
 
@@ -72,7 +72,7 @@ passes_none p d k [] none i below good = omega arith
 passes_none p d k (x ∷ xs) none zero below good = let e : cond true (Some k) (position_from p (k + 1) xs) ≡ None = subst (λ b. cond b (Some k) (position_from p (k + 1) xs) ≡ None) good none in cc
 passes_none p d k (x ∷ xs) none (suc i) below good =
     elim (cases_Bool (p x)) [
-        inl e ↦ let bad : cond true (Some k) (position_from p (k + 1) xs) ≡ None = subst (λ b. cond b (Some k) (position_from p (k + 1) xs) ≡ None) e none in cc
+      | inl e ↦ let bad : cond true (Some k) (position_from p (k + 1) xs) ≡ None = subst (λ b. cond b (Some k) (position_from p (k + 1) xs) ≡ None) e none in cc
       | inr e ↦ passes_none p d (k + 1) xs (subst (λ b. cond b (Some k) (position_from p (k + 1) xs) ≡ None) e none) i (omega arith) good
     ]
 

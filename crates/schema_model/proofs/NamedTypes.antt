@@ -45,8 +45,8 @@ unknown_at find fields i field at none =
     ∙ ap (are_known find) (filter_map-append (λ f. referenced f.kind) (take (i + 1) fields) (drop (i + 1) fields))
     ∙ list_all-append (λ name. is_some (find name)) (referenced_names (take (i + 1) fields)) (referenced_names (drop (i + 1) fields))
     ∙ and_left _ _ (ap (are_known find) (names_more fields i field at)
-        ∙ list_all-append (λ name. is_some (find name)) (referenced_names (take i fields)) (referenced_names (field ∷ []))
-        ∙ and_right _ _ none)
+    ∙ list_all-append (λ name. is_some (find name)) (referenced_names (take i fields)) (referenced_names (field ∷ []))
+    ∙ and_right _ _ none)
 
 unknown_first : (find : List ℕ → Option ℕ) (name : List ℕ) (names : List (List ℕ)) (o : Option ℕ) → find name ≡ o → (is_some o && are_known find names) ≡ false
     → (are_known find names ≡ false → Any (λ n. find n ≡ None) names) → Any (λ n. find n ≡ None) (name ∷ names)

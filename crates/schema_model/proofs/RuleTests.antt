@@ -42,15 +42,16 @@ few_fields schemas t s at kept = elim (cases_lt 1024 (length (fields_of s))) [ i
 pub repeated_name : (schemas : List Schema) (t : ℕ) (s : Schema) → slice_get schemas t ≡ Some s → ¬ StandsEarlier (type_names schemas) t → (fields : List Field)
     → fields ≡ fields_of s → (b : Bool) → (IsTrue b ↔ SomeIndex (field_names fields) (StandsEarlier (field_names fields))) → IsTrue b ↔ BreaksAt schemas DuplicateName t
 repeated_name schemas t s at first fields same b tells =
-    let again = subst (λ (fs : List Field). IsTrue b ↔ SomeIndex (field_names fs) (StandsEarlier (field_names fs))) same tells in
-    (λ e. (s, at, inr (again.0 e)),
-        λ breaks. elim (breaks_itself schemas DuplicateName t s at breaks) [ inl stands ↦ absurd (first stands) | inr twice ↦ again.1 twice ])
+    let again = subst (λ (fs : List Field). IsTrue b ↔ SomeIndex (field_names fs) (StandsEarlier (field_names fs))) same tells in (
+      λ e. (s, at, inr (again.0 e)),
+      λ breaks. elim (breaks_itself schemas DuplicateName t s at breaks) [ inl stands ↦ absurd (first stands) | inr twice ↦ again.1 twice ],
+    )
 
 -- a type that breaks nothing is not past the 512th
 pub few_types : (schemas : List Schema) (t : ℕ) → t < length schemas → ¬ BreaksAt schemas TooMany t → t < 512
 few_types schemas t inside kept =
     elim (cases_lt t 512) [
-        inl few ↦ few
+      | inl few ↦ few
       | inr many ↦ let d : Schema = record { name = []; shape = Set [] } in absurd (kept (get_or schemas t d, slice_get-get_or schemas t d inside, inl many))
     ]
 

@@ -25,6 +25,7 @@ mod put;
 mod reason;
 mod references;
 mod row;
+mod rows;
 mod rule;
 mod rules;
 mod schema;
@@ -51,6 +52,7 @@ pub use places::Places;
 pub use put::put_schema;
 pub use reason::Reason;
 pub use row::{Row, Value};
+pub use rows::Rows;
 pub use rule::Rule;
 pub use schema::{Field, FieldKind, Schema, Shape};
 pub use schemas::Schemas;
@@ -60,7 +62,6 @@ pub use widths::Widths;
 pub use words::Words;
 
 #[cfg(test)]
-mod tests;
-
-#[cfg(test)]
 mod model_tests;
+#[cfg(test)]
+mod tests;
