@@ -1,5 +1,5 @@
 -- The schemas of a model can be spelled.
-use Rattle.std.proofs.Common.{◌≡◌, ℕ, ◌<◌, ◌≤◌, ◌^◌, zero, suc, List, [], ◌∷◌, ◌++◌, Option, None, Some, length, All, Any, IfSome, flat_map, option_to_list, slice_get, refl, arith, inl, inr}
+use Rattle.std.proofs.Common.{◌≡◌, ℕ, ◌<◌, ◌≤◌, ◌^◌, zero, suc, List, [], ◌∷◌, ◌++◌, None, Some, length, All, Any, IfSome, flat_map, option_to_list, slice_get, refl, arith, inl, inr}
 use Rattle.std.specs.List.{AllByRecursion}
 use Rattle.std.proofs.lemmas.Bool.{cases_lt}
 use Rattle.hol_varint.specs.JavaUtf.{java_bytes}
