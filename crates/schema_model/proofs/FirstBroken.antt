@@ -1,5 +1,5 @@
 -- The first rule that schemas break: there is one answer, and the tests of the rules in their order give it.
-use Rattle.std.proofs.Common.{◌≡◌, ℕ, ◌+◌, ◌<◌, ◌≤◌, ◌∙◌, sym, ap, subst, refl, List, Result, Ok, Err, arith, ◌⊎◌, inl, inr, eqb, cond, lit<}
+use Rattle.std.proofs.Common.{◌≡◌, ℕ, ◌+◌, ◌<◌, ◌∙◌, sym, ap, subst, refl, List, Result, Ok, Err, arith, inl, inr, eqb, cond, lit<}
 use Rattle.std.specs.Prelude.{IsErrAnd, MatchResult}
 use Rattle.std.proofs.lemmas.Bool.{cases_order, cases_lt}
 use Rattle.hol_varint.specs.Yields.{Yields}
@@ -39,7 +39,7 @@ passed_none schemas rule below = absurd (omega arith)
 pub passed_more : (schemas : List Schema) (rule : Rule) (n : ℕ) → rule_place rule ≡ n → Passed schemas n → IsKept schemas rule → Passed schemas (n + 1)
 passed_more schemas rule n place before kept other below =
     elim (cases_lt (rule_place other) n) [
-        inl less ↦ before other less
+      | inl less ↦ before other less
       | inr more ↦ subst (λ r. IsKept schemas r) (same_rule rule other (omega arith)) kept
     ]
 
@@ -60,20 +60,22 @@ all_passed schemas passed rule = passed rule (place_below rule)
 -- what the fault of the test of a rule tells, where the rules before are kept
 pub fault_told : (schemas : List Schema) (rule : Rule) (fault : ModelFault) → Passed schemas (rule_place rule) → TellsBroken schemas rule fault → TellsFault schemas fault
 fault_told schemas rule (Broken r t) passed (same, broken, least) =
-    subst (λ x. IsFirstBroken schemas x t) (sym same) (record { earlier = passed; broken = broken; least = least; })
+    subst (λ x. IsFirstBroken schemas x t) (sym same) (record { earlier = passed; broken = broken; least = least })
 fault_told schemas rule Memory passed told = tt
 
 -- there is one first rule and one first type
 first_once : (schemas : List Schema) (r s : Rule) (t u : ℕ) → IsFirstBroken schemas r t → IsFirstBroken schemas s u → (r ≡ s) × (t ≡ u)
 first_once schemas r s t u a b =
     elim (cases_order (rule_place r) (rule_place s)) [
-        inl e ↦
-          let rules = same_rule r s e in
-          (rules, elim (cases_order t u) [
-              inl same ↦ same
-            | inr (inl less) ↦ absurd (b.least t less (subst (λ x. BreaksAt schemas x t) rules a.broken))
-            | inr (inr more) ↦ absurd (a.least u more (subst (λ x. BreaksAt schemas x u) (sym rules) b.broken))
-          ])
+      | inl e ↦
+          let rules = same_rule r s e in (
+            rules,
+            elim (cases_order t u) [
+              | inl same ↦ same
+              | inr (inl less) ↦ absurd (b.least t less (subst (λ x. BreaksAt schemas x t) rules a.broken))
+              | inr (inr more) ↦ absurd (a.least u more (subst (λ x. BreaksAt schemas x u) (sym rules) b.broken))
+            ],
+          )
       | inr (inl less) ↦ absurd (b.earlier r less t a.broken)
       | inr (inr more) ↦ absurd (a.earlier s more u b.broken)
     ]
@@ -87,9 +89,10 @@ made schemas (Err Memory) told = (λ e. absurd cc, λ p. inr tt)
 -- a rule and a type are named exactly where they are the first
 pub named : (schemas : List Schema) (rule : Rule) (t : ℕ) (r : Result (List Schema) ModelFault) → TellsModel schemas r → Yields IsFreeModel r (Err (Broken rule t)) (IsFirstBroken schemas rule t)
 named schemas rule t (Ok model) (same, is) = (λ e. absurd cc, λ first. absurd (is rule t first.broken))
-named schemas rule t (Err (Broken s u)) found =
-    (λ e. let rules : s ≡ rule = cc in let types : u ≡ t = cc in subst (λ x. IsFirstBroken schemas x t) rules (subst (λ n. IsFirstBroken schemas s n) types found),
-        λ first. let same = first_once schemas s rule u t found first in inl (ap (λ x. Err (Broken x u)) same.0 ∙ ap (λ n. Err (Broken rule n)) same.1))
+named schemas rule t (Err (Broken s u)) found = (
+  λ e. let rules : s ≡ rule = cc in let types : u ≡ t = cc in subst (λ x. IsFirstBroken schemas x t) rules (subst (λ n. IsFirstBroken schemas s n) types found),
+  λ first. let same = first_once schemas s rule u t found first in inl (ap (λ x. Err (Broken x u)) same.0 ∙ ap (λ n. Err (Broken rule n)) same.1),
+)
 named schemas rule t (Err Memory) told = (λ e. absurd cc, λ first. inr tt)
 
 -- what the exit of a `?` tells

@@ -1,13 +1,13 @@
 -- The first index at which a name stands, as a list of names grows.
 use Rattle.std.proofs.Common.{◌≡◌, ℕ, zero, suc, ◌+◌, ◌<◌, ◌≤◌, ◌∙◌, sym, ap, subst, refl, Bool, true, false, cond, List, [], ◌∷◌, ◌++◌, Option, Some, None, length, get_or, take, arith, add-zero, inl, inr, is_some, is_none, slice_get, option_map, map}
-use Rattle.std.proofs.lemmas.Bool.{cases_Bool, cond-true, cond-false}
+use Rattle.std.proofs.lemmas.Bool.{cases_Bool}
 use Rattle.std.proofs.lemmas.Slice.Eq.{bytes_eq-Decides}
 use Rattle.std.proofs.lemmas.Iterator.Adapters.{position_from-zero}
 use Rattle.std.proofs.lemmas.List.Quantifiers.{position-Some}
 use Rattle.std.proofs.lemmas.List.{take_more, get_or_default, length-map, get_or-take, length-take}
 use Rattle.std.proofs.lemmas.List.Elements.{Contains-get_or}
 use Rattle.std.proofs.lemmas.Option.{slice_get-map, slice_get_within, get_or_from_slice_get}
-use Rattle.std.specs.List.{position_from, position, Contains}
+use Rattle.std.specs.List.{position_from, Contains}
 use Rattle.std.specs.Str.{bytes_eq}
 use Rattle.schema_model.specs.Model.{StandsEarlier}
 use Rattle.schema_model.specs.Parts.{name_index}
@@ -23,7 +23,7 @@ position_from-push p k (y ∷ ys) x =
     let shift : (k + 1) + length ys ≡ k + length (y ∷ ys) = omega arith in
     let more = position_from-push p (k + 1) ys x ∙ ap (λ n. or_else (position_from p (k + 1) ys) (cond (p x) (Some n) None)) shift in
     elim (p y) as (λ b. cond b (Some k) (position_from p (k + 1) (ys ++ x ∷ [])) ≡ or_else (cond b (Some k) (position_from p (k + 1) ys)) (cond (p x) (Some (k + length (y ∷ ys))) None)) [
-        true ↦ refl
+      | true ↦ refl
       | false ↦ more
     ]
 
@@ -72,7 +72,7 @@ passes_none p d k [] none i below good = omega arith
 passes_none p d k (x ∷ xs) none zero below good = let e : cond true (Some k) (position_from p (k + 1) xs) ≡ None = subst (λ b. cond b (Some k) (position_from p (k + 1) xs) ≡ None) good none in cc
 passes_none p d k (x ∷ xs) none (suc i) below good =
     elim (cases_Bool (p x)) [
-        inl e ↦ let bad : cond true (Some k) (position_from p (k + 1) xs) ≡ None = subst (λ b. cond b (Some k) (position_from p (k + 1) xs) ≡ None) e none in cc
+      | inl e ↦ let bad : cond true (Some k) (position_from p (k + 1) xs) ≡ None = subst (λ b. cond b (Some k) (position_from p (k + 1) xs) ≡ None) e none in cc
       | inr e ↦ passes_none p d (k + 1) xs (subst (λ b. cond b (Some k) (position_from p (k + 1) xs) ≡ None) e none) i (omega arith) good
     ]
 

@@ -7,6 +7,7 @@ pub mod ModelFacts
 pub mod NamedTypes
 pub mod ReferenceChains
 pub mod RuleTests
+pub mod Spellable
 pub mod Spellings
 pub mod Ways
 pub mod Worked

@@ -1,16 +1,16 @@
 -- The indexes of the types that a list of fields or a type names.
-use Rattle.std.proofs.Common.{◌≡◌, ℕ, zero, suc, ◌+◌, ◌<◌, ◌≤◌, ◌∙◌, sym, ap, subst, refl, List, [], ◌∷◌, ◌++◌, Option, Some, None, length, slice_get, take, drop, get_or, arith, ◌⊎◌, inl, inr, true, false, Bool, ◌&&◌, is_some, map, append_assoc, cond}
+use Rattle.std.proofs.Common.{◌≡◌, ℕ, zero, suc, ◌+◌, ◌<◌, ◌∙◌, sym, ap, refl, List, [], ◌∷◌, ◌++◌, Option, Some, None, length, slice_get, take, drop, arith, true, false, Bool, ◌&&◌, is_some, map, append_assoc, cond}
 use Rattle.std.proofs.Math.Path.{fun_ext}
 use Rattle.schema_model.proofs.RuleTests.{breaks_itself}
-use Rattle.std.specs.Prelude.{IsTrue, Any}
-use Rattle.std.specs.List.{filter_map, list_all}
+use Rattle.std.specs.Prelude.{Any}
+use Rattle.std.specs.List.{filter_map}
 use Rattle.std.proofs.lemmas.Bool.{and_parts, and_from, and_left, and_right}
 use Rattle.std.proofs.lemmas.List.{take_more, take-append-drop, map-append}
 use Rattle.std.proofs.lemmas.List.Elements.{filter_map-append}
 use Rattle.std.proofs.lemmas.List.Folds.{list_all-append}
 use Rattle.std.proofs.lemmas.Option.{slice_get_within, get_or_from_slice_get}
 use Rattle.schema_model.specs.Checked.{are_known, all_references}
-use Rattle.schema_model.specs.Model.{BreaksAt, Breaks, references}
+use Rattle.schema_model.specs.Model.{BreaksAt, references}
 use Rattle.schema_model.specs.Parts.{referenced, referenced_names, named_types, type_index}
 use Rattle.schema_model.specs.declared.rule.Rule.TheVariants.{UnknownType}
 use Rattle.schema_model.specs.declared.schema.Field.{Field}
@@ -45,8 +45,8 @@ unknown_at find fields i field at none =
     ∙ ap (are_known find) (filter_map-append (λ f. referenced f.kind) (take (i + 1) fields) (drop (i + 1) fields))
     ∙ list_all-append (λ name. is_some (find name)) (referenced_names (take (i + 1) fields)) (referenced_names (drop (i + 1) fields))
     ∙ and_left _ _ (ap (are_known find) (names_more fields i field at)
-        ∙ list_all-append (λ name. is_some (find name)) (referenced_names (take i fields)) (referenced_names (field ∷ []))
-        ∙ and_right _ _ none)
+    ∙ list_all-append (λ name. is_some (find name)) (referenced_names (take i fields)) (referenced_names (field ∷ []))
+    ∙ and_right _ _ none)
 
 unknown_first : (find : List ℕ → Option ℕ) (name : List ℕ) (names : List (List ℕ)) (o : Option ℕ) → find name ≡ o → (is_some o && are_known find names) ≡ false
     → (are_known find names ≡ false → Any (λ n. find n ≡ None) names) → Any (λ n. find n ≡ None) (name ∷ names)

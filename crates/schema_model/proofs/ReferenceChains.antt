@@ -1,12 +1,12 @@
 -- Marks of the types from which a chain of so many references can be followed: what they mean, and that they settle.
-use Rattle.std.proofs.Common.{◌≡◌, ℕ, zero, suc, ◌+◌, ◌<◌, ◌≤◌, ◌∙◌, sym, ap, subst, refl, Bool, true, false, List, [], ◌∷◌, length, get_or, map, arith, inl, inr, ◌⊎◌, replicate, slice_get, Some, None}
+use Rattle.std.proofs.Common.{◌≡◌, ℕ, zero, suc, ◌+◌, ◌<◌, ◌≤◌, ◌∙◌, sym, ap, subst, refl, Bool, true, false, List, [], ◌∷◌, length, get_or, map, arith, inl, inr, replicate, slice_get, Some, None}
 use Rattle.std.proofs.Math.ListN.{get_or-map, get_or-eq_default}
-use Rattle.std.proofs.lemmas.Bool.{cases_lt, cases_eq, cases_Bool}
+use Rattle.std.proofs.lemmas.Bool.{cases_lt, cases_eq}
 use Rattle.std.proofs.lemmas.List.{get_or-replicate, length-replicate, length-map}
 use Rattle.std.proofs.lemmas.List.Folds.{Any-from_list_any, list_any-from_Any}
 use Rattle.std.specs.Bool.{Decides, beq}
 use Rattle.std.specs.Cmp.Lexicographic.{pointwise, pointwise_decides}
-use Rattle.std.specs.List.{list_any, Any, position}
+use Rattle.std.specs.List.{position}
 use Rattle.schema_model.specs.Checked.{has_chained, chained}
 use Rattle.std.proofs.lemmas.Iterator.Adapters.{position_from-zero}
 use Rattle.std.proofs.lemmas.List.Quantifiers.{position-Some}
@@ -26,7 +26,7 @@ pub chain_from_mark : (rows : List (List ℕ)) (n t : ℕ) → get_or (chained r
 unfolding HasChain chained
 chain_from_mark rows zero t marked =
     elim (cases_lt t (length rows)) [
-        inl below ↦ below
+      | inl below ↦ below
       | inr past ↦
           let long : length (replicate (length rows) true) ≤ t = rw length-replicate past in
           let unmarked = get_or-eq_default (replicate (length rows) true) false long in
@@ -48,7 +48,7 @@ one_shorter : (rows : List (List ℕ)) (n t : ℕ) → HasChain rows (suc n) t �
 unfolding HasChain
 one_shorter rows zero t (k, u, inside, at, chain) =
     elim (cases_lt t (length rows)) [
-        inl below ↦ below
+      | inl below ↦ below
       | inr past ↦ let none = get_or-eq_default rows [] past in absurd (omega (arith, ap length none))
     ]
 one_shorter rows (suc n) t (k, u, inside, at, chain) = (k, u, inside, at, one_shorter rows n u chain)
@@ -58,7 +58,7 @@ pub shorter : (rows : List (List ℕ)) (n m t : ℕ) → n ≤ m → HasChain ro
 shorter rows n zero t le chain = subst (λ k. HasChain rows k t) (let e : 0 ≡ n = omega arith in e) chain
 shorter rows n (suc m) t le chain =
     elim (cases_eq n (suc m)) [
-        inl e ↦ subst (λ k. HasChain rows k t) (sym e) chain
+      | inl e ↦ subst (λ k. HasChain rows k t) (sym e) chain
       | inr less ↦ shorter rows n m t (omega arith) (one_shorter rows m t chain)
     ]
 
@@ -68,7 +68,7 @@ unfolding chained
 stays rows k settled zero le = ap (chained rows) (let e : 0 ≡ k = omega arith in e)
 stays rows k settled (suc m) le =
     elim (cases_eq k (suc m)) [
-        inl e ↦ ap (chained rows) (sym e)
+      | inl e ↦ ap (chained rows) (sym e)
       | inr less ↦
           ap (λ marks. map (has_chained marks) rows) (stays rows k settled m (omega arith))
           ∙ ap (chained rows) (let e : suc k ≡ k + 1 = omega arith in e) ∙ settled
@@ -78,7 +78,7 @@ stays rows k settled (suc m) le =
 pub endless_from_mark : (rows : List (List ℕ)) (k t : ℕ) → chained rows (k + 1) ≡ chained rows k → get_or (chained rows k) t false ≡ true → (n : ℕ) → HasChain rows n t
 endless_from_mark rows k t settled marked n =
     elim (cases_lt n k) [
-        inl less ↦ shorter rows n k t (omega arith) (chain_from_mark rows k t marked)
+      | inl less ↦ shorter rows n k t (omega arith) (chain_from_mark rows k t marked)
       | inr more ↦ chain_from_mark rows n t (ap (λ marks. get_or marks t false) (stays rows k settled n more) ∙ marked)
     ]
 
@@ -138,8 +138,8 @@ fewer_after_round rows xs ys k old new differ =
     let round : ys ≡ chained rows (suc k) = new ∙ ap (λ marks. map (has_chained marks) rows) old in
     let long : length ys ≡ length xs = ap length round ∙ length-chained rows (suc k) ∙ sym (ap length old ∙ length-chained rows k) in
     fewer xs ys long
-        (λ i marked. ap (λ marks. get_or marks i false) old ∙ fewer_marks rows k i (ap (λ marks. get_or marks i false) (sym round) ∙ marked))
-        (marks_differ ys xs differ)
+    (λ i marked. ap (λ marks. get_or marks i false) old ∙ fewer_marks rows k i (ap (λ marks. get_or marks i false) (sym round) ∙ marked))
+    (marks_differ ys xs differ)
 
 -- the schema at an index from which a chain begins
 schema_at : (schemas : List Schema) (t : ℕ) → HasChain (reference_rows schemas) 0 t → (s : Schema) × (slice_get schemas t ≡ Some s)
@@ -164,24 +164,24 @@ pub none_broken : (schemas : List Schema) (rule : Rule) (marks : List Bool) → 
 none_broken schemas rule marks m none t breaks =
     let marked = m.marked t breaks in
     elim (cases_lt t (length marks)) [
-        inl below ↦ passes_none (λ (mark : Bool). mark) false 0 marks (sym (position_from-zero (λ (mark : Bool). mark) marks) ∙ none) t below marked
+      | inl below ↦ passes_none (λ (mark : Bool). mark) false 0 marks (sym (position_from-zero (λ (mark : Bool). mark) marks) ∙ none) t below marked
       | inr past ↦ let bad : false ≡ true = sym (get_or-eq_default marks false past) ∙ marked in cc
     ]
 
 -- marks that have settled are of the types whose references lead into a cycle
 pub cycle_marks : (schemas : List Schema) (marks : List Bool) (k : ℕ) → marks ≡ chained (reference_rows schemas) k → chained (reference_rows schemas) (k + 1) ≡ chained (reference_rows schemas) k → Marks schemas CyclicModel marks
 cycle_marks schemas marks k e settled = record {
-    broken = λ t marked.
-        let endless = endless_from_mark (reference_rows schemas) k t settled (ap (λ ms. get_or ms t false) (sym e) ∙ marked) in
-        let at = schema_at schemas t (endless 0) in (at.0, at.1, endless);
-    marked = λ t breaks. ap (λ ms. get_or ms t false) e ∙ mark_from_chain (reference_rows schemas) k t (breaks.2 k);
+  broken = λ t marked.
+      let endless = endless_from_mark (reference_rows schemas) k t settled (ap (λ ms. get_or ms t false) (sym e) ∙ marked) in
+      let at = schema_at schemas t (endless 0) in (at.0, at.1, endless);
+  marked = λ t breaks. ap (λ ms. get_or ms t false) e ∙ mark_from_chain (reference_rows schemas) k t (breaks.2 k);
 }
 
 -- marks after so many rounds are of the types at the top of too long a chain
 pub depth_marks : (schemas : List Schema) (marks : List Bool) → marks ≡ chained (reference_rows schemas) 32 → Marks schemas TooDeep marks
 depth_marks schemas marks e = record {
-    broken = λ t marked.
-        let chain = chain_from_mark (reference_rows schemas) 32 t (ap (λ ms. get_or ms t false) (sym e) ∙ marked) in
-        let at = schema_at schemas t (shorter (reference_rows schemas) 0 32 t (omega arith) chain) in (at.0, at.1, chain);
-    marked = λ t breaks. ap (λ ms. get_or ms t false) e ∙ mark_from_chain (reference_rows schemas) 32 t breaks.2;
+  broken = λ t marked.
+      let chain = chain_from_mark (reference_rows schemas) 32 t (ap (λ ms. get_or ms t false) (sym e) ∙ marked) in
+      let at = schema_at schemas t (shorter (reference_rows schemas) 0 32 t (omega arith) chain) in (at.0, at.1, chain);
+  marked = λ t breaks. ap (λ ms. get_or ms t false) e ∙ mark_from_chain (reference_rows schemas) 32 t breaks.2;
 }

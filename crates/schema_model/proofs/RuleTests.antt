@@ -1,5 +1,5 @@
 -- From what a loop over the types finds to what the test of a rule tells.
-use Rattle.std.proofs.Common.{◌≡◌, ℕ, zero, suc, ◌∷◌, ◌<◌, ◌≤◌, ◌∙◌, sym, ap, subst, List, Option, Some, None, length, slice_get, arith, ◌⊎◌, inl, inr, true, false, Bool, get_or, []}
+use Rattle.std.proofs.Common.{◌≡◌, ℕ, zero, suc, ◌∷◌, ◌<◌, ◌≤◌, ◌∙◌, sym, ap, subst, List, Some, length, slice_get, arith, inl, inr, true, false, Bool, get_or, []}
 use Rattle.std.specs.Prelude.{IsTrue, ◌↔◌}
 use Rattle.std.proofs.lemmas.Option.{slice_get_within, slice_get-get_or}
 use Rattle.std.proofs.lemmas.Bool.{cases_lt, or_left, or_right, lt-ltb, ltb-true}
@@ -42,15 +42,16 @@ few_fields schemas t s at kept = elim (cases_lt 1024 (length (fields_of s))) [ i
 pub repeated_name : (schemas : List Schema) (t : ℕ) (s : Schema) → slice_get schemas t ≡ Some s → ¬ StandsEarlier (type_names schemas) t → (fields : List Field)
     → fields ≡ fields_of s → (b : Bool) → (IsTrue b ↔ SomeIndex (field_names fields) (StandsEarlier (field_names fields))) → IsTrue b ↔ BreaksAt schemas DuplicateName t
 repeated_name schemas t s at first fields same b tells =
-    let again = subst (λ (fs : List Field). IsTrue b ↔ SomeIndex (field_names fs) (StandsEarlier (field_names fs))) same tells in
-    (λ e. (s, at, inr (again.0 e)),
-        λ breaks. elim (breaks_itself schemas DuplicateName t s at breaks) [ inl stands ↦ absurd (first stands) | inr twice ↦ again.1 twice ])
+    let again = subst (λ (fs : List Field). IsTrue b ↔ SomeIndex (field_names fs) (StandsEarlier (field_names fs))) same tells in (
+      λ e. (s, at, inr (again.0 e)),
+      λ breaks. elim (breaks_itself schemas DuplicateName t s at breaks) [ inl stands ↦ absurd (first stands) | inr twice ↦ again.1 twice ],
+    )
 
 -- a type that breaks nothing is not past the 512th
 pub few_types : (schemas : List Schema) (t : ℕ) → t < length schemas → ¬ BreaksAt schemas TooMany t → t < 512
 few_types schemas t inside kept =
     elim (cases_lt t 512) [
-        inl few ↦ few
+      | inl few ↦ few
       | inr many ↦ let d : Schema = record { name = []; shape = Set [] } in absurd (kept (get_or schemas t d, slice_get-get_or schemas t d inside, inl many))
     ]
 

@@ -1,5 +1,5 @@
 -- The ways that paths lead: how one goes on, and that there is no other.
-use Rattle.std.proofs.Common.{◌≡◌, ℕ, zero, suc, ◌+◌, ◌-◌, ◌<◌, ◌≤◌, ◌∙◌, sym, ap, subst, refl, List, [], ◌∷◌, ◌++◌, Option, Some, None, length, slice_get, take, get_or, map, arith, ◌⊎◌, inl, inr, eqb, cond, not, Bool, true, false, append_assoc, Result, Ok, Err}
+use Rattle.std.proofs.Common.{◌≡◌, ℕ, zero, suc, ◌+◌, ◌-◌, ◌<◌, ◌≤◌, ◌∙◌, sym, ap, subst, refl, List, [], ◌∷◌, ◌++◌, Option, Some, None, length, slice_get, take, get_or, arith, inl, inr, eqb, cond, not, Bool, append_assoc, Result, Ok, Err}
 use Rattle.std.specs.Prelude.{IsErrAnd}
 use Rattle.std.specs.List.{filter_map, Contains, cons_option, position_or_len, onto_first, before_first, after_first, count_by}
 use Rattle.std.proofs.lemmas.List.Splits.{slice_split-cons_no, slice_split_first, length-slice_split}
@@ -44,7 +44,7 @@ chain_through schemas t i field u n (s, at, own) (name, refers, index) chain =
     let (j, named) = filtered_at (λ (f : Field). referenced f.kind) (fields_of s) i field name own refers in
     let (k, inside) = filtered_at (type_index schemas) (named_types s) j name u (ap (λ names. slice_get names j) (object_names s.shape i field own) ∙ named) index in
     let row : get_or (reference_rows schemas) t [] ≡ references schemas s =
-        get_or_from_slice_get (reference_rows schemas) t (references schemas s) [] (slice_get-map (references schemas) schemas t ∙ ap (option_map (references schemas)) at) in
+    get_or_from_slice_get (reference_rows schemas) t (references schemas s) [] (slice_get-map (references schemas) schemas t ∙ ap (option_map (references schemas)) at) in
     rw row (k, u, slice_get_within (references schemas s) k u inside, get_or_from_slice_get (references schemas s) k u u inside, chain)
 
 -- a field refers to one type
@@ -85,7 +85,7 @@ pub no_field_more : (fields : List Field) (name : List ℕ) (i : ℕ) (item : Fi
     → ((k : ℕ) (f : Field) → k < i → slice_get fields k ≡ Some f → f.name ≡ name → ⊥) → (k : ℕ) (f : Field) → k < i + 1 → slice_get fields k ≡ Some f → f.name ≡ name → ⊥
 no_field_more fields name i item at other before k f below there same =
     elim (cases_lt k i) [
-        inl less ↦ before k f less there same
+      | inl less ↦ before k f less there same
       | inr more ↦
           let here : k ≡ i = omega arith in
           let e : Some f ≡ Some item = sym there ∙ ap (slice_get fields) here ∙ at in
@@ -103,7 +103,7 @@ one_name [] none = refl
 one_name (b ∷ bs) none =
     let P : Bool → Type 0 = λ t. cond (not t) (1 + position_or_len (λ c. eqb c 46) bs) 0 ≡ length (b ∷ bs) in
     elim (cases_Bool (eqb b 46)) [
-        inl dot ↦ let short : 0 ≡ length (b ∷ bs) = subst P dot none in absurd (omega arith)
+      | inl dot ↦ let short : 0 ≡ length (b ∷ bs) = subst P dot none in absurd (omega arith)
       | inr other ↦
           let long : 1 + position_or_len (λ c. eqb c 46) bs ≡ length (b ∷ bs) = subst P other none in
           slice_split-cons_no (λ c. eqb c 46) b bs other ∙ ap (onto_first b) (one_name bs (omega arith))
@@ -165,7 +165,7 @@ one_field schemas t i j f g apart (s, at, own) (r, there, again) same =
     let fields = fields_of s in
     let here : slice_get fields j ≡ Some g = ap (λ x. slice_get (fields_of x) j) (sym (same_schema schemas t r s there at)) ∙ again in
     elim (cases_order i j) [
-        inl e ↦ e
+      | inl e ↦ e
       | inr (inl less) ↦ absurd (apart t (s, at, inr (j, rw (length-map fields (λ f. f.name)) (slice_get_within fields j g here), repeated_at fields i j f g own here same less)))
       | inr (inr more) ↦ absurd (apart t (s, at, inr (i, rw (length-map fields (λ f. f.name)) (slice_get_within fields i f own), repeated_at fields j i g f here own (sym same) more)))
     ]
@@ -295,8 +295,8 @@ leads_once schemas apart (name ∷ next ∷ names) t (i ∷ p) (j ∷ q) (f, u, 
 pub one_path : (schemas : List Schema) → IsKept schemas DuplicateName → (t : ℕ) (text : List ℕ) (p q : Path) → Resolves schemas t text p → Resolves schemas t text q → p ≡ q
 one_path schemas apart t text p q (begins, leads) (starts, other) =
     let ways = leads_once schemas apart (path_names text) t p.fields q.fields leads other in
-    let begin : ℕ → Path = λ n. record { t = n; fields = p.fields; } in
-    let pass : List ℕ → Path = λ fields. record { t = q.t; fields = fields; } in
+    let begin : ℕ → Path = λ n. record { t = n; fields = p.fields } in
+    let pass : List ℕ → Path = λ fields. record { t = q.t; fields = fields } in
     ap begin (begins ∙ sym starts) ∙ ap pass ways
 
 -- the path is told exactly where the text resolves to it

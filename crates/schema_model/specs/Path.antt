@@ -1,5 +1,5 @@
 -- The fields that a key path goes through.
-use Rattle.std.specs.Prelude.{◌≡◌, ℕ, ◌==◌, List, [], ◌∷◌, Option, Some, None, slice_get}
+use Rattle.std.specs.Prelude.{◌≡◌, ℕ, ◌==◌, List, [], ◌∷◌, Some, None, slice_get}
 use Rattle.std.specs.List.{slice_split}
 use Rattle.schema_model.specs.Parts.{fields_of, referenced, type_index}
 use Rattle.schema_model.specs.declared.path.Path.{Path}

@@ -1,11 +1,12 @@
 //! Laws of the definitions.
-ghost use Rattle.std.specs.Prelude.{◌≡◌, ℕ, List, ◌++◌};
+ghost use Rattle.std.specs.Prelude.{◌≡◌, ◌<◌, ◌^◌, ℕ, List, ◌++◌, Some, IfSome, length, slice_get};
 ghost use Rattle.std.specs.Str.{IsUtf8};
 ghost use Rattle.schema_model.specs.Model.{IsModel};
 ghost use Rattle.schema_model.specs.Path.{Resolves};
 ghost use Rattle.schema_model.specs.declared.path.Path.{Path};
 ghost use Rattle.schema_model.specs.declared.schema.Schema.{Schema};
-ghost use Rattle.schema_model.specs.Schema.{schema_bytes, EachName};
+ghost use Rattle.schema_model.specs.Parts.{shape_key};
+ghost use Rattle.schema_model.specs.Schema.{schema_bytes, EachName, IsSpellable};
 
 /// A schema whose names are texts has one spelling, and a spelling one such schema; none begins another one.
 pub fn one_schema()
@@ -15,4 +16,9 @@ pub fn one_schema()
 /// In a model a text resolves to one path at most.
 pub fn one_path()
     ensures { (schemas : List Schema) (t : ℕ) (text : List ℕ) (a b : Path) → IsModel schemas → Resolves schemas t text a → Resolves schemas t text b → a ≡ b }
+{}
+
+/// Each schema of a model can be spelled, where it has fewer than 2^32 key paths.
+pub fn spellable_model()
+    ensures { (schemas : List Schema) (t : ℕ) (schema : Schema) → IsModel schemas → slice_get schemas t ≡ Some schema → IfSome (shape_key schema.shape) (λ paths. length paths < 2 ^ 32) → IsSpellable schema }
 {}

@@ -62,7 +62,6 @@ pub use widths::Widths;
 pub use words::Words;
 
 #[cfg(test)]
-mod tests;
-
-#[cfg(test)]
 mod model_tests;
+#[cfg(test)]
+mod tests;

@@ -19,12 +19,7 @@ pub(crate) fn place_of(places: &Places, name: &str) -> Option<u32>
 }
 
 /// Adds the name at the next index, unless it stands earlier. Whether it was added.
-fn add_name(
-    alloc: Global,
-    places: &mut Places,
-    name: &str,
-    place: u32,
-) -> Result<bool, AllocError>
+fn add_name(alloc: Global, places: &mut Places, name: &str, place: u32) -> Result<bool, AllocError>
     ensures added { IfOk result (λ fresh. fresh ≡ is_none (get_by_text places.old name.now)) }
     ensures indexes { OnOk result ((names : List (List ℕ)) → Indexes names places.old → length names ≡ place → Indexes (names ++ name.now ∷ []) places.new) }
 {

@@ -36,11 +36,7 @@ fn add_field(places: &Places, field: &Field, row: &mut Ordinals) -> Result<bool,
 }
 
 /// Adds the indexes of the types that fields refer to. Whether there are all these types.
-fn add_references(
-    places: &Places,
-    fields: &[Field],
-    row: &mut Ordinals,
-) -> Result<bool, AllocError>
+fn add_references(places: &Places, fields: &[Field], row: &mut Ordinals) -> Result<bool, AllocError>
     ensures known { IfOk result (λ known. known ≡ are_known (get_by_text places.now) (referenced_names fields.now)) }
     ensures added { IfOk result (λ known. IsTrue known → row.new ≡ row.old ++ filter_map (get_by_text places.now) (referenced_names fields.now)) }
 {

@@ -2,9 +2,8 @@ ghost use Rattle.std.specs.Prelude.{List, ℕ, ◌≡◌, ◌↔◌, Some, IfOk,
 ghost use Rattle.schema_model.specs.declared.schema.Schema.{Schema};
 ghost use Rattle.schema_model.specs.Table.{Table, IsTableOf, IsBound, IsLive, row_at};
 
-use std::alloc::{AllocError, Global};
-
 use crate::{Model, Row};
+use std::alloc::{AllocError, Global};
 
 /// The rows of a state, by type and ordinal, wherever they stand.
 pub trait Rows {

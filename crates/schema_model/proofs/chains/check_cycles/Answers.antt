@@ -11,7 +11,7 @@ overflow_cast-result c =
     let rows = c.requires.rows in
     let k = c.in_ok-marks.ensures.0 in
     let settled : chained (reference_rows c.args.schemas.now) (k + 1) ≡ chained (reference_rows c.args.schemas.now) k =
-        ap (λ rs. chained rs (k + 1)) (sym rows) ∙ c.in_ok-marks.ensures.2 ∙ ap (λ rs. chained rs k) rows in
+    ap (λ rs. chained rs (k + 1)) (sym rows) ∙ c.in_ok-marks.ensures.2 ∙ ap (λ rs. chained rs k) rows in
     let marks = cycle_marks c.args.schemas.now c.as_slice.result.now k (c.as_slice.ensures.value ∙ c.in_ok-marks.ensures.1 ∙ ap (λ rs. chained rs k) rows) settled in
     let broken = (first_broken c.args.schemas.now CyclicModel c.as_slice.result.now marks c.in-Some.t (sym c.first_mark.ensures ∙ c.in-Some.is)).0 in
     let inside = slice_get_within c.args.schemas.now c.in-Some.t broken.0 broken.1 in
@@ -22,7 +22,7 @@ returns-in-Some c =
     let rows = c.requires.rows in
     let k = c.in_ok-marks.ensures.0 in
     let settled : chained (reference_rows c.args.schemas.now) (k + 1) ≡ chained (reference_rows c.args.schemas.now) k =
-        ap (λ rs. chained rs (k + 1)) (sym rows) ∙ c.in_ok-marks.ensures.2 ∙ ap (λ rs. chained rs k) rows in
+    ap (λ rs. chained rs (k + 1)) (sym rows) ∙ c.in_ok-marks.ensures.2 ∙ ap (λ rs. chained rs k) rows in
     let marks = cycle_marks c.args.schemas.now c.as_slice.result.now k (c.as_slice.ensures.value ∙ c.in_ok-marks.ensures.1 ∙ ap (λ rs. chained rs k) rows) settled in
     let found = first_broken c.args.schemas.now CyclicModel c.as_slice.result.now marks c.in-Some.t (sym c.first_mark.ensures ∙ c.in-Some.is) in
     (refl, found.0, found.1)
@@ -32,6 +32,6 @@ returns c =
     let rows = c.requires.rows in
     let k = c.in_ok-marks.ensures.0 in
     let settled : chained (reference_rows c.args.schemas.now) (k + 1) ≡ chained (reference_rows c.args.schemas.now) k =
-        ap (λ rs. chained rs (k + 1)) (sym rows) ∙ c.in_ok-marks.ensures.2 ∙ ap (λ rs. chained rs k) rows in
+    ap (λ rs. chained rs (k + 1)) (sym rows) ∙ c.in_ok-marks.ensures.2 ∙ ap (λ rs. chained rs k) rows in
     let marks = cycle_marks c.args.schemas.now c.as_slice.result.now k (c.as_slice.ensures.value ∙ c.in_ok-marks.ensures.1 ∙ ap (λ rs. chained rs k) rows) settled in
     none_broken c.args.schemas.now CyclicModel c.as_slice.result.now marks (sym c.first_mark.ensures ∙ c.in-None.is)

@@ -1,7 +1,6 @@
-use Rattle.std.proofs.Common.{◌≡◌, sym, ap, ◌∙◌, refl, arith}
+use Rattle.std.proofs.Common.{sym, ap, ◌∙◌, refl, arith}
 use Rattle.std.proofs.lemmas.Option.{slice_get_within}
 use Rattle.schema_model.specs.Checked.{chained}
-use Rattle.schema_model.specs.Model.{reference_rows}
 use Rattle.schema_model.specs.declared.rule.Rule.TheVariants.{TooDeep}
 use Rattle.schema_model.proofs.ReferenceChains.{depth_marks, first_broken, none_broken}
 use Rattle.schema_model.proofs.chains.check_depth.Goals as goal

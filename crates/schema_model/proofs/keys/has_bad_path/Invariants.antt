@@ -1,4 +1,4 @@
-use Rattle.std.proofs.Common.{ℕ, ◌<◌, ◌≡◌, get_or, []}
+use Rattle.std.proofs.Common.{ℕ, ◌<◌, get_or, []}
 use Rattle.schema_model.specs.Model.{IsBadPath}
 use Rattle.schema_model.proofs.keys.has_bad_path.Given as goal
 

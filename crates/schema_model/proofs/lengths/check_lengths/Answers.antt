@@ -1,4 +1,4 @@
-use Rattle.std.proofs.Common.{◌≡◌, ◌∙◌, sym, refl, below_more, arith}
+use Rattle.std.proofs.Common.{◌∙◌, sym, refl, below_more, arith}
 use Rattle.schema_model.specs.declared.rule.Rule.TheVariants.{LongName}
 use Rattle.schema_model.proofs.RuleTests.{kept_below, long_breaks, none_long}
 use Rattle.schema_model.proofs.lengths.check_lengths.Goals as goal

@@ -1,4 +1,4 @@
-use Rattle.std.proofs.Common.{◌≡◌, ◌∙◌, sym, refl, length, arith, true}
+use Rattle.std.proofs.Common.{◌∙◌, sym, refl, length, arith}
 use Rattle.std.proofs.lemmas.Option.{slice_get_read}
 use Rattle.schema_model.specs.Checked.{is_long_text}
 use Rattle.schema_model.specs.Parts.{field_texts}

@@ -1,4 +1,4 @@
-use Rattle.std.proofs.Common.{◌≡◌, sym, arith}
+use Rattle.std.proofs.Common.{sym, arith}
 use Rattle.schema_model.proofs.JavaSizes.{size_zero, size_one, size_two, size_three, size_six}
 use Rattle.schema_model.proofs.lengths.java_size.Goals as goal
 

@@ -1,7 +1,4 @@
-use Rattle.std.proofs.Common.{◌≡◌, refl, Ok, Result, List}
-use Rattle.schema_model.specs.Faults.{TellsModel, TellsFault}
-use Rattle.schema_model.specs.declared.faults.ModelFault.{ModelFault}
-use Rattle.schema_model.specs.declared.schema.Schema.{Schema}
+use Rattle.std.proofs.Common.{refl, Ok}
 use Rattle.schema_model.proofs.FirstBroken.{made, named, model_exit}
 use Rattle.schema_model.proofs.model.model_of.Goals as goal
 

@@ -1,8 +1,8 @@
-use Rattle.std.proofs.Common.{◌≡◌, ◌∙◌, sym, ap, refl, arith, length, subst, Some, None, Option, ℕ, List, ◌≤◌, ◌<◌, get_or}
+use Rattle.std.proofs.Common.{◌∙◌, sym, ap, arith, length, subst}
 use Rattle.std.specs.BTreeMap.{get_by_text}
-use Rattle.schema_model.specs.Parts.{referenced, type_index}
+use Rattle.schema_model.specs.Parts.{referenced}
 use Rattle.schema_model.specs.Checked.{TellsWay}
-use Rattle.schema_model.specs.Path.{RefersTo, HasOnlyField, GoesOn}
+use Rattle.schema_model.specs.Path.{RefersTo, GoesOn}
 use Rattle.schema_model.specs.declared.schema.Field.{Field}
 use Rattle.schema_model.proofs.Ways.{no_way_unknown, no_way_many, only_is_field, only_from, type_inside, deep_enough, shallower, way_on, looked_up}
 use Rattle.schema_model.proofs.path_walk.+go_on.Goals as goal
@@ -37,10 +37,14 @@ go_on-requires t c =
     let refers : RefersTo schemas c.args.kind.now next = (c.in-Reference.name, ap referenced c.in-Reference.is, index) in
     let shallow = c.requires.shallow next refers in
     let deep = deep_enough schemas c.args.depth next (type_inside schemas c.in-Reference.name next index) shallow in
-    let has = only_from schemas next c.get.result.now c.fields_of-own.result.now c.index-own-0.result c.get.ensures c.fields_of-own.ensures c.if-own-ne1.false c.index-own-0.is in
-    (omega arith, (c.requires.indexed,
-            λ u again. shallower schemas c.args.depth next 0 u c.index-own-0.result (only_is_field schemas next c.index-own-0.result has) deep shallow
-                (subst (λ (f : Field). RefersTo schemas f.kind u) (sym c.index-own-0.is) again)))
+    let has = only_from schemas next c.get.result.now c.fields_of-own.result.now c.index-own-0.result c.get.ensures c.fields_of-own.ensures c.if-own-ne1.false c.index-own-0.is in (
+      omega arith,
+      (
+        c.requires.indexed,
+        λ u again. shallower schemas c.args.depth next 0 u c.index-own-0.result (only_is_field schemas next c.index-own-0.result has) deep shallow
+            (subst (λ (f : Field). RefersTo schemas f.kind u) (sym c.index-own-0.is) again),
+      ),
+    )
 
 pub returns : goal.returns
 returns t c =

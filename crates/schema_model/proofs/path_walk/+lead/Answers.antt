@@ -1,5 +1,4 @@
-use Rattle.std.proofs.Common.{◌≡◌, ◌∙◌, sym, ap, refl, arith, length, subst, Some, None, Option, ℕ, List, ◌≤◌, ◌<◌, ◌∷◌, [], get_or}
-use Rattle.std.specs.Prelude.{MatchOption}
+use Rattle.std.proofs.Common.{◌≡◌, ◌∙◌, sym, ap, arith, length, subst, List, ◌≤◌, ◌<◌, ◌∷◌, []}
 use Rattle.schema_model.specs.Checked.{TellsWay}
 use Rattle.schema_model.specs.Path.{GoesOn, Leads, RefersTo, path_names}
 use Rattle.schema_model.specs.declared.schema.Field.{Field}
@@ -20,7 +19,7 @@ returns-in_default t c =
     let schemas = c.args.schemas.now in
     let behind = behind_first c.cut.result.1 (λ rest. path_names rest.now) c.cut.result.0.now (path_names c.args.text.now) c.cut.ensures.names in
     λ way leads. no_lead_name schemas c.args.t c.get.result.now c.fields_of-own.result.now c.cut.result.0.now behind.0 c.get.ensures c.fields_of-own.ensures c.in_default.ensures way
-        (subst (λ names. Leads schemas c.args.t names way) behind.1 leads)
+    (subst (λ names. Leads schemas c.args.t names way) behind.1 leads)
 
 pub returns-in_default-rest : goal.returns-in_default-rest
 returns-in_default-rest t c =
@@ -44,8 +43,8 @@ returns-in_default-referred t c =
     let (next, names, some) = some_name c.in-Some-rest.rest.now in
     let all : path_names c.args.text.now ≡ name ∷ next ∷ names = names_rest c.cut.result.1 (λ rest. path_names rest.now) name (path_names c.args.text.now) c.in-Some-rest.rest c.in-Some-rest.is c.cut.ensures.names ∙ ap (λ ns. name ∷ ns) some in
     λ way leads. no_lead_on schemas c.args.t c.in-Some.place item name next names c.requires.1.1.1.1.1.0 has.0 has.1
-        (λ u refers. c.in_default-referred.ensures u (subst (λ (f : Field). RefersTo schemas f.kind u) c.index-own-place.is refers)) way
-        (subst (λ ns. Leads schemas c.args.t ns way) all leads)
+    (λ u refers. c.in_default-referred.ensures u (subst (λ (f : Field). RefersTo schemas f.kind u) c.index-own-place.is refers)) way
+    (subst (λ ns. Leads schemas c.args.t ns way) all leads)
 
 pub lead-requires : goal.lead-requires
 lead-requires t c =

@@ -1,4 +1,4 @@
-use Rattle.std.proofs.Common.{◌≡◌, sym, ap, ◌∙◌, arith, length, refl, below_more, map, take, ◌++◌, ◌∷◌, []}
+use Rattle.std.proofs.Common.{sym, ap, ◌∙◌, arith, refl, below_more, map, take, ◌++◌, ◌∷◌, []}
 use Rattle.std.specs.BTreeMap.{get_by_text}
 use Rattle.schema_model.specs.Model.{references}
 use Rattle.schema_model.specs.declared.rule.Rule.TheVariants.{UnknownType}
@@ -14,12 +14,13 @@ pub loop-t-preserved : goal.loop-t-preserved
 loop-t-preserved c =
     let schemas = c.args.schemas.now in
     let schema = c.get.result.now in
-    let known = known_row schemas (get_by_text c.args.places.now) schema c.in-Some.row c.requires.indexed (sym c.in-Some.is ∙ c.in_ok-row.ensures) in
-    (below_more _ _ c.loop-t.invariant.0 (names_known schemas c.loop-t.t schema c.get.ensures known.0),
-        c.in_ok-push-in-Some.ensures.items
-        ∙ ap (λ rows. rows ++ c.in-Some.row ∷ []) c.loop-t.invariant.1
-        ∙ ap (λ row. map (references schemas) (take c.loop-t.t schemas) ++ row ∷ []) known.1
-        ∙ sym (rows_more (references schemas) schemas c.loop-t.t schema c.get.ensures))
+    let known = known_row schemas (get_by_text c.args.places.now) schema c.in-Some.row c.requires.indexed (sym c.in-Some.is ∙ c.in_ok-row.ensures) in (
+      below_more _ _ c.loop-t.invariant.0 (names_known schemas c.loop-t.t schema c.get.ensures known.0),
+      c.in_ok-push-in-Some.ensures.items
+          ∙ ap (λ rows. rows ++ c.in-Some.row ∷ []) c.loop-t.invariant.1
+          ∙ ap (λ row. map (references schemas) (take c.loop-t.t schemas) ++ row ∷ []) known.1
+          ∙ sym (rows_more (references schemas) schemas c.loop-t.t schema c.get.ensures),
+    )
 
 pub returns-clause-tells : goal.returns-clause-tells
 returns-clause-tells c = kept_below c.args.schemas.now UnknownType c.loop-t.t (omega arith) c.loop-t.invariant.0

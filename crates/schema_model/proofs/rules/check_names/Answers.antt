@@ -1,4 +1,4 @@
-use Rattle.std.proofs.Common.{◌≡◌, false, below_more, arith}
+use Rattle.std.proofs.Common.{below_more, arith}
 use Rattle.schema_model.specs.declared.rule.Rule.TheVariants.{DuplicateName}
 use Rattle.schema_model.proofs.RuleTests.{kept_below, told_no}
 use Rattle.schema_model.proofs.rules.check_names.Goals as goal

@@ -1,4 +1,4 @@
-use Rattle.std.proofs.Common.{◌≡◌, ◌∙◌, sym, ap, false, true, arith, subst, ◌≤◌, ◌<◌, length, List, [], get_or}
+use Rattle.std.proofs.Common.{◌≡◌, ◌∙◌, sym, subst, ◌≤◌, ◌<◌, length, List, [], get_or}
 use Rattle.std.proofs.lemmas.List.{length-map}
 use Rattle.std.proofs.lemmas.Result.{IfOk-weaker}
 use Rattle.schema_model.specs.Model.{StandsEarlier}
@@ -18,10 +18,10 @@ returns c =
     let schemas = c.args.schemas.now in
     let schema = c.get-schema.result.now in
     let name : get_or (type_names schemas) c.args.t [] ≡ c.text.result.now =
-        item_name (λ s. s.name) schemas c.args.t schema c.get-schema.ensures ∙ sym c.text.ensures in
+    item_name (λ s. s.name) schemas c.args.t schema c.get-schema.ensures ∙ sym c.text.ensures in
     let inside : c.args.t < length (type_names schemas) = rw (length-map schemas (λ s. s.name)) c.requires.inside in
     let first : StandsEarlier (type_names schemas) c.args.t → ⊥ =
-        told_no _ (c.stands_earlier.ensures (type_names schemas) c.requires.indexed inside name) c.if-stands_earlier.false in
+    told_no _ (c.stands_earlier.ensures (type_names schemas) c.requires.indexed inside name) c.if-stands_earlier.false in
     IfOk-weaker c.has_repeated_field.result _ _
     (λ b tells. repeated_name schemas c.args.t schema c.get-schema.ensures first c.fields_of.result.now c.fields_of.ensures b tells)
     c.has_repeated_field.ensures

@@ -1,4 +1,4 @@
-use Rattle.std.proofs.Common.{◌≡◌, ◌∙◌, sym, ap, subst, arith, length, ◌≤◌, List}
+use Rattle.std.proofs.Common.{sym, subst, length, ◌≤◌, List}
 use Rattle.schema_model.specs.Model.{IsModel}
 use Rattle.schema_model.specs.declared.rule.Rule.TheVariants.{TooMany}
 use Rattle.schema_model.specs.declared.schema.Schema.{Schema}

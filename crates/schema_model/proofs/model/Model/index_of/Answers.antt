@@ -1,4 +1,4 @@
-use Rattle.std.proofs.Common.{◌≡◌, ◌∙◌, sym, ap, subst, Some, None, ℕ, List, Option}
+use Rattle.std.proofs.Common.{◌≡◌, ◌∙◌, sym, subst, Some, None, ℕ, List, Option}
 use Rattle.std.specs.Prelude.{◌↔◌, Contains, slice_get}
 use Rattle.schema_model.specs.Model.{IsModel}
 use Rattle.schema_model.specs.Parts.{type_index, type_names}
