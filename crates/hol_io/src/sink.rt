@@ -19,7 +19,8 @@ pub trait Sink {
     // The bytes that were taken so far, where the sink tells them.
     ghost taken: { Self → Option (List ℕ) };
 
-    /// Takes bytes from the front of `piece`, and gives their number, which is at least 1.
+    /// Takes bytes from the front of `piece`, which is not empty, and gives their number, which is
+    /// at least 1: a sink that can take nothing fails.
     /// `WriteFailed` comes only where the count of faults rose, and then nothing was taken.
     fn write(&mut self, piece: &[u8]) -> Result<usize, WriteFailed>
         requires { 0 < length piece.now }

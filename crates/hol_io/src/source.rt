@@ -19,7 +19,7 @@ pub trait Source {
     // The bytes that are left to give, where the source tells them.
     ghost left: { Self → Option (List ℕ) };
 
-    /// Places bytes at the front of `buf`, and gives their number. 0 comes only at the end of the
+    /// Places bytes at the front of `buf`, which is not empty, and gives their number. 0 comes only at the end of the
     /// bytes. `ReadFailed` comes only where the count of faults rose, and takes nothing.
     fn read(&mut self, buf: &mut [u8]) -> Result<usize, ReadFailed>
         requires { 0 < length buf.old }

@@ -44,10 +44,7 @@ impl SureStore {
     fn content(&self, name: &BlobName) -> Option<&[u8]>
         ensures { option_copied result ≡ map.get self.now name.now }
     {
-        match self.entries.get(name) {
-            Some(bytes) => Some(bytes.as_slice()),
-            None => None,
-        }
+        self.entries.get(name).map(|bytes| bytes.as_slice())
     }
 }
 
@@ -71,7 +68,8 @@ impl BlobStore for SureStore {
 
     fn read_at(&mut self, name: &BlobName, at: u64, buf: &mut [u8]) -> Result<usize, StoreFailed>
         ensures count { result ≡ Ok (min (length buf.old) (length (content self.old name.now) - at)) }
-        ensures placed { IfOk result (λ count. take count buf.new ≡ take count (drop at (content self.old name.now))) }
+        ensures placed { IfOk result
+            (λ count. take count buf.new ≡ take count (drop at (content self.old name.now))) }
         ensures rest { KeepsRest buf.old buf.new result }
         ensures kept { self.new ≡ self.old }
     {

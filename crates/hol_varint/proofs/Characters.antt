@@ -1,11 +1,11 @@
 -- The characters of a text, its UTF-16 units, and back.
-use Rattle.std.proofs.Common.{◌≡◌, inl, inr, ℕ, ◌+◌, ◌-◌, ◌*◌, ◌/◌, ◌%◌, ◌^◌, ◌<◌, ◌≤◌, Bool, true, false, not, List, [], ◌∷◌, ◌++◌, length, map, Option, Some, None, Result, Ok, Err, is_err, is_some, refl, sym, ◌∙◌, ap, subst, arith, rules}
+use Rattle.std.proofs.Common.{◌≡◌, inl, inr, ℕ, ◌+◌, ◌-◌, ◌*◌, ◌/◌, ◌%◌, ◌^◌, ◌<◌, true, false, not, List, [], ◌∷◌, ◌++◌, map, Some, Result, Ok, Err, is_err, is_some, refl, sym, ◌∙◌, ap, subst, arith}
 use Rattle.std.specs.Prelude.{IfOk, IfSome, IsSomeAnd, IsNone, ◌↔◌}
 use Rattle.std.specs.Option.{unwrap_or}
 use Rattle.std.specs.Result.{result_ok}
-use Rattle.std.specs.List.{All, flat_map, list_any}
+use Rattle.std.specs.List.{flat_map, list_any}
 use Rattle.std.specs.Char.Escape.{encode_utf16}
-use Rattle.std.specs.Char.Utf16.{utf16_chars, utf16_lossy_chars, has_unpaired_surrogate, surrogate_pair_char, lone_unit_char}
+use Rattle.std.specs.Char.Utf16.{utf16_chars, utf16_lossy_chars, has_unpaired_surrogate}
 use Rattle.std.specs.Str.{IsUtf8, chars, all_scalars, encode_utf8_all}
 use Rattle.std.specs.String.{string_bytes, IsUtf16Of}
 use Rattle.std.specs.declared.string.String.{String}
@@ -23,33 +23,33 @@ utf16_chars-units (c ∷ cs) all =
     let parts = and_parts _ _ all in
     let rest = utf16_chars-units cs parts.1 in
     elim (scalar_cases c parts.0) [
-      inl low ↦ (let fits : c < 0x1_0000 = omega arith in
-        ap (λ us. utf16_chars (us ++ flat_map encode_utf16 cs)) (one_unit c fits)
-        ∙ utf16_chars_lone c (flat_map encode_utf16 cs) (λ pair. omega arith)
-        ∙ ap (λ o. o ∷ utf16_chars (flat_map encode_utf16 cs)) (lone_unit_char_low c low) ∙ ap (λ os. Some c ∷ os) rest)
-    | inr high ↦ elim (cases_lt c 0x1_0000) [
-        inl fits ↦ (let from = high.0 in
+      | inl low ↦ (let fits : c < 0x1_0000 = omega arith in
           ap (λ us. utf16_chars (us ++ flat_map encode_utf16 cs)) (one_unit c fits)
           ∙ utf16_chars_lone c (flat_map encode_utf16 cs) (λ pair. omega arith)
-          ∙ ap (λ o. o ∷ utf16_chars (flat_map encode_utf16 cs)) (lone_unit_char_high c from) ∙ ap (λ os. Some c ∷ os) rest)
-      | inr over ↦ (let below = high.1 in
-          let u_is : 0x1_0000 + ((0xD800 + (c - 0x1_0000) / 0x400) - 0xD800) * 0x400 + ((0xDC00 + (c - 0x1_0000) % 0x400) - 0xDC00) ≡ c = omega arith in
-          let pair : IsPair (0xD800 + (c - 0x1_0000) / 0x400) (0xDC00 + (c - 0x1_0000) % 0x400) = (omega arith, omega arith, omega arith, omega arith) in
-          ap (λ us. utf16_chars (us ++ flat_map encode_utf16 cs)) (two_units c over)
-          ∙ utf16_chars_pair (0xD800 + (c - 0x1_0000) / 0x400) (0xDC00 + (c - 0x1_0000) % 0x400) (flat_map encode_utf16 cs) pair
-          ∙ ap (λ d. Some d ∷ utf16_chars (flat_map encode_utf16 cs)) u_is ∙ ap (λ os. Some c ∷ os) rest)
+          ∙ ap (λ o. o ∷ utf16_chars (flat_map encode_utf16 cs)) (lone_unit_char_low c low) ∙ ap (λ os. Some c ∷ os) rest)
+      | inr high ↦ elim (cases_lt c 0x1_0000) [
+        | inl fits ↦ (let from = high.0 in
+            ap (λ us. utf16_chars (us ++ flat_map encode_utf16 cs)) (one_unit c fits)
+            ∙ utf16_chars_lone c (flat_map encode_utf16 cs) (λ pair. omega arith)
+            ∙ ap (λ o. o ∷ utf16_chars (flat_map encode_utf16 cs)) (lone_unit_char_high c from) ∙ ap (λ os. Some c ∷ os) rest)
+        | inr over ↦ (let below = high.1 in
+            let u_is : 0x1_0000 + ((0xD800 + (c - 0x1_0000) / 0x400) - 0xD800) * 0x400 + ((0xDC00 + (c - 0x1_0000) % 0x400) - 0xDC00) ≡ c = omega arith in
+            let pair : IsPair (0xD800 + (c - 0x1_0000) / 0x400) (0xDC00 + (c - 0x1_0000) % 0x400) = (omega arith, omega arith, omega arith, omega arith) in
+            ap (λ us. utf16_chars (us ++ flat_map encode_utf16 cs)) (two_units c over)
+            ∙ utf16_chars_pair (0xD800 + (c - 0x1_0000) / 0x400) (0xDC00 + (c - 0x1_0000) % 0x400) (flat_map encode_utf16 cs) pair
+            ∙ ap (λ d. Some d ∷ utf16_chars (flat_map encode_utf16 cs)) u_is ∙ ap (λ os. Some c ∷ os) rest)
       ]
     ]
 
 -- each character has one or two units
 character-are : (c : ℕ) → scalar c ≡ true → AreUnits (encode_utf16 c)
 character-are c is = elim (cases_lt c 0x1_0000) [
-    inl fits ↦ subst AreUnits (sym (one_unit c fits)) (All-cons (λ unit. unit < 2 ^ 16) c [] fits (All-nil (λ unit. unit < 2 ^ 16)))
+  | inl fits ↦ subst AreUnits (sym (one_unit c fits)) (All-cons (λ unit. unit < 2 ^ 16) c [] fits (All-nil (λ unit. unit < 2 ^ 16)))
   | inr over ↦ (let below : c < 0x11_0000 = elim (scalar_cases c is) [ inl low ↦ omega arith | inr high ↦ high.1 ] in
       subst AreUnits (sym (two_units c over))
       (All-cons (λ unit. unit < 2 ^ 16) (0xD800 + (c - 0x1_0000) / 0x400) ((0xDC00 + (c - 0x1_0000) % 0x400) ∷ []) (omega arith)
       (All-cons (λ unit. unit < 2 ^ 16) (0xDC00 + (c - 0x1_0000) % 0x400) [] (omega arith) (All-nil (λ unit. unit < 2 ^ 16)))))
-  ]
+]
 
 units-are : (cs : List ℕ) → all_scalars cs ≡ true → AreUnits (flat_map encode_utf16 cs)
 units-are [] all = All-nil (λ unit. unit < 2 ^ 16)

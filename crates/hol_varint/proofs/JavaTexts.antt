@@ -1,7 +1,8 @@
 -- Java UTF texts, unit by unit, and what stands at a place as a text.
 use Rattle.std.proofs.Common.{◌≡◌, ℕ, suc, ◌+◌, ◌-◌, ◌*◌, ◌/◌, ◌%◌, ◌^◌, ◌<◌, ◌≤◌, List, [], ◌∷◌, ◌++◌, length, take, drop, set, get_or, Some, None, Result, Ok, Err, inl, inr, refl, sym, ◌∙◌, ap, subst, arith, append_assoc}
-use Rattle.std.proofs.lemmas.List.{take_rest, drop-drop, drop_more, get_or-drop, length-drop, length-append, length-take-le, take_at, drop_at, set_at, append_cancel_left, take-append-drop}
-use Rattle.hol_varint.specs.JavaUtf.{unit_bytes, java_bytes, utf_bytes, text_length, UtfStandsAt, UtfEndsInside, IsBadUtf, IsFreeUtf, TellsUtf, TellsUnit, AreJavaBytes}
+use Rattle.std.proofs.lemmas.List.{take_rest, drop-drop, drop_more, length-drop, length-append, length-take-le, take_at, drop_at, set_at, append_cancel_left, take-append-drop}
+use Rattle.hol_varint.specs.JavaUtf.{unit_bytes, java_bytes, utf_bytes, text_length, UtfStandsAt, UtfEndsInside, IsBadUtf, IsFreeUtf, TellsUtf, AreJavaBytes}
+use Rattle.hol_varint.specs.JavaBytes.{TellsUnit}
 use Rattle.hol_varint.specs.TextUnits.{AreUnits}
 use Rattle.hol_varint.specs.Yields.{Yields}
 use Rattle.hol_varint.specs.declared.fault.UtfFault.{UtfFault}
@@ -48,7 +49,7 @@ module _ (bytes : List ℕ) (at : ℕ) where
           are = are.0;
           fits = omega (arith, size, len_is);
           spelled = opened ∙ ap (λ n. n ∷ get_or bytes (at + 1) 0 ∷ take len (drop (at + 2) bytes)) first ∙ ap (λ n. length (java_bytes units) / 256 ∷ n ∷ take len (drop (at + 2) bytes)) second
-            ∙ ap (λ bs. length (java_bytes units) / 256 ∷ length (java_bytes units) % 256 ∷ bs) text;
+              ∙ ap (λ bs. length (java_bytes units) / 256 ∷ length (java_bytes units) % 256 ∷ bs) text;
         }
 
 -- the length is written into its place once the text stands behind it
@@ -92,13 +93,13 @@ module _ (bytes : List ℕ) (at : ℕ) (units : List ℕ) (next : ℕ) (stands :
       let within = stands.within in
       sym (length-take-le (next - at) (drop at bytes) (omega (arith, length-drop at bytes))) ∙ ap length stands.spelled
 
-  pub utf_stands_inside : UtfEndsInside (drop at bytes) → ⊥
+  utf_stands_inside : UtfEndsInside (drop at bytes) → ⊥
   utf_stands_inside inside = omega (arith, inside, front_within (drop at bytes) units _ begins_there)
 
-  pub utf_stands_bad : IsBadUtf (drop at bytes) → ⊥
+  utf_stands_bad : IsBadUtf (drop at bytes) → ⊥
   utf_stands_bad bad = bad.other units (stands.are, front_text (drop at bytes) units _ begins_there)
 
-pub utf_stands_once : (bytes : List ℕ) (at : ℕ) (us vs : List ℕ) (j k : ℕ) → UtfStandsAt bytes at us j → UtfStandsAt bytes at vs k → (us ≡ vs) × (j ≡ k)
+utf_stands_once : (bytes : List ℕ) (at : ℕ) (us vs : List ℕ) (j k : ℕ) → UtfStandsAt bytes at us j → UtfStandsAt bytes at vs k → (us ≡ vs) × (j ≡ k)
 utf_stands_once bytes at us vs j k p q =
     let same = utf_once us vs _ _ p.are q.are (sym (begins_there bytes at us j p) ∙ begins_there bytes at vs k q) in
     let counts = next_is bytes at us j p ∙ ap (λ ws. length (utf_bytes ws)) same ∙ sym (next_is bytes at vs k q) in
@@ -111,9 +112,10 @@ utf_inside_bad rest inside bad = let whole = bad.whole in omega arith
 
 module _ (bytes : List ℕ) (at : ℕ) where
   pub found : (r : Result (List ℕ × ℕ) UtfFault) → TellsUtf bytes at r → (units : List ℕ) (next : ℕ) → Yields IsFreeUtf r (Ok (units, next)) (UtfStandsAt bytes at units next)
-  found (Ok (us, j)) tells units next =
-      (λ e. let pair : (us, j) ≡ (units, next) = cc in subst (λ (r : List ℕ × ℕ). UtfStandsAt bytes at r.0 r.1) pair tells,
-        λ stands. let same = utf_stands_once bytes at us units j next tells stands in let us_is = same.0 in let j_is = same.1 in inl cc)
+  found (Ok (us, j)) tells units next = (
+    λ e. let pair : (us, j) ≡ (units, next) = cc in subst (λ (r : List ℕ × ℕ). UtfStandsAt bytes at r.0 r.1) pair tells,
+    λ stands. let same = utf_stands_once bytes at us units j next tells stands in let us_is = same.0 in let j_is = same.1 in inl cc,
+  )
   found (Err Short) tells units next = (λ e. absurd cc, λ stands. absurd (utf_stands_inside bytes at units next stands tells))
   found (Err BadName) tells units next = (λ e. absurd cc, λ stands. absurd (utf_stands_bad bytes at units next stands tells))
   found (Err Memory) tells units next = (λ e. absurd cc, λ stands. inr tt)
@@ -139,7 +141,7 @@ utf_stands_begins bytes at units next stands =
 pub utf_stands_between : (before behind units : List ℕ) → AreUnits units → length (java_bytes units) < 2 ^ 16 → UtfStandsAt (before ++ utf_bytes units ++ behind) (length before) units (length (before ++ utf_bytes units))
 utf_stands_between before behind units are fits =
     let begins : drop (length before) (before ++ utf_bytes units ++ behind) ≡ utf_bytes units ++ behind =
-      ap (drop (length before)) (append_assoc before (utf_bytes units) behind) ∙ drop_at before (utf_bytes units ++ behind) (length before) refl in
+    ap (drop (length before)) (append_assoc before (utf_bytes units) behind) ∙ drop_at before (utf_bytes units ++ behind) (length before) refl in
     let count : length (before ++ utf_bytes units) - length before ≡ length (utf_bytes units) = omega (arith, length-append before (utf_bytes units)) in
     record {
       from = omega (arith, length-append before (utf_bytes units));

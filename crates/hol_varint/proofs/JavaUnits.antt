@@ -1,15 +1,16 @@
 -- The bytes of one UTF-16 unit in a Java UTF text.
-use Rattle.std.proofs.Common.{◌≡◌, ◌⊎◌, inl, inr, ℕ, ◌+◌, ◌-◌, ◌*◌, ◌/◌, ◌%◌, ◌^◌, ◌<◌, ◌≤◌, Bool, true, false, cond, ◌&&◌, ltb, List, [], ◌∷◌, ◌++◌, length, take, drop, get_or, Some, refl, sym, ◌∙◌, ap, subst, arith}
+use Rattle.std.proofs.Common.{◌≡◌, ◌⊎◌, inl, inr, ℕ, ◌+◌, ◌-◌, ◌*◌, ◌/◌, ◌%◌, ◌<◌, ◌≤◌, List, [], ◌∷◌, ◌++◌, length, drop, get_or, Some, refl, sym, ◌∙◌, ap, subst, arith}
 use Rattle.std.proofs.lemmas.Bool.{lt-ltb, le-ltb, cases_lt, cases_eq}
-use Rattle.std.proofs.lemmas.List.{append_cancel_left}
+use Rattle.std.proofs.lemmas.List.{append_cancel_left, length-append}
 use Rattle.hol_varint.proofs.Runs.{IsCode}
-use Rattle.hol_varint.specs.JavaUtf.{unit_bytes, BeginsWithUnit, TellsUnit}
+use Rattle.hol_varint.specs.JavaUtf.{unit_bytes, java_bytes}
+use Rattle.hol_varint.specs.JavaBytes.{BeginsWithUnit, TellsUnit}
 
 pub bytes_one : (unit : ℕ) → 0 < unit → unit < 0x80 → unit_bytes unit ≡ unit ∷ []
 unfolding unit_bytes
 bytes_one unit some small = rw (lt-ltb 0 unit some, lt-ltb unit 0x80 small) refl
 
-pub bytes_two : (unit : ℕ) → (unit ≡ 0) ⊎ (0x80 ≤ unit) → unit < 0x800 → unit_bytes unit ≡ (0xC0 + unit / 64) ∷ (0x80 + unit % 64) ∷ []
+bytes_two : (unit : ℕ) → (unit ≡ 0) ⊎ (0x80 ≤ unit) → unit < 0x800 → unit_bytes unit ≡ (0xC0 + unit / 64) ∷ (0x80 + unit % 64) ∷ []
 unfolding unit_bytes
 bytes_two unit (inl none) small = subst (λ u. unit_bytes u ≡ (0xC0 + u / 64) ∷ (0x80 + u % 64) ∷ []) (sym none) refl
 bytes_two unit (inr low) small =
@@ -64,15 +65,15 @@ module _ (bytes : List ℕ) (unit : ℕ) (behind : List ℕ) (begins : BeginsWit
   -- where the bytes begin with a unit, its bytes stand at the first places
   pub places : OneByte bytes unit ⊎ (TwoBytes bytes unit ⊎ ThreeBytes bytes unit)
   places = elim (cases_lt unit 0x800) [
-      inr low ↦ inr (inr (in_three low))
+    | inr low ↦ inr (inr (in_three low))
     | inl small ↦ elim (cases_eq unit 0) [
-        inl none ↦ inr (inl (in_two (inl none) small))
+      | inl none ↦ inr (inl (in_two (inl none) small))
       | inr some ↦ elim (cases_lt unit 0x80) [
-          inr low ↦ inr (inl (in_two (inr low) small))
+        | inr low ↦ inr (inl (in_two (inr low) small))
         | inl least ↦ inl (in_one (omega (arith, some)) least)
-        ]
       ]
     ]
+  ]
 
 -- no unit stands where the bytes at the first places are those of none
 pub refused : (bytes : List ℕ) → ((unit : ℕ) → OneByte bytes unit → ⊥) → ((unit : ℕ) → TwoBytes bytes unit → ⊥) → ((unit : ℕ) → ThreeBytes bytes unit → ⊥) → (unit : ℕ) (behind : List ℕ) → BeginsWithUnit bytes unit behind → ⊥
@@ -106,29 +107,34 @@ three_bytes (b ∷ c ∷ d ∷ bs) unit middle bits low high second small third 
 -- no unit's bytes begin those of another one
 unit_once : (bytes : List ℕ) (u v : ℕ) (x y : List ℕ) → BeginsWithUnit bytes u x → BeginsWithUnit bytes v y → u ≡ v
 unit_once bytes u v x y p q = elim (places bytes u x p) [
-    inl m ↦ elim (places bytes v y q) [ inl n ↦ omega arith | inr k ↦ elim k [ inl n ↦ absurd (omega arith) | inr n ↦ absurd (omega arith) ] ]
+  | inl m ↦ elim (places bytes v y q) [ inl n ↦ omega arith | inr k ↦ elim k [ inl n ↦ absurd (omega arith) | inr n ↦ absurd (omega arith) ] ]
   | inr l ↦ elim l [
-      inl m ↦ elim (places bytes v y q) [ inl n ↦ absurd (omega arith) | inr k ↦ elim k [ inl n ↦ omega arith | inr n ↦ absurd (omega arith) ] ]
+    | inl m ↦ elim (places bytes v y q) [ inl n ↦ absurd (omega arith) | inr k ↦ elim k [ inl n ↦ omega arith | inr n ↦ absurd (omega arith) ] ]
     | inr m ↦ elim (places bytes v y q) [ inl n ↦ absurd (omega arith) | inr k ↦ elim k [ inl n ↦ absurd (omega arith) | inr n ↦ omega arith ] ]
-    ]
   ]
+]
 
-unit_some : (unit : ℕ) → 0 < length (unit_bytes unit)
-unit_some unit = elim (cases_lt unit 0x800) [
-    inr low ↦ rw (bytes_three unit low) (omega arith)
+-- a unit takes one byte, two or three
+unit_size : (unit : ℕ) → (0 < length (unit_bytes unit)) × (length (unit_bytes unit) ≤ 3)
+unit_size unit = elim (cases_lt unit 0x800) [
+  | inr low ↦ rw (bytes_three unit low) (omega arith, omega arith)
   | inl small ↦ elim (cases_eq unit 0) [
-      inl none ↦ rw (bytes_two unit (inl none) small) (omega arith)
+    | inl none ↦ rw (bytes_null unit none) (omega arith, omega arith)
     | inr some ↦ elim (cases_lt unit 0x80) [
-        inr low ↦ rw (bytes_two unit (inr low) small) (omega arith)
-      | inl least ↦ rw (bytes_one unit (omega (arith, some)) least) (omega arith)
-      ]
+      | inr low ↦ rw (bytes_middle unit low small) (omega arith, omega arith)
+      | inl least ↦ rw (bytes_one unit (omega (arith, some)) least) (omega arith, omega arith)
     ]
   ]
+]
+
+pub java_size : (units : List ℕ) → length (java_bytes units) ≤ 3 * length units
+java_size [] = omega arith
+java_size (u ∷ us) = let rest = java_size us in omega (arith, length-append (unit_bytes u) (java_bytes us), (unit_size u).1)
 
 pub java_code : IsCode unit_bytes
 java_code = record {
-  some = unit_some;
+  some = λ unit. (unit_size unit).0;
   once = λ u v x y small below same.
-    (let u_is_v = unit_once (unit_bytes u ++ x) u v x y (record { is = small; spelled = refl }) (record { is = below; spelled = same }) in
-    (u_is_v, append_cancel_left (unit_bytes u) x y (same ∙ ap (λ unit. unit_bytes unit ++ y) (sym u_is_v))));
+      (let u_is_v = unit_once (unit_bytes u ++ x) u v x y (record { is = small; spelled = refl }) (record { is = below; spelled = same }) in
+      (u_is_v, append_cancel_left (unit_bytes u) x y (same ∙ ap (λ unit. unit_bytes unit ++ y) (sym u_is_v))));
 }

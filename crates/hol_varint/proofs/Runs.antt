@@ -1,9 +1,13 @@
 -- Bytes that are one code of a unit after another, read from their front.
-use Rattle.std.proofs.Common.{◌≡◌, ℕ, ◌+◌, ◌-◌, ◌^◌, ◌<◌, ◌≤◌, List, [], ◌∷◌, ◌++◌, length, take, drop, get_or, refl, sym, ◌∙◌, ap, subst, arith, append_assoc, append-nil}
-use Rattle.std.specs.List.{All, flat_map}
-use Rattle.std.proofs.lemmas.List.{drop-drop, drop_all, length-drop, length-append, flat_map_more}
-use Rattle.std.proofs.lemmas.List.Elements.{All-nil, All-cons, All-head, All-tail, All-push}
+use Rattle.std.proofs.Common.{◌≡◌, ℕ, ◌^◌, ◌<◌, ◌≤◌, List, [], ◌∷◌, ◌++◌, length, drop, get_or, refl, sym, ◌∙◌, ap, arith, append_assoc}
+use Rattle.std.specs.List.{flat_map}
+use Rattle.std.proofs.lemmas.List.{get_or_default, length-drop, length-append, flat_map_more}
+use Rattle.std.proofs.lemmas.List.Elements.{All-head, All-tail, All-push}
 use Rattle.hol_varint.specs.TextUnits.{AreUnits}
+
+-- numbers that fit in 16 bits, by place, are units
+pub are_units : (units : List ℕ) → ((i : ℕ) → get_or units i 0 < 2 ^ 16) → AreUnits units
+are_units units fits = λ k d within. rw (get_or_default units k d 0 within) (fits k)
 
 -- no code begins another one, and none is empty
 pub record IsCode (code : ℕ → List ℕ) : Type 0 where
@@ -20,9 +24,6 @@ pub record ReadSoFar (code : ℕ → List ℕ) (bytes : List ℕ) (place : ℕ) 
   pub are : AreUnits units
   pub spelled : bytes ≡ flat_map code units ++ drop place bytes
   pub only : (all : List ℕ) → AreCodes code bytes all → (more : List ℕ) × AreCodes code (drop place bytes) more
-
-pub read_none : (code : ℕ → List ℕ) (bytes : List ℕ) → ReadSoFar code bytes 0 []
-read_none code bytes = record { within = omega arith; are = All-nil (λ unit. unit < 2 ^ 16); spelled = refl; only = λ all are. (all, are) }
 
 module _ (code : ℕ → List ℕ) (is : IsCode code) where
   pub codes_once : (xs ys : List ℕ) → AreUnits xs → AreUnits ys → flat_map code xs ≡ flat_map code ys → xs ≡ ys
@@ -44,12 +45,12 @@ module _ (code : ℕ → List ℕ) (is : IsCode code) where
 
   pub read_more : (bytes : List ℕ) (place : ℕ) (units : List ℕ) (unit next : ℕ) → ReadSoFar code bytes place units → place < length bytes → next ≤ length bytes → unit < 2 ^ 16 → drop place bytes ≡ code unit ++ drop next bytes → ReadSoFar code bytes next (units ++ unit ∷ [])
   read_more bytes place units unit next so_far inside within small begins = record {
-      within = within;
-      are = All-push (λ unit. unit < 2 ^ 16) units unit so_far.are small;
-      spelled = so_far.spelled ∙ ap (λ bs. flat_map code units ++ bs) begins ∙ sym (append_assoc (flat_map code units) (code unit) (drop next bytes))
+    within = within;
+    are = All-push (λ unit. unit < 2 ^ 16) units unit so_far.are small;
+    spelled = so_far.spelled ∙ ap (λ bs. flat_map code units ++ bs) begins ∙ sym (append_assoc (flat_map code units) (code unit) (drop next bytes))
         ∙ ap (λ bs. bs ++ drop next bytes) (flat_map_more code [] units unit);
-      only = λ all are. (let more = so_far.only all are in after_code (drop place bytes) unit (drop next bytes) more.0 (omega (arith, length-drop place bytes)) small begins more.1);
-    }
+    only = λ all are. (let more = so_far.only all are in after_code (drop place bytes) unit (drop next bytes) more.0 (omega (arith, length-drop place bytes)) small begins more.1);
+  }
 
 -- no code begins the bytes, and there are some, so they are no codes
 none_from_front : (code : ℕ → List ℕ) (bytes more : List ℕ) → 0 < length bytes → ((unit : ℕ) (behind : List ℕ) → unit < 2 ^ 16 → bytes ≡ code unit ++ behind → ⊥) → AreCodes code bytes more → ⊥
@@ -61,6 +62,3 @@ pub read_refused : (code : ℕ → List ℕ) (bytes : List ℕ) (place : ℕ) (u
 read_refused code bytes place units so_far inside none all are =
     let more = so_far.only all are in
     none_from_front code (drop place bytes) more.0 (omega (arith, length-drop place bytes)) none more.1
-
-pub read_whole : (code : ℕ → List ℕ) (bytes : List ℕ) (place : ℕ) (units : List ℕ) → ReadSoFar code bytes place units → length bytes ≤ place → AreCodes code bytes units
-read_whole code bytes place units so_far past = (so_far.are, so_far.spelled ∙ ap (λ bs. flat_map code units ++ bs) (drop_all place bytes past) ∙ append-nil (flat_map code units))

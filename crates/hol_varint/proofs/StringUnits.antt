@@ -1,5 +1,5 @@
 -- The bytes of a STRING, unit by unit.
-use Rattle.std.proofs.Common.{◌≡◌, ℕ, ◌+◌, ◌^◌, ◌<◌, ◌≤◌, List, ◌++◌, length, drop, Result, Ok, Err, inl, inr, sym, ◌∙◌, ap, subst, arith}
+use Rattle.std.proofs.Common.{◌≡◌, ℕ, ◌^◌, ◌<◌, ◌≤◌, List, ◌++◌, length, drop, Result, Ok, Err, inl, inr, sym, ◌∙◌, ap, subst, arith}
 use Rattle.hol_varint.specs.Varint.{varint_bytes, VintStandsAt}
 use Rattle.hol_varint.specs.TextUnits.{AreUnitsIn, IsFreeUnits, TellsUnits}
 use Rattle.hol_varint.specs.Yields.{Yields}
@@ -17,8 +17,9 @@ unit_over bytes place number next within stands over unit behind small begins =
     omega arith
 
 pub found_units : (bytes : List ℕ) (r : Result (List ℕ) UnitsFault) → TellsUnits bytes r → (units : List ℕ) → Yields IsFreeUnits r (Ok units) (AreUnitsIn bytes units)
-found_units bytes (Ok us) tells units =
-    (λ e. let us_is : us ≡ units = cc in subst (AreUnitsIn bytes) us_is tells,
-      λ are. inl (ap Ok (codes_once varint_bytes varint_code us units tells.0 are.0 (sym tells.1 ∙ are.1))))
+found_units bytes (Ok us) tells units = (
+  λ e. let us_is : us ≡ units = cc in subst (AreUnitsIn bytes) us_is tells,
+  λ are. inl (ap Ok (codes_once varint_bytes varint_code us units tells.0 are.0 (sym tells.1 ∙ are.1))),
+)
 found_units bytes (Err BadText) tells units = (λ e. absurd cc, λ are. absurd (tells units are))
 found_units bytes (Err Memory) tells units = (λ e. absurd cc, λ are. inr tt)

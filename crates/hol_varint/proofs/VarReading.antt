@@ -1,7 +1,7 @@
 -- A number of variable length, byte by byte from its front.
 use Rattle.std.proofs.Common.{◌≡◌, ◌≢◌, ℕ, ◌+◌, ◌-◌, ◌*◌, ◌^◌, ◌<◌, ◌≤◌, List, [], ◌∷◌, ◌++◌, length, take, drop, get_or, refl, sym, ◌∙◌, ap, subst, arith}
-use Rattle.std.proofs.lemmas.List.{take_more, take_rest, take-append-drop, get_or-take, get_or-drop, length-drop}
-use Rattle.hol_varint.specs.Varint.{SpellsOn, IsVarint, VarStandsBelow, GoOn, VarEndsInside, IsLongVar}
+use Rattle.std.proofs.lemmas.List.{take_more, take-append-drop, get_or-take, get_or-drop, length-drop}
+use Rattle.hol_varint.specs.Varint.{SpellsOn, IsVarint, VarStandsBelow, GoOn, IsLongVar}
 
 -- the number that bytes which go on make, behind the groups of high
 abbrev pub grouped : ℕ → List ℕ → ℕ
@@ -19,15 +19,15 @@ pub record InFront (bytes : List ℕ) (at place number : ℕ) : Type 0 where
   pub on : GoOn (take (place - at) (drop at bytes))
   pub capped : Capped (grouped 0 (take (place - at) (drop at bytes))) number
 
-pub GoOn-push : (bs : List ℕ) (b : ℕ) → GoOn bs → 128 ≤ b → b < 256 → GoOn (bs ++ b ∷ [])
+GoOn-push : (bs : List ℕ) (b : ℕ) → GoOn bs → 128 ≤ b → b < 256 → GoOn (bs ++ b ∷ [])
 GoOn-push [] b on low small = (low, small, tt)
 GoOn-push (c ∷ cs) b on low small = (on.0, on.1, GoOn-push cs b on.2 low small)
 
-pub grouped-push : (high : ℕ) (bs : List ℕ) (b : ℕ) → grouped high (bs ++ b ∷ []) ≡ grouped high bs * 128 + (b - 128)
+grouped-push : (high : ℕ) (bs : List ℕ) (b : ℕ) → grouped high (bs ++ b ∷ []) ≡ grouped high bs * 128 + (b - 128)
 grouped-push high [] b = refl
 grouped-push high (c ∷ cs) b = grouped-push (high * 128 + (c - 128)) cs b
 
-pub spells-push : (high : ℕ) (bs : List ℕ) (b : ℕ) → GoOn bs → b < 128 → SpellsOn high (bs ++ b ∷ []) (grouped high bs * 128 + b)
+spells-push : (high : ℕ) (bs : List ℕ) (b : ℕ) → GoOn bs → b < 128 → SpellsOn high (bs ++ b ∷ []) (grouped high bs * 128 + b)
 spells-push high [] b on last = (last, refl)
 spells-push high (c ∷ []) b on last = (on.0, on.1, spells-push (high * 128 + (c - 128)) [] b tt last)
 spells-push high (c ∷ d ∷ ds) b on last = (on.0, on.1, spells-push (high * 128 + (c - 128)) (d ∷ ds) b on.2 last)
@@ -39,11 +39,6 @@ front_more bytes at place from within =
     let place_is : at + (place - at) ≡ place = omega arith in
     let inside : place - at < length (drop at bytes) = omega (arith, length-drop at bytes) in
     rw count (take_more (drop at bytes) (place - at) 0 inside ∙ ap (λ b. take (place - at) (drop at bytes) ++ b ∷ []) (get_or-drop at bytes (place - at) 0 ∙ ap (λ n. get_or bytes n 0) place_is))
-
-pub in_front_none : (bytes : List ℕ) (at : ℕ) → InFront bytes at at 0
-in_front_none bytes at =
-    let none : at - at ≡ 0 = omega arith in
-    record { from = omega arith; on = rw none tt; capped = rw none (record { exact = λ _. refl; large = λ h. absurd (omega (arith, h)) }) }
 
 capped_more : (high number byte : ℕ) → Capped high number → number < 2 ^ 57 → Capped (high * 128 + byte) (number * 128 + byte)
 capped_more high number byte capped room = let same = capped.exact room in record { exact = λ _. omega arith; large = λ h. omega (arith, h) }
@@ -101,13 +96,4 @@ long_ended bytes at place number front within last first full =
       begins = sym (take-append-drop (place + 1 - at) (drop at bytes));
       spelled = ended bytes at place number front within last first;
       over = omega arith;
-    }
-
-pub inside_ended : (bytes : List ℕ) (at place number : ℕ) → InFront bytes at place number → length bytes ≤ place → place ≤ length bytes → get_or bytes at 0 ≢ 128 → VarEndsInside (drop at bytes)
-inside_ended bytes at place number front past end first =
-    let from = front.from in
-    let all : place - at ≡ length bytes - at = omega arith in
-    record {
-      on = subst GoOn (ap (λ n. take n (drop at bytes)) all ∙ take_rest bytes at) front.on;
-      first = rw (get_or-drop at bytes 0 0) (subst (λ n. get_or bytes n 0 ≢ 128) (omega arith) first);
     }

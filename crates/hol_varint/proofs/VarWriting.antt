@@ -72,11 +72,11 @@ pub varint_is : (n : ℕ) → IsVarint (varint_bytes n) n
 unfolding varint_bytes high_bytes
 varint_is n = record {
   groups = subst (SpellsOn 0 (varint_bytes n)) (ap (λ high. high * 128 + n % 128) (number_digits_of 128 (n / 128) (omega arith)) ∙ omega arith)
-    (spells_groups 0 (digits_of 128 (n / 128)) (n % 128) (all_below_base_digits_of 128 (n / 128) (omega arith)) (omega arith));
+      (spells_groups 0 (digits_of 128 (n / 128)) (n % 128) (all_below_base_digits_of 128 (n / 128) (omega arith)) (omega arith));
   first = elim (cases_eq (n / 128) 0) [
-      inl none ↦ subst (λ h. get_or (map (λ group. group + 128) (digits_of 128 h) ++ n % 128 ∷ []) 0 0 ≢ 128) (sym none) (λ e. omega arith)
+    | inl none ↦ subst (λ h. get_or (map (λ group. group + 128) (digits_of 128 h) ++ n % 128 ∷ []) 0 0 ≢ 128) (sym none) (λ e. omega arith)
     | inr some ↦ front_group (digits_of 128 (n / 128)) (n % 128) (first_digits_of 128 (n / 128) (omega arith) (omega (arith, some)))
-    ];
+  ];
 }
 
 -- whatever spells a number is that spelling
@@ -107,8 +107,8 @@ pub varint_code : IsCode varint_bytes
 varint_code = record {
   some = varint_some;
   once = λ u v x y small below same.
-    (let one = varint_once _ _ x y u v (varint_is u) (varint_is v) same in
-    (one.1, append_cancel_left (varint_bytes u) x y (same ∙ ap (λ n. varint_bytes n ++ y) (sym one.1))));
+      (let one = varint_once _ _ x y u v (varint_is u) (varint_is v) same in
+      (one.1, append_cancel_left (varint_bytes u) x y (same ∙ ap (λ n. varint_bytes n ++ y) (sym one.1))));
 }
 
 -- a number stands at a place where the bytes go on with its spelling
@@ -116,7 +116,7 @@ pub begins_stands : (limit : ℕ) (bytes : List ℕ) (at number : ℕ) (behind :
 begins_stands limit bytes at number behind within begins below =
     let count : at + length (varint_bytes number) - at ≡ length (varint_bytes number) = omega arith in
     let bytes_are : take (at + length (varint_bytes number) - at) (drop at bytes) ≡ varint_bytes number =
-      ap (λ n. take n (drop at bytes)) count ∙ ap (take (length (varint_bytes number))) begins ∙ take_at (varint_bytes number) behind (length (varint_bytes number)) refl in
+    ap (λ n. take n (drop at bytes)) count ∙ ap (take (length (varint_bytes number))) begins ∙ take_at (varint_bytes number) behind (length (varint_bytes number)) refl in
     record {
       from = omega arith;
       within = omega (arith, ap length begins, length-append (varint_bytes number) behind, length-drop at bytes);
@@ -135,8 +135,8 @@ stands_begins limit bytes at number next stands =
 pub stands_between : (limit : ℕ) (before behind : List ℕ) (number : ℕ) → number < limit → VarStandsBelow limit (before ++ varint_bytes number ++ behind) (length before) number (length (before ++ varint_bytes number))
 stands_between limit before behind number below =
     let begins : drop (length before) (before ++ varint_bytes number ++ behind) ≡ varint_bytes number ++ behind =
-      ap (drop (length before)) (append_assoc before (varint_bytes number) behind) ∙ drop_at before (varint_bytes number ++ behind) (length before) refl in
+    ap (drop (length before)) (append_assoc before (varint_bytes number) behind) ∙ drop_at before (varint_bytes number ++ behind) (length before) refl in
     let within : length before ≤ length (before ++ varint_bytes number ++ behind) =
-      omega (arith, length-append (before ++ varint_bytes number) behind, length-append before (varint_bytes number)) in
+    omega (arith, length-append (before ++ varint_bytes number) behind, length-append before (varint_bytes number)) in
     subst (VarStandsBelow limit (before ++ varint_bytes number ++ behind) (length before) number) (sym (length-append before (varint_bytes number)))
     (begins_stands limit (before ++ varint_bytes number ++ behind) (length before) number behind within begins below)

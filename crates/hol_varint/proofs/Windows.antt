@@ -1,7 +1,7 @@
 -- What stands in a part of the bytes, a window of them, stands there in all of them.
-use Rattle.std.proofs.Common.{◌≡◌, inl, inr, ℕ, ◌+◌, ◌-◌, ◌*◌, ◌^◌, ◌<◌, ◌≤◌, List, [], ◌∷◌, ◌++◌, length, take, drop, get_or, refl, sym, ◌∙◌, ap, subst, arith, append_assoc}
+use Rattle.std.proofs.Common.{◌≡◌, inl, inr, ℕ, ◌+◌, ◌-◌, ◌<◌, ◌≤◌, List, [], ◌∷◌, ◌++◌, length, take, drop, get_or, sym, ◌∙◌, ap, subst, arith, append_assoc}
 use Rattle.std.proofs.lemmas.Bool.{cases_lt}
-use Rattle.std.proofs.lemmas.List.{get_or-take, get_or_past, length-take, length-take-le, length-drop, take-take, take-append-drop, drop-take}
+use Rattle.std.proofs.lemmas.List.{get_or-take, get_or_past, length-take, length-drop, take-take, take-append-drop, drop-take}
 use Rattle.hol_varint.specs.Varint.{SpellsOn, IsVarint, VarStandsBelow, IsNullVar, IsLongVar}
 use Rattle.hol_varint.specs.JavaUtf.{UtfStandsAt, IsBadUtf, utf_bytes, text_length}
 
@@ -50,9 +50,9 @@ module _ (window bytes : List ℕ) (at len : ℕ) (is : window ≡ take len (dro
 
 null_front : (rest : List ℕ) (len : ℕ) → IsNullVar (take len rest) → IsNullVar rest
 null_front rest len null = elim (cases_lt 0 len) [
-    inl some ↦ sym (get_or-take len rest 0 0 some) ∙ null
+  | inl some ↦ sym (get_or-take len rest 0 0 some) ∙ null
   | inr none ↦ absurd (omega (arith, null, get_or_past (take len rest) 0 0 (omega (arith, length-take len rest))))
-  ]
+]
 
 long_front : (limit : ℕ) (rest : List ℕ) (len : ℕ) → IsLongVar limit (take len rest) → IsLongVar limit rest
 long_front limit rest len long = record {
@@ -74,8 +74,8 @@ bad_front rest len bad =
     let inside : text_length rest ≤ len - 2 = omega (arith, length-take len rest, size) in
     let len_is : 2 + (len - 2) ≡ len = omega arith in
     let text : take (text_length (take len rest)) (drop 2 (take len rest)) ≡ take (text_length rest) (drop 2 rest) =
-      ap (λ n. take n (drop 2 (take len rest))) size
-      ∙ ap (λ n. take (text_length rest) (drop 2 (take n rest))) (sym len_is) ∙ ap (take (text_length rest)) (drop-take 2 (len - 2) rest) ∙ take-take (text_length rest) (len - 2) (drop 2 rest) inside in
+    ap (λ n. take n (drop 2 (take len rest))) size
+    ∙ ap (λ n. take (text_length rest) (drop 2 (take n rest))) (sym len_is) ∙ ap (take (text_length rest)) (drop-take 2 (len - 2) rest) ∙ take-take (text_length rest) (len - 2) (drop 2 rest) inside in
     record {
       whole = omega (arith, length-take len rest, size);
       other = λ units are. bad.other units (are.0, text ∙ are.1);

@@ -1,5 +1,5 @@
 -- The Java UTF texts of a blob: a length of two bytes, and one to three bytes for each UTF-16 unit.
-use Rattle.std.specs.Prelude.{◌≡◌, ◌⊎◌, ℕ, ◌+◌, ◌-◌, ◌*◌, ◌/◌, ◌%◌, ◌^◌, ◌<◌, ◌≤◌, ◌&&◌, nat_lt, if◌then◌else◌, List, [], ◌∷◌, ◌++◌, length, take, drop, slice_index, Option, Some, None, Result, Ok, Err}
+use Rattle.std.specs.Prelude.{◌≡◌, ℕ, ◌+◌, ◌-◌, ◌*◌, ◌/◌, ◌%◌, ◌^◌, ◌<◌, ◌≤◌, ◌&&◌, nat_lt, if◌then◌else◌, List, [], ◌∷◌, length, take, drop, slice_index, Result, Ok, Err}
 use Rattle.std.specs.List.{flat_map}
 use Rattle.hol_varint.specs.declared.fault.UtfFault.{UtfFault}
 use Rattle.hol_varint.specs.declared.fault.UtfFault.TheVariants.{Short, BadName, Memory}
@@ -11,11 +11,6 @@ unit_bytes unit =
     if nat_lt 0 unit && nat_lt unit 0x80 then unit ∷ []
     else if nat_lt unit 0x800 then (0xC0 + unit / 64) ∷ (0x80 + unit % 64) ∷ []
     else (0xE0 + unit / 4096) ∷ (0x80 + unit / 64 % 64) ∷ (0x80 + unit % 64) ∷ []
-
--- The bytes begin with those of the unit, and go on with `behind`.
-pub record BeginsWithUnit (bytes : List ℕ) (unit : ℕ) (behind : List ℕ) : Type 0 where
-  pub is : unit < 2 ^ 16
-  pub spelled : bytes ≡ unit_bytes unit ++ behind
 
 -- The bytes of a text without its length.
 abbrev pub java_bytes : List ℕ → List ℕ
@@ -62,20 +57,3 @@ TellsUtf bytes at (Ok r) = UtfStandsAt bytes at r.0 r.1
 TellsUtf bytes at (Err Short) = UtfEndsInside (drop at bytes)
 TellsUtf bytes at (Err BadName) = IsBadUtf (drop at bytes)
 TellsUtf bytes at (Err Memory) = Unit {0}
-
--- The same of all the bytes of a text, without its length.
-abbrev pub TellsJavaBytes : List ℕ → Result (List ℕ) UtfFault → Type 0
-TellsJavaBytes bytes (Ok units) = AreJavaBytes bytes units
-TellsJavaBytes bytes (Err Short) = ⊥
-TellsJavaBytes bytes (Err BadName) = (units : List ℕ) → AreJavaBytes bytes units → ⊥
-TellsJavaBytes bytes (Err Memory) = Unit {0}
-
--- The same of a unit and the number of its bytes, from the front of the bytes.
-abbrev pub TellsUnit : List ℕ → Option (ℕ × ℕ) → Type 0
-TellsUnit bytes (Some r) = (0 < r.1) × (r.1 ≤ length bytes) × BeginsWithUnit bytes r.0 (drop r.1 bytes)
-TellsUnit bytes None = (unit : ℕ) (behind : List ℕ) → BeginsWithUnit bytes unit behind → ⊥
-
--- A byte behind a unit's first one stands at the place, with these low 6 bits.
-abbrev pub TellsLowBits : List ℕ → ℕ → Option ℕ → Type 0
-TellsLowBits bytes place (Some bits) = (slice_index bytes place ≡ 0x80 + bits) × (bits < 64)
-TellsLowBits bytes place None = (slice_index bytes place < 0x80) ⊎ (0xC0 ≤ slice_index bytes place)

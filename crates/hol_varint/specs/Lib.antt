@@ -1,3 +1,4 @@
+pub mod JavaBytes
 pub mod JavaUtf
 pub mod TextUnits
 pub mod Varint

@@ -1,6 +1,8 @@
 //! Java UTF texts: a length of two bytes, and one to three bytes for each UTF-16 unit.
 ghost use Rattle.std.specs.Prelude.{◌≡◌, ℕ, List, ◌<◌, ◌≤◌, ◌++◌, ◌^◌, slice_index, length, take, drop, OnOk, OnErr};
-ghost use Rattle.hol_varint.specs.JavaUtf.{unit_bytes, java_bytes, utf_bytes, UtfStandsAt, UtfEndsInside, IsBadUtf, IsFreeUtf, TellsUtf, TellsJavaBytes, TellsUnit, TellsLowBits};
+ghost use Rattle.hol_varint.specs.JavaUtf.{unit_bytes, java_bytes, utf_bytes, UtfStandsAt, UtfEndsInside, IsBadUtf, IsFreeUtf, TellsUtf};
+ghost use Rattle.hol_varint.specs.JavaBytes.{TellsJavaBytes, TellsUnit, TellsLowBits};
+ghost use Rattle.hol_varint.specs.TextUnits.{AreUnits};
 ghost use Rattle.hol_varint.specs.Yields.{Yields};
 
 use crate::fault::UtfFault;
@@ -112,11 +114,13 @@ fn low_bits(bytes: &[u8], place: usize) -> Option<u16>
     }
 }
 
-/// Writes a text at the end, its length in bytes first. Where memory is refused nothing is written.
+/// Writes a text at the end, its length in bytes first. Where memory is refused nothing is written. The text without its
+/// length takes at most 65,535 bytes.
 pub fn put_utf(out: &mut Vec<u8>, units: &Units) -> Result<(), AllocError>
     requires { length (java_bytes units.now) < 2 ^ 16 }
     ensures ok { OnOk result (out.new.items ≡ out.old.items ++ utf_bytes units.now) }
     ensures err { OnErr result (out.new.items ≡ out.old.items) }
+    ensures are { AreUnits units.now }
 {
     let start = out.len();
     let written = push_utf(out, units.as_slice());
@@ -127,10 +131,12 @@ pub fn put_utf(out: &mut Vec<u8>, units: &Units) -> Result<(), AllocError>
 }
 
 // The same, but that a front of the text may stand at the end where memory is refused.
+#[tactic(auto, using(crate::proofs::Runs::are_units))]
 fn push_utf(out: &mut Vec<u8>, units: &[u16]) -> Result<(), AllocError>
     requires { length (java_bytes units.now) < 2 ^ 16 }
     ensures ok { OnOk result (out.new.items ≡ out.old.items ++ utf_bytes units.now) }
     ensures kept { take (length out.old.items) out.new.items ≡ out.old.items }
+    ensures are { AreUnits units.now }
 {
     let start = out.len();
     out.extend_from_slice(&[0, 0])?;

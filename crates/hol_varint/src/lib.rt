@@ -21,3 +21,6 @@ pub use text_units::{get_units, put_units, text_of, units_of};
 pub use units::Units;
 pub use varint::{get_vint, get_vlong, put_vint, put_vlong};
 pub use zigzag::{unzigzag32, unzigzag64, zigzag32, zigzag64};
+
+#[cfg(test)]
+mod tests;

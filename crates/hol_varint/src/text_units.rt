@@ -13,6 +13,7 @@ use std::alloc::{AllocError, Global};
 pub fn put_units(out: &mut Vec<u8>, units: &Units) -> Result<(), AllocError>
     ensures ok { OnOk result (out.new.items ≡ out.old.items ++ units_bytes units.now) }
     ensures err { OnErr result (out.new.items ≡ out.old.items) }
+    ensures are { AreUnits units.now }
 {
     let start = out.len();
     let written = push_units(out, units.as_slice());
@@ -23,9 +24,11 @@ pub fn put_units(out: &mut Vec<u8>, units: &Units) -> Result<(), AllocError>
 }
 
 // The same, but that the first units may stand at the end where memory is refused.
+#[tactic(auto, using(crate::proofs::Runs::are_units))]
 fn push_units(out: &mut Vec<u8>, units: &[u16]) -> Result<(), AllocError>
     ensures ok { OnOk result (out.new.items ≡ out.old.items ++ units_bytes units.now) }
     ensures kept { take (length out.old.items) out.new.items ≡ out.old.items }
+    ensures are { AreUnits units.now }
 {
     for unit in units {
         put_vint(out, u32::from(*unit))?;

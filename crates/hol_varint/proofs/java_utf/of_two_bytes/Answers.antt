@@ -1,4 +1,4 @@
-use Rattle.std.proofs.Common.{◌≡◌, ◌+◌, ◌*◌, inl, inr, refl, arith}
+use Rattle.std.proofs.Common.{inl, inr, arith}
 use Rattle.hol_varint.proofs.JavaUnits.{refused, two_bytes}
 use Rattle.hol_varint.proofs.java_utf.of_two_bytes.Goals as goal
 

@@ -1,4 +1,4 @@
-use Rattle.std.proofs.Common.{◌≡◌, ◌+◌, ◌*◌, get_or, arith, subst}
+use Rattle.std.proofs.Common.{◌+◌, arith}
 use Rattle.hol_varint.proofs.JavaTexts.{utf_found}
 use Rattle.hol_varint.proofs.java_utf.utf.Goals as goal
 

@@ -1,4 +1,3 @@
-use Rattle.std.proofs.Common.{◌≡◌}
 use Rattle.hol_varint.proofs.Characters.{text_some, text_none, text_found}
 use Rattle.hol_varint.proofs.text_units.text_of.Goals as goal
 

@@ -1,4 +1,4 @@
-use Rattle.std.proofs.Common.{◌≡◌, ◌+◌, length, Ok, Err, arith}
+use Rattle.std.proofs.Common.{◌+◌, length, arith}
 use Rattle.hol_varint.proofs.StringUnits.{unit_over}
 use Rattle.hol_varint.specs.Varint.{varint_bytes}
 use Rattle.hol_varint.proofs.VarWriting.{begins_stands}
