@@ -1,3 +1,4 @@
+pub mod Areas
 pub mod Limit
 pub mod Parts
 pub mod PlainTree

@@ -5,7 +5,7 @@ use Rattle.std.specs.FinMap.{FinMap, get}
 use Rattle.schema_model.specs.declared.name.Name.{Name}
 use Rattle.schema_model.specs.declared.schema.Schema.{Schema}
 use Rattle.schema_model.specs.declared.row.Row.{Row}
-use Rattle.schema_model.specs.Schema.{index_of}
+use Rattle.schema_model.specs.Parts.{type_index}
 use Rattle.schema_model.specs.Row.{FitsShape, rows_of_row}
 
 -- the rows of one type, by ordinal
@@ -26,7 +26,7 @@ IsLive table t ordinal = IsSome (row_at table t ordinal)
 
 -- the type of that name has a row under the ordinal
 abbrev pub IsLiveByName : List Schema → Table → Name → ℕ → Type 0
-IsLiveByName schemas table name ordinal = IsSomeAnd (index_of schemas name) (λ t. IsLive table t ordinal)
+IsLiveByName schemas table name ordinal = IsSomeAnd (type_index schemas name) (λ t. IsLive table t ordinal)
 
 -- what holds of each row, with the schema of its type
 abbrev pub EachRow : List Schema → Table → (Schema → Row → Type 0) → Type 0

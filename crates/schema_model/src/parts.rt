@@ -1,5 +1,5 @@
 ghost use Rattle.std.specs.Prelude.{List, ℕ, ◌≡◌, ◌<◌, length, slice_index};
-ghost use Rattle.schema_model.specs.Parts.{area_of};
+ghost use Rattle.schema_model.specs.Areas.{area_of};
 
 use crate::Packed;
 

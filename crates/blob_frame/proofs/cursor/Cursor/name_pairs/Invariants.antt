@@ -1,0 +1,8 @@
+use Rattle.blob_frame.specs.Header.{name_pair}
+use Rattle.blob_frame.specs.Scene.{scene}
+use Rattle.blob_frame.proofs.Counting.{Counts}
+use Rattle.blob_frame.proofs.cursor.Cursor.name_pairs.Given as goal
+
+abbrev pub invariant-loop-item : goal.invariant-loop-item
+invariant-loop-item g l = Counts name_pair l.count l._item (scene (g.S.BlobStore.held l.initial.store) (g.S.BlobStore.faults l.initial.store) l.initial.self)
+    (scene (g.S.BlobStore.held l.store) (g.S.BlobStore.faults l.store) l.self) l.list

@@ -1,0 +1,16 @@
+use Rattle.std.proofs.Common.{arith, rules, ap, ◌≤◌, ◌+◌, ℕ, List, length, Err}
+use Rattle.std.proofs.lemmas.Grind.{common_steps}
+use Rattle.blob_frame.proofs.Runs.{gathers_more, gathers_done, reads_cut}
+use Rattle.blob_frame.proofs.cursor.Cursor.run.Goals as goal
+
+pub returns-then-left-count : goal.returns-then-left-count
+returns-then-left-count g c = record { reads = reads_cut c.args.count c.requires.over (omega (arith, c.left.ensures)) (ap Err c.bad.ensures) }
+
+pub loop-self-preserved : goal.loop-self-preserved
+loop-self-preserved g c =
+    let here : c.min-piece.result ≤ length c.want.new.self.ahead = omega (arith, ap (λ (xs : List ℕ). length xs) c.ahead.ensures.value) in
+    let fits : length c.loop-self.bytes.items + c.min-piece.result ≤ c.args.count = omega arith in
+    gathers_more c.min-piece.result c.loop-self.invariant c.in_ok-want.ensures.fills here fits c.pass.ensures.moved (grind (arith, common_steps))
+
+pub returns : goal.returns
+returns g c = record { reads = gathers_done c.loop-self.invariant (omega arith) (omega (arith, c.left.ensures)) c.requires.over c.from_vec.ensures }

@@ -1,0 +1,15 @@
+use Rattle.std.proofs.Common.{arith, ap, Err, refl}
+use Rattle.blob_frame.proofs.Chain.{reads_unread}
+use Rattle.blob_frame.proofs.Runs.{reads_cut, reads_skipped}
+use Rattle.blob_frame.specs.Item.{skipped}
+use Rattle.blob_frame.proofs.cursor.Cursor.skip.Goals as goal
+
+pub returns-then-left-count : goal.returns-then-left-count
+unfolding skipped
+returns-then-left-count c = record { reads = λ held faults over. reads_unread _ _ (reads_cut c.args.count over (omega (arith, c.left.ensures)) refl) (ap Err c.bad.ensures) }
+
+pub returns : goal.returns
+returns c = record {
+  reads = λ held faults over. reads_skipped c.args.count held faults c.args.self.now c.jump.new.self over (omega (arith, c.left.ensures))
+      c.jump.ensures.same.0 c.jump.ensures.same.1 c.jump.ensures.at (c.jump.ensures.over _ over);
+}

@@ -1,0 +1,57 @@
+-- Parts of a blob: where one stands, with which value and up to which place, and where reading it is stuck, and for
+-- which reason. The whole syntax of a blob is made of its items by the few words below.
+use Rattle.std.specs.Prelude.{◌≡◌, ◌≤◌, ◌<◌, ◌⊎◌, ℕ, zero, suc, List, [], ◌∷◌}
+use Rattle.schema_model.specs.declared.reason.Reason.{Reason}
+use Rattle.schema_model.specs.declared.reason.Reason.TheVariants.{BadSchema}
+
+-- What may stand at a place of a blob's bytes.
+pub record Form (V : Type 0) : Type 1 where
+  -- in these bytes, from this place on, it stands with this value, up to that place
+  pub Stands : List ℕ → ℕ → V → ℕ → Type 0
+  -- in these bytes, from this place on, the item at that place cannot be read, for this reason
+  pub Stuck : List ℕ → ℕ → ℕ → Reason → Type 0
+
+-- First a, and then, behind it, what its value calls for.
+infixl 10 ◌>>=◌
+unfoldable pub ◌>>=◌ : {A B : Type 0} → Form A → (A → Form B) → Form B
+◌>>=◌ {A} {B} a b = record {
+  Stands = λ bytes at v next. (x : A) × (mid : ℕ) × a.Stands bytes at x mid × (b x).Stands bytes mid v next;
+  Stuck = λ bytes at place why. a.Stuck bytes at place why
+      ⊎ ((x : A) × (mid : ℕ) × a.Stands bytes at x mid × (b x).Stuck bytes mid place why);
+}
+
+-- No bytes, and this value.
+unfoldable pub nothing : {A : Type 0} → A → Form A
+nothing v = record {
+  Stands = λ bytes at w next. (w ≡ v) × (next ≡ at);
+  Stuck = λ bytes at place why. ⊥;
+}
+
+-- The value that the value of a means. A value of a that means none is refused at its own place.
+unfoldable pub judged : {A B : Type 0} → Form A → (A → B → Type 0) → (A → Reason → Type 0) → Form B
+judged {A} a Means IsRefused = record {
+  Stands = λ bytes at v next. (x : A) × a.Stands bytes at x next × Means x v;
+  Stuck = λ bytes at place why. a.Stuck bytes at place why
+      ⊎ ((x : A) × (next : ℕ) × a.Stands bytes at x next × (place ≡ at) × IsRefused x why);
+}
+
+-- A count of at most this many; one above it is no schema.
+unfoldable pub at_most : Form ℕ → ℕ → Form ℕ
+at_most a most = judged a (λ n m. (m ≡ n) × (n ≤ most)) (λ n why. (most < n) × (why ≡ BadSchema))
+
+-- As many of a, one behind the other.
+unfoldable pub repeated : {A : Type 0} → ℕ → Form A → Form (List A)
+repeated zero a = nothing []
+repeated (suc n) a = do
+  x ← a
+  xs ← repeated n a
+  nothing (x ∷ xs)
+
+-- At each place it stands with one value at most and is stuck once at most, and never both.
+pub record IsDecided {V : Type 0} (form : Form V) : Type 0 where
+  pub one : (bytes : List ℕ) (at : ℕ) (v w : V) (next end : ℕ) →
+      form.Stands bytes at v next → form.Stands bytes at w end → (v ≡ w) × (next ≡ end)
+  pub once : (bytes : List ℕ) (at place other : ℕ) (why because : Reason) →
+      form.Stuck bytes at place why → form.Stuck bytes at other because → (place ≡ other) × (why ≡ because)
+  pub apart : (bytes : List ℕ) (at : ℕ) (v : V) (next place : ℕ) (why : Reason) →
+      form.Stands bytes at v next → form.Stuck bytes at place why → ⊥

@@ -1,0 +1,64 @@
+-- The header of a blob: the format, the tags of the state before and of this state, the schemas, and pairs of texts.
+use Rattle.std.specs.Prelude.{◌≡◌, ◌≢◌, ℕ, zero, suc, ℤ, List, []}
+use Rattle.std.specs.Int.{w16, w32}
+use Rattle.schema_model.specs.declared.reason.Reason.{Reason}
+use Rattle.schema_model.specs.declared.reason.Reason.TheVariants.{OtherFormat}
+use Rattle.schema_model.specs.declared.schema.Schema.{Schema}
+use Rattle.blob_frame.specs.declared.header.Header.{Header}
+use Rattle.blob_frame.specs.Form.{Form, ◌>>=◌, nothing, judged, repeated}
+use Rattle.blob_frame.specs.Item.{fixed, signed, vint, name, skipped}
+use Rattle.blob_frame.specs.SchemaForm.{schemas}
+
+-- The format, which is 1030.
+unfoldable pub format : Form Unit
+format = judged (fixed w32) (λ n u. n ≡ 1030) (λ n why. (n ≢ 1030) × (why ≡ OtherFormat))
+
+-- The listed schemas, and behind them bytes to skip.
+unfoldable pub listed_schemas : Form (List Schema)
+listed_schemas = do
+  listed ← schemas
+  count ← vint
+  _ ← skipped count
+  nothing listed
+
+-- What stands in the schema envelope behind its number: nothing behind 0, else the listed schemas.
+unfoldable pub enveloped_schemas : ℕ → Form (List Schema)
+enveloped_schemas zero = nothing []
+enveloped_schemas (suc n) = listed_schemas
+
+-- The schema envelope.
+unfoldable pub schema_envelope : Form (List Schema)
+schema_envelope = do
+  number ← vint
+  enveloped_schemas number
+
+-- A pair of texts.
+unfoldable pub name_pair : Form (List ℕ × List ℕ)
+name_pair = do
+  key ← name
+  value ← name
+  nothing (key, value)
+
+-- The header tags: their number in 2 bytes, and each pair.
+unfoldable pub header_tags : Form (List (List ℕ × List ℕ))
+header_tags = do
+  count ← fixed w16
+  repeated count name_pair
+
+-- A header.
+unfoldable pub header : Form Header
+header = do
+  _ ← format
+  from_tag ← signed
+  to_tag ← signed
+  listed ← schema_envelope
+  pairs ← header_tags
+  nothing (record { origin = from_tag; destination = to_tag; schemas = listed; tags = pairs })
+
+-- The first n bytes of the blob are this header.
+abbrev pub HeaderIs : List ℕ → ℕ → Header → Type 0
+HeaderIs blob n h = header.Stands blob 0 h n
+
+-- The header of the blob cannot be read past this place, for this reason.
+abbrev pub StuckInHeader : List ℕ → ℕ → Reason → Type 0
+StuckInHeader blob place why = header.Stuck blob 0 place why

@@ -1,0 +1,7 @@
+pub mod Form
+pub mod Item
+pub mod SchemaForm
+pub mod Header
+pub mod Scene
+pub mod Filling
+pub mod Starting

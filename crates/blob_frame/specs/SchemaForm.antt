@@ -1,0 +1,120 @@
+-- The bytes of a schema: its kind, its name, and what its kind calls for.
+use Rattle.std.specs.Prelude.{◌≡◌, ◌<◌, ◌⊎◌, ℕ, List, codes, Option, Some, None}
+use Rattle.std.specs.Int.{w8, w16}
+use Rattle.schema_model.specs.declared.reason.Reason.{Reason}
+use Rattle.schema_model.specs.declared.reason.Reason.TheVariants.{BadSchema, FloatField, KeyedHash}
+use Rattle.schema_model.specs.declared.schema.FieldKind.{FieldKind}
+use Rattle.schema_model.specs.declared.schema.FieldKind.TheVariants.{Reference, Int, Long, Boolean, Text, Bytes}
+use Rattle.schema_model.specs.declared.schema.Field.{Field}
+use Rattle.schema_model.specs.declared.schema.Shape.{Shape}
+use Rattle.schema_model.specs.declared.schema.Shape.TheVariants as shape
+use Rattle.schema_model.specs.declared.schema.Schema.{Schema}
+use Rattle.blob_frame.specs.declared.kind.SchemaKind.{SchemaKind}
+use Rattle.blob_frame.specs.declared.kind.SchemaKind.TheVariants as kind
+use Rattle.blob_frame.specs.declared.kind.FieldType.{FieldType}
+use Rattle.blob_frame.specs.declared.kind.FieldType.TheVariants as type_
+use Rattle.blob_frame.specs.Form.{Form, ◌>>=◌, nothing, judged, at_most, repeated}
+use Rattle.blob_frame.specs.Item.{fixed, vint, name}
+
+-- the byte of a kind
+abbrev pub kind_byte : SchemaKind → ℕ
+kind_byte kind.Object = 0
+kind_byte kind.Set = 1
+kind_byte kind.List = 2
+kind_byte kind.Map = 3
+kind_byte kind.KeyedObject = 6
+
+-- why a byte is no kind: a hash key, or no kind at all
+abbrev pub IsRefusedKind : ℕ → Reason → Type 0
+IsRefusedKind byte why = (((byte ≡ 4) ⊎ (byte ≡ 5)) × (why ≡ KeyedHash)) ⊎ ((6 < byte) × (why ≡ BadSchema))
+
+-- The byte of a schema's kind.
+unfoldable pub schema_kind : Form SchemaKind
+schema_kind = judged (fixed w8) (λ byte k. byte ≡ kind_byte k) IsRefusedKind
+
+-- the text of a field's type
+abbrev pub type_text : FieldType → List ℕ
+type_text type_.Reference = codes "REFERENCE"
+type_text type_.Int = codes "INT"
+type_text type_.Long = codes "LONG"
+type_text type_.Boolean = codes "BOOLEAN"
+type_text type_.Text = codes "STRING"
+type_text type_.Bytes = codes "BYTES"
+
+-- the text of a field type with a fraction
+abbrev pub IsFloatText : List ℕ → Type 0
+IsFloatText text = (text ≡ codes "FLOAT") ⊎ (text ≡ codes "DOUBLE")
+
+-- why a text is no field type: one with a fraction, or none at all
+abbrev pub IsRefusedType : List ℕ → Reason → Type 0
+IsRefusedType text why = (IsFloatText text × (why ≡ FloatField))
+    ⊎ (((t : FieldType) → text ≡ type_text t → ⊥) × (IsFloatText text → ⊥) × (why ≡ BadSchema))
+
+-- The name of a field's type.
+unfoldable pub field_type : Form FieldType
+field_type = judged name (λ text t. text ≡ type_text t) IsRefusedType
+
+-- What a field holds: behind REFERENCE stands the name of the type that it refers to.
+unfoldable pub field_kind_of : FieldType → Form FieldKind
+field_kind_of type_.Reference = do
+  to ← name
+  nothing (Reference to)
+field_kind_of type_.Int = nothing Int
+field_kind_of type_.Long = nothing Long
+field_kind_of type_.Boolean = nothing Boolean
+field_kind_of type_.Text = nothing Text
+field_kind_of type_.Bytes = nothing Bytes
+
+-- A field: its name, its type's name, and what that calls for.
+unfoldable pub field : Form Field
+field = do
+  field_name ← name
+  type_name ← field_type
+  field_kind ← field_kind_of type_name
+  nothing (record { name = field_name; kind = field_kind })
+
+-- The fields of a type: their number in 2 bytes, and each of them.
+unfoldable pub fields : Form (List Field)
+fields = do
+  count ← at_most (fixed w16) 1024
+  repeated count field
+
+-- The key paths of a type: their number, and each of them.
+unfoldable pub key_paths : Form (List (List ℕ))
+key_paths = do
+  count ← vint
+  repeated count name
+
+-- What a kind calls for behind the type's name.
+unfoldable pub shape_of : SchemaKind → Form Shape
+shape_of kind.Object = do
+  all ← fields
+  nothing (shape.Object None all)
+shape_of kind.KeyedObject = do
+  paths ← key_paths
+  all ← fields
+  nothing (shape.Object (Some paths) all)
+shape_of kind.Set = do
+  element ← name
+  nothing (shape.Set element)
+shape_of kind.List = do
+  element ← name
+  nothing (shape.List element)
+shape_of kind.Map = do
+  key ← name
+  value ← name
+  nothing (shape.Map key value)
+
+-- A schema.
+unfoldable pub schema : Form Schema
+schema = do
+  of ← schema_kind
+  schema_name ← name
+  schema_shape ← shape_of of
+  nothing (record { name = schema_name; shape = schema_shape })
+
+-- A list of schemas: their number, which is 512 at most, and each of them.
+unfoldable pub schemas : Form (List Schema)
+schemas = do
+  count ← at_most vint 512
+  repeated count schema

@@ -1,0 +1,14 @@
+use schema_model::{NamePairs, Schemas};
+
+/// What stands in front of a blob's types.
+#[derive(Debug, Drop)]
+pub struct Header {
+    /// The tag of the state that the blob starts from; 0 where there is none.
+    pub origin: i64,
+    /// The tag of the state that it leads to.
+    pub destination: i64,
+    /// The schemas that the header lists; none where its envelope has the number 0.
+    pub schemas: Schemas,
+    /// The header's pairs of texts, in their order.
+    pub tags: NamePairs,
+}

@@ -1,0 +1,130 @@
+ghost use Rattle.std.specs.Prelude.{◌≡◌, ℕ, IfErr, Option};
+ghost use Rattle.std.specs.Int.{w8, w16, w32, w64};
+ghost use Rattle.hol_io.specs.Store.{Store};
+ghost use Rattle.blob_frame.specs.Item.{fixed, signed, run, skipped, end};
+ghost use Rattle.blob_frame.specs.Scene.{IsOver, IsReadFault, Reads, scene};
+
+use crate::cursor::Cursor;
+use crate::fault::BlobFault;
+use hol_io::BlobStore;
+use hol_varint::Octets;
+use schema_model::Reason;
+
+impl Cursor {
+    /// The next byte. `Truncated` where the blob has none.
+    pub fn byte<S: BlobStore>(&mut self, store: &mut S) -> Result<u8, BlobFault>
+        requires over { IsOver (scene (S.held store.old) (S.faults store.old) self.old) }
+        ensures reads { Reads (fixed w8) (scene (S.held store.old) (S.faults store.old) self.old)
+            (scene (S.held store.new) (S.faults store.new) self.new) result }
+        ensures kind { IfErr result IsReadFault }
+    {
+        self.need(store, 1)?;
+        let byte = self.ahead()[0];
+        self.pass(1);
+        Ok(byte)
+    }
+
+    /// The next 2 bytes as a number, the high byte first. `Truncated` where the blob has fewer.
+    pub fn be16<S: BlobStore>(&mut self, store: &mut S) -> Result<u16, BlobFault>
+        requires over { IsOver (scene (S.held store.old) (S.faults store.old) self.old) }
+        ensures reads { Reads (fixed w16) (scene (S.held store.old) (S.faults store.old) self.old)
+            (scene (S.held store.new) (S.faults store.new) self.new) result }
+        ensures kind { IfErr result IsReadFault }
+    {
+        self.need(store, 2)?;
+        let bytes = self.ahead();
+        let number = u16::from_be_bytes([bytes[0], bytes[1]]);
+        self.pass(2);
+        Ok(number)
+    }
+
+    /// The next 4 bytes as a number, the highest byte first. `Truncated` where the blob has fewer.
+    pub fn be32<S: BlobStore>(&mut self, store: &mut S) -> Result<u32, BlobFault>
+        requires over { IsOver (scene (S.held store.old) (S.faults store.old) self.old) }
+        ensures reads { Reads (fixed w32) (scene (S.held store.old) (S.faults store.old) self.old)
+            (scene (S.held store.new) (S.faults store.new) self.new) result }
+        ensures kind { IfErr result IsReadFault }
+    {
+        self.need(store, 4)?;
+        let bytes = self.ahead();
+        let number = u32::from_be_bytes([bytes[0], bytes[1], bytes[2], bytes[3]]);
+        self.pass(4);
+        Ok(number)
+    }
+
+    /// The next 8 bytes as a number, the highest byte first. `Truncated` where the blob has fewer.
+    pub fn be64<S: BlobStore>(&mut self, store: &mut S) -> Result<u64, BlobFault>
+        requires over { IsOver (scene (S.held store.old) (S.faults store.old) self.old) }
+        ensures reads { Reads (fixed w64) (scene (S.held store.old) (S.faults store.old) self.old)
+            (scene (S.held store.new) (S.faults store.new) self.new) result }
+        ensures kind { IfErr result IsReadFault }
+    {
+        self.need(store, 8)?;
+        let bytes = self.ahead();
+        let number = u64::from_be_bytes([
+            bytes[0], bytes[1], bytes[2], bytes[3], bytes[4], bytes[5], bytes[6], bytes[7],
+        ]);
+        self.pass(8);
+        Ok(number)
+    }
+
+    /// The next signed number of 8 bytes.
+    pub(crate) fn signed<S: BlobStore>(&mut self, store: &mut S) -> Result<i64, BlobFault>
+        requires over { IsOver (scene (S.held store.old) (S.faults store.old) self.old) }
+        ensures reads { Reads signed (scene (S.held store.old) (S.faults store.old) self.old)
+            (scene (S.held store.new) (S.faults store.new) self.new) result }
+    {
+        Ok(self.be64(store)?.cast_signed())
+    }
+
+    /// The next run of so many bytes. `Truncated`, at the run's offset, where the blob has fewer. The
+    /// memory that it takes grows with the bytes that are there.
+    pub fn run<S: BlobStore>(&mut self, store: &mut S, count: u64) -> Result<Octets, BlobFault>
+        requires over { IsOver (scene (S.held store.old) (S.faults store.old) self.old) }
+        ensures reads { Reads (run count) (scene (S.held store.old) (S.faults store.old) self.old)
+            (scene (S.held store.new) (S.faults store.new) self.new) result }
+    {
+        let start = self.at();
+        if self.left() < count {
+            return Err(self.bad(Reason::Truncated));
+        }
+        let mut bytes = Vec::new(self.allocator());
+        while (bytes.len() as u64) < count {
+            self.want(store, 1)?;
+            let piece = self.ahead().len().min(count as usize - bytes.len());
+            if piece == 0 {
+                return Err(BlobFault::Bad(start, Reason::Truncated));
+            }
+            bytes.extend_from_slice(&self.ahead()[..piece])?;
+            self.pass(piece);
+        }
+        Ok(Octets::from_vec(bytes))
+    }
+
+    /// Moves past so many bytes and reads none of them. `Truncated`, at their offset, where the blob has fewer.
+    pub fn skip(&mut self, count: u64) -> Result<(), BlobFault>
+        ensures reads { (held : Option Store) (faults : ℕ) → IsOver (scene held faults self.old)
+            → Reads (skipped count) (scene held faults self.old) (scene held faults self.new) result }
+    {
+        if self.left() < count {
+            return Err(self.bad(Reason::Truncated));
+        }
+        self.jump(count);
+        Ok(())
+    }
+
+    /// The end of the blob. `TrailingBytes` where a byte stands there.
+    pub fn end<S: BlobStore>(&mut self, store: &mut S) -> Result<(), BlobFault>
+        requires over { IsOver (scene (S.held store.old) (S.faults store.old) self.old) }
+        ensures reads { Reads end (scene (S.held store.old) (S.faults store.old) self.old)
+            (scene (S.held store.new) (S.faults store.new) self.new) result }
+        ensures kind { IfErr result IsReadFault }
+        ensures untouched { store.new ≡ store.old }
+    {
+        let _ = store;
+        if self.left() > 0 {
+            return Err(self.bad(Reason::TrailingBytes));
+        }
+        Ok(())
+    }
+}

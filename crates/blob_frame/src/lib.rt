@@ -1,0 +1,20 @@
+//! The bytes of a blob, item by item: a cursor over a blob of a store, and its header.
+#![tactic(auto)]
+
+mod cursor;
+mod fault;
+mod header;
+mod items;
+mod kind;
+pub mod laws;
+mod reading;
+mod schema;
+mod texts;
+mod varints;
+
+pub use cursor::Cursor;
+pub use fault::BlobFault;
+pub use header::Header;
+
+#[cfg(test)]
+mod tests;
