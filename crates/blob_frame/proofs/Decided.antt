@@ -3,11 +3,6 @@ use Rattle.std.proofs.Common.{◌≡◌, ◌≢◌, ◌≤◌, ◌<◌, ◌+◌,
 use Rattle.std.specs.Result.{IsErrAnd}
 use Rattle.std.specs.Option.{IfSome}
 use Rattle.std.specs.Int.{Width, w8, w16, w32, w64, byte_len, from_be_bytes, cast_signed}
-use Rattle.hol_varint.specs.Varint.{VarStandsBelow, VarEndsInside, IsNullVar, IsLongVar}
-use Rattle.hol_varint.specs.JavaUtf.{UtfStandsAt, UtfEndsInside, IsBadUtf}
-use Rattle.hol_varint.specs.TextUnits.{IsTextOf}
-use Rattle.hol_varint.proofs.Characters.{text_once}
-use Rattle.hol_varint.proofs.JavaTexts.{utf_stands_once}
 use Rattle.schema_model.specs.declared.reason.Reason.{Reason}
 use Rattle.schema_model.specs.declared.reason.Reason.TheVariants.{BadSchema, KeyedHash, FloatField, OtherFormat, BadVarint, BadName, Truncated}
 use Rattle.blob_frame.specs.declared.fault.BlobFault.{BlobFault}

@@ -1,5 +1,5 @@
 -- Each item of a blob is decided, and so are the schemas and the header that are made of them.
-use Rattle.std.proofs.Common.{◌≡◌, ◌≢◌, ◌≤◌, ◌<◌, ◌+◌, ◌*◌, ◌⊎◌, ℕ, zero, suc, List, get_or, length, take, drop, ◌==◌, if◌then◌else◌, Err, inl, inr, refl, ◌∙◌, subst, sym, ap, arith}
+use Rattle.std.proofs.Common.{◌≡◌, ◌≢◌, ◌≤◌, ◌<◌, ◌+◌, ◌*◌, ◌⊎◌, ℕ, zero, suc, List, get_or, length, take, drop, ◌==◌, if◌then◌else◌, Ok, Err, inl, inr, refl, ◌∙◌, subst, sym, ap, arith}
 use Rattle.std.specs.Int.{Width}
 use Rattle.hol_varint.specs.Varint.{VarStandsBelow, VarEndsInside, IsNullVar, IsLongVar}
 use Rattle.hol_varint.specs.JavaUtf.{UtfStandsAt, UtfEndsInside, IsBadUtf}
@@ -7,7 +7,7 @@ use Rattle.hol_varint.specs.declared.fault.VarFault.TheVariants.{Short}
 use Rattle.hol_varint.proofs.Varints as varints
 use Rattle.hol_varint.proofs.Varints.{stands_once, stands_inside, stands_null, stands_long}
 use Rattle.hol_varint.proofs.Characters.{text_once}
-use Rattle.hol_varint.proofs.JavaTexts.{utf_stands_once, utf_stands_inside, utf_stands_bad}
+use Rattle.hol_varint.proofs.JavaTexts as texts
 use Rattle.schema_model.specs.declared.reason.Reason.{Reason}
 use Rattle.schema_model.specs.declared.reason.Reason.TheVariants.{Truncated, BadName}
 use Rattle.blob_frame.specs.declared.kind.SchemaKind.{SchemaKind}
@@ -83,6 +83,18 @@ decided_varint limit = record {
   apart = λ bytes at v next place why p q. apart_varint limit bytes at v next why p q.0;
 }
 
+utf_once : (bytes : List ℕ) (at : ℕ) (us vs : List ℕ) (j k : ℕ) → UtfStandsAt bytes at us j → UtfStandsAt bytes at vs k → (us ≡ vs) × (j ≡ k)
+utf_once bytes at us vs j k p q = elim ((texts.found bytes at (Ok (us, j)) p vs k).1 q) [
+      | inl e ↦ let same : ◌≡◌ {A = List ℕ × ℕ} (us, j) (vs, k) = cc in (ap (λ (r : List ℕ × ℕ). r.0) same, ap (λ (r : List ℕ × ℕ). r.1) same)
+      | inr free ↦ absurd free
+    ]
+
+utf_inside : (bytes : List ℕ) (at : ℕ) (us : List ℕ) (j : ℕ) → UtfStandsAt bytes at us j → UtfEndsInside (drop at bytes) → ⊥
+utf_inside bytes at us j p inside = elim ((texts.short bytes at (Ok (us, j)) p).1 inside) [ | inl e ↦ absurd (cc) | inr free ↦ free ]
+
+utf_bad : (bytes : List ℕ) (at : ℕ) (us : List ℕ) (j : ℕ) → UtfStandsAt bytes at us j → IsBadUtf (drop at bytes) → ⊥
+utf_bad bytes at us j p bad = elim ((texts.bad bytes at (Ok (us, j)) p).1 bad) [ | inl e ↦ absurd (cc) | inr free ↦ free ]
+
 once_units : (rest : List ℕ) (why because : Reason) → (UtfEndsInside rest × (why ≡ Truncated)) ⊎ (IsBadUtf rest × (why ≡ BadName)) →
     (UtfEndsInside rest × (because ≡ Truncated)) ⊎ (IsBadUtf rest × (because ≡ BadName)) → why ≡ because
 once_units rest why because (inl p) (inl q) = p.1 ∙ sym q.1
@@ -92,13 +104,13 @@ once_units rest why because (inr p) (inr q) = p.1 ∙ sym q.1
 
 apart_units : (bytes : List ℕ) (at : ℕ) (us : List ℕ) (next : ℕ) (why : Reason) → UtfStandsAt bytes at us next →
     (UtfEndsInside (drop at bytes) × (why ≡ Truncated)) ⊎ (IsBadUtf (drop at bytes) × (why ≡ BadName)) → ⊥
-apart_units bytes at us next why p (inl q) = utf_stands_inside bytes at us next p q.0
-apart_units bytes at us next why p (inr q) = utf_stands_bad bytes at us next p q.0
+apart_units bytes at us next why p (inl q) = utf_inside bytes at us next p q.0
+apart_units bytes at us next why p (inr q) = utf_bad bytes at us next p q.0
 
 pub decided_units : IsDecided units
 unfolding units
 decided_units = record {
-  one = λ bytes at v u next end p q. utf_stands_once bytes at v u next end p q;
+  one = λ bytes at v u next end p q. utf_once bytes at v u next end p q;
   once = λ bytes at place other why because p q. (p.0 ∙ sym q.0, once_units (drop at bytes) why because p.1 q.1);
   apart = λ bytes at v next place why p q. apart_units bytes at v next why p q.1;
 }

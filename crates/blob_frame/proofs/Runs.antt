@@ -94,9 +94,9 @@ gathers_done {count} {before} {now} {bytes} {all} p enough fits over is = subst 
       (omega (arith, p.place, p.within)) (omega (arith, p.within)) p.are;
 })
 
-tells_store : {V : Type 0} (form : _) (content : Option (List ℕ)) (at end : ℕ) → Tells {V = V} form content at (Err fault.Store) end
-tells_store form None at end = tt
-tells_store form (Some blob) at end = tt
+tells_store : {V : Type 0} (form : _) (content : Option (List ℕ)) (at last : ℕ) → Tells {V = V} form content at (Err fault.Store) last
+tells_store form None at last = tt
+tells_store form (Some blob) at last = tt
 
 -- the store fails on the way
 pub gathers_fault : {count : ℕ} {before now mid : Scene} {bytes : List ℕ} {e : BlobFault} {r : Result (List ℕ) BlobFault} → Gathers count before now bytes →

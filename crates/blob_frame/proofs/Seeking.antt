@@ -8,7 +8,6 @@ use Rattle.std.proofs.lemmas.List.{drop-drop, take-take, take-append-drop, take_
 use Rattle.std.proofs.lemmas.Grind.{common_steps}
 use Rattle.hol_io.specs.Store.{told}
 use Rattle.hol_varint.specs.Varint.{GoOn, SpellsOn, IsVarint}
-use Rattle.hol_varint.proofs.VarReading.{grouped, GoOn-push, spells-push}
 use Rattle.blob_frame.specs.declared.fault.BlobFault.{BlobFault}
 use Rattle.blob_frame.specs.declared.fault.BlobFault.TheVariants as fault
 use Rattle.blob_frame.specs.Scene.{Place, Scene, scene, moved, Stays, IsOver, IsPlaceIn}
@@ -16,6 +15,16 @@ use Rattle.blob_frame.specs.Filling.{Fills, StopsLater, Seeks, HasAhead}
 use Rattle.blob_frame.proofs.Chain.{told_stays, stays_then, rose_earlier}
 use Rattle.blob_frame.proofs.Fixed.{take_ahead, over_moved, stays_passed}
 use Rattle.blob_frame.proofs.Runs.{stays_here}
+
+-- what the groups of the bytes make, behind those that make high
+abbrev grouped : ℕ → List ℕ → ℕ
+grouped high [] = high
+grouped high (b ∷ bs) = grouped (high * 128 + (b - 128)) bs
+
+spells-push : (high : ℕ) (bs : List ℕ) (b : ℕ) → GoOn bs → b < 128 → SpellsOn high (bs ++ b ∷ []) (grouped high bs * 128 + b)
+spells-push high [] b on last = (last, refl)
+spells-push high (c ∷ []) b on last = (on.0, on.1, spells-push (high * 128 + (c - 128)) [] b tt last)
+spells-push high (c ∷ d ∷ ds) b on last = (on.0, on.1, spells-push (high * 128 + (c - 128)) (d ∷ ds) b on.2 last)
 
 pub GoOn-append : (xs ys : List ℕ) → GoOn xs → GoOn ys → GoOn (xs ++ ys)
 GoOn-append [] ys p q = q
@@ -54,7 +63,7 @@ long_run (a ∷ b ∷ c ∷ d ∷ e ∷ f ∷ g ∷ h ∷ i ∷ j ∷ rest) stop
 -- one byte more that goes on
 pub go_on_more : (bytes : List ℕ) (place : ℕ) → GoOn (take place bytes) → place < length bytes → 128 ≤ get_or bytes place 0 → get_or bytes place 0 < 256 →
     GoOn (take (place + 1) bytes)
-go_on_more bytes place on h low small = rw (take_more bytes place 0 h) (GoOn-push (take place bytes) (get_or bytes place 0) on low small)
+go_on_more bytes place on h low small = rw (take_more bytes place 0 h) (GoOn-append (take place bytes) (get_or bytes place 0 ∷ []) on (low, small, tt))
 
 -- so far each byte goes on
 pub record Seeking (before now : Scene) : Type 0 where

@@ -1,2 +1,12 @@
+pub mod FirstBroken
 pub mod Fronts
+pub mod Indexing
+pub mod JavaSizes
 pub mod KindNames
+pub mod ModelFacts
+pub mod NamedTypes
+pub mod ReferenceChains
+pub mod RuleTests
+pub mod Spellings
+pub mod Ways
+pub mod Worked

@@ -1,6 +1,10 @@
 pub mod Areas
+pub mod Checked
+pub mod Faults
 pub mod Limit
+pub mod Model
 pub mod Parts
+pub mod Path
 pub mod PlainTree
 pub mod Reason
 pub mod Row

@@ -1,6 +1,7 @@
 -- The parts of a schema that rules and paths speak of: its fields, the types that it names, its key paths, and all its texts.
-use Rattle.std.specs.Prelude.{ℕ, List, [], ◌∷◌, Option, Some, None, map}
-use Rattle.std.specs.List.{filter_map, position_from}
+use Rattle.std.specs.Prelude.{ℕ, List, [], ◌∷◌, ◌++◌, Option, Some, None, map}
+use Rattle.std.specs.List.{filter_map, flat_map, position_from}
+use Rattle.std.specs.Option.{option_to_list, unwrap_or}
 use Rattle.std.specs.Str.{bytes_eq}
 use Rattle.schema_model.specs.declared.schema.Field.{Field}
 use Rattle.schema_model.specs.declared.schema.FieldKind.{FieldKind}
@@ -52,6 +53,21 @@ shape_names (Map key value) = key ∷ value ∷ []
 
 abbrev pub named_types : Schema → List (List ℕ)
 named_types schema = shape_names schema.shape
+
+-- the texts of a field: its name, and that of the type that it refers to
+abbrev pub field_texts : Field → List (List ℕ)
+field_texts field = field.name ∷ option_to_list (referenced field.kind)
+
+-- the texts of a shape: its key paths and those of its fields, or the types that it names
+abbrev pub shape_texts : Shape → List (List ℕ)
+shape_texts (Object key fields) = unwrap_or key [] ++ flat_map field_texts fields
+shape_texts (Set element) = element ∷ []
+shape_texts (ListShape element) = element ∷ []
+shape_texts (Map key value) = key ∷ value ∷ []
+
+-- all texts of a schema
+abbrev pub texts_of : Schema → List (List ℕ)
+texts_of schema = schema.name ∷ shape_texts schema.shape
 
 -- the names of all types, in order
 abbrev pub type_names : List Schema → List (List ℕ)

@@ -1,5 +1,5 @@
 -- The schema of a type as the bytes of a blob: a kind, the name, and what the kind asks for. All texts are Java UTF.
-use Rattle.std.specs.Prelude.{List, [], ◌∷◌, ◌++◌, ℕ, ◌/◌, ◌%◌, ◌^◌, ◌<◌, ◌≤◌, Option, None, Some, All, IfSome, codes, flat_map, length}
+use Rattle.std.specs.Prelude.{List, [], ◌∷◌, ◌++◌, ℕ, ◌/◌, ◌%◌, ◌^◌, ◌<◌, ◌≤◌, Option, All, IfSome, codes, flat_map, length}
 use Rattle.std.specs.Option.{option_map_or}
 use Rattle.hol_varint.specs.JavaUtf.{java_bytes, utf_bytes}
 use Rattle.hol_varint.specs.TextUnits.{text_units}
@@ -9,7 +9,7 @@ use Rattle.schema_model.specs.declared.schema.FieldKind.{FieldKind}
 use Rattle.schema_model.specs.declared.schema.Field.{Field}
 use Rattle.schema_model.specs.declared.schema.Shape.{Shape}
 use Rattle.schema_model.specs.declared.schema.Schema.{Schema}
-use Rattle.schema_model.specs.Parts.{fields_of, shape_key}
+use Rattle.schema_model.specs.Parts.{shape_fields, shape_key}
 
 -- a name's Java UTF text
 abbrev pub name_bytes : Name → List ℕ
@@ -59,33 +59,40 @@ shape_bytes (Shape.Map key value) = name_bytes key ++ name_bytes value
 abbrev pub schema_bytes : Schema → List ℕ
 schema_bytes schema = kind_number schema.shape ∷ name_bytes schema.name ++ shape_bytes schema.shape
 
--- a name's Java UTF text has a length of two bytes
+-- each name of a field's kind is such a one
+abbrev pub EachNameOfKind : (Name → Type 0) → FieldKind → Type 0
+EachNameOfKind P (FieldKind.Reference name) = P name
+EachNameOfKind P _ = Unit {0}
+
+pub record EachNameOfField (P : Name → Type 0) (field : Field) : Type 0 where
+  pub name : P field.name
+  pub kind : EachNameOfKind P field.kind
+
+pub record EachNameOfObject (P : Name → Type 0) (key : Option (List Name)) (fields : List Field) : Type 0 where
+  pub paths : IfSome key (All P)
+  pub parts : All (EachNameOfField P) fields
+
+abbrev pub EachNameOfShape : (Name → Type 0) → Shape → Type 0
+EachNameOfShape P (Shape.Object key fields) = EachNameOfObject P key fields
+EachNameOfShape P (Shape.Set element) = P element
+EachNameOfShape P (Shape.List element) = P element
+EachNameOfShape P (Shape.Map key value) = P key × P value
+
+-- each name and key path of a schema is such a one
+pub record EachName (P : Name → Type 0) (schema : Schema) : Type 0 where
+  pub name : P schema.name
+  pub shape : EachNameOfShape P schema.shape
+
+-- a name's Java UTF text has at most 65,535 bytes
 abbrev pub IsShortName : Name → Type 0
 IsShortName name = length (java_bytes (text_units name)) < 2 ^ 16
 
--- the names of a field's parts are short
-abbrev pub IsShortKind : FieldKind → Type 0
-IsShortKind (FieldKind.Reference name) = IsShortName name
-IsShortKind _ = Unit {0}
+-- the numbers of a shape fit the bytes that spell them
+pub record HasFewParts (shape : Shape) : Type 0 where
+  pub fields : length (shape_fields shape) ≤ 1024
+  pub paths : IfSome (shape_key shape) (λ paths. length paths < 2 ^ 32)
 
-pub record IsShortField (field : Field) : Type 0 where
-  pub name : IsShortName field.name
-  pub kind : IsShortKind field.kind
-
--- the names of a shape are short, and its numbers fit their bytes
-pub record IsShortObject (key : Option (List Name)) (fields : List Field) : Type 0 where
-  pub few_paths : IfSome key (λ paths. length paths < 2 ^ 32)
-  pub short_paths : IfSome key (All IsShortName)
-  pub few_fields : length fields ≤ 1024
-  pub short_fields : All IsShortField fields
-
-abbrev pub IsShortShape : Shape → Type 0
-IsShortShape (Shape.Object key fields) = IsShortObject key fields
-IsShortShape (Shape.Set element) = IsShortName element
-IsShortShape (Shape.List element) = IsShortName element
-IsShortShape (Shape.Map key value) = IsShortName key × IsShortName value
-
--- the schema can be spelled: its names and paths are of at most 65,535 bytes, its fields at most 1,024, its paths fewer than 2^32
+-- the schema can be spelled: its names and paths are short, its fields at most 1,024, its paths fewer than 2^32
 pub record IsSpellable (schema : Schema) : Type 0 where
-  pub name : IsShortName schema.name
-  pub shape : IsShortShape schema.shape
+  pub short : EachName IsShortName schema
+  pub few : HasFewParts schema.shape

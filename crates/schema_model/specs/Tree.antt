@@ -2,7 +2,7 @@
 use Rattle.std.specs.Prelude.{List, map}
 use Rattle.schema_model.specs.declared.row.Value.{Value}
 use Rattle.schema_model.specs.declared.tree.Tree.{Tree}
-use Rattle.schema_model.specs.declared.tree.Tree.TheOpen.{Tree-F, Trees-F, TreePairs-F}
+use Rattle.schema_model.specs.declared.tree.Tree.TheOpen.{Tree-F}
 use Rattle.schema_model.specs.declared.tree.Tree.TheFolds.{fold-Tree}
 use Rattle.schema_model.specs.declared.tree.Trees.{Trees}
 use Rattle.schema_model.specs.declared.tree.TreePairs.{TreePairs}

@@ -2,21 +2,32 @@
 #![tactic(auto)]
 
 mod areas;
+mod chains;
+mod faults;
 mod fields;
+mod keys;
+pub mod laws;
+mod lengths;
 mod limit;
+mod model;
 mod name;
+mod name_index;
 mod name_pairs;
 mod names;
 mod packed;
 mod pairs;
 mod parts;
 mod path;
+mod path_walk;
 mod paths;
 mod places;
 mod put;
 mod reason;
+mod references;
 mod row;
+mod rows;
 mod rule;
+mod rules;
 mod schema;
 mod schemas;
 mod tree;
@@ -25,8 +36,10 @@ mod widths;
 mod words;
 
 pub use areas::Areas;
+pub use faults::{ModelFault, PathFault};
 pub use fields::Fields;
 pub use limit::Limit;
+pub use model::{Model, model_of, resolve};
 pub use name::Name;
 pub use name_pairs::NamePairs;
 pub use names::Names;
@@ -39,6 +52,7 @@ pub use places::Places;
 pub use put::put_schema;
 pub use reason::Reason;
 pub use row::{Row, Value};
+pub use rows::Rows;
 pub use rule::Rule;
 pub use schema::{Field, FieldKind, Schema, Shape};
 pub use schemas::Schemas;
@@ -46,3 +60,9 @@ pub use tree::{Tree, TreePairs, Trees};
 pub use values::Values;
 pub use widths::Widths;
 pub use words::Words;
+
+#[cfg(test)]
+mod tests;
+
+#[cfg(test)]
+mod model_tests;

@@ -1,6 +1,6 @@
 ghost use Rattle.std.specs.Prelude.{◌≡◌, ◌<◌, ◌≤◌, ◌^◌, ◌++◌, length, take, All, flat_map, OnOk, OnErr};
 ghost use Rattle.hol_varint.specs.JavaUtf.{utf_bytes};
-ghost use Rattle.schema_model.specs.Schema.{name_bytes, kind_name, target_bytes, field_bytes, paths_bytes, fields_bytes, kind_number as kind_number_of, shape_bytes, schema_bytes, IsShortName, IsShortKind, IsShortField, IsShortShape, IsSpellable};
+ghost use Rattle.schema_model.specs.Schema.{name_bytes, kind_name, target_bytes, field_bytes, paths_bytes, fields_bytes, kind_number as kind_number_of, shape_bytes, schema_bytes, EachNameOfKind, EachNameOfField, EachNameOfShape, IsShortName, HasFewParts, IsSpellable};
 
 use crate::{Field, FieldKind, Fields, Name, Names, Schema, Shape};
 use hol_varint::{put_utf, put_vint, units_of};
@@ -46,7 +46,8 @@ fn kind_number(shape: &Shape) -> u8
 }
 
 fn push_shape(out: &mut Vec<u8>, shape: &Shape) -> Result<(), AllocError>
-    requires { IsShortShape shape.now }
+    requires short { EachNameOfShape IsShortName shape.now }
+    requires few { HasFewParts shape.now }
     ensures ok { OnOk result (out.new.items ≡ out.old.items ++ shape_bytes shape.now) }
     ensures kept { take (length out.old.items) out.new.items ≡ out.old.items }
 {
@@ -82,7 +83,7 @@ fn push_paths(out: &mut Vec<u8>, paths: &Names) -> Result<(), AllocError>
 #[tactic(auto, using(crate::proofs::Fronts::kept_behind))]
 fn push_fields(out: &mut Vec<u8>, fields: &Fields) -> Result<(), AllocError>
     requires few { length fields.now ≤ 1024 }
-    requires short { All IsShortField fields.now }
+    requires short { All (EachNameOfField IsShortName) fields.now }
     ensures ok { OnOk result (out.new.items ≡ out.old.items ++ fields_bytes fields.now) }
     ensures kept { take (length out.old.items) out.new.items ≡ out.old.items }
 {
@@ -95,7 +96,7 @@ fn push_fields(out: &mut Vec<u8>, fields: &Fields) -> Result<(), AllocError>
 }
 
 fn push_field(out: &mut Vec<u8>, field: &Field) -> Result<(), AllocError>
-    requires { IsShortField field.now }
+    requires { EachNameOfField IsShortName field.now }
     ensures ok { OnOk result (out.new.items ≡ out.old.items ++ field_bytes field.now) }
     ensures kept { take (length out.old.items) out.new.items ≡ out.old.items }
 {
@@ -119,7 +120,7 @@ fn kind_text(kind: &FieldKind) -> &'static [u8]
 }
 
 fn push_target(out: &mut Vec<u8>, kind: &FieldKind) -> Result<(), AllocError>
-    requires { IsShortKind kind.now }
+    requires { EachNameOfKind IsShortName kind.now }
     ensures ok { OnOk result (out.new.items ≡ out.old.items ++ target_bytes kind.now) }
     ensures kept { take (length out.old.items) out.new.items ≡ out.old.items }
 {

@@ -1,5 +1,5 @@
 -- The paths before this one are written, behind what stood there.
-use Rattle.std.proofs.Common.{◌≡◌, ◌++◌, take, length, flat_map}
+use Rattle.std.proofs.Common.{◌≡◌, ◌++◌, take, flat_map}
 use Rattle.schema_model.specs.Schema.{name_bytes}
 use Rattle.schema_model.proofs.put.push_paths.Given as goal
 

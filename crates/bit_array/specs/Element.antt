@@ -1,0 +1,15 @@
+-- Word arrays of the blob format: how their 64-bit words hold elements of any width.
+use Rattle.std.specs.Prelude.{ℕ, ◌+◌, ◌*◌, ◌/◌, ◌%◌, ◌^◌, List, [], ◌∷◌}
+
+-- The words as one number, the first word its lowest 64 binary digits: the sum of words[k] * 2 ^ (64 * k).
+unfoldable pub number_of : List ℕ → ℕ
+number_of [] = 0
+number_of (word ∷ rest) = number_of rest * 2 ^ 64 + word
+
+-- The element of a width in bits that begins at a bit: those binary digits of the number, the lowest first.
+unfoldable pub element_of : List ℕ → ℕ → ℕ → ℕ
+element_of words at width = number_of words / 2 ^ at % 2 ^ width
+
+-- How many words so many bits take.
+abbrev pub words_of : ℕ → ℕ
+words_of bits = (bits + 63) / 64

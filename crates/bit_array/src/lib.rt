@@ -1,0 +1,11 @@
+//! Elements of any width in bits, packed into 64-bit words, as the word arrays of a blob hold them.
+#![tactic(auto)]
+
+mod counts;
+mod words;
+
+pub use counts::{digits, words_for};
+pub use words::element;
+
+#[cfg(test)]
+mod tests;

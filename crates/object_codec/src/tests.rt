@@ -1,0 +1,113 @@
+ghost use Rattle.std.specs.Prelude.{◌≡◌, ◌<◌, ◌∷◌, [], length, IfOk};
+ghost use Rattle.std.specs.List.{AllZip};
+ghost use Rattle.object_codec.specs.ObjectPlace.{IsFieldWidth};
+
+use super::*;
+use hol_varint::Octets;
+use schema_model::{
+    Areas, Field, FieldKind, Fields, Name, Packed, PlaceFault, Row, Schema, Shape, Widths, Words,
+};
+use std::alloc::{AllocError, Global};
+use std::test::Fail;
+
+/// A field of each kind.
+fn fields(alloc: Global) -> Result<Fields, AllocError>
+    ensures { IfOk result (λ fields. AllZip IsFieldWidth fields (2 ∷ 4 ∷ 5 ∷ 2 ∷ 4 ∷ 3 ∷ [])) }
+{
+    let reference = FieldKind::Reference(Name::from_text(alloc, "T")?);
+    let items = vec![in alloc;
+        Field {
+            name: Name::from_text(alloc, "r")?,
+            kind: reference
+        },
+        Field {
+            name: Name::from_text(alloc, "i")?,
+            kind: FieldKind::Int
+        },
+        Field {
+            name: Name::from_text(alloc, "l")?,
+            kind: FieldKind::Long
+        },
+        Field {
+            name: Name::from_text(alloc, "b")?,
+            kind: FieldKind::Boolean
+        },
+        Field {
+            name: Name::from_text(alloc, "t")?,
+            kind: FieldKind::Text
+        },
+        Field {
+            name: Name::from_text(alloc, "o")?,
+            kind: FieldKind::Bytes
+        },
+    ]?;
+    Ok(Fields::from_vec(items))
+}
+
+/// The words and the fields' bytes: the STRINGs have "Hi" and "é", the BYTES FF and 00.
+fn packed(alloc: Global, word: u64) -> Result<Packed, AllocError>
+    ensures words { IfOk result (λ packed. length packed.first ≡ 1) }
+    ensures areas { IfOk result (λ packed. length packed.areas ≡ 6) }
+{
+    let texts = vec![in alloc; 0x48, 0x69, 0x81, 0x69]?;
+    let bytes = vec![in alloc; 0xFF, 0x00]?;
+    let areas = vec![in alloc;
+        Octets::new(alloc),
+        Octets::new(alloc),
+        Octets::new(alloc),
+        Octets::new(alloc),
+        Octets::from_vec(texts),
+        Octets::from_vec(bytes),
+    ]?;
+    Ok(Packed {
+        first: Words::from_vec(vec![in alloc; word]?),
+        second: Words::new(alloc),
+        areas: Areas::from_vec(areas),
+    })
+}
+
+/// What is read at a place of records of 20 bits each.
+fn read_at(alloc: Global, word: u64, place: u64) -> Result<Result<Row, PlaceFault>, AllocError>
+    requires { place < 3 }
+{
+    let schema = Schema {
+        name: Name::from_text(alloc, "A")?,
+        shape: Shape::Object(None, fields(alloc)?),
+    };
+    let widths = Widths::from_vec(vec![in alloc; 2, 4, 5, 2, 4, 3]?);
+    let packed = packed(alloc, word)?;
+    Ok(read(alloc, &schema, &widths, 0, &packed, place))
+}
+
+#[test]
+fn records(rt: HostRuntime) -> Result<(), Fail> {
+    let alloc = rt.alloc();
+    let cases = [
+        (
+            0x0483_94B5_FFF2_4BEA,
+            0,
+            "Ok(Object(Values { items: [Ref(2), Int(5), Long(-8), Bool(true), Text(Units { items: [72, 105] }), Bytes(Octets { items: [255] })] }))",
+        ),
+        (
+            0x0483_94B5_FFF2_4BEA,
+            1,
+            "Ok(Object(Values { items: [Null, Null, Null, Null, Null, Null] }))",
+        ),
+        (
+            0x0483_94B5_FFF2_4BEA,
+            2,
+            "Ok(Object(Values { items: [Ref(0), Int(-3), Long(7), Bool(false), Text(Units { items: [233] }), Bytes(Octets { items: [0] })] }))",
+        ),
+        (0x253EA, 0, "Err(Bad(BadValue))"),
+        (0x2ABEA, 0, "Err(Bad(BadPointers))"),
+        (0x34BEA, 0, "Err(Bad(BadPointers))"),
+        (0x0A_3FFF_24BEA, 1, "Err(Bad(BadPointers))"),
+        (0x26BEA, 0, "Err(Bad(BadText))"),
+    ];
+    for (word, place, expected) in cases {
+        assert!(rt; place < 3);
+        let row = read_at(alloc, word, place)?;
+        assert_eq!(rt; format!(in alloc; "{row:?}")?.as_str(), expected);
+    }
+    Ok(())
+}

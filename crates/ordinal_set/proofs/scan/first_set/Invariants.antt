@@ -1,0 +1,9 @@
+use Rattle.std.proofs.Common.{length, ◌-◌, ◌≤◌, ◌*◌}
+use Rattle.ordinal_set.proofs.Populations.{AreClear}
+use Rattle.ordinal_set.proofs.scan.first_set.Given as goal
+
+abbrev pub invariant-loop-place : goal.invariant-loop-place
+invariant-loop-place l = record { from : l.from ≤ l.place; clear : AreClear l.words (l.from * 64) (l.place * 64) }
+
+abbrev pub decreases-loop-place : goal.decreases-loop-place
+decreases-loop-place l = length l.words - l.place

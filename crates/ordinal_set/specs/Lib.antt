@@ -1,0 +1,3 @@
+pub mod Ordinals
+pub mod Population
+pub mod Gaps

@@ -1,0 +1,99 @@
+ghost use Rattle.std.specs.Prelude.{◌≡◌, ◌-◌, ◌^◌, ◌<◌, ◌↔◌, [], vec_len, Contains, IfOk, IsTrue, OnOk, OnErr};
+ghost use Rattle.ordinal_set.specs.Ordinals.{AreOrdinals, with_ordinal, bound_of, least_from, TellsNext};
+ghost use Rattle.ordinal_set.specs.Population.{population_of};
+
+use crate::scan::{has_set, last_set, lengthen, next_set};
+use hol_varint::Ordinals;
+use std::alloc::{AllocError, Global};
+use std::marker::Model;
+
+/// A set of ordinals of rows, numbers below 2^32 - 1, seen as the rising list of its members.
+///
+/// It keeps one bit for each number, as a blob's population does: bit o mod 64 of word o div 64.
+#[derive(Debug, Drop)]
+pub struct OrdinalSet {
+    words: Vec<u64>,
+}
+
+impl Model for OrdinalSet {
+    ghost use Rattle.std.specs.Prelude.{List, ℕ};
+    ghost use Rattle.ordinal_set.specs.Population.{population_of, FitOrdinals};
+
+    ghost Value = { List ℕ };
+
+    ghost view = { λ a. population_of a.words.items };
+
+    ghost invariant = { λ a. FitOrdinals a.words.items };
+}
+
+impl OrdinalSet {
+    /// The empty set. It takes no memory.
+    pub fn new(alloc: Global) -> Self
+        ensures { result ≡ [] }
+    {
+        OrdinalSet {
+            words: Vec::new(alloc),
+        }
+    }
+
+    /// The set whose bits are those of the words of a population. It takes no memory.
+    pub fn from_words(words: Vec<u64>) -> Self
+        requires { vec_len words < 2 ^ 26 }
+        ensures members { result ≡ population_of words.items }
+        ensures ordinals { AreOrdinals result }
+    {
+        OrdinalSet { words }
+    }
+
+    /// Puts an ordinal in. Where memory is refused the set stays as it was.
+    pub fn insert(&mut self, o: u32) -> Result<(), AllocError>
+        requires { o < 2 ^ 32 - 1 }
+        ensures ok { OnOk result (self.new ≡ with_ordinal o self.old) }
+        ensures err { OnErr result (self.new ≡ self.old) }
+        ensures ordinals { AreOrdinals self.new }
+    {
+        let place = (o / 64) as usize;
+        lengthen(&mut self.words, place + 1)?;
+        self.words[place] |= 1 << (o % 64);
+        Ok(())
+    }
+
+    /// Whether a number is in the set.
+    pub fn contains(&self, o: u32) -> bool
+        ensures member { IsTrue result ↔ Contains self.now o }
+        ensures ordinals { AreOrdinals self.now }
+    {
+        has_set(&self.words, o)
+    }
+
+    /// One past the greatest number of the set, 0 for none.
+    pub fn bound(&self) -> u32
+        ensures bound { result ≡ bound_of self.now }
+        ensures ordinals { AreOrdinals self.now }
+    {
+        last_set(&self.words)
+    }
+
+    /// The least number of the set that is not below `o`; `None` where there is none.
+    pub fn next_from(&self, o: u32) -> Option<u32>
+        ensures next { result ≡ least_from o self.now }
+        ensures tells { TellsNext o self.now result }
+        ensures ordinals { AreOrdinals self.now }
+    {
+        next_set(&self.words, o)
+    }
+
+    /// The numbers of the set, rising.
+    pub fn ordinals(&self, alloc: Global) -> Result<Ordinals, AllocError>
+        ensures members { IfOk result (λ list. list ≡ self.now) }
+        ensures ordinals { AreOrdinals self.now }
+    {
+        let mut list = Ordinals::new(alloc);
+        let mut from = 0;
+        while let Some(o) = self.next_from(from) {
+            list.push(o)?;
+            from = o + 1;
+        }
+        Ok(list)
+    }
+}

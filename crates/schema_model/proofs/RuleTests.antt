@@ -1,0 +1,81 @@
+-- From what a loop over the types finds to what the test of a rule tells.
+use Rattle.std.proofs.Common.{◌≡◌, ℕ, zero, suc, ◌∷◌, ◌<◌, ◌≤◌, ◌∙◌, sym, ap, subst, List, Option, Some, None, length, slice_get, arith, ◌⊎◌, inl, inr, true, false, Bool, get_or, []}
+use Rattle.std.specs.Prelude.{IsTrue, ◌↔◌}
+use Rattle.std.proofs.lemmas.Option.{slice_get_within, slice_get-get_or}
+use Rattle.std.proofs.lemmas.Bool.{cases_lt, or_left, or_right, lt-ltb, ltb-true}
+use Rattle.std.proofs.lemmas.List.Folds.{list_any-append, Any-from_list_any, list_any-from_Any}
+use Rattle.std.specs.List.{list_any, flat_map}
+use Rattle.hol_varint.specs.JavaUtf.{java_bytes}
+use Rattle.hol_varint.specs.TextUnits.{text_units}
+use Rattle.schema_model.specs.Checked.{is_long_text}
+use Rattle.std.specs.Prelude.{SomeIndex, Any}
+use Rattle.std.proofs.lemmas.List.{get_or_default}
+use Rattle.schema_model.specs.Model.{BreaksAt, Breaks, IsKept, StandsEarlier}
+use Rattle.schema_model.specs.Parts.{fields_of, field_names, type_names, texts_of}
+use Rattle.schema_model.specs.declared.rule.Rule.TheVariants.{TooMany, LongName, DuplicateName}
+use Rattle.schema_model.specs.declared.rule.Rule.{Rule}
+use Rattle.schema_model.specs.declared.schema.Field.{Field}
+use Rattle.schema_model.specs.declared.schema.Schema.{Schema}
+use Rattle.schema_model.specs.declared.schema.Shape.TheVariants.{Set}
+
+-- a rule that no type breaks at an index below the length is kept
+pub kept_below : (schemas : List Schema) (rule : Rule) (n : ℕ) → length schemas ≤ n → ((u : ℕ) → u < n → ¬ BreaksAt schemas rule u) → IsKept schemas rule
+kept_below schemas rule n all below t breaks = below t (let inside = slice_get_within schemas t breaks.0 breaks.1 in omega arith) breaks
+
+-- a test that says no
+pub told_no : {P : Type 0} (b : Bool) → (IsTrue b ↔ P) → b ≡ false → P → ⊥
+told_no b tells e p = let good = tells.1 p in let bad : false ≡ true = sym e ∙ good in cc
+
+-- the type at an index has one schema
+pub same_schema : (schemas : List Schema) (t : ℕ) (r s : Schema) → slice_get schemas t ≡ Some r → slice_get schemas t ≡ Some s → r ≡ s
+same_schema schemas t r s a b = let e : Some r ≡ Some s = sym a ∙ b in cc
+
+-- what a type breaks is a fact of its schema
+pub breaks_itself : (schemas : List Schema) (rule : Rule) (t : ℕ) (s : Schema) → slice_get schemas t ≡ Some s → BreaksAt schemas rule t → Breaks schemas rule t s
+breaks_itself schemas rule t s at (r, e, breaks) = subst (λ x. Breaks schemas rule t x) (same_schema schemas t r s e at) breaks
+
+-- how many fields a type has where no type has too many
+pub few_fields : (schemas : List Schema) (t : ℕ) (s : Schema) → slice_get schemas t ≡ Some s → IsKept schemas TooMany → length (fields_of s) ≤ 1024
+few_fields schemas t s at kept = elim (cases_lt 1024 (length (fields_of s))) [ inl more ↦ absurd (kept t (s, at, inr more)) | inr few ↦ few ]
+
+-- what is left of the test of names, where the type's name stands first
+pub repeated_name : (schemas : List Schema) (t : ℕ) (s : Schema) → slice_get schemas t ≡ Some s → ¬ StandsEarlier (type_names schemas) t → (fields : List Field)
+    → fields ≡ fields_of s → (b : Bool) → (IsTrue b ↔ SomeIndex (field_names fields) (StandsEarlier (field_names fields))) → IsTrue b ↔ BreaksAt schemas DuplicateName t
+repeated_name schemas t s at first fields same b tells =
+    let again = subst (λ (fs : List Field). IsTrue b ↔ SomeIndex (field_names fs) (StandsEarlier (field_names fs))) same tells in
+    (λ e. (s, at, inr (again.0 e)),
+        λ breaks. elim (breaks_itself schemas DuplicateName t s at breaks) [ inl stands ↦ absurd (first stands) | inr twice ↦ again.1 twice ])
+
+-- a type that breaks nothing is not past the 512th
+pub few_types : (schemas : List Schema) (t : ℕ) → t < length schemas → ¬ BreaksAt schemas TooMany t → t < 512
+few_types schemas t inside kept =
+    elim (cases_lt t 512) [
+        inl few ↦ few
+      | inr many ↦ let d : Schema = record { name = []; shape = Set [] } in absurd (kept (get_or schemas t d, slice_get-get_or schemas t d inside, inl many))
+    ]
+
+-- no item has a property that each index rules out
+pub none_any : (P : List ℕ → Type 0) (xs : List (List ℕ)) (n : ℕ) → length xs ≤ n → ((k : ℕ) → k < n → P (get_or xs k []) → ⊥) → Any P xs → ⊥
+none_any P xs n all none (k, x, inside, same, holds) =
+    none k (omega arith) (subst P (sym same ∙ get_or_default xs k x [] inside) holds)
+
+-- one piece settles what is asked of some item
+pub any_piece : {X : Type 0} (p : List ℕ → Bool) (f : X → List (List ℕ)) (xs : List X) (i : ℕ) (x : X) → slice_get xs i ≡ Some x → list_any p (f x) ≡ true → list_any p (flat_map f xs) ≡ true
+any_piece p f [] i x at some = absurd cc
+any_piece p f (y ∷ ys) zero x at some =
+    let same : y ≡ x = cc in
+    list_any-append p (f y) (flat_map f ys) ∙ or_left (list_any p (f y)) (list_any p (flat_map f ys)) (ap (λ z. list_any p (f z)) same ∙ some)
+any_piece p f (y ∷ ys) (suc i) x at some =
+    list_any-append p (f y) (flat_map f ys) ∙ or_right (list_any p (f y)) (list_any p (flat_map f ys)) (any_piece p f ys i x at some)
+
+-- a schema with a long text breaks the rule, and no other does
+pub long_breaks : (schemas : List Schema) (t : ℕ) (s : Schema) → slice_get schemas t ≡ Some s → list_any is_long_text (texts_of s) ≡ true → BreaksAt schemas LongName t
+long_breaks schemas t s at some =
+    let (k, x, inside, same, long) = Any-from_list_any is_long_text (texts_of s) some in
+    (s, at, (k, x, inside, same, ltb-true 65535 (length (java_bytes (text_units x))) long))
+
+pub none_long : (schemas : List Schema) (t : ℕ) (s : Schema) → slice_get schemas t ≡ Some s → list_any is_long_text (texts_of s) ≡ false → BreaksAt schemas LongName t → ⊥
+none_long schemas t s at none breaks =
+    let (k, x, inside, same, long) = breaks_itself schemas LongName t s at breaks in
+    let some = list_any-from_Any is_long_text (texts_of s) (k, x, inside, same, lt-ltb 65535 (length (java_bytes (text_units x))) long) in
+    let bad : false ≡ true = sym none ∙ some in cc

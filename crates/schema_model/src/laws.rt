@@ -1,0 +1,18 @@
+//! Laws of the definitions.
+ghost use Rattle.std.specs.Prelude.{◌≡◌, ℕ, List, ◌++◌};
+ghost use Rattle.std.specs.Str.{IsUtf8};
+ghost use Rattle.schema_model.specs.Model.{IsModel};
+ghost use Rattle.schema_model.specs.Path.{Resolves};
+ghost use Rattle.schema_model.specs.declared.path.Path.{Path};
+ghost use Rattle.schema_model.specs.declared.schema.Schema.{Schema};
+ghost use Rattle.schema_model.specs.Schema.{schema_bytes, EachName};
+
+/// A schema whose names are texts has one spelling, and a spelling one such schema; none begins another one.
+pub fn one_schema()
+    ensures { (a b : Schema) (x y : List ℕ) → EachName IsUtf8 a → EachName IsUtf8 b → schema_bytes a ++ x ≡ schema_bytes b ++ y → (a ≡ b) × (x ≡ y) }
+{}
+
+/// In a model a text resolves to one path at most.
+pub fn one_path()
+    ensures { (schemas : List Schema) (t : ℕ) (text : List ℕ) (a b : Path) → IsModel schemas → Resolves schemas t text a → Resolves schemas t text b → a ≡ b }
+{}

@@ -1,0 +1,135 @@
+ghost use Rattle.std.specs.Prelude.{◌≡◌, ◌<◌, ◌≤◌, ◌↔◌, ℕ, [], length, Some, None, Ok, Err, IfOk, MatchResult, slice_get, Contains};
+ghost use Rattle.hol_varint.specs.Yields.{Yields};
+ghost use Rattle.schema_model.specs.Checked.{Indexes};
+ghost use Rattle.schema_model.specs.Faults.{IsFreeModel, IsFreePath, TellsFault, TellsModel, TellsPath};
+ghost use Rattle.schema_model.specs.Model.{IsFirstBroken, IsModel};
+ghost use Rattle.schema_model.specs.Parts.{type_index, type_names};
+ghost use Rattle.schema_model.specs.Path.{Resolves};
+ghost use Rattle.schema_model.specs.declared.path.Path.{Path};
+ghost use Rattle.schema_model.specs.declared.rule.Rule.{Rule};
+
+use crate::chains::{check_cycles, check_depth};
+use crate::keys::check_keys;
+use crate::lengths::check_lengths;
+use crate::name_index::{Places, index_types, place_of};
+use crate::path_walk::way_of;
+use crate::references::check_references;
+use crate::rules::{check_names, check_sizes};
+use crate::{ModelFault, Path, PathFault, Schema, Schemas};
+use std::alloc::{AllocError, Global};
+use std::collections::BTreeMap;
+
+/// The types of a data set: schemas that keep the rules of a model. Contracts see the list of its schemas.
+#[derive(Drop)]
+pub struct Model {
+    schemas: Schemas,
+    places: Places,
+}
+
+impl std::marker::Model for Model {
+    ghost use Rattle.std.specs.Prelude.{List};
+    ghost use Rattle.schema_model.specs.Checked.{Indexes};
+    ghost use Rattle.schema_model.specs.Model.{IsModel};
+    ghost use Rattle.schema_model.specs.Parts.{type_names};
+    ghost use Rattle.schema_model.specs.declared.schema.Schema.{Schema};
+
+    ghost Value = { List Schema };
+
+    ghost view = { λ a. a.schemas };
+
+    ghost invariant = { λ a. IsModel a.schemas × Indexes (type_names a.schemas) a.places };
+}
+
+/// Tries the rules in their order, and gives the index of the types' names.
+fn check(alloc: Global, schemas: &Schemas) -> Result<Places, ModelFault>
+    ensures { MatchResult result (λ places. IsModel schemas.now × Indexes (type_names schemas.now) places) (TellsFault schemas.now) }
+{
+    check_sizes(schemas)?;
+    check_lengths(schemas)?;
+    let places = index_types(alloc, schemas)?;
+    check_names(alloc, schemas, &places)?;
+    let rows = check_references(alloc, schemas, &places)?;
+    check_cycles(alloc, schemas, rows.as_slice())?;
+    check_depth(alloc, schemas, rows.as_slice())?;
+    check_keys(alloc, schemas, &places)?;
+    Ok(places)
+}
+
+/// Makes a model of schemas. `Broken` names the first rule that some type breaks, and the first type that breaks it.
+pub fn model_of(alloc: Global, schemas: Schemas) -> Result<Model, ModelFault>
+    ensures tells { TellsModel schemas result }
+    ensures made { Yields IsFreeModel result (Ok schemas) (IsModel schemas) }
+    ensures broken { (rule : Rule) (t : ℕ) → Yields IsFreeModel result (Err (ModelFault.Broken rule t)) (IsFirstBroken schemas rule t) }
+{
+    let places = check(alloc, &schemas)?;
+    Ok(Model { schemas, places })
+}
+
+impl Model {
+    /// The model without types. It takes no memory.
+    pub fn none(alloc: Global) -> Model
+        ensures { result ≡ [] }
+    {
+        Model {
+            schemas: Schemas::new(alloc),
+            places: BTreeMap::new(alloc),
+        }
+    }
+
+    /// How many types there are.
+    pub fn len(&self) -> u32
+        ensures count { result ≡ length self.now }
+        ensures few { result ≤ 512 }
+        ensures model { IsModel self.now }
+    {
+        self.schemas.len() as u32
+    }
+
+    /// The schemas of the types, in order.
+    pub fn schemas(&self) -> &Schemas
+        ensures value { result.now ≡ self.now }
+        ensures model { IsModel self.now }
+    {
+        &self.schemas
+    }
+
+    /// The schema of a type.
+    pub fn schema(&self, t: u32) -> &Schema
+        requires { t < length self.now }
+        ensures value { slice_get self.now t ≡ Some result.now }
+        ensures model { IsModel self.now }
+    {
+        self.schemas.get(t as usize)
+    }
+
+    /// The index of the type of this name.
+    pub fn index_of(&self, name: &str) -> Option<u32>
+        ensures value { result ≡ type_index self.now name.now }
+        ensures found { (t : ℕ) → (result ≡ Some t) ↔ (slice_get (type_names self.now) t ≡ Some name.now) }
+        ensures missing { (result ≡ None) ↔ (¬ Contains (type_names self.now) name.now) }
+        ensures model { IsModel self.now }
+    {
+        place_of(&self.places, name)
+    }
+
+    /// An equal model of its own.
+    pub fn copy(&self, alloc: Global) -> Result<Model, AllocError>
+        ensures { IfOk result (λ copy. copy ≡ self.now) }
+    {
+        let schemas = self.schemas.copy(alloc)?;
+        let places = index_types(alloc, &schemas)?;
+        Ok(Model { schemas, places })
+    }
+}
+
+/// The path that a text names from a type: it is cut at each '.' into the names of fields, and goes on through types of one field.
+/// `BadPath` comes where it leads to no value.
+pub fn resolve(alloc: Global, model: &Model, t: u32, text: &str) -> Result<Path, PathFault>
+    requires { t < length model.now }
+    ensures tells { TellsPath model.now t text.now result }
+    ensures found { (path : Path) → Yields IsFreePath result (Ok path) (Resolves model.now t text.now path) }
+    ensures unresolved { Yields IsFreePath result (Err PathFault.BadPath) ((path : Path) → ¬ Resolves model.now t text.now path) }
+{
+    let fields = way_of(alloc, &model.schemas, &model.places, t, text)?;
+    Ok(Path { t, fields })
+}

@@ -1,0 +1,34 @@
+ghost use Rattle.std.specs.Prelude.{List, ℕ, ◌≡◌, ◌↔◌, Some, IfOk, IsTrue};
+ghost use Rattle.schema_model.specs.declared.schema.Schema.{Schema};
+ghost use Rattle.schema_model.specs.Table.{Table, IsTableOf, IsBound, IsLive, row_at};
+
+use std::alloc::{AllocError, Global};
+
+use crate::{Model, Row};
+
+/// The rows of a state, by type and ordinal, wherever they stand.
+pub trait Rows {
+    /// The schemas of the model that the rows are of.
+    ghost schemas: { Self → List Schema };
+
+    /// The rows of each type, by ordinal.
+    ghost table: { Self → Table };
+
+    /// The model that the rows are of.
+    fn model(&self) -> &Model
+        ensures model { result.now ≡ schemas self.now }
+        ensures fits { IsTableOf (schemas self.now) (table self.now) };
+
+    /// One past the greatest live ordinal of a type; 0 where none is live, or where there is no such type.
+    fn bound(&self, t: u32) -> u32
+        ensures { IsBound (table self.now) t result };
+
+    /// Whether a type has a row under an ordinal.
+    fn is_live(&self, t: u32, o: u32) -> bool
+        ensures { IsTrue result ↔ IsLive (table self.now) t o };
+
+    /// A copy of the row of a type under a live ordinal.
+    fn row(&self, alloc: Global, t: u32, o: u32) -> Result<Row, AllocError>
+        requires { IsLive (table self.now) t o }
+        ensures { IfOk result (λ row. row_at (table self.now) t o ≡ Some row) };
+}
