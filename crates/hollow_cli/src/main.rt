@@ -74,3 +74,6 @@ fn served(rt: &HostRuntime, folder: &str, words: &[String]) -> u8 {
     let mut keep = Keep::new(alloc);
     run(alloc, words, &mut input, &mut out, &mut store, &mut keep)
 }
+
+#[cfg(test)]
+mod tests;

@@ -6,9 +6,8 @@ ghost use Rattle.hollow_top.specs.declared.words.Command.{Command};
 ghost use Rattle.hollow_top.specs.Command.{CommandReply};
 ghost use Rattle.hollow_top.specs.Words.{Asks};
 
-use blob_frame::laws::one_header;
-
 use crate::words::command_of;
+use blob_frame::laws::one_header;
 
 /// The words ask for one command at most.
 pub fn one_command(words: &[String])

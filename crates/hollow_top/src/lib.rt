@@ -11,3 +11,6 @@ mod words;
 pub use program::{Keep, run};
 pub use reply::{Reply, reply_line};
 pub use words::{Command, command_of};
+
+#[cfg(test)]
+mod tests;
