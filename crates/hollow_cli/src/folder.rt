@@ -3,10 +3,9 @@ ghost use Rattle.std.specs.Prelude.{◌≤◌, length, IfOk};
 
 use hol_io::{BlobName, BlobStore, PutFault, StoreFailed, name_text, parse_name};
 use std::alloc::{AllocError, Global};
-use std::fs;
 use std::fs::File;
-use std::io;
 use std::io::{ErrorKind, Read, Seek, SeekFrom};
+use std::{fs, io};
 
 /// A folder, whose files are the blobs of their names. Files of other names are passed over. A folder
 /// that is not there holds no names. It does not tell what it holds.

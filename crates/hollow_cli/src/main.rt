@@ -5,13 +5,12 @@ mod folder;
 mod streams;
 mod usage;
 
+use folder::FolderStore;
 use hollow_top::{Keep, run};
 use std::alloc::Global;
 use std::process::ExitCode;
 use std::rt::{Env, Files};
 use std::{env, io};
-
-use folder::FolderStore;
 use streams::{StdIn, StdOut};
 use usage::{HELP, UsageFault, VERSION};
 
@@ -74,3 +73,6 @@ fn served(rt: &HostRuntime, folder: &str, words: &[String]) -> u8 {
     let mut keep = Keep::new(alloc);
     run(alloc, words, &mut input, &mut out, &mut store, &mut keep)
 }
+
+#[cfg(test)]
+mod tests;

@@ -1,5 +1,5 @@
 -- What starting at a blob and reading its header say of the answer.
-use Rattle.std.proofs.Common.{◌≡◌, ◌≤◌, ◌<◌, ◌⊎◌, inl, inr, ⊎_elim, ℕ, List, length, Option, Some, None, Result, Ok, Err, IfOk, IfSome, OnSome, refl, sym, ap, subst, arith}
+use Rattle.std.proofs.Common.{◌≡◌, ◌<◌, ◌⊎◌, inl, inr, ℕ, List, length, Option, Some, None, Result, Err, IfOk, IfSome, OnSome, refl, sym, subst}
 use Rattle.std.proofs.lemmas.Bool.{cases_lt}
 use Rattle.std.specs.Prelude.{IsErrAnd}
 use Rattle.hol_io.specs.declared.name.BlobName.{BlobName}
@@ -20,11 +20,12 @@ settled found answer (inr free) bound = absurd (bound free)
 
 -- where there is a blob, a fault that is not free is that it is too large
 sized : (name : BlobName) (blob : List ℕ) (found : BlobFault) → Starts name (Some blob) (Err found) → (IsFree found → ⊥) →
-  (largest < length blob) × (found ≡ fault.Large limit.Blob)
+    (largest < length blob) × (found ≡ fault.Large limit.Blob)
 sized name blob found starts bound =
     elim (cases_lt largest (length blob)) [
-      inl large ↦ (large, (let is = settled found (Err (fault.Large limit.Blob)) (starts.large blob refl large) bound in cc))
-    | inr fits ↦ elim (starts.found blob refl fits) [ inl made ↦ (let is = made.1 in absurd cc) | inr free ↦ absurd (bound free) ] ]
+      | inl large ↦ (large, (let is = settled found (Err (fault.Large limit.Blob)) (starts.large blob refl large) bound in cc))
+      | inr fits ↦ elim (starts.found blob refl fits) [ inl made ↦ (let is = made.1 in absurd cc) | inr free ↦ absurd (bound free) ]
+    ]
 
 -- what a fault at the start says of the content
 refused : (name : BlobName) (content : Option (List ℕ)) (found : BlobFault) → Starts name content (Err found) → IfOk (refusal_of name found) (HeadIs name content)
@@ -47,7 +48,7 @@ refused name (Some blob) (fault.Bad at reason) starts = let is = (sized name blo
 
 -- the answer for a fault at the start
 pub refused_at_start : (held : Option Store) (name : BlobName) (found : BlobFault) (answer : Result Reply Stop) → answer ≡ refusal_of name found →
-  OnSome held (Starts name (told held name) (Err found)) → IfSome held (λ store. IfOk answer (HeadReply store name))
+    OnSome held (Starts name (told held name) (Err found)) → IfSome held (λ store. IfOk answer (HeadReply store name))
 refused_at_start None name found answer is starts = tt
 refused_at_start (Some store) name found answer is starts =
     subst (λ (a : Result Reply Stop). IfOk a (HeadReply store name)) (sym is) (refused name (told (Some store) name) found starts)

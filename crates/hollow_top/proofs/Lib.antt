@@ -1,4 +1,5 @@
 mod Lines
 mod Numbers
+mod OneAnswer
 mod Orders
 mod Heads

@@ -1,6 +1,6 @@
 -- Answer lines have no number with a fraction, so that their text is the one that they are stated by.
-use Rattle.std.proofs.Common.{◌≡◌, ℕ, ℤ, pos, negsuc, List, [], ◌∷◌, ◌++◌, map, codes, Bool, true, false, ◌||◌, refl, sym, ap, subst, ◌∙◌, arith}
-use Rattle.serde_json.specs.Data.{Data, number, string, array}
+use Rattle.std.proofs.Common.{◌≡◌, ℕ, ℤ, pos, negsuc, List, [], ◌∷◌, ◌++◌, map, false, refl, ap, ◌∙◌}
+use Rattle.serde_json.specs.Data.{Data, number}
 use Rattle.serde_json.specs.Find.{of_integer}
 use Rattle.serde_json.specs.View.{items_of}
 use Rattle.serde_json.specs.Written.{has_float, items_have_float, compact_text}
@@ -10,7 +10,7 @@ use Rattle.hollow_top.specs.Reply.{reply_data, names_data, tags_data, line_of}
 
 -- a list has none where none of its items has one
 items_have_float-items_of : {A : Type 0} (data_of : A → Data) → ((x : A) → has_float (data_of x) ≡ false) → (xs : List A) →
-  items_have_float (items_of (map data_of xs)) ≡ false
+    items_have_float (items_of (map data_of xs)) ≡ false
 items_have_float-items_of data_of none [] = refl
 items_have_float-items_of data_of none (x ∷ xs) = rw (none x) (items_have_float-items_of data_of none xs)
 
@@ -32,7 +32,7 @@ has_float-reply_data NotYet = refl
 
 -- the text of an answer's JSON and a newline are its line
 pub is_line : (reply : Reply) (value : Data) (text line : List ℕ) → value ≡ reply_data reply →
-  (has_float value ≡ false → text ≡ compact_text value) → line ≡ text ++ 10 ∷ [] → line ≡ line_of reply
+    (has_float value ≡ false → text ≡ compact_text value) → line ≡ text ++ 10 ∷ [] → line ≡ line_of reply
 is_line reply value text line built written ended =
     let same : text ≡ compact_text value = written (ap has_float built ∙ has_float-reply_data reply) in
     ended ∙ ap (λ t. t ++ 10 ∷ []) (same ∙ ap compact_text built)

@@ -1,11 +1,11 @@
 -- Numbers in decimal: how they begin, and what parsing a text says of them.
-use Rattle.std.proofs.Common.{◌≡◌, ◌≢◌, ℕ, zero, suc, lit<, ◌^◌, ◌<◌, ◌≤◌, List, length, get_or, Option, Some, None, Result, Ok, Err, refl, ap, sym, ◌∙◌, subst, arith}
+use Rattle.std.proofs.Common.{◌≡◌, ◌≢◌, ℕ, zero, suc, lit<, ◌^◌, ◌<◌, List, length, get_or, Option, Some, None, Result, Ok, Err, ap, sym, ◌∙◌, subst, arith}
 use Rattle.std.specs.Fmt.{decimal}
 use Rattle.std.specs.Result.{result_ok}
 use Rattle.std.specs.Str.Parse.{AllDigits, digits_value, ParsesUnsigned}
 use Rattle.std.proofs.lemmas.Fmt.{decimal_is_IsNumeral, decimal_injective, decimal-digits_value, first_decimal, decimal_digit, parse-decimal}
 use Rattle.std.proofs.lemmas.Str.Parse.{IsNumeralModel, numerals_by_value, tells_digits, parse_plain, digit_at}
-use Rattle.hollow_top.specs.Words.{BeginsPlainly, TellsNumber, IsFrom}
+use Rattle.hollow_top.specs.Words.{BeginsPlainly}
 
 own : IsNumeralModel (AllDigits 10) (digits_value 10)
 own = numerals_by_value (AllDigits 10) tells_digits
@@ -37,7 +37,7 @@ told {E} text (Ok n) parses plain =
 
 -- parsing tells the number
 pub parse_tells : {E : Type 0} (text : List ℕ) (parsed : Result ℕ E) (number : Option ℕ) → ParsesUnsigned 32 10 text parsed → BeginsPlainly text →
-  number ≡ result_ok parsed → TellsDecimal text number
+    number ≡ result_ok parsed → TellsDecimal text number
 parse_tells {E} text parsed number parses plain is = subst (TellsDecimal text) (sym is) (told {E = E} text parsed parses plain)
 
 -- two numbers with one text are one

@@ -1,5 +1,5 @@
 -- What each command answers over a store, and why it stops before its answer.
-use Rattle.std.specs.Prelude.{◌≡◌, ℕ, List}
+use Rattle.std.specs.Prelude.{◌≡◌, ℕ}
 use Rattle.hol_io.specs.Causes.{Rose}
 use Rattle.hol_io.specs.Store.{Store}
 use Rattle.hollow_top.specs.declared.reply.Reply.{Reply}

@@ -15,12 +15,12 @@ use Rattle.hollow_top.specs.declared.stop.Stop.TheVariants as stop
 -- The answer for what a name holds, if anything: a header that begins the blob, or the first cause that there is none.
 abbrev pub HeadIs : BlobName → Option (List ℕ) → Reply → Type 0
 HeadIs name content (Head header) =
-  (blob : List ℕ) × (n : ℕ) × (content ≡ Some blob) × (length blob ≤ largest) × HeaderIs blob n header
+    (blob : List ℕ) × (n : ℕ) × (content ≡ Some blob) × (length blob ≤ largest) × HeaderIs blob n header
 HeadIs name content (NoBlob other) = (other ≡ name) × (content ≡ None)
 HeadIs name content (TooLarge what) =
-  (blob : List ℕ) × (content ≡ Some blob) × (largest < length blob) × (what ≡ limit.Blob)
+    (blob : List ℕ) × (content ≡ Some blob) × (largest < length blob) × (what ≡ limit.Blob)
 HeadIs name content (BadBlob other at reason) =
-  (blob : List ℕ) × (content ≡ Some blob) × (length blob ≤ largest) × StuckInHeader blob at reason × (other ≡ name)
+    (blob : List ℕ) × (content ≡ Some blob) × (length blob ≤ largest) × StuckInHeader blob at reason × (other ≡ name)
 HeadIs name content NotYet = ⊥
 
 -- The answer for the blob of a name in a store.

@@ -27,42 +27,42 @@ tags_data tags = array (items_of (map (λ tag. array (item (string tag.0) (item 
 -- the header of a blob
 abbrev pub head_data : Header → Data
 head_data header = object
-  (member (codes "destination") (number (of_integer header.destination))
-  (member (codes "format") (number (unsigned 1030))
-  (member (codes "ok") (string (codes "head"))
-  (member (codes "origin") (number (of_integer header.origin))
-  (member (codes "schemas") (names_data header.schemas)
-  (member (codes "tags") (tags_data header.tags) no_members))))))
+    (member (codes "destination") (number (of_integer header.destination))
+    (member (codes "format") (number (unsigned 1030))
+    (member (codes "ok") (string (codes "head"))
+    (member (codes "origin") (number (of_integer header.origin))
+    (member (codes "schemas") (names_data header.schemas)
+    (member (codes "tags") (tags_data header.tags) no_members))))))
 
 -- a name that the store does not have
 abbrev pub no_blob_data : BlobName → Data
 no_blob_data blob = object
-  (member (codes "blob") (string (text_of_name blob))
-  (member (codes "error") (number (unsigned 18))
-  (member (codes "name") (string (codes "NoBlob")) no_members)))
+    (member (codes "blob") (string (text_of_name blob))
+    (member (codes "error") (number (unsigned 18))
+    (member (codes "name") (string (codes "NoBlob")) no_members)))
 
 -- a limit that is passed
 abbrev pub too_large_data : Limit → Data
 too_large_data limit = object
-  (member (codes "error") (number (unsigned 28))
-  (member (codes "limit") (number (unsigned (number_of_limit limit)))
-  (member (codes "name") (string (codes "TooLarge"))
-  (member (codes "what") (string (name_of_limit limit)) no_members))))
+    (member (codes "error") (number (unsigned 28))
+    (member (codes "limit") (number (unsigned (number_of_limit limit)))
+    (member (codes "name") (string (codes "TooLarge"))
+    (member (codes "what") (string (name_of_limit limit)) no_members))))
 
 -- a fault of a blob's syntax: the blob, the offset of the item and the reason
 abbrev pub bad_blob_data : BlobName → ℕ → Reason → Data
 bad_blob_data blob at reason = object
-  (member (codes "at") (number (unsigned at))
-  (member (codes "blob") (string (text_of_name blob))
-  (member (codes "error") (number (unsigned 19))
-  (member (codes "name") (string (codes "BadBlob"))
-  (member (codes "reason") (number (unsigned (number_of_reason reason))) no_members)))))
+    (member (codes "at") (number (unsigned at))
+    (member (codes "blob") (string (text_of_name blob))
+    (member (codes "error") (number (unsigned 19))
+    (member (codes "name") (string (codes "BadBlob"))
+    (member (codes "reason") (number (unsigned (number_of_reason reason))) no_members)))))
 
 -- a command that is not built
 abbrev pub not_yet_data : Data
 not_yet_data = object
-  (member (codes "error") (number (unsigned 90))
-  (member (codes "name") (string (codes "NotYet")) no_members))
+    (member (codes "error") (number (unsigned 90))
+    (member (codes "name") (string (codes "NotYet")) no_members))
 
 -- The JSON object of an answer, its members in byte order of their names.
 abbrev pub reply_data : Reply → Data

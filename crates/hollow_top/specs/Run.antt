@@ -25,21 +25,21 @@ status_of reply = if is_refusal reply then 1 else 0
 -- The sink gained the whole line of an answer to the words, and the status is that of the answer.
 abbrev pub Finishes : List (List ℕ) → Store → Option (List ℕ) → Option (List ℕ) → ℕ → Type 0
 Finishes words store before after status =
-  (reply : Reply) × AnswersWords words store reply × Appends before after (line_of reply) × (status ≡ status_of reply)
+    (reply : Reply) × AnswersWords words store reply × Appends before after (line_of reply) × (status ≡ status_of reply)
 
 -- The sink gained a part of the line of an answer to the words, from its front on, and not all of it.
 abbrev pub WritesPart : List (List ℕ) → Store → Option (List ℕ) → Option (List ℕ) → Type 0
 WritesPart words store before after =
-  (reply : Reply) × (count : ℕ) × AnswersWords words store reply × (count < length (line_of reply))
-  × Appends before after (take count (line_of reply))
+    (reply : Reply) × (count : ℕ) × AnswersWords words store reply × (count < length (line_of reply))
+    × Appends before after (take count (line_of reply))
 
 -- What serving a command leaves of the sink: the whole line of its answer and whether that is a refusal, or where the
 -- sink failed a part of the line.
 abbrev pub Serves : Store → Command → Option (List ℕ) → Option (List ℕ) → Result Bool Stop → Type 0
 Serves store command before after (Ok refused) =
-  (reply : Reply) × CommandReply store command reply × Appends before after (line_of reply) × (refused ≡ is_refusal reply)
+    (reply : Reply) × CommandReply store command reply × Appends before after (line_of reply) × (refused ≡ is_refusal reply)
 Serves store command before after (Err Sink) =
-  (reply : Reply) × (count : ℕ) × CommandReply store command reply × (count < length (line_of reply))
-  × Appends before after (take count (line_of reply))
+    (reply : Reply) × (count : ℕ) × CommandReply store command reply × (count < length (line_of reply))
+    × Appends before after (take count (line_of reply))
 Serves store command before after (Err StoreFailed) = Unit {0}
 Serves store command before after (Err Memory) = Unit {0}

@@ -3,12 +3,11 @@ ghost use Rattle.std.specs.Prelude.{◌≡◌, ◌≤◌, IfOk, IfErr, IfSome};
 ghost use Rattle.hollow_top.specs.Command.{StopsBefore};
 ghost use Rattle.hollow_top.specs.Head.{HeadReply, refusal_of};
 
+use crate::reply::Reply;
+use crate::stop::Stop;
 use blob_frame::{BlobFault, Cursor};
 use hol_io::{BlobName, BlobStore};
 use std::alloc::Global;
-
-use crate::reply::Reply;
-use crate::stop::Stop;
 
 /// The header of a blob of the store, or the refusal of it: `NoBlob` where the store has no such
 /// name, `TooLarge` where the blob has more than 2^28 bytes, and `BadBlob` where its header cannot be

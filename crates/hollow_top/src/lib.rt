@@ -2,6 +2,7 @@
 #![tactic(auto)]
 
 mod head;
+pub mod laws;
 mod program;
 mod reply;
 mod stop;
@@ -9,5 +10,7 @@ mod words;
 
 pub use program::{Keep, run};
 pub use reply::{Reply, reply_line};
-pub use stop::Stop;
 pub use words::{Command, command_of};
+
+#[cfg(test)]
+mod tests;

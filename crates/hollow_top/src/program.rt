@@ -4,13 +4,12 @@ ghost use Rattle.hol_io.specs.Causes.{Rose};
 ghost use Rattle.hollow_top.specs.Command.{CommandReply, StopsBefore};
 ghost use Rattle.hollow_top.specs.Run.{AsksNothing, Finishes, WritesPart, Serves};
 
-use hol_io::{BlobStore, Sink, Source, write_all};
-use std::alloc::Global;
-
 use crate::head::head;
 use crate::reply::{Reply, reply_line};
 use crate::stop::Stop;
 use crate::words::{Command, command_of};
+use hol_io::{BlobStore, Sink, Source, write_all};
+use std::alloc::Global;
 
 /// What a run keeps from one order to the next.
 #[derive(Debug, Drop)]

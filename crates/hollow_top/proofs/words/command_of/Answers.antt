@@ -24,5 +24,5 @@ pub returns-in-len4 : goal.returns-in-len4
 returns-in-len4 c =
     let order = is_text (string_bytes c.order-item-then-words-lt5.result) _ (codes "make") _ c.as_str-then-words-lt5.ensures.value c.eq-then-words-lt5.ensures c.if-eq-4.true in
     let words = four string_bytes c.args.words.now c.order-item-then-words-lt5.result c.seed-item.result c.rows-item.result c.cycles-item.result _ _ _ _ (omega arith) (omega arith) c.order-item-then-words-lt5.is c.seed-item.is c.rows-item.is c.cycles-item.is
-      order (sym c.as_str-in-len4.ensures.value) (sym c.as_str-in-len4-2.ensures.value) (sym c.as_str-in-len4-3.ensures.value) in
+    order (sym c.as_str-in-len4.ensures.value) (sym c.as_str-in-len4-2.ensures.value) (sym c.as_str-in-len4-3.ensures.value) in
     subst (λ ws. TellsCommand ws c.make_of.result) (sym words) c.make_of.ensures

@@ -1,4 +1,4 @@
-use Rattle.std.proofs.Common.{◌≤◌, ℕ, ◌∙◌, refl, sym, subst, arith}
+use Rattle.std.proofs.Common.{◌∙◌, refl, sym, subst, arith}
 use Rattle.std.proofs.lemmas.Bool.{false≢true}
 use Rattle.hollow_top.specs.Words.{BeginsPlainly, TellsNumber}
 use Rattle.hollow_top.proofs.Numbers.{decimal_begins, parse_tells, same_number}
@@ -8,7 +8,6 @@ use Rattle.hollow_top.proofs.words.number.Goals.{else-least-number-via-then-leas
 pub returns-then-not-begins_plainly : goal.returns-then-not-begins_plainly
 returns-then-not-begins_plainly c n range is =
     false≢true (c.if-not-begins_plainly.ensures.1 (subst BeginsPlainly (sym c.as_bytes.ensures.value) (decimal_begins n c.args.text.now (omega arith) is)))
-
 
 pub returns-in_err-number : goal.returns-in_err-number
 returns-in_err-number c =
@@ -27,5 +26,6 @@ returns-else-least-number c n range is =
     let found = parse_tells c.args.text.now c.parse.result _ c.parse.ensures.value.0 plain (sym c.in_ok-number.was ∙ c.ok.ensures.value) in
     let same = same_number c.args.text.now n c.in_ok-number.number (omega arith) (omega arith) is found in
     elim c.else-least-number.branch [
-      else-least-number-via-then-least-number+else-number-most w ↦ omega arith
-    | else-least-number-via-else-least-number w ↦ omega arith ]
+      | else-least-number-via-then-least-number+else-number-most w ↦ omega arith
+      | else-least-number-via-else-least-number w ↦ omega arith
+    ]
