@@ -85,15 +85,15 @@ decided_varint limit = record {
 
 utf_once : (bytes : List ℕ) (at : ℕ) (us vs : List ℕ) (j k : ℕ) → UtfStandsAt bytes at us j → UtfStandsAt bytes at vs k → (us ≡ vs) × (j ≡ k)
 utf_once bytes at us vs j k p q = elim ((texts.found bytes at (Ok (us, j)) p vs k).1 q) [
-      | inl e ↦ let same : ◌≡◌ {A = List ℕ × ℕ} (us, j) (vs, k) = cc in (ap (λ (r : List ℕ × ℕ). r.0) same, ap (λ (r : List ℕ × ℕ). r.1) same)
-      | inr free ↦ absurd free
-    ]
+  | inl e ↦ let same : ◌≡◌ {A = List ℕ × ℕ} (us, j) (vs, k) = cc in (ap (λ (r : List ℕ × ℕ). r.0) same, ap (λ (r : List ℕ × ℕ). r.1) same)
+  | inr free ↦ absurd free
+]
 
 utf_inside : (bytes : List ℕ) (at : ℕ) (us : List ℕ) (j : ℕ) → UtfStandsAt bytes at us j → UtfEndsInside (drop at bytes) → ⊥
-utf_inside bytes at us j p inside = elim ((texts.short bytes at (Ok (us, j)) p).1 inside) [ | inl e ↦ absurd (cc) | inr free ↦ free ]
+utf_inside bytes at us j p inside = elim ((texts.short bytes at (Ok (us, j)) p).1 inside) [ inl e ↦ absurd (cc) | inr free ↦ free ]
 
 utf_bad : (bytes : List ℕ) (at : ℕ) (us : List ℕ) (j : ℕ) → UtfStandsAt bytes at us j → IsBadUtf (drop at bytes) → ⊥
-utf_bad bytes at us j p bad = elim ((texts.bad bytes at (Ok (us, j)) p).1 bad) [ | inl e ↦ absurd (cc) | inr free ↦ free ]
+utf_bad bytes at us j p bad = elim ((texts.bad bytes at (Ok (us, j)) p).1 bad) [ inl e ↦ absurd (cc) | inr free ↦ free ]
 
 once_units : (rest : List ℕ) (why because : Reason) → (UtfEndsInside rest × (why ≡ Truncated)) ⊎ (IsBadUtf rest × (why ≡ BadName)) →
     (UtfEndsInside rest × (because ≡ Truncated)) ⊎ (IsBadUtf rest × (because ≡ BadName)) → why ≡ because

@@ -24,7 +24,10 @@ fn reads_each_item(rt: HostRuntime) -> Result<(), Fail> {
     assert_eq!(rt; cursor.vint(&mut store)?, u32::MAX);
     assert_eq!(rt; cursor.vlong(&mut store)?, 128);
     assert_eq!(rt; cursor.utf(&mut store)?.text(), "A");
-    assert_eq!(rt; cursor.run(&mut store, 2)?.as_slice(), [0xAA, 0xBB].as_slice());
+    assert_eq!(rt;
+        cursor.run(&mut store, 2)?.as_slice(),
+        [0xAA, 0xBB].as_slice()
+    );
     cursor.skip(3)?;
     assert_eq!(rt; cursor.at(), 30);
     let schema = cursor.schema(&mut store)?;
