@@ -1,5 +1,5 @@
 -- The bytes that a cursor read ahead.
-use Rattle.std.proofs.Common.{◌≡◌, ◌≤◌, ◌<◌, ◌+◌, ◌-◌, ℕ, List, [], take, drop, length, sym, ap, refl, subst, ◌∙◌, inl, inr, arith, Option, Some, None, Result, Ok, Err}
+use Rattle.std.proofs.Common.{◌≡◌, ◌≤◌, ◌+◌, ◌-◌, ℕ, List, [], take, drop, length, sym, ap, refl, subst, ◌∙◌, inl, arith, Option, Some, None, Ok}
 use Rattle.std.specs.Option.{OnSome, option_map}
 use Rattle.std.proofs.lemmas.List.{drop-take, drop-drop}
 use Rattle.std.proofs.lemmas.Grind.{common_steps}

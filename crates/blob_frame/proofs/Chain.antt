@@ -1,13 +1,12 @@
 -- Reading one part of a blob after another.
-use Rattle.std.proofs.Common.{◌≡◌, ◌≤◌, ℕ, zero, suc, List, [], ◌∷◌, Option, Some, None, Result, Ok, Err, refl, ◌∙◌, subst, sym, ap, inl, inr, arith}
-use Rattle.std.specs.Result.{IfErr}
+use Rattle.std.proofs.Common.{◌≡◌, ◌≤◌, ℕ, List, Option, Some, None, Result, Ok, Err, refl, ◌∙◌, subst, sym, ap, inl, inr, arith}
 use Rattle.hol_io.specs.Causes.{Rose}
 use Rattle.hol_io.specs.Store.{told}
 use Rattle.schema_model.specs.declared.reason.Reason.{Reason}
 use Rattle.blob_frame.specs.declared.fault.BlobFault.{BlobFault}
 use Rattle.blob_frame.specs.declared.fault.BlobFault.TheVariants as fault
 use Rattle.blob_frame.specs.Form.{Form, ◌>>=◌, nothing, judged}
-use Rattle.blob_frame.specs.Scene.{Scene, Stays, IsOver, IsItemFault, Tells, Reads}
+use Rattle.blob_frame.specs.Scene.{Scene, Stays, IsOver, Tells, Reads}
 
 -- a cause stays one where the count goes on
 pub rose_later : (a b c : ℕ) → Rose a b → b ≤ c → Rose a c

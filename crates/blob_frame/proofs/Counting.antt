@@ -1,8 +1,8 @@
 -- Reading so many of one part, one behind the other.
-use Rattle.std.proofs.Common.{◌≡◌, ◌≤◌, ◌<◌, ◌+◌, ◌-◌, ℕ, zero, suc, List, [], ◌∷◌, ◌++◌, Option, Some, None, Result, Ok, Err, refl, ◌∙◌, subst, sym, ap, arith, append_assoc, append-nil}
+use Rattle.std.proofs.Common.{◌≡◌, ◌≤◌, ◌<◌, ◌+◌, ◌-◌, ℕ, suc, List, [], ◌∷◌, ◌++◌, Result, Ok, Err, refl, subst, sym, ap, arith, append_assoc, append-nil}
 use Rattle.blob_frame.specs.declared.fault.BlobFault.{BlobFault}
 use Rattle.blob_frame.specs.declared.fault.BlobFault.TheVariants as fault
-use Rattle.blob_frame.specs.Form.{Form, ◌>>=◌, nothing, repeated}
+use Rattle.blob_frame.specs.Form.{Form, repeated}
 use Rattle.blob_frame.specs.Scene.{Scene, Stays, IsOver, Reads}
 use Rattle.blob_frame.proofs.Chain.{reads_then, reads_stops, reads_nothing, reads_free, stays_then}
 use Rattle.blob_frame.proofs.Runs.{stays_here}

@@ -1,5 +1,5 @@
 -- Each item of a blob is decided, and so are the schemas and the header that are made of them.
-use Rattle.std.proofs.Common.{◌≡◌, ◌≢◌, ◌≤◌, ◌<◌, ◌+◌, ◌*◌, ◌⊎◌, ℕ, zero, suc, List, get_or, length, take, drop, ◌==◌, if◌then◌else◌, Ok, Err, inl, inr, refl, ◌∙◌, subst, sym, ap, arith}
+use Rattle.std.proofs.Common.{◌≡◌, ◌<◌, ◌⊎◌, ℕ, zero, suc, List, get_or, length, drop, ◌==◌, if◌then◌else◌, Ok, Err, inl, inr, refl, ◌∙◌, subst, sym, ap, arith}
 use Rattle.std.specs.Int.{Width}
 use Rattle.hol_varint.specs.Varint.{VarStandsBelow, VarEndsInside, IsNullVar, IsLongVar}
 use Rattle.hol_varint.specs.JavaUtf.{UtfStandsAt, UtfEndsInside, IsBadUtf}
@@ -18,7 +18,7 @@ use Rattle.blob_frame.specs.Form.{IsDecided}
 use Rattle.blob_frame.specs.Item.{fixed, signed, varint, VarFails, units, name, run, skipped, end}
 use Rattle.blob_frame.specs.SchemaForm.{kind_byte, IsRefusedKind, schema_kind, type_text, IsFloatText, IsRefusedType, field_type, field_kind_of, field, fields, key_paths, shape_of, schema, schemas}
 use Rattle.blob_frame.specs.Header.{format, listed_schemas, enveloped_schemas, schema_envelope, name_pair, header_tags, header}
-use Rattle.blob_frame.proofs.Decided.{IsJudge, decided_nothing, decided_then, decided_judged, decided_at_most, decided_repeated}
+use Rattle.blob_frame.proofs.Decided.{decided_nothing, decided_then, decided_judged, decided_at_most, decided_repeated}
 
 pub decided_fixed : (w : Width) → IsDecided (fixed w)
 unfolding fixed

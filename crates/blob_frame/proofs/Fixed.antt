@@ -1,14 +1,12 @@
 -- Reading a number of a fixed size from the bytes that stand ahead.
-use Rattle.std.proofs.Common.{◌≡◌, ◌≤◌, ◌<◌, ◌+◌, ◌-◌, ℕ, List, [], ◌∷◌, get_or, take, drop, length, Option, Some, None, Result, Ok, Err, refl, ◌∙◌, subst, sym, ap, arith}
+use Rattle.std.proofs.Common.{◌≡◌, ◌≤◌, ◌+◌, ◌-◌, ℕ, List, [], ◌∷◌, get_or, take, drop, length, Option, Some, None, Result, Ok, Err, refl, ◌∙◌, subst, sym, ap, arith}
 use Rattle.std.specs.Int.{Width, w8, byte_len, from_be_bytes}
 use Rattle.std.proofs.lemmas.List.{drop-take, drop-drop, take-take, length-drop}
-use Rattle.std.proofs.lemmas.Grind.{common_steps}
 use Rattle.hol_io.specs.Store.{told}
-use Rattle.schema_model.specs.declared.reason.Reason.TheVariants.{Truncated}
 use Rattle.blob_frame.specs.declared.fault.BlobFault.{BlobFault}
 use Rattle.blob_frame.specs.declared.fault.BlobFault.TheVariants as fault
 use Rattle.blob_frame.specs.Item.{fixed}
-use Rattle.blob_frame.specs.Scene.{Place, Scene, scene, moved, Stays, IsOver, IsPlaceIn, IsItemFault, IsReadFault, Tells, Reads}
+use Rattle.blob_frame.specs.Scene.{Place, Scene, scene, moved, Stays, IsPlaceIn, IsItemFault, IsReadFault, Tells, Reads}
 use Rattle.blob_frame.specs.Filling.{Needs, TellsNeed}
 use Rattle.blob_frame.proofs.Chain.{told_stays}
 

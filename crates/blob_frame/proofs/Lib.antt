@@ -9,3 +9,4 @@ pub mod Counting
 pub mod Envelopes
 pub mod Decided
 pub mod DecidedItems
+pub mod Listing

@@ -2,19 +2,18 @@
 use Rattle.std.proofs.Common.{◌≡◌, ◌≢◌, ◌≤◌, ◌<◌, ◌+◌, ◌-◌, ◌^◌, ◌⊎◌, ℕ, zero, suc, List, [], ◌∷◌, ◌++◌, get_or, take, drop, length, min, cond, Bool, true, false, Option, Some, None, Result, Ok, Err, inl, inr, refl, ◌∙◌, subst, sym, ap, arith, length-append, length-drop, append_assoc}
 use Rattle.std.specs.Option.{IfSome}
 use Rattle.std.specs.Bool.{MatchBool}
-use Rattle.std.proofs.lemmas.List.{take-append-drop, get_or-take}
+use Rattle.std.proofs.lemmas.List.{take-append-drop}
 use Rattle.std.proofs.lemmas.Bool.{cases_lt}
 use Rattle.std.proofs.lemmas.Grind.{common_steps}
 use Rattle.hol_io.specs.Store.{told}
 use Rattle.hol_varint.specs.Varint.{GoOn, IsVarint, VarStandsBelow, VarEndsInside, IsNullVar, IsLongVar}
-use Rattle.schema_model.specs.declared.reason.Reason.{Reason}
 use Rattle.schema_model.specs.declared.reason.Reason.TheVariants.{Truncated, BadVarint}
 use Rattle.blob_frame.specs.declared.fault.BlobFault.{BlobFault}
 use Rattle.blob_frame.specs.declared.fault.BlobFault.TheVariants as fault
 use Rattle.blob_frame.specs.Item.{VarFails, varint}
-use Rattle.blob_frame.specs.Scene.{Place, Scene, scene, moved, Stays, IsOver, IsPlaceIn, Tells, Reads}
+use Rattle.blob_frame.specs.Scene.{Place, Scene, scene, moved, IsPlaceIn, Tells, Reads}
 use Rattle.blob_frame.specs.Filling.{Fills, StopsLater, Seeks}
-use Rattle.blob_frame.proofs.Chain.{told_stays, stays_then, rose_later}
+use Rattle.blob_frame.proofs.Chain.{told_stays, stays_then}
 use Rattle.blob_frame.proofs.Fixed.{take_ahead, within_ahead, over_moved, stays_passed}
 use Rattle.blob_frame.proofs.Seeking.{long_run}
 

@@ -1,8 +1,8 @@
 -- Reading a run of bytes piece by piece, moving past one, and the end of a blob.
-use Rattle.std.proofs.Common.{◌≡◌, ◌≤◌, ◌<◌, ◌+◌, ◌-◌, ℕ, List, [], ◌++◌, take, drop, length, min, Option, Some, None, Result, Ok, Err, refl, ◌∙◌, subst, sym, ap, arith, length-append, length-drop}
+use Rattle.std.proofs.Common.{◌≡◌, ◌≤◌, ◌<◌, ◌+◌, ◌-◌, ℕ, List, [], ◌++◌, take, drop, length, min, Option, Some, None, Result, Ok, Err, refl, ◌∙◌, subst, sym, ap, arith, length-append}
 use Rattle.std.specs.Option.{IfSome}
 use Rattle.std.proofs.Math.Seq.{take-add}
-use Rattle.std.proofs.lemmas.List.{drop-drop, take-take, length-take}
+use Rattle.std.proofs.lemmas.List.{drop-drop}
 use Rattle.std.proofs.lemmas.Grind.{common_steps}
 use Rattle.hol_io.specs.Store.{Store, told}
 use Rattle.schema_model.specs.declared.reason.Reason.TheVariants.{Truncated, TrailingBytes}

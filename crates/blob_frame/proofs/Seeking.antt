@@ -13,7 +13,7 @@ use Rattle.blob_frame.specs.declared.fault.BlobFault.TheVariants as fault
 use Rattle.blob_frame.specs.Scene.{Place, Scene, scene, moved, Stays, IsOver, IsPlaceIn}
 use Rattle.blob_frame.specs.Filling.{Fills, StopsLater, Seeks, HasAhead}
 use Rattle.blob_frame.proofs.Chain.{told_stays, stays_then, rose_earlier}
-use Rattle.blob_frame.proofs.Fixed.{take_ahead, over_moved, stays_passed}
+use Rattle.blob_frame.proofs.Fixed.{stays_passed}
 use Rattle.blob_frame.proofs.Runs.{stays_here}
 
 -- what the groups of the bytes make, behind those that make high

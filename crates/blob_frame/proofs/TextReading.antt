@@ -1,8 +1,7 @@
 -- Reading a Java UTF text: its bytes are gathered, and its units are read from them.
-use Rattle.std.proofs.Common.{◌≡◌, ◌≤◌, ◌<◌, ◌+◌, ◌-◌, ◌*◌, ◌/◌, ◌%◌, ℕ, List, [], ◌∷◌, get_or, take, drop, length, Option, Some, None, Result, Ok, Err, inl, inr, refl, ◌∙◌, subst, sym, ap, arith, length-drop}
+use Rattle.std.proofs.Common.{◌≡◌, ◌≤◌, ◌+◌, ◌-◌, ◌*◌, ◌/◌, ◌%◌, ℕ, List, ◌∷◌, get_or, take, drop, length, Option, Some, None, Result, Ok, Err, inl, inr, refl, ◌∙◌, subst, sym, ap, arith, length-drop}
 use Rattle.std.specs.Result.{IfErr}
 use Rattle.std.proofs.lemmas.List.{get_or-take, length-take-le}
-use Rattle.std.proofs.lemmas.Grind.{common_steps}
 use Rattle.hol_io.specs.Store.{told}
 use Rattle.hol_varint.specs.JavaUtf.{UtfStandsAt, UtfEndsInside, IsBadUtf, text_length, utf_bytes, java_bytes}
 use Rattle.hol_varint.proofs.Windows.{window_utf, window_bad}
@@ -10,7 +9,7 @@ use Rattle.schema_model.specs.declared.reason.Reason.TheVariants.{Truncated, Bad
 use Rattle.blob_frame.specs.declared.fault.BlobFault.{BlobFault}
 use Rattle.blob_frame.specs.declared.fault.BlobFault.TheVariants as fault
 use Rattle.blob_frame.specs.Item.{units, run}
-use Rattle.blob_frame.specs.Scene.{Place, Scene, scene, moved, Stays, IsOver, IsPlaceIn, IsItemFault, IsReadFault, Tells, Reads}
+use Rattle.blob_frame.specs.Scene.{Place, Scene, IsPlaceIn, IsItemFault, IsReadFault, Tells, Reads}
 use Rattle.blob_frame.specs.Filling.{Needs, TellsNeed}
 use Rattle.blob_frame.proofs.Chain.{told_stays, stays_then, rose_earlier}
 use Rattle.blob_frame.proofs.Fixed.{item_fault}

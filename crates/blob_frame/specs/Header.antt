@@ -1,5 +1,5 @@
 -- The header of a blob: the format, the tags of the state before and of this state, the schemas, and pairs of texts.
-use Rattle.std.specs.Prelude.{◌≡◌, ◌≢◌, ℕ, zero, suc, ℤ, List, []}
+use Rattle.std.specs.Prelude.{◌≡◌, ◌≢◌, ℕ, zero, suc, List, []}
 use Rattle.std.specs.Int.{w16, w32}
 use Rattle.schema_model.specs.declared.reason.Reason.{Reason}
 use Rattle.schema_model.specs.declared.reason.Reason.TheVariants.{OtherFormat}

@@ -5,3 +5,4 @@ pub mod Header
 pub mod Scene
 pub mod Filling
 pub mod Starting
+pub mod Written

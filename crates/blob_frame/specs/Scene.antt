@@ -1,5 +1,5 @@
 -- What a reader of a blob starts from and leaves: the store, and the cursor's place in the blob.
-use Rattle.std.specs.Prelude.{◌≡◌, ◌≢◌, ◌≤◌, ◌+◌, ◌⊎◌, ℕ, List, length, take, drop, Option, Some, None, Result, Ok, Err, IfErr, IsErrAnd}
+use Rattle.std.specs.Prelude.{◌≡◌, ◌≤◌, ◌+◌, ◌⊎◌, ℕ, List, length, take, drop, Option, Some, None, Result, Ok, Err, IfErr, IsErrAnd}
 use Rattle.hol_io.specs.Causes.{Rose}
 use Rattle.hol_io.specs.Store.{Store, told}
 use Rattle.hol_io.specs.declared.name.BlobName.{BlobName}

@@ -1,5 +1,5 @@
 -- The bytes of a schema: its kind, its name, and what its kind calls for.
-use Rattle.std.specs.Prelude.{◌≡◌, ◌<◌, ◌⊎◌, ℕ, List, codes, Option, Some, None}
+use Rattle.std.specs.Prelude.{◌≡◌, ◌<◌, ◌⊎◌, ℕ, List, codes, Some, None}
 use Rattle.std.specs.Int.{w8, w16}
 use Rattle.schema_model.specs.declared.reason.Reason.{Reason}
 use Rattle.schema_model.specs.declared.reason.Reason.TheVariants.{BadSchema, FloatField, KeyedHash}

@@ -1,12 +1,10 @@
 -- How a cursor comes to a blob: the blob is there, and it is not too large.
-use Rattle.std.specs.Prelude.{◌≡◌, ◌≤◌, ◌<◌, ◌^◌, ◌⊎◌, ℕ, List, [], length, Option, Some, None, Result, Ok, Err, IfErr, IsErrAnd}
-use Rattle.hol_io.specs.Causes.{Rose}
-use Rattle.hol_io.specs.Store.{Store, told}
+use Rattle.std.specs.Prelude.{◌≡◌, ◌≤◌, ◌<◌, ◌^◌, ◌⊎◌, ℕ, List, [], length, Option, Some, None, Result, Ok, Err, IsErrAnd}
 use Rattle.hol_io.specs.declared.name.BlobName.{BlobName}
 use Rattle.schema_model.specs.declared.limit.Limit.TheVariants.{Blob}
 use Rattle.blob_frame.specs.declared.fault.BlobFault.{BlobFault}
 use Rattle.blob_frame.specs.declared.fault.BlobFault.TheVariants as fault
-use Rattle.blob_frame.specs.Scene.{Place, IsPlaceIn, IsFree}
+use Rattle.blob_frame.specs.Scene.{Place, IsFree}
 
 -- The most bytes that a blob may have.
 abbrev pub largest : ℕ

@@ -11,10 +11,12 @@ mod reading;
 mod schema;
 mod texts;
 mod varints;
+mod writing;
 
 pub use cursor::Cursor;
 pub use fault::BlobFault;
 pub use header::Header;
+pub use writing::put_header;
 
 #[cfg(test)]
 mod tests;

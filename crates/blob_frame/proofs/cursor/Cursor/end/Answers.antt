@@ -1,5 +1,4 @@
-use Rattle.std.proofs.Common.{arith, rules, ap}
-use Rattle.blob_frame.specs.declared.fault.BlobFault.{BlobFault}
+use Rattle.std.proofs.Common.{arith, ap}
 use Rattle.std.proofs.Common.{Err}
 use Rattle.blob_frame.proofs.Runs.{reads_end, reads_trailing}
 use Rattle.blob_frame.proofs.cursor.Cursor.end.Goals as goal

@@ -1,6 +1,6 @@
 use Rattle.std.proofs.Common.{rules}
 use Rattle.blob_frame.specs.Header.{header_tags}
-use Rattle.blob_frame.proofs.Chain.{reads_then, reads_stops, reads_nothing}
+use Rattle.blob_frame.proofs.Chain.{reads_then, reads_stops}
 use Rattle.blob_frame.proofs.cursor.Cursor.header_tags.Goals as goal
 
 pub returns-in_err-count : goal.returns-in_err-count

@@ -1,4 +1,4 @@
-use Rattle.std.proofs.Common.{arith, rules, ap, ◌≤◌, ◌+◌, ℕ, List, length, Err}
+use Rattle.std.proofs.Common.{arith, ap, ◌≤◌, ◌+◌, ℕ, List, length, Err}
 use Rattle.std.proofs.lemmas.Grind.{common_steps}
 use Rattle.blob_frame.proofs.Runs.{gathers_more, gathers_done, reads_cut}
 use Rattle.blob_frame.proofs.cursor.Cursor.run.Goals as goal

@@ -1,4 +1,4 @@
-use Rattle.std.proofs.Common.{◌-◌, length, vec_len}
+use Rattle.std.proofs.Common.{◌-◌, length}
 use Rattle.blob_frame.specs.Scene.{scene}
 use Rattle.blob_frame.proofs.Runs.{Gathers}
 use Rattle.blob_frame.proofs.cursor.Cursor.run.Given as goal

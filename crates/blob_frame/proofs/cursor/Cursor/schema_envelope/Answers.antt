@@ -1,4 +1,4 @@
-use Rattle.std.proofs.Common.{rules, arith, ap, Ok}
+use Rattle.std.proofs.Common.{rules, ap, Ok}
 use Rattle.blob_frame.specs.Header.{schema_envelope}
 use Rattle.blob_frame.proofs.Chain.{reads_then, reads_stops}
 use Rattle.blob_frame.proofs.Envelopes.{reads_unlisted, reads_listed}

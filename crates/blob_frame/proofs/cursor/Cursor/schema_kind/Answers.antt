@@ -1,4 +1,4 @@
-use Rattle.std.proofs.Common.{rules, arith, ap, refl, Err, ℕ}
+use Rattle.std.proofs.Common.{rules, ap, Err}
 use Rattle.blob_frame.specs.declared.fault.BlobFault.TheVariants.{Bad}
 use Rattle.blob_frame.specs.SchemaForm.{schema_kind}
 use Rattle.blob_frame.proofs.Chain.{reads_judged, reads_unread, reads_refused}

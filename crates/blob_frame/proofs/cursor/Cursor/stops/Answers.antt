@@ -1,4 +1,4 @@
-use Rattle.std.proofs.Common.{◌<◌, ℕ, List, length, take, get_or, subst, ap, arith, rules, ◌∙◌}
+use Rattle.std.proofs.Common.{◌<◌, ℕ, List, length, take, get_or, subst, ap}
 use Rattle.hol_varint.specs.Varint.{GoOn}
 use Rattle.blob_frame.proofs.Seeking.{seeking_found, seeking_more}
 use Rattle.blob_frame.proofs.cursor.Cursor.stops.Goals as goal

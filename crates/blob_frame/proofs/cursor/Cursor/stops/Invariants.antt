@@ -1,4 +1,4 @@
-use Rattle.std.proofs.Common.{◌-◌, length}
+use Rattle.std.proofs.Common.{◌-◌}
 use Rattle.blob_frame.specs.Scene.{scene}
 use Rattle.blob_frame.proofs.Seeking.{Seeking}
 use Rattle.blob_frame.proofs.cursor.Cursor.stops.Given as goal

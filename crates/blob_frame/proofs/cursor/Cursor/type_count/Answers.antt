@@ -1,4 +1,4 @@
-use Rattle.std.proofs.Common.{rules, arith, ap, refl, Err, ℕ}
+use Rattle.std.proofs.Common.{rules, arith, ap, refl, Err}
 use Rattle.blob_frame.specs.declared.fault.BlobFault.TheVariants.{Bad}
 use Rattle.schema_model.specs.declared.reason.Reason.TheVariants.{BadSchema}
 use Rattle.blob_frame.specs.Form.{at_most}

@@ -1,4 +1,4 @@
-use Rattle.std.proofs.Common.{◌≡◌, ◌+◌, ◌*◌, ℕ, List, get_or, subst, ap, arith, rules, Err}
+use Rattle.std.proofs.Common.{ℕ, List, get_or, subst, ap, arith, rules, Err}
 use Rattle.hol_varint.specs.JavaUtf.{UtfStandsAt, UtfEndsInside, IsBadUtf}
 use Rattle.blob_frame.proofs.TextReading.{reads_no_length, reads_units, reads_bad_units, reads_short_units, reads_cut_units}
 use Rattle.blob_frame.proofs.cursor.Cursor.units.Goals as goal

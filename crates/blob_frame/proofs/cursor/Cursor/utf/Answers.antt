@@ -1,5 +1,4 @@
-use Rattle.std.proofs.Common.{refl, ◌≡◌, ℕ, List, arith, rules, ap, Err, sym, subst}
-use Rattle.hol_varint.specs.TextUnits.{IsTextOf, AreWellFormed}
+use Rattle.std.proofs.Common.{refl, rules, ap, Err}
 use Rattle.schema_model.specs.declared.reason.Reason.TheVariants.{BadName}
 use Rattle.blob_frame.specs.declared.fault.BlobFault.TheVariants.{Bad}
 use Rattle.blob_frame.specs.Item.{name}

@@ -1,4 +1,4 @@
-use Rattle.std.proofs.Common.{◌^◌, ℕ, List, subst, ap, arith, rules, inl, inr, Err}
+use Rattle.std.proofs.Common.{◌^◌, ℕ, List, subst, ap, arith, inl, inr, Err}
 use Rattle.hol_varint.specs.Varint.{VarStandsBelow, VarEndsInside, IsNullVar, IsLongVar}
 use Rattle.blob_frame.proofs.Numbers.{reads_number, reads_bad_number, reads_unended}
 use Rattle.blob_frame.proofs.cursor.Cursor.vlong.Goals as goal

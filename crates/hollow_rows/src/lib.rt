@@ -1,0 +1,11 @@
+//! Worked cases of the program as tables, run through the top call over memory. Nothing stands on this crate.
+#![tactic(auto)]
+
+#[cfg(test)]
+mod bench;
+#[cfg(test)]
+mod heads;
+#[cfg(test)]
+mod outside;
+#[cfg(test)]
+mod usage;
