@@ -21,6 +21,7 @@ fn keeps_blobs_in_a_folder(rt: HostRuntime) {
     assert!(rt; store.put(&snapshot, b"old").is_ok());
     assert!(rt; store.put(&snapshot, b"abcde").is_ok());
     assert!(rt; store.put(&delta, b"x").is_ok());
+    let mut names = Vec::new(alloc);
     assert!(rt; store.list(&mut names) == Ok(()));
     assert!(rt; names.as_slice() == [snapshot, delta].as_slice());
     assert!(rt; store.size(&snapshot) == Ok(Some(5)));
