@@ -37,6 +37,7 @@ fn keeps_blobs_in_a_folder(rt: HostRuntime) {
 
     assert!(rt; fs::create_dir(&rt, "blobs/snapshot-2").is_ok());
     assert!(rt; store.size(&BlobName::Snapshot(2)) == Err(StoreFailed));
+    assert!(rt; fs::remove_dir_all(&rt, "blobs").is_ok());
 }
 
 #[test]
