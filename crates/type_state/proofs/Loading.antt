@@ -1,0 +1,124 @@
+-- Which rows a section is that of.
+use Rattle.std.proofs.Common.{◌≡◌, ℕ, ◌+◌, ◌^◌, ◌<◌, ◌≤◌, inl, inr, List, [], ◌∷◌, zero, suc, length, get_or, Some, None, Result, Ok, Err, refl, ap, sym, ◌∙◌, subst, arith}
+use Rattle.std.specs.Prelude.{All}
+use Rattle.std.specs.FinMap.{entries, keys}
+use Rattle.std.specs.Map.{keys_of, values_of}
+use Rattle.std.specs.Ordering.{nat_cmp}
+use Rattle.std.specs.List.Sorted.{IsStrictlyIncreasing, IsStrictlySortedBy}
+use Rattle.std.proofs.lemmas.List.Elements.{All-contains, All-contains_itself}
+use Rattle.std.proofs.lemmas.Map.Keys.{sorted_from_strictly_increasing}
+use Rattle.hol_varint.specs.Yields.{Yields}
+use Rattle.ordinal_set.specs.Ordinals.{TellsNext, bound_of}
+use Rattle.schema_model.specs.Parts.{shape_fields}
+use Rattle.schema_model.specs.Table.{RowMap}
+use Rattle.schema_model.specs.declared.schema.Shape.{Shape}
+use Rattle.schema_model.specs.declared.row.Row.{Row}
+use Rattle.object_codec.proofs.Rows.{row_once}
+use Rattle.type_state.specs.declared.section.Section.{Section}
+use Rattle.type_state.specs.declared.fault.RowFault.{RowFault}
+use Rattle.type_state.specs.Layout.{places_of, fixed_words}
+use Rattle.type_state.specs.WordsHeld.{bytes_held, row_bytes}
+use Rattle.type_state.specs.Ends.{FitsRow, HasValues}
+use Rattle.std.proofs.lemmas.List.{length-map}
+use Rattle.schema_model.specs.declared.schema.Field.{Field}
+use Rattle.schema_model.specs.declared.row.Value.{Value}
+use Rattle.object_codec.specs.Part.{Part}
+use Rattle.object_codec.specs.ObjectPlace.{parts_of, SpellsFields}
+use Rattle.type_state.specs.Holds.{HoldsRows}
+use Rattle.type_state.specs.State.{rows_of}
+use Rattle.type_state.specs.Loads.{IsSpelledIn, Loads, AreRead, TellsRow, RefusesRows, RefusesLoad, TellsLoad, IsFreeRow, layout_of}
+use Rattle.type_state.proofs.Entries.{kept_entries}
+use Rattle.type_state.proofs.Reading.{IsFunction, Progress, misfit, heavy}
+
+-- A place spells one row.
+pub one_row : (shape : Shape) (section : Section) → IsFunction (IsSpelledIn shape section)
+one_row shape section = record { once = λ o a b. row_once shape section.widths section.first section.areas o a b }
+
+-- The entries that were read are those of the rows.
+pub same_rows : (shape : Shape) (section : Section) (es : List (ℕ × Row)) → AreRead shape section es → IsStrictlyIncreasing section.live → entries (rows_of es) ≡ es
+same_rows shape section es read rising = kept_entries es (subst (IsStrictlySortedBy nat_cmp) (sym read.live) (sorted_from_strictly_increasing section.live rising))
+
+pub loads : (shape : Shape) (section : Section) (es : List (ℕ × Row)) → AreRead shape section es → IsStrictlyIncreasing section.live → All (λ o. o < places_of section.max) section.live → fixed_words (layout_of section) ≤ 2 ^ 22
+    → Loads shape section (rows_of es)
+loads shape section es read rising places words =
+    let same = same_rows shape section es read rising in
+    let live : keys (rows_of es) ≡ section.live = ap keys_of same ∙ read.live in
+    let rows = ap values_of same in
+    record {
+      is = record { live = live; places = places; spelled = subst (All (IsSpelledIn shape section)) (sym same) read.spelled };
+      held = record { parts = subst (HoldsRows (shape_fields shape) section.widths []) (sym rows) read.held; places = subst (All (λ o. o < places_of section.max)) (sym live) places };
+      within = record { words = words; bytes = subst (λ vs. bytes_held vs ≤ 2 ^ 25) (sym rows) read.bytes };
+    }
+
+pub bound_same : (shape : Shape) (section : Section) (es : List (ℕ × Row)) (bound : ℕ) → AreRead shape section es → IsStrictlyIncreasing section.live → bound ≡ bound_of section.live → bound ≡ bound_of (keys (rows_of es))
+bound_same shape section es bound read rising is = is ∙ ap bound_of (sym (ap keys_of (same_rows shape section es read rising) ∙ read.live))
+
+-- Rows that load are read.
+read_from : (shape : Shape) (section : Section) (rows : RowMap) → Loads shape section rows → AreRead shape section (entries rows)
+read_from shape section rows l = record { live = l.is.live; spelled = l.is.spelled; held = l.held.parts; bytes = l.within.bytes }
+
+pub refuses : (shape : Shape) (section : Section) (fault : RowFault) → RefusesRows shape section fault → RefusesLoad shape section fault
+refuses shape section RowFault.Memory h = tt
+refuses shape section (RowFault.At reason o) h = λ rows l. h (entries rows) (read_from shape section rows l)
+refuses shape section (RowFault.Limit limit) h = λ rows l. h (entries rows) (read_from shape section rows l)
+
+pub above : (shape : Shape) (section : Section) (places o : ℕ) → places ≡ places_of section.max → TellsNext places section.live (Some o) → (rows : RowMap) → Loads shape section rows → ⊥
+above shape section places o is next rows l =
+    let low = All-contains (λ m. m < places_of section.max) section.live o l.is.places next.member in omega (arith, next.from)
+
+pub none_above : (section : Section) (places : ℕ) → places ≡ places_of section.max → TellsNext places section.live None → All (λ o. o < places_of section.max) section.live
+none_above section places is none k d h = subst (λ n. get_or section.live k d < n) is (none (get_or section.live k d) (All-contains_itself section.live k d h))
+
+-- The answer is Ok exactly where some rows load.
+pub exact : (shape : Shape) (section : Section) (rows : RowMap) (result : Result (Unit {0}) RowFault) → TellsLoad shape section rows result → Yields IsFreeRow result (Ok tt) ((some : RowMap) × Loads shape section some)
+exact shape section rows (Ok tt) told = (λ e. (rows, told), λ h. inl refl)
+exact shape section rows (Err RowFault.Memory) told = (λ e. absurd cc, λ h. inr tt)
+exact shape section rows (Err (RowFault.At reason o)) told = (λ e. absurd cc, λ h. absurd (told h.0 h.1))
+exact shape section rows (Err (RowFault.Limit limit)) told = (λ e. absurd cc, λ h. absurd (told h.0 h.1))
+
+-- An ordinal whose place spells no row: the section is that of no rows.
+key_in : (es : List (ℕ × Row)) (index : ℕ) (d : ℕ × Row) → index < length es → get_or (keys_of es) index 0 ≡ (get_or es index d).0
+key_in [] index d inside = absurd (omega arith)
+key_in (e ∷ es) zero d inside = refl
+key_in (e ∷ es) (suc index) d inside = key_in es index d (omega arith)
+
+key_at : (es : List (ℕ × Row)) (live : List ℕ) (index : ℕ) (d : ℕ × Row) → keys_of es ≡ live → index < length live → (get_or es index d).0 ≡ get_or live index 0
+key_at es live index d is inside =
+    let long : length (keys_of es) ≡ length es = length-map es (λ e. e.0) in
+    let same = ap length is in
+    sym (key_in es index d (omega arith)) ∙ ap (λ t. get_or t index 0) is
+
+none_at : (shape : Shape) (section : Section) (live : List ℕ) (index : ℕ) (rows : List (ℕ × Row)) → live ≡ section.live → index < length live → ((row : Row) → IsSpelledIn shape section (get_or live index 0, row) → ⊥) → AreRead shape section rows → ⊥
+none_at shape section live index rows same inside told read =
+    let d : ℕ × Row = (0, Row.List []) in
+    let key = key_at rows live index d (read.live ∙ sym same) inside in
+    let long : length (keys_of rows) ≡ length rows = length-map rows (λ e. e.0) in
+    let count = ap length (read.live ∙ sym same) in
+    told (get_or rows index d).1 (subst (λ o. IsSpelledIn shape section (o, (get_or rows index d).1)) key (read.spelled index d (omega arith)))
+
+pub row_refused : (shape : Shape) (section : Section) (live : List ℕ) (index : ℕ) (fault : RowFault) → live ≡ section.live → index < length live → TellsRow shape section (get_or live index 0) (Err fault) → RefusesRows shape section fault
+row_refused shape section live index RowFault.Memory same inside told = tt
+row_refused shape section live index (RowFault.At reason o) same inside told = λ rows read. none_at shape section live index rows same inside told read
+row_refused shape section live index (RowFault.Limit limit) same inside told = λ rows read. none_at shape section live index rows same inside told read
+
+-- A record that is spelled has a value for each field.
+fields_long : (fields : List Field) (parts : List Part) (values : List Value) → SpellsFields fields parts values → length values ≡ length fields
+fields_long [] [] [] h = refl
+fields_long (f ∷ fs) (p ∷ ps) (v ∷ vs) h = ap (λ n. suc n) (fields_long fs ps vs h.1)
+fields_long _ _ _ h = absurd h
+
+pub has_values : (shape : Shape) (section : Section) (fields : List Field) (o : ℕ) (row : Row) → fields ≡ shape_fields shape → IsSpelledIn shape section (o, row) → HasValues row (length fields)
+has_values shape section fields o (Row.Object values) is h = fields_long (shape_fields shape) (parts_of section.widths section.first section.areas o) values h ∙ ap length (sym is)
+has_values shape section fields o _ is h = absurd h
+
+-- What the loop over the rows refuses, and how it goes on.
+pub misfit_rows : (shape : Shape) (section : Section) (fields : List Field) (live : List ℕ) (index : ℕ) (es : List (ℕ × Row)) (ends : List ℕ) (bytes : ℕ) (row : Row) → fields ≡ shape_fields shape → live ≡ section.live
+    → Progress (IsSpelledIn shape section) fields section.widths live index es ends bytes → index < length live → IsSpelledIn shape section (get_or live index 0, row) → (FitsRow fields section.widths ends row → ⊥) → (rows : List (ℕ × Row)) → AreRead shape section rows → ⊥
+misfit_rows shape section fields live index es ends bytes row is same p inside here wide rows read =
+    misfit (IsSpelledIn shape section) (one_row shape section) fields section.widths live index es ends bytes (get_or live index 0) row p inside refl here wide rows (read.live ∙ sym same) read.spelled
+    (subst (λ fs. HoldsRows fs section.widths [] (values_of rows)) (sym is) read.held)
+
+pub heavy_rows : (shape : Shape) (section : Section) (fields : List Field) (live : List ℕ) (index : ℕ) (es : List (ℕ × Row)) (ends : List ℕ) (bytes counted : ℕ) (row : Row) → live ≡ section.live
+    → Progress (IsSpelledIn shape section) fields section.widths live index es ends bytes → index < length live → IsSpelledIn shape section (get_or live index 0, row) → 2 ^ 25 < counted → counted ≤ bytes + row_bytes row → (rows : List (ℕ × Row)) → AreRead shape section rows → ⊥
+heavy_rows shape section fields live index es ends bytes counted row same p inside here over most rows read =
+    heavy (IsSpelledIn shape section) (one_row shape section) fields section.widths live index es ends bytes (get_or live index 0) row p inside refl here (omega arith) rows (read.live ∙ sym same) read.spelled read.bytes

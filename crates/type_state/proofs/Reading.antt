@@ -1,0 +1,163 @@
+-- The rows of a section, read one after another by rising ordinal.
+use Rattle.std.proofs.Common.{◌≡◌, ℕ, ◌+◌, ◌^◌, ◌<◌, ◌≤◌, List, [], ◌∷◌, ◌++◌, length, take, drop, get_or, refl, ap, sym, ◌∙◌, subst, arith, append_assoc, suc, zero-add}
+use Rattle.std.specs.Prelude.{All, slice_index}
+use Rattle.std.specs.declared.cmp.Ordering.TheVariants.{Greater}
+use Rattle.std.specs.Ordering.{nat_cmp, match_ordering}
+use Rattle.std.specs.BTreeMap.{insert_entry}
+use Rattle.std.specs.Map.{keys_of, values_of}
+use Rattle.std.specs.List.Sorted.{IsStrictlyIncreasing}
+use Rattle.std.proofs.lemmas.List.{take_more, take-map, map-append, take-append-drop, length-take, length-map, get_or-take}
+use Rattle.std.proofs.lemmas.List.Elements.{All-take, All-append, All-from_recursion}
+use Rattle.std.proofs.lemmas.List.Sums.{sum_by-append}
+use Rattle.std.proofs.lemmas.Map.Keys.{sorted_from_strictly_increasing, below_from_sorted}
+use Rattle.schema_model.specs.declared.schema.Field.{Field}
+use Rattle.schema_model.specs.declared.row.Value.{Value}
+use Rattle.schema_model.specs.declared.row.Row.{Row}
+use Rattle.type_state.specs.WordsHeld.{row_bytes, part_bytes, field_bytes, bytes_held}
+use Rattle.type_state.specs.Holds.{FitsWidth, FitsWidths, HoldsRow, HoldsRows}
+use Rattle.type_state.specs.Ends.{end_after, FitsRow}
+
+abbrev pub Entry : Type 0
+Entry = ℕ × Row
+
+-- The map's new entry comes last, where its key is above the others.
+greater : (k m : ℕ) → m < k → nat_cmp k m ≡ Greater
+greater k m h = grind arith
+
+pub insert_last : (es : List Entry) (k : ℕ) (v : Row) → ((i : ℕ) → i < length es → get_or (keys_of es) i 0 < k) → insert_entry nat_cmp es k v ≡ es ++ (k, v) ∷ []
+insert_last [] k v below = refl
+insert_last (e ∷ es) k v below =
+    ap (λ r. match_ordering r ((k, v) ∷ e ∷ es) ((e.0, v) ∷ es) (e ∷ insert_entry nat_cmp es k v)) (greater k e.0 (below 0 (omega arith)))
+    ∙ ap (λ rest. e ∷ rest) (insert_last es k v (λ i h. below (suc i) (omega arith)))
+
+-- The same entries: equal keys, and for each key one row.
+pub record IsFunction (P : Entry → Type 0) : Type 0 where
+  pub once : (o : ℕ) (a b : Row) → P (o, a) → P (o, b) → a ≡ b
+
+same_entry : (P : Entry → Type 0) → IsFunction P → (e f : Entry) → e.0 ≡ f.0 → P e → P f → e ≡ f
+same_entry P one e f key a b =
+    let rows : e.1 ≡ f.1 = one.once f.0 e.1 f.1 (subst (λ o. P (o, e.1)) key a) b in λ i. (key i, rows i)
+
+head_or : List ℕ → ℕ
+head_or [] = 0
+head_or (x ∷ xs) = x
+
+tail_of : List ℕ → List ℕ
+tail_of [] = []
+tail_of (x ∷ xs) = xs
+
+pub same_entries : (P : Entry → Type 0) → IsFunction P → (es fs : List Entry) → keys_of es ≡ keys_of fs → All P es → All P fs → es ≡ fs
+unfolding head_or tail_of
+same_entries P one [] [] keys a b = refl
+same_entries P one [] (f ∷ fs) keys a b = absurd (let e = ap length keys in omega arith)
+same_entries P one (e ∷ es) [] keys a b = absurd (let e = ap length keys in omega arith)
+same_entries P one (e ∷ es) (f ∷ fs) keys a b =
+    let first = same_entry P one e f (ap head_or keys) (a 0 e (omega arith)) (b 0 e (omega arith)) in
+    let rest = same_entries P one es fs (ap tail_of keys) (λ k d h. a (suc k) d (omega arith)) (λ k d h. b (suc k) d (omega arith)) in
+    λ i. first i ∷ rest i
+
+-- Rows that fit, and one more behind them.
+pub held_more : (fields : List Field) (widths : List ℕ) (before rows : List Row) (row : Row) → HoldsRows fields widths before rows → HoldsRow fields widths (before ++ (rows ++ row ∷ [])) row → HoldsRows fields widths before (rows ++ row ∷ [])
+held_more fields widths before [] row h last = (last, tt)
+held_more fields widths before (r ∷ rows) row h last =
+    (h.0, held_more fields widths (before ++ r ∷ []) rows row h.1 (subst (λ all. HoldsRow fields widths all row) (sym (append_assoc before (r ∷ []) (rows ++ row ∷ []))) last))
+
+pub held_at : (fields : List Field) (widths : List ℕ) (before rows : List Row) (row : Row) (after : List Row) → HoldsRows fields widths before (rows ++ row ∷ after) → HoldsRow fields widths (before ++ (rows ++ row ∷ [])) row
+held_at fields widths before [] row after h = h.0
+held_at fields widths before (r ∷ rows) row after h =
+    subst (λ all. HoldsRow fields widths all row) (append_assoc before (r ∷ []) (rows ++ row ∷ [])) (held_at fields widths (before ++ r ∷ []) rows row after h.1)
+
+-- The end offsets behind one more row.
+pub more_bytes : (f : ℕ) (rows : List Row) (row : Row) → field_bytes f (rows ++ row ∷ []) ≡ field_bytes f rows + part_bytes f row
+more_bytes f rows row = sum_by-append (part_bytes f) rows (row ∷ []) ∙ ap (λ n. field_bytes f rows + n) (zero-add (part_bytes f row))
+
+fits_same : (fields : List Field) (widths : List ℕ) (values : List Value) (one other : ℕ → ℕ) → ((f : ℕ) → one f ≡ other f) → FitsWidths fields widths one values → FitsWidths fields widths other values
+fits_same fields widths values one other same h f field value gf gv = subst (λ e. FitsWidth field.kind (slice_index widths f) e value) (same f) (h f field value gf gv)
+
+pub holds_row : (fields : List Field) (widths ends : List ℕ) (rows : List Row) (row : Row) → ((f : ℕ) → slice_index ends f ≡ field_bytes f rows) → FitsRow fields widths ends row → HoldsRow fields widths (rows ++ row ∷ []) row
+holds_row fields widths ends rows (Row.Object values) is h =
+    fits_same fields widths values (end_after ends values) (λ f. field_bytes f (rows ++ Row.Object values ∷ []))
+    (λ f. ap (λ n. n + part_bytes f (Row.Object values)) (is f) ∙ sym (more_bytes f rows (Row.Object values))) h
+holds_row fields widths ends rows _ is h = absurd h
+
+pub fits_row : (fields : List Field) (widths ends : List ℕ) (rows : List Row) (row : Row) → ((f : ℕ) → slice_index ends f ≡ field_bytes f rows) → HoldsRow fields widths (rows ++ row ∷ []) row → FitsRow fields widths ends row
+fits_row fields widths ends rows (Row.Object values) is h =
+    fits_same fields widths values (λ f. field_bytes f (rows ++ Row.Object values ∷ [])) (end_after ends values)
+    (λ f. more_bytes f rows (Row.Object values) ∙ sym (ap (λ n. n + part_bytes f (Row.Object values)) (is f))) h
+fits_row fields widths ends rows _ is h = absurd h
+
+-- The rows of the live ordinals below an index are read.
+pub record Progress (P : Entry → Type 0) (fields : List Field) (widths live : List ℕ) (index : ℕ) (es : List Entry) (ends : List ℕ) (bytes : ℕ) : Type 0 where
+  pub keys : keys_of es ≡ take index live
+  pub spelled : All P es
+  pub held : HoldsRows fields widths [] (values_of es)
+  pub reached : (f : ℕ) → slice_index ends f ≡ field_bytes f (values_of es)
+  pub long : length ends ≡ length fields
+  pub total : bytes ≡ bytes_held (values_of es)
+  pub few : bytes ≤ 2 ^ 25
+
+values_more : (es : List Entry) (o : ℕ) (row : Row) → values_of (es ++ (o, row) ∷ []) ≡ values_of es ++ row ∷ []
+values_more es o row = map-append (λ e. e.1) es ((o, row) ∷ [])
+
+keys_more : (live : List ℕ) (index o : ℕ) (es : List Entry) (row : Row) → keys_of es ≡ take index live → index < length live → o ≡ get_or live index 0 → keys_of (es ++ (o, row) ∷ []) ≡ take (index + 1) live
+keys_more live index o es row keys inside is =
+    map-append (λ e. e.0) es ((o, row) ∷ []) ∙ ap (λ t. t ++ o ∷ []) keys ∙ ap (λ n. take index live ++ n ∷ []) is ∙ sym (take_more live index 0 inside)
+
+-- The entries of the section begin with those read, and the next one.
+front : (P : Entry → Type 0) → IsFunction P → (live : List ℕ) (index o : ℕ) (es : List Entry) (row : Row) (fs : List Entry) → keys_of es ≡ take index live → All P es → index < length live → o ≡ get_or live index 0 → P (o, row)
+    → keys_of fs ≡ live → All P fs → fs ≡ (es ++ (o, row) ∷ []) ++ drop (index + 1) fs
+front P one live index o es row fs keys spelled inside is here lived all =
+    let same_keys : keys_of (es ++ (o, row) ∷ []) ≡ keys_of (take (index + 1) fs) =
+    keys_more live index o es row keys inside is ∙ ap (take (index + 1)) (sym lived) ∙ take-map (λ e. e.0) (index + 1) fs in
+    let last : All P ((o, row) ∷ []) = All-from_recursion P ((o, row) ∷ []) (here, tt) in
+    let same = same_entries P one (es ++ (o, row) ∷ []) (take (index + 1) fs) same_keys (All-append P es ((o, row) ∷ []) spelled last) (All-take P (index + 1) fs all) in
+    sym (take-append-drop (index + 1) fs) ∙ ap (λ t. t ++ drop (index + 1) fs) (sym same)
+
+-- What the values of those entries are.
+pub front_values : (P : Entry → Type 0) → IsFunction P → (live : List ℕ) (index o : ℕ) (es : List Entry) (row : Row) (fs : List Entry) → keys_of es ≡ take index live → All P es → index < length live → o ≡ get_or live index 0
+    → P (o, row) → keys_of fs ≡ live → All P fs → values_of fs ≡ values_of es ++ row ∷ values_of (drop (index + 1) fs)
+front_values P one live index o es row fs keys spelled inside is here lived all =
+    ap values_of (front P one live index o es row fs keys spelled inside is here lived all)
+    ∙ map-append (λ e. e.1) (es ++ (o, row) ∷ []) (drop (index + 1) fs)
+    ∙ ap (λ t. t ++ values_of (drop (index + 1) fs)) (values_more es o row)
+    ∙ append_assoc (values_of es) (row ∷ []) (values_of (drop (index + 1) fs))
+
+-- A row that does not fit stands in no rows of the section.
+pub misfit : (P : Entry → Type 0) → IsFunction P → (fields : List Field) (widths live : List ℕ) (index : ℕ) (es : List Entry) (ends : List ℕ) (bytes o : ℕ) (row : Row) → Progress P fields widths live index es ends bytes → index < length live
+    → o ≡ get_or live index 0 → P (o, row) → (FitsRow fields widths ends row → ⊥) → (fs : List Entry) → keys_of fs ≡ live → All P fs → HoldsRows fields widths [] (values_of fs) → ⊥
+misfit P one fields widths live index es ends bytes o row p inside is here wide fs lived all held =
+    let whole = front_values P one live index o es row fs p.keys p.spelled inside is here lived all in
+    let at = held_at fields widths [] (values_of es) row (values_of (drop (index + 1) fs)) (subst (HoldsRows fields widths []) whole held) in
+    wide (fits_row fields widths ends (values_of es) row p.reached at)
+
+-- Rows of more bytes than the limit are part of no fewer.
+pub heavy : (P : Entry → Type 0) → IsFunction P → (fields : List Field) (widths live : List ℕ) (index : ℕ) (es : List Entry) (ends : List ℕ) (bytes o : ℕ) (row : Row) → Progress P fields widths live index es ends bytes → index < length live
+    → o ≡ get_or live index 0 → P (o, row) → 2 ^ 25 < bytes + row_bytes row → (fs : List Entry) → keys_of fs ≡ live → All P fs → bytes_held (values_of fs) ≤ 2 ^ 25 → ⊥
+heavy P one fields widths live index es ends bytes o row p inside is here over fs lived all few =
+    let whole = front_values P one live index o es row fs p.keys p.spelled inside is here lived all in
+    let sum = ap bytes_held whole ∙ sum_by-append row_bytes (values_of es) (row ∷ values_of (drop (index + 1) fs)) in
+    let next = sum_by-append row_bytes (row ∷ []) (values_of (drop (index + 1) fs)) in
+    omega (arith, p.total)
+
+-- The next row is read.
+pub read_on : (P : Entry → Type 0) (fields : List Field) (widths live : List ℕ) (index : ℕ) (es new : List Entry) (ends after : List ℕ) (bytes counted o : ℕ) (row : Row) → Progress P fields widths live index es ends bytes → index < length live
+    → o ≡ get_or live index 0 → P (o, row) → IsStrictlyIncreasing live → FitsRow fields widths ends row → ((f : ℕ) → slice_index after f ≡ slice_index ends f + part_bytes f row) → length after ≡ length fields → counted ≡ bytes + row_bytes row → counted ≤ 2 ^ 25
+    → new ≡ insert_entry nat_cmp es o row → Progress P fields widths live (index + 1) new after counted
+read_on P fields widths live index es new ends after bytes counted o row p inside is here rising fits grown long sum few inserted =
+    let sorted = sorted_from_strictly_increasing live rising in
+    let shown : length (keys_of es) ≡ length es = length-map es (λ e. e.0) in
+    let taken = ap length p.keys ∙ length-take index live in
+    let below : (i : ℕ) → i < length es → get_or (keys_of es) i 0 < o =
+    λ i h. subst (λ n. n < o) (sym (ap (λ t. get_or t i 0) p.keys ∙ get_or-take index live i 0 (omega arith))) (subst (λ n. get_or live i 0 < n) (sym is) (below_from_sorted live i index 0 sorted (omega arith) inside)) in
+    let last : new ≡ es ++ (o, row) ∷ [] = inserted ∙ insert_last es o row below in
+    let whole : values_of new ≡ values_of es ++ row ∷ [] = ap values_of last ∙ values_more es o row in
+    let single : All P ((o, row) ∷ []) = All-from_recursion P ((o, row) ∷ []) (here, tt) in
+    record {
+      keys = ap keys_of last ∙ keys_more live index o es row p.keys inside is;
+      spelled = subst (All P) (sym last) (All-append P es ((o, row) ∷ []) p.spelled single);
+      held = subst (HoldsRows fields widths []) (sym whole) (held_more fields widths [] (values_of es) row p.held (holds_row fields widths ends (values_of es) row p.reached fits));
+      reached = λ f. grown f ∙ ap (λ n. n + part_bytes f row) (p.reached f) ∙ sym (more_bytes f (values_of es) row) ∙ ap (field_bytes f) (sym whole);
+      long = long;
+      total = sum ∙ ap (λ n. n + row_bytes row) p.total ∙ sym (ap bytes_held whole ∙ sum_by-append row_bytes (values_of es) (row ∷ []) ∙ ap (λ n. bytes_held (values_of es) + n) (zero-add (row_bytes row)));
+      few = few;
+    }

@@ -1,0 +1,57 @@
+-- When the layout of an OBJECT type can hold its rows, and when they keep the limits.
+use Rattle.std.specs.Prelude.{◌≡◌, ℕ, ◌-◌, ◌^◌, ◌<◌, ◌≤◌, List, [], ◌∷◌, ◌++◌, Some, slice_get, slice_index, All}
+use Rattle.std.specs.FinMap.{keys, values}
+use Rattle.hol_varint.specs.Zigzag.{zigzag}
+use Rattle.schema_model.specs.Parts.{shape_fields}
+use Rattle.schema_model.specs.Table.{RowMap}
+use Rattle.schema_model.specs.declared.schema.FieldKind.{FieldKind}
+use Rattle.schema_model.specs.declared.schema.Field.{Field}
+use Rattle.schema_model.specs.declared.schema.Shape.{Shape}
+use Rattle.schema_model.specs.declared.row.Value.{Value}
+use Rattle.schema_model.specs.declared.row.Row.{Row}
+use Rattle.type_state.specs.Layout.{Layout, places_of, fixed_words}
+use Rattle.type_state.specs.WordsHeld.{field_bytes, bytes_held}
+
+-- A number is below all ones, which is null.
+abbrev pub IsBelowOnes : ℕ → ℕ → Type 0
+IsBelowOnes width number = number < 2 ^ width - 1
+
+-- A value fits the width of its field. A null fits any width; of a STRING or BYTES the end offset lies below the null bit.
+abbrev pub FitsWidth : FieldKind → ℕ → ℕ → Value → Type 0
+FitsWidth (FieldKind.Reference name) width end Value.Null = Unit {0}
+FitsWidth (FieldKind.Reference name) width end (Value.Ref ordinal) = IsBelowOnes width ordinal
+FitsWidth FieldKind.Int width end Value.Null = Unit {0}
+FitsWidth FieldKind.Int width end (Value.Int number) = IsBelowOnes width (zigzag number)
+FitsWidth FieldKind.Long width end Value.Null = Unit {0}
+FitsWidth FieldKind.Long width end (Value.Long number) = IsBelowOnes width (zigzag number)
+FitsWidth FieldKind.Boolean width end Value.Null = width ≡ 2
+FitsWidth FieldKind.Boolean width end (Value.Bool flag) = width ≡ 2
+FitsWidth FieldKind.Text width end value = end < 2 ^ (width - 1)
+FitsWidth FieldKind.Bytes width end value = end < 2 ^ (width - 1)
+FitsWidth _ width end _ = ⊥
+
+-- Each part of a record fits its width; the end offsets are given by field.
+abbrev pub FitsWidths : List Field → List ℕ → (ℕ → ℕ) → List Value → Type 0
+FitsWidths fields widths ends record_values =
+    (f : ℕ) (field : Field) (value : Value) → slice_get fields f ≡ Some field → slice_get record_values f ≡ Some value
+    → FitsWidth field.kind (slice_index widths f) (ends f) value
+
+-- The same of the last of some rows that are laid out one after another.
+abbrev pub HoldsRow : List Field → List ℕ → List Row → Row → Type 0
+HoldsRow fields widths rows (Row.Object record_values) = FitsWidths fields widths (λ f. field_bytes f rows) record_values
+HoldsRow fields widths rows _ = ⊥
+
+-- Laid out one after another behind some others, each row fits the widths.
+abbrev pub HoldsRows : List Field → List ℕ → List Row → List Row → Type 0
+HoldsRows fields widths before [] = Unit {0}
+HoldsRows fields widths before (row ∷ rest) = HoldsRow fields widths (before ++ row ∷ []) row × HoldsRows fields widths (before ++ row ∷ []) rest
+
+-- A layout holds the rows of a type: laid out by rising ordinal, with no place between them, each fits, and each has a place.
+pub record Holds (shape : Shape) (layout : Layout) (rows : RowMap) : Type 0 where
+  pub parts : HoldsRows (shape_fields shape) layout.widths [] (values rows)
+  pub places : All (λ o. o < places_of layout.max) (keys rows)
+
+-- The limits on the fixed words and the variable bytes of a type in one state.
+pub record KeepsLimits (layout : Layout) (rows : RowMap) : Type 0 where
+  pub words : fixed_words layout ≤ 2 ^ 22
+  pub bytes : bytes_held (values rows) ≤ 2 ^ 25

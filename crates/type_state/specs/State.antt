@@ -1,0 +1,40 @@
+-- The two states of a type that are kept: the current one, and beside it the one before or the next one.
+use Rattle.std.specs.Prelude.{◌≡◌, ℕ, List, length, Option, refl}
+use Rattle.std.specs.Coded.{Coded, code_by, coded×, coded_ℕ, coded_list, coded_option}
+use Rattle.std.specs.FinMap.{code, from_entries}
+use Rattle.schema_model.specs.declared.schema.Schema.{Schema}
+use Rattle.schema_model.specs.declared.row.Row.{Row}
+use Rattle.schema_model.specs.contracts.schema.Schema as schema_contract
+use Rattle.schema_model.specs.contracts.row.Row as row_contract
+use Rattle.schema_model.specs.Parts.{fields_of}
+use Rattle.schema_model.specs.Table.{RowMap}
+use Rattle.type_state.specs.Layout.{Layout}
+
+-- The rows of a type in one state, by ordinal, and their layout in the blob that gave them.
+pub record Half : Type 0 where
+  pub layout : Layout
+  pub rows : RowMap
+
+-- A type with its current rows, and the others: those before a step, or those that come next.
+pub record State : Type 0 where
+  pub schema : Schema
+  pub current : Half
+  pub other : Half
+
+-- The rows of a list of entries.
+abbrev pub rows_of : List (ℕ × Row) → RowMap
+rows_of entries = from_entries entries
+
+-- A half is laid out where each field has a width.
+abbrev pub IsLaidOut : Schema → Half → Type 0
+IsLaidOut schema half = length half.layout.widths ≡ length (fields_of schema)
+
+abbrev pub layout_code : Coded Layout
+layout_code = code_by (Option ℕ × List ℕ) (coded× (coded_option coded_ℕ) (coded_list coded_ℕ)) (λ l. (l.max, l.widths)) (λ p. record { max = p.0; widths = p.1 }) (λ _. refl)
+
+abbrev pub half_code : Coded Half
+half_code = code_by (Layout × RowMap) (coded× layout_code (code coded_ℕ (row_contract.the_row).coded)) (λ h. (h.layout, h.rows)) (λ p. record { layout = p.0; rows = p.1 }) (λ _. refl)
+
+abbrev pub state_code : Coded State
+state_code =
+    code_by (Schema × (Half × Half)) (coded× (schema_contract.the_row).coded (coded× half_code half_code)) (λ s. (s.schema, (s.current, s.other))) (λ p. record { schema = p.0; current = p.1.0; other = p.1.1 }) (λ _. refl)

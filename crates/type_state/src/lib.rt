@@ -1,0 +1,20 @@
+//! The rows of one type as they stand in its current state, and beside them those of the state before or of the next one.
+#![tactic(auto)]
+
+mod count;
+mod fault;
+mod fits;
+mod kept;
+pub mod laws;
+mod load;
+mod section;
+mod state;
+mod states;
+
+pub use fault::RowFault;
+pub use section::Section;
+pub use state::TypeState;
+pub use states::TypeStates;
+
+#[cfg(test)]
+mod tests;
