@@ -1,5 +1,5 @@
 -- Reading a run of bytes piece by piece, moving past one, and the end of a blob.
-use Rattle.std.proofs.Common.{◌≡◌, ◌≤◌, ◌<◌, ◌+◌, ◌-◌, ℕ, List, [], ◌++◌, take, drop, length, min, Option, Some, None, Result, Ok, Err, refl, ◌∙◌, subst, sym, ap, arith, length-append}
+use Rattle.std.proofs.Common.{◌≡◌, ◌≤◌, ◌<◌, ◌+◌, ◌-◌, ◌*◌, ◌^◌, ℕ, List, [], ◌∷◌, ◌++◌, take, drop, length, min, Option, Some, None, Result, Ok, Err, refl, ◌∙◌, subst, sym, ap, arith, length-append}
 use Rattle.std.specs.Option.{IfSome}
 use Rattle.std.proofs.Math.Seq.{take-add}
 use Rattle.std.proofs.lemmas.List.{drop-drop}
@@ -199,3 +199,18 @@ reads_trailing {now} {r} over less is = subst (λ r. Reads end now now r) (sym i
   kind = tt;
   tells = tells_trailing (told now.held now.place.name) now.place over less;
 })
+
+-- one word more, and the cursor stands behind it
+pub words_more : (list all : List ℕ) (x start now next : ℕ) → now ≡ start + 8 * length list → (next ≡ now + 8) × (next ≤ 2 ^ 28) → all ≡ list ++ x ∷ [] →
+    (next ≡ start + 8 * length all) × (8 * length all ≤ 2 ^ 28)
+words_more list all x start now next at moved is =
+    let longer = ap (λ (xs : List ℕ). length xs) is ∙ length-append list (x ∷ []) in
+    (omega (arith, longer, at, moved.0), omega (arith, longer, at, moved.0, moved.1))
+
+-- no word yet
+pub words_none : (list : List ℕ) (start : ℕ) → list ≡ [] → (start ≡ start + 8 * length list) × (8 * length list ≤ 2 ^ 28)
+words_none list start is = let none = ap (λ (xs : List ℕ). length xs) is in (omega (arith, none), omega (arith, none))
+
+-- a list with one more is one longer
+pub one_longer : {X : Type 0} (list all : List X) (x : X) {done : ℕ} → length list ≡ done → all ≡ list ++ x ∷ [] → length all ≡ done + 1
+one_longer {X} list all x long is = omega (arith, ap (λ (xs : List X). length xs) is ∙ length-append list (x ∷ []))

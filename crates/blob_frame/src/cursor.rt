@@ -1,4 +1,4 @@
-ghost use Rattle.std.specs.Prelude.{◌≡◌, ◌≤◌, ◌+◌, ℕ, List, Option, length, drop, min, IsTrue, IfOk, OnOk, OnSome, Result, Ok, Err};
+ghost use Rattle.std.specs.Prelude.{◌≡◌, ◌≤◌, ◌+◌, ◌^◌, ℕ, List, Option, length, drop, min, IsTrue, IfOk, OnOk, OnSome, Result, Ok, Err};
 ghost use Rattle.hol_io.specs.Causes.{Rose};
 ghost use Rattle.hol_io.specs.Store.{Store, told};
 ghost use Rattle.blob_frame.specs.Scene.{Place, IsOver, IsPlaceIn, scene, moved};
@@ -109,6 +109,7 @@ impl Cursor {
         requires { count ≤ length self.old.ahead }
         ensures moved { self.new ≡ moved self.old count }
         ensures within { self.new.at ≤ self.new.size }
+        ensures few { self.new.at ≤ 2 ^ 28 }
     {
         self.begin += count;
         self.at += count as u64;

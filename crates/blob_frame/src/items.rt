@@ -1,6 +1,7 @@
-ghost use Rattle.std.specs.Prelude.{◌≡◌, ℕ, IfErr, Option};
+ghost use Rattle.std.specs.Prelude.{◌≡◌, ◌≤◌, ◌+◌, ◌*◌, ◌^◌, ℕ, IfErr, IfOk, OnOk, Option, length};
 ghost use Rattle.std.specs.Int.{w8, w16, w32, w64};
 ghost use Rattle.hol_io.specs.Store.{Store};
+ghost use Rattle.blob_frame.specs.Form.{repeated};
 ghost use Rattle.blob_frame.specs.Item.{fixed, signed, run, skipped, end};
 ghost use Rattle.blob_frame.specs.Scene.{IsOver, IsReadFault, Reads, scene};
 
@@ -8,7 +9,7 @@ use crate::cursor::Cursor;
 use crate::fault::BlobFault;
 use hol_io::BlobStore;
 use hol_varint::Octets;
-use schema_model::Reason;
+use schema_model::{Reason, Words};
 
 impl Cursor {
     /// The next byte. `Truncated` where the blob has none.
@@ -58,6 +59,7 @@ impl Cursor {
         ensures reads { Reads (fixed w64) (scene (S.held store.old) (S.faults store.old) self.old)
             (scene (S.held store.new) (S.faults store.new) self.new) result }
         ensures kind { IfErr result IsReadFault }
+        ensures moved { OnOk result ((self.new.at ≡ self.old.at + 8) × (self.new.at ≤ 2 ^ 28)) }
     {
         self.need(store, 8)?;
         let bytes = self.ahead();
@@ -66,6 +68,22 @@ impl Cursor {
         ]);
         self.pass(8);
         Ok(number)
+    }
+
+    /// The next words, so many of them, each an item of its own. `Truncated`, at the offset of the first one that is
+    /// not whole, where the blob has fewer. The memory that they take grows with the bytes that are there.
+    pub fn words<S: BlobStore>(&mut self, store: &mut S, count: u64) -> Result<Words, BlobFault>
+        requires over { IsOver (scene (S.held store.old) (S.faults store.old) self.old) }
+        ensures reads { Reads (repeated count (fixed w64)) (scene (S.held store.old) (S.faults store.old) self.old)
+            (scene (S.held store.new) (S.faults store.new) self.new) result }
+        ensures few { IfOk result (λ words. 8 * length words ≤ 2 ^ 28) }
+        ensures long { IfOk result (λ words. length words ≡ count) }
+    {
+        let mut list = Words::new(self.allocator());
+        for _item in 0..count {
+            list.push(self.be64(store)?)?;
+        }
+        Ok(list)
     }
 
     /// The next signed number of 8 bytes.
