@@ -1,0 +1,14 @@
+pub mod Accepting
+pub mod Danglings
+pub mod DecidedBody
+pub mod FieldWidths
+pub mod Items
+pub mod LoadedTypes
+pub mod NextStates
+pub mod PartLists
+pub mod Readable
+pub mod Sections
+pub mod Shards
+pub mod TypeRefusals
+pub mod TypeTables
+pub mod Walks

@@ -1,0 +1,14 @@
+use Rattle.std.specs.List.{All}
+use Rattle.blob_frame.specs.Scene.{scene}
+use Rattle.blob_frame.proofs.Counting.{Counts}
+use Rattle.snapshot_blob.specs.Body.{type_part}
+use Rattle.snapshot_blob.specs.Whole.{IsWholeSection}
+use Rattle.snapshot_blob.specs.declared.part.TypePart.{TypePart}
+use Rattle.snapshot_blob.proofs.body.type_parts.Given as goal
+
+abbrev pub invariant-loop-item : goal.invariant-loop-item
+invariant-loop-item g l = record {
+  counts : Counts type_part l.count l._item (scene (g.S.BlobStore.held l.initial.store) (g.S.BlobStore.faults l.initial.store) l.initial.cursor)
+      (scene (g.S.BlobStore.held l.store) (g.S.BlobStore.faults l.store) l.cursor) l.list;
+  whole : All (λ (part : TypePart). IsWholeSection part.schema.shape part.section) l.list;
+}

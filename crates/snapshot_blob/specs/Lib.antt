@@ -1,0 +1,7 @@
+pub mod Body
+pub mod Dangling
+pub mod NextRows
+pub mod Section
+pub mod Snapshot
+pub mod Types
+pub mod Whole
