@@ -1,5 +1,12 @@
 mod Lines
 mod Numbers
-mod OneAnswer
 mod Orders
 mod Heads
+mod Fronts
+mod SortedRows
+mod TextKinds
+mod Printed
+mod Writes
+mod Walks
+mod Shown
+mod OneAnswer

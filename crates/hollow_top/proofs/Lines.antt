@@ -5,17 +5,17 @@ use Rattle.serde_json.specs.Find.{of_integer}
 use Rattle.serde_json.specs.View.{items_of}
 use Rattle.serde_json.specs.Written.{has_float, items_have_float, compact_text}
 use Rattle.hollow_top.specs.declared.reply.Reply.{Reply}
-use Rattle.hollow_top.specs.declared.reply.Reply.TheVariants.{Head, NoBlob, TooLarge, BadBlob, NotYet}
+use Rattle.hollow_top.specs.declared.reply.Reply.TheVariants.{Head, NoBlob, TooLarge, BadBlob, BadBody, NotYet}
 use Rattle.hollow_top.specs.Reply.{reply_data, names_data, tags_data, line_of}
 
 -- a list has none where none of its items has one
-items_have_float-items_of : {A : Type 0} (data_of : A → Data) → ((x : A) → has_float (data_of x) ≡ false) → (xs : List A) →
+pub items_have_float-items_of : {A : Type 0} (data_of : A → Data) → ((x : A) → has_float (data_of x) ≡ false) → (xs : List A) →
     items_have_float (items_of (map data_of xs)) ≡ false
 items_have_float-items_of data_of none [] = refl
 items_have_float-items_of data_of none (x ∷ xs) = rw (none x) (items_have_float-items_of data_of none xs)
 
 -- an integer has none
-integer_has_none : (z : ℤ) → has_float (number (of_integer z)) ≡ false
+pub integer_has_none : (z : ℤ) → has_float (number (of_integer z)) ≡ false
 integer_has_none (pos n) = refl
 integer_has_none (negsuc n) = refl
 
@@ -28,6 +28,7 @@ has_float-reply_data (Head header) =
 has_float-reply_data (NoBlob blob) = refl
 has_float-reply_data (TooLarge limit) = refl
 has_float-reply_data (BadBlob blob at reason) = refl
+has_float-reply_data (BadBody blob) = refl
 has_float-reply_data NotYet = refl
 
 -- the text of an answer's JSON and a newline are its line

@@ -1,24 +1,21 @@
--- What each command answers over a store, and why it stops before its answer.
-use Rattle.std.specs.Prelude.{◌≡◌, ℕ}
-use Rattle.hol_io.specs.Causes.{Rose}
+-- What each command writes over a store.
+use Rattle.std.specs.Prelude.{◌≡◌, ℕ, List, Bool}
 use Rattle.hol_io.specs.Store.{Store}
 use Rattle.hollow_top.specs.declared.reply.Reply.{Reply}
 use Rattle.hollow_top.specs.declared.reply.Reply.TheVariants.{NotYet}
-use Rattle.hollow_top.specs.declared.stop.Stop.{Stop}
-use Rattle.hollow_top.specs.declared.stop.Stop.TheVariants.{Memory, Sink, Store as StoreFailed}
 use Rattle.hollow_top.specs.declared.words.Command.{Command}
 use Rattle.hollow_top.specs.declared.words.Command.TheVariants.{Run, Head, Show, Make}
 use Rattle.hollow_top.specs.Head.{HeadReply}
+use Rattle.hollow_top.specs.Reply.{is_refusal, line_of}
+use Rattle.hollow_top.specs.Show.{Shows}
 
--- The answer of a command over a store. All but `head` are not built.
-abbrev pub CommandReply : Store → Command → Reply → Type 0
-CommandReply store (Head blob) reply = HeadReply store blob reply
-CommandReply store Run reply = reply ≡ NotYet
-CommandReply store (Show version) reply = reply ≡ NotYet
-CommandReply store (Make seed rows cycles) reply = reply ≡ NotYet
+-- The text is the line of an answer for which this holds, and the answer is a refusal or not, as told.
+abbrev pub IsLineOf : (Reply → Type 0) → List ℕ → Bool → Type 0
+IsLineOf Answers text refused = (reply : Reply) × Answers reply × (text ≡ line_of reply) × (refused ≡ is_refusal reply)
 
--- A command that has written nothing stops for want of memory, or where the store's count of faults rose.
-abbrev pub StopsBefore : ℕ → ℕ → Stop → Type 0
-StopsBefore before now Memory = Unit {0}
-StopsBefore before now StoreFailed = Rose before now
-StopsBefore before now Sink = ⊥
+-- What a command writes over a store, and whether that is a refusal. `run` and `make` are not built.
+abbrev pub Writes : Store → Command → List ℕ → Bool → Type 0
+Writes store Run text refused = IsLineOf (λ reply. reply ≡ NotYet) text refused
+Writes store (Head blob) text refused = IsLineOf (HeadReply store blob) text refused
+Writes store (Show version) text refused = Shows store version text refused
+Writes store (Make seed rows cycles) text refused = IsLineOf (λ reply. reply ≡ NotYet) text refused

@@ -8,7 +8,7 @@ use Rattle.blob_frame.specs.declared.fault.BlobFault.TheVariants as fault
 use Rattle.blob_frame.specs.Header.{HeaderIs, StuckInHeader}
 use Rattle.blob_frame.specs.Starting.{largest}
 use Rattle.hollow_top.specs.declared.reply.Reply.{Reply}
-use Rattle.hollow_top.specs.declared.reply.Reply.TheVariants.{Head, NoBlob, TooLarge, BadBlob, NotYet}
+use Rattle.hollow_top.specs.declared.reply.Reply.TheVariants.{Head, NoBlob, TooLarge, BadBlob, BadBody, NotYet}
 use Rattle.hollow_top.specs.declared.stop.Stop.{Stop}
 use Rattle.hollow_top.specs.declared.stop.Stop.TheVariants as stop
 
@@ -21,6 +21,7 @@ HeadIs name content (TooLarge what) =
     (blob : List ℕ) × (content ≡ Some blob) × (largest < length blob) × (what ≡ limit.Blob)
 HeadIs name content (BadBlob other at reason) =
     (blob : List ℕ) × (content ≡ Some blob) × (length blob ≤ largest) × StuckInHeader blob at reason × (other ≡ name)
+HeadIs name content (BadBody other) = ⊥
 HeadIs name content NotYet = ⊥
 
 -- The answer for the blob of a name in a store.

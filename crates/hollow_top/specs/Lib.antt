@@ -1,5 +1,8 @@
 pub mod Command
 pub mod Head
 pub mod Reply
+pub mod RowLines
 pub mod Run
+pub mod Show
+pub mod Stopping
 pub mod Words

@@ -14,7 +14,7 @@ use Rattle.schema_model.specs.Limit.{name_of_limit, number_of_limit}
 use Rattle.schema_model.specs.Reason.{number_of_reason}
 use Rattle.blob_frame.specs.declared.header.Header.{Header}
 use Rattle.hollow_top.specs.declared.reply.Reply.{Reply}
-use Rattle.hollow_top.specs.declared.reply.Reply.TheVariants.{Head, NoBlob, TooLarge, BadBlob, NotYet}
+use Rattle.hollow_top.specs.declared.reply.Reply.TheVariants.{Head, NoBlob, TooLarge, BadBlob, BadBody, NotYet}
 
 -- the names of schemas, in their order
 abbrev pub names_data : List Schema → Data
@@ -58,6 +58,13 @@ bad_blob_data blob at reason = object
     (member (codes "name") (string (codes "BadBlob"))
     (member (codes "reason") (number (unsigned (number_of_reason reason))) no_members)))))
 
+-- a blob whose header can be read, and that is no snapshot within the limits
+abbrev pub bad_body_data : BlobName → Data
+bad_body_data blob = object
+    (member (codes "blob") (string (text_of_name blob))
+    (member (codes "error") (number (unsigned 92))
+    (member (codes "name") (string (codes "BadBody")) no_members)))
+
 -- a command that is not built
 abbrev pub not_yet_data : Data
 not_yet_data = object
@@ -70,6 +77,7 @@ reply_data (Head header) = head_data header
 reply_data (NoBlob blob) = no_blob_data blob
 reply_data (TooLarge limit) = too_large_data limit
 reply_data (BadBlob blob at reason) = bad_blob_data blob at reason
+reply_data (BadBody blob) = bad_body_data blob
 reply_data NotYet = not_yet_data
 
 -- Whether an answer is a refusal.
@@ -78,6 +86,7 @@ is_refusal (Head header) = false
 is_refusal (NoBlob blob) = true
 is_refusal (TooLarge limit) = true
 is_refusal (BadBlob blob at reason) = true
+is_refusal (BadBody blob) = true
 is_refusal NotYet = true
 
 -- The line of an answer: its JSON text without spaces, and a newline.

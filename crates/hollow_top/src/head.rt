@@ -1,7 +1,7 @@
 //! `head`: the header of a blob.
 ghost use Rattle.std.specs.Prelude.{◌≡◌, ◌≤◌, IfOk, IfErr, IfSome};
-ghost use Rattle.hollow_top.specs.Command.{StopsBefore};
 ghost use Rattle.hollow_top.specs.Head.{HeadReply, refusal_of};
+ghost use Rattle.hollow_top.specs.Stopping.{StopsBefore};
 
 use crate::reply::Reply;
 use crate::stop::Stop;

@@ -1,10 +1,13 @@
 //! The program behind its edge: the words of a command line, the commands, and their answer lines.
 #![tactic(auto)]
 
+mod answer;
 mod head;
 pub mod laws;
 mod program;
 mod reply;
+mod row_lines;
+mod show;
 mod stop;
 mod words;
 

@@ -1,14 +1,19 @@
 //! The top call: from the words of a command line to a status.
-ghost use Rattle.std.specs.Prelude.{◌≡◌, ◌≢◌, ◌<◌, ◌≤◌, ◌⊎◌, ◌↔◌, map, string_bytes, IfOk, IfErr, IfSome, IsErrOf};
+ghost use Rattle.std.specs.Prelude.{◌≡◌, ◌≢◌, ◌<◌, ◌≤◌, ◌⊎◌, ◌↔◌, ℕ, map, string_bytes, IfSome, IsErrOf};
 ghost use Rattle.hol_io.specs.Causes.{Rose};
-ghost use Rattle.hollow_top.specs.Command.{CommandReply, StopsBefore};
-ghost use Rattle.hollow_top.specs.Run.{AsksNothing, Finishes, WritesPart, Serves};
+ghost use Rattle.hollow_top.specs.Command.{Writes};
+ghost use Rattle.hollow_top.specs.Run.{AsksNothing, Finishes, WritesPart};
+ghost use Rattle.hollow_top.specs.Show.{Shows};
+ghost use Rattle.hollow_top.specs.Stopping.{GainsFront, Leaves};
+ghost use Rattle.hollow_top.specs.Words.{Asks};
 
+use crate::answer::write_reply;
 use crate::head::head;
-use crate::reply::{Reply, reply_line};
+use crate::reply::Reply;
+use crate::show::show;
 use crate::stop::Stop;
 use crate::words::{Command, command_of};
-use hol_io::{BlobStore, Sink, Source, write_all};
+use hol_io::{BlobStore, Sink, Source};
 use std::alloc::Global;
 
 /// What a run keeps from one order to the next.
@@ -22,17 +27,17 @@ impl Keep {
     }
 }
 
-/// Does what the words ask for: reads the store, writes the answer's line to `out`, and gives the
-/// program's exit status.
+/// Does what the words ask for: reads the store, writes the answer's line or the lines of the rows to `out`,
+/// and gives the program's exit status.
 ///
 /// | status | comes |
 /// |---|---|
-/// | 0 | the answer's line was written |
+/// | 0 | all was written, and it was no refusal |
 /// | 1 | a refusal's line was written |
 /// | 2 | exactly where the words ask for no command; nothing is read, written or put |
 /// | 4 | the sink failed, which comes only where its count of faults rose |
 /// | 5 | the store failed, which comes only where its count of faults rose |
-/// | 6 | memory was refused |
+/// | 6 | memory was refused; of the rows that `show` writes the sink may have the front |
 pub fn run<I: Source, O: Sink, S: BlobStore>(
     alloc: Global,
     words: &[String],
@@ -46,7 +51,7 @@ pub fn run<I: Source, O: Sink, S: BlobStore>(
     ensures sink_fault { result ≡ 4 → Rose (O.faults out.old) (O.faults out.new) }
     ensures store_fault { result ≡ 5 → Rose (S.faults store.old) (S.faults store.new) }
 
-    // The answer, where the store tells what it holds.
+    // What is written, where the store tells what it holds.
     ensures answered { result < 2 → IfSome (S.held store.old)
         (λ held. Finishes (map string_bytes words.now) held (O.taken out.old) (O.taken out.new) result) }
     ensures part { result ≡ 4 → IfSome (S.held store.old)
@@ -56,7 +61,10 @@ pub fn run<I: Source, O: Sink, S: BlobStore>(
     ensures input { input.new ≡ input.old }
     ensures held { S.held store.new ≡ S.held store.old }
     ensures kept { keep.new ≡ keep.old }
-    ensures silent { 4 < result → out.new ≡ out.old }
+    ensures silent { result ≡ 5 → out.new ≡ out.old }
+    ensures stopped { result ≡ 6 → (out.new ≡ out.old)
+        ⊎ ((version : ℕ) × Asks (map string_bytes words.now) (Command.Show version) × IfSome (S.held store.old)
+        (λ held. GainsFront (Shows held version) (O.taken out.old) (O.taken out.new))) }
     ensures untouched { result ≡ 2 → (out.new ≡ out.old) × (store.new ≡ store.old) }
 
     // No status but 0, 1 and 6 comes for a command where no count rises.
@@ -75,7 +83,7 @@ pub fn run<I: Source, O: Sink, S: BlobStore>(
     }
 }
 
-// Writes the line of a command's answer, and tells whether it is a refusal.
+// Writes what a command writes, and tells whether that is a refusal.
 fn serve<O: Sink, S: BlobStore>(
     alloc: Global,
     command: &Command,
@@ -83,27 +91,21 @@ fn serve<O: Sink, S: BlobStore>(
     store: &mut S,
 ) -> Result<bool, Stop>
     ensures served { IfSome (S.held store.old)
-        (λ held. Serves held command.now (O.taken out.old) (O.taken out.new) result) }
+        (λ held. Leaves (Writes held command.now) (O.taken out.old) (O.taken out.new) result) }
     ensures sink_fault { IsErrOf result Stop.Sink → Rose (O.faults out.old) (O.faults out.new) }
     ensures store_fault { IsErrOf result Stop.Store → Rose (S.faults store.old) (S.faults store.new) }
     ensures held { S.held store.new ≡ S.held store.old }
-    ensures silent { IfErr result (λ stop. (stop ≡ Stop.Sink → ⊥) → out.new ≡ out.old) }
-{
-    let reply = answer(alloc, command, store)?;
-    let line = reply_line(alloc, &reply)?;
-    write_all(out, line.as_bytes())?;
-    Ok(reply.is_refusal())
-}
-
-// The answer of a command.
-fn answer<S: BlobStore>(alloc: Global, command: &Command, store: &mut S) -> Result<Reply, Stop>
-    ensures reply { IfSome (S.held store.old) (λ held. IfOk result (CommandReply held command.now)) }
-    ensures stop { IfErr result (StopsBefore (S.faults store.old) (S.faults store.new)) }
-    ensures held { S.held store.new ≡ S.held store.old }
-    ensures later { S.faults store.old ≤ S.faults store.new }
+    ensures silent { IsErrOf result Stop.Store → out.new ≡ out.old }
+    ensures stopped { IsErrOf result Stop.Memory → (out.new ≡ out.old)
+        ⊎ ((version : ℕ) × (command.now ≡ Command.Show version) × IfSome (S.held store.old)
+        (λ held. GainsFront (Shows held version) (O.taken out.old) (O.taken out.new))) }
 {
     match command {
-        Command::Head(blob) => head(alloc, store, blob),
-        Command::Run | Command::Show(_) | Command::Make { .. } => Ok(Reply::NotYet),
+        Command::Head(blob) => {
+            let reply = head(alloc, store, blob)?;
+            write_reply(alloc, &reply, out)
+        }
+        Command::Show(version) => show(alloc, *version, out, store),
+        Command::Run | Command::Make { .. } => write_reply(alloc, &Reply::NotYet, out),
     }
 }

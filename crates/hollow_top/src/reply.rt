@@ -1,7 +1,7 @@
-//! What the program answers, and the line that it writes for each answer.
+//! What the program answers in one line, and the line that it writes for each answer.
 ghost use Rattle.std.specs.Prelude.{◌≡◌, IfOk, string_bytes};
 ghost use Rattle.serde_json.specs.View.{view};
-ghost use Rattle.hollow_top.specs.Reply.{reply_data, head_data, names_data, tags_data, no_blob_data, too_large_data, bad_blob_data, not_yet_data, is_refusal, line_of};
+ghost use Rattle.hollow_top.specs.Reply.{reply_data, head_data, names_data, tags_data, no_blob_data, too_large_data, bad_blob_data, bad_body_data, not_yet_data, is_refusal, line_of};
 
 use blob_frame::Header;
 use hol_io::{BlobName, name_text};
@@ -9,7 +9,7 @@ use schema_model::{Limit, NamePairs, Reason, Schemas};
 use serde_json::{Value, json};
 use std::alloc::{AllocError, Global};
 
-/// What a command answers. All but the header are refusals.
+/// What a command answers in one line. All but the header are refusals.
 #[derive(Debug, Drop)]
 pub enum Reply {
     /// The header of a blob.
@@ -27,6 +27,8 @@ pub enum Reply {
         /// Why it cannot be read.
         reason: Reason,
     },
+    /// The blob's header can be read, but the blob is no snapshot, or passes a limit.
+    BadBody(BlobName),
     /// The command is not built.
     NotYet,
 }
@@ -59,6 +61,7 @@ fn reply_value(alloc: Global, reply: &Reply) -> Result<Value, AllocError>
         Reply::NoBlob(blob) => no_blob_value(alloc, blob),
         Reply::TooLarge(limit) => too_large_value(alloc, limit),
         Reply::BadBlob { blob, at, reason } => bad_blob_value(alloc, blob, *at, reason),
+        Reply::BadBody(blob) => bad_body_value(alloc, blob),
         Reply::NotYet => not_yet_value(alloc),
     }
 }
@@ -134,6 +137,13 @@ fn bad_blob_value(
         "name": "BadBlob",
         "reason": (reason.number())
     })
+}
+
+fn bad_body_value(alloc: Global, blob: &BlobName) -> Result<Value, AllocError>
+    ensures { IfOk result (λ value. view value ≡ bad_body_data blob.now) }
+{
+    let text = name_text(alloc, blob)?;
+    json!(in alloc; {"blob": (&text), "error": 92u64, "name": "BadBody"})
 }
 
 fn not_yet_value(alloc: Global) -> Result<Value, AllocError>

@@ -2,13 +2,31 @@
 use crate::{Keep, Reply, reply_line, run};
 use hol_io::{BlobName, BlobStore, MemSink, MemSource, MemStore};
 use schema_model::{Limit, Reason};
+use std::alloc::Global;
+use std::process::Abort;
 
 // A header from state 0 to state 71 with the schema of a type A, whose one field n is an INT, and one
 // pair of texts.
 const HEADER: &[u8] =
     b"\0\0\x04\x06\0\0\0\0\0\0\0\0\0\0\0\0\0\0\0\x47\x10\x01\0\0\x01A\0\x01\0\x01n\0\x03INT\0\0\x01\0\x01k\0\x01v";
 
+// The types of the snapshot that begins with this header: the type A, whose rows 0 and 1 are 5 and null. The bytes
+// behind these are 0 up to the end of its 256 population words.
+const BODY: &[u8] =
+    b"\x01\0\0\x01A\0\x01\0\x01n\0\x03INT\x02\0\x01\x01\x04\x01\0\0\0\0\0\0\0\xfa\0\0\0\x01\0\0\0\0\0\0\0\0\x03";
+
 const NOT_YET: &str = "{\"error\":90,\"name\":\"NotYet\"}\n";
+
+const ROWS: &str =
+    "{\"ordinal\":0,\"row\":{\"n\":5},\"type\":\"A\"}\n{\"ordinal\":1,\"row\":{\"n\":null},\"type\":\"A\"}\n";
+
+// The snapshot of this header and these types.
+fn snapshot(rt: &impl Abort, alloc: Global) -> Vec<u8> {
+    let mut bytes = Vec::from_slice(alloc, HEADER).expect(rt, "memory");
+    assert!(rt; bytes.extend_from_slice(BODY).is_ok());
+    assert!(rt; bytes.extend_from_slice(&[0; 2040]).is_ok());
+    bytes
+}
 
 #[test]
 fn answers_commands(rt: HostRuntime) {
@@ -30,7 +48,17 @@ fn answers_commands(rt: HostRuntime) {
             "{\"at\":23,\"blob\":\"delta-1-2\",\"error\":19,\"name\":\"BadBlob\",\"reason\":40}\n",
         ),
         ("run", 1, NOT_YET),
-        ("show snapshot-1", 1, NOT_YET),
+        ("show snapshot-2", 0, ROWS),
+        (
+            "show snapshot-1",
+            1,
+            "{\"blob\":\"snapshot-1\",\"error\":92,\"name\":\"BadBody\"}\n",
+        ),
+        (
+            "show snapshot-9",
+            1,
+            "{\"blob\":\"snapshot-9\",\"error\":18,\"name\":\"NoBlob\"}\n",
+        ),
         ("make 7 20000 12", 1, NOT_YET),
         ("", 2, ""),
         ("head announced.version", 2, ""),
@@ -45,6 +73,7 @@ fn answers_commands(rt: HostRuntime) {
         }
         let mut store = MemStore::new(alloc, Vec::new(alloc), Vec::new(alloc));
         assert!(rt; store.put(&BlobName::Snapshot(1), HEADER) == Ok(()));
+        assert!(rt; store.put(&BlobName::Snapshot(2), snapshot(&rt, alloc).as_slice()) == Ok(()));
         assert!(rt; store.put(&BlobName::Delta(1, 2), &HEADER[..24]) == Ok(()));
         let mut input = MemSource::new(Vec::new(alloc), 1, Vec::new(alloc));
         let mut out = MemSink::new(alloc, 200, 7, Vec::new(alloc)).expect(&rt, "memory");
@@ -77,6 +106,26 @@ fn stops_where_the_outside_fails(rt: HostRuntime) {
 }
 
 #[test]
+fn shows_the_rows_before_a_failure(rt: HostRuntime) {
+    let alloc = rt.alloc();
+    let mut words = Vec::new(alloc);
+    for word in ["show", "snapshot-1"] {
+        let word = String::from_str(alloc, word).expect(&rt, "memory");
+        assert!(rt; words.push(word).is_ok());
+    }
+    let mut store = MemStore::new(alloc, Vec::new(alloc), Vec::new(alloc));
+    assert!(rt; store.put(&BlobName::Snapshot(1), snapshot(&rt, alloc).as_slice()) == Ok(()));
+    let mut input = MemSource::new(Vec::new(alloc), 1, Vec::new(alloc));
+    let mut out = MemSink::new(alloc, 200, 7, vec![in alloc; 8].expect(&rt, "memory")).expect(
+        &rt, "memory",
+    );
+    let mut keep = Keep::new(alloc);
+    let ended = run(alloc, &words, &mut input, &mut out, &mut store, &mut keep);
+    assert!(rt; ended == 4);
+    assert!(rt; out.bytes() == &ROWS.as_bytes()[..46]);
+}
+
+#[test]
 fn writes_refusals(rt: HostRuntime) {
     for (reply, line) in [
         (
@@ -90,6 +139,10 @@ fn writes_refusals(rt: HostRuntime) {
                 reason: Reason::FloatField,
             },
             "{\"at\":31,\"blob\":\"snapshot-1\",\"error\":19,\"name\":\"BadBlob\",\"reason\":45}\n",
+        ),
+        (
+            Reply::BadBody(BlobName::Snapshot(1)),
+            "{\"blob\":\"snapshot-1\",\"error\":92,\"name\":\"BadBody\"}\n",
         ),
     ] {
         let written = reply_line(rt.alloc(), &reply).expect(&rt, "memory");

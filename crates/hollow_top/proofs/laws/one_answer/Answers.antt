@@ -1,5 +1,5 @@
-use Rattle.hollow_top.proofs.OneAnswer.{one_reply}
+use Rattle.hollow_top.proofs.OneAnswer.{one_text}
 use Rattle.hollow_top.proofs.laws.one_answer.Goals as goal
 
 pub returns : goal.returns
-returns c = one_reply c.one_header.ensures
+returns c = one_text c.one_header.ensures c.one_row_value.ensures c.one_snapshot.ensures

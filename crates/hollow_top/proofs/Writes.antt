@@ -1,0 +1,55 @@
+-- What writing the line of one row of a table leaves of the sink.
+use Rattle.std.proofs.Common.{◌≡◌, ◌<◌, ℕ, List, [], ◌∷◌, length, take, Option, Some, None, Result, Ok, Err, IfSome, refl, sym, ◌∙◌, subst, arith}
+use Rattle.std.specs.List.{slice_get}
+use Rattle.std.specs.Prelude.{IsErrAnd}
+use Rattle.std.specs.Io.KnownBytes.{Appends}
+use Rattle.schema_model.specs.declared.schema.Schema.{Schema}
+use Rattle.schema_model.specs.Table.{Table, IsTableOf, row_at}
+use Rattle.hollow_top.specs.declared.stop.Stop.{Stop}
+use Rattle.hollow_top.specs.declared.stop.Stop.TheVariants.{Memory, Sink}
+use Rattle.hollow_top.specs.RowLines.{IsRowLine, LeavesLines}
+use Rattle.hollow_top.proofs.Fronts.{one_line, one_written, one_cut}
+use Rattle.hollow_top.proofs.Printed.{row_has_line}
+
+-- what holds where there is a value, shown or used at that value
+pub if_found : {A : Type 0} (o : Option A) (P : A → Type 0) → ((x : A) → o ≡ Some x → P x) → IfSome o P
+if_found None P holds = tt
+if_found (Some x) P holds = holds x refl
+
+pub found_if : {A : Type 0} (o : Option A) (P : A → Type 0) (x : A) → IfSome o P → o ≡ Some x → P x
+found_if None P x holds is = absurd cc
+found_if (Some y) P x holds is = let same : y ≡ x = cc in subst P same holds
+
+-- the failure of an answer
+pub failure : {T E : Type 0} (r : Result T E) (stop other : E) → IsErrAnd r (λ e. e ≡ stop) → r ≡ Err other → stop ≡ other
+failure (Ok x) stop other is was = absurd is
+failure (Err e) stop other is was = let same : e ≡ other = cc in sym is ∙ same
+
+-- an answer that is this failure
+pub failed : {T E : Type 0} (r : Result T E) (stop : E) (P : Result T E → Type 0) → IsErrAnd r (λ e. e ≡ stop) → P (Err stop) → P r
+failed (Ok x) stop P is holds = absurd is
+failed (Err e) stop P is holds = subst (λ s. P (Err s)) (sym is) holds
+
+module _ (schemas : List Schema) (table : Table) (t ordinal : ℕ) (before after : Option (List ℕ)) where
+  -- the lines of the one row of a table that stands there
+  abbrev pub LeavesRow : Result Unit Stop → Type 0
+  LeavesRow r = IfSome (slice_get schemas t) (λ schema. IfSome (row_at table t ordinal) (λ row. LeavesLines ((schema, (ordinal, row)) ∷ []) before after r))
+
+  abbrev pub IsLineThere : List ℕ → Type 0
+  IsLineThere line = IfSome (slice_get schemas t) (λ schema. IfSome (row_at table t ordinal) (λ row. IsRowLine (schema, (ordinal, row)) line))
+
+  pub row_written : (line : List ℕ) → IsLineThere line → Appends before after line → LeavesRow (Ok tt)
+  row_written line there gained =
+      if_found (slice_get schemas t) _ (λ schema at. if_found (row_at table t ordinal) _ (λ row live.
+      one_written (schema, (ordinal, row)) before after line (found_if (row_at table t ordinal) _ row (found_if (slice_get schemas t) _ schema there at) live) gained))
+
+  pub row_cut : (line : List ℕ) (r : Result Unit Stop) → IsErrAnd r (λ e. e ≡ Sink) → IsLineThere line → ((count : ℕ) × (count < length line) × Appends before after (take count line)) → LeavesRow r
+  row_cut line r is there part =
+      failed r Sink LeavesRow is (if_found (slice_get schemas t) _ (λ schema at. if_found (row_at table t ordinal) _ (λ row live.
+      one_cut (schema, (ordinal, row)) before after line (found_if (row_at table t ordinal) _ row (found_if (slice_get schemas t) _ schema there at) live) part)))
+
+  pub row_not_made : (r : Result Unit Stop) → IsErrAnd r (λ e. e ≡ Memory) → IsTableOf schemas table → Appends before after [] → LeavesRow r
+  row_not_made r is fits same =
+      failed r Memory LeavesRow is (if_found (slice_get schemas t) _ (λ schema at. if_found (row_at table t ordinal) _ (λ row live.
+      (let line = row_has_line schema ordinal row (fits.rows t ordinal schema row at live) in
+      (line.0, 0, one_line (schema, (ordinal, row)) line.0 line.1, omega arith, same)))))

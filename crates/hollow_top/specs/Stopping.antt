@@ -1,0 +1,31 @@
+-- What a command leaves of the sink and the counts where it ends, and where it stops before.
+use Rattle.std.specs.Prelude.{◌<◌, ◌≤◌, ℕ, List, length, take, Option, Bool, Result, Ok, Err}
+use Rattle.std.specs.Io.KnownBytes.{Appends}
+use Rattle.hol_io.specs.Causes.{Rose}
+use Rattle.hollow_top.specs.declared.stop.Stop.{Stop}
+use Rattle.hollow_top.specs.declared.stop.Stop.TheVariants.{Memory, Sink, Store as StoreFailed}
+
+-- A command that has written nothing stops for want of memory, or where the store's count of faults rose.
+abbrev pub StopsBefore : ℕ → ℕ → Stop → Type 0
+StopsBefore before now Memory = Unit {0}
+StopsBefore before now StoreFailed = Rose before now
+StopsBefore before now Sink = ⊥
+
+-- The sink gained a part of a text that is written so, from its front on, and not all of it.
+abbrev pub GainsPart : (List ℕ → Bool → Type 0) → Option (List ℕ) → Option (List ℕ) → Type 0
+GainsPart IsWritten before after =
+    (text : List ℕ) × (refused : Bool) × (count : ℕ) × IsWritten text refused × (count < length text)
+    × Appends before after (take count text)
+
+-- The sink gained the front of a text that is written so.
+abbrev pub GainsFront : (List ℕ → Bool → Type 0) → Option (List ℕ) → Option (List ℕ) → Type 0
+GainsFront IsWritten before after =
+    (text : List ℕ) × (refused : Bool) × (count : ℕ) × IsWritten text refused × (count ≤ length text)
+    × Appends before after (take count text)
+
+-- What a command leaves of the sink: a text that is written so with this verdict, or where the sink failed a part of one.
+abbrev pub Leaves : (List ℕ → Bool → Type 0) → Option (List ℕ) → Option (List ℕ) → Result Bool Stop → Type 0
+Leaves IsWritten before after (Ok refused) = (text : List ℕ) × IsWritten text refused × Appends before after text
+Leaves IsWritten before after (Err Sink) = GainsPart IsWritten before after
+Leaves IsWritten before after (Err StoreFailed) = Unit {0}
+Leaves IsWritten before after (Err Memory) = Unit {0}

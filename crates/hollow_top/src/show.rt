@@ -1,0 +1,64 @@
+//! `show`: the rows of a snapshot.
+ghost use Rattle.std.specs.Prelude.{◌≡◌, ◌≤◌, ◌⊎◌, IfSome, IsErrOf};
+ghost use Rattle.hol_io.specs.Causes.{Rose};
+ghost use Rattle.hollow_top.specs.Show.{Shows, body_refusal_of};
+ghost use Rattle.hollow_top.specs.Stopping.{GainsFront, Leaves};
+
+use crate::answer::write_reply;
+use crate::head::head;
+use crate::reply::Reply;
+use crate::row_lines::show_rows;
+use crate::stop::Stop;
+use blob_frame::BlobFault;
+use hol_io::{BlobName, BlobStore, Sink};
+use snapshot_blob::read_snapshot;
+use std::alloc::Global;
+
+/// Writes a line for each row of the snapshot of a version, types in model order and the ordinals of each type rising,
+/// or the one line of a refusal: `NoBlob`, `TooLarge` and `BadBlob` as of `head`, and `BadBody` where the header can be
+/// read and the blob is no snapshot, or passes a limit. It tells whether it was refused. Where memory is refused, the
+/// sink has a front of what was to be written.
+pub fn show<O: Sink, S: BlobStore>(
+    alloc: Global,
+    version: u64,
+    out: &mut O,
+    store: &mut S,
+) -> Result<bool, Stop>
+    ensures served { IfSome (S.held store.old)
+        (λ held. Leaves (Shows held version) (O.taken out.old) (O.taken out.new) result) }
+    ensures sink_fault { IsErrOf result Stop.Sink → Rose (O.faults out.old) (O.faults out.new) }
+    ensures store_fault { IsErrOf result Stop.Store → Rose (S.faults store.old) (S.faults store.new) }
+    ensures held { S.held store.new ≡ S.held store.old }
+    ensures silent { IsErrOf result Stop.Store → out.new ≡ out.old }
+    ensures stopped { IsErrOf result Stop.Memory → (out.new ≡ out.old) ⊎ IfSome (S.held store.old)
+        (λ held. GainsFront (Shows held version) (O.taken out.old) (O.taken out.new)) }
+{
+    let name = BlobName::Snapshot(version);
+    let reply = head(alloc, store, &name)?;
+    if reply.is_refusal() {
+        return write_reply(alloc, &reply, out);
+    }
+    match read_snapshot(alloc, store, &name) {
+        Ok(loaded) => {
+            show_rows(alloc, &loaded.rows(), out)?;
+            Ok(false)
+        }
+        Err(fault) => write_reply(alloc, &body_refusal(&name, fault)?, out),
+    }
+}
+
+// The answer for a fault of a blob whose header can be read. Which fault it is of the blob's body is not told.
+fn body_refusal(name: &BlobName, fault: BlobFault) -> Result<Reply, Stop>
+    ensures { result ≡ body_refusal_of name.now fault }
+{
+    match fault {
+        BlobFault::NoBlob(_) => Ok(Reply::NoBlob(*name)),
+        BlobFault::Store => Err(Stop::Store),
+        BlobFault::Memory => Err(Stop::Memory),
+        BlobFault::Large(_)
+        | BlobFault::Bad(..)
+        | BlobFault::BadRow(..)
+        | BlobFault::OtherOrigin(..)
+        | BlobFault::OtherModel(_) => Ok(Reply::BadBody(*name)),
+    }
+}
