@@ -28,14 +28,23 @@ pub fn owned(alloc: Global, words: &[&str]) -> Result<Vec<String>, Fail> {
 }
 
 /// The status of a command line over a store, with nothing to read, and what it wrote.
-pub fn answer_of(alloc: Global, words: &[String], store: &mut MemStore, out: &mut MemSink) -> u8 {
+pub fn answer_of<S: BlobStore>(
+    alloc: Global,
+    words: &[String],
+    store: &mut S,
+    out: &mut MemSink,
+) -> u8 {
     let mut input = MemSource::new(Vec::new(alloc), 1, Vec::new(alloc));
     let mut keep = Keep::new(alloc);
     run(alloc, words, &mut input, out, store, &mut keep)
 }
 
 /// The status of a command line over a store, and the text that it wrote.
-pub fn text_of(alloc: Global, words: &[&str], store: &mut MemStore) -> Result<(u8, String), Fail> {
+pub fn text_of<S: BlobStore>(
+    alloc: Global,
+    words: &[&str],
+    store: &mut S,
+) -> Result<(u8, String), Fail> {
     let words = owned(alloc, words)?;
     let mut out = MemSink::new(alloc, 10_000, 4096, Vec::new(alloc))?;
     let status = answer_of(alloc, words.as_slice(), store, &mut out);
@@ -43,7 +52,18 @@ pub fn text_of(alloc: Global, words: &[&str], store: &mut MemStore) -> Result<(u
     Ok((status, text))
 }
 
-/// The same for the head of the snapshot of version 1.
-pub fn head_of(alloc: Global, mut store: MemStore) -> Result<(u8, String), Fail> {
-    text_of(alloc, &["head", "snapshot-1"], &mut store)
+/// The same for a command over a blob that is stored as the snapshot of version 1.
+pub fn line_of(alloc: Global, command: &str, blob: &[u8]) -> Result<(u8, String), Fail> {
+    let mut store = snapshot(alloc, blob)?;
+    text_of(alloc, &[command, "snapshot-1"], &mut store)
+}
+
+/// The same for `head`.
+pub fn head_of(alloc: Global, blob: &[u8]) -> Result<(u8, String), Fail> {
+    line_of(alloc, "head", blob)
+}
+
+/// The same for `show`.
+pub fn show_of(alloc: Global, blob: &[u8]) -> Result<(u8, String), Fail> {
+    line_of(alloc, "show", blob)
 }

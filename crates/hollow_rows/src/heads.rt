@@ -1,5 +1,5 @@
 //! The heads of blobs: headers of every form, and each fault of a header at its place.
-use crate::bench::{head_of, snapshot};
+use crate::bench::{head_of, line_of};
 use std::alloc::Global;
 use std::test::Fail;
 
@@ -166,17 +166,12 @@ const FAULTS: &[(&str, &str, &str)] = &[
     ),
 ];
 
-/// The status and the line of `head` for a blob that is given in hexadecimal.
-fn head(alloc: Global, digits: &str) -> Result<(u8, String), Fail> {
-    let bytes = hex::decode(alloc, digits)?;
-    head_of(alloc, snapshot(alloc, bytes.as_slice())?)
-}
-
 /// Whether `head` answers with this end of a line for what follows the start of a header.
 fn has_head(alloc: Global, rest: &str, end: &str) -> Result<bool, Fail> {
     let mut digits = String::from_str(alloc, START)?;
     digits.push_str(rest)?;
-    let (status, line) = head(alloc, digits.as_str())?;
+    let blob = hex::decode(alloc, digits.as_str())?;
+    let (status, line) = head_of(alloc, blob.as_slice())?;
     let mut wanted = String::from_str(
         alloc,
         "{\"destination\":71,\"format\":1030,\"ok\":\"head\",\"origin\":0,",
@@ -185,9 +180,16 @@ fn has_head(alloc: Global, rest: &str, end: &str) -> Result<bool, Fail> {
     Ok(status == 0 && line.as_str() == wanted.as_str())
 }
 
-/// Whether `head` refuses the blob with this fault.
-fn has_fault(alloc: Global, digits: &str, at: &str, reason: &str) -> Result<bool, Fail> {
-    let (status, line) = head(alloc, digits)?;
+/// Whether a command refuses the blob with this fault.
+fn has_fault(
+    alloc: Global,
+    command: &str,
+    digits: &str,
+    at: &str,
+    reason: &str,
+) -> Result<bool, Fail> {
+    let blob = hex::decode(alloc, digits)?;
+    let (status, line) = line_of(alloc, command, blob.as_slice())?;
     let mut wanted = String::from_str(alloc, "{\"at\":")?;
     wanted.push_str(at)?;
     wanted.push_str(",\"blob\":\"snapshot-1\",\"error\":19,\"name\":\"BadBlob\",\"reason\":")?;
@@ -207,7 +209,14 @@ fn prints_each_head(rt: HostRuntime) -> Result<(), Fail> {
 #[test]
 fn names_each_fault(rt: HostRuntime) -> Result<(), Fail> {
     for (digits, at, reason) in FAULTS {
-        assert!(rt; has_fault(rt.alloc(), digits, at, reason)?, "{digits}");
+        assert!(rt;
+            has_fault(rt.alloc(), "head", digits, at, reason)?,
+            "{digits}"
+        );
+        assert!(rt;
+            has_fault(rt.alloc(), "show", digits, at, reason)?,
+            "{digits}"
+        );
     }
     Ok(())
 }
@@ -227,7 +236,7 @@ fn long_key(alloc: Global) -> Result<Vec<u8>, Fail> {
 fn crosses_the_edge(rt: HostRuntime) -> Result<(), Fail> {
     let alloc = rt.alloc();
     let blob = long_key(alloc)?;
-    let (status, line) = head_of(alloc, snapshot(alloc, blob.as_slice())?)?;
+    let (status, line) = head_of(alloc, blob.as_slice())?;
     assert_eq!(rt; status, 0);
     assert_eq!(rt; line.len(), 87 + 5000);
     Ok(())

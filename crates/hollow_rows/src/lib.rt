@@ -4,8 +4,16 @@
 #[cfg(test)]
 mod bench;
 #[cfg(test)]
+mod blobs;
+#[cfg(test)]
+mod bodies;
+#[cfg(test)]
 mod heads;
 #[cfg(test)]
+mod limits;
+#[cfg(test)]
 mod outside;
+#[cfg(test)]
+mod shows;
 #[cfg(test)]
 mod usage;

@@ -1,0 +1,70 @@
+//! The limit on the bytes of a blob: a size that just keeps it, and one that passes it.
+use crate::bench::text_of;
+use hol_io::{BlobName, BlobStore, PutFault, StoreFailed};
+use std::alloc::Global;
+use std::test::Fail;
+
+/// A store whose every name has so many bytes, all 0. It does not tell them to contracts.
+#[derive(Debug, Drop)]
+struct ZeroStore {
+    size: u64,
+}
+
+impl BlobStore for ZeroStore {
+    ghost use Rattle.std.specs.Prelude.{None};
+
+    ghost faults = { λ _. 0 };
+
+    ghost held = { λ _. None };
+
+    fn size(&mut self, _name: &BlobName) -> Result<Option<u64>, StoreFailed> {
+        Ok(Some(self.size))
+    }
+
+    fn read_at(
+        &mut self,
+        _name: &BlobName,
+        _at: u64,
+        buf: &mut [u8],
+    ) -> Result<usize, StoreFailed> {
+        buf.fill(0);
+        Ok(buf.len())
+    }
+
+    fn put(&mut self, _name: &BlobName, _bytes: &[u8]) -> Result<(), PutFault> {
+        Ok(())
+    }
+
+    fn list(&mut self, _out: &mut Vec<BlobName>) -> Result<(), PutFault> {
+        Ok(())
+    }
+}
+
+/// The number of bytes of a blob, and the line about it.
+const SIZES: &[(u64, &str)] = &[
+    (
+        268435456,
+        "{\"at\":0,\"blob\":\"snapshot-1\",\"error\":19,\"name\":\"BadBlob\",\"reason\":41}\n",
+    ),
+    (
+        268435457,
+        "{\"error\":28,\"limit\":268435456,\"name\":\"TooLarge\",\"what\":\"blob\"}\n",
+    ),
+];
+
+/// Whether a command refuses a blob of so many zeros with this line.
+fn refuses(alloc: Global, command: &str, size: u64, line: &str) -> Result<bool, Fail> {
+    let mut store = ZeroStore { size };
+    let (status, text) = text_of(alloc, &[command, "snapshot-1"], &mut store)?;
+    Ok(status == 1 && text.as_str() == line)
+}
+
+#[test]
+fn refuses_large_blobs(rt: HostRuntime) -> Result<(), Fail> {
+    let alloc = rt.alloc();
+    for (size, line) in SIZES {
+        assert!(rt; refuses(alloc, "head", *size, line)?, "{size}");
+        assert!(rt; refuses(alloc, "show", *size, line)?, "{size}");
+    }
+    Ok(())
+}
