@@ -20,6 +20,44 @@ const NOT_YET: &str = "{\"error\":90,\"name\":\"NotYet\"}\n";
 const ROWS: &str =
     "{\"ordinal\":0,\"row\":{\"n\":5},\"type\":\"A\"}\n{\"ordinal\":1,\"row\":{\"n\":null},\"type\":\"A\"}\n";
 
+// The words of a command line, the status, and what is written, over a store with these names: snapshot-1 has the header
+// alone, snapshot-2 is the snapshot, and delta-1-2 is a header that is cut.
+const COMMANDS: &[(&str, u8, &str)] = &[
+    (
+        "head snapshot-1",
+        0,
+        "{\"destination\":71,\"format\":1030,\"ok\":\"head\",\"origin\":0,\"schemas\":[\"A\"],\"tags\":[[\"k\",\"v\"]]}\n",
+    ),
+    (
+        "head snapshot-9",
+        1,
+        "{\"blob\":\"snapshot-9\",\"error\":18,\"name\":\"NoBlob\"}\n",
+    ),
+    (
+        "head delta-1-2",
+        1,
+        "{\"at\":23,\"blob\":\"delta-1-2\",\"error\":19,\"name\":\"BadBlob\",\"reason\":40}\n",
+    ),
+    ("run", 1, NOT_YET),
+    ("show snapshot-2", 0, ROWS),
+    (
+        "show snapshot-1",
+        1,
+        "{\"blob\":\"snapshot-1\",\"error\":92,\"name\":\"BadBody\"}\n",
+    ),
+    (
+        "show snapshot-9",
+        1,
+        "{\"blob\":\"snapshot-9\",\"error\":18,\"name\":\"NoBlob\"}\n",
+    ),
+    ("make 7 20000 12", 1, NOT_YET),
+    ("", 2, ""),
+    ("head announced.version", 2, ""),
+    ("show delta-1-2", 2, ""),
+    ("make 07 1 1", 2, ""),
+    ("make 1 0 1", 2, ""),
+];
+
 // The snapshot of this header and these types.
 fn snapshot(rt: &impl Abort, alloc: Global) -> Vec<u8> {
     let mut bytes = Vec::from_slice(alloc, HEADER).expect(rt, "memory");
@@ -31,41 +69,7 @@ fn snapshot(rt: &impl Abort, alloc: Global) -> Vec<u8> {
 #[test]
 fn answers_commands(rt: HostRuntime) {
     let alloc = rt.alloc();
-    for (words, status, line) in [
-        (
-            "head snapshot-1",
-            0,
-            "{\"destination\":71,\"format\":1030,\"ok\":\"head\",\"origin\":0,\"schemas\":[\"A\"],\"tags\":[[\"k\",\"v\"]]}\n",
-        ),
-        (
-            "head snapshot-9",
-            1,
-            "{\"blob\":\"snapshot-9\",\"error\":18,\"name\":\"NoBlob\"}\n",
-        ),
-        (
-            "head delta-1-2",
-            1,
-            "{\"at\":23,\"blob\":\"delta-1-2\",\"error\":19,\"name\":\"BadBlob\",\"reason\":40}\n",
-        ),
-        ("run", 1, NOT_YET),
-        ("show snapshot-2", 0, ROWS),
-        (
-            "show snapshot-1",
-            1,
-            "{\"blob\":\"snapshot-1\",\"error\":92,\"name\":\"BadBody\"}\n",
-        ),
-        (
-            "show snapshot-9",
-            1,
-            "{\"blob\":\"snapshot-9\",\"error\":18,\"name\":\"NoBlob\"}\n",
-        ),
-        ("make 7 20000 12", 1, NOT_YET),
-        ("", 2, ""),
-        ("head announced.version", 2, ""),
-        ("show delta-1-2", 2, ""),
-        ("make 07 1 1", 2, ""),
-        ("make 1 0 1", 2, ""),
-    ] {
+    for (words, status, line) in COMMANDS {
         let mut all = Vec::new(alloc);
         for word in words.split_whitespace() {
             let word = String::from_str(alloc, word).expect(&rt, "memory");
@@ -79,7 +83,7 @@ fn answers_commands(rt: HostRuntime) {
         let mut out = MemSink::new(alloc, 200, 7, Vec::new(alloc)).expect(&rt, "memory");
         let mut keep = Keep::new(alloc);
         let ended = run(alloc, &all, &mut input, &mut out, &mut store, &mut keep);
-        assert!(rt; ended == status, "{words}");
+        assert!(rt; ended == *status, "{words}");
         assert!(rt; out.bytes() == line.as_bytes(), "{words}");
     }
 }
