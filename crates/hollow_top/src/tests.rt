@@ -10,7 +10,7 @@ use std::process::Abort;
 const HEADER: &[u8] =
     b"\0\0\x04\x06\0\0\0\0\0\0\0\0\0\0\0\0\0\0\0\x47\x10\x01\0\0\x01A\0\x01\0\x01n\0\x03INT\0\0\x01\0\x01k\0\x01v";
 
-// The types of the snapshot that begins with this header: the type A, whose rows 0 and 1 are 5 and null. The bytes
+// The types of the snapshot that begins with this header: the type A, which has 5 under the ordinal 0 and null under 1. The bytes
 // behind these are 0 up to the end of its 256 population words.
 const BODY: &[u8] =
     b"\x01\0\0\x01A\0\x01\0\x01n\0\x03INT\x02\0\x01\x01\x04\x01\0\0\0\0\0\0\0\xfa\0\0\0\x01\0\0\0\0\0\0\0\0\x03";
