@@ -5,7 +5,8 @@ use Rattle.hol_io.specs.Store.{told}
 use Rattle.schema_model.specs.declared.reason.Reason.{Reason}
 use Rattle.blob_frame.specs.declared.fault.BlobFault.{BlobFault}
 use Rattle.blob_frame.specs.declared.fault.BlobFault.TheVariants as fault
-use Rattle.blob_frame.specs.Form.{Form, ◌>>=◌, nothing, judged}
+use Rattle.blob_frame.specs.Decided.{IsJudge}
+use Rattle.blob_frame.specs.Form.{Form, ◌>>=◌, nothing, judged, made}
 use Rattle.blob_frame.specs.Scene.{Scene, Stays, IsOver, Tells, Reads}
 
 -- a cause stays one where the count goes on
@@ -32,13 +33,7 @@ unfolding ◌>>=◌
 tells_then a b None at mid end x r p q = tt
 tells_then a b (Some blob) at mid end x (Ok v) p q = (x, mid, p, q)
 tells_then a b (Some blob) at mid end x (Err (fault.Bad place why)) p q = inr (x, mid, p, q)
-tells_then a b (Some blob) at mid end x (Err fault.Store) p q = tt
-tells_then a b (Some blob) at mid end x (Err fault.Memory) p q = tt
-tells_then a b (Some blob) at mid end x (Err (fault.NoBlob name)) p q = q
-tells_then a b (Some blob) at mid end x (Err (fault.Large limit)) p q = q
-tells_then a b (Some blob) at mid end x (Err (fault.BadRow place why name ordinal)) p q = q
-tells_then a b (Some blob) at mid end x (Err (fault.OtherOrigin found current)) p q = q
-tells_then a b (Some blob) at mid end x (Err (fault.OtherModel name)) p q = q
+tells_then a b (Some blob) at mid end x (Err _) p q = q
 
 -- what the first part's value calls for is read behind it
 pub reads_then : {A B : Type 0} {a : Form A} (b : A → Form B) {before mid after : Scene} {x : A} {r : Result B BlobFault} →
@@ -57,13 +52,7 @@ tells_first : {A B : Type 0} (a : Form A) (b : A → Form B) (content : Option (
 unfolding ◌>>=◌
 tells_first a b None at end e p = tt
 tells_first a b (Some blob) at end (fault.Bad place why) p = inl p
-tells_first a b (Some blob) at end fault.Store p = tt
-tells_first a b (Some blob) at end fault.Memory p = tt
-tells_first a b (Some blob) at end (fault.NoBlob name) p = p
-tells_first a b (Some blob) at end (fault.Large limit) p = p
-tells_first a b (Some blob) at end (fault.BadRow place why name ordinal) p = p
-tells_first a b (Some blob) at end (fault.OtherOrigin found current) p = p
-tells_first a b (Some blob) at end (fault.OtherModel name) p = p
+tells_first a b (Some blob) at end _ p = p
 
 -- what stops the first part stops the whole
 pub reads_stops : {A B : Type 0} {a : Form A} (b : A → Form B) {before after : Scene} {e : BlobFault} {r : Result B BlobFault} →
@@ -105,64 +94,68 @@ reads_free {form = form} {before} {after} {r} stays over is = subst (λ r. Reads
   tells = tells_free form (told before.held before.place.name) before.place.at after.place.at;
 })
 
-tells_judged : {A B : Type 0} (a : Form A) (Means : A → B → Type 0) (F : A → Reason → Type 0) (content : Option (List ℕ)) (at end : ℕ) (x : A) (v : B) →
-    Tells a content at (Ok x) end → Means x v → Tells (judged a Means F) content at (Ok v) end
+tells_judged : {A B : Type 0} (a : Form A) (Means : A → B → Type 0) (F : A → Reason → Type 0) (J : IsJudge Means F) (content : Option (List ℕ)) (at end : ℕ) (x : A) (v : B) →
+    Tells a content at (Ok x) end → Means x v → Tells (judged a Means F J) content at (Ok v) end
 unfolding judged
-tells_judged a Means F None at end x v p m = tt
-tells_judged a Means F (Some blob) at end x v p m = (x, p, m)
+tells_judged a Means F J None at end x v p m = tt
+tells_judged a Means F J (Some blob) at end x v p m = (x, p, m)
 
 -- the value that what was read means
-pub reads_judged : {A B : Type 0} {a : Form A} (Means : A → B → Type 0) (F : A → Reason → Type 0) {before after : Scene} {x : A} {v : B} →
-    Reads a before after (Ok x) → Means x v → Reads (judged a Means F) before after (Ok v)
-reads_judged {a = a} Means F {before} {after} {x} {v} p m = record {
+pub reads_judged : {A B : Type 0} {a : Form A} (Means : A → B → Type 0) (F : A → Reason → Type 0) (J : IsJudge Means F) {before after : Scene} {x : A} {v : B} →
+    Reads a before after (Ok x) → Means x v → Reads (judged a Means F J) before after (Ok v)
+reads_judged {a = a} Means F J {before} {after} {x} {v} p m = record {
   stays = p.stays;
   over = p.over;
   cause = λ e. absurd (cc);
   kind = tt;
-  tells = tells_judged a Means F (told before.held before.place.name) before.place.at after.place.at x v p.tells m;
+  tells = tells_judged a Means F J (told before.held before.place.name) before.place.at after.place.at x v p.tells m;
 }
 
-tells_unread : {A B : Type 0} (a : Form A) (Means : A → B → Type 0) (F : A → Reason → Type 0) (content : Option (List ℕ)) (at end : ℕ) (e : BlobFault) →
-    Tells a content at (Err e) end → Tells (judged a Means F) content at (Err e) end
+tells_unread : {A B : Type 0} (a : Form A) (Means : A → B → Type 0) (F : A → Reason → Type 0) (J : IsJudge Means F) (content : Option (List ℕ)) (at end : ℕ) (e : BlobFault) →
+    Tells a content at (Err e) end → Tells (judged a Means F J) content at (Err e) end
 unfolding judged
-tells_unread a Means F None at end e p = tt
-tells_unread a Means F (Some blob) at end (fault.Bad place why) p = inl p
-tells_unread a Means F (Some blob) at end fault.Store p = tt
-tells_unread a Means F (Some blob) at end fault.Memory p = tt
-tells_unread a Means F (Some blob) at end (fault.NoBlob name) p = p
-tells_unread a Means F (Some blob) at end (fault.Large limit) p = p
-tells_unread a Means F (Some blob) at end (fault.BadRow place why name ordinal) p = p
-tells_unread a Means F (Some blob) at end (fault.OtherOrigin found current) p = p
-tells_unread a Means F (Some blob) at end (fault.OtherModel name) p = p
+tells_unread a Means F J None at end e p = tt
+tells_unread a Means F J (Some blob) at end (fault.Bad place why) p = inl p
+tells_unread a Means F J (Some blob) at end _ p = p
 
 -- what is judged cannot be read
-pub reads_unread : {A B : Type 0} {a : Form A} (Means : A → B → Type 0) (F : A → Reason → Type 0) {before after : Scene} {e : BlobFault} {r : Result B BlobFault} →
-    Reads a before after (Err e) → r ≡ Err e → Reads (judged a Means F) before after r
-reads_unread {a = a} Means F {before} {after} {e} {r} p is = subst (λ r. Reads (judged a Means F) before after r) (sym is) (record {
+pub reads_unread : {A B : Type 0} {a : Form A} (Means : A → B → Type 0) (F : A → Reason → Type 0) (J : IsJudge Means F) {before after : Scene} {e : BlobFault} {r : Result B BlobFault} →
+    Reads a before after (Err e) → r ≡ Err e → Reads (judged a Means F J) before after r
+reads_unread {a = a} Means F J {before} {after} {e} {r} p is = subst (λ r. Reads (judged a Means F J) before after r) (sym is) (record {
   stays = p.stays;
   over = p.over;
   cause = λ k. p.cause (ap Err (cc));
   kind = p.kind;
-  tells = tells_unread a Means F (told before.held before.place.name) before.place.at after.place.at e p.tells;
+  tells = tells_unread a Means F J (told before.held before.place.name) before.place.at after.place.at e p.tells;
 })
 
-tells_refused : {A B : Type 0} (a : Form A) (Means : A → B → Type 0) (F : A → Reason → Type 0) (content : Option (List ℕ)) (at end : ℕ) (x : A) (why : Reason) →
-    Tells a content at (Ok x) end → F x why → Tells (judged a Means F) content at (Err (fault.Bad at why)) end
+tells_refused : {A B : Type 0} (a : Form A) (Means : A → B → Type 0) (F : A → Reason → Type 0) (J : IsJudge Means F) (content : Option (List ℕ)) (at end : ℕ) (x : A) (why : Reason) →
+    Tells a content at (Ok x) end → F x why → Tells (judged a Means F J) content at (Err (fault.Bad at why)) end
 unfolding judged
-tells_refused a Means F None at end x why p f = tt
-tells_refused a Means F (Some blob) at end x why p f = inr (x, end, p, refl, f)
+tells_refused a Means F J None at end x why p f = tt
+tells_refused a Means F J (Some blob) at end x why p f = inr (x, end, p, refl, f)
 
 -- what was read means nothing, and is refused at its own place
-pub reads_refused : {A B : Type 0} {a : Form A} (Means : A → B → Type 0) (F : A → Reason → Type 0) {before after : Scene} {x : A} {why : Reason} {r : Result B BlobFault} →
-    Reads a before after (Ok x) → F x why → r ≡ Err (fault.Bad before.place.at why) → Reads (judged a Means F) before after r
-reads_refused {a = a} Means F {before} {after} {x} {why} {r} p f is = subst (λ r. Reads (judged a Means F) before after r) (sym is) (record {
+pub reads_refused : {A B : Type 0} {a : Form A} (Means : A → B → Type 0) (F : A → Reason → Type 0) (J : IsJudge Means F) {before after : Scene} {x : A} {why : Reason} {r : Result B BlobFault} →
+    Reads a before after (Ok x) → F x why → r ≡ Err (fault.Bad before.place.at why) → Reads (judged a Means F J) before after r
+reads_refused {a = a} Means F J {before} {after} {x} {why} {r} p f is = subst (λ r. Reads (judged a Means F J) before after r) (sym is) (record {
   stays = p.stays;
   over = p.over;
   cause = λ e. absurd (cc);
   kind = tt;
-  tells = tells_refused a Means F (told before.held before.place.name) before.place.at after.place.at x why p.tells f;
+  tells = tells_refused a Means F J (told before.held before.place.name) before.place.at after.place.at x why p.tells f;
 })
 
 -- nothing is left to read, and this is the value
 pub reads_value : {A : Type 0} {v : A} {now : Scene} {r : Result A BlobFault} → IsOver now → r ≡ Ok v → Reads (nothing v) now now r
 reads_value {v = v} {now} {r} over is = subst (λ r. Reads (nothing v) now now r) (sym is) (reads_nothing over)
+
+pub reads_made : {A B : Type 0} {a : Form A} (f : A → B) {before after : Scene} {x : A} {r : Result B BlobFault} →
+    Reads a before after (Ok x) → r ≡ Ok (f x) → Reads (made f a) before after r
+unfolding made
+reads_made f {r = r} p is = reads_then _ p (reads_value p.over is)
+
+pub reads_unmade : {A B : Type 0} {a : Form A} (f : A → B) {before after : Scene} {e : BlobFault} {r : Result B BlobFault} →
+    Reads a before after (Err e) → r ≡ Err e → Reads (made f a) before after r
+unfolding made
+reads_unmade f p is = reads_stops _ p is

@@ -6,20 +6,15 @@ use Rattle.hol_io.specs.Store.{told}
 use Rattle.blob_frame.specs.declared.fault.BlobFault.{BlobFault}
 use Rattle.blob_frame.specs.declared.fault.BlobFault.TheVariants as fault
 use Rattle.blob_frame.specs.Item.{fixed}
-use Rattle.blob_frame.specs.Scene.{Place, Scene, scene, moved, Stays, IsPlaceIn, IsItemFault, IsReadFault, Tells, Reads}
+use Rattle.blob_frame.specs.Scene.{Place, Scene, at_place, moved, Stays, IsPlaceIn, IsItemFault, IsReadFault, Tells, Reads}
 use Rattle.blob_frame.specs.Filling.{Needs, TellsNeed}
 use Rattle.blob_frame.proofs.Chain.{told_stays}
 
 -- a fault of a reader that takes no memory is one of a reader of items
 pub item_fault : (e : BlobFault) → IsReadFault e → IsItemFault e
 item_fault (fault.Bad place why) k = tt
-item_fault fault.Store k = tt
-item_fault fault.Memory k = tt
-item_fault (fault.NoBlob name) k = k
-item_fault (fault.Large limit) k = k
-item_fault (fault.BadRow place why name ordinal) k = k
-item_fault (fault.OtherOrigin found current) k = k
-item_fault (fault.OtherModel name) k = k
+item_fault fault.Memory k = absurd k
+item_fault _ k = k
 
 -- the first bytes ahead are those at the place
 pub take_ahead : (blob ahead : List ℕ) (at count : ℕ) → ahead ≡ take (length ahead) (drop at blob) → count ≤ length ahead → take count ahead ≡ take count (drop at blob)
@@ -50,7 +45,7 @@ over_moved place (Some blob) count h over =
 
 -- the scene behind so many bytes ahead
 abbrev pub passed : Scene → ℕ → Scene
-passed now count = scene now.held now.faults (moved now.place count)
+passed now count = at_place now (moved now.place count)
 
 pub stays_passed : {before mid : Scene} (count : ℕ) → Stays before mid → Stays before (passed mid count)
 stays_passed count p = record { store = p.store; later = p.later; name = p.name; size = p.size }
@@ -67,8 +62,8 @@ tells_fixed w (Some blob) place v over enough is = (
 
 -- a number of a fixed size is read from the bytes ahead
 pub reads_fixed : (w : Width) {before mid : Scene} {place : Place} {v : ℕ} → Needs {T = Unit {0}} (byte_len w) before mid (Ok tt) → place ≡ moved mid.place (byte_len w) →
-    v ≡ from_be_bytes w (take (byte_len w) mid.place.ahead) → Reads (fixed w) before (scene mid.held mid.faults place) (Ok v)
-reads_fixed w {before} {mid} {place} {v} p behind is = subst (λ (place : Place). Reads (fixed w) before (scene mid.held mid.faults place) (Ok v)) (sym behind) (record {
+    v ≡ from_be_bytes w (take (byte_len w) mid.place.ahead) → Reads (fixed w) before (at_place mid place) (Ok v)
+reads_fixed w {before} {mid} {place} {v} p behind is = subst (λ (place : Place). Reads (fixed w) before (at_place mid place) (Ok v)) (sym behind) (record {
   stays = stays_passed (byte_len w) p.stays;
   over = over_moved mid.place (told mid.held mid.place.name) (byte_len w) p.enough p.over;
   cause = λ e. absurd (cc);
@@ -117,11 +112,7 @@ tells_short w None at end e k p = tt
 tells_short w (Some blob) at end (fault.Bad place why) k p = p
 tells_short w (Some blob) at end fault.Store k p = tt
 tells_short w (Some blob) at end fault.Memory k p = absurd k
-tells_short w (Some blob) at end (fault.NoBlob name) k p = k
-tells_short w (Some blob) at end (fault.Large limit) k p = k
-tells_short w (Some blob) at end (fault.BadRow place why name ordinal) k p = k
-tells_short w (Some blob) at end (fault.OtherOrigin found current) k p = k
-tells_short w (Some blob) at end (fault.OtherModel name) k p = k
+tells_short w (Some blob) at end _ k p = k
 
 -- the blob ends before the number does, or the store failed
 pub reads_short : (w : Width) {before after : Scene} {e : BlobFault} {r : Result ℕ BlobFault} → Needs {T = Unit {0}} (byte_len w) before after (Err e) → r ≡ Err e →

@@ -8,5 +8,4 @@ pub mod TextReading
 pub mod Counting
 pub mod Envelopes
 pub mod Decided
-pub mod DecidedItems
 pub mod Listing

@@ -10,8 +10,9 @@ use Rattle.hol_varint.specs.Varint.{GoOn, IsVarint, VarStandsBelow, VarEndsInsid
 use Rattle.schema_model.specs.declared.reason.Reason.TheVariants.{Truncated, BadVarint}
 use Rattle.blob_frame.specs.declared.fault.BlobFault.{BlobFault}
 use Rattle.blob_frame.specs.declared.fault.BlobFault.TheVariants as fault
-use Rattle.blob_frame.specs.Item.{VarFails, varint}
-use Rattle.blob_frame.specs.Scene.{Place, Scene, scene, moved, IsPlaceIn, Tells, Reads}
+use Rattle.blob_frame.specs.Item.{varint}
+use Rattle.blob_frame.specs.Words.{VarFails}
+use Rattle.blob_frame.specs.Scene.{Place, Scene, at_place, moved, IsPlaceIn, Tells, Reads}
 use Rattle.blob_frame.specs.Filling.{Fills, StopsLater, Seeks}
 use Rattle.blob_frame.proofs.Chain.{told_stays, stays_then}
 use Rattle.blob_frame.proofs.Fixed.{take_ahead, within_ahead, over_moved, stays_passed}
@@ -50,8 +51,8 @@ tells_number limit (Some blob) place n next over p = record {
 
 -- a number is read from the bytes ahead
 pub reads_number : (limit : ℕ) {before mid : Scene} {place : Place} {n next : ℕ} → Fills {T = Unit {0}} 10 before mid (Ok tt) →
-    VarStandsBelow limit mid.place.ahead 0 n next → place ≡ moved mid.place next → Reads (varint limit) before (scene mid.held mid.faults place) (Ok n)
-reads_number limit {before} {mid} {place} {n} {next} f p is = subst (λ (place : Place). Reads (varint limit) before (scene mid.held mid.faults place) (Ok n)) (sym is) (record {
+    VarStandsBelow limit mid.place.ahead 0 n next → place ≡ moved mid.place next → Reads (varint limit) before (at_place mid place) (Ok n)
+reads_number limit {before} {mid} {place} {n} {next} f p is = subst (λ (place : Place). Reads (varint limit) before (at_place mid place) (Ok n)) (sym is) (record {
   stays = stays_passed next f.stays;
   over = over_moved mid.place (told mid.held mid.place.name) next p.within f.over;
   cause = λ e. absurd (cc);

@@ -4,13 +4,13 @@ use Rattle.std.specs.Option.{IfSome}
 use Rattle.std.proofs.Math.Seq.{take-add}
 use Rattle.std.proofs.lemmas.List.{drop-drop}
 use Rattle.std.proofs.lemmas.Grind.{common_steps}
-use Rattle.hol_io.specs.Store.{Store, told}
+use Rattle.hol_io.specs.Store.{Seen, told}
 use Rattle.schema_model.specs.declared.reason.Reason.TheVariants.{Truncated, TrailingBytes}
 use Rattle.blob_frame.specs.declared.fault.BlobFault.{BlobFault}
 use Rattle.blob_frame.specs.declared.fault.BlobFault.TheVariants as fault
 use Rattle.blob_frame.specs.Form.{judged}
 use Rattle.blob_frame.specs.Item.{run, skipped, end}
-use Rattle.blob_frame.specs.Scene.{Place, Scene, scene, moved, Stays, IsOver, IsPlaceIn, Tells, Reads}
+use Rattle.blob_frame.specs.Scene.{Place, Scene, scene, at_place, moved, Stays, IsOver, IsPlaceIn, Tells, Reads}
 use Rattle.blob_frame.specs.Filling.{Fills}
 use Rattle.blob_frame.proofs.Chain.{told_stays, stays_then, rose_earlier, reads_free}
 use Rattle.blob_frame.proofs.Fixed.{take_ahead, over_moved, stays_passed}
@@ -60,10 +60,10 @@ more_are (Some blob) at piece bytes place h is over are =
 -- a piece more
 pub gathers_more : {count : ℕ} {before now mid : Scene} {bytes all : List ℕ} (piece : ℕ) {place : Place} → Gathers count before now bytes → Fills {T = Unit {0}} 1 now mid (Ok tt) →
     piece ≤ length mid.place.ahead → length bytes + piece ≤ count → place ≡ moved mid.place piece → all ≡ bytes ++ take piece mid.place.ahead →
-    Gathers count before (scene mid.held mid.faults place) all
+    Gathers count before (at_place mid place) all
 gathers_more {count} {before} {now} {mid} {bytes} {all} piece {place} p f h fits is longer =
-    subst (λ (all : List ℕ). Gathers count before (scene mid.held mid.faults place) all) (sym longer)
-    (subst (λ (place : Place). Gathers count before (scene mid.held mid.faults place) (bytes ++ take piece mid.place.ahead)) (sym is) (record {
+    subst (λ (all : List ℕ). Gathers count before (at_place mid place) all) (sym longer)
+    (subst (λ (place : Place). Gathers count before (at_place mid place) (bytes ++ take piece mid.place.ahead)) (sym is) (record {
       stays = stays_passed piece (stays_then p.stays f.stays);
       over = over_moved mid.place (told mid.held mid.place.name) piece h f.over;
       place = omega (arith, p.place, f.place, length-append bytes (take piece mid.place.ahead), length_first piece mid.place.ahead h);
@@ -158,15 +158,15 @@ tells_skipped None count place over fits = tt
 tells_skipped (Some blob) count place over fits = (take count (drop place.at blob), (refl, omega (arith, over.0), refl), tt)
 
 -- moving past bytes that are there
-pub reads_skipped : (count : ℕ) (held : Option Store) (faults : ℕ) (place after : Place) → IsPlaceIn place (told held place.name) → place.at + count ≤ place.size →
-    after.name ≡ place.name → after.size ≡ place.size → after.at ≡ place.at + count → IsPlaceIn after (told held place.name) →
-    Reads (skipped count) (scene held faults place) (scene held faults after) (Ok tt)
-reads_skipped count held faults place after over fits name size at here = record {
+pub reads_skipped : (count : ℕ) (seen : Seen) (place after : Place) → IsPlaceIn place (told seen.held place.name) → place.at + count ≤ place.size →
+    after.name ≡ place.name → after.size ≡ place.size → after.at ≡ place.at + count → IsPlaceIn after (told seen.held place.name) →
+    Reads (skipped count) (scene seen place) (scene seen after) (Ok tt)
+reads_skipped count seen place after over fits name size at here = record {
   stays = record { store = refl; later = omega arith; name = name; size = size };
-  over = subst (λ n. IsPlaceIn after (told held n)) (sym name) here;
+  over = subst (λ n. IsPlaceIn after (told seen.held n)) (sym name) here;
   cause = λ e. absurd (cc);
   kind = tt;
-  tells = subst (λ n. Tells (skipped count) (told held place.name) place.at (Ok tt) n) (sym at) (tells_skipped (told held place.name) count place over fits);
+  tells = subst (λ n. Tells (skipped count) (told seen.held place.name) place.at (Ok tt) n) (sym at) (tells_skipped (told seen.held place.name) count place over fits);
 }
 
 tells_end : (content : Option (List ℕ)) (place : Place) → IsPlaceIn place content → place.at ≡ place.size → Tells end content place.at (Ok tt) place.at

@@ -10,7 +10,7 @@ use Rattle.hol_io.specs.Store.{told}
 use Rattle.hol_varint.specs.Varint.{GoOn, SpellsOn, IsVarint}
 use Rattle.blob_frame.specs.declared.fault.BlobFault.{BlobFault}
 use Rattle.blob_frame.specs.declared.fault.BlobFault.TheVariants as fault
-use Rattle.blob_frame.specs.Scene.{Place, Scene, scene, moved, Stays, IsOver, IsPlaceIn}
+use Rattle.blob_frame.specs.Scene.{Place, Scene, at_place, moved, Stays, IsOver, IsPlaceIn}
 use Rattle.blob_frame.specs.Filling.{Fills, StopsLater, Seeks, HasAhead}
 use Rattle.blob_frame.proofs.Chain.{told_stays, stays_then, rose_earlier}
 use Rattle.blob_frame.proofs.Fixed.{stays_passed}
@@ -104,10 +104,10 @@ more_on (Some blob) from place h over on so_far =
 
 -- all of the bytes ahead go on, and more are read ahead
 pub seeking_more : {before now mid : Scene} {place : Place} (count : ℕ) → Seeking before now → GoOn now.place.ahead → count ≡ length now.place.ahead →
-    place ≡ moved now.place count → Fills {T = Unit {0}} 1 (scene now.held now.faults place) mid (Ok tt) → Seeking before mid
+    place ≡ moved now.place count → Fills {T = Unit {0}} 1 (at_place now place) mid (Ok tt) → Seeking before mid
 seeking_more {before} {now} {mid} {place} count p on all is f =
     let at : place.at ≡ now.place.at + length now.place.ahead = ap (λ (p : Place). p.at) is ∙ ap (λ n. now.place.at + n) all in
-    let stays : Stays before (scene now.held now.faults place) = subst (λ (place : Place). Stays before (scene now.held now.faults place)) (sym is) (stays_passed count p.stays) in
+    let stays : Stays before (at_place now place) = subst (λ (place : Place). Stays before (at_place now place)) (sym is) (stays_passed count p.stays) in
     record {
       stays = stays_then stays f.stays;
       over = f.over;
@@ -121,9 +121,9 @@ seeking_more {before} {now} {mid} {place} count p on all is f =
 
 -- the store fails
 pub seeking_fault : {before now mid : Scene} {place : Place} {e : BlobFault} {r : Result Bool BlobFault} (count : ℕ) → Seeking before now →
-    place ≡ moved now.place count → Fills {T = Unit {0}} 1 (scene now.held now.faults place) mid (Err e) → r ≡ Err e → Seeks before mid r
+    place ≡ moved now.place count → Fills {T = Unit {0}} 1 (at_place now place) mid (Err e) → r ≡ Err e → Seeks before mid r
 seeking_fault {before} {now} {mid} {place} {e} {r} count p is f same =
-    let stays : Stays before (scene now.held now.faults place) = subst (λ (place : Place). Stays before (scene now.held now.faults place)) (sym is) (stays_passed count p.stays) in
+    let stays : Stays before (at_place now place) = subst (λ (place : Place). Stays before (at_place now place)) (sym is) (stays_passed count p.stays) in
     subst (λ r. Seeks before mid r) (sym (same ∙ ap Err f.kind)) (record {
       stays = stays_then stays f.stays;
       over = f.over;

@@ -82,13 +82,7 @@ unfolding run units
 units_cut None place len end e over enough long p = tt
 units_cut (Some blob) place len end (fault.Bad other why) over enough long p =
     (p.1, inl (omega (arith, p.0, length_ahead blob place over enough, length-drop place.at blob), p.2))
-units_cut (Some blob) place len end fault.Store over enough long p = tt
-units_cut (Some blob) place len end fault.Memory over enough long p = tt
-units_cut (Some blob) place len end (fault.NoBlob name) over enough long p = p
-units_cut (Some blob) place len end (fault.Large limit) over enough long p = p
-units_cut (Some blob) place len end (fault.BadRow other why name ordinal) over enough long p = p
-units_cut (Some blob) place len end (fault.OtherOrigin found current) over enough long p = p
-units_cut (Some blob) place len end (fault.OtherModel name) over enough long p = p
+units_cut (Some blob) place len end _ over enough long p = p
 
 units_absent : (content : Option (List ℕ)) (place : Place) (at end : ℕ) (e : BlobFault) → IsReadFault e → TellsNeed {T = Unit {0}} 2 content at (Err e) →
     Tells units content at (Err e) end
@@ -97,11 +91,7 @@ units_absent None place at end e k p = tt
 units_absent (Some blob) place at end (fault.Bad other why) k p = (p.1, inl (omega (arith, p.0, length-drop at blob), p.2))
 units_absent (Some blob) place at end fault.Store k p = tt
 units_absent (Some blob) place at end fault.Memory k p = absurd k
-units_absent (Some blob) place at end (fault.NoBlob name) k p = k
-units_absent (Some blob) place at end (fault.Large limit) k p = k
-units_absent (Some blob) place at end (fault.BadRow other why name ordinal) k p = k
-units_absent (Some blob) place at end (fault.OtherOrigin found current) k p = k
-units_absent (Some blob) place at end (fault.OtherModel name) k p = k
+units_absent (Some blob) place at end _ k p = k
 
 -- the blob ends before the length does, or the store failed
 pub reads_no_length : {before after : Scene} {e : BlobFault} {r : Result (List ℕ) BlobFault} → Needs {T = Unit {0}} 2 before after (Err e) → r ≡ Err e → Reads units before after r

@@ -3,6 +3,8 @@
 use Rattle.std.specs.Prelude.{◌≡◌, ◌≤◌, ◌<◌, ◌⊎◌, ℕ, zero, suc, List, [], ◌∷◌}
 use Rattle.schema_model.specs.declared.reason.Reason.{Reason}
 use Rattle.schema_model.specs.declared.reason.Reason.TheVariants.{BadSchema}
+use Rattle.blob_frame.specs.Decided.{IsDecided, IsJudge}
+use Rattle.blob_frame.specs.Deciding.{decided_nothing, decided_then, decided_judged, judge_at_most}
 
 -- What may stand at a place of a blob's bytes.
 pub record Form (V : Type 0) : Type 1 where
@@ -10,6 +12,8 @@ pub record Form (V : Type 0) : Type 1 where
   pub Stands : List ℕ → ℕ → V → ℕ → Type 0
   -- in these bytes, from this place on, the item at that place cannot be read, for this reason
   pub Stuck : List ℕ → ℕ → ℕ → Reason → Type 0
+  -- at each place it stands with one value at most and is stuck once at most, and never both
+  pub decided : IsDecided Stands Stuck
 
 -- First a, and then, behind it, what its value calls for.
 infixl 10 ◌>>=◌
@@ -18,6 +22,7 @@ unfoldable pub ◌>>=◌ : {A B : Type 0} → Form A → (A → Form B) → Form
   Stands = λ bytes at v next. (x : A) × (mid : ℕ) × a.Stands bytes at x mid × (b x).Stands bytes mid v next;
   Stuck = λ bytes at place why. a.Stuck bytes at place why
       ⊎ ((x : A) × (mid : ℕ) × a.Stands bytes at x mid × (b x).Stuck bytes mid place why);
+  decided = decided_then a.decided (λ x. (b x).decided);
 }
 
 -- No bytes, and this value.
@@ -25,19 +30,21 @@ unfoldable pub nothing : {A : Type 0} → A → Form A
 nothing v = record {
   Stands = λ bytes at w next. (w ≡ v) × (next ≡ at);
   Stuck = λ bytes at place why. ⊥;
+  decided = decided_nothing v;
 }
 
 -- The value that the value of a means. A value of a that means none is refused at its own place.
-unfoldable pub judged : {A B : Type 0} → Form A → (A → B → Type 0) → (A → Reason → Type 0) → Form B
-judged {A} a Means IsRefused = record {
+unfoldable pub judged : {A B : Type 0} → Form A → (Means : A → B → Type 0) → (Refused : A → Reason → Type 0) → IsJudge Means Refused → Form B
+judged {A} a Means IsRefused judge = record {
   Stands = λ bytes at v next. (x : A) × a.Stands bytes at x next × Means x v;
   Stuck = λ bytes at place why. a.Stuck bytes at place why
       ⊎ ((x : A) × (next : ℕ) × a.Stands bytes at x next × (place ≡ at) × IsRefused x why);
+  decided = decided_judged a.decided judge;
 }
 
 -- A count of at most this many; one above it is no schema.
 unfoldable pub at_most : Form ℕ → ℕ → Form ℕ
-at_most a most = judged a (λ n m. (m ≡ n) × (n ≤ most)) (λ n why. (most < n) × (why ≡ BadSchema))
+at_most a most = judged a (λ n m. (m ≡ n) × (n ≤ most)) (λ n why. (most < n) × (why ≡ BadSchema)) (judge_at_most most)
 
 -- As many of a, one behind the other.
 unfoldable pub repeated : {A : Type 0} → ℕ → Form A → Form (List A)
@@ -47,11 +54,15 @@ repeated (suc n) a = do
   xs ← repeated n a
   nothing (x ∷ xs)
 
--- At each place it stands with one value at most and is stuck once at most, and never both.
-pub record IsDecided {V : Type 0} (form : Form V) : Type 0 where
-  pub one : (bytes : List ℕ) (at : ℕ) (v w : V) (next end : ℕ) →
-      form.Stands bytes at v next → form.Stands bytes at w end → (v ≡ w) × (next ≡ end)
-  pub once : (bytes : List ℕ) (at place other : ℕ) (why because : Reason) →
-      form.Stuck bytes at place why → form.Stuck bytes at other because → (place ≡ other) × (why ≡ because)
-  pub apart : (bytes : List ℕ) (at : ℕ) (v : V) (next place : ℕ) (why : Reason) →
-      form.Stands bytes at v next → form.Stuck bytes at place why → ⊥
+-- First a, and behind it b: both values.
+unfoldable pub both : {A B : Type 0} → Form A → Form B → Form (A × B)
+both a b = do
+  x ← a
+  y ← b
+  nothing (x, y)
+
+-- a, and what this makes of its value.
+unfoldable pub made : {A B : Type 0} → (A → B) → Form A → Form B
+made f a = do
+  x ← a
+  nothing (f x)

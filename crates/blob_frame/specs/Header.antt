@@ -6,12 +6,13 @@ use Rattle.schema_model.specs.declared.reason.Reason.TheVariants.{OtherFormat}
 use Rattle.schema_model.specs.declared.schema.Schema.{Schema}
 use Rattle.blob_frame.specs.declared.header.Header.{Header}
 use Rattle.blob_frame.specs.Form.{Form, ◌>>=◌, nothing, judged, repeated}
+use Rattle.blob_frame.specs.Deciding.{judge_only}
 use Rattle.blob_frame.specs.Item.{fixed, signed, vint, name, skipped}
 use Rattle.blob_frame.specs.SchemaForm.{schemas}
 
 -- The format, which is 1030.
 unfoldable pub format : Form Unit
-format = judged (fixed w32) (λ n u. n ≡ 1030) (λ n why. (n ≢ 1030) × (why ≡ OtherFormat))
+format = judged (fixed w32) (λ n u. n ≡ 1030) (λ n why. (n ≢ 1030) × (why ≡ OtherFormat)) (judge_only 1030 OtherFormat)
 
 -- The listed schemas, and behind them bytes to skip.
 unfoldable pub listed_schemas : Form (List Schema)

@@ -1,12 +1,15 @@
 -- The items of a blob: a number of a fixed size, a variable-length number, a text, a run of bytes, and the end.
-use Rattle.std.specs.Prelude.{◌≡◌, ◌≤◌, ◌<◌, ◌+◌, ◌^◌, ◌⊎◌, ℕ, ℤ, List, length, take, drop}
+use Rattle.std.specs.Prelude.{◌≡◌, ◌≤◌, ◌<◌, ◌+◌, ◌^◌, ℕ, ℤ, List, length, take, drop}
 use Rattle.std.specs.Int.{Width, w64, byte_len, from_be_bytes, cast_signed}
-use Rattle.hol_varint.specs.Varint.{VarStandsBelow, VarEndsInside, IsNullVar, IsLongVar}
-use Rattle.hol_varint.specs.JavaUtf.{UtfStandsAt, UtfEndsInside, IsBadUtf}
+use Rattle.hol_varint.specs.Varint.{VarStandsBelow}
+use Rattle.hol_varint.specs.JavaUtf.{UtfStandsAt}
 use Rattle.hol_varint.specs.TextUnits.{IsTextOf}
-use Rattle.schema_model.specs.declared.reason.Reason.{Reason}
-use Rattle.schema_model.specs.declared.reason.Reason.TheVariants.{Truncated, BadVarint, BadName, TrailingBytes}
+use Rattle.schema_model.specs.declared.reason.Reason.TheVariants.{Truncated, BadName, TrailingBytes}
 use Rattle.blob_frame.specs.Form.{Form, judged}
+use Rattle.blob_frame.specs.Words.{VarFails, UtfFails}
+use Rattle.blob_frame.specs.Deciding.{judge_as, judge_any}
+use Rattle.blob_frame.specs.DecidedItems.{decided_fixed, decided_varint, decided_units, decided_run, decided_end}
+use Rattle.blob_frame.specs.Judges.{judge_text}
 
 -- A number of a fixed size, its highest byte first.
 unfoldable pub fixed : Width → Form ℕ
@@ -14,21 +17,19 @@ fixed w = record {
   Stands = λ bytes at v next. (next ≡ at + byte_len w) × (next ≤ length bytes)
       × (v ≡ from_be_bytes w (take (byte_len w) (drop at bytes)));
   Stuck = λ bytes at place why. (length bytes < at + byte_len w) × (place ≡ at) × (why ≡ Truncated);
+  decided = decided_fixed w;
 }
 
 -- A signed number of 8 bytes.
 unfoldable pub signed : Form ℤ
-signed = judged (fixed w64) (λ n z. z ≡ cast_signed w64 n) (λ n why. ⊥)
-
--- Why a variable-length number below the limit cannot be read from these bytes on.
-abbrev pub VarFails : ℕ → List ℕ → Reason → Type 0
-VarFails limit rest why = (VarEndsInside rest × (why ≡ Truncated)) ⊎ ((IsNullVar rest ⊎ IsLongVar limit rest) × (why ≡ BadVarint))
+signed = judged (fixed w64) (λ n z. z ≡ cast_signed w64 n) (λ n why. ⊥) (judge_as (λ n. cast_signed w64 n))
 
 -- A variable-length number below the limit.
 unfoldable pub varint : ℕ → Form ℕ
 varint limit = record {
   Stands = VarStandsBelow limit;
   Stuck = λ bytes at place why. VarFails limit (drop at bytes) why × (place ≡ at);
+  decided = decided_varint limit;
 }
 
 -- A VInt, a number below 2^32.
@@ -43,28 +44,30 @@ vlong = varint (2 ^ 64)
 unfoldable pub units : Form (List ℕ)
 units = record {
   Stands = UtfStandsAt;
-  Stuck = λ bytes at place why. (place ≡ at)
-      × ((UtfEndsInside (drop at bytes) × (why ≡ Truncated)) ⊎ (IsBadUtf (drop at bytes) × (why ≡ BadName)));
+  Stuck = λ bytes at place why. (place ≡ at) × UtfFails (drop at bytes) why;
+  decided = decided_units;
 }
 
 -- A name: a Java UTF text whose units are well-formed UTF-16. Its value is the name's UTF-8 bytes.
 unfoldable pub name : Form (List ℕ)
-name = judged units IsTextOf (λ us why. (why ≡ BadName) × ((text : List ℕ) → IsTextOf us text → ⊥))
+name = judged units IsTextOf (λ us why. (why ≡ BadName) × ((text : List ℕ) → IsTextOf us text → ⊥)) judge_text
 
 -- A run of this many bytes.
 unfoldable pub run : ℕ → Form (List ℕ)
 run n = record {
   Stands = λ bytes at v next. (next ≡ at + n) × (next ≤ length bytes) × (v ≡ take n (drop at bytes));
   Stuck = λ bytes at place why. (length bytes < at + n) × (place ≡ at) × (why ≡ Truncated);
+  decided = decided_run n;
 }
 
 -- A run of this many bytes that mean nothing.
 unfoldable pub skipped : ℕ → Form Unit
-skipped n = judged (run n) (λ bytes u. Unit {0}) (λ bytes why. ⊥)
+skipped n = judged (run n) (λ bytes u. Unit {0}) (λ bytes why. ⊥) judge_any
 
 -- The end of the blob.
 unfoldable pub end : Form Unit
 end = record {
   Stands = λ bytes at v next. (at ≡ length bytes) × (next ≡ at);
   Stuck = λ bytes at place why. (at < length bytes) × (place ≡ at) × (why ≡ TrailingBytes);
+  decided = decided_end;
 }

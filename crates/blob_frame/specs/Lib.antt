@@ -6,3 +6,8 @@ pub mod Scene
 pub mod Filling
 pub mod Starting
 pub mod Written
+pub mod Decided
+pub mod Words
+pub mod Deciding
+pub mod DecidedItems
+pub mod Judges

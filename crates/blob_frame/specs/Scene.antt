@@ -1,7 +1,7 @@
 -- What a reader of a blob starts from and leaves: the store, and the cursor's place in the blob.
 use Rattle.std.specs.Prelude.{◌≡◌, ◌≤◌, ◌+◌, ◌⊎◌, ℕ, List, length, take, drop, Option, Some, None, Result, Ok, Err, IfErr, IsErrAnd}
 use Rattle.hol_io.specs.Causes.{Rose}
-use Rattle.hol_io.specs.Store.{Store, told}
+use Rattle.hol_io.specs.Store.{Store, Seen, told}
 use Rattle.hol_io.specs.declared.name.BlobName.{BlobName}
 use Rattle.schema_model.specs.declared.reason.Reason.{Reason}
 use Rattle.blob_frame.specs.declared.fault.BlobFault.{BlobFault}
@@ -21,8 +21,12 @@ pub record Scene : Type 0 where
   pub faults : ℕ
   pub place : Place
 
-abbrev pub scene : Option Store → ℕ → Place → Scene
-scene held faults place = record { held = held; faults = faults; place = place }
+abbrev pub scene : Seen → Place → Scene
+scene seen place = record { held = seen.held; faults = seen.faults; place = place }
+
+-- The same store, at this place.
+abbrev pub at_place : Scene → Place → Scene
+at_place now place = record { held = now.held; faults = now.faults; place = place }
 
 -- The place behind so many bytes that were read ahead.
 abbrev pub moved : Place → ℕ → Place
@@ -49,47 +53,27 @@ pub record Stays (before after : Scene) : Type 0 where
 abbrev pub IsReadFault : BlobFault → Type 0
 IsReadFault (fault.Bad place why) = Unit {0}
 IsReadFault fault.Store = Unit {0}
-IsReadFault fault.Memory = ⊥
-IsReadFault (fault.NoBlob name) = ⊥
-IsReadFault (fault.Large limit) = ⊥
-IsReadFault (fault.BadRow place why name ordinal) = ⊥
-IsReadFault (fault.OtherOrigin found current) = ⊥
-IsReadFault (fault.OtherModel name) = ⊥
+IsReadFault _ = ⊥
 
 -- A reader of items answers no other fault.
 abbrev pub IsItemFault : BlobFault → Type 0
 IsItemFault (fault.Bad place why) = Unit {0}
 IsItemFault fault.Store = Unit {0}
 IsItemFault fault.Memory = Unit {0}
-IsItemFault (fault.NoBlob name) = ⊥
-IsItemFault (fault.Large limit) = ⊥
-IsItemFault (fault.BadRow place why name ordinal) = ⊥
-IsItemFault (fault.OtherOrigin found current) = ⊥
-IsItemFault (fault.OtherModel name) = ⊥
+IsItemFault _ = ⊥
 
 -- The answers that come for want of memory or for a fault of the store.
 abbrev pub IsFree : BlobFault → Type 0
 IsFree fault.Store = Unit {0}
 IsFree fault.Memory = Unit {0}
-IsFree (fault.Bad place why) = ⊥
-IsFree (fault.NoBlob name) = ⊥
-IsFree (fault.Large limit) = ⊥
-IsFree (fault.BadRow place why name ordinal) = ⊥
-IsFree (fault.OtherOrigin found current) = ⊥
-IsFree (fault.OtherModel name) = ⊥
+IsFree _ = ⊥
 
 -- What an answer says of the blob, from this place on and up to that one.
 abbrev pub Tells : {V : Type 0} → Form V → Option (List ℕ) → ℕ → Result V BlobFault → ℕ → Type 0
 Tells form None at answer next = Unit {0}
 Tells form (Some blob) at (Ok v) next = form.Stands blob at v next
 Tells form (Some blob) at (Err (fault.Bad place why)) next = form.Stuck blob at place why
-Tells form (Some blob) at (Err fault.Store) next = Unit {0}
-Tells form (Some blob) at (Err fault.Memory) next = Unit {0}
-Tells form (Some blob) at (Err (fault.NoBlob name)) next = ⊥
-Tells form (Some blob) at (Err (fault.Large limit)) next = ⊥
-Tells form (Some blob) at (Err (fault.BadRow place why name ordinal)) next = ⊥
-Tells form (Some blob) at (Err (fault.OtherOrigin found current)) next = ⊥
-Tells form (Some blob) at (Err (fault.OtherModel name)) next = ⊥
+Tells form (Some blob) at (Err other) next = IsFree other
 
 -- Reading such a part of the blob: the store stays, the cursor stays in its blob, and the answer is what stands there,
 -- or the first item that cannot be read.
@@ -105,3 +89,11 @@ pub record Exactly {V : Type 0} (form : Form V) (blob : List ℕ) (at : ℕ) (an
   pub found : (v : V) (next : ℕ) → form.Stands blob at v next → (answer ≡ Ok v) ⊎ IsErrAnd answer IsFree
   pub stuck : (place : ℕ) (why : Reason) → form.Stuck blob at place why →
       (answer ≡ Err (fault.Bad place why)) ⊎ IsErrAnd answer IsFree
+
+-- The same, where a store and a cursor go from one state to another.
+abbrev pub Leads : {T V : Type 0} → (T → Seen) → Form V → T → Place → T → Place → Result V BlobFault → Type 0
+Leads seen form store place next after answer = Reads form (scene (seen store) place) (scene (seen next) after) answer
+
+-- The cursor stands in the blob that this store holds under its name.
+abbrev pub IsAbove : {T : Type 0} → (T → Seen) → T → Place → Type 0
+IsAbove seen store place = IsOver (scene (seen store) place)

@@ -1,8 +1,6 @@
 -- The bytes of a schema: its kind, its name, and what its kind calls for.
-use Rattle.std.specs.Prelude.{◌≡◌, ◌<◌, ◌⊎◌, ℕ, List, codes, Some, None}
+use Rattle.std.specs.Prelude.{◌≡◌, ℕ, List, Some, None}
 use Rattle.std.specs.Int.{w8, w16}
-use Rattle.schema_model.specs.declared.reason.Reason.{Reason}
-use Rattle.schema_model.specs.declared.reason.Reason.TheVariants.{BadSchema, FloatField, KeyedHash}
 use Rattle.schema_model.specs.declared.schema.FieldKind.{FieldKind}
 use Rattle.schema_model.specs.declared.schema.FieldKind.TheVariants.{Reference, Int, Long, Boolean, Text, Bytes}
 use Rattle.schema_model.specs.declared.schema.Field.{Field}
@@ -14,45 +12,17 @@ use Rattle.blob_frame.specs.declared.kind.SchemaKind.TheVariants as kind
 use Rattle.blob_frame.specs.declared.kind.FieldType.{FieldType}
 use Rattle.blob_frame.specs.declared.kind.FieldType.TheVariants as type_
 use Rattle.blob_frame.specs.Form.{Form, ◌>>=◌, nothing, judged, at_most, repeated}
+use Rattle.blob_frame.specs.Words.{kind_byte, IsRefusedKind, type_text, IsRefusedType}
+use Rattle.blob_frame.specs.Judges.{judge_kind, judge_type}
 use Rattle.blob_frame.specs.Item.{fixed, vint, name}
-
--- the byte of a kind
-abbrev pub kind_byte : SchemaKind → ℕ
-kind_byte kind.Object = 0
-kind_byte kind.Set = 1
-kind_byte kind.List = 2
-kind_byte kind.Map = 3
-kind_byte kind.KeyedObject = 6
-
--- why a byte is no kind: a hash key, or no kind at all
-abbrev pub IsRefusedKind : ℕ → Reason → Type 0
-IsRefusedKind byte why = (((byte ≡ 4) ⊎ (byte ≡ 5)) × (why ≡ KeyedHash)) ⊎ ((6 < byte) × (why ≡ BadSchema))
 
 -- The byte of a schema's kind.
 unfoldable pub schema_kind : Form SchemaKind
-schema_kind = judged (fixed w8) (λ byte k. byte ≡ kind_byte k) IsRefusedKind
-
--- the text of a field's type
-abbrev pub type_text : FieldType → List ℕ
-type_text type_.Reference = codes "REFERENCE"
-type_text type_.Int = codes "INT"
-type_text type_.Long = codes "LONG"
-type_text type_.Boolean = codes "BOOLEAN"
-type_text type_.Text = codes "STRING"
-type_text type_.Bytes = codes "BYTES"
-
--- the text of a field type with a fraction
-abbrev pub IsFloatText : List ℕ → Type 0
-IsFloatText text = (text ≡ codes "FLOAT") ⊎ (text ≡ codes "DOUBLE")
-
--- why a text is no field type: one with a fraction, or none at all
-abbrev pub IsRefusedType : List ℕ → Reason → Type 0
-IsRefusedType text why = (IsFloatText text × (why ≡ FloatField))
-    ⊎ (((t : FieldType) → text ≡ type_text t → ⊥) × (IsFloatText text → ⊥) × (why ≡ BadSchema))
+schema_kind = judged (fixed w8) (λ byte k. byte ≡ kind_byte k) IsRefusedKind judge_kind
 
 -- The name of a field's type.
 unfoldable pub field_type : Form FieldType
-field_type = judged name (λ text t. text ≡ type_text t) IsRefusedType
+field_type = judged name (λ text t. text ≡ type_text t) IsRefusedType judge_type
 
 -- What a field holds: behind REFERENCE stands the name of the type that it refers to.
 unfoldable pub field_kind_of : FieldType → Form FieldKind

@@ -1,7 +1,7 @@
 ghost use Rattle.std.specs.Prelude.{◌≡◌, ◌≤◌, ◌+◌, ◌^◌, ℕ, List, Option, length, drop, min, IsTrue, IfOk, OnOk, OnSome, Result, Ok, Err};
 ghost use Rattle.hol_io.specs.Causes.{Rose};
 ghost use Rattle.hol_io.specs.Store.{Store, told};
-ghost use Rattle.blob_frame.specs.Scene.{Place, IsOver, IsPlaceIn, scene, moved};
+ghost use Rattle.blob_frame.specs.Scene.{IsAbove, Leads, Place, IsOver, IsPlaceIn, scene, moved};
 ghost use Rattle.blob_frame.specs.Filling.{Fills, Needs};
 ghost use Rattle.blob_frame.specs.Starting.{Starts, IsStart};
 
@@ -58,12 +58,12 @@ impl Cursor {
         store: &mut S,
         name: &BlobName,
     ) -> Result<Cursor, BlobFault>
-        ensures kept { S.held store.new ≡ S.held store.old }
-        ensures later { S.faults store.old ≤ S.faults store.new }
-        ensures cause { result ≡ Err BlobFault.Store → Rose (S.faults store.old) (S.faults store.new) }
+        ensures kept { (S.seen store.new).held ≡ (S.seen store.old).held }
+        ensures later { (S.seen store.old).faults ≤ (S.seen store.new).faults }
+        ensures cause { result ≡ Err BlobFault.Store → Rose (S.seen store.old).faults (S.seen store.new).faults }
         ensures start { IfOk result (IsStart name.now) }
-        ensures over { IfOk result (λ place. IsOver (scene (S.held store.new) (S.faults store.new) place)) }
-        ensures starts { OnSome (S.held store.old) (Starts name.now (told (S.held store.old) name.now) result) }
+        ensures over { IfOk result (λ place. IsOver (scene (S.seen store.new) place)) }
+        ensures starts { OnSome (S.seen store.old).held (Starts name.now (told (S.seen store.old).held name.now) result) }
     {
         let size = store.size(name)?;
         let Some(size) = size else {
@@ -146,9 +146,9 @@ impl Cursor {
 
     /// Reads ahead as many bytes as the buffer holds.
     fn fill<S: BlobStore>(&mut self, store: &mut S) -> Result<(), BlobFault>
-        requires { IsOver (scene (S.held store.old) (S.faults store.old) self.old) }
-        ensures fills { Fills 4096 (scene (S.held store.old) (S.faults store.old) self.old)
-            (scene (S.held store.new) (S.faults store.new) self.new) result }
+        requires { IsAbove S.seen store.old self.old }
+        ensures fills { Fills 4096 (scene (S.seen store.old) self.old)
+            (scene (S.seen store.new) self.new) result }
     {
         self.begin = 0;
         self.end = 0;
@@ -164,9 +164,9 @@ impl Cursor {
         count: usize,
     ) -> Result<(), BlobFault>
         requires few { count ≤ 4096 }
-        requires over { IsOver (scene (S.held store.old) (S.faults store.old) self.old) }
-        ensures fills { Fills count (scene (S.held store.old) (S.faults store.old) self.old)
-            (scene (S.held store.new) (S.faults store.new) self.new) result }
+        requires over { IsAbove S.seen store.old self.old }
+        ensures fills { Fills count (scene (S.seen store.old) self.old)
+            (scene (S.seen store.new) self.new) result }
     {
         if self.ahead().len() < count {
             self.fill(store)?;
@@ -181,9 +181,9 @@ impl Cursor {
         count: usize,
     ) -> Result<(), BlobFault>
         requires few { count ≤ 4096 }
-        requires over { IsOver (scene (S.held store.old) (S.faults store.old) self.old) }
-        ensures needs { Needs count (scene (S.held store.old) (S.faults store.old) self.old)
-            (scene (S.held store.new) (S.faults store.new) self.new) result }
+        requires over { IsAbove S.seen store.old self.old }
+        ensures needs { Needs count (scene (S.seen store.old) self.old)
+            (scene (S.seen store.new) self.new) result }
     {
         self.want(store, count)?;
         if self.ahead().len() < count {

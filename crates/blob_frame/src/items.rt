@@ -1,9 +1,9 @@
 ghost use Rattle.std.specs.Prelude.{◌≡◌, ◌≤◌, ◌+◌, ◌*◌, ◌^◌, ℕ, IfErr, IfOk, OnOk, Option, length};
 ghost use Rattle.std.specs.Int.{w8, w16, w32, w64};
-ghost use Rattle.hol_io.specs.Store.{Store};
+ghost use Rattle.hol_io.specs.Store.{Seen};
 ghost use Rattle.blob_frame.specs.Form.{repeated};
 ghost use Rattle.blob_frame.specs.Item.{fixed, signed, run, skipped, end};
-ghost use Rattle.blob_frame.specs.Scene.{IsOver, IsReadFault, Reads, scene};
+ghost use Rattle.blob_frame.specs.Scene.{IsAbove, Leads, IsOver, IsReadFault, Reads, scene};
 
 use crate::cursor::Cursor;
 use crate::fault::BlobFault;
@@ -14,9 +14,8 @@ use schema_model::{Reason, Words};
 impl Cursor {
     /// The next byte. `Truncated` where the blob has none.
     pub fn byte<S: BlobStore>(&mut self, store: &mut S) -> Result<u8, BlobFault>
-        requires over { IsOver (scene (S.held store.old) (S.faults store.old) self.old) }
-        ensures reads { Reads (fixed w8) (scene (S.held store.old) (S.faults store.old) self.old)
-            (scene (S.held store.new) (S.faults store.new) self.new) result }
+        requires over { IsAbove S.seen store.old self.old }
+        ensures reads { Leads S.seen (fixed w8) store.old self.old store.new self.new result }
         ensures kind { IfErr result IsReadFault }
     {
         self.need(store, 1)?;
@@ -27,9 +26,8 @@ impl Cursor {
 
     /// The next 2 bytes as a number, the high byte first. `Truncated` where the blob has fewer.
     pub fn be16<S: BlobStore>(&mut self, store: &mut S) -> Result<u16, BlobFault>
-        requires over { IsOver (scene (S.held store.old) (S.faults store.old) self.old) }
-        ensures reads { Reads (fixed w16) (scene (S.held store.old) (S.faults store.old) self.old)
-            (scene (S.held store.new) (S.faults store.new) self.new) result }
+        requires over { IsAbove S.seen store.old self.old }
+        ensures reads { Leads S.seen (fixed w16) store.old self.old store.new self.new result }
         ensures kind { IfErr result IsReadFault }
     {
         self.need(store, 2)?;
@@ -41,9 +39,8 @@ impl Cursor {
 
     /// The next 4 bytes as a number, the highest byte first. `Truncated` where the blob has fewer.
     pub fn be32<S: BlobStore>(&mut self, store: &mut S) -> Result<u32, BlobFault>
-        requires over { IsOver (scene (S.held store.old) (S.faults store.old) self.old) }
-        ensures reads { Reads (fixed w32) (scene (S.held store.old) (S.faults store.old) self.old)
-            (scene (S.held store.new) (S.faults store.new) self.new) result }
+        requires over { IsAbove S.seen store.old self.old }
+        ensures reads { Leads S.seen (fixed w32) store.old self.old store.new self.new result }
         ensures kind { IfErr result IsReadFault }
     {
         self.need(store, 4)?;
@@ -55,9 +52,8 @@ impl Cursor {
 
     /// The next 8 bytes as a number, the highest byte first. `Truncated` where the blob has fewer.
     pub fn be64<S: BlobStore>(&mut self, store: &mut S) -> Result<u64, BlobFault>
-        requires over { IsOver (scene (S.held store.old) (S.faults store.old) self.old) }
-        ensures reads { Reads (fixed w64) (scene (S.held store.old) (S.faults store.old) self.old)
-            (scene (S.held store.new) (S.faults store.new) self.new) result }
+        requires over { IsAbove S.seen store.old self.old }
+        ensures reads { Leads S.seen (fixed w64) store.old self.old store.new self.new result }
         ensures kind { IfErr result IsReadFault }
         ensures moved { OnOk result ((self.new.at ≡ self.old.at + 8) × (self.new.at ≤ 2 ^ 28)) }
     {
@@ -73,9 +69,8 @@ impl Cursor {
     /// The next words, so many of them, each an item of its own. `Truncated`, at the offset of the first one that is
     /// not whole, where the blob has fewer. The memory that they take grows with the bytes that are there.
     pub fn words<S: BlobStore>(&mut self, store: &mut S, count: u64) -> Result<Words, BlobFault>
-        requires over { IsOver (scene (S.held store.old) (S.faults store.old) self.old) }
-        ensures reads { Reads (repeated count (fixed w64)) (scene (S.held store.old) (S.faults store.old) self.old)
-            (scene (S.held store.new) (S.faults store.new) self.new) result }
+        requires over { IsAbove S.seen store.old self.old }
+        ensures reads { Leads S.seen (repeated count (fixed w64)) store.old self.old store.new self.new result }
         ensures few { IfOk result (λ words. 8 * length words ≤ 2 ^ 28) }
         ensures long { IfOk result (λ words. length words ≡ count) }
     {
@@ -88,9 +83,8 @@ impl Cursor {
 
     /// The next signed number of 8 bytes.
     pub(crate) fn signed<S: BlobStore>(&mut self, store: &mut S) -> Result<i64, BlobFault>
-        requires over { IsOver (scene (S.held store.old) (S.faults store.old) self.old) }
-        ensures reads { Reads signed (scene (S.held store.old) (S.faults store.old) self.old)
-            (scene (S.held store.new) (S.faults store.new) self.new) result }
+        requires over { IsAbove S.seen store.old self.old }
+        ensures reads { Leads S.seen signed store.old self.old store.new self.new result }
     {
         Ok(self.be64(store)?.cast_signed())
     }
@@ -98,9 +92,8 @@ impl Cursor {
     /// The next run of so many bytes. `Truncated`, at the run's offset, where the blob has fewer. The
     /// memory that it takes grows with the bytes that are there.
     pub fn run<S: BlobStore>(&mut self, store: &mut S, count: u64) -> Result<Octets, BlobFault>
-        requires over { IsOver (scene (S.held store.old) (S.faults store.old) self.old) }
-        ensures reads { Reads (run count) (scene (S.held store.old) (S.faults store.old) self.old)
-            (scene (S.held store.new) (S.faults store.new) self.new) result }
+        requires over { IsAbove S.seen store.old self.old }
+        ensures reads { Leads S.seen (run count) store.old self.old store.new self.new result }
     {
         let start = self.at();
         if self.left() < count {
@@ -121,8 +114,8 @@ impl Cursor {
 
     /// Moves past so many bytes and reads none of them. `Truncated`, at their offset, where the blob has fewer.
     pub fn skip(&mut self, count: u64) -> Result<(), BlobFault>
-        ensures reads { (held : Option Store) (faults : ℕ) → IsOver (scene held faults self.old)
-            → Reads (skipped count) (scene held faults self.old) (scene held faults self.new) result }
+        ensures reads { (seen : Seen) → IsOver (scene seen self.old)
+            → Reads (skipped count) (scene seen self.old) (scene seen self.new) result }
     {
         if self.left() < count {
             return Err(self.bad(Reason::Truncated));
@@ -133,9 +126,8 @@ impl Cursor {
 
     /// The end of the blob. `TrailingBytes` where a byte stands there.
     pub fn end<S: BlobStore>(&mut self, store: &mut S) -> Result<(), BlobFault>
-        requires over { IsOver (scene (S.held store.old) (S.faults store.old) self.old) }
-        ensures reads { Reads end (scene (S.held store.old) (S.faults store.old) self.old)
-            (scene (S.held store.new) (S.faults store.new) self.new) result }
+        requires over { IsAbove S.seen store.old self.old }
+        ensures reads { Leads S.seen end store.old self.old store.new self.new result }
         ensures kind { IfErr result IsReadFault }
         ensures untouched { store.new ≡ store.old }
     {

@@ -1,5 +1,5 @@
 ghost use Rattle.std.specs.Prelude.{◌≡◌, MatchResult};
-ghost use Rattle.blob_frame.specs.SchemaForm.{kind_byte, IsRefusedKind, type_text, IsRefusedType};
+ghost use Rattle.blob_frame.specs.Words.{kind_byte, IsRefusedKind, type_text, IsRefusedType};
 
 use schema_model::Reason;
 

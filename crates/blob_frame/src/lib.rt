@@ -9,6 +9,7 @@ mod kind;
 pub mod laws;
 mod reading;
 mod schema;
+mod several;
 mod texts;
 mod varints;
 mod writing;
@@ -16,6 +17,7 @@ mod writing;
 pub use cursor::Cursor;
 pub use fault::BlobFault;
 pub use header::Header;
+pub use several::{Readable, Several, counted};
 pub use writing::put_header;
 
 #[cfg(test)]

@@ -4,7 +4,7 @@ ghost use Rattle.hol_io.specs.Store.{told};
 ghost use Rattle.blob_frame.specs.Form.{at_most, repeated};
 ghost use Rattle.blob_frame.specs.Item.{fixed, vint, name};
 ghost use Rattle.blob_frame.specs.SchemaForm.{schema_kind, field_type, field_kind_of, field, fields, key_paths, shape_of, schema, schemas};
-ghost use Rattle.blob_frame.specs.Scene.{IsOver, Reads, Exactly, scene};
+ghost use Rattle.blob_frame.specs.Scene.{IsAbove, Leads, IsOver, Reads, Exactly, scene};
 
 use crate::cursor::Cursor;
 use crate::fault::BlobFault;
@@ -22,10 +22,9 @@ impl Cursor {
     /// The next schema. Its faults are those of its items; `BadSchema` stands at a kind, a count or a field's type that
     /// is none, `KeyedHash` at the kind of a set or map with a hash key, `FloatField` at FLOAT and DOUBLE.
     pub fn schema<S: BlobStore>(&mut self, store: &mut S) -> Result<Schema, BlobFault>
-        requires over { IsOver (scene (S.held store.old) (S.faults store.old) self.old) }
-        ensures reads { Reads schema (scene (S.held store.old) (S.faults store.old) self.old)
-            (scene (S.held store.new) (S.faults store.new) self.new) result }
-        ensures exact { IfSome (told (S.held store.old) self.old.name)
+        requires over { IsAbove S.seen store.old self.old }
+        ensures reads { Leads S.seen schema store.old self.old store.new self.new result }
+        ensures exact { IfSome (told (S.seen store.old).held self.old.name)
             (λ blob. Exactly schema blob self.old.at result) }
     {
         self.whole_schema(store)
@@ -33,9 +32,8 @@ impl Cursor {
 
     /// The next schema, as its items stand.
     fn whole_schema<S: BlobStore>(&mut self, store: &mut S) -> Result<Schema, BlobFault>
-        requires over { IsOver (scene (S.held store.old) (S.faults store.old) self.old) }
-        ensures reads { Reads schema (scene (S.held store.old) (S.faults store.old) self.old)
-            (scene (S.held store.new) (S.faults store.new) self.new) result }
+        requires over { IsAbove S.seen store.old self.old }
+        ensures reads { Leads S.seen schema store.old self.old store.new self.new result }
     {
         let kind = self.schema_kind(store)?;
         let name = self.utf(store)?;
@@ -45,9 +43,8 @@ impl Cursor {
 
     /// The next kind of a schema.
     fn schema_kind<S: BlobStore>(&mut self, store: &mut S) -> Result<SchemaKind, BlobFault>
-        requires over { IsOver (scene (S.held store.old) (S.faults store.old) self.old) }
-        ensures reads { Reads schema_kind (scene (S.held store.old) (S.faults store.old) self.old)
-            (scene (S.held store.new) (S.faults store.new) self.new) result }
+        requires over { IsAbove S.seen store.old self.old }
+        ensures reads { Leads S.seen schema_kind store.old self.old store.new self.new result }
     {
         let at = self.at();
         let byte = self.byte(store)?;
@@ -59,9 +56,8 @@ impl Cursor {
 
     /// What a kind calls for behind a type's name.
     fn shape<S: BlobStore>(&mut self, store: &mut S, kind: SchemaKind) -> Result<Shape, BlobFault>
-        requires over { IsOver (scene (S.held store.old) (S.faults store.old) self.old) }
-        ensures reads { Reads (shape_of kind) (scene (S.held store.old) (S.faults store.old) self.old)
-            (scene (S.held store.new) (S.faults store.new) self.new) result }
+        requires over { IsAbove S.seen store.old self.old }
+        ensures reads { Leads S.seen (shape_of kind) store.old self.old store.new self.new result }
     {
         match kind {
             SchemaKind::Object => self.object(store),
@@ -74,9 +70,8 @@ impl Cursor {
 
     /// The fields of a type.
     fn object<S: BlobStore>(&mut self, store: &mut S) -> Result<Shape, BlobFault>
-        requires over { IsOver (scene (S.held store.old) (S.faults store.old) self.old) }
-        ensures reads { Reads (shape_of SchemaKind.Object) (scene (S.held store.old) (S.faults store.old) self.old)
-            (scene (S.held store.new) (S.faults store.new) self.new) result }
+        requires over { IsAbove S.seen store.old self.old }
+        ensures reads { Leads S.seen (shape_of SchemaKind.Object) store.old self.old store.new self.new result }
     {
         let fields = self.fields(store)?;
         Ok(Shape::Object(None, fields))
@@ -84,9 +79,8 @@ impl Cursor {
 
     /// The key paths and the fields of a type.
     fn keyed_object<S: BlobStore>(&mut self, store: &mut S) -> Result<Shape, BlobFault>
-        requires over { IsOver (scene (S.held store.old) (S.faults store.old) self.old) }
-        ensures reads { Reads (shape_of SchemaKind.KeyedObject) (scene (S.held store.old) (S.faults store.old) self.old)
-            (scene (S.held store.new) (S.faults store.new) self.new) result }
+        requires over { IsAbove S.seen store.old self.old }
+        ensures reads { Leads S.seen (shape_of SchemaKind.KeyedObject) store.old self.old store.new self.new result }
     {
         let paths = self.key_paths(store)?;
         let fields = self.fields(store)?;
@@ -95,9 +89,8 @@ impl Cursor {
 
     /// The type of a set's elements.
     fn set<S: BlobStore>(&mut self, store: &mut S) -> Result<Shape, BlobFault>
-        requires over { IsOver (scene (S.held store.old) (S.faults store.old) self.old) }
-        ensures reads { Reads (shape_of SchemaKind.Set) (scene (S.held store.old) (S.faults store.old) self.old)
-            (scene (S.held store.new) (S.faults store.new) self.new) result }
+        requires over { IsAbove S.seen store.old self.old }
+        ensures reads { Leads S.seen (shape_of SchemaKind.Set) store.old self.old store.new self.new result }
     {
         let element = self.utf(store)?;
         Ok(Shape::Set(element))
@@ -105,9 +98,8 @@ impl Cursor {
 
     /// The type of a list's elements.
     fn list<S: BlobStore>(&mut self, store: &mut S) -> Result<Shape, BlobFault>
-        requires over { IsOver (scene (S.held store.old) (S.faults store.old) self.old) }
-        ensures reads { Reads (shape_of SchemaKind.List) (scene (S.held store.old) (S.faults store.old) self.old)
-            (scene (S.held store.new) (S.faults store.new) self.new) result }
+        requires over { IsAbove S.seen store.old self.old }
+        ensures reads { Leads S.seen (shape_of SchemaKind.List) store.old self.old store.new self.new result }
     {
         let element = self.utf(store)?;
         Ok(Shape::List(element))
@@ -115,9 +107,8 @@ impl Cursor {
 
     /// The types of a map's keys and values.
     fn map<S: BlobStore>(&mut self, store: &mut S) -> Result<Shape, BlobFault>
-        requires over { IsOver (scene (S.held store.old) (S.faults store.old) self.old) }
-        ensures reads { Reads (shape_of SchemaKind.Map) (scene (S.held store.old) (S.faults store.old) self.old)
-            (scene (S.held store.new) (S.faults store.new) self.new) result }
+        requires over { IsAbove S.seen store.old self.old }
+        ensures reads { Leads S.seen (shape_of SchemaKind.Map) store.old self.old store.new self.new result }
     {
         let key = self.utf(store)?;
         let value = self.utf(store)?;
@@ -126,9 +117,8 @@ impl Cursor {
 
     /// The paths of a primary key.
     fn key_paths<S: BlobStore>(&mut self, store: &mut S) -> Result<Names, BlobFault>
-        requires over { IsOver (scene (S.held store.old) (S.faults store.old) self.old) }
-        ensures reads { Reads key_paths (scene (S.held store.old) (S.faults store.old) self.old)
-            (scene (S.held store.new) (S.faults store.new) self.new) result }
+        requires over { IsAbove S.seen store.old self.old }
+        ensures reads { Leads S.seen key_paths store.old self.old store.new self.new result }
     {
         let count = self.vint(store)?;
         self.names(store, count)
@@ -136,9 +126,8 @@ impl Cursor {
 
     /// The fields of a type, their number first.
     fn fields<S: BlobStore>(&mut self, store: &mut S) -> Result<Fields, BlobFault>
-        requires over { IsOver (scene (S.held store.old) (S.faults store.old) self.old) }
-        ensures reads { Reads fields (scene (S.held store.old) (S.faults store.old) self.old)
-            (scene (S.held store.new) (S.faults store.new) self.new) result }
+        requires over { IsAbove S.seen store.old self.old }
+        ensures reads { Leads S.seen fields store.old self.old store.new self.new result }
     {
         let count = self.field_count(store)?;
         self.counted_fields(store, count)
@@ -146,9 +135,8 @@ impl Cursor {
 
     /// The number of a type's fields.
     fn field_count<S: BlobStore>(&mut self, store: &mut S) -> Result<u16, BlobFault>
-        requires over { IsOver (scene (S.held store.old) (S.faults store.old) self.old) }
-        ensures reads { Reads (at_most (fixed w16) 1024) (scene (S.held store.old) (S.faults store.old) self.old)
-            (scene (S.held store.new) (S.faults store.new) self.new) result }
+        requires over { IsAbove S.seen store.old self.old }
+        ensures reads { Leads S.seen (at_most (fixed w16) 1024) store.old self.old store.new self.new result }
     {
         let at = self.at();
         let count = self.be16(store)?;
@@ -159,10 +147,9 @@ impl Cursor {
     }
 
     /// The next field.
-    fn field<S: BlobStore>(&mut self, store: &mut S) -> Result<Field, BlobFault>
-        requires over { IsOver (scene (S.held store.old) (S.faults store.old) self.old) }
-        ensures reads { Reads field (scene (S.held store.old) (S.faults store.old) self.old)
-            (scene (S.held store.new) (S.faults store.new) self.new) result }
+    pub(crate) fn field<S: BlobStore>(&mut self, store: &mut S) -> Result<Field, BlobFault>
+        requires over { IsAbove S.seen store.old self.old }
+        ensures reads { Leads S.seen field store.old self.old store.new self.new result }
     {
         let name = self.utf(store)?;
         let type_name = self.field_type(store)?;
@@ -172,9 +159,8 @@ impl Cursor {
 
     /// The name of a field's type.
     fn field_type<S: BlobStore>(&mut self, store: &mut S) -> Result<FieldType, BlobFault>
-        requires over { IsOver (scene (S.held store.old) (S.faults store.old) self.old) }
-        ensures reads { Reads field_type (scene (S.held store.old) (S.faults store.old) self.old)
-            (scene (S.held store.new) (S.faults store.new) self.new) result }
+        requires over { IsAbove S.seen store.old self.old }
+        ensures reads { Leads S.seen field_type store.old self.old store.new self.new result }
     {
         let at = self.at();
         let text = self.utf(store)?;
@@ -190,9 +176,8 @@ impl Cursor {
         store: &mut S,
         type_name: FieldType,
     ) -> Result<FieldKind, BlobFault>
-        requires over { IsOver (scene (S.held store.old) (S.faults store.old) self.old) }
-        ensures reads { Reads (field_kind_of type_name) (scene (S.held store.old) (S.faults store.old) self.old)
-            (scene (S.held store.new) (S.faults store.new) self.new) result }
+        requires over { IsAbove S.seen store.old self.old }
+        ensures reads { Leads S.seen (field_kind_of type_name) store.old self.old store.new self.new result }
     {
         match type_name {
             FieldType::Reference => self.reference(store),
@@ -206,9 +191,8 @@ impl Cursor {
 
     /// The type that a REFERENCE refers to.
     fn reference<S: BlobStore>(&mut self, store: &mut S) -> Result<FieldKind, BlobFault>
-        requires over { IsOver (scene (S.held store.old) (S.faults store.old) self.old) }
-        ensures reads { Reads (field_kind_of FieldType.Reference) (scene (S.held store.old) (S.faults store.old) self.old)
-            (scene (S.held store.new) (S.faults store.new) self.new) result }
+        requires over { IsAbove S.seen store.old self.old }
+        ensures reads { Leads S.seen (field_kind_of FieldType.Reference) store.old self.old store.new self.new result }
     {
         let to = self.utf(store)?;
         Ok(FieldKind::Reference(to))
@@ -216,9 +200,8 @@ impl Cursor {
 
     /// The next list of schemas, their number first.
     pub(crate) fn schemas<S: BlobStore>(&mut self, store: &mut S) -> Result<Schemas, BlobFault>
-        requires over { IsOver (scene (S.held store.old) (S.faults store.old) self.old) }
-        ensures reads { Reads schemas (scene (S.held store.old) (S.faults store.old) self.old)
-            (scene (S.held store.new) (S.faults store.new) self.new) result }
+        requires over { IsAbove S.seen store.old self.old }
+        ensures reads { Leads S.seen schemas store.old self.old store.new self.new result }
     {
         let count = self.type_count(store)?;
         self.counted_schemas(store, count)
@@ -226,9 +209,8 @@ impl Cursor {
 
     /// The number of types, which is 512 at most, else `BadSchema` at it.
     pub fn type_count<S: BlobStore>(&mut self, store: &mut S) -> Result<u32, BlobFault>
-        requires over { IsOver (scene (S.held store.old) (S.faults store.old) self.old) }
-        ensures reads { Reads (at_most vint 512) (scene (S.held store.old) (S.faults store.old) self.old)
-            (scene (S.held store.new) (S.faults store.new) self.new) result }
+        requires over { IsAbove S.seen store.old self.old }
+        ensures reads { Leads S.seen (at_most vint 512) store.old self.old store.new self.new result }
     {
         let at = self.at();
         let count = self.vint(store)?;
@@ -240,9 +222,8 @@ impl Cursor {
 
     /// So many texts.
     fn names<S: BlobStore>(&mut self, store: &mut S, count: u32) -> Result<Names, BlobFault>
-        requires over { IsOver (scene (S.held store.old) (S.faults store.old) self.old) }
-        ensures reads { Reads (repeated count name) (scene (S.held store.old) (S.faults store.old) self.old)
-            (scene (S.held store.new) (S.faults store.new) self.new) result }
+        requires over { IsAbove S.seen store.old self.old }
+        ensures reads { Leads S.seen (repeated count name) store.old self.old store.new self.new result }
     {
         let mut list = Names::new(self.allocator());
         for _item in 0..count {
@@ -257,9 +238,8 @@ impl Cursor {
         store: &mut S,
         count: u16,
     ) -> Result<Fields, BlobFault>
-        requires over { IsOver (scene (S.held store.old) (S.faults store.old) self.old) }
-        ensures reads { Reads (repeated count field) (scene (S.held store.old) (S.faults store.old) self.old)
-            (scene (S.held store.new) (S.faults store.new) self.new) result }
+        requires over { IsAbove S.seen store.old self.old }
+        ensures reads { Leads S.seen (repeated count field) store.old self.old store.new self.new result }
     {
         let mut list = Fields::new(self.allocator());
         for _item in 0..count {
@@ -274,9 +254,8 @@ impl Cursor {
         store: &mut S,
         count: u32,
     ) -> Result<Schemas, BlobFault>
-        requires over { IsOver (scene (S.held store.old) (S.faults store.old) self.old) }
-        ensures reads { Reads (repeated count schema) (scene (S.held store.old) (S.faults store.old) self.old)
-            (scene (S.held store.new) (S.faults store.new) self.new) result }
+        requires over { IsAbove S.seen store.old self.old }
+        ensures reads { Leads S.seen (repeated count schema) store.old self.old store.new self.new result }
     {
         let mut list = Schemas::new(self.allocator());
         for _item in 0..count {

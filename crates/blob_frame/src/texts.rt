@@ -1,5 +1,5 @@
 ghost use Rattle.blob_frame.specs.Item.{name, units};
-ghost use Rattle.blob_frame.specs.Scene.{IsOver, Reads, scene};
+ghost use Rattle.blob_frame.specs.Scene.{IsAbove, Leads, IsOver, Reads, scene};
 
 use crate::cursor::Cursor;
 use crate::fault::BlobFault;
@@ -11,9 +11,8 @@ impl Cursor {
     /// The next Java UTF text, with its length before it. `Truncated` where the blob ends inside it,
     /// `BadName` where its bytes are another spelling or its units are no well-formed UTF-16.
     pub fn utf<S: BlobStore>(&mut self, store: &mut S) -> Result<Name, BlobFault>
-        requires over { IsOver (scene (S.held store.old) (S.faults store.old) self.old) }
-        ensures reads { Reads name (scene (S.held store.old) (S.faults store.old) self.old)
-            (scene (S.held store.new) (S.faults store.new) self.new) result }
+        requires over { IsAbove S.seen store.old self.old }
+        ensures reads { Leads S.seen name store.old self.old store.new self.new result }
     {
         let start = self.at();
         let units = self.units(store)?;
@@ -25,9 +24,8 @@ impl Cursor {
 
     /// The units of the next Java UTF text.
     fn units<S: BlobStore>(&mut self, store: &mut S) -> Result<Units, BlobFault>
-        requires over { IsOver (scene (S.held store.old) (S.faults store.old) self.old) }
-        ensures reads { Reads units (scene (S.held store.old) (S.faults store.old) self.old)
-            (scene (S.held store.new) (S.faults store.new) self.new) result }
+        requires over { IsAbove S.seen store.old self.old }
+        ensures reads { Leads S.seen units store.old self.old store.new self.new result }
     {
         let start = self.at();
         self.need(store, 2)?;

@@ -2,7 +2,7 @@ ghost use Rattle.std.specs.Prelude.{◌≡◌, ◌<◌, ℕ, length, take, slice
 ghost use Rattle.hol_io.specs.Store.{told};
 ghost use Rattle.hol_varint.specs.Varint.{GoOn};
 ghost use Rattle.blob_frame.specs.Item.{vint, vlong};
-ghost use Rattle.blob_frame.specs.Scene.{IsOver, IsReadFault, Reads, scene};
+ghost use Rattle.blob_frame.specs.Scene.{IsAbove, Leads, IsOver, IsReadFault, Reads, scene};
 ghost use Rattle.blob_frame.specs.Filling.{Seeks, HasAhead};
 
 use crate::cursor::Cursor;
@@ -32,9 +32,8 @@ impl Cursor {
     /// The next VInt, a number below 2^32. `Truncated` where the blob ends inside it, `BadVarint` where
     /// it is null or too large.
     pub fn vint<S: BlobStore>(&mut self, store: &mut S) -> Result<u32, BlobFault>
-        requires over { IsOver (scene (S.held store.old) (S.faults store.old) self.old) }
-        ensures reads { Reads vint (scene (S.held store.old) (S.faults store.old) self.old)
-            (scene (S.held store.new) (S.faults store.new) self.new) result }
+        requires over { IsAbove S.seen store.old self.old }
+        ensures reads { Leads S.seen vint store.old self.old store.new self.new result }
         ensures kind { IfErr result IsReadFault }
     {
         self.want(store, LONGEST)?;
@@ -56,9 +55,8 @@ impl Cursor {
     /// The next VLong, a number below 2^64. `Truncated` where the blob ends inside it, `BadVarint`
     /// where it is null or too large.
     pub fn vlong<S: BlobStore>(&mut self, store: &mut S) -> Result<u64, BlobFault>
-        requires over { IsOver (scene (S.held store.old) (S.faults store.old) self.old) }
-        ensures reads { Reads vlong (scene (S.held store.old) (S.faults store.old) self.old)
-            (scene (S.held store.new) (S.faults store.new) self.new) result }
+        requires over { IsAbove S.seen store.old self.old }
+        ensures reads { Leads S.seen vlong store.old self.old store.new self.new result }
         ensures kind { IfErr result IsReadFault }
     {
         self.want(store, LONGEST)?;
@@ -79,10 +77,10 @@ impl Cursor {
 
     /// Whether a byte that ends a number comes before the blob does. The cursor moves on.
     fn stops<S: BlobStore>(&mut self, store: &mut S) -> Result<bool, BlobFault>
-        requires over { IsOver (scene (S.held store.old) (S.faults store.old) self.old) }
-        requires ahead { HasAhead 1 (scene (S.held store.old) (S.faults store.old) self.old) }
-        ensures seeks { Seeks (scene (S.held store.old) (S.faults store.old) self.old)
-            (scene (S.held store.new) (S.faults store.new) self.new) result }
+        requires over { IsAbove S.seen store.old self.old }
+        requires ahead { HasAhead 1 (scene (S.seen store.old) self.old) }
+        ensures seeks { Seeks (scene (S.seen store.old) self.old)
+            (scene (S.seen store.new) self.new) result }
     {
         while !self.ahead().is_empty() {
             match first_stop(self.ahead()) {

@@ -57,9 +57,7 @@ impl BlobStore for MemStore {
     ghost use Rattle.hol_io.specs.Buffer.{KeepsRest};
     ghost use Rattle.hol_io.specs.Store.{content, names, IsFront};
 
-    ghost faults = { store_faults };
-
-    ghost held = { λ s. Some s.held };
+    ghost seen = { λ s. record { held = Some s.held; faults = store_faults s } };
 
     fn size(&mut self, name: &BlobName) -> Result<Option<u64>, StoreFailed>
         ensures cause { HasCause (store_faults self.old) (store_faults self.new) result }

@@ -44,43 +44,40 @@ pub trait BlobStore {
     ghost use Rattle.std.specs.Io.{ReadsAtMost};
     ghost use Rattle.hol_io.specs.Causes.{HasCause, HasPutCause};
     ghost use Rattle.hol_io.specs.Buffer.{KeepsRest};
-    ghost use Rattle.hol_io.specs.Store.{Store, told, with_content, names, IsFront};
+    ghost use Rattle.hol_io.specs.Store.{Seen, told, with_content, names, IsFront};
 
-    // How many faults came so far.
-    ghost faults: { Self → ℕ };
-
-    // The names and their contents, where the store tells them.
-    ghost held: { Self → Option Store };
+    // The names and their contents, where the store tells them, and how many faults came so far.
+    ghost seen: { Self → Seen };
 
     /// The number of bytes that a name holds, or `None` exactly where the name is not there.
     /// `StoreFailed` comes only where the count of faults rose. The content stays as it was.
     fn size(&mut self, name: &BlobName) -> Result<Option<u64>, StoreFailed>
-        ensures cause { HasCause (faults self.old) (faults self.new) result }
-        ensures size { OnSome (held self.old)
-            (IfOk result (λ size. size ≡ option_map length (told (held self.old) name.now))) }
-        ensures kept { held self.new ≡ held self.old };
+        ensures cause { HasCause ((seen self.old).faults) ((seen self.new).faults) result }
+        ensures size { OnSome (seen self.old).held
+            (IfOk result (λ size. size ≡ option_map length (told (seen self.old).held name.now))) }
+        ensures kept { (seen self.new).held ≡ (seen self.old).held };
 
     /// Places what a name holds from byte `at` on at the front of `buf`, as many bytes as there are
     /// and as fit, and gives their number: 0 past the end, and for a name that is not there.
     /// `StoreFailed` comes only where the count of faults rose. The content stays as it was.
     fn read_at(&mut self, name: &BlobName, at: u64, buf: &mut [u8]) -> Result<usize, StoreFailed>
-        ensures cause { HasCause (faults self.old) (faults self.new) result }
+        ensures cause { HasCause ((seen self.old).faults) ((seen self.new).faults) result }
         ensures bound { ReadsAtMost result buf.new }
-        ensures count { IfSome (told (held self.old) name.now)
+        ensures count { IfSome (told (seen self.old).held name.now)
             (λ bytes. IfOk result (λ count. count ≡ min (length buf.old) (length bytes - at))) }
-        ensures placed { IfSome (told (held self.old) name.now)
+        ensures placed { IfSome (told (seen self.old).held name.now)
             (λ bytes. IfOk result (λ count. take count buf.new ≡ take count (drop at bytes))) }
-        ensures absent { OnSome (held self.old)
-            (told (held self.old) name.now ≡ None → IfOk result (λ count. count ≡ 0)) }
-        ensures rest { OnSome (held self.old) (KeepsRest buf.old buf.new result) }
-        ensures kept { held self.new ≡ held self.old };
+        ensures absent { OnSome (seen self.old).held
+            (told (seen self.old).held name.now ≡ None → IfOk result (λ count. count ≡ 0)) }
+        ensures rest { OnSome (seen self.old).held (KeepsRest buf.old buf.new result) }
+        ensures kept { (seen self.new).held ≡ (seen self.old).held };
 
     /// Makes a name hold the bytes. After a refusal the store holds what it held. `Failed` comes only
     /// where the count of faults rose.
     fn put(&mut self, name: &BlobName, bytes: &[u8]) -> Result<(), PutFault>
-        ensures cause { HasPutCause (faults self.old) (faults self.new) result }
-        ensures put { OnOk result (held self.new ≡ with_content (held self.old) name.now bytes.now) }
-        ensures kept { OnErr result (held self.new ≡ held self.old) };
+        ensures cause { HasPutCause ((seen self.old).faults) ((seen self.new).faults) result }
+        ensures put { OnOk result ((seen self.new).held ≡ with_content (seen self.old).held name.now bytes.now) }
+        ensures kept { OnErr result ((seen self.new).held ≡ (seen self.old).held) };
 
     /// Adds every name once to `out`, which is empty before: the snapshots, the deltas, the reverse
     /// deltas and the announced version, each kind by its numbers rising. After a refusal `out` holds
@@ -88,9 +85,9 @@ pub trait BlobStore {
     /// as it was.
     fn list(&mut self, out: &mut Vec<BlobName>) -> Result<(), PutFault>
         requires { out.old.items ≡ [] }
-        ensures cause { HasPutCause (faults self.old) (faults self.new) result }
-        ensures listed { OnOk result (IfSome (held self.old) (λ store. out.new.items ≡ names store)) }
+        ensures cause { HasPutCause ((seen self.old).faults) ((seen self.new).faults) result }
+        ensures listed { OnOk result (IfSome (seen self.old).held (λ store. out.new.items ≡ names store)) }
         ensures part { OnErr result
-            (IfSome (held self.old) (λ store. IsFront out.new.items (names store))) }
-        ensures kept { held self.new ≡ held self.old };
+            (IfSome (seen self.old).held (λ store. IsFront out.new.items (names store))) }
+        ensures kept { (seen self.new).held ≡ (seen self.old).held };
 }

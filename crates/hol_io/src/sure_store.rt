@@ -55,9 +55,7 @@ impl BlobStore for SureStore {
     ghost use Rattle.hol_io.specs.Buffer.{KeepsRest};
     ghost use Rattle.hol_io.specs.Store.{content, names, IsFront};
 
-    ghost faults = { λ _. 0 };
-
-    ghost held = { λ s. Some s };
+    ghost seen = { λ s. record { held = Some s; faults = 0 } };
 
     fn size(&mut self, name: &BlobName) -> Result<Option<u64>, StoreFailed>
         ensures size { result ≡ Ok (option_map length (map.get self.old name.now)) }

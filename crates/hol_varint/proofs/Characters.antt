@@ -9,7 +9,7 @@ use Rattle.std.specs.Char.Utf16.{utf16_chars, utf16_lossy_chars, has_unpaired_su
 use Rattle.std.specs.Str.{IsUtf8, chars, all_scalars, encode_utf8_all}
 use Rattle.std.specs.String.{string_bytes, IsUtf16Of}
 use Rattle.std.specs.declared.string.String.{String}
-use Rattle.std.proofs.str.Utf16.{one_unit, two_units, lone_unit_char_low, lone_unit_char_high, IsPair}
+use Rattle.hol_varint.proofs.OneUnit.{one_unit, two_units, lone_unit_char_low, lone_unit_char_high, IsPair}
 use Rattle.std.proofs.lemmas.Bool.{cases_lt, and_parts, false≢true}
 use Rattle.std.proofs.lemmas.List.Elements.{All-nil, All-cons, All-append}
 use Rattle.std.proofs.lemmas.Str.{utf16_chars-nil, utf16_chars_lone, utf16_chars_pair, chars_from_encodes, encodes-chars, scalars-chars, IsUtf8-string_bytes}

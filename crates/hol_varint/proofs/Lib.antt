@@ -7,3 +7,4 @@ pub mod VarReading
 pub mod VarWriting
 pub mod Varints
 pub mod Windows
+pub mod OneUnit

@@ -155,9 +155,7 @@ impl Folder {
 impl BlobStore for FolderStore {
     ghost use Rattle.std.specs.Prelude.{None};
 
-    ghost faults = { λ store. store.faults };
-
-    ghost held = { λ _. None };
+    ghost seen = { λ store. record { held = None; faults = store.faults } };
 
     fn size(&mut self, name: &BlobName) -> Result<Option<u64>, StoreFailed> {
         match self.folder.open(name) {

@@ -13,9 +13,7 @@ struct ZeroStore {
 impl BlobStore for ZeroStore {
     ghost use Rattle.std.specs.Prelude.{None};
 
-    ghost faults = { λ _. 0 };
-
-    ghost held = { λ _. None };
+    ghost seen = { λ _. record { held = None; faults = 0 } };
 
     fn size(&mut self, _name: &BlobName) -> Result<Option<u64>, StoreFailed> {
         Ok(Some(self.size))

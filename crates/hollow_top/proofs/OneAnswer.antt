@@ -11,7 +11,8 @@ use Rattle.schema_model.specs.declared.schema.Schema.{Schema}
 use Rattle.schema_model.specs.declared.schema.Shape.{Shape}
 use Rattle.type_state.specs.State.{Half}
 use Rattle.blob_frame.specs.declared.header.Header.{Header}
-use Rattle.blob_frame.specs.Form.{IsDecided, ◌>>=◌, nothing}
+use Rattle.blob_frame.specs.Form.{◌>>=◌, nothing}
+use Rattle.blob_frame.specs.Decided.{IsDecided}
 use Rattle.blob_frame.specs.Header.{header, HeaderIs}
 use Rattle.snapshot_blob.specs.declared.part.TypePart.{TypePart}
 use Rattle.snapshot_blob.specs.Body.{snapshot}
@@ -42,7 +43,7 @@ same_blob : (content : Option (List ℕ)) (blob other : List ℕ) → content �
 same_blob content blob other a b = cc
 
 -- the answer of `head` is one
-one_head : IsDecided header → (name : BlobName) (content : Option (List ℕ)) (one other : Reply) → HeadIs name content one → HeadIs name content other → one ≡ other
+one_head : IsDecided header.Stands header.Stuck → (name : BlobName) (content : Option (List ℕ)) (one other : Reply) → HeadIs name content one → HeadIs name content other → one ≡ other
 one_head decided name content (Head h) (Head k) a b =
     let same = same_blob content a.0 b.0 a.2 b.2 in
     let stands = subst (λ blob. header.Stands blob 0 h a.1) same a.4 in
@@ -132,7 +133,7 @@ snapshot_head name content text (blob, head, schemas, halves, there, accepted, l
     (head, (blob, begins.0, there, accepted.1.short, begins.1))
 
 -- what is shown is no refusal
-not_refused : IsDecided header → (name : BlobName) (content : Option (List ℕ)) (text : List ℕ) (reply : Reply) → ShowsRows content text → ShowRefusal name content reply → ⊥
+not_refused : IsDecided header.Stands header.Stuck → (name : BlobName) (content : Option (List ℕ)) (text : List ℕ) (reply : Reply) → ShowsRows content text → ShowRefusal name content reply → ⊥
 not_refused decided name content text reply shows refuses = with_head (snapshot_head name content text shows) reply refuses
   where
     with_head : ((head : Header) × HeadIs name content (Head head)) → (r : Reply) → ShowRefusal name content r → ⊥
@@ -146,14 +147,14 @@ not_refused decided name content text reply shows refuses = with_head (snapshot_
     with_head h NotYet is = is
 
 -- a refusal of `show` is one
-body_apart : IsDecided header → (name : BlobName) (content : Option (List ℕ)) (other reply : Reply) (n : BlobName) → reply ≡ BadBody n → ShowRefusal name content reply → HeadIs name content other → is_refusal other ≡ true → ⊥
+body_apart : IsDecided header.Stands header.Stuck → (name : BlobName) (content : Option (List ℕ)) (other reply : Reply) (n : BlobName) → reply ≡ BadBody n → ShowRefusal name content reply → HeadIs name content other → is_refusal other ≡ true → ⊥
 body_apart decided name content other reply n is body head refused =
     let found = subst (ShowRefusal name content) is body in
     let same = one_head decided name content (Head found.2) other (found.0, found.1, found.4, found.5, found.6) head in
     let verdict = ap is_refusal same ∙ refused in
     cc
 
-one_refusal : IsDecided header → (name : BlobName) (content : Option (List ℕ)) (one other : Reply) → ShowRefusal name content one → ShowRefusal name content other → one ≡ other
+one_refusal : IsDecided header.Stands header.Stuck → (name : BlobName) (content : Option (List ℕ)) (one other : Reply) → ShowRefusal name content one → ShowRefusal name content other → one ≡ other
 one_refusal decided name content (Head h) other a b = absurd a
 one_refusal decided name content NotYet other a b = absurd a
 one_refusal decided name content (BadBody n) (Head h) a b = absurd b
@@ -181,7 +182,7 @@ one_refusal decided name content (BadBlob n at reason) (TooLarge what) a b = one
 one_refusal decided name content (BadBlob n at reason) (BadBlob m place why) a b = one_head decided name content (BadBlob n at reason) (BadBlob m place why) a b
 one_refusal decided name content (BadBlob n at reason) (BadBody m) a b = absurd (body_apart decided name content (BadBlob n at reason) (BadBody m) m refl b a refl)
 
-one_shown : IsDecided header → PrintsOnce → IsOneSnapshot → (name : BlobName) (content : Option (List ℕ)) (one other : List ℕ) (refused also : Bool) →
+one_shown : IsDecided header.Stands header.Stuck → PrintsOnce → IsOneSnapshot → (name : BlobName) (content : Option (List ℕ)) (one other : List ℕ) (refused also : Bool) →
     ShowsContent name content one refused → ShowsContent name content other also → (one ≡ other) × (refused ≡ also)
 one_shown decided prints snapshots name content one other false false a b = (rows_once prints snapshots content one other a b, refl)
 one_shown decided prints snapshots name content one other false true a b = absurd (not_refused decided name content one b.0 a b.1)
@@ -189,7 +190,7 @@ one_shown decided prints snapshots name content one other true false a b = absur
 one_shown decided prints snapshots name content one other true true a b = (a.2 ∙ ap line_of (one_refusal decided name content a.0 b.0 a.1 b.1) ∙ sym b.2, refl)
 
 -- a command writes one text
-pub one_text : IsDecided header → PrintsOnce → IsOneSnapshot → (store : Store) (asked : Command) (one other : List ℕ) (refused also : Bool) →
+pub one_text : IsDecided header.Stands header.Stuck → PrintsOnce → IsOneSnapshot → (store : Store) (asked : Command) (one other : List ℕ) (refused also : Bool) →
     Writes store asked one refused → Writes store asked other also → (one ≡ other) × (refused ≡ also)
 one_text decided prints snapshots store command.Run one other refused also a b = one_line (λ reply. reply ≡ NotYet) (λ x y p q. p ∙ sym q) one other refused also a b
 one_text decided prints snapshots store (command.Head name) one other refused also a b =

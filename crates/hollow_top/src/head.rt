@@ -13,10 +13,10 @@ use std::alloc::Global;
 /// name, `TooLarge` where the blob has more than 2^28 bytes, and `BadBlob` where its header cannot be
 /// read, with the first item that is at fault. Only the header is read.
 pub fn head<S: BlobStore>(alloc: Global, store: &mut S, name: &BlobName) -> Result<Reply, Stop>
-    ensures reply { IfSome (S.held store.old) (λ held. IfOk result (HeadReply held name.now)) }
-    ensures stop { IfErr result (StopsBefore (S.faults store.old) (S.faults store.new)) }
-    ensures kept { S.held store.new ≡ S.held store.old }
-    ensures later { S.faults store.old ≤ S.faults store.new }
+    ensures reply { IfSome (S.seen store.old).held (λ held. IfOk result (HeadReply held name.now)) }
+    ensures stop { IfErr result (StopsBefore (S.seen store.old).faults (S.seen store.new).faults) }
+    ensures kept { (S.seen store.new).held ≡ (S.seen store.old).held }
+    ensures later { (S.seen store.old).faults ≤ (S.seen store.new).faults }
 {
     let mut cursor = match Cursor::start(alloc, store, name) {
         Ok(cursor) => cursor,

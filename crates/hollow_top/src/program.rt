@@ -49,28 +49,28 @@ pub fn run<I: Source, O: Sink, S: BlobStore>(
     ensures status { (result ≤ 6) × (result ≢ 3) }
     ensures words { (result ≡ 2) ↔ AsksNothing (map string_bytes words.now) }
     ensures sink_fault { result ≡ 4 → Rose (O.faults out.old) (O.faults out.new) }
-    ensures store_fault { result ≡ 5 → Rose (S.faults store.old) (S.faults store.new) }
+    ensures store_fault { result ≡ 5 → Rose (S.seen store.old).faults (S.seen store.new).faults }
 
     // What is written, where the store tells what it holds.
-    ensures answered { result < 2 → IfSome (S.held store.old)
+    ensures answered { result < 2 → IfSome (S.seen store.old).held
         (λ held. Finishes (map string_bytes words.now) held (O.taken out.old) (O.taken out.new) result) }
-    ensures part { result ≡ 4 → IfSome (S.held store.old)
+    ensures part { result ≡ 4 → IfSome (S.seen store.old).held
         (λ held. WritesPart (map string_bytes words.now) held (O.taken out.old) (O.taken out.new)) }
 
     // What stays as it was.
     ensures input { input.new ≡ input.old }
-    ensures held { S.held store.new ≡ S.held store.old }
+    ensures held { (S.seen store.new).held ≡ (S.seen store.old).held }
     ensures kept { keep.new ≡ keep.old }
     ensures silent { result ≡ 5 → out.new ≡ out.old }
     ensures stopped { result ≡ 6 → (out.new ≡ out.old)
-        ⊎ ((version : ℕ) × Asks (map string_bytes words.now) (Command.Show version) × IfSome (S.held store.old)
+        ⊎ ((version : ℕ) × Asks (map string_bytes words.now) (Command.Show version) × IfSome (S.seen store.old).held
         (λ held. GainsFront (Shows held version) (O.taken out.old) (O.taken out.new))) }
     ensures untouched { result ≡ 2 → (out.new ≡ out.old) × (store.new ≡ store.old) }
 
     // No status but 0, 1 and 6 comes for a command where no count rises.
     ensures complete { ¬ AsksNothing (map string_bytes words.now)
         → ¬ Rose (O.faults out.old) (O.faults out.new)
-        → ¬ Rose (S.faults store.old) (S.faults store.new) → (result < 2) ⊎ (result ≡ 6) }
+        → ¬ Rose (S.seen store.old).faults (S.seen store.new).faults → (result < 2) ⊎ (result ≡ 6) }
 {
     let Some(command) = command_of(words) else {
         return 2;
@@ -90,14 +90,14 @@ fn serve<O: Sink, S: BlobStore>(
     out: &mut O,
     store: &mut S,
 ) -> Result<bool, Stop>
-    ensures served { IfSome (S.held store.old)
+    ensures served { IfSome (S.seen store.old).held
         (λ held. Leaves (Writes held command.now) (O.taken out.old) (O.taken out.new) result) }
     ensures sink_fault { IsErrOf result Stop.Sink → Rose (O.faults out.old) (O.faults out.new) }
-    ensures store_fault { IsErrOf result Stop.Store → Rose (S.faults store.old) (S.faults store.new) }
-    ensures held { S.held store.new ≡ S.held store.old }
+    ensures store_fault { IsErrOf result Stop.Store → Rose (S.seen store.old).faults (S.seen store.new).faults }
+    ensures held { (S.seen store.new).held ≡ (S.seen store.old).held }
     ensures silent { IsErrOf result Stop.Store → out.new ≡ out.old }
     ensures stopped { IsErrOf result Stop.Memory → (out.new ≡ out.old)
-        ⊎ ((version : ℕ) × (command.now ≡ Command.Show version) × IfSome (S.held store.old)
+        ⊎ ((version : ℕ) × (command.now ≡ Command.Show version) × IfSome (S.seen store.old).held
         (λ held. GainsFront (Shows held version) (O.taken out.old) (O.taken out.new))) }
 {
     match command {

@@ -24,13 +24,13 @@ pub fn show<O: Sink, S: BlobStore>(
     out: &mut O,
     store: &mut S,
 ) -> Result<bool, Stop>
-    ensures served { IfSome (S.held store.old)
+    ensures served { IfSome (S.seen store.old).held
         (λ held. Leaves (Shows held version) (O.taken out.old) (O.taken out.new) result) }
     ensures sink_fault { IsErrOf result Stop.Sink → Rose (O.faults out.old) (O.faults out.new) }
-    ensures store_fault { IsErrOf result Stop.Store → Rose (S.faults store.old) (S.faults store.new) }
-    ensures held { S.held store.new ≡ S.held store.old }
+    ensures store_fault { IsErrOf result Stop.Store → Rose (S.seen store.old).faults (S.seen store.new).faults }
+    ensures held { (S.seen store.new).held ≡ (S.seen store.old).held }
     ensures silent { IsErrOf result Stop.Store → out.new ≡ out.old }
-    ensures stopped { IsErrOf result Stop.Memory → (out.new ≡ out.old) ⊎ IfSome (S.held store.old)
+    ensures stopped { IsErrOf result Stop.Memory → (out.new ≡ out.old) ⊎ IfSome (S.seen store.old).held
         (λ held. GainsFront (Shows held version) (O.taken out.old) (O.taken out.new)) }
 {
     let name = BlobName::Snapshot(version);

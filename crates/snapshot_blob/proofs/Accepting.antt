@@ -17,12 +17,11 @@ use Rattle.snapshot_blob.specs.declared.loaded.Loaded.{Loaded}
 use Rattle.snapshot_blob.specs.Body.{snapshot}
 use Rattle.snapshot_blob.specs.Types.{TypeIs, PartsAre, AreAccepted, HasState, Refuses, next_halves}
 use Rattle.snapshot_blob.specs.Snapshot.{SnapshotIs, IsAccepted, IsRefused, TellsItems, TellsSnapshot, ReadsExactly}
-use Rattle.snapshot_blob.proofs.DecidedBody.{decided_snapshot}
 use Rattle.snapshot_blob.proofs.TypeTables.{same_halves}
 
 -- a blob has one list of items
 same_items : (blob : List ℕ) (a b : Header × List TypePart) → snapshot.Stands blob 0 a (length blob) → snapshot.Stands blob 0 b (length blob) → a ≡ b
-same_items blob a b first second = (decided_snapshot.one blob 0 a b (length blob) (length blob) first second).0
+same_items blob a b first second = (snapshot.decided.one blob 0 a b (length blob) (length blob) first second).0
 
 -- a blob is the snapshot of one state
 pub one_snapshot : (blob : List ℕ) (a b : Header) (s t : List Schema) (x y : List Half) → SnapshotIs blob a s x → SnapshotIs blob b t y → (a ≡ b) × (s ≡ t) × (x ≡ y)
@@ -44,7 +43,7 @@ long_refused : (blob : List ℕ) → largest < length blob → IsRefused blob
 long_refused blob long head schemas halves accepted = let short = accepted.1.short in omega (arith, long, short)
 
 stuck_refused : (blob : List ℕ) (place : ℕ) (why : Reason) → snapshot.Stuck blob 0 place why → IsRefused blob
-stuck_refused blob place why stuck head schemas halves accepted = decided_snapshot.apart blob 0 (head, accepted.0.parts) (length blob) place why accepted.0.items stuck
+stuck_refused blob place why stuck head schemas halves accepted = snapshot.decided.apart blob 0 (head, accepted.0.parts) (length blob) place why accepted.0.items stuck
 
 -- what stops at the items
 pub stopped_tells : (name : BlobName) (content : Option (List ℕ)) (found : BlobFault) → TellsItems name content (Err found) → TellsSnapshot name content (Err found)
@@ -81,7 +80,7 @@ stopped_exact name content (fault.Bad place why) told = record {
 }
   where
     one_fault : (blob : List ℕ) (place other : ℕ) (why because : Reason) → snapshot.Stuck blob 0 place why → snapshot.Stuck blob 0 other because → ◌≡◌ {A = Result Loaded BlobFault} (Err (fault.Bad place why)) (Err (fault.Bad other because))
-    one_fault blob place other why because first second = let same = decided_snapshot.once blob 0 place other why because first second in λ i. Err (fault.Bad (same.0 i) (same.1 i))
+    one_fault blob place other why because first second = let same = snapshot.decided.once blob 0 place other why because first second in λ i. Err (fault.Bad (same.0 i) (same.1 i))
 stopped_exact name content fault.Store told = record {
   found = λ blob head schemas halves is accepted. inr tt;
   absent = λ none. inr tt;
@@ -94,9 +93,7 @@ stopped_exact name content fault.Memory told = record {
   large = λ blob is large. inr tt;
   stuck = λ blob place why is short stuck. inr tt;
 }
-stopped_exact name content (fault.BadRow place why of ordinal) told = absurd told
-stopped_exact name content (fault.OtherOrigin other current) told = absurd told
-stopped_exact name content (fault.OtherModel of) told = absurd told
+stopped_exact name content _ told = absurd told
 
 -- what the state of the types refuses
 refused : (blob : List ℕ) (items : Header × List TypePart) → snapshot.Stands blob 0 items (length blob) → (HasState items.1 → ⊥) → IsRefused blob
@@ -107,10 +104,7 @@ refused_tells name content items fault.Memory told none = tt
 refused_tells name content items (fault.Large limit) told none = (told.0, told.1, refused told.0 items told.3 none)
 refused_tells name content items (fault.Bad at why) told none = (told.0, told.1, refused told.0 items told.3 none)
 refused_tells name content items (fault.BadRow at why of ordinal) told none = (told.0, told.1, refused told.0 items told.3 none)
-refused_tells name content items fault.Store told none = absurd none
-refused_tells name content items (fault.NoBlob other) told none = absurd none
-refused_tells name content items (fault.OtherOrigin other current) told none = absurd none
-refused_tells name content items (fault.OtherModel of) told none = absurd none
+refused_tells name content items _ told none = absurd none
 
 -- where the items stand, the blob is there, it is not too large, and its syntax has no fault
 whole : (name : BlobName) (content : Option (List ℕ)) (items : Header × List TypePart) (answer : Result Loaded BlobFault) → TellsItems name content (Ok items)
@@ -121,7 +115,7 @@ whole name content items answer told exact = record {
   found = λ blob head schemas halves is accepted. exact head schemas halves blob is accepted;
   absent = λ none. absurd (let some = told.1 in cc);
   large = λ blob is large. absurd (let same = same_content is told.1 in let short = subst (λ b. length b ≤ largest) (sym same) told.2 in omega arith);
-  stuck = λ blob place why is short stuck. absurd (let stands = subst (λ b. snapshot.Stands b 0 items (length b)) (sym (same_content is told.1)) told.3 in decided_snapshot.apart blob 0 items (length blob) place why stands stuck);
+  stuck = λ blob place why is short stuck. absurd (let stands = subst (λ b. snapshot.Stands b 0 items (length b)) (sym (same_content is told.1)) told.3 in snapshot.decided.apart blob 0 items (length blob) place why stands stuck);
 }
 
 none_accepted : (found : BlobFault) (Fact : Type 0) → Refuses Fact found → Fact → IsFree found
@@ -129,10 +123,7 @@ none_accepted fault.Memory Fact none fact = tt
 none_accepted (fault.Large limit) Fact none fact = absurd (none fact)
 none_accepted (fault.Bad at why) Fact none fact = absurd (none fact)
 none_accepted (fault.BadRow at why of ordinal) Fact none fact = absurd (none fact)
-none_accepted fault.Store Fact none fact = absurd none
-none_accepted (fault.NoBlob other) Fact none fact = absurd none
-none_accepted (fault.OtherOrigin other current) Fact none fact = absurd none
-none_accepted (fault.OtherModel of) Fact none fact = absurd none
+none_accepted _ Fact none fact = absurd none
 
 pub refused_exact : (name : BlobName) (content : Option (List ℕ)) (items : Header × List TypePart) (found : BlobFault) → TellsItems name content (Ok items) → Refuses (HasState items.1) found → ReadsExactly name content (Err found)
 refused_exact name content items found told none = whole name content items (Err found) told

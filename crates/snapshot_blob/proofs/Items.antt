@@ -53,9 +53,7 @@ unstarted name (Some blob) (fault.Large what) starts =
     let is : fault.Large what ≡ fault.Large Blob = large.1 in
     (blob, refl, large.0, cc)
 unstarted name (Some blob) (fault.Bad at reason) starts = let is = (sized name blob _ starts (λ free. free)).1 in absurd cc
-unstarted name (Some blob) (fault.BadRow at reason of ordinal) starts = let is = (sized name blob _ starts (λ free. free)).1 in absurd cc
-unstarted name (Some blob) (fault.OtherOrigin other current) starts = let is = (sized name blob _ starts (λ free. free)).1 in absurd cc
-unstarted name (Some blob) (fault.OtherModel of) starts = let is = (sized name blob _ starts (λ free. free)).1 in absurd cc
+unstarted name (Some blob) _ starts = let is = (sized name blob _ starts (λ free. free)).1 in absurd cc
 
 -- what a fault at the start says
 pub tells_start : (held : Option Store) (name : BlobName) (found : BlobFault) (answer : Result (Header × List TypePart) BlobFault) → answer ≡ Err found → OnSome held (Starts name (told held name) (Err found)) → IfSome held (λ store. TellsItems name (told held name) answer)
@@ -76,11 +74,7 @@ read_here name blob next (Ok items) fits tells = (blob, refl, fits, subst (λ n.
 read_here name blob next (Err (fault.Bad place why)) fits tells = (blob, refl, fits, tells)
 read_here name blob next (Err fault.Store) fits tells = tt
 read_here name blob next (Err fault.Memory) fits tells = tt
-read_here name blob next (Err (fault.NoBlob other)) fits tells = absurd tells
-read_here name blob next (Err (fault.Large limit)) fits tells = absurd tells
-read_here name blob next (Err (fault.BadRow place why of ordinal)) fits tells = absurd tells
-read_here name blob next (Err (fault.OtherOrigin found current)) fits tells = absurd tells
-read_here name blob next (Err (fault.OtherModel of)) fits tells = absurd tells
+read_here name blob next (Err _) fits tells = absurd tells
 
 started : (name : BlobName) (content : Option (List ℕ)) (place : Place) (next : ℕ) (answer : Result (Header × List TypePart) BlobFault) → Starts name content (Ok place) → Tells snapshot content 0 answer next → TellsItems name content answer
 started name content place next answer starts tells =

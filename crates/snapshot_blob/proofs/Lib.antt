@@ -1,6 +1,5 @@
 pub mod Accepting
 pub mod Danglings
-pub mod DecidedBody
 pub mod FieldWidths
 pub mod Items
 pub mod LoadedTypes

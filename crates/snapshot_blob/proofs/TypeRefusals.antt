@@ -34,10 +34,7 @@ refused Asked Fact asks fault.Memory h = tt
 refused Asked Fact asks (fault.Large limit) h = λ fact. h (asks fact)
 refused Asked Fact asks (fault.Bad at why) h = λ fact. h (asks fact)
 refused Asked Fact asks (fault.BadRow at why of ordinal) h = λ fact. h (asks fact)
-refused Asked Fact asks fault.Store h = absurd h
-refused Asked Fact asks (fault.NoBlob name) h = absurd h
-refused Asked Fact asks (fault.OtherOrigin found current) h = absurd h
-refused Asked Fact asks (fault.OtherModel name) h = absurd h
+refused Asked Fact asks _ h = absurd h
 
 -- an answer that is such a fault
 pub refusal : (T Fact : Type 0) (P : T → Type 0) (r : Result T BlobFault) (fault : BlobFault) → r ≡ Err fault → Refuses Fact fault → MatchResult r P (Refuses Fact)

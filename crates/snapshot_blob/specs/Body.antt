@@ -2,6 +2,7 @@
 use Rattle.std.specs.Prelude.{◌≡◌, ◌≢◌, ℕ, zero, suc, List}
 use Rattle.schema_model.specs.declared.reason.Reason.TheVariants.{Sharded}
 use Rattle.blob_frame.specs.Form.{Form, ◌>>=◌, nothing, judged, at_most, repeated}
+use Rattle.blob_frame.specs.Deciding.{judge_only, decided_place}
 use Rattle.blob_frame.specs.Item.{vint, skipped, end}
 use Rattle.blob_frame.specs.SchemaForm.{schema}
 use Rattle.blob_frame.specs.Header.{header}
@@ -11,7 +12,7 @@ use Rattle.snapshot_blob.specs.Section.{section_of}
 
 -- The number of shards, which is 1.
 unfoldable pub shards : Form Unit
-shards = judged vint (λ n u. n ≡ 1) (λ n why. (n ≢ 1) × (why ≡ Sharded))
+shards = judged vint (λ n u. n ≡ 1) (λ n why. (n ≢ 1) × (why ≡ Sharded)) (judge_only 1 Sharded)
 
 -- What stands in a shard envelope behind its number: nothing behind 0, else bytes to skip and the number of shards.
 unfoldable pub enveloped_shards : ℕ → Form Unit
@@ -32,6 +33,7 @@ unfoldable pub here : Form ℕ
 here = record {
   Stands = λ bytes at v next. (v ≡ at) × (next ≡ at);
   Stuck = λ bytes at place why. ⊥;
+  decided = decided_place;
 }
 
 -- A type: the offset of its schema, its schema and its section.

@@ -11,6 +11,7 @@ use Rattle.object_codec.specs.ObjectPlace.{IsKindWidth}
 use Rattle.type_state.specs.declared.section.Section.{Section}
 use Rattle.type_state.specs.Layout.{fixed_words}
 use Rattle.blob_frame.specs.Form.{Form, ◌>>=◌, nothing, judged, repeated}
+use Rattle.blob_frame.specs.Deciding.{judge_as, judge_rule, decided_refused, not_below}
 use Rattle.blob_frame.specs.Item.{fixed, vint, vlong, run}
 
 -- the max ordinal of its number: -1, the greatest VInt, is none
@@ -19,7 +20,7 @@ max_of n = if n == 2 ^ 32 - 1 then None else Some n
 
 -- The greatest ordinal that has a place.
 unfoldable pub max_ordinal : Form (Option ℕ)
-max_ordinal = judged vint (λ n max. max ≡ max_of n) (λ n why. ⊥)
+max_ordinal = judged vint (λ n max. max ≡ max_of n) (λ n why. ⊥) (judge_as max_of)
 
 -- a field of this kind may have this width: 64 at most, and where there are places 2 for a BOOLEAN and 1 at least for
 -- a STRING or BYTES
@@ -30,6 +31,7 @@ IsWidth (Some max) kind width = (width ≤ 64) × IsKindWidth kind width
 -- The width of a field.
 unfoldable pub field_width : Option ℕ → FieldKind → Form ℕ
 field_width max kind = judged vint (λ n width. (width ≡ n) × IsWidth max kind n) (λ n why. (IsWidth max kind n → ⊥) × (why ≡ BadWidth))
+    (judge_rule (λ n. IsWidth max kind n) (λ n. IsWidth max kind n → ⊥) BadWidth (λ n p q. q p))
 
 -- The width of each field, in their order.
 unfoldable pub field_widths : Option ℕ → List Field → Form (List ℕ)
@@ -42,6 +44,7 @@ field_widths max (field ∷ fields) = do
 -- A count that is no less than this.
 unfoldable pub at_least : ℕ → Form ℕ
 at_least least = judged vlong (λ n m. (m ≡ n) × (least ≤ n)) (λ n why. (n < least) × (why ≡ BadLength))
+    (judge_rule (λ n. least ≤ n) (λ n. n < least) BadLength (λ n p q. not_below p q))
 
 -- The words of the records: their count, which is no less than the places need, and each of them.
 unfoldable pub record_words : ℕ → Form (List ℕ)
@@ -77,6 +80,7 @@ unfoldable pub unread : Form Section
 unread = record {
   Stands = λ bytes at v next. ⊥;
   Stuck = λ bytes at place why. (place ≡ at) × (why ≡ BadSchema);
+  decided = decided_refused BadSchema;
 }
 
 -- The section of a type of this shape.

@@ -59,9 +59,7 @@ TellsItems name content (Err (fault.Bad place why)) =
     (blob : List ℕ) × (content ≡ Some blob) × (length blob ≤ largest) × snapshot.Stuck blob 0 place why
 TellsItems name content (Err fault.Store) = Unit {0}
 TellsItems name content (Err fault.Memory) = Unit {0}
-TellsItems name content (Err (fault.BadRow place why of ordinal)) = ⊥
-TellsItems name content (Err (fault.OtherOrigin found current)) = ⊥
-TellsItems name content (Err (fault.OtherModel of)) = ⊥
+TellsItems name content (Err _) = ⊥
 
 -- The reader answers a snapshot exactly where the blob is one within the limits, and the fault of the store's name, of
 -- the blob's length and of its syntax exactly where it has it, but for the free answers.

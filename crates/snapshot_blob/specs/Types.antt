@@ -46,10 +46,7 @@ Refuses Fact fault.Memory = Unit {0}
 Refuses Fact (fault.Large limit) = Fact → ⊥
 Refuses Fact (fault.Bad at why) = Fact → ⊥
 Refuses Fact (fault.BadRow at why of ordinal) = Fact → ⊥
-Refuses Fact fault.Store = ⊥
-Refuses Fact (fault.NoBlob name) = ⊥
-Refuses Fact (fault.OtherOrigin found current) = ⊥
-Refuses Fact (fault.OtherModel name) = ⊥
+Refuses Fact _ = ⊥
 
 -- The parts are those of this state, and no limit of a type is passed.
 abbrev pub AreAccepted : List TypePart → List Schema → List Half → Type 0

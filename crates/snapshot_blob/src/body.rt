@@ -1,6 +1,6 @@
 ghost use Rattle.std.specs.Prelude.{All, IfOk};
 ghost use Rattle.blob_frame.specs.Form.{repeated};
-ghost use Rattle.blob_frame.specs.Scene.{IsOver, Reads, scene};
+ghost use Rattle.blob_frame.specs.Scene.{IsAbove, Leads, IsOver, Reads, scene};
 ghost use Rattle.snapshot_blob.specs.Body.{type_part, body};
 ghost use Rattle.snapshot_blob.specs.Whole.{IsWholeSection};
 
@@ -18,9 +18,8 @@ fn type_part<S: BlobStore>(
     cursor: &mut Cursor,
     store: &mut S,
 ) -> Result<TypePart, BlobFault>
-    requires over { IsOver (scene (S.held store.old) (S.faults store.old) cursor.old) }
-    ensures reads { Reads type_part (scene (S.held store.old) (S.faults store.old) cursor.old)
-        (scene (S.held store.new) (S.faults store.new) cursor.new) result }
+    requires over { IsAbove S.seen store.old cursor.old }
+    ensures reads { Leads S.seen type_part store.old cursor.old store.new cursor.new result }
     ensures whole { IfOk result (λ part. IsWholeSection part.schema.shape part.section) }
 {
     let at = cursor.at();
@@ -41,9 +40,8 @@ fn type_parts<S: BlobStore>(
     store: &mut S,
     count: u32,
 ) -> Result<TypeParts, BlobFault>
-    requires over { IsOver (scene (S.held store.old) (S.faults store.old) cursor.old) }
-    ensures reads { Reads (repeated count type_part) (scene (S.held store.old) (S.faults store.old) cursor.old)
-        (scene (S.held store.new) (S.faults store.new) cursor.new) result }
+    requires over { IsAbove S.seen store.old cursor.old }
+    ensures reads { Leads S.seen (repeated count type_part) store.old cursor.old store.new cursor.new result }
     ensures whole { IfOk result (All (λ part. IsWholeSection part.schema.shape part.section)) }
 {
     let mut list = TypeParts::new(alloc);
@@ -59,9 +57,8 @@ pub(crate) fn body<S: BlobStore>(
     cursor: &mut Cursor,
     store: &mut S,
 ) -> Result<TypeParts, BlobFault>
-    requires over { IsOver (scene (S.held store.old) (S.faults store.old) cursor.old) }
-    ensures reads { Reads body (scene (S.held store.old) (S.faults store.old) cursor.old)
-        (scene (S.held store.new) (S.faults store.new) cursor.new) result }
+    requires over { IsAbove S.seen store.old cursor.old }
+    ensures reads { Leads S.seen body store.old cursor.old store.new cursor.new result }
     ensures whole { IfOk result (All (λ part. IsWholeSection part.schema.shape part.section)) }
 {
     let count = cursor.type_count(store)?;

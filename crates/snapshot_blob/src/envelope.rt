@@ -1,7 +1,7 @@
 ghost use Rattle.std.specs.Prelude.{ℕ, Option};
-ghost use Rattle.hol_io.specs.Store.{Store};
+ghost use Rattle.hol_io.specs.Store.{Seen};
 ghost use Rattle.blob_frame.specs.Item.{skipped};
-ghost use Rattle.blob_frame.specs.Scene.{IsOver, Reads, scene};
+ghost use Rattle.blob_frame.specs.Scene.{IsAbove, Leads, IsOver, Reads, scene};
 ghost use Rattle.snapshot_blob.specs.Body.{shards, enveloped_shards, shard_envelope};
 
 use blob_frame::{BlobFault, Cursor};
@@ -13,9 +13,8 @@ pub(crate) fn shard_envelope<S: BlobStore>(
     cursor: &mut Cursor,
     store: &mut S,
 ) -> Result<(), BlobFault>
-    requires over { IsOver (scene (S.held store.old) (S.faults store.old) cursor.old) }
-    ensures reads { Reads shard_envelope (scene (S.held store.old) (S.faults store.old) cursor.old)
-        (scene (S.held store.new) (S.faults store.new) cursor.new) result }
+    requires over { IsAbove S.seen store.old cursor.old }
+    ensures reads { Leads S.seen shard_envelope store.old cursor.old store.new cursor.new result }
 {
     let number = cursor.vint(store)?;
     enveloped_shards(cursor, store, number)
@@ -27,9 +26,8 @@ fn enveloped_shards<S: BlobStore>(
     store: &mut S,
     number: u32,
 ) -> Result<(), BlobFault>
-    requires over { IsOver (scene (S.held store.old) (S.faults store.old) cursor.old) }
-    ensures reads { Reads (enveloped_shards number) (scene (S.held store.old) (S.faults store.old) cursor.old)
-        (scene (S.held store.new) (S.faults store.new) cursor.new) result }
+    requires over { IsAbove S.seen store.old cursor.old }
+    ensures reads { Leads S.seen (enveloped_shards number) store.old cursor.old store.new cursor.new result }
 {
     if number == 0 {
         return Ok(());
@@ -41,17 +39,16 @@ fn enveloped_shards<S: BlobStore>(
 
 /// Moves past so many bytes, whose number is a VInt.
 fn skip_counted(cursor: &mut Cursor, count: u32) -> Result<(), BlobFault>
-    ensures reads { (held : Option Store) (faults : ℕ) → IsOver (scene held faults cursor.old)
-        → Reads (skipped count) (scene held faults cursor.old) (scene held faults cursor.new) result }
+    ensures reads { (seen : Seen) → IsOver (scene seen cursor.old)
+        → Reads (skipped count) (scene seen cursor.old) (scene seen cursor.new) result }
 {
     cursor.skip(u64::from(count))
 }
 
 /// The number of shards, which is 1.
 fn shards<S: BlobStore>(cursor: &mut Cursor, store: &mut S) -> Result<(), BlobFault>
-    requires over { IsOver (scene (S.held store.old) (S.faults store.old) cursor.old) }
-    ensures reads { Reads shards (scene (S.held store.old) (S.faults store.old) cursor.old)
-        (scene (S.held store.new) (S.faults store.new) cursor.new) result }
+    requires over { IsAbove S.seen store.old cursor.old }
+    ensures reads { Leads S.seen shards store.old cursor.old store.new cursor.new result }
 {
     let at = cursor.at();
     let number = cursor.vint(store)?;

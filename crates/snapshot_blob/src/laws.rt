@@ -2,7 +2,7 @@
 ghost use Rattle.std.specs.Prelude.{◌≡◌, List, ℕ};
 ghost use Rattle.schema_model.specs.declared.schema.Schema.{Schema};
 ghost use Rattle.type_state.specs.State.{Half};
-ghost use Rattle.blob_frame.specs.Form.{IsDecided};
+ghost use Rattle.blob_frame.specs.Decided.{IsDecided};
 ghost use Rattle.blob_frame.specs.declared.header.Header.{Header};
 ghost use Rattle.snapshot_blob.specs.Body.{body, snapshot};
 ghost use Rattle.snapshot_blob.specs.Snapshot.{SnapshotIs};
@@ -10,8 +10,8 @@ ghost use Rattle.snapshot_blob.specs.Snapshot.{SnapshotIs};
 /// A snapshot has one body at most, reading it is stuck at one place at most and for one reason, and never both; so it
 /// is with the whole of it.
 pub fn one_body()
-    ensures body { IsDecided body }
-    ensures snapshot { IsDecided snapshot }
+    ensures body { IsDecided body.Stands body.Stuck }
+    ensures snapshot { IsDecided snapshot.Stands snapshot.Stuck }
 {}
 
 /// A blob is the snapshot of one state at most.

@@ -2,7 +2,7 @@ ghost use Rattle.std.specs.Prelude.{◌≡◌, ◌≤◌, ◌<◌, ◌^◌, IfOk
 ghost use Rattle.std.specs.Int.{w64};
 ghost use Rattle.blob_frame.specs.Form.{repeated};
 ghost use Rattle.blob_frame.specs.Item.{fixed};
-ghost use Rattle.blob_frame.specs.Scene.{IsOver, Reads, scene};
+ghost use Rattle.blob_frame.specs.Scene.{IsAbove, Leads, IsOver, Reads, scene};
 ghost use Rattle.schema_model.specs.declared.schema.Shape.{Shape};
 ghost use Rattle.snapshot_blob.specs.Section.{max_ordinal, at_least, record_words, area, population, object_section, section_of};
 ghost use Rattle.snapshot_blob.specs.Whole.{IsWholeObject, IsWholeSection};
@@ -18,9 +18,8 @@ use type_state::Section;
 
 /// The greatest ordinal that has a place, if one has.
 fn max_ordinal<S: BlobStore>(cursor: &mut Cursor, store: &mut S) -> Result<Option<u32>, BlobFault>
-    requires over { IsOver (scene (S.held store.old) (S.faults store.old) cursor.old) }
-    ensures reads { Reads max_ordinal (scene (S.held store.old) (S.faults store.old) cursor.old)
-        (scene (S.held store.new) (S.faults store.new) cursor.new) result }
+    requires over { IsAbove S.seen store.old cursor.old }
+    ensures reads { Leads S.seen max_ordinal store.old cursor.old store.new cursor.new result }
 {
     let number = cursor.vint(store)?;
     if number == u32::MAX {
@@ -31,9 +30,8 @@ fn max_ordinal<S: BlobStore>(cursor: &mut Cursor, store: &mut S) -> Result<Optio
 
 /// A count that is no less than this, else `BadLength` at it.
 fn at_least<S: BlobStore>(cursor: &mut Cursor, store: &mut S, least: u128) -> Result<u64, BlobFault>
-    requires over { IsOver (scene (S.held store.old) (S.faults store.old) cursor.old) }
-    ensures reads { Reads (at_least least) (scene (S.held store.old) (S.faults store.old) cursor.old)
-        (scene (S.held store.new) (S.faults store.new) cursor.new) result }
+    requires over { IsAbove S.seen store.old cursor.old }
+    ensures reads { Leads S.seen (at_least least) store.old cursor.old store.new cursor.new result }
     ensures whole { IfOk result (λ count. least ≤ count) }
 {
     let at = cursor.at();
@@ -50,9 +48,8 @@ fn record_words<S: BlobStore>(
     store: &mut S,
     least: u128,
 ) -> Result<Words, BlobFault>
-    requires over { IsOver (scene (S.held store.old) (S.faults store.old) cursor.old) }
-    ensures reads { Reads (record_words least) (scene (S.held store.old) (S.faults store.old) cursor.old)
-        (scene (S.held store.new) (S.faults store.new) cursor.new) result }
+    requires over { IsAbove S.seen store.old cursor.old }
+    ensures reads { Leads S.seen (record_words least) store.old cursor.old store.new cursor.new result }
     ensures whole { IfOk result (λ words. least ≤ length words) }
 {
     let count = at_least(cursor, store, least)?;
@@ -61,9 +58,8 @@ fn record_words<S: BlobStore>(
 
 /// The variable bytes of a field.
 fn area<S: BlobStore>(cursor: &mut Cursor, store: &mut S) -> Result<Octets, BlobFault>
-    requires over { IsOver (scene (S.held store.old) (S.faults store.old) cursor.old) }
-    ensures reads { Reads area (scene (S.held store.old) (S.faults store.old) cursor.old)
-        (scene (S.held store.new) (S.faults store.new) cursor.new) result }
+    requires over { IsAbove S.seen store.old cursor.old }
+    ensures reads { Leads S.seen area store.old cursor.old store.new cursor.new result }
 {
     let count = cursor.vlong(store)?;
     cursor.run(store, count)
@@ -76,9 +72,8 @@ fn areas<S: BlobStore>(
     store: &mut S,
     count: usize,
 ) -> Result<Areas, BlobFault>
-    requires over { IsOver (scene (S.held store.old) (S.faults store.old) cursor.old) }
-    ensures reads { Reads (repeated count area) (scene (S.held store.old) (S.faults store.old) cursor.old)
-        (scene (S.held store.new) (S.faults store.new) cursor.new) result }
+    requires over { IsAbove S.seen store.old cursor.old }
+    ensures reads { Leads S.seen (repeated count area) store.old cursor.old store.new cursor.new result }
     ensures whole { IfOk result (λ areas. length areas ≡ count) }
 {
     let mut list = Areas::new(alloc);
@@ -94,9 +89,8 @@ fn counted_words<S: BlobStore>(
     store: &mut S,
     count: u32,
 ) -> Result<Words, BlobFault>
-    requires over { IsOver (scene (S.held store.old) (S.faults store.old) cursor.old) }
-    ensures reads { Reads (repeated count (fixed w64)) (scene (S.held store.old) (S.faults store.old) cursor.old)
-        (scene (S.held store.new) (S.faults store.new) cursor.new) result }
+    requires over { IsAbove S.seen store.old cursor.old }
+    ensures reads { Leads S.seen (repeated count (fixed w64)) store.old cursor.old store.new cursor.new result }
     ensures few { IfOk result (λ words. length words < 2 ^ 26) }
 {
     cursor.words(store, u64::from(count))
@@ -108,9 +102,8 @@ fn population<S: BlobStore>(
     cursor: &mut Cursor,
     store: &mut S,
 ) -> Result<OrdinalSet, BlobFault>
-    requires over { IsOver (scene (S.held store.old) (S.faults store.old) cursor.old) }
-    ensures reads { Reads population (scene (S.held store.old) (S.faults store.old) cursor.old)
-        (scene (S.held store.new) (S.faults store.new) cursor.new) result }
+    requires over { IsAbove S.seen store.old cursor.old }
+    ensures reads { Leads S.seen population store.old cursor.old store.new cursor.new result }
 {
     let count = cursor.be32(store)?;
     let words = counted_words(cursor, store, count)?;
@@ -125,9 +118,8 @@ fn object_section<S: BlobStore>(
     store: &mut S,
     fields: &[Field],
 ) -> Result<Section, BlobFault>
-    requires over { IsOver (scene (S.held store.old) (S.faults store.old) cursor.old) }
-    ensures reads { Reads (object_section fields.now) (scene (S.held store.old) (S.faults store.old) cursor.old)
-        (scene (S.held store.new) (S.faults store.new) cursor.new) result }
+    requires over { IsAbove S.seen store.old cursor.old }
+    ensures reads { Leads S.seen (object_section fields.now) store.old cursor.old store.new cursor.new result }
     ensures whole { IfOk result (IsWholeObject fields.now) }
 {
     let max = max_ordinal(cursor, store)?;
@@ -154,9 +146,8 @@ pub(crate) fn section<S: BlobStore>(
     store: &mut S,
     schema: &Schema,
 ) -> Result<Section, BlobFault>
-    requires over { IsOver (scene (S.held store.old) (S.faults store.old) cursor.old) }
-    ensures reads { Reads (section_of schema.now.shape) (scene (S.held store.old) (S.faults store.old) cursor.old)
-        (scene (S.held store.new) (S.faults store.new) cursor.new) result }
+    requires over { IsAbove S.seen store.old cursor.old }
+    ensures reads { Leads S.seen (section_of schema.now.shape) store.old cursor.old store.new cursor.new result }
     ensures whole { IfOk result (IsWholeSection schema.now.shape) }
 {
     match &schema.shape {

@@ -1,7 +1,7 @@
 ghost use Rattle.std.specs.Prelude.{◌≡◌, ◌≤◌, All, Err, IfOk, IfSome};
 ghost use Rattle.hol_io.specs.Causes.{Rose};
 ghost use Rattle.hol_io.specs.Store.{told};
-ghost use Rattle.blob_frame.specs.Scene.{IsOver, Reads, scene};
+ghost use Rattle.blob_frame.specs.Scene.{IsAbove, Leads, IsOver, Reads, scene};
 ghost use Rattle.snapshot_blob.specs.Body.{snapshot};
 ghost use Rattle.snapshot_blob.specs.Snapshot.{TellsItems, TellsSnapshot, ReadsExactly, IsWhole};
 ghost use Rattle.snapshot_blob.specs.Whole.{IsWholeSection};
@@ -28,12 +28,12 @@ pub fn read_snapshot<S: BlobStore>(
     store: &mut S,
     name: &BlobName,
 ) -> Result<Loaded, BlobFault>
-    ensures tells { IfSome (S.held store.old) (λ held. TellsSnapshot name.now (told (S.held store.old) name.now) result) }
-    ensures exact { IfSome (S.held store.old) (λ held. ReadsExactly name.now (told (S.held store.old) name.now) result) }
+    ensures tells { IfSome (S.seen store.old).held (λ held. TellsSnapshot name.now (told (S.seen store.old).held name.now) result) }
+    ensures exact { IfSome (S.seen store.old).held (λ held. ReadsExactly name.now (told (S.seen store.old).held name.now) result) }
     ensures whole { IfOk result IsWhole }
-    ensures kept { S.held store.new ≡ S.held store.old }
-    ensures later { S.faults store.old ≤ S.faults store.new }
-    ensures cause { result ≡ Err BlobFault.Store → Rose (S.faults store.old) (S.faults store.new) }
+    ensures kept { (S.seen store.new).held ≡ (S.seen store.old).held }
+    ensures later { (S.seen store.old).faults ≤ (S.seen store.new).faults }
+    ensures cause { result ≡ Err BlobFault.Store → Rose (S.seen store.old).faults (S.seen store.new).faults }
 {
     let (header, parts) = read_items(alloc, store, name)?;
     let (model, states) = state_of(alloc, parts.as_slice())?;
@@ -50,11 +50,11 @@ fn read_items<S: BlobStore>(
     store: &mut S,
     name: &BlobName,
 ) -> Result<(Header, TypeParts), BlobFault>
-    ensures tells { IfSome (S.held store.old) (λ held. TellsItems name.now (told (S.held store.old) name.now) result) }
+    ensures tells { IfSome (S.seen store.old).held (λ held. TellsItems name.now (told (S.seen store.old).held name.now) result) }
     ensures whole { IfOk result (λ items. All (λ part. IsWholeSection part.schema.shape part.section) items.1) }
-    ensures kept { S.held store.new ≡ S.held store.old }
-    ensures later { S.faults store.old ≤ S.faults store.new }
-    ensures cause { result ≡ Err BlobFault.Store → Rose (S.faults store.old) (S.faults store.new) }
+    ensures kept { (S.seen store.new).held ≡ (S.seen store.old).held }
+    ensures later { (S.seen store.old).faults ≤ (S.seen store.new).faults }
+    ensures cause { result ≡ Err BlobFault.Store → Rose (S.seen store.old).faults (S.seen store.new).faults }
 {
     let mut cursor = Cursor::start(alloc, store, name)?;
     items(alloc, &mut cursor, store)
@@ -66,9 +66,8 @@ fn items<S: BlobStore>(
     cursor: &mut Cursor,
     store: &mut S,
 ) -> Result<(Header, TypeParts), BlobFault>
-    requires over { IsOver (scene (S.held store.old) (S.faults store.old) cursor.old) }
-    ensures reads { Reads snapshot (scene (S.held store.old) (S.faults store.old) cursor.old)
-        (scene (S.held store.new) (S.faults store.new) cursor.new) result }
+    requires over { IsAbove S.seen store.old cursor.old }
+    ensures reads { Leads S.seen snapshot store.old cursor.old store.new cursor.new result }
     ensures whole { IfOk result (λ items. All (λ part. IsWholeSection part.schema.shape part.section) items.1) }
 {
     let header = cursor.read_header(store)?;

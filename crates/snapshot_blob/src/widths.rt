@@ -2,7 +2,7 @@ ghost use Rattle.std.specs.Prelude.{◌↔◌, ◌≡◌, ◌<◌, ◌^◌, IfOk
 ghost use Rattle.std.specs.List.{AllZip};
 ghost use Rattle.object_codec.specs.ObjectPlace.{IsKindWidth};
 ghost use Rattle.type_state.specs.Layout.{fixed_words};
-ghost use Rattle.blob_frame.specs.Scene.{IsOver, Reads, scene};
+ghost use Rattle.blob_frame.specs.Scene.{IsAbove, Leads, IsOver, Reads, scene};
 ghost use Rattle.snapshot_blob.specs.Section.{IsWidth, field_width, field_widths};
 
 use blob_frame::{BlobFault, Cursor};
@@ -38,9 +38,8 @@ fn field_width<S: BlobStore>(
     max: Option<u32>,
     kind: &FieldKind,
 ) -> Result<u32, BlobFault>
-    requires over { IsOver (scene (S.held store.old) (S.faults store.old) cursor.old) }
-    ensures reads { Reads (field_width max kind.now) (scene (S.held store.old) (S.faults store.old) cursor.old)
-        (scene (S.held store.new) (S.faults store.new) cursor.new) result }
+    requires over { IsAbove S.seen store.old cursor.old }
+    ensures reads { Leads S.seen (field_width max kind.now) store.old cursor.old store.new cursor.new result }
     ensures whole { IfOk result (IsWidth max kind.now) }
 {
     let at = cursor.at();
@@ -59,9 +58,8 @@ pub(crate) fn field_widths<S: BlobStore>(
     max: Option<u32>,
     fields: &[Field],
 ) -> Result<Widths, BlobFault>
-    requires over { IsOver (scene (S.held store.old) (S.faults store.old) cursor.old) }
-    ensures reads { Reads (field_widths max fields.now) (scene (S.held store.old) (S.faults store.old) cursor.old)
-        (scene (S.held store.new) (S.faults store.new) cursor.new) result }
+    requires over { IsAbove S.seen store.old cursor.old }
+    ensures reads { Leads S.seen (field_widths max fields.now) store.old cursor.old store.new cursor.new result }
     ensures whole { IfOk result (AllZip (λ field width. IsWidth max field.kind width) fields.now) }
 {
     let mut widths = Widths::new(alloc);

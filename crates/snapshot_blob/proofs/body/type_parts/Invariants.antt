@@ -8,7 +8,7 @@ use Rattle.snapshot_blob.proofs.body.type_parts.Given as goal
 
 abbrev pub invariant-loop-item : goal.invariant-loop-item
 invariant-loop-item g l = record {
-  counts : Counts type_part l.count l._item (scene (g.S.BlobStore.held l.initial.store) (g.S.BlobStore.faults l.initial.store) l.initial.cursor)
-      (scene (g.S.BlobStore.held l.store) (g.S.BlobStore.faults l.store) l.cursor) l.list;
+  counts : Counts type_part l.count l._item (scene (g.S.BlobStore.seen l.initial.store) l.initial.cursor)
+      (scene (g.S.BlobStore.seen l.store) l.cursor) l.list;
   whole : All (λ (part : TypePart). IsWholeSection part.schema.shape part.section) l.list;
 }

@@ -12,10 +12,10 @@ returns-in_err-count g c = record { reads = reads_sharded c.args.number (search 
 pub returns-in_err-skip_counted : goal.returns-in_err-skip_counted
 returns-in_err-skip_counted g c = record {
   reads = reads_sharded c.args.number (search rules) (reads_then _ c.in_ok-count.ensures.reads
-      (reads_stops _ (c.in_err-skip_counted.ensures.reads _ _ c.in_ok-count.ensures.reads.over) (search rules)));
+      (reads_stops _ (c.in_err-skip_counted.ensures.reads _ c.in_ok-count.ensures.reads.over) (search rules)));
 }
 
 pub returns : goal.returns
 returns g c =
-    let past = c.in_ok-skip_counted.ensures.reads _ _ c.in_ok-count.ensures.reads.over in
+    let past = c.in_ok-skip_counted.ensures.reads _ c.in_ok-count.ensures.reads.over in
     record { reads = reads_sharded c.args.number (search rules) (reads_then _ c.in_ok-count.ensures.reads (reads_then _ past c.shards.ensures.reads)) }

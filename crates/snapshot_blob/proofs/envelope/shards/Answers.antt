@@ -7,12 +7,12 @@ use Rattle.snapshot_blob.proofs.envelope.shards.Goals as goal
 
 pub returns-in_err-number : goal.returns-in_err-number
 unfolding shards
-returns-in_err-number g c = record { reads = reads_unread _ _ c.in_err-number.ensures.reads (search rules) }
+returns-in_err-number g c = record { reads = reads_unread _ _ _ c.in_err-number.ensures.reads (search rules) }
 
 pub returns-then-number-ne1 : goal.returns-then-number-ne1
 unfolding shards
-returns-then-number-ne1 g c = record { reads = reads_refused _ _ c.in_ok-number.ensures.reads (search rules, refl) (ap (λ at. Err (Bad at Sharded)) c.at-at.ensures) }
+returns-then-number-ne1 g c = record { reads = reads_refused _ _ _ c.in_ok-number.ensures.reads (search rules, refl) (ap (λ at. Err (Bad at Sharded)) c.at-at.ensures) }
 
 pub returns : goal.returns
 unfolding shards
-returns g c = record { reads = reads_judged _ _ c.in_ok-number.ensures.reads (search rules) }
+returns g c = record { reads = reads_judged _ _ _ c.in_ok-number.ensures.reads (search rules) }

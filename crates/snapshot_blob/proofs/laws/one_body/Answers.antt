@@ -1,5 +1,5 @@
-use Rattle.snapshot_blob.proofs.DecidedBody.{decided_body, decided_snapshot}
+use Rattle.snapshot_blob.specs.Body.{body, snapshot}
 use Rattle.snapshot_blob.proofs.laws.one_body.Goals as goal
 
 pub returns : goal.returns
-returns c = record { body = decided_body; snapshot = decided_snapshot }
+returns c = record { body = body.decided; snapshot = snapshot.decided }

@@ -6,7 +6,7 @@ use Rattle.snapshot_blob.proofs.section.areas.Given as goal
 
 abbrev pub invariant-loop-item : goal.invariant-loop-item
 invariant-loop-item g l = record {
-  counts : Counts area l.count l._item (scene (g.S.BlobStore.held l.initial.store) (g.S.BlobStore.faults l.initial.store) l.initial.cursor)
-      (scene (g.S.BlobStore.held l.store) (g.S.BlobStore.faults l.store) l.cursor) l.list;
+  counts : Counts area l.count l._item (scene (g.S.BlobStore.seen l.initial.store) l.initial.cursor)
+      (scene (g.S.BlobStore.seen l.store) l.cursor) l.list;
   long : length l.list ≡ l._item;
 }

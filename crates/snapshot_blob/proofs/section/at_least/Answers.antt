@@ -7,12 +7,12 @@ use Rattle.snapshot_blob.proofs.section.at_least.Goals as goal
 
 pub returns-in_err-count-clause-reads : goal.returns-in_err-count-clause-reads
 unfolding at_least
-returns-in_err-count-clause-reads g c = reads_unread _ _ c.in_err-count.ensures.reads (search rules)
+returns-in_err-count-clause-reads g c = reads_unread _ _ _ c.in_err-count.ensures.reads (search rules)
 
 pub returns-then-from-least-clause-reads : goal.returns-then-from-least-clause-reads
 unfolding at_least
-returns-then-from-least-clause-reads g c = reads_refused _ _ c.in_ok-count.ensures.reads (omega (arith, c.from.ensures), refl) (ap (λ at. Err (Bad at BadLength)) c.at-at.ensures)
+returns-then-from-least-clause-reads g c = reads_refused _ _ _ c.in_ok-count.ensures.reads (omega (arith, c.from.ensures), refl) (ap (λ at. Err (Bad at BadLength)) c.at-at.ensures)
 
 pub returns-clause-reads : goal.returns-clause-reads
 unfolding at_least
-returns-clause-reads g c = reads_judged _ _ c.in_ok-count.ensures.reads (refl, omega (arith, c.from.ensures))
+returns-clause-reads g c = reads_judged _ _ _ c.in_ok-count.ensures.reads (refl, omega (arith, c.from.ensures))

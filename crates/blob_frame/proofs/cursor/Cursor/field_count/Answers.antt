@@ -7,12 +7,12 @@ use Rattle.blob_frame.proofs.cursor.Cursor.field_count.Goals as goal
 
 pub returns-in_err-count : goal.returns-in_err-count
 unfolding at_most
-returns-in_err-count g c = record { reads = reads_unread _ _ c.in_err-count.ensures.reads (search rules) }
+returns-in_err-count g c = record { reads = reads_unread _ _ _ c.in_err-count.ensures.reads (search rules) }
 
 pub returns-then-count-gt-MOST_FIELDS : goal.returns-then-count-gt-MOST_FIELDS
 unfolding at_most
-returns-then-count-gt-MOST_FIELDS g c = record { reads = reads_refused _ _ c.in_ok-count.ensures.reads (omega arith, refl) (ap (λ at. Err (Bad at BadSchema)) c.at-at.ensures) }
+returns-then-count-gt-MOST_FIELDS g c = record { reads = reads_refused _ _ _ c.in_ok-count.ensures.reads (omega arith, refl) (ap (λ at. Err (Bad at BadSchema)) c.at-at.ensures) }
 
 pub returns : goal.returns
 unfolding at_most
-returns g c = record { reads = reads_judged _ _ c.in_ok-count.ensures.reads (refl, omega arith) }
+returns g c = record { reads = reads_judged _ _ _ c.in_ok-count.ensures.reads (refl, omega arith) }

@@ -15,11 +15,11 @@ pub returns-in_err-skip_counted : goal.returns-in_err-skip_counted
 unfolding listed_schemas
 returns-in_err-skip_counted g c = record {
   reads = reads_then _ c.in_ok-listed.ensures.reads (reads_then _ c.in_ok-count.ensures.reads
-      (reads_stops _ (c.in_err-skip_counted.ensures.reads _ _ c.in_ok-count.ensures.reads.over) (search rules)));
+      (reads_stops _ (c.in_err-skip_counted.ensures.reads _ c.in_ok-count.ensures.reads.over) (search rules)));
 }
 
 pub returns : goal.returns
 unfolding listed_schemas
 returns g c =
-    let past = c.in_ok-skip_counted.ensures.reads _ _ c.in_ok-count.ensures.reads.over in
+    let past = c.in_ok-skip_counted.ensures.reads _ c.in_ok-count.ensures.reads.over in
     record { reads = reads_then _ c.in_ok-listed.ensures.reads (reads_then _ c.in_ok-count.ensures.reads (reads_then _ past (reads_nothing past.over))) }

@@ -4,5 +4,5 @@ use Rattle.blob_frame.proofs.Counting.{Counts}
 use Rattle.blob_frame.proofs.cursor.Cursor.names.Given as goal
 
 abbrev pub invariant-loop-item : goal.invariant-loop-item
-invariant-loop-item g l = Counts name l.count l._item (scene (g.S.BlobStore.held l.initial.store) (g.S.BlobStore.faults l.initial.store) l.initial.self)
-    (scene (g.S.BlobStore.held l.store) (g.S.BlobStore.faults l.store) l.self) l.list
+invariant-loop-item g l = Counts name l.count l._item (scene (g.S.BlobStore.seen l.initial.store) l.initial.self)
+    (scene (g.S.BlobStore.seen l.store) l.self) l.list

@@ -1,6 +1,5 @@
 use Rattle.blob_frame.proofs.Decided.{exactly_told}
-use Rattle.blob_frame.proofs.DecidedItems.{decided_schema}
 use Rattle.blob_frame.proofs.cursor.Cursor.schema.Goals as goal
 
 pub returns-clause-exact : goal.returns-clause-exact
-returns-clause-exact g c = exactly_told decided_schema _ _ _ _ c.whole_schema.ensures.reads.tells
+returns-clause-exact g c = exactly_told _ _ _ _ _ c.whole_schema.ensures.reads.tells

@@ -6,10 +6,10 @@ use Rattle.blob_frame.proofs.cursor.Cursor.skip.Goals as goal
 
 pub returns-then-left-count : goal.returns-then-left-count
 unfolding skipped
-returns-then-left-count c = record { reads = λ held faults over. reads_unread _ _ (reads_cut c.args.count over (omega (arith, c.left.ensures)) refl) (ap Err c.bad.ensures) }
+returns-then-left-count c = record { reads = λ seen over. reads_unread _ _ _ (reads_cut c.args.count over (omega (arith, c.left.ensures)) refl) (ap Err c.bad.ensures) }
 
 pub returns : goal.returns
 returns c = record {
-  reads = λ held faults over. reads_skipped c.args.count held faults c.args.self.now c.jump.new.self over (omega (arith, c.left.ensures))
+  reads = λ seen over. reads_skipped c.args.count seen c.args.self.now c.jump.new.self over (omega (arith, c.left.ensures))
       c.jump.ensures.same.0 c.jump.ensures.same.1 c.jump.ensures.at (c.jump.ensures.over _ over);
 }

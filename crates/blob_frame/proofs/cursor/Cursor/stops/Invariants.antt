@@ -4,8 +4,8 @@ use Rattle.blob_frame.proofs.Seeking.{Seeking}
 use Rattle.blob_frame.proofs.cursor.Cursor.stops.Given as goal
 
 abbrev pub invariant-loop-self : goal.invariant-loop-self
-invariant-loop-self g l = Seeking (scene (g.S.BlobStore.held l.initial.store) (g.S.BlobStore.faults l.initial.store) l.initial.self)
-    (scene (g.S.BlobStore.held l.store) (g.S.BlobStore.faults l.store) l.self)
+invariant-loop-self g l = Seeking (scene (g.S.BlobStore.seen l.initial.store) l.initial.self)
+    (scene (g.S.BlobStore.seen l.store) l.self)
 
 abbrev pub decreases-loop-self : goal.decreases-loop-self
 decreases-loop-self g l = l.self.size - l.self.at

@@ -6,6 +6,6 @@ use Rattle.blob_frame.proofs.Counting.{Counts}
 use Rattle.blob_frame.proofs.cursor.Cursor.words.Given as goal
 
 abbrev pub invariant-loop-item : goal.invariant-loop-item
-invariant-loop-item g l = Counts (fixed w64) l.count l._item (scene (g.S.BlobStore.held l.initial.store) (g.S.BlobStore.faults l.initial.store) l.initial.self)
-    (scene (g.S.BlobStore.held l.store) (g.S.BlobStore.faults l.store) l.self) l.list
+invariant-loop-item g l = Counts (fixed w64) l.count l._item (scene (g.S.BlobStore.seen l.initial.store) l.initial.self)
+    (scene (g.S.BlobStore.seen l.store) l.self) l.list
     × (l.self.at ≡ l.initial.self.at + 8 * length l.list) × (8 * length l.list ≤ 2 ^ 28) × (length l.list ≡ l._item)
