@@ -1,3 +1,4 @@
+//! Worked numbers, texts and lists.
 use super::*;
 use std::test::*;
 
