@@ -46,8 +46,8 @@ abbrev pub are_known : (List ℕ → Option ℕ) → List (List ℕ) → Bool
 are_known find names = list_all (λ name. is_some (find name)) names
 
 -- the indexes of all the names, if each has one
-abbrev pub all_references : (List ℕ → Option ℕ) → List (List ℕ) → Option (List ℕ)
-all_references find names = if are_known find names then Some (filter_map find names) else None
+abbrev pub all_indexes : (List ℕ → Option ℕ) → List (List ℕ) → Option (List ℕ)
+all_indexes find names = if are_known find names then Some (filter_map find names) else None
 
 -- The place of the field of a name, if the fields have one.
 abbrev pub TellsField : List Field → List ℕ → Option ℕ → Type 0
