@@ -1,11 +1,12 @@
 -- Lemmas on the elements of a word array.
-use Rattle.std.proofs.Common.{◌≡◌, ℕ, ◌+◌, ◌-◌, ◌*◌, ◌/◌, ◌%◌, ◌^◌, ◌<◌, ◌≤◌, suc, zero, List, [], ◌∷◌, ◌++◌, length, get_or, drop, refl, sym, ap, ◌∙◌, subst, arith, add-one, Fits, w64}
+use Rattle.std.proofs.Common.{◌≡◌, ℕ, ◌+◌, ◌-◌, ◌*◌, ◌/◌, ◌%◌, ◌^◌, ◌<◌, ◌≤◌, suc, zero, List, [], ◌∷◌, ◌++◌, length, get_or, take, drop, refl, sym, ap, ◌∙◌, subst, arith, add-one, Fits, w64}
 use Rattle.std.specs.Int.Bits.{bit_and, bit_or}
 use Rattle.std.proofs.lemmas.Nat.{pow_pos, pow-add, mod_below, shr-shr, field_of, shr_high, mod_low, or_mod, or_comm, or_shifted, and_mask, shr_below, shr_split, mul-add-lt}
 use Rattle.std.proofs.lemmas.Nat.Bits.{ones_shr}
 use Rattle.std.proofs.Math.Nat.{mul_comm, zero-div, div-one}
 use Rattle.std.proofs.Math.Pow.{mod-mod-pow}
 use Rattle.std.proofs.Math.Seq.{drop-cons}
+use Rattle.std.proofs.lemmas.List.{take_all, length-drop}
 use Rattle.bit_array.specs.Element.{number_of, element_of}
 
 -- an element is below 2 to the power of its width
@@ -18,7 +19,7 @@ pub element_of_no_width : (words : List ℕ) (at : ℕ) → element_of words at 
 element_of_no_width words at = omega (arith, element_of-lt words at 0)
 
 -- the binary digits from s up to s + w are those of the number's lowest m digits
-field_within : (n m s w : ℕ) → s + w ≤ m → n / 2 ^ s % 2 ^ w ≡ n % 2 ^ m / 2 ^ s % 2 ^ w
+pub field_within : (n m s w : ℕ) → s + w ≤ m → n / 2 ^ s % 2 ^ w ≡ n % 2 ^ m / 2 ^ s % 2 ^ w
 field_within n m s w h =
     let e : m ≡ (m - (w + s)) + (w + s) = omega arith in
     let low : n % 2 ^ m % 2 ^ (w + s) ≡ n % 2 ^ (w + s) =
@@ -46,6 +47,16 @@ element_of-drop words at width fits =
     ap (λ k. number_of words / 2 ^ k % 2 ^ width) e
     ∙ ap (λ n. n % 2 ^ width) (sym (shr-shr (number_of words) (64 * (at / 64)) (at % 64)))
     ∙ ap (λ n. n / 2 ^ (at % 64) % 2 ^ width) (number_of-drop words (at / 64) fits)
+
+-- the same, as the code cuts the words before it off
+pub element_from : (words : List ℕ) (at place width : ℕ) → ((k : ℕ) → Fits w64 (get_or words k 0)) → place ≡ at
+    → element_of (take (length words - place / 64) (drop (place / 64) words)) (place % 64) width ≡ element_of words at width
+element_from words at place width fits is =
+    let whole : take (length words - place / 64) (drop (place / 64) words) ≡ drop (place / 64) words =
+    take_all (length words - place / 64) (drop (place / 64) words) (omega (arith, length-drop (place / 64) words)) in
+    ap (λ ws. element_of ws (place % 64) width) whole
+    ∙ sym (element_of-drop words place width fits)
+    ∙ ap (λ k. element_of words k width) is
 
 -- an element within the first word
 element_of_first : (word : ℕ) (rest : List ℕ) (at width : ℕ) → word < 2 ^ 64 → at + width ≤ 64 → element_of (word ∷ rest) at width ≡ word / 2 ^ at % 2 ^ width
@@ -116,7 +127,7 @@ element_of_across_words words at width fits inside wh =
     ∙ ap (λ k. bit_or (low / 2 ^ (at % 64)) (get_or words k 0 * 2 ^ (64 - at % 64) % 2 ^ 64) % 2 ^ width) (sym (add-one (at / 64)))
 
 -- 2 to the power of the bits of one word more
-power_of_words : (count : ℕ) → 2 ^ (64 * suc count) ≡ 2 ^ (64 * count) * 2 ^ 64
+pub power_of_words : (count : ℕ) → 2 ^ (64 * suc count) ≡ 2 ^ (64 * count) * 2 ^ 64
 power_of_words count =
     let more : 64 * suc count ≡ 64 * count + 64 = omega arith in
     ap (λ k. 2 ^ k) more ∙ pow-add 2 (64 * count) 64

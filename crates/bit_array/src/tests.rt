@@ -16,6 +16,8 @@ fn elements_of_words(rt: HostRuntime) {
     assert_eq!(rt; element(&words, 191, 1), 1);
     assert_eq!(rt; element(&words, 192, 0), 0);
     assert_eq!(rt; element(&[], 0, 0), 0);
+    assert_eq!(rt; element_at(&words, 12, 5), 0x1F);
+    assert_eq!(rt; element_at(&words, u64::MAX, 0), 0);
 }
 
 #[test]
@@ -34,4 +36,15 @@ fn sizes_in_bits_and_words(rt: HostRuntime) {
     for (bits, want) in [(0, 0), (1, 1), (64, 1), (65, 2), (u64::MAX, 1 << 58)] {
         assert_eq!(rt; words_for(bits), want, "at {bits}");
     }
+}
+
+#[test]
+fn elements_written(rt: HostRuntime) {
+    let mut words = [u64::MAX, 0];
+    set_element(&mut words, 60, 8, 0xA5);
+    set_element(&mut words, 4, 0, 0);
+    set_element(&mut words, 0, 4, 0);
+    assert_eq!(rt; words, [0x5FFF_FFFF_FFFF_FFF0, 0xA]);
+    set_element(&mut words, 64, 64, 7);
+    assert_eq!(rt; words, [0x5FFF_FFFF_FFFF_FFF0, 7]);
 }
