@@ -50,7 +50,8 @@ pub fn area_byte(areas: &Areas, field: u32, at: u64) -> u8
     requires { at < length (area_of areas.now field) }
     ensures { result ≡ slice_index (area_of areas.now field) at }
 {
-    *areas.get(field as usize).get(at as usize)
+    let area = areas.get(field as usize);
+    *area.get(at as usize)
 }
 
 impl Parts for Packed {
