@@ -37,11 +37,9 @@ pub trait Parts {
 pub fn area_size(areas: &Areas, field: u32) -> u64
     ensures { result ≡ length (area_of areas.now field) }
 {
-    let field = field as usize;
-    if field < areas.len() {
-        areas.get(field).len() as u64
-    } else {
-        0
+    match areas.as_slice().get(field as usize) {
+        Some(area) => area.len() as u64,
+        None => 0,
     }
 }
 
