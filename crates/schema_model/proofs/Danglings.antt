@@ -1,6 +1,6 @@
 -- Whether the rows under the ordinals of a type name live ordinals alone, one after another.
-use Rattle.std.proofs.Common.{◌≡◌, ℕ, ◌+◌, ◌<◌, ◌≤◌, ◌↔◌, inl, inr, List, [], ◌∷◌, length, map, flat_map, zip, Bool, true, false, Option, Some, None, refl, sym, ◌∙◌, ap, subst, arith, below_more}
-use Rattle.std.specs.Prelude.{All, slice_get, IsSome, IsSomeAnd, is_some, option_and_then, ◌&&◌}
+use Rattle.std.proofs.Common.{◌≡◌, ℕ, ◌+◌, ◌<◌, ◌≤◌, ◌↔◌, inl, inr, List, [], ◌∷◌, length, map, flat_map, zip, Bool, true, false, Option, Some, None, refl, sym, ◌∙◌, ap, arith, below_more}
+use Rattle.std.specs.Prelude.{All, IsSome, IsSomeAnd, is_some, option_and_then, ◌&&◌}
 use Rattle.std.specs.List.{list_all}
 use Rattle.std.proofs.lemmas.Bool.{cases_lt, false≢true}
 use Rattle.std.proofs.lemmas.List.Elements.{All-nil, All-cons, All-head, All-tail}
@@ -15,7 +15,7 @@ use Rattle.schema_model.specs.declared.rows.row.Row.{Row}
 use Rattle.schema_model.specs.Row.{references_of_row, references_of_value}
 use Rattle.schema_model.specs.Parts.{index_of_type}
 use Rattle.schema_model.specs.Table.{Table, row_at, IsLive, IsLiveByName, IsBound, IsClosed}
-use Rattle.schema_model.specs.Dangling.{AreLive, NamesLive, IsClosedAt, TellsType, is_live_reference, are_live}
+use Rattle.schema_model.specs.Dangling.{AreLive, IsClosedAt, TellsType, is_live_reference, are_live}
 
 -- both of two tests
 and_parts : (a b : Bool) → (a && b) ≡ true → (a ≡ true) × (b ≡ true)
