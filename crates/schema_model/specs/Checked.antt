@@ -6,10 +6,11 @@ use Rattle.std.specs.declared.alloc.Global.{Global}
 use Rattle.std.specs.declared.string.String.{String}
 use Rattle.hol_varint.specs.JavaUtf.{java_bytes}
 use Rattle.hol_varint.specs.TextUnits.{text_units}
-use Rattle.schema_model.specs.Parts.{name_index}
+use Rattle.schema_model.specs.Parts.{name_index, type_names}
 use Rattle.schema_model.specs.Model.{BreaksAt, IsKept}
 use Rattle.schema_model.specs.declared.schema.Schema.{Schema}
 use Rattle.schema_model.specs.declared.model.rule.Rule.{Rule}
+use Rattle.schema_model.specs.declared.model.rule.Rule.TheVariants.{TooMany, DuplicateName, TooDeep}
 use Rattle.schema_model.specs.Path.{RefersTo}
 use Rattle.schema_model.specs.declared.schema.Field.{Field}
 use Rattle.schema_model.specs.declared.schema.FieldKind.{FieldKind}
@@ -31,6 +32,13 @@ TellsRule schemas rule (Err fault) = TellsBroken schemas rule fault
 -- The map has each of the names at the first index at which it stands, and no other name.
 abbrev pub Indexes : List (List ℕ) → BTreeMap (String Global) ℕ → Type 0
 Indexes names places = (name : List ℕ) → get_by_text places name ≡ name_index names name
+
+-- What a walk along a path relies on: an index of the types' names, and the rules that bound it.
+pub record CanBeWalked (schemas : List Schema) (index : BTreeMap (String Global) ℕ) : Type 0 where
+  pub indexed : Indexes (type_names schemas) index
+  pub few : IsKept schemas TooMany
+  pub apart : IsKept schemas DuplicateName
+  pub shallow : IsKept schemas TooDeep
 
 -- Whether one of these types is marked.
 abbrev pub has_chained : List Bool → List ℕ → Bool

@@ -8,7 +8,7 @@ ghost use Rattle.schema_model.specs.Parts.{named_types, referenced_names, type_n
 
 use crate::model::name_index::{NameIndex, find_name};
 use crate::{Field, FieldKind, ModelFault, Name, Rule, Schema, Schemas, Shape};
-use hol_varint::Ordinals;
+use hol_varint::{List, Ordinals};
 use std::alloc::{AllocError, Global};
 
 /// Adds the index of a named type to the row of a type. Whether there is such a type.
@@ -79,13 +79,13 @@ pub(crate) fn check_named_types(
     alloc: Global,
     schemas: &Schemas,
     index: &NameIndex,
-) -> Result<Vec<Ordinals>, ModelFault>
+) -> Result<List<Ordinals>, ModelFault>
     requires indexed { Indexes (type_names schemas.now) index.now }
     requires short { length schemas.now ≤ 512 }
     ensures tells { TellsRule schemas.now Rule.UnknownType result }
-    ensures graph { IfOk result (λ graph. graph.items ≡ type_graph schemas.now) }
+    ensures graph { IfOk result (λ graph. graph ≡ type_graph schemas.now) }
 {
-    let mut graph = Vec::with_capacity(alloc, schemas.len())?;
+    let mut graph = List::with_capacity(alloc, schemas.len())?;
     for type_index in 0..schemas.len() {
         match named_indexes_of(alloc, index, schemas.get(type_index))? {
             Some(row) => graph.push(row)?,

@@ -16,7 +16,7 @@ loop-type_index-preserved c =
     let schema = c.get.result.now in
     let known = known_row schemas (get_by_text c.args.index.now) schema c.in-Some.row c.requires.indexed (sym c.in-Some.is ∙ c.in_ok-row.ensures) in (
       below_more _ _ c.loop-type_index.invariant.0 (names_known schemas c.loop-type_index.type_index schema c.get.ensures known.0),
-      c.in_ok-push-in-Some.ensures.items
+      c.in_ok-push-in-Some.ensures.ok
           ∙ ap (λ graph. graph ++ c.in-Some.row ∷ []) c.loop-type_index.invariant.1
           ∙ ap (λ row. map (named_indexes schemas) (take c.loop-type_index.type_index schemas) ++ row ∷ []) known.1
           ∙ sym (rows_more (named_indexes schemas) schemas c.loop-type_index.type_index schema c.get.ensures),
