@@ -1,4 +1,5 @@
-ghost use Rattle.std.specs.Prelude.{◌≡◌, ◌^◌, ◌<◌, sum, Ok, Err};
+//! The record of an OBJECT type at a place.
+ghost use Rattle.std.specs.Prelude.{Ok, Err};
 ghost use Rattle.hol_varint.specs.Yields.{Yields};
 ghost use Rattle.schema_model.specs.Parts.{shape_fields};
 ghost use Rattle.schema_model.specs.declared.rows.row.Row.{Row as StoredRow};
@@ -8,6 +9,7 @@ ghost use Rattle.object_codec.specs.ObjectPlace.{IsObject, HoldsPlace, SpellsObj
 
 use crate::cell::Cell;
 use crate::value::value;
+use bit_array::total_width;
 use schema_model::{Field, Parts, PlaceFault, Row, Schema, Shape, Values, Widths};
 use std::alloc::Global;
 
@@ -57,14 +59,6 @@ fn read_row<P: Parts>(
     }
 }
 
-/// The width of a record, in bits: its fields' together.
-fn record_size(widths: &[u32]) -> u64
-    requires { sum widths.now < 2 ^ 64 }
-    ensures { result ≡ sum widths.now }
-{
-    widths.iter().map(|width| u64::from(*width)).sum()
-}
-
 /// The values of the record at a place.
 fn read_fields<P: Parts>(
     alloc: Global,
@@ -76,7 +70,7 @@ fn read_fields<P: Parts>(
     requires { HoldsPlace fields.now widths.now (P.first_words parts.now) (P.area_bytes parts.now) place }
     ensures { TellsObject fields.now widths.now (P.first_words parts.now) (P.area_bytes parts.now) place result }
 {
-    let size = record_size(widths);
+    let size = total_width(widths) as u64;
     let Ok(mut values) = Vec::with_capacity(alloc, fields.len()) else {
         return Err(PlaceFault::Memory);
     };

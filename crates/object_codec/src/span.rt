@@ -1,3 +1,4 @@
+//! The variable bytes of a STRING or BYTES.
 ghost use Rattle.std.specs.Prelude.{◌≡◌, ◌-◌, ◌≤◌, length, take, drop, IfOk};
 ghost use Rattle.schema_model.specs.Areas.{area_of};
 ghost use Rattle.object_codec.specs.Cell.{IsWithin};

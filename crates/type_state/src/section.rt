@@ -1,3 +1,4 @@
+//! One type's part of a snapshot, before its rows are read.
 use ordinal_set::OrdinalSet;
 use schema_model::{Areas, Parts, Widths, Words};
 

@@ -2,8 +2,8 @@ use Rattle.std.proofs.Common.{◌↔◌, ap, sym, subst, arith}
 use Rattle.std.specs.Prelude.{IsSome, IsTrue}
 use Rattle.std.proofs.lemmas.Bool.{false≢true}
 use Rattle.schema_model.specs.Table.{IsLive}
-use Rattle.snapshot_blob.proofs.NextStates.{row_of_state, no_row}
-use Rattle.snapshot_blob.proofs.next_rows.NextRowsRows.is_live.Goals as goal
+use Rattle.type_state.proofs.NextStates.{row_of_state, no_row}
+use Rattle.type_state.proofs.views.NextRowsRows.is_live.Goals as goal
 
 pub returns-then-t-len : goal.returns-then-t-len
 returns-then-t-len c =

@@ -1,7 +1,7 @@
 use Rattle.std.proofs.Common.{ap, subst, arith}
 use Rattle.schema_model.specs.Table.{IsBound}
-use Rattle.snapshot_blob.proofs.NextStates.{bound_of_state, bound_of_none}
-use Rattle.snapshot_blob.proofs.next_rows.NextRowsRows.bound.Goals as goal
+use Rattle.type_state.proofs.NextStates.{bound_of_state, bound_of_none}
+use Rattle.type_state.proofs.views.NextRowsRows.bound.Goals as goal
 
 pub returns-then-t-len : goal.returns-then-t-len
 returns-then-t-len c = subst (λ table. IsBound table c.args.t c.next_bound.result) (ap (λ rows. rows.table) c.self.view_is)

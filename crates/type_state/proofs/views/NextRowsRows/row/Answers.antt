@@ -1,8 +1,8 @@
 use Rattle.std.proofs.Common.{◌≡◌, Some, ap, sym, subst}
 use Rattle.std.specs.Prelude.{IfOk, IsSome}
 use Rattle.schema_model.specs.Table.{IsLive, row_at}
-use Rattle.snapshot_blob.proofs.NextStates.{row_of_state}
-use Rattle.snapshot_blob.proofs.next_rows.NextRowsRows.row.Goals as goal
+use Rattle.type_state.proofs.NextStates.{row_of_state}
+use Rattle.type_state.proofs.views.NextRowsRows.row.Goals as goal
 
 pub next_row-requires-clause-live : goal.next_row-requires-clause-live
 next_row-requires-clause-live c =
