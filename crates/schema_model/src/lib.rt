@@ -22,6 +22,7 @@ pub use model::rule::Rule;
 pub use model::{Model, model_of, resolve};
 pub use reason::Reason;
 pub use rows::Rows;
+pub use rows::dangling::{Dangling, first_dangling};
 pub use rows::packed::{Packed, PlaceFault};
 pub use rows::parts::Parts;
 pub use rows::row::{Row, Value};

@@ -96,9 +96,9 @@ pub(crate) fn check_lengths(schemas: &Schemas) -> Result<(), ModelFault>
     requires { length schemas.now ≤ 512 }
     ensures { TellsRule schemas.now Rule.LongName result }
 {
-    for t in 0..schemas.len() {
-        if has_long_name(schemas.get(t)) {
-            return Err(ModelFault::Broken(Rule::LongName, t as u32));
+    for type_index in 0..schemas.len() {
+        if has_long_name(schemas.get(type_index)) {
+            return Err(ModelFault::Broken(Rule::LongName, type_index as u32));
         }
     }
     Ok(())
