@@ -25,7 +25,7 @@ find_same o (e ∷ es) = ap (λ rest. cond (is_eq (nat_cmp o e.0)) (Some e.1) re
 pub get_same : (o : ℕ) (entries : List (ℕ × Row)) → rows.get (rows_of entries) o ≡ lookup (tree.is_at (nat_cmp o)) entries
 get_same o entries = rows.get-from_entries nat_cmp_total entries o ∙ find_same o entries
 
-no_entry : rows.entries (rows.empty {X = Row} {R = nat_cmp}) ≡ []
+pub no_entry : rows.entries (rows.empty {X = Row} {R = nat_cmp}) ≡ []
 no_entry = nil_from_length _ (sym (rows.len-entries rows.empty) ∙ rows.len-empty nat_cmp Row)
 
 put_first : (e : ℕ × Row) (es : List (ℕ × Row)) → IsStrictlySortedBy nat_cmp (keys_of (e ∷ es)) → put nat_cmp e.0 e.1 es ≡ e ∷ es

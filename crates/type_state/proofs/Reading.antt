@@ -86,6 +86,12 @@ pub record Progress (P : Entry → Type 0) (fields : List Field) (widths live : 
   pub total : bytes ≡ bytes_held (values_of es)
   pub few : bytes ≤ number_of_limit Bytes
 
+-- At first none are read.
+pub begun : (P : Entry → Type 0) (fields : List Field) (widths live : List ℕ) (es : List Entry) (ends : List ℕ) → es ≡ [] → ((f : ℕ) → slice_index ends f ≡ 0) → length ends ≡ length fields → Progress P fields widths live 0 es ends 0
+begun P fields widths live es ends none zeros long =
+    subst (λ all. Progress P fields widths live 0 all ends 0) (sym none)
+    record { keys = refl; spelled = λ k d l. absurd (omega arith); held = tt; reached = zeros; long = long; total = refl; few = omega arith }
+
 values_more : (es : List Entry) (o : ℕ) (row : Row) → values_of (es ++ (o, row) ∷ []) ≡ values_of es ++ row ∷ []
 values_more es o row = map-append (λ e. e.1) es ((o, row) ∷ [])
 

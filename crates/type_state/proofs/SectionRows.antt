@@ -75,7 +75,7 @@ value_ranges FieldKind.Boolean part (Value.Bool flag) small h = tt
 value_ranges FieldKind.Text part Value.Null small h = tt
 value_ranges FieldKind.Text part (Value.Text units) small h = h.2.0
 value_ranges FieldKind.Bytes part Value.Null small h = tt
-value_ranges FieldKind.Bytes part (Value.Bytes bytes) small h = ?
+value_ranges FieldKind.Bytes part (Value.Bytes bytes) small h = tt
 value_ranges _ part _ small h = absurd h
 
 -- So are the values of a record whose widths are at most 64.

@@ -1,6 +1,7 @@
 use Rattle.std.specs.FinMap.{entries}
-use Rattle.type_state.specs.Loads.{IsSpelledIn, layout_of}
 use Rattle.type_state.proofs.Reading.{Progress}
+use Rattle.type_state.specs.Loads.{IsSpelledIn, layout_of}
+use Rattle.std.proofs.Common.{◌≡◌}
 use Rattle.type_state.proofs.load.read_listed.Given as goal
 
 abbrev pub invariant-loop-ordinal : goal.invariant-loop-ordinal
