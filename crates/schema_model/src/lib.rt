@@ -24,7 +24,7 @@ pub use reason::Reason;
 pub use rows::Rows;
 pub use rows::dangling::{Dangling, first_dangling};
 pub use rows::packed::{Packed, PlaceFault};
-pub use rows::parts::Parts;
+pub use rows::parts::{Parts, area_byte, area_size};
 pub use rows::row::{Row, Value};
 pub use rows::tree::{Tree, TreePairs, Trees};
 pub use schema::name::Name;

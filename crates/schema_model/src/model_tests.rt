@@ -1,3 +1,4 @@
+//! Tests of models and paths.
 use super::*;
 use std::alloc::{AllocError, Global};
 use std::test::Fail;

@@ -1,3 +1,4 @@
+//! Chains of references from type to type: cycles, and depth.
 ghost use Rattle.std.specs.Prelude.{◌≡◌, ◌<◌, ◌≤◌, ◌+◌, ℕ, length, map, IfOk};
 ghost use Rattle.std.specs.List.{position};
 ghost use Rattle.schema_model.specs.Checked.{TellsRule, chained, has_chained};
@@ -11,12 +12,7 @@ use std::alloc::{AllocError, Global};
 fn has_marked(row: &[u32], marks: &[bool]) -> bool
     ensures { result ≡ has_chained marks.now row.now }
 {
-    for type_index in row {
-        if marks.get(*type_index as usize).copied().unwrap_or(false) {
-            return true;
-        }
-    }
-    false
+    row.iter().any(|type_index| marks.get(*type_index as usize).copied().unwrap_or(false))
 }
 
 /// The first marked type.

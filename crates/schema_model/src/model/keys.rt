@@ -1,3 +1,4 @@
+//! The rule of primary keys: each has a path, and its paths resolve.
 ghost use Rattle.std.specs.Prelude.{◌≡◌, ◌<◌, ◌≤◌, ◌↔◌, length, Any, IfOk, IsTrue};
 ghost use Rattle.schema_model.specs.Checked.{Indexes, TellsRule};
 ghost use Rattle.schema_model.specs.Model.{BreaksAt, IsBadPath, IsKept};

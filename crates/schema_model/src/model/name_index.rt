@@ -1,3 +1,4 @@
+//! Names by the first index at which they stand.
 ghost use Rattle.std.specs.Prelude.{◌≡◌, ◌<◌, ◌≤◌, ◌++◌, ◌∷◌, ◌↔◌, ℕ, List, [], length, IfOk, OnOk, OnErr, is_none, IsTrue, SomeIndex, take};
 ghost use Rattle.std.specs.BTreeMap.{get_by_text};
 ghost use Rattle.schema_model.specs.Checked.{Indexes};

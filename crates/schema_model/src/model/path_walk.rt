@@ -1,3 +1,4 @@
+//! The fields that a path goes through.
 ghost use Rattle.std.specs.Prelude.{◌≡◌, ◌<◌, ◌≤◌, ◌∷◌, [], ℕ, List, length, IfSome, MatchOption};
 ghost use Rattle.schema_model.specs.Checked.{Indexes, TellsField, TellsFields, TellsReferred, TellsWay};
 ghost use Rattle.schema_model.specs.Model.{HasChain, IsKept, type_graph};
@@ -5,7 +6,6 @@ ghost use Rattle.schema_model.specs.Parts.{type_names};
 ghost use Rattle.schema_model.specs.Path.{GoesOn, Leads, RefersTo, path_names};
 
 use crate::model::name_index::{NameIndex, find_name};
-use crate::model::rules::fields_of;
 use crate::{Field, FieldKind, MAX_DEPTH, PathFault, Rule, Schemas};
 use hol_varint::Ordinals;
 use std::alloc::Global;
@@ -64,7 +64,7 @@ fn follow_only_fields(
     let Some(next) = find_name(index, name.text()) else {
         return Err(PathFault::BadPath);
     };
-    let own = fields_of(schemas.get(next as usize));
+    let own = schemas.get(next as usize).shape.fields();
     if own.len() != 1 {
         return Err(PathFault::BadPath);
     }
@@ -87,7 +87,7 @@ fn follow_names(
     requires shallow { IsKept schemas.now Rule.TooDeep }
     ensures { TellsWay (Leads schemas.now type_index (path_names text.now)) fields.old fields.new result }
 {
-    let own = fields_of(schemas.get(type_index as usize));
+    let own = schemas.get(type_index as usize).shape.fields();
     let (name, rest) = first_name(text);
     let Some(place) = field_of(own, name) else {
         return Err(PathFault::BadPath);

@@ -1,3 +1,4 @@
+//! The rule of named types: each is there. The types that each type names, by their indexes.
 ghost use Rattle.std.specs.Prelude.{◌≡◌, ◌≤◌, ◌++◌, ◌∷◌, ◌&&◌, [], length, is_some, IfOk, OnOk, IsTrue};
 ghost use Rattle.std.specs.BTreeMap.{get_by_text};
 ghost use Rattle.std.specs.List.{filter_map, list_all};

@@ -1,30 +1,19 @@
+//! The rules of sizes and of repeated names.
 ghost use Rattle.std.specs.Prelude.{◌≡◌, ◌<◌, ◌≤◌, ◌↔◌, ◌⊎◌, ℕ, List, length, Some, IfOk, OnOk, IsTrue, SomeIndex, slice_get, slice_index_or, []};
 ghost use Rattle.schema_model.specs.Checked.{Indexes, TellsRule};
 ghost use Rattle.schema_model.specs.Model.{BreaksAt, IsKept, StandsEarlier, type_graph};
 ghost use Rattle.schema_model.specs.Parts.{fields_of, type_names};
 
 use crate::model::name_index::{NameIndex, find_name, has_repeated_field};
-use crate::{Field, MAX_FIELDS, MAX_TYPES, ModelFault, Rule, Schema, Schemas, Shape};
+use crate::{MAX_FIELDS, MAX_TYPES, ModelFault, Rule, Schemas};
 use std::alloc::{AllocError, Global};
-
-/// The fields of an OBJECT; the other shapes have none.
-pub(crate) fn fields_of(schema: &Schema) -> &[Field]
-    ensures { result.now ≡ fields_of schema.now }
-{
-    match &schema.shape {
-        Shape::Object(_, fields) => fields.as_slice(),
-        Shape::Set(_) => &[],
-        Shape::List(_) => &[],
-        Shape::Map(_, _) => &[],
-    }
-}
 
 /// Whether a type is past the greatest number of types, or has too many fields.
 fn is_too_many(schemas: &Schemas, type_index: usize) -> bool
     requires { type_index < length schemas.now }
     ensures { IsTrue result ↔ BreaksAt schemas.now Rule.TooMany type_index }
 {
-    let fields = fields_of(schemas.get(type_index));
+    let fields = schemas.get(type_index).shape.fields();
     type_index >= MAX_TYPES as usize || fields.len() > usize::from(MAX_FIELDS)
 }
 
@@ -67,7 +56,7 @@ fn has_repeated_name(
     if stands_earlier(index, schema.name.text(), type_index) {
         return Ok(true);
     }
-    has_repeated_field(alloc, fields_of(schema))
+    has_repeated_field(alloc, schema.shape.fields())
 }
 
 /// Tries the names of types and of fields, which stand once.

@@ -8,7 +8,7 @@ use Rattle.schema_model.proofs.model.path_walk.+follow_names.Goals as goal
 
 pub field_of-requires : goal.field_of-requires
 field_of-requires t c =
-    subst (λ (fields : List Field). length fields ≤ 1024) (sym c.fields_of-own.ensures)
+    subst (λ (fields : List Field). length fields ≤ 1024) (sym c.fields-own.ensures)
     (few_fields c.args.schemas.now c.args.type_index c.get.result.now c.get.ensures c.requires.1.1.1.1.0)
 
 pub follow_only_fields-requires-clause-shallow : goal.follow_only_fields-requires-clause-shallow
@@ -18,16 +18,16 @@ pub returns-in_default : goal.returns-in_default
 returns-in_default t c =
     let schemas = c.args.schemas.now in
     let behind = behind_first c.first_name.result.1 (λ rest. path_names rest.now) c.first_name.result.0.now (path_names c.args.text.now) c.first_name.ensures.names in
-    λ way leads. no_lead_name schemas c.args.type_index c.get.result.now c.fields_of-own.result.now c.first_name.result.0.now behind.0 c.get.ensures c.fields_of-own.ensures c.in_default.ensures way
+    λ way leads. no_lead_name schemas c.args.type_index c.get.result.now c.fields-own.result.now c.first_name.result.0.now behind.0 c.get.ensures c.fields-own.ensures c.in_default.ensures way
     (subst (λ names. Leads schemas c.args.type_index names way) behind.1 leads)
 
 pub returns-in_default-rest : goal.returns-in_default-rest
 returns-in_default-rest t c =
     let schemas = c.args.schemas.now in
-    let own = c.fields_of-own.result.now in
+    let own = c.fields-own.result.now in
     let name = c.first_name.result.0.now in
     let item = c.index-own-place.result in
-    let has = found_field schemas c.args.type_index c.in-Some.place c.get.result.now own name item c.get.ensures c.fields_of-own.ensures c.in-Some.ensures c.index-own-place.is in
+    let has = found_field schemas c.args.type_index c.in-Some.place c.get.result.now own name item c.get.ensures c.fields-own.ensures c.in-Some.ensures c.index-own-place.is in
     let one : path_names c.args.text.now ≡ name ∷ [] = names_last c.first_name.result.1 (λ rest. path_names rest.now) name (path_names c.args.text.now) c.in_default-rest.is c.first_name.ensures.names in
     let way = subst (λ (f : Field). TellsWay (GoesOn schemas f.kind) c.push.new.self c.follow_only_fields.new.fields c.follow_only_fields.result) (sym c.index-own-place.is) c.follow_only_fields.ensures in
     subst (λ names. TellsWay (Leads schemas c.args.type_index names) c.args.fields.now c.follow_only_fields.new.fields c.follow_only_fields.result) (sym one)
@@ -36,10 +36,10 @@ returns-in_default-rest t c =
 pub returns-in_default-referred : goal.returns-in_default-referred
 returns-in_default-referred t c =
     let schemas = c.args.schemas.now in
-    let own = c.fields_of-own.result.now in
+    let own = c.fields-own.result.now in
     let name = c.first_name.result.0.now in
     let item = c.index-own-place.result in
-    let has = found_field schemas c.args.type_index c.in-Some.place c.get.result.now own name item c.get.ensures c.fields_of-own.ensures c.in-Some.ensures c.index-own-place.is in
+    let has = found_field schemas c.args.type_index c.in-Some.place c.get.result.now own name item c.get.ensures c.fields-own.ensures c.in-Some.ensures c.index-own-place.is in
     let (next, names, some) = some_name c.in-Some-rest.rest.now in
     let all : path_names c.args.text.now ≡ name ∷ next ∷ names = names_rest c.first_name.result.1 (λ rest. path_names rest.now) name (path_names c.args.text.now) c.in-Some-rest.rest c.in-Some-rest.is c.first_name.ensures.names ∙ ap (λ ns. name ∷ ns) some in
     λ way leads. no_lead_on schemas c.args.type_index c.in-Some.place item name next names c.requires.1.1.1.1.1.0 has.0 has.1
@@ -57,10 +57,10 @@ follow_names-requires t c =
 pub returns : goal.returns
 returns t c =
     let schemas = c.args.schemas.now in
-    let own = c.fields_of-own.result.now in
+    let own = c.fields-own.result.now in
     let name = c.first_name.result.0.now in
     let item = c.index-own-place.result in
-    let has = found_field schemas c.args.type_index c.in-Some.place c.get.result.now own name item c.get.ensures c.fields_of-own.ensures c.in-Some.ensures c.index-own-place.is in
+    let has = found_field schemas c.args.type_index c.in-Some.place c.get.result.now own name item c.get.ensures c.fields-own.ensures c.in-Some.ensures c.index-own-place.is in
     let (next, names, some) = some_name c.in-Some-rest.rest.now in
     let all : path_names c.args.text.now ≡ name ∷ next ∷ names = names_rest c.first_name.result.1 (λ rest. path_names rest.now) name (path_names c.args.text.now) c.in-Some-rest.rest c.in-Some-rest.is c.first_name.ensures.names ∙ ap (λ ns. name ∷ ns) some in
     let refers = subst (λ (f : Field). RefersTo schemas f.kind c.in-Some-referred.next) (sym c.index-own-place.is) c.in-Some-referred.ensures in

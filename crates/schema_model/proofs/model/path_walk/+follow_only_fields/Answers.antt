@@ -21,7 +21,7 @@ pub returns-then-own-ne1 : goal.returns-then-own-ne1
 returns-then-own-ne1 t c =
     let index = looked_up c.args.schemas.now (get_by_text c.args.index.now) c.requires.indexed c.in-Reference.name c.text.result.now c.find_name.result c.text.ensures c.find_name.ensures ∙ c.in-Some.is in
     no_way_many c.args.schemas.now c.args.kind.now c.in-Some.next c.get.result.now (c.in-Reference.name, ap referenced c.in-Reference.is, index) c.get.ensures
-    (λ one. c.if-own-ne1.true (ap length c.fields_of-own.ensures ∙ one))
+    (λ one. c.if-own-ne1.true (ap length c.fields-own.ensures ∙ one))
 
 pub overflow_sub-depth : goal.overflow_sub-depth
 overflow_sub-depth t c =
@@ -37,7 +37,7 @@ follow_only_fields-requires t c =
     let refers : RefersTo schemas c.args.kind.now next = (c.in-Reference.name, ap referenced c.in-Reference.is, index) in
     let shallow = c.requires.shallow next refers in
     let deep = deep_enough schemas c.args.depth next (type_inside schemas c.in-Reference.name next index) shallow in
-    let has = only_from schemas next c.get.result.now c.fields_of-own.result.now c.index-own-0.result c.get.ensures c.fields_of-own.ensures c.if-own-ne1.false c.index-own-0.is in (
+    let has = only_from schemas next c.get.result.now c.fields-own.result.now c.index-own-0.result c.get.ensures c.fields-own.ensures c.if-own-ne1.false c.index-own-0.is in (
       omega arith,
       (
         c.requires.indexed,
@@ -52,6 +52,6 @@ returns t c =
     let next = c.in-Some.next in
     let index = looked_up schemas (get_by_text c.args.index.now) c.requires.indexed c.in-Reference.name c.text.result.now c.find_name.result c.text.ensures c.find_name.ensures ∙ c.in-Some.is in
     let refers : RefersTo schemas c.args.kind.now next = (c.in-Reference.name, ap referenced c.in-Reference.is, index) in
-    let has = only_from schemas next c.get.result.now c.fields_of-own.result.now c.index-own-0.result c.get.ensures c.fields_of-own.ensures c.if-own-ne1.false c.index-own-0.is in
+    let has = only_from schemas next c.get.result.now c.fields-own.result.now c.index-own-0.result c.get.ensures c.fields-own.ensures c.if-own-ne1.false c.index-own-0.is in
     way_on schemas c.args.kind.now next c.index-own-0.result c.args.fields.now c.push.new.self c.follow_only_fields.new.fields c.follow_only_fields.result refers has c.in_ok-push.ensures.ok
     (subst (λ (f : Field). TellsWay (GoesOn schemas f.kind) c.push.new.self c.follow_only_fields.new.fields c.follow_only_fields.result) (sym c.index-own-0.is) c.follow_only_fields.ensures)

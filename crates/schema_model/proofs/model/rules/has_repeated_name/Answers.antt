@@ -10,7 +10,7 @@ use Rattle.schema_model.proofs.model.rules.has_repeated_name.Goals as goal
 
 pub has_repeated_field-requires : goal.has_repeated_field-requires
 has_repeated_field-requires c =
-    subst (λ (fields : List Field). length fields ≤ 1024) (sym c.fields_of.ensures)
+    subst (λ (fields : List Field). length fields ≤ 1024) (sym c.fields.ensures)
     (few_fields c.args.schemas.now c.args.type_index c.get-schema.result.now c.get-schema.ensures c.requires.few)
 
 pub returns : goal.returns
@@ -23,5 +23,5 @@ returns c =
     let first : StandsEarlier (type_names schemas) c.args.type_index → ⊥ =
     told_no _ (c.stands_earlier.ensures (type_names schemas) c.requires.indexed inside name) c.if-stands_earlier.false in
     IfOk-weaker c.has_repeated_field.result _ _
-    (λ b tells. repeated_name schemas c.args.type_index schema c.get-schema.ensures first c.fields_of.result.now c.fields_of.ensures b tells)
+    (λ b tells. repeated_name schemas c.args.type_index schema c.get-schema.ensures first c.fields.result.now c.fields.ensures b tells)
     c.has_repeated_field.ensures
