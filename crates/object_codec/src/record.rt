@@ -10,7 +10,7 @@ ghost use Rattle.object_codec.specs.ObjectPlace.{IsObject, HoldsPlace, SpellsObj
 use crate::cell::Cell;
 use crate::value::value;
 use bit_array::total_width;
-use schema_model::{Field, Parts, PlaceFault, Row, Schema, Shape, Values, Widths};
+use schema_model::{Field, Parts, PlaceFault, Row, Schema, Values, Widths};
 use std::alloc::Global;
 
 /// The record that the parts of an OBJECT type spell at a place.
@@ -50,13 +50,9 @@ fn read_row<P: Parts>(
     requires holds { HoldsPlace (shape_fields schema.now.shape) widths.now (P.first_words parts.now) (P.area_bytes parts.now) place }
     ensures { TellsObjectRow schema.now.shape widths.now (P.first_words parts.now) (P.area_bytes parts.now) place result }
 {
-    match &schema.shape {
-        Shape::Object(_, fields) => {
-            let values = read_fields(alloc, fields.as_slice(), widths.as_slice(), parts, place)?;
-            Ok(Row::Object(values))
-        }
-        _ => unreachable!(),
-    }
+    let fields = schema.shape.fields();
+    let values = read_fields(alloc, fields, widths.as_slice(), parts, place)?;
+    Ok(Row::Object(values))
 }
 
 /// The values of the record at a place.
@@ -71,9 +67,7 @@ fn read_fields<P: Parts>(
     ensures { TellsObject fields.now widths.now (P.first_words parts.now) (P.area_bytes parts.now) place result }
 {
     let size = total_width(widths) as u64;
-    let Ok(mut values) = Vec::with_capacity(alloc, fields.len()) else {
-        return Err(PlaceFault::Memory);
-    };
+    let mut values = Vec::with_capacity(alloc, fields.len())?;
     let mut before = 0;
     for (index, field) in fields.iter().enumerate() {
         let width = widths[index];
@@ -85,9 +79,7 @@ fn read_fields<P: Parts>(
             field: index as u32,
         };
         let value = value(alloc, parts, &field.kind, cell)?;
-        if values.push(value).is_err() {
-            return Err(PlaceFault::Memory);
-        }
+        values.push(value)?;
         before += u64::from(width);
     }
     Ok(Values::from_vec(values))

@@ -52,8 +52,5 @@ pub fn span<P: Parts>(
     if is_null {
         return Ok(None);
     }
-    match copy(alloc, parts, cell.field, start, end) {
-        Ok(bytes) => Ok(Some(bytes)),
-        Err(_) => Err(PlaceFault::Memory),
-    }
+    Ok(Some(copy(alloc, parts, cell.field, start, end)?))
 }

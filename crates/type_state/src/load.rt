@@ -4,7 +4,7 @@ ghost use Rattle.std.specs.FinMap.{entries};
 ghost use Rattle.std.specs.List.Sorted.{IsStrictlyIncreasing};
 ghost use Rattle.schema_model.specs.Parts.{shape_fields};
 ghost use Rattle.type_state.specs.Layout.{places_of};
-ghost use Rattle.type_state.specs.WellFormed.{IsBuilt, IsReadable};
+ghost use Rattle.type_state.specs.WellFormed.{IsReadable};
 ghost use Rattle.type_state.specs.Loads.{Loads, RefusesLoad, TellsRow, AreRead, RefusesRows, layout_of};
 
 use crate::count::row_len;
@@ -14,19 +14,8 @@ use crate::words::{places, words_needed};
 use crate::{RowFault, Section};
 use hol_varint::Duplicate;
 use object_codec::read;
-use schema_model::{Field, Limit, MAX_BYTES, MAX_WORDS, PlaceFault, Reason, Row, Schema, Shape};
+use schema_model::{Limit, MAX_BYTES, MAX_WORDS, PlaceFault, Reason, Row, Schema};
 use std::alloc::Global;
-
-/// The fields of an OBJECT type.
-fn fields_of(schema: &Schema) -> &[Field]
-    requires { IsBuilt schema.now.shape }
-    ensures { result.now ≡ shape_fields schema.now.shape }
-{
-    match &schema.shape {
-        Shape::Object(_, fields) => fields.as_slice(),
-        _ => unreachable!(),
-    }
-}
 
 /// The row at the place of an ordinal.
 fn read_row(
@@ -63,7 +52,7 @@ fn read_rows(alloc: Global, schema: &Schema, section: &Section) -> Result<Kept, 
     ensures layout { IfOk result (λ half. half.layout ≡ layout_of section.now) }
 {
     let ordinals = section.live.ordinals(alloc)?;
-    let fields = fields_of(schema);
+    let fields = schema.shape.fields();
     let mut ends = vec![in alloc; 0u64; fields.len()]?;
     read_listed(alloc, schema, section, ordinals.as_slice(), &mut ends)
 }
@@ -85,7 +74,7 @@ fn read_listed(
     ensures read { MatchResult result (λ half. AreRead schema.now.shape section.now (entries half.rows)) (RefusesRows schema.now.shape section.now) }
     ensures layout { IfOk result (λ half. half.layout ≡ layout_of section.now) }
 {
-    let fields = fields_of(schema);
+    let fields = schema.shape.fields();
     let widths = section.widths.as_slice();
     let mut half = Kept::new(alloc, section.max, section.widths.copy(alloc)?);
     let mut bytes: u64 = 0;

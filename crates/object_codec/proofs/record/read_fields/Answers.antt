@@ -2,7 +2,7 @@ use Rattle.std.proofs.Common.{rules, Err, arith, sym, subst, get_or}
 use Rattle.object_codec.specs.Cell.{IsWithin}
 use Rattle.object_codec.specs.ObjectPlace.{SpellsObject, TellsObject}
 use Rattle.object_codec.proofs.Widths.{record_fits, widths_long, within, wide_at}
-use Rattle.object_codec.proofs.Fields.{stepped, failed, finished, pushed}
+use Rattle.object_codec.proofs.Fields.{stepped, failed, finished}
 use Rattle.object_codec.proofs.record.read_fields.Goals as goal
 
 pub overflow_cast-size : goal.overflow_cast-size
@@ -38,7 +38,7 @@ overflow_add-before g c =
 
 pub loop-index-preserved : goal.loop-index-preserved
 loop-index-preserved g c =
-    rw (c.from-before.ensures, pushed c.push.result c.is_err.result _ _ _ c.is_err.ensures.value c.if-is_err.false c.push.ensures.items)
+    rw (c.from-before.ensures, c.in_ok-push.ensures.items)
     (stepped c.args.fields.now c.args.widths.now _ _ c.total_width-size.result _ c.loop-index.index c.loop-index.before c.loop-index.values.items c.index-fields-index.result c.in_ok-value.value
     c.requires (omega arith) c.index-fields-index.is c.total_width-size.ensures.total c.loop-index.invariant c.in_ok-value.ensures)
 
