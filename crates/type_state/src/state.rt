@@ -61,6 +61,7 @@ impl TypeState {
         ensures exact { Yields IsFreeRow result (Ok tt) ((rows : RowMap) × Loads self.old.schema.shape section.now rows) }
         ensures tells { TellsLoad self.old.schema.shape section.now self.new.other.rows result }
         ensures layout { OnOk result (self.new.other.layout ≡ layout_of section.now) }
+        ensures laid { OnOk result (IsLaidOut self.new.schema self.new.other) }
         ensures schema { self.new.schema ≡ self.old.schema }
         ensures current { self.new.current ≡ self.old.current }
     {
