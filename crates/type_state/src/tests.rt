@@ -1,1 +1,139 @@
 //! Tests: a type through two loads, and sections that are refused.
+ghost use Rattle.std.specs.Prelude.{◌≡◌, ◌<◌, ◌∷◌, [], Some, length, IfOk, OnOk};
+ghost use Rattle.std.specs.List.{AllZip};
+ghost use Rattle.schema_model.specs.Parts.{shape_fields};
+ghost use Rattle.object_codec.specs.ObjectPlace.{IsFieldWidth};
+ghost use Rattle.type_state.specs.WellFormed.{IsBuilt};
+ghost use Rattle.type_state.specs.State.{IsLaidOut};
+
+use super::*;
+use hol_varint::Octets;
+use ordinal_set::OrdinalSet;
+use schema_model::{
+    Areas, Field, FieldKind, Fields, Name, Reason, Row, Schema, Shape, Widths, Words,
+};
+use std::alloc::{AllocError, Global};
+use std::test::Fail;
+
+/// A type with an INT and a STRING.
+fn schema(alloc: Global) -> Result<Schema, AllocError>
+    ensures built { IfOk result (λ schema. IsBuilt schema.shape) }
+    ensures wide { IfOk result (λ schema. AllZip IsFieldWidth (shape_fields schema.shape) (4 ∷ 4 ∷ [])) }
+{
+    let items = vec![in alloc;
+        Field {
+            name: Name::from_text(alloc, "n")?,
+            kind: FieldKind::Int
+        },
+        Field {
+            name: Name::from_text(alloc, "s")?,
+            kind: FieldKind::Text
+        },
+    ]?;
+    Ok(Schema {
+        name: Name::from_text(alloc, "A")?,
+        shape: Shape::Object(None, Fields::from_vec(items)),
+    })
+}
+
+/// A section whose records have 8 bits, and whose STRINGs have the bytes of "Hi" and "é".
+fn section(alloc: Global, max: u32, live: u64, word: u64) -> Result<Section, AllocError>
+    ensures max { IfOk result (λ section. section.max ≡ Some max) }
+    ensures widths { IfOk result (λ section. section.widths ≡ 4 ∷ 4 ∷ []) }
+    ensures words { IfOk result (λ section. length section.first ≡ 1) }
+    ensures areas { IfOk result (λ section. length section.areas ≡ 2) }
+{
+    let text = vec![in alloc; 0x48, 0x69, 0x81, 0x69]?;
+    let areas = vec![in alloc; Octets::new(alloc), Octets::from_vec(text)]?;
+    Ok(Section {
+        max: Some(max),
+        widths: Widths::from_vec(vec![in alloc; 4, 4]?),
+        total: 0,
+        first: Words::from_vec(vec![in alloc; word]?),
+        second: Words::new(alloc),
+        areas: Areas::from_vec(areas),
+        live: OrdinalSet::from_words(vec![in alloc; live]?),
+    })
+}
+
+/// Loads such a section.
+fn load_word(
+    alloc: Global,
+    state: &mut TypeState,
+    max: u32,
+    live: u64,
+    word: u64,
+) -> Result<Result<(), RowFault>, AllocError>
+    requires place { max < 8 }
+    requires built { IsBuilt state.old.schema.shape }
+    requires wide { AllZip IsFieldWidth (shape_fields state.old.schema.shape) (4 ∷ 4 ∷ []) }
+    ensures schema { state.new.schema ≡ state.old.schema }
+    ensures laid { IfOk result (λ loaded. OnOk loaded (IsLaidOut state.new.schema state.new.other)) }
+{
+    let section = section(alloc, max, live, word)?;
+    Ok(state.load_next(&section))
+}
+
+/// Loads such a section, and makes its rows the current ones. Tells whether it was loaded.
+fn step(
+    alloc: Global,
+    state: &mut TypeState,
+    max: u32,
+    live: u64,
+    word: u64,
+) -> Result<bool, AllocError>
+    requires place { max < 8 }
+    requires built { IsBuilt state.old.schema.shape }
+    requires wide { AllZip IsFieldWidth (shape_fields state.old.schema.shape) (4 ∷ 4 ∷ []) }
+    ensures { state.new.schema ≡ state.old.schema }
+{
+    let loaded = load_word(alloc, state, max, live, word)?;
+    if loaded.is_ok() {
+        state.flip();
+    }
+    Ok(loaded.is_ok())
+}
+
+/// What is answered where such a section is loaded, as its text.
+fn answer(alloc: Global, live: u64, word: u64) -> Result<String, AllocError> {
+    let mut state = TypeState::new(alloc, schema(alloc)?);
+    let loaded = load_word(alloc, &mut state, 2, live, word)?;
+    format!(in alloc; "{loaded:?}")
+}
+
+/// The row of the next half under an ordinal, as its text.
+fn next_text(alloc: Global, state: &TypeState, ordinal: u32) -> Result<String, AllocError>
+    requires { IsLaidOut state.now.schema state.now.other }
+{
+    if !state.next_is_live(ordinal) {
+        return Ok(String::new(alloc));
+    }
+    let row = state.next_row(alloc, ordinal)?;
+    format!(in alloc; "{row:?}")
+}
+
+#[test]
+fn next_half(rt: HostRuntime) -> Result<(), Fail> {
+    let alloc = rt.alloc();
+    let mut state = TypeState::new(alloc, schema(alloc)?);
+    let loaded = load_word(alloc, &mut state, 2, 0b101, 0x4F_20_2A)?;
+    assert!(rt; loaded.is_ok());
+    let row = next_text(alloc, &state, 0)?;
+    assert_eq!(rt;
+        row.as_str(),
+        "Object(List { items: [Int(5), Text(List { items: [72, 105] })] })"
+    );
+    Ok(())
+}
+
+#[test]
+fn refusals(rt: HostRuntime) -> Result<(), Fail> {
+    let alloc = rt.alloc();
+    let above = answer(alloc, 0b1001, 0x4F_20_2A)?;
+    assert_eq!(rt; above.as_str(), "Err(At(BadOrdinals, 3))");
+    let pointers = answer(alloc, 0b101, 0x5F_20_2A)?;
+    assert_eq!(rt; pointers.as_str(), "Err(At(BadPointers, 2))");
+    let width = answer(alloc, 0b101, 0x4F_00_4A)?;
+    assert_eq!(rt; width.as_str(), "Err(At(BadWidth, 2))");
+    Ok(())
+}
