@@ -112,6 +112,24 @@ fn next_text(alloc: Global, state: &TypeState, ordinal: u32) -> Result<String, A
     format!(in alloc; "{row:?}")
 }
 
+/// The row of the current state under an ordinal, as its text.
+fn text(alloc: Global, state: &TypeState, ordinal: u32) -> Result<String, AllocError> {
+    if !state.is_live(ordinal) {
+        return Ok(String::new(alloc));
+    }
+    let row = state.row(alloc, ordinal)?;
+    format!(in alloc; "{row:?}")
+}
+
+/// The row of the state before under an ordinal, as its text.
+fn text_before(alloc: Global, state: &TypeState, ordinal: u32) -> Result<String, AllocError> {
+    if !state.was_live(ordinal) {
+        return Ok(String::new(alloc));
+    }
+    let row = state.row_before(alloc, ordinal)?;
+    format!(in alloc; "{row:?}")
+}
+
 #[test]
 fn next_half(rt: HostRuntime) -> Result<(), Fail> {
     let alloc = rt.alloc();
@@ -122,6 +140,24 @@ fn next_half(rt: HostRuntime) -> Result<(), Fail> {
     assert_eq!(rt;
         row.as_str(),
         "Object(List { items: [Int(5), Text(List { items: [72, 105] })] })"
+    );
+    Ok(())
+}
+
+#[test]
+fn two_states(rt: HostRuntime) -> Result<(), Fail> {
+    let alloc = rt.alloc();
+    let mut state = TypeState::new(alloc, schema(alloc)?);
+    let first = step(alloc, &mut state, 2, 0b101, 0x4F_20_2A)?;
+    assert!(rt; first);
+    let second = step(alloc, &mut state, 1, 0b11, 0x2E_85)?;
+    assert!(rt; second);
+    let row = text(alloc, &state, 0)?;
+    assert_eq!(rt; row.as_str(), "Object(List { items: [Int(-3), Null] })");
+    let before = text_before(alloc, &state, 2)?;
+    assert_eq!(rt;
+        before.as_str(),
+        "Object(List { items: [Null, Text(List { items: [233] })] })"
     );
     Ok(())
 }
