@@ -2,7 +2,6 @@ pub mod Accepting
 pub mod FieldWidths
 pub mod Items
 pub mod LoadedTypes
-pub mod NextStates
 pub mod PartLists
 pub mod Readable
 pub mod Sections

@@ -18,14 +18,6 @@ pub record TypeIs (part : TypePart) (half : Half) : Type 0 where
   pub layout : half.layout ≡ layout_of part.section
   pub held : Holds part.schema.shape half.layout half.rows
 
--- the rows of each type
-abbrev pub table_of : List Half → Table
-table_of halves = map (λ half. half.rows) halves
-
--- the state that was read stands in the next halves of its types
-abbrev pub next_halves : List State → List Half
-next_halves states = map (λ state. state.other) states
-
 -- The parts are those of this state: the schemas are a model, each type's part is that of its rows, and each ordinal
 -- that a row names is live.
 pub record PartsAre (parts : List TypePart) (schemas : List Schema) (halves : List Half) : Type 0 where

@@ -5,7 +5,6 @@ mod body;
 mod envelope;
 pub mod laws;
 mod loaded;
-mod next_rows;
 mod part;
 mod parts;
 mod section;
@@ -14,6 +13,5 @@ mod types;
 mod widths;
 
 pub use loaded::Loaded;
-pub use next_rows::NextRows;
 pub use part::TypePart;
 pub use snapshot::read_snapshot;

@@ -1,10 +1,10 @@
+//! The rows of some states, as those of a model's types.
 ghost use Rattle.std.specs.Prelude.{◌≡◌};
-ghost use Rattle.snapshot_blob.specs.NextRows.{AreNext};
-ghost use Rattle.snapshot_blob.specs.Types.{table_of, next_halves};
+ghost use Rattle.type_state.specs.Views.{AreNext, table_of, next_halves};
 
+use crate::TypeStates;
 use schema_model::{Model, Row, Rows};
 use std::alloc::{AllocError, Global};
-use type_state::TypeStates;
 
 /// The rows that stand in the next halves of the types of a model.
 #[derive(Drop)]
@@ -14,8 +14,7 @@ pub struct NextRows<'a> {
 }
 
 impl<'a> std::marker::Model for NextRows<'a> {
-    ghost use Rattle.snapshot_blob.specs.NextRows.{Content, content_code, AreNext};
-    ghost use Rattle.snapshot_blob.specs.Types.{table_of, next_halves};
+    ghost use Rattle.type_state.specs.Views.{Content, content_code, AreNext, table_of, next_halves};
 
     ghost Value = { Content };
 
@@ -46,25 +45,27 @@ impl<'a> Rows for NextRows<'a> {
         self.model
     }
 
-    fn bound(&self, t: u32) -> u32 {
-        let t = t as usize;
-        if t < self.states.len() {
-            self.states.get(t).next_bound()
+    fn bound(&self, type_index: u32) -> u32 {
+        let type_index = type_index as usize;
+        if type_index < self.states.len() {
+            self.states.get(type_index).next_bound()
         } else {
             0
         }
     }
 
-    fn is_live(&self, t: u32, o: u32) -> bool {
-        let t = t as usize;
-        if t < self.states.len() {
-            self.states.get(t).next_is_live(o)
+    fn is_live(&self, type_index: u32, ordinal: u32) -> bool {
+        let type_index = type_index as usize;
+        if type_index < self.states.len() {
+            self.states.get(type_index).next_is_live(ordinal)
         } else {
             false
         }
     }
 
-    fn row(&self, alloc: Global, t: u32, o: u32) -> Result<Row, AllocError> {
-        self.states.get(t as usize).next_row(alloc, o)
+    fn row(&self, alloc: Global, type_index: u32, ordinal: u32) -> Result<Row, AllocError> {
+        self.states
+            .get(type_index as usize)
+            .next_row(alloc, ordinal)
     }
 }

@@ -10,7 +10,7 @@ use Rattle.ordinal_set.specs.Ordinals.{bound_of}
 use Rattle.schema_model.specs.declared.rows.row.Row.{Row}
 use Rattle.schema_model.specs.Table.{RowMap, row_at, IsLive, IsBound}
 use Rattle.type_state.specs.State.{State}
-use Rattle.snapshot_blob.specs.Types.{table_of, next_halves}
+use Rattle.type_state.specs.Views.{table_of, next_halves}
 
 -- the row of a type is that of its state
 pub row_of_state : (states : List State) (t o : ℕ) (state : State) → slice_get states t ≡ Some state → row_at (table_of (next_halves states)) t o ≡ get state.other.rows o

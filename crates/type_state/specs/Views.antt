@@ -1,4 +1,4 @@
--- The rows that stand in the next halves of the types of a model.
+-- Some states seen as one: the rows that stand in the next halves of the types of a model, as a table.
 use Rattle.std.specs.Prelude.{◌≡◌, List, map, refl, All}
 use Rattle.std.specs.Coded.{Coded, code_by, coded×, coded_ℕ, coded_list}
 use Rattle.std.specs.FinMap.{code}
@@ -6,8 +6,15 @@ use Rattle.schema_model.specs.declared.schema.Schema.{Schema}
 use Rattle.schema_model.specs.contracts.schema.Schema as schema_contract
 use Rattle.schema_model.specs.contracts.rows.row.Row as row_contract
 use Rattle.schema_model.specs.Table.{Table, IsTableOf}
-use Rattle.type_state.specs.State.{State, IsLaidOut}
-use Rattle.snapshot_blob.specs.Types.{table_of, next_halves}
+use Rattle.type_state.specs.State.{Half, State, IsLaidOut}
+
+-- The rows of each type.
+abbrev pub table_of : List Half → Table
+table_of halves = map (λ half. half.rows) halves
+
+-- The halves that come next, those beside the current ones.
+abbrev pub next_halves : List State → List Half
+next_halves states = map (λ state. state.other) states
 
 -- A table, and the schemas of its types.
 pub record Content : Type 0 where
