@@ -4,6 +4,7 @@ use Rattle.std.proofs.lemmas.Bool.{cases_lt}
 use Rattle.std.proofs.lemmas.Nat.{leading_length, pow_pos}
 use Rattle.std.proofs.lemmas.Int.Digits.{length-digits_of_step, length-digits_of-le, number_lt, number_digits_of, all_below_base_digits_of}
 use Rattle.std.proofs.Math.Nat.{pow-suc}
+use Rattle.std.proofs.lemmas.Nat.Bits.{ones_shr}
 use Rattle.std.specs.Int.Count.{count_leading_zeros}
 use Rattle.std.specs.Int.Digits.{digits_of}
 use Rattle.bit_array.specs.Digits.{digit_count}
@@ -55,3 +56,9 @@ digit_count-least x h =
           absurd (omega arith)
       | inr large ↦ large
     ]
+
+-- the greatest of 64 bits, shifted so that so many are left
+pub all_ones_shifted : (width : ℕ) → width ≤ 64 → 18446744073709551615 / 2 ^ (64 - width) ≡ 2 ^ width - 1
+all_ones_shifted width within =
+    let e : 64 - (64 - width) ≡ width = omega arith in
+    ones_shr 64 (64 - width) (omega arith) ∙ ap (λ k. 2 ^ k - 1) e

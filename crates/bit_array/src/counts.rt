@@ -1,4 +1,5 @@
-ghost use Rattle.std.specs.Prelude.{◌≡◌, ◌-◌, ◌^◌, ◌<◌, ◌≤◌};
+//! Counts of digits, bits and words.
+ghost use Rattle.std.specs.Prelude.{◌≡◌, ◌-◌, ◌^◌, ◌<◌, ◌≤◌, sum};
 ghost use Rattle.bit_array.specs.Digits.{digit_count};
 ghost use Rattle.bit_array.specs.Element.{words_of};
 
@@ -17,4 +18,24 @@ pub fn words_for(bits: u64) -> u64
     ensures { result ≡ words_of bits }
 {
     bits.div_ceil(64)
+}
+
+/// The element of a width, in bits, that has ones alone: null where a format has it so. At width 0 it is 0.
+#[tactic(auto, using(crate::proofs::DigitCounts::all_ones_shifted))]
+pub fn all_ones(width: u32) -> u64
+    requires { width ≤ 64 }
+    ensures { result ≡ 2 ^ width - 1 }
+{
+    if width == 0 {
+        return 0;
+    }
+    u64::MAX >> (64 - width)
+}
+
+/// How many bits elements of these widths take together.
+pub fn total_width(widths: &[u32]) -> u128
+    ensures total { result ≡ sum widths.now }
+    ensures small { result < 2 ^ 96 }
+{
+    widths.iter().map(|width| u128::from(*width)).sum()
 }

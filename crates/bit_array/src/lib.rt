@@ -4,7 +4,7 @@
 mod counts;
 mod words;
 
-pub use counts::{digits, words_for};
+pub use counts::{all_ones, digits, total_width, words_for};
 pub use words::element;
 
 #[cfg(test)]

@@ -1,3 +1,4 @@
+//! Elements and counts of worked words.
 use super::*;
 
 #[test]

@@ -1,3 +1,4 @@
+//! Elements in words.
 ghost use Rattle.std.specs.Prelude.{◌≡◌, ◌+◌, ◌*◌, ◌%◌, ◌^◌, ◌≤◌, length};
 ghost use Rattle.bit_array.specs.Element.{element_of};
 

@@ -1,6 +1,6 @@
 -- What contracts see of a source, a sink and a store in memory.
 use Rattle.std.specs.Prelude.{ℕ, ◌+◌, ◌-◌, min, List, length, refl}
-use Rattle.std.specs.Coded.{Coded, code_by, coded×}
+use Rattle.std.specs.Coded.{Coded, code_by, coded×, coded_ℕ}
 use Rattle.hol_io.specs.Calls.{Calls, calls_code}
 use Rattle.hol_io.specs.Store.{Store, store_code}
 
@@ -24,6 +24,15 @@ pub record MemorySink : Type 0 where
 -- How many bytes the next call may take.
 abbrev pub space : MemorySink → ℕ
 space sink = min sink.piece (sink.room - length sink.taken)
+
+-- The names and their contents, and how often something was put.
+pub record SureContent : Type 0 where
+  pub held : Store
+  pub puts : ℕ
+
+-- A store in memory that never fails is told apart by its fields.
+abbrev pub sure_content_code : Coded SureContent
+sure_content_code = code_by (Store × ℕ) (coded× store_code coded_ℕ) (λ s. (s.held, s.puts)) (λ p. record { held = p.0; puts = p.1 }) (λ _. refl)
 
 -- The names and their contents, the calls that read or list, and the puts.
 pub record MemoryStore : Type 0 where

@@ -15,10 +15,12 @@ Store = map.FinMap name_cmp (List ℕ)
 abbrev pub store_code : Coded Store
 store_code = map.code (blob_name.the_row).coded (coded_list coded_ℕ)
 
--- What is seen of a store from outside: the names and their contents, where it tells them, and how many faults came so far.
+-- What is seen of a store from outside: the names and their contents, where it tells them, how many faults came so far,
+-- and how often something was put.
 pub record Seen : Type 0 where
   pub held : Option Store
   pub faults : ℕ
+  pub puts : ℕ
 
 -- The content that a store tells for a name: none where it tells nothing or has no such name.
 abbrev pub told : Option Store → BlobName → Option (List ℕ)

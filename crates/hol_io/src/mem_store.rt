@@ -26,7 +26,7 @@ impl Model for MemStore {
 
     ghost coded = { memory_store_code };
 
-    ghost view = { λ s. record { held = s.store; reads = s.reads; puts = s.puts } };
+    ghost view = { λ s. record { held = s.store.held; reads = s.reads; puts = s.puts } };
 }
 
 impl MemStore {
@@ -57,7 +57,7 @@ impl BlobStore for MemStore {
     ghost use Rattle.hol_io.specs.Buffer.{KeepsRest};
     ghost use Rattle.hol_io.specs.Store.{content, names, IsFront};
 
-    ghost seen = { λ s. record { held = Some s.held; faults = store_faults s } };
+    ghost seen = { λ s. record { held = Some s.held; faults = store_faults s; puts = s.puts.made } };
 
     fn size(&mut self, name: &BlobName) -> Result<Option<u64>, StoreFailed>
         ensures cause { HasCause (store_faults self.old) (store_faults self.new) result }

@@ -42,11 +42,12 @@ pub trait BlobStore {
     ghost use Rattle.std.specs.Prelude.{◌≡◌, ℕ, ◌-◌, List, [], Option, None, length, take, drop, min, IfOk, OnOk, OnErr, OnSome, IfSome};
     ghost use Rattle.std.specs.Option.{option_map};
     ghost use Rattle.std.specs.Io.{ReadsAtMost};
-    ghost use Rattle.hol_io.specs.Causes.{HasCause, HasPutCause};
+    ghost use Rattle.hol_io.specs.Causes.{HasCause, HasPutCause, Rose};
     ghost use Rattle.hol_io.specs.Buffer.{KeepsRest};
     ghost use Rattle.hol_io.specs.Store.{Seen, told, with_content, names, IsFront};
 
-    // The names and their contents, where the store tells them, and how many faults came so far.
+    // The names and their contents, where the store tells them, how many faults came so far, and how often something was
+    // put. Only a put raises that count.
     ghost seen: { Self → Seen };
 
     /// The number of bytes that a name holds, or `None` exactly where the name is not there.
@@ -55,7 +56,8 @@ pub trait BlobStore {
         ensures cause { HasCause ((seen self.old).faults) ((seen self.new).faults) result }
         ensures size { OnSome (seen self.old).held
             (IfOk result (λ size. size ≡ option_map length (told (seen self.old).held name.now))) }
-        ensures kept { (seen self.new).held ≡ (seen self.old).held };
+        ensures kept { (seen self.new).held ≡ (seen self.old).held }
+        ensures unput { (seen self.new).puts ≡ (seen self.old).puts };
 
     /// Places what a name holds from byte `at` on at the front of `buf`, as many bytes as there are
     /// and as fit, and gives their number: 0 past the end, and for a name that is not there.
@@ -70,14 +72,16 @@ pub trait BlobStore {
         ensures absent { OnSome (seen self.old).held
             (told (seen self.old).held name.now ≡ None → IfOk result (λ count. count ≡ 0)) }
         ensures rest { OnSome (seen self.old).held (KeepsRest buf.old buf.new result) }
-        ensures kept { (seen self.new).held ≡ (seen self.old).held };
+        ensures kept { (seen self.new).held ≡ (seen self.old).held }
+        ensures unput { (seen self.new).puts ≡ (seen self.old).puts };
 
     /// Makes a name hold the bytes. After a refusal the store holds what it held. `Failed` comes only
     /// where the count of faults rose.
     fn put(&mut self, name: &BlobName, bytes: &[u8]) -> Result<(), PutFault>
         ensures cause { HasPutCause ((seen self.old).faults) ((seen self.new).faults) result }
         ensures put { OnOk result ((seen self.new).held ≡ with_content (seen self.old).held name.now bytes.now) }
-        ensures kept { OnErr result ((seen self.new).held ≡ (seen self.old).held) };
+        ensures kept { OnErr result ((seen self.new).held ≡ (seen self.old).held) }
+        ensures raised { Rose ((seen self.old).puts) ((seen self.new).puts) };
 
     /// Adds every name once to `out`, which is empty before: the snapshots, the deltas, the reverse
     /// deltas and the announced version, each kind by its numbers rising. After a refusal `out` holds
@@ -89,5 +93,6 @@ pub trait BlobStore {
         ensures listed { OnOk result (IfSome (seen self.old).held (λ store. out.new.items ≡ names store)) }
         ensures part { OnErr result
             (IfSome (seen self.old).held (λ store. IsFront out.new.items (names store))) }
-        ensures kept { (seen self.new).held ≡ (seen self.old).held };
+        ensures kept { (seen self.new).held ≡ (seen self.old).held }
+        ensures unput { (seen self.new).puts ≡ (seen self.old).puts };
 }

@@ -15,34 +15,37 @@ use std::marker::Model;
 pub struct SureStore {
     alloc: Global,
     entries: BTreeMap<BlobName, Vec<u8>>,
+    puts: u64,
 }
 
 impl Model for SureStore {
-    ghost use Rattle.hol_io.specs.Store.{Store, store_code};
+    ghost use Rattle.hol_io.specs.Memory.{SureContent, sure_content_code};
     ghost use Rattle.hol_io.specs.Entries.{store_of};
 
-    ghost Value = { Store };
+    ghost Value = { SureContent };
 
-    ghost coded = { store_code };
+    ghost coded = { sure_content_code };
 
-    ghost view = { λ s. store_of s.entries.entries };
+    ghost view = { λ s. record { held = store_of s.entries.entries; puts = s.puts } };
 }
 
 impl SureStore {
     /// A store without names. It takes no memory.
     pub fn new(alloc: Global) -> SureStore
-        ensures { result ≡ map.empty }
+        ensures held { result.held ≡ map.empty }
+        ensures puts { result.puts ≡ 0 }
     {
         SureStore {
             alloc,
             entries: BTreeMap::new(alloc),
+            puts: 0,
         }
     }
 
     // What a name holds.
     #[tactic(auto, using(crate::proofs::EntryLemmas::get_same))]
     fn content(&self, name: &BlobName) -> Option<&[u8]>
-        ensures { option_copied result ≡ map.get self.now name.now }
+        ensures { option_copied result ≡ map.get self.now.held name.now }
     {
         self.entries.get(name).map(|bytes| bytes.as_slice())
     }
@@ -53,21 +56,22 @@ impl BlobStore for SureStore {
     ghost use Rattle.std.specs.Option.{option_map};
     ghost use Rattle.std.specs.FinMap as map;
     ghost use Rattle.hol_io.specs.Buffer.{KeepsRest};
+    ghost use Rattle.hol_io.specs.Calls.{one_more};
     ghost use Rattle.hol_io.specs.Store.{content, names, IsFront};
 
-    ghost seen = { λ s. record { held = Some s; faults = 0 } };
+    ghost seen = { λ s. record { held = Some s.held; faults = 0; puts = s.puts } };
 
     fn size(&mut self, name: &BlobName) -> Result<Option<u64>, StoreFailed>
-        ensures size { result ≡ Ok (option_map length (map.get self.old name.now)) }
+        ensures size { result ≡ Ok (option_map length (map.get self.old.held name.now)) }
         ensures kept { self.new ≡ self.old }
     {
         Ok(self.content(name).map(|bytes| bytes.len() as u64))
     }
 
     fn read_at(&mut self, name: &BlobName, at: u64, buf: &mut [u8]) -> Result<usize, StoreFailed>
-        ensures count { result ≡ Ok (min (length buf.old) (length (content self.old name.now) - at)) }
+        ensures count { result ≡ Ok (min (length buf.old) (length (content self.old.held name.now) - at)) }
         ensures placed { IfOk result
-            (λ count. take count buf.new ≡ take count (drop at (content self.old name.now))) }
+            (λ count. take count buf.new ≡ take count (drop at (content self.old.held name.now))) }
         ensures rest { KeepsRest buf.old buf.new result }
         ensures kept { self.new ≡ self.old }
     {
@@ -80,9 +84,11 @@ impl BlobStore for SureStore {
     #[tactic(auto, using(crate::proofs::EntryLemmas::insert_same))]
     fn put(&mut self, name: &BlobName, bytes: &[u8]) -> Result<(), PutFault>
         ensures sure { IsOkUnless result PutFault.Memory }
-        ensures put { OnOk result (self.new ≡ map.insert self.old name.now bytes.now) }
-        ensures kept { OnErr result (self.new ≡ self.old) }
+        ensures put { OnOk result (self.new.held ≡ map.insert self.old.held name.now bytes.now) }
+        ensures kept { OnErr result (self.new.held ≡ self.old.held) }
+        ensures counted { self.new.puts ≡ one_more self.old.puts }
     {
+        self.puts = self.puts.saturating_add(1);
         let content = Vec::from_slice(self.alloc, bytes)?;
         self.entries.insert(*name, content)?;
         Ok(())
@@ -92,8 +98,8 @@ impl BlobStore for SureStore {
     fn list(&mut self, out: &mut Vec<BlobName>) -> Result<(), PutFault>
         requires { out.old.items ≡ [] }
         ensures sure { IsOkUnless result PutFault.Memory }
-        ensures listed { OnOk result (out.new.items ≡ names self.old) }
-        ensures part { OnErr result (IsFront out.new.items (names self.old)) }
+        ensures listed { OnOk result (out.new.items ≡ names self.old.held) }
+        ensures part { OnErr result (IsFront out.new.items (names self.old.held)) }
         ensures kept { self.new ≡ self.old }
     {
         for name in self.entries.keys() {

@@ -8,3 +8,4 @@ pub mod VarWriting
 pub mod Varints
 pub mod Windows
 pub mod OneUnit
+pub mod UnitCounts

@@ -6,7 +6,7 @@ ghost use Rattle.hol_varint.specs.TextUnits.{AreUnits};
 ghost use Rattle.hol_varint.specs.Yields.{Yields};
 
 use crate::fault::UtfFault;
-use crate::units::Units;
+use crate::numbers::Units;
 use std::alloc::{AllocError, Global};
 
 /// The text that begins at a place, as its units, and where the bytes behind it begin.

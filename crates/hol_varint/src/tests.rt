@@ -1,3 +1,4 @@
+//! Worked numbers, texts and lists.
 use super::*;
 use std::test::*;
 
@@ -137,17 +138,13 @@ fn strings(rt: HostRuntime) -> Result<(), Fail> {
 
 #[test]
 fn lists(rt: HostRuntime) -> Result<(), Fail> {
-    let mut units = Units::new(rt.alloc());
-    units.push(7)?;
-    assert!(rt; units.copy(rt.alloc())? == units);
-    let mut octets = Octets::new(rt.alloc());
-    octets.push(7)?;
-    assert!(rt; octets.copy(rt.alloc())? == octets);
-    let mut ordinals = Ordinals::new(rt.alloc());
+    let alloc = rt.alloc();
+    let mut ordinals = Ordinals::with_capacity(alloc, 1)?;
     ordinals.push(7)?;
-    assert!(rt; ordinals.copy(rt.alloc())? == ordinals);
-    let mut gaps = GapList::new(rt.alloc());
-    gaps.push(7)?;
-    assert!(rt; gaps.copy(rt.alloc())? == gaps);
+    let gaps = GapList::from_vec(vec![in alloc; 8]?);
+    let bytes = Octets::from_vec(vec![in alloc; 9]?);
+    let (copy, others) = (ordinals, Some((gaps, bytes))).copy(alloc)?;
+    let (gaps, bytes) = others.ok_or("there are others")?;
+    assert!(rt; (*copy.get(0), *gaps.get(0), *bytes.get(0)) == (7, 8, 9));
     Ok(())
 }

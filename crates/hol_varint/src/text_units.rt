@@ -1,11 +1,12 @@
 //! The UTF-16 units of texts, and the bytes of a STRING: a number of variable length for each unit.
-ghost use Rattle.std.specs.Prelude.{◌≡◌, ℕ, List, ◌<◌, ◌≤◌, ◌↔◌, ◌++◌, length, take, drop, IfOk, IfSome, IsSomeAnd, IsNone, OnOk, OnErr};
+ghost use Rattle.std.specs.Prelude.{◌≡◌, ℕ, List, ◌<◌, ◌≤◌, ◌↔◌, ◌++◌, ◌-◌, ◌^◌, length, min, take, drop, IfOk, IfSome, IsSomeAnd, IsNone, OnOk, OnErr};
 ghost use Rattle.std.specs.String.{string_bytes};
 ghost use Rattle.hol_varint.specs.TextUnits.{AreUnits, AreUnitsIn, IsBadText, IsFreeUnits, IsTextOf, AreWellFormed, TellsUnits, TellsUnitAt, units_bytes, text_units};
+ghost use Rattle.hol_varint.specs.Varint.{varint_bytes};
 ghost use Rattle.hol_varint.specs.Yields.{Yields};
 
 use crate::fault::UnitsFault;
-use crate::units::Units;
+use crate::numbers::Units;
 use crate::varint::{get_vint, put_vint};
 use std::alloc::{AllocError, Global};
 
@@ -34,6 +35,32 @@ fn push_units(out: &mut Vec<u8>, units: &[u16]) -> Result<(), AllocError>
         put_vint(out, u32::from(*unit))?;
     }
     Ok(())
+}
+
+/// How many bytes these units take in a STRING; the greatest number where they are more.
+#[tactic(auto, using(crate::proofs::UnitCounts::units_counted))]
+pub fn units_len(units: &[u16]) -> u64
+    ensures { result ≡ min (length (units_bytes units.now)) (2 ^ 64 - 1) }
+{
+    let mut len: u64 = 0;
+    for unit in units {
+        len = len.saturating_add(unit_len(*unit));
+    }
+    len
+}
+
+// How many bytes a unit takes in a STRING.
+#[tactic(auto, using(crate::proofs::UnitCounts::one_byte, crate::proofs::UnitCounts::two_bytes, crate::proofs::UnitCounts::three_bytes))]
+fn unit_len(unit: u16) -> u64
+    ensures { result ≡ length (varint_bytes unit) }
+{
+    if unit < 0x80 {
+        1
+    } else if unit < 0x4000 {
+        2
+    } else {
+        3
+    }
 }
 
 /// The units of all the bytes of a STRING.

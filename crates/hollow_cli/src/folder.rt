@@ -13,6 +13,7 @@ use std::{fs, io};
 pub struct FolderStore {
     folder: Folder,
     faults: u64,
+    puts: u64,
 }
 
 /// A folder, and the file in it that was read last.
@@ -70,7 +71,11 @@ impl FolderStore {
             path: String::from_str(alloc, path)?,
             last: None,
         };
-        Ok(FolderStore { folder, faults: 0 })
+        Ok(FolderStore {
+            folder,
+            faults: 0,
+            puts: 0,
+        })
     }
 }
 
@@ -155,7 +160,7 @@ impl Folder {
 impl BlobStore for FolderStore {
     ghost use Rattle.std.specs.Prelude.{None};
 
-    ghost seen = { λ store. record { held = None; faults = store.faults } };
+    ghost seen = { λ store. record { held = None; faults = store.faults; puts = store.puts } };
 
     fn size(&mut self, name: &BlobName) -> Result<Option<u64>, StoreFailed> {
         match self.folder.open(name) {
@@ -179,6 +184,7 @@ impl BlobStore for FolderStore {
     }
 
     fn put(&mut self, name: &BlobName, bytes: &[u8]) -> Result<(), PutFault> {
+        self.puts = self.puts.saturating_add(1);
         match self.folder.replace(name, bytes) {
             Ok(()) => Ok(()),
             Err(PutFault::Memory) => Err(PutFault::Memory),

@@ -8,12 +8,13 @@ use std::test::Fail;
 #[derive(Debug, Drop)]
 struct ZeroStore {
     size: u64,
+    puts: u64,
 }
 
 impl BlobStore for ZeroStore {
     ghost use Rattle.std.specs.Prelude.{None};
 
-    ghost seen = { λ _. record { held = None; faults = 0 } };
+    ghost seen = { λ store. record { held = None; faults = 0; puts = store.puts } };
 
     fn size(&mut self, _name: &BlobName) -> Result<Option<u64>, StoreFailed> {
         Ok(Some(self.size))
@@ -30,6 +31,7 @@ impl BlobStore for ZeroStore {
     }
 
     fn put(&mut self, _name: &BlobName, _bytes: &[u8]) -> Result<(), PutFault> {
+        self.puts = self.puts.saturating_add(1);
         Ok(())
     }
 
@@ -52,7 +54,7 @@ const SIZES: &[(u64, &str)] = &[
 
 /// Whether a command refuses a blob of so many zeros with this line.
 fn refuses(alloc: Global, command: &str, size: u64, line: &str) -> Result<bool, Fail> {
-    let mut store = ZeroStore { size };
+    let mut store = ZeroStore { size, puts: 0 };
     let (status, text) = text_of(alloc, &[command, "snapshot-1"], &mut store)?;
     Ok(status == 1 && text.as_str() == line)
 }

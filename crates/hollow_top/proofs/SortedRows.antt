@@ -9,7 +9,7 @@ use Rattle.std.specs.Cmp.{ranked, nat_cmp_is}
 use Rattle.std.specs.FinMap.{find, is_sorted}
 use Rattle.std.specs.FinMap.Entries.{below_all}
 use Rattle.std.proofs.lemmas.Bool.{and_parts, cases_order}
-use Rattle.schema_model.specs.declared.row.Row.{Row}
+use Rattle.schema_model.specs.declared.rows.row.Row.{Row}
 
 abbrev Entry : Type 0
 Entry = ℕ × Row

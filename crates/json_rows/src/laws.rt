@@ -1,7 +1,7 @@
 //! Laws of the definitions.
 ghost use Rattle.std.specs.Prelude.{◌≡◌};
 ghost use Rattle.serde_json.specs.Data.{Data};
-ghost use Rattle.schema_model.specs.declared.row.Row.{Row};
+ghost use Rattle.schema_model.specs.declared.rows.row.Row.{Row};
 ghost use Rattle.schema_model.specs.declared.schema.Shape.{Shape};
 ghost use Rattle.json_rows.specs.StoredRow.{IsRowData};
 

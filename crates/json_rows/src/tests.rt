@@ -1,8 +1,8 @@
 ghost use Rattle.std.specs.Prelude.{◌≡◌, ◌∷◌, [], List, codes, IfOk};
 ghost use Rattle.std.specs.List.{AllZip};
 ghost use Rattle.schema_model.specs.Row.{FitsKind, FitsShape};
-ghost use Rattle.schema_model.specs.declared.row.Row.{Row as RowData};
-ghost use Rattle.schema_model.specs.declared.row.Value.{Value as FieldValue};
+ghost use Rattle.schema_model.specs.declared.rows.row.Row.{Row as RowData};
+ghost use Rattle.schema_model.specs.declared.rows.row.Value.{Value as FieldValue};
 ghost use Rattle.schema_model.specs.declared.schema.FieldKind.{FieldKind as Kind};
 
 use super::row_value;

@@ -1,9 +1,9 @@
 ghost use Rattle.std.specs.Prelude.{◌≡◌, ◌^◌, ◌<◌, sum, Ok, Err};
 ghost use Rattle.hol_varint.specs.Yields.{Yields};
 ghost use Rattle.schema_model.specs.Parts.{shape_fields};
-ghost use Rattle.schema_model.specs.declared.row.Row.{Row as StoredRow};
+ghost use Rattle.schema_model.specs.declared.rows.row.Row.{Row as StoredRow};
 ghost use Rattle.schema_model.specs.declared.reason.Reason.{Reason};
-ghost use Rattle.schema_model.specs.declared.packed.PlaceFault.TheVariants.{Bad};
+ghost use Rattle.schema_model.specs.declared.rows.packed.PlaceFault.TheVariants.{Bad};
 ghost use Rattle.object_codec.specs.ObjectPlace.{IsObject, HoldsPlace, SpellsObjectRow, FailsObjectRow, IsFreePlace, TellsObject, TellsObjectRow};
 
 use crate::cell::Cell;

@@ -1,3 +1,4 @@
+//! Bits of words, scanned for the members that they stand for.
 ghost use Rattle.std.specs.Prelude.{ℕ, ◌≡◌, ◌*◌, ◌^◌, ◌≤◌, length, max, vec_len, slice_index, OnOk};
 ghost use Rattle.ordinal_set.specs.Ordinals.{bound_of, TellsNext};
 ghost use Rattle.ordinal_set.specs.Population.{has_bit, population_of, FitOrdinals};

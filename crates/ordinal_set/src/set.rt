@@ -1,3 +1,4 @@
+//! Sets of ordinals.
 ghost use Rattle.std.specs.Prelude.{◌≡◌, ◌-◌, ◌^◌, ◌<◌, ◌↔◌, [], vec_len, Contains, IfOk, IsTrue, OnOk, OnErr};
 ghost use Rattle.ordinal_set.specs.Ordinals.{AreOrdinals, with_ordinal, bound_of, least_from, TellsNext};
 ghost use Rattle.ordinal_set.specs.Population.{population_of};

@@ -1,3 +1,4 @@
+//! Worked sets.
 use super::*;
 use std::test::Fail;
 

@@ -6,10 +6,10 @@ use Rattle.hol_varint.specs.Yields.{Yields}
 use Rattle.schema_model.specs.Checked.{TellsBroken}
 use Rattle.schema_model.specs.Faults.{IsFreeModel, TellsFault, TellsModel}
 use Rattle.schema_model.specs.Model.{BreaksAt, IsKept, IsModel, IsFirstBroken, rule_place}
-use Rattle.schema_model.specs.declared.faults.ModelFault.{ModelFault}
-use Rattle.schema_model.specs.declared.faults.ModelFault.TheVariants.{Broken, Memory}
-use Rattle.schema_model.specs.declared.rule.Rule.{Rule}
-use Rattle.schema_model.specs.declared.rule.Rule.TheVariants.{TooMany, LongName, DuplicateName, FloatField, UnknownType, CyclicModel, TooDeep, BadPath}
+use Rattle.schema_model.specs.declared.model.faults.ModelFault.{ModelFault}
+use Rattle.schema_model.specs.declared.model.faults.ModelFault.TheVariants.{Broken, Memory}
+use Rattle.schema_model.specs.declared.model.rule.Rule.{Rule}
+use Rattle.schema_model.specs.declared.model.rule.Rule.TheVariants.{TooMany, LongName, DuplicateName, FloatField, UnknownType, CyclicModel, TooDeep, BadPath}
 use Rattle.schema_model.specs.declared.schema.Schema.{Schema}
 
 -- the rule at a place

@@ -8,7 +8,7 @@ use Rattle.std.proofs.lemmas.List.Elements.{Contains-get_or}
 use Rattle.std.proofs.lemmas.Option.{slice_get_within, get_or_from_slice_get, slice_get-get_or}
 use Rattle.schema_model.specs.Model.{IsKept, StandsEarlier}
 use Rattle.schema_model.specs.Parts.{name_index, type_index, type_names}
-use Rattle.schema_model.specs.declared.rule.Rule.TheVariants.{TooMany, DuplicateName}
+use Rattle.schema_model.specs.declared.model.rule.Rule.TheVariants.{TooMany, DuplicateName}
 use Rattle.schema_model.specs.declared.schema.Schema.{Schema}
 use Rattle.schema_model.specs.declared.schema.Shape.TheVariants.{Set}
 use Rattle.schema_model.proofs.Indexing.{name_found, name_missing, contained, not_contained}

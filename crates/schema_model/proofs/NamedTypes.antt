@@ -12,7 +12,7 @@ use Rattle.std.proofs.lemmas.Option.{slice_get_within, get_or_from_slice_get}
 use Rattle.schema_model.specs.Checked.{are_known, all_references}
 use Rattle.schema_model.specs.Model.{BreaksAt, references}
 use Rattle.schema_model.specs.Parts.{referenced, referenced_names, named_types, type_index}
-use Rattle.schema_model.specs.declared.rule.Rule.TheVariants.{UnknownType}
+use Rattle.schema_model.specs.declared.model.rule.Rule.TheVariants.{UnknownType}
 use Rattle.schema_model.specs.declared.schema.Field.{Field}
 use Rattle.schema_model.specs.declared.schema.Schema.{Schema}
 

@@ -12,8 +12,8 @@ use Rattle.std.proofs.lemmas.Iterator.Adapters.{position_from-zero}
 use Rattle.std.proofs.lemmas.List.Quantifiers.{position-Some}
 use Rattle.std.proofs.lemmas.Option.{slice_get-get_or}
 use Rattle.schema_model.specs.Model.{HasChain, BreaksAt, IsKept, references, reference_rows}
-use Rattle.schema_model.specs.declared.rule.Rule.{Rule}
-use Rattle.schema_model.specs.declared.rule.Rule.TheVariants.{CyclicModel, TooDeep}
+use Rattle.schema_model.specs.declared.model.rule.Rule.{Rule}
+use Rattle.schema_model.specs.declared.model.rule.Rule.TheVariants.{CyclicModel, TooDeep}
 use Rattle.schema_model.specs.declared.schema.Schema.{Schema}
 use Rattle.schema_model.specs.declared.schema.Shape.TheVariants.{Set}
 use Rattle.schema_model.proofs.Indexing.{passes_none}

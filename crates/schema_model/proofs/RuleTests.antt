@@ -12,8 +12,8 @@ use Rattle.std.specs.Prelude.{SomeIndex, Any}
 use Rattle.std.proofs.lemmas.List.{get_or_default}
 use Rattle.schema_model.specs.Model.{BreaksAt, Breaks, IsKept, StandsEarlier}
 use Rattle.schema_model.specs.Parts.{fields_of, field_names, type_names, texts_of}
-use Rattle.schema_model.specs.declared.rule.Rule.TheVariants.{TooMany, LongName, DuplicateName}
-use Rattle.schema_model.specs.declared.rule.Rule.{Rule}
+use Rattle.schema_model.specs.declared.model.rule.Rule.TheVariants.{TooMany, LongName, DuplicateName}
+use Rattle.schema_model.specs.declared.model.rule.Rule.{Rule}
 use Rattle.schema_model.specs.declared.schema.Field.{Field}
 use Rattle.schema_model.specs.declared.schema.Schema.{Schema}
 use Rattle.schema_model.specs.declared.schema.Shape.TheVariants.{Set}

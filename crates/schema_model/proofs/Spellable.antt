@@ -4,8 +4,8 @@ use Rattle.std.specs.List.{AllByRecursion}
 use Rattle.std.proofs.lemmas.Bool.{cases_lt}
 use Rattle.hol_varint.specs.JavaUtf.{java_bytes}
 use Rattle.hol_varint.specs.TextUnits.{text_units}
-use Rattle.schema_model.specs.declared.name.Name.{Name}
-use Rattle.schema_model.specs.declared.rule.Rule.{Rule}
+use Rattle.schema_model.specs.declared.schema.name.Name.{Name}
+use Rattle.schema_model.specs.declared.model.rule.Rule.{Rule}
 use Rattle.schema_model.specs.declared.schema.FieldKind.{FieldKind}
 use Rattle.schema_model.specs.declared.schema.Field.{Field}
 use Rattle.schema_model.specs.declared.schema.Shape.{Shape}

@@ -12,16 +12,16 @@ use Rattle.schema_model.specs.Model.{HasChain, reference_rows, references, IsKep
 use Rattle.schema_model.specs.Parts.{fields_of, field_names, shape_fields, shape_names, named_types, referenced, referenced_names, type_index, type_names}
 use Rattle.hol_varint.specs.Yields.{Yields}
 use Rattle.schema_model.specs.Faults.{IsFreePath, TellsPath}
-use Rattle.schema_model.specs.declared.path.Path.{Path}
+use Rattle.schema_model.specs.declared.model.path.Path.{Path}
 use Rattle.schema_model.specs.Path.{HasField, HasOnlyField, RefersTo, GoesOn, Leads, Resolves, path_names}
-use Rattle.schema_model.specs.declared.rule.Rule.TheVariants.{DuplicateName, TooDeep}
+use Rattle.schema_model.specs.declared.model.rule.Rule.TheVariants.{DuplicateName, TooDeep}
 use Rattle.schema_model.specs.declared.schema.Field.{Field}
 use Rattle.schema_model.specs.declared.schema.FieldKind.{FieldKind}
 use Rattle.schema_model.specs.declared.schema.Schema.{Schema}
 use Rattle.schema_model.specs.declared.schema.Shape.{Shape}
 use Rattle.schema_model.specs.declared.schema.Shape.TheVariants.{Object, Set, List as ListShape, Map}
-use Rattle.schema_model.specs.declared.faults.PathFault.{PathFault}
-use Rattle.schema_model.specs.declared.faults.PathFault.TheVariants.{BadPath, Memory}
+use Rattle.schema_model.specs.declared.model.faults.PathFault.{PathFault}
+use Rattle.schema_model.specs.declared.model.faults.PathFault.TheVariants.{BadPath, Memory}
 use Rattle.schema_model.specs.Checked.{TellsField, TellsFields, TellsWay}
 use Rattle.schema_model.proofs.Indexing.{item_name, name_found}
 use Rattle.schema_model.proofs.RuleTests.{same_schema}

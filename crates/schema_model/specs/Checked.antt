@@ -9,14 +9,14 @@ use Rattle.hol_varint.specs.TextUnits.{text_units}
 use Rattle.schema_model.specs.Parts.{name_index}
 use Rattle.schema_model.specs.Model.{BreaksAt, IsKept}
 use Rattle.schema_model.specs.declared.schema.Schema.{Schema}
-use Rattle.schema_model.specs.declared.rule.Rule.{Rule}
+use Rattle.schema_model.specs.declared.model.rule.Rule.{Rule}
 use Rattle.schema_model.specs.Path.{RefersTo}
 use Rattle.schema_model.specs.declared.schema.Field.{Field}
 use Rattle.schema_model.specs.declared.schema.FieldKind.{FieldKind}
-use Rattle.schema_model.specs.declared.faults.PathFault.{PathFault}
-use Rattle.schema_model.specs.declared.faults.PathFault.TheVariants.{BadPath as Bad, Memory as Want}
-use Rattle.schema_model.specs.declared.faults.ModelFault.{ModelFault}
-use Rattle.schema_model.specs.declared.faults.ModelFault.TheVariants.{Broken, Memory}
+use Rattle.schema_model.specs.declared.model.faults.PathFault.{PathFault}
+use Rattle.schema_model.specs.declared.model.faults.PathFault.TheVariants.{BadPath as Bad, Memory as Want}
+use Rattle.schema_model.specs.declared.model.faults.ModelFault.{ModelFault}
+use Rattle.schema_model.specs.declared.model.faults.ModelFault.TheVariants.{Broken, Memory}
 
 -- This is the first type that breaks the rule.
 abbrev pub TellsBroken : List Schema → Rule → ModelFault → Type 0

@@ -2,12 +2,12 @@
 use Rattle.std.specs.Prelude.{◌≡◌, ℕ, List, Result, Ok, Err}
 use Rattle.schema_model.specs.Model.{IsModel, IsFirstBroken}
 use Rattle.schema_model.specs.Path.{Resolves}
-use Rattle.schema_model.specs.declared.faults.PathFault.{PathFault}
-use Rattle.schema_model.specs.declared.faults.PathFault.TheVariants.{BadPath, Memory as Want}
-use Rattle.schema_model.specs.declared.path.Path.{Path}
+use Rattle.schema_model.specs.declared.model.faults.PathFault.{PathFault}
+use Rattle.schema_model.specs.declared.model.faults.PathFault.TheVariants.{BadPath, Memory as Want}
+use Rattle.schema_model.specs.declared.model.path.Path.{Path}
 use Rattle.schema_model.specs.declared.schema.Schema.{Schema}
-use Rattle.schema_model.specs.declared.faults.ModelFault.{ModelFault}
-use Rattle.schema_model.specs.declared.faults.ModelFault.TheVariants.{Broken, Memory}
+use Rattle.schema_model.specs.declared.model.faults.ModelFault.{ModelFault}
+use Rattle.schema_model.specs.declared.model.faults.ModelFault.TheVariants.{Broken, Memory}
 
 -- Want of memory may come in place of any answer.
 abbrev pub IsFreeModel : ModelFault → Type 0

@@ -6,8 +6,8 @@ use Rattle.hol_varint.specs.TextUnits.{text_units}
 use Rattle.schema_model.specs.Parts.{fields_of, field_names, shape_key, named_types, texts_of, type_names, type_index}
 use Rattle.schema_model.specs.Path.{path_names, Leads}
 use Rattle.schema_model.specs.declared.schema.Schema.{Schema}
-use Rattle.schema_model.specs.declared.rule.Rule.{Rule}
-use Rattle.schema_model.specs.declared.rule.Rule.TheVariants.{TooMany, LongName, DuplicateName, FloatField, UnknownType, CyclicModel, TooDeep, BadPath}
+use Rattle.schema_model.specs.declared.model.rule.Rule.{Rule}
+use Rattle.schema_model.specs.declared.model.rule.Rule.TheVariants.{TooMany, LongName, DuplicateName, FloatField, UnknownType, CyclicModel, TooDeep, BadPath}
 
 -- The name at an index stands earlier in the list too.
 abbrev pub StandsEarlier : List (List ℕ) → ℕ → Type 0

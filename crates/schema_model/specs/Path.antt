@@ -2,7 +2,7 @@
 use Rattle.std.specs.Prelude.{◌≡◌, ℕ, ◌==◌, List, [], ◌∷◌, Some, None, slice_get}
 use Rattle.std.specs.List.{slice_split}
 use Rattle.schema_model.specs.Parts.{fields_of, referenced, type_index}
-use Rattle.schema_model.specs.declared.path.Path.{Path}
+use Rattle.schema_model.specs.declared.model.path.Path.{Path}
 use Rattle.schema_model.specs.declared.schema.Field.{Field}
 use Rattle.schema_model.specs.declared.schema.FieldKind.{FieldKind}
 use Rattle.schema_model.specs.declared.schema.Schema.{Schema}

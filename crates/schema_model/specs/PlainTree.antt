@@ -1,6 +1,6 @@
 -- Records with all that they refer to, as plain data: their nodes, and when two are the same record.
 use Rattle.std.specs.Prelude.{List, [], ◌∷◌, ℕ, ◌+◌, ◌≡◌, ◌⊎◌, All, Any}
-use Rattle.schema_model.specs.declared.row.Value.{Value}
+use Rattle.schema_model.specs.declared.rows.row.Value.{Value}
 use Rattle.schema_model.specs.Row.{stored_value}
 
 -- a value, or a row with what it refers to in the place of the ordinals

@@ -2,11 +2,11 @@
 use Rattle.std.specs.Prelude.{List, [], ◌∷◌, ℕ, ℤ, pos, negsuc, ◌<◌, ◌-◌, ◌^◌, Bool, false, ◌==◌, if◌then◌else◌, FitsSigned, map, flat_map, zip, All, AllPairs}
 use mir.Syntax.{w32, w64}
 use Rattle.std.specs.List.{AllZip}
-use Rattle.schema_model.specs.declared.name.Name.{Name}
+use Rattle.schema_model.specs.declared.schema.name.Name.{Name}
 use Rattle.schema_model.specs.declared.schema.FieldKind.{FieldKind}
 use Rattle.schema_model.specs.declared.schema.Shape.{Shape}
-use Rattle.schema_model.specs.declared.row.Value.{Value}
-use Rattle.schema_model.specs.declared.row.Row.{Row}
+use Rattle.schema_model.specs.declared.rows.row.Value.{Value}
+use Rattle.schema_model.specs.declared.rows.row.Row.{Row}
 
 -- each number is above the one before it
 abbrev pub Rises : List ℕ → Type 0

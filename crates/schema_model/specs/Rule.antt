@@ -1,7 +1,7 @@
 -- The names of the rules of a model, as an answer line gives them.
 use Rattle.std.specs.Prelude.{List, ℕ, codes}
-use Rattle.schema_model.specs.declared.rule.Rule.{Rule}
-use Rattle.schema_model.specs.declared.rule.Rule.TheVariants.{TooMany, LongName, DuplicateName, FloatField, UnknownType, CyclicModel, TooDeep, BadPath}
+use Rattle.schema_model.specs.declared.model.rule.Rule.{Rule}
+use Rattle.schema_model.specs.declared.model.rule.Rule.TheVariants.{TooMany, LongName, DuplicateName, FloatField, UnknownType, CyclicModel, TooDeep, BadPath}
 
 abbrev pub name_of_rule : Rule → List ℕ
 name_of_rule TooMany = codes "TooMany"

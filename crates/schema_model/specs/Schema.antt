@@ -4,7 +4,7 @@ use Rattle.std.specs.Option.{option_map_or}
 use Rattle.hol_varint.specs.JavaUtf.{java_bytes, utf_bytes}
 use Rattle.hol_varint.specs.TextUnits.{text_units}
 use Rattle.hol_varint.specs.Varint.{varint_bytes}
-use Rattle.schema_model.specs.declared.name.Name.{Name}
+use Rattle.schema_model.specs.declared.schema.name.Name.{Name}
 use Rattle.schema_model.specs.declared.schema.FieldKind.{FieldKind}
 use Rattle.schema_model.specs.declared.schema.Field.{Field}
 use Rattle.schema_model.specs.declared.schema.Shape.{Shape}

@@ -2,9 +2,9 @@
 use Rattle.std.specs.Prelude.{List, ℕ, Option, Some, ◌≡◌, ◌<◌, ◌+◌, ◌⊎◌, length, slice_get, option_and_then, IsSome, IsSomeAnd, All}
 use Rattle.std.specs.Ordering.{nat_cmp}
 use Rattle.std.specs.FinMap.{FinMap, get}
-use Rattle.schema_model.specs.declared.name.Name.{Name}
+use Rattle.schema_model.specs.declared.schema.name.Name.{Name}
 use Rattle.schema_model.specs.declared.schema.Schema.{Schema}
-use Rattle.schema_model.specs.declared.row.Row.{Row}
+use Rattle.schema_model.specs.declared.rows.row.Row.{Row}
 use Rattle.schema_model.specs.Parts.{type_index}
 use Rattle.schema_model.specs.Row.{FitsShape, rows_of_row}
 

@@ -1,11 +1,11 @@
 -- Trees of the program as plain trees.
 use Rattle.std.specs.Prelude.{List, map}
-use Rattle.schema_model.specs.declared.row.Value.{Value}
-use Rattle.schema_model.specs.declared.tree.Tree.{Tree}
-use Rattle.schema_model.specs.declared.tree.Tree.TheOpen.{Tree-F}
-use Rattle.schema_model.specs.declared.tree.Tree.TheFolds.{fold-Tree}
-use Rattle.schema_model.specs.declared.tree.Trees.{Trees}
-use Rattle.schema_model.specs.declared.tree.TreePairs.{TreePairs}
+use Rattle.schema_model.specs.declared.rows.row.Value.{Value}
+use Rattle.schema_model.specs.declared.rows.tree.Tree.{Tree}
+use Rattle.schema_model.specs.declared.rows.tree.Tree.TheOpen.{Tree-F}
+use Rattle.schema_model.specs.declared.rows.tree.Tree.TheFolds.{fold-Tree}
+use Rattle.schema_model.specs.declared.rows.tree.Trees.{Trees}
+use Rattle.schema_model.specs.declared.rows.tree.TreePairs.{TreePairs}
 use Rattle.schema_model.specs.PlainTree.{PlainTree, PlainTrees, PlainPairs, trees_of_list, pairs_of_list}
 
 -- the trees of a list, in their order

@@ -1,11 +1,11 @@
 -- The record of a live row: its tree, in which each ordinal is replaced by the tree of the row that it names.
 use Rattle.std.specs.Prelude.{List, ℕ, zero, suc, Option, None, Some, map, zip, slice_get}
-use Rattle.schema_model.specs.declared.name.Name.{Name}
+use Rattle.schema_model.specs.declared.schema.name.Name.{Name}
 use Rattle.schema_model.specs.declared.schema.FieldKind.{FieldKind}
 use Rattle.schema_model.specs.declared.schema.Shape.{Shape}
 use Rattle.schema_model.specs.declared.schema.Schema.{Schema}
-use Rattle.schema_model.specs.declared.row.Value.{Value}
-use Rattle.schema_model.specs.declared.row.Row.{Row}
+use Rattle.schema_model.specs.declared.rows.row.Value.{Value}
+use Rattle.schema_model.specs.declared.rows.row.Row.{Row}
 use Rattle.schema_model.specs.PlainTree.{PlainTree, trees_of_list, pairs_of_list}
 use Rattle.schema_model.specs.Parts.{type_index}
 use Rattle.schema_model.specs.Table.{Table, row_at}

@@ -3,7 +3,7 @@ ghost use Rattle.std.specs.Prelude.{◌≡◌, ◌<◌, ◌^◌, ℕ, List, ◌+
 ghost use Rattle.std.specs.Str.{IsUtf8};
 ghost use Rattle.schema_model.specs.Model.{IsModel};
 ghost use Rattle.schema_model.specs.Path.{Resolves};
-ghost use Rattle.schema_model.specs.declared.path.Path.{Path};
+ghost use Rattle.schema_model.specs.declared.model.path.Path.{Path};
 ghost use Rattle.schema_model.specs.declared.schema.Schema.{Schema};
 ghost use Rattle.schema_model.specs.Parts.{shape_key};
 ghost use Rattle.schema_model.specs.Schema.{schema_bytes, EachName, IsSpellable};

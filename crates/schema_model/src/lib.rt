@@ -1,65 +1,34 @@
 //! Schemas, models, rows, trees and paths: the vocabulary of the layers above, and what it means.
 #![tactic(auto)]
 
-mod areas;
-mod chains;
-mod faults;
-mod fields;
-mod keys;
 pub mod laws;
-mod lengths;
 mod limit;
+mod lists;
 mod model;
-mod name;
-mod name_index;
-mod name_pairs;
-mod names;
-mod packed;
-mod pairs;
-mod parts;
-mod path;
-mod path_walk;
-mod paths;
-mod places;
-mod put;
 mod reason;
-mod references;
-mod row;
 mod rows;
-mod rule;
-mod rules;
 mod schema;
-mod schemas;
-mod tree;
-mod values;
-mod widths;
-mod words;
 
-pub use areas::Areas;
-pub use faults::{ModelFault, PathFault};
-pub use fields::Fields;
-pub use limit::Limit;
+pub use limit::{
+    Limit, MAX_BLOB_BYTES, MAX_BYTES, MAX_DEPTH, MAX_FIELDS, MAX_INDEXES, MAX_ITEMS,
+    MAX_NAME_BYTES, MAX_NODES, MAX_ORDINALS, MAX_TYPES, MAX_WORDS,
+};
+pub use lists::{
+    Areas, Fields, NamePairs, Names, Pairs, Paths, Places, Schemas, Values, Widths, Words,
+};
+pub use model::faults::{ModelFault, PathFault};
+pub use model::path::Path;
+pub use model::rule::Rule;
 pub use model::{Model, model_of, resolve};
-pub use name::Name;
-pub use name_pairs::NamePairs;
-pub use names::Names;
-pub use packed::{Packed, PlaceFault};
-pub use pairs::Pairs;
-pub use parts::Parts;
-pub use path::Path;
-pub use paths::Paths;
-pub use places::Places;
-pub use put::put_schema;
 pub use reason::Reason;
-pub use row::{Row, Value};
 pub use rows::Rows;
-pub use rule::Rule;
+pub use rows::packed::{Packed, PlaceFault};
+pub use rows::parts::Parts;
+pub use rows::row::{Row, Value};
+pub use rows::tree::{Tree, TreePairs, Trees};
+pub use schema::name::Name;
+pub use schema::put::put_schema;
 pub use schema::{Field, FieldKind, Schema, Shape};
-pub use schemas::Schemas;
-pub use tree::{Tree, TreePairs, Trees};
-pub use values::Values;
-pub use widths::Widths;
-pub use words::Words;
 
 #[cfg(test)]
 mod model_tests;

@@ -1,3 +1,38 @@
+//! The numbers that must not be passed.
+
+/// How many bytes a blob has at most.
+pub const MAX_BLOB_BYTES: u64 = 0x1000_0000;
+
+/// How many ordinals a type has at most: each is below this number.
+pub const MAX_ORDINALS: u32 = 0x40_0000;
+
+/// How many elements or buckets a type has at most in the total that is written.
+pub const MAX_ITEMS: u64 = 0x200_0000;
+
+/// How many fixed words a type has at most in one state.
+pub const MAX_WORDS: u64 = 0x40_0000;
+
+/// How many variable bytes a type has at most in one state.
+pub const MAX_BYTES: u64 = 0x200_0000;
+
+/// How many nodes a printed answer has at most.
+pub const MAX_NODES: u64 = 0x10_0000;
+
+/// How many indexes a consumer keeps at most.
+pub const MAX_INDEXES: u64 = 16;
+
+/// How many types a model has at most.
+pub const MAX_TYPES: u32 = 512;
+
+/// How many fields a type has at most.
+pub const MAX_FIELDS: u16 = 1024;
+
+/// How many types a chain of references goes through at most.
+pub const MAX_DEPTH: u32 = 32;
+
+/// How many bytes of Java UTF a name has at most.
+pub const MAX_NAME_BYTES: usize = 65535;
+
 /// A number that must not be passed, in the order in which the limits stand in the answers' table.
 #[derive(Clone, Copy, Debug, PartialEq, Eq)]
 pub enum Limit {
@@ -41,13 +76,13 @@ impl Limit {
         ensures { result ≡ number_of_limit self.now }
     {
         match self {
-            Limit::Blob => 268435456,
-            Limit::Ordinals => 4194304,
-            Limit::Items => 33554432,
-            Limit::Words => 4194304,
-            Limit::Bytes => 33554432,
-            Limit::Nodes => 1048576,
-            Limit::Indexes => 16,
+            Limit::Blob => MAX_BLOB_BYTES,
+            Limit::Ordinals => u64::from(MAX_ORDINALS),
+            Limit::Items => MAX_ITEMS,
+            Limit::Words => MAX_WORDS,
+            Limit::Bytes => MAX_BYTES,
+            Limit::Nodes => MAX_NODES,
+            Limit::Indexes => MAX_INDEXES,
         }
     }
 }

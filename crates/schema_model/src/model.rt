@@ -1,3 +1,4 @@
+//! Models: schemas that keep the rules, and the paths in them.
 ghost use Rattle.std.specs.Prelude.{◌≡◌, ◌<◌, ◌≤◌, ◌↔◌, ℕ, [], length, Some, None, Ok, Err, IfOk, MatchResult, slice_get, Contains};
 ghost use Rattle.hol_varint.specs.Yields.{Yields};
 ghost use Rattle.schema_model.specs.Checked.{Indexes};
@@ -5,17 +6,29 @@ ghost use Rattle.schema_model.specs.Faults.{IsFreeModel, IsFreePath, TellsFault,
 ghost use Rattle.schema_model.specs.Model.{IsFirstBroken, IsModel};
 ghost use Rattle.schema_model.specs.Parts.{type_index, type_names};
 ghost use Rattle.schema_model.specs.Path.{Resolves};
-ghost use Rattle.schema_model.specs.declared.path.Path.{Path};
-ghost use Rattle.schema_model.specs.declared.rule.Rule.{Rule};
+ghost use Rattle.schema_model.specs.declared.model.path.Path.{Path};
+ghost use Rattle.schema_model.specs.declared.model.rule.Rule.{Rule};
 
-use crate::chains::{check_cycles, check_depth};
-use crate::keys::check_keys;
-use crate::lengths::check_lengths;
-use crate::name_index::{Places, index_types, place_of};
-use crate::path_walk::way_of;
-use crate::references::check_references;
-use crate::rules::{check_names, check_sizes};
+pub(crate) mod chains;
+pub(crate) mod faults;
+pub(crate) mod keys;
+pub(crate) mod lengths;
+pub(crate) mod name_index;
+pub(crate) mod path;
+pub(crate) mod path_walk;
+pub(crate) mod references;
+pub(crate) mod rule;
+pub(crate) mod rules;
+
+use crate::model::chains::{check_cycles, check_depth};
+use crate::model::keys::check_keys;
+use crate::model::lengths::check_lengths;
+use crate::model::name_index::{Places, index_types, place_of};
+use crate::model::path_walk::way_of;
+use crate::model::references::check_references;
+use crate::model::rules::{check_names, check_sizes};
 use crate::{ModelFault, Path, PathFault, Schema, Schemas};
+use hol_varint::Duplicate;
 use std::alloc::{AllocError, Global};
 use std::collections::BTreeMap;
 

@@ -1,6 +1,12 @@
+//! Rows, wherever they stand.
 ghost use Rattle.std.specs.Prelude.{List, ℕ, ◌≡◌, ◌↔◌, Some, IfOk, IsTrue};
 ghost use Rattle.schema_model.specs.declared.schema.Schema.{Schema};
 ghost use Rattle.schema_model.specs.Table.{Table, IsTableOf, IsBound, IsLive, row_at};
+
+pub(crate) mod packed;
+pub(crate) mod parts;
+pub(crate) mod row;
+pub(crate) mod tree;
 
 use crate::{Model, Row};
 use std::alloc::{AllocError, Global};

@@ -1,6 +1,9 @@
-ghost use Rattle.std.specs.Prelude.{◌≡◌, ◌↔◌, IfOk, IsTrue};
+//! Schemas: the types of a model and their fields.
+pub(crate) mod name;
+pub(crate) mod put;
 
 use crate::{Fields, Name, Names};
+use hol_varint::Duplicate;
 use std::alloc::{AllocError, Global};
 
 /// What a field holds.
@@ -20,11 +23,8 @@ pub enum FieldKind {
     Bytes,
 }
 
-impl FieldKind {
-    /// An equal kind of its own.
-    pub fn copy(&self, alloc: Global) -> Result<FieldKind, AllocError>
-        ensures { IfOk result (λ copy. copy ≡ self.now) }
-    {
+impl Duplicate for FieldKind {
+    fn copy(&self, alloc: Global) -> Result<FieldKind, AllocError> {
         match self {
             FieldKind::Reference(name) => Ok(FieldKind::Reference(name.copy(alloc)?)),
             FieldKind::Int => Ok(FieldKind::Int),
@@ -32,21 +32,6 @@ impl FieldKind {
             FieldKind::Boolean => Ok(FieldKind::Boolean),
             FieldKind::Text => Ok(FieldKind::Text),
             FieldKind::Bytes => Ok(FieldKind::Bytes),
-        }
-    }
-
-    /// Whether both are equal.
-    pub fn is_same(&self, other: &FieldKind) -> bool
-        ensures { IsTrue result ↔ (self.now ≡ other.now) }
-    {
-        match (self, other) {
-            (FieldKind::Reference(name), FieldKind::Reference(of_other)) => name.is_same(of_other),
-            (FieldKind::Int, FieldKind::Int) => true,
-            (FieldKind::Long, FieldKind::Long) => true,
-            (FieldKind::Boolean, FieldKind::Boolean) => true,
-            (FieldKind::Text, FieldKind::Text) => true,
-            (FieldKind::Bytes, FieldKind::Bytes) => true,
-            _ => false,
         }
     }
 }
@@ -60,22 +45,12 @@ pub struct Field {
     pub kind: FieldKind,
 }
 
-impl Field {
-    /// An equal field of its own.
-    pub fn copy(&self, alloc: Global) -> Result<Field, AllocError>
-        ensures { IfOk result (λ copy. copy ≡ self.now) }
-    {
+impl Duplicate for Field {
+    fn copy(&self, alloc: Global) -> Result<Field, AllocError> {
         Ok(Field {
             name: self.name.copy(alloc)?,
             kind: self.kind.copy(alloc)?,
         })
-    }
-
-    /// Whether both are equal.
-    pub fn is_same(&self, other: &Field) -> bool
-        ensures { IsTrue result ↔ (self.now ≡ other.now) }
-    {
-        self.name.is_same(&other.name) && self.kind.is_same(&other.kind)
     }
 }
 
@@ -92,11 +67,8 @@ pub enum Shape {
     Map(Name, Name),
 }
 
-impl Shape {
-    /// An equal shape of its own.
-    pub fn copy(&self, alloc: Global) -> Result<Shape, AllocError>
-        ensures { IfOk result (λ copy. copy ≡ self.now) }
-    {
+impl Duplicate for Shape {
+    fn copy(&self, alloc: Global) -> Result<Shape, AllocError> {
         match self {
             Shape::Object(None, fields) => Ok(Shape::Object(None, fields.copy(alloc)?)),
             Shape::Object(Some(key), fields) => Ok(Shape::Object(
@@ -106,26 +78,6 @@ impl Shape {
             Shape::Set(element) => Ok(Shape::Set(element.copy(alloc)?)),
             Shape::List(element) => Ok(Shape::List(element.copy(alloc)?)),
             Shape::Map(key, value) => Ok(Shape::Map(key.copy(alloc)?, value.copy(alloc)?)),
-        }
-    }
-
-    /// Whether both are equal.
-    pub fn is_same(&self, other: &Shape) -> bool
-        ensures { IsTrue result ↔ (self.now ≡ other.now) }
-    {
-        match (self, other) {
-            (Shape::Object(None, fields), Shape::Object(None, of_other)) => fields.is_same(
-                of_other,
-            ),
-            (Shape::Object(Some(key), fields), Shape::Object(Some(other_key), of_other)) => {
-                key.is_same(other_key) && fields.is_same(of_other)
-            }
-            (Shape::Set(element), Shape::Set(of_other)) => element.is_same(of_other),
-            (Shape::List(element), Shape::List(of_other)) => element.is_same(of_other),
-            (Shape::Map(key, value), Shape::Map(other_key, of_other)) => {
-                key.is_same(other_key) && value.is_same(of_other)
-            }
-            _ => false,
         }
     }
 }
@@ -139,21 +91,11 @@ pub struct Schema {
     pub shape: Shape,
 }
 
-impl Schema {
-    /// An equal schema of its own.
-    pub fn copy(&self, alloc: Global) -> Result<Schema, AllocError>
-        ensures { IfOk result (λ copy. copy ≡ self.now) }
-    {
+impl Duplicate for Schema {
+    fn copy(&self, alloc: Global) -> Result<Schema, AllocError> {
         Ok(Schema {
             name: self.name.copy(alloc)?,
             shape: self.shape.copy(alloc)?,
         })
-    }
-
-    /// Whether both are equal.
-    pub fn is_same(&self, other: &Schema) -> bool
-        ensures { IsTrue result ↔ (self.now ≡ other.now) }
-    {
-        self.name.is_same(&other.name) && self.shape.is_same(&other.shape)
     }
 }

@@ -8,10 +8,10 @@ use Rattle.std.proofs.lemmas.List.{length-map}
 use Rattle.std.proofs.lemmas.List.Elements.{All-cons, All-nil, All-head, All-tail}
 use Rattle.std.proofs.lemmas.Option.{slice_get-map, slice_get-get_or, slice_get_within}
 use Rattle.schema_model.specs.declared.schema.Schema.{Schema}
-use Rattle.schema_model.specs.declared.faults.ModelFault.{ModelFault}
-use Rattle.schema_model.specs.declared.faults.ModelFault.TheVariants.{Broken}
-use Rattle.schema_model.specs.declared.rule.Rule.{Rule}
-use Rattle.schema_model.specs.declared.rule.Rule.TheVariants.{TooMany}
+use Rattle.schema_model.specs.declared.model.faults.ModelFault.{ModelFault}
+use Rattle.schema_model.specs.declared.model.faults.ModelFault.TheVariants.{Broken}
+use Rattle.schema_model.specs.declared.model.rule.Rule.{Rule}
+use Rattle.schema_model.specs.declared.model.rule.Rule.TheVariants.{TooMany}
 use Rattle.schema_model.specs.Model.{IsModel, IsFirstBroken}
 use Rattle.schema_model.specs.Faults.{TellsFault}
 use Rattle.schema_model.specs.Parts.{fields_of}

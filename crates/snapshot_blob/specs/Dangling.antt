@@ -1,9 +1,9 @@
 -- Closedness, row by row: the first row that names an ordinal that is not live.
 use Rattle.std.specs.Prelude.{◌≡◌, ◌<◌, ℕ, List, Option, Some, None, slice_get, All}
-use Rattle.schema_model.specs.declared.name.Name.{Name}
+use Rattle.schema_model.specs.declared.schema.name.Name.{Name}
 use Rattle.schema_model.specs.declared.schema.Schema.{Schema}
 use Rattle.schema_model.specs.declared.schema.Shape.{Shape}
-use Rattle.schema_model.specs.declared.row.Row.{Row}
+use Rattle.schema_model.specs.declared.rows.row.Row.{Row}
 use Rattle.schema_model.specs.Row.{rows_of_row}
 use Rattle.schema_model.specs.Table.{Table, row_at, IsLiveByName, IsClosed}
 use Rattle.snapshot_blob.specs.declared.closed.Dangling.{Dangling}

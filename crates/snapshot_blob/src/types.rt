@@ -12,6 +12,7 @@ use crate::TypePart;
 use crate::closed::first_dangling;
 use crate::next_rows::NextRows;
 use blob_frame::BlobFault;
+use hol_varint::Duplicate;
 use schema_model::{Limit, Model, ModelFault, Reason, Schemas, model_of};
 use std::alloc::Global;
 use type_state::{RowFault, TypeState, TypeStates};

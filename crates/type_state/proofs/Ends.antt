@@ -8,7 +8,7 @@ use Rattle.std.proofs.lemmas.Bool.{cases_lt}
 use Rattle.std.proofs.Math.Pow.{pow_mono}
 use Rattle.schema_model.specs.declared.schema.FieldKind.{FieldKind}
 use Rattle.schema_model.specs.declared.schema.Field.{Field}
-use Rattle.schema_model.specs.declared.row.Value.{Value}
+use Rattle.schema_model.specs.declared.rows.row.Value.{Value}
 use Rattle.type_state.specs.WordsHeld.{value_bytes}
 use Rattle.type_state.specs.Holds.{FitsWidth, FitsWidths}
 use Rattle.type_state.specs.Ends.{end_after}

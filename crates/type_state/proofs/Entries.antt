@@ -9,7 +9,7 @@ use Rattle.std.specs.FinMap.Entries.{put, by_order}
 use Rattle.std.specs.Map.{keys_of}
 use Rattle.std.specs.List.Sorted.{IsStrictlySortedBy}
 use Rattle.std.proofs.lemmas.List.{nil_from_length}
-use Rattle.schema_model.specs.declared.row.Row.{Row}
+use Rattle.schema_model.specs.declared.rows.row.Row.{Row}
 use Rattle.ordinal_set.specs.Ordinals.{bound_of}
 use Rattle.type_state.specs.State.{rows_of}
 

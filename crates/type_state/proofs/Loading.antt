@@ -12,7 +12,7 @@ use Rattle.ordinal_set.specs.Ordinals.{TellsNext, bound_of}
 use Rattle.schema_model.specs.Parts.{shape_fields}
 use Rattle.schema_model.specs.Table.{RowMap}
 use Rattle.schema_model.specs.declared.schema.Shape.{Shape}
-use Rattle.schema_model.specs.declared.row.Row.{Row}
+use Rattle.schema_model.specs.declared.rows.row.Row.{Row}
 use Rattle.object_codec.proofs.Rows.{row_once}
 use Rattle.type_state.specs.declared.section.Section.{Section}
 use Rattle.type_state.specs.declared.fault.RowFault.{RowFault}
@@ -21,7 +21,7 @@ use Rattle.type_state.specs.WordsHeld.{bytes_held, row_bytes}
 use Rattle.type_state.specs.Ends.{FitsRow, HasValues}
 use Rattle.std.proofs.lemmas.List.{length-map}
 use Rattle.schema_model.specs.declared.schema.Field.{Field}
-use Rattle.schema_model.specs.declared.row.Value.{Value}
+use Rattle.schema_model.specs.declared.rows.row.Value.{Value}
 use Rattle.object_codec.specs.Part.{Part}
 use Rattle.object_codec.specs.ObjectPlace.{parts_of, SpellsFields}
 use Rattle.type_state.specs.Holds.{HoldsRows}

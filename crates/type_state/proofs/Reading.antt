@@ -11,8 +11,8 @@ use Rattle.std.proofs.lemmas.List.Elements.{All-take, All-append, All-from_recur
 use Rattle.std.proofs.lemmas.List.Sums.{sum_by-append}
 use Rattle.std.proofs.lemmas.Map.Keys.{sorted_from_strictly_increasing, below_from_sorted}
 use Rattle.schema_model.specs.declared.schema.Field.{Field}
-use Rattle.schema_model.specs.declared.row.Value.{Value}
-use Rattle.schema_model.specs.declared.row.Row.{Row}
+use Rattle.schema_model.specs.declared.rows.row.Value.{Value}
+use Rattle.schema_model.specs.declared.rows.row.Row.{Row}
 use Rattle.type_state.specs.WordsHeld.{row_bytes, part_bytes, field_bytes, bytes_held}
 use Rattle.type_state.specs.Holds.{FitsWidth, FitsWidths, HoldsRow, HoldsRows}
 use Rattle.type_state.specs.Ends.{end_after, FitsRow}

@@ -7,8 +7,8 @@ use Rattle.std.specs.FinMap.{find, entries, get, get-entries, same_entries_map}
 use Rattle.schema_model.specs.declared.schema.FieldKind.{FieldKind}
 use Rattle.schema_model.specs.declared.schema.Field.{Field}
 use Rattle.schema_model.specs.declared.schema.Shape.{Shape}
-use Rattle.schema_model.specs.declared.row.Value.{Value}
-use Rattle.schema_model.specs.declared.row.Row.{Row}
+use Rattle.schema_model.specs.declared.rows.row.Value.{Value}
+use Rattle.schema_model.specs.declared.rows.row.Row.{Row}
 use Rattle.schema_model.specs.Row.{FitsKind, FitsShape}
 use Rattle.schema_model.specs.Table.{RowMap}
 use Rattle.object_codec.specs.Part.{Part, SpellsValue}

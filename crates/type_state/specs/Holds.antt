@@ -7,8 +7,8 @@ use Rattle.schema_model.specs.Table.{RowMap}
 use Rattle.schema_model.specs.declared.schema.FieldKind.{FieldKind}
 use Rattle.schema_model.specs.declared.schema.Field.{Field}
 use Rattle.schema_model.specs.declared.schema.Shape.{Shape}
-use Rattle.schema_model.specs.declared.row.Value.{Value}
-use Rattle.schema_model.specs.declared.row.Row.{Row}
+use Rattle.schema_model.specs.declared.rows.row.Value.{Value}
+use Rattle.schema_model.specs.declared.rows.row.Row.{Row}
 use Rattle.type_state.specs.Layout.{Layout, places_of, fixed_words}
 use Rattle.type_state.specs.WordsHeld.{field_bytes, bytes_held}
 

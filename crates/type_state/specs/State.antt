@@ -3,9 +3,9 @@ use Rattle.std.specs.Prelude.{◌≡◌, ℕ, List, length, Option, refl}
 use Rattle.std.specs.Coded.{Coded, code_by, coded×, coded_ℕ, coded_list, coded_option}
 use Rattle.std.specs.FinMap.{code, from_entries}
 use Rattle.schema_model.specs.declared.schema.Schema.{Schema}
-use Rattle.schema_model.specs.declared.row.Row.{Row}
+use Rattle.schema_model.specs.declared.rows.row.Row.{Row}
 use Rattle.schema_model.specs.contracts.schema.Schema as schema_contract
-use Rattle.schema_model.specs.contracts.row.Row as row_contract
+use Rattle.schema_model.specs.contracts.rows.row.Row as row_contract
 use Rattle.schema_model.specs.Parts.{fields_of}
 use Rattle.schema_model.specs.Table.{RowMap}
 use Rattle.type_state.specs.Layout.{Layout}

@@ -2,6 +2,7 @@ ghost use Rattle.std.specs.Prelude.{◌≡◌, ◌↔◌, [], Some, IsSome, IfOk
 ghost use Rattle.std.specs.FinMap.{get};
 ghost use Rattle.type_state.specs.State.{rows_of};
 
+use hol_varint::Duplicate;
 use schema_model::{Row, Widths};
 use std::alloc::{AllocError, Global};
 use std::collections::BTreeMap;

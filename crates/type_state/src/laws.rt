@@ -2,7 +2,7 @@
 ghost use Rattle.std.specs.Prelude.{◌≡◌, ℕ, Some};
 ghost use Rattle.std.specs.FinMap.{get};
 ghost use Rattle.schema_model.specs.declared.schema.Shape.{Shape};
-ghost use Rattle.schema_model.specs.declared.row.Row.{Row};
+ghost use Rattle.schema_model.specs.declared.rows.row.Row.{Row};
 ghost use Rattle.schema_model.specs.Row.{FitsShape};
 ghost use Rattle.schema_model.specs.Table.{RowMap};
 ghost use Rattle.object_codec.specs.ObjectPlace.{IsObject};

@@ -14,6 +14,7 @@ use crate::fits::add_row;
 use crate::kept::Kept;
 use crate::{RowFault, Section};
 use bit_array::words_for;
+use hol_varint::Duplicate;
 use object_codec::read;
 use schema_model::{Field, Limit, PlaceFault, Reason, Row, Schema, Shape};
 use std::alloc::Global;

@@ -45,6 +45,6 @@ impl Parts for Section {
     }
 
     fn byte(&self, field: u32, at: u64) -> u8 {
-        self.areas.get(field as usize).get(at as usize)
+        *self.areas.get(field as usize).get(at as usize)
     }
 }

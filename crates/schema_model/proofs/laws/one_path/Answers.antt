@@ -1,4 +1,4 @@
-use Rattle.schema_model.specs.declared.rule.Rule.TheVariants.{DuplicateName}
+use Rattle.schema_model.specs.declared.model.rule.Rule.TheVariants.{DuplicateName}
 use Rattle.schema_model.proofs.Ways as ways
 use Rattle.schema_model.proofs.laws.one_path.Goals as goal
 

@@ -1,5 +1,5 @@
 use Rattle.std.proofs.Common.{refl}
-use Rattle.schema_model.specs.declared.rule.Rule.TheVariants.{TooMany, LongName, DuplicateName, FloatField, UnknownType, CyclicModel, TooDeep, BadPath}
+use Rattle.schema_model.specs.declared.model.rule.Rule.TheVariants.{TooMany, LongName, DuplicateName, FloatField, UnknownType, CyclicModel, TooDeep, BadPath}
 use Rattle.schema_model.proofs.FirstBroken.{Passed, passed_none, passed_more, all_passed, fault_told, exit_told}
 use Rattle.schema_model.proofs.model.check.Goals as goal
 

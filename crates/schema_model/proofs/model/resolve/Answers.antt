@@ -2,7 +2,7 @@ use Rattle.std.proofs.Common.{subst, refl, Ok, List}
 use Rattle.schema_model.specs.Faults.{TellsPath}
 use Rattle.schema_model.specs.Model.{IsModel}
 use Rattle.schema_model.specs.Path.{Leads, path_names}
-use Rattle.schema_model.specs.declared.rule.Rule.TheVariants.{TooMany, DuplicateName, TooDeep}
+use Rattle.schema_model.specs.declared.model.rule.Rule.TheVariants.{TooMany, DuplicateName, TooDeep}
 use Rattle.schema_model.specs.declared.schema.Schema.{Schema}
 use Rattle.schema_model.proofs.Ways.{path_found, path_missing, path_exit}
 use Rattle.schema_model.proofs.model.resolve.Goals as goal

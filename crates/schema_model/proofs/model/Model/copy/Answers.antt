@@ -1,6 +1,6 @@
 use Rattle.std.proofs.Common.{sym, subst, length, ◌≤◌, List}
 use Rattle.schema_model.specs.Model.{IsModel}
-use Rattle.schema_model.specs.declared.rule.Rule.TheVariants.{TooMany}
+use Rattle.schema_model.specs.declared.model.rule.Rule.TheVariants.{TooMany}
 use Rattle.schema_model.specs.declared.schema.Schema.{Schema}
 use Rattle.schema_model.proofs.ModelFacts.{few_schemas}
 use Rattle.schema_model.proofs.model.Model.copy.Goals as goal

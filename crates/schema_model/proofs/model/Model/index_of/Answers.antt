@@ -2,7 +2,7 @@ use Rattle.std.proofs.Common.{◌≡◌, ◌∙◌, sym, subst, Some, None, ℕ,
 use Rattle.std.specs.Prelude.{◌↔◌, Contains, slice_get}
 use Rattle.schema_model.specs.Model.{IsModel}
 use Rattle.schema_model.specs.Parts.{type_index, type_names}
-use Rattle.schema_model.specs.declared.rule.Rule.TheVariants.{DuplicateName}
+use Rattle.schema_model.specs.declared.model.rule.Rule.TheVariants.{DuplicateName}
 use Rattle.schema_model.specs.declared.schema.Schema.{Schema}
 use Rattle.schema_model.proofs.ModelFacts.{index_at, index_none}
 use Rattle.schema_model.proofs.model.Model.index_of.Goals as goal

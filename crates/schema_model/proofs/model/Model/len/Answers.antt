@@ -1,6 +1,6 @@
 use Rattle.std.proofs.Common.{subst, arith}
 use Rattle.schema_model.specs.Model.{IsModel}
-use Rattle.schema_model.specs.declared.rule.Rule.TheVariants.{TooMany}
+use Rattle.schema_model.specs.declared.model.rule.Rule.TheVariants.{TooMany}
 use Rattle.schema_model.proofs.ModelFacts.{few_schemas}
 use Rattle.schema_model.proofs.model.Model.len.Goals as goal
 

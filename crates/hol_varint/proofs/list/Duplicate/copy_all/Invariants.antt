@@ -1,0 +1,6 @@
+-- Each item that was passed has its copy.
+use Rattle.std.proofs.Common.{◌≡◌, take}
+use Rattle.hol_varint.proofs.list.Duplicate.copy_all.Given as goal
+
+abbrev pub invariant-loop-item : goal.invariant-loop-item
+invariant-loop-item g l = l.copies.items ≡ take l.item-index l.items

@@ -1,0 +1,8 @@
+use Rattle.std.proofs.Common.{ℕ, ◌<◌}
+use Rattle.schema_model.specs.Model.{BreaksAt}
+use Rattle.schema_model.specs.declared.model.rule.Rule.TheVariants.{DuplicateName}
+use Rattle.schema_model.proofs.model.rules.check_names.Given as goal
+
+-- none of the first types breaks the rule
+abbrev pub invariant-loop-t : goal.invariant-loop-t
+invariant-loop-t l = (u : ℕ) → u < l.t → ¬ BreaksAt l.schemas DuplicateName u

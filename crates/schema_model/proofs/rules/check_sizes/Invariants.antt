@@ -1,8 +1,0 @@
-use Rattle.std.proofs.Common.{ℕ, ◌<◌, ◌≤◌}
-use Rattle.schema_model.specs.Model.{BreaksAt}
-use Rattle.schema_model.specs.declared.rule.Rule.TheVariants.{TooMany}
-use Rattle.schema_model.proofs.rules.check_sizes.Given as goal
-
--- none of the first types breaks the rule
-abbrev pub invariant-loop-t : goal.invariant-loop-t
-invariant-loop-t l = (l.t ≤ 512) × ((u : ℕ) → u < l.t → ¬ BreaksAt l.schemas TooMany u)

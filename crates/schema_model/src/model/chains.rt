@@ -1,0 +1,99 @@
+ghost use Rattle.std.specs.Prelude.{◌≡◌, ◌<◌, ◌≤◌, ◌+◌, ℕ, length, map, IfOk};
+ghost use Rattle.std.specs.List.{position};
+ghost use Rattle.schema_model.specs.Checked.{TellsRule, chained, has_chained};
+ghost use Rattle.schema_model.specs.Model.{reference_rows};
+
+use crate::{MAX_DEPTH, ModelFault, Rule, Schemas};
+use hol_varint::Ordinals;
+use std::alloc::{AllocError, Global};
+
+/// Whether one of the indexes is marked.
+fn has_marked(row: &[u32], marks: &[bool]) -> bool
+    ensures { result ≡ has_chained marks.now row.now }
+{
+    for t in row {
+        if marks.get(*t as usize).copied().unwrap_or(false) {
+            return true;
+        }
+    }
+    false
+}
+
+/// The first marked type.
+fn first_mark(marks: &[bool]) -> Option<usize>
+    ensures { result ≡ position (λ mark. mark) marks.now }
+{
+    marks.iter().position(|mark| *mark)
+}
+
+/// Marks the types that refer to a marked one.
+fn next_marks(alloc: Global, rows: &[Ordinals], marks: &[bool]) -> Result<Vec<bool>, AllocError>
+    ensures { IfOk result (λ next. next.items ≡ map (has_chained marks.now) rows.now) }
+{
+    let mut next = Vec::with_capacity(alloc, rows.len())?;
+    for row in rows {
+        next.push(has_marked(row.as_slice(), marks))?;
+    }
+    Ok(next)
+}
+
+/// Marks the types from which a chain of this many references can be followed.
+#[tactic(auto, unfolding(crate::specs::Checked::chained))]
+fn marks_after(alloc: Global, rows: &[Ordinals], count: u32) -> Result<Vec<bool>, AllocError>
+    ensures { IfOk result (λ marks. marks.items ≡ chained rows.now count) }
+{
+    let mut marks = vec![in alloc; true; rows.len()]?;
+    for round in 0..count {
+        marks = next_marks(alloc, rows, marks.as_slice())?;
+    }
+    Ok(marks)
+}
+
+/// Marks the types from which chains of every length can be followed.
+#[tactic(auto, unfolding(crate::specs::Checked::chained))]
+fn endless_marks(alloc: Global, rows: &[Ordinals]) -> Result<Vec<bool>, AllocError>
+    ensures { IfOk result (λ marks. (k : ℕ) × (marks.items ≡ chained rows.now k) × (chained rows.now (k + 1) ≡ chained rows.now k)) }
+{
+    let mut marks = vec![in alloc; true; rows.len()]?;
+    loop {
+        let next = next_marks(alloc, rows, marks.as_slice())?;
+        if next == marks {
+            return Ok(marks);
+        }
+        marks = next;
+    }
+}
+
+/// Tries that no type's references lead into a cycle.
+pub(crate) fn check_cycles(
+    alloc: Global,
+    schemas: &Schemas,
+    rows: &[Ordinals],
+) -> Result<(), ModelFault>
+    requires rows { rows.now ≡ reference_rows schemas.now }
+    requires short { length schemas.now ≤ 512 }
+    ensures { TellsRule schemas.now Rule.CyclicModel result }
+{
+    let marks = endless_marks(alloc, rows)?;
+    match first_mark(marks.as_slice()) {
+        Some(t) => Err(ModelFault::Broken(Rule::CyclicModel, t as u32)),
+        None => Ok(()),
+    }
+}
+
+/// Tries that no chain of references goes through too many types.
+pub(crate) fn check_depth(
+    alloc: Global,
+    schemas: &Schemas,
+    rows: &[Ordinals],
+) -> Result<(), ModelFault>
+    requires rows { rows.now ≡ reference_rows schemas.now }
+    requires short { length schemas.now ≤ 512 }
+    ensures { TellsRule schemas.now Rule.TooDeep result }
+{
+    let marks = marks_after(alloc, rows, MAX_DEPTH)?;
+    match first_mark(marks.as_slice()) {
+        Some(t) => Err(ModelFault::Broken(Rule::TooDeep, t as u32)),
+        None => Ok(()),
+    }
+}

@@ -1,0 +1,80 @@
+ghost use Rattle.std.specs.Prelude.{◌≡◌, ◌<◌, ◌≤◌, ◌↔◌, length, Any, IfOk, IsTrue};
+ghost use Rattle.schema_model.specs.Checked.{Indexes, TellsRule};
+ghost use Rattle.schema_model.specs.Model.{BreaksAt, IsBadPath, IsKept};
+ghost use Rattle.schema_model.specs.Parts.{type_names};
+
+use crate::model::name_index::Places;
+use crate::model::path_walk::way_of;
+use crate::{ModelFault, Names, PathFault, Rule, Schemas, Shape};
+use std::alloc::{AllocError, Global};
+
+/// Whether one of the key paths of a type leads nowhere.
+fn has_bad_path(
+    alloc: Global,
+    schemas: &Schemas,
+    places: &Places,
+    t: u32,
+    paths: &Names,
+) -> Result<bool, AllocError>
+    requires inside { t < length schemas.now }
+    requires indexed { Indexes (type_names schemas.now) places.now }
+    requires few { IsKept schemas.now Rule.TooMany }
+    requires apart { IsKept schemas.now Rule.DuplicateName }
+    requires shallow { IsKept schemas.now Rule.TooDeep }
+    ensures { IfOk result (λ bad. IsTrue bad ↔ Any (IsBadPath schemas.now t) paths.now) }
+{
+    for path in paths.as_slice() {
+        match way_of(alloc, schemas, places, t, path.text()) {
+            Ok(_) => {}
+            Err(PathFault::BadPath) => return Ok(true),
+            Err(PathFault::Memory) => return Err(AllocError),
+        }
+    }
+    Ok(false)
+}
+
+/// Whether a type has a primary key without a path, or with one that leads nowhere.
+fn has_bad_key(
+    alloc: Global,
+    schemas: &Schemas,
+    places: &Places,
+    t: u32,
+) -> Result<bool, AllocError>
+    requires inside { t < length schemas.now }
+    requires indexed { Indexes (type_names schemas.now) places.now }
+    requires few { IsKept schemas.now Rule.TooMany }
+    requires apart { IsKept schemas.now Rule.DuplicateName }
+    requires shallow { IsKept schemas.now Rule.TooDeep }
+    ensures { IfOk result (λ bad. IsTrue bad ↔ BreaksAt schemas.now Rule.BadPath t) }
+{
+    match &schemas.get(t as usize).shape {
+        Shape::Object(Some(paths), _) => {
+            if paths.is_empty() {
+                return Ok(true);
+            }
+            has_bad_path(alloc, schemas, places, t, paths)
+        }
+        _ => Ok(false),
+    }
+}
+
+/// Tries that each primary key has a path, and that each of its paths leads to a value.
+pub(crate) fn check_keys(
+    alloc: Global,
+    schemas: &Schemas,
+    places: &Places,
+) -> Result<(), ModelFault>
+    requires indexed { Indexes (type_names schemas.now) places.now }
+    requires few { IsKept schemas.now Rule.TooMany }
+    requires apart { IsKept schemas.now Rule.DuplicateName }
+    requires shallow { IsKept schemas.now Rule.TooDeep }
+    requires short { length schemas.now ≤ 512 }
+    ensures { TellsRule schemas.now Rule.BadPath result }
+{
+    for t in 0..schemas.len() as u32 {
+        if has_bad_key(alloc, schemas, places, t)? {
+            return Err(ModelFault::Broken(Rule::BadPath, t));
+        }
+    }
+    Ok(())
+}

@@ -1,7 +1,0 @@
-use Rattle.std.proofs.Common.{arith}
-use Rattle.std.proofs.lemmas.Grind.{common_steps}
-use Rattle.type_state.proofs.Counts.{units_counted}
-use Rattle.type_state.proofs.count.text_len.Goals as goal
-
-pub returns : goal.returns
-returns c = let counted = units_counted c.args.units.now in grind (arith, common_steps, counted)
