@@ -67,6 +67,12 @@ made f a = do
   x ← a
   nothing (f x)
 
+-- A number, and as many of a.
+unfoldable pub counted : {A : Type 0} → Form ℕ → Form A → Form (List A)
+counted number a = do
+  n ← number
+  repeated n a
+
 -- For each of these in turn what it calls for, one behind the other.
 unfoldable pub each_of : {A B : Type 0} → (A → Form B) → List A → Form (List B)
 each_of f [] = nothing []

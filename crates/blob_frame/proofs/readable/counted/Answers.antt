@@ -1,6 +1,6 @@
 use Rattle.std.proofs.Common.{rules, arith}
 use Rattle.blob_frame.proofs.Counting.{counts_more, counts_stops, counts_free, counts_done, counts_start}
-use Rattle.blob_frame.proofs.several.counted.Goals as goal
+use Rattle.blob_frame.proofs.readable.counted.Goals as goal
 
 pub returns-in_err-read : goal.returns-in_err-read
 returns-in_err-read g c = record { reads = counts_stops (omega arith) c.loop-item.invariant c.in_err-read.ensures.reads (search rules) }

@@ -1,7 +1,7 @@
 use Rattle.std.proofs.Common.{rules}
-use Rattle.blob_frame.specs.Form.{both}
+use Rattle.blob_grammar.specs.Form.{both}
 use Rattle.blob_frame.proofs.Chain.{reads_then, reads_stops, reads_nothing}
-use Rattle.blob_frame.proofs.several.Tuple2Readable.read.Goals as goal
+use Rattle.blob_frame.proofs.readable.Tuple2Readable.read.Goals as goal
 
 pub returns-in_err-first : goal.returns-in_err-first
 unfolding both
