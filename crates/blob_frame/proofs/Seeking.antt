@@ -1,20 +1,16 @@
 -- Seeking the end of a number that goes on.
-use Rattle.std.proofs.Common.{◌≡◌, ◌≢◌, ◌≤◌, ◌<◌, ◌+◌, ◌-◌, ◌*◌, ◌^◌, ℕ, suc, List, [], ◌∷◌, ◌++◌, get_or, take, drop, length, min, Bool, true, false, Option, Some, None, Result, Ok, Err, refl, ◌∙◌, subst, sym, ap, arith, length-drop, drop-cons}
+use Rattle.std.proofs.Common.{◌≡◌, ◌≢◌, ◌≤◌, ◌<◌, ◌+◌, ◌-◌, ◌*◌, ◌^◌, ℕ, suc, List, [], ◌∷◌, ◌++◌, get_or, take, drop, length, min, true, false, Option, Some, None, Ok, ◌∙◌, subst, sym, ap, arith, length-drop, drop-cons}
 use Rattle.std.specs.Option.{IfSome}
-use Rattle.std.specs.Result.{IfOk}
-use Rattle.std.specs.Bool.{MatchBool}
 use Rattle.std.proofs.Math.Seq.{take-add}
 use Rattle.std.proofs.lemmas.List.{drop-drop, take-take, take-append-drop, take_more, get_or-take, get_or-drop}
 use Rattle.std.proofs.lemmas.Grind.{common_steps}
 use Rattle.hol_io.specs.Store.{told}
 use Rattle.hol_varint.specs.Varint.{GoOn, IsVarint}
-use Rattle.blob_frame.specs.declared.fault.BlobFault.{BlobFault}
-use Rattle.blob_frame.specs.declared.fault.BlobFault.TheVariants as fault
 use Rattle.blob_frame.specs.Scene.{Place, Scene, at_place, moved, Stays, IsOver, IsPlaceIn}
 use Rattle.blob_grammar.specs.Words.{StopsLater}
 use Rattle.blob_grammar.proofs.SomeNumbers.{grouped, spells-push}
 use Rattle.blob_frame.specs.Filling.{Fills, Seeks, HasAhead}
-use Rattle.blob_frame.proofs.Chain.{told_stays, stays_here, stays_then, rose_earlier}
+use Rattle.blob_frame.proofs.Chain.{told_stays, stays_then}
 use Rattle.blob_frame.proofs.Fixed.{stays_passed}
 
 pub GoOn-append : (xs ys : List ℕ) → GoOn xs → GoOn ys → GoOn (xs ++ ys)
