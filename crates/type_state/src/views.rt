@@ -1,0 +1,69 @@
+//! The rows of some states, as those of a model's types.
+ghost use Rattle.std.specs.Prelude.{◌≡◌};
+ghost use Rattle.type_state.specs.Views.{AreNext, table_of, next_halves};
+
+use crate::TypeStates;
+use schema_model::{Model, Row, Rows};
+use std::alloc::{AllocError, Global};
+
+/// The rows that stand in the next halves of the types of a model.
+#[derive(Drop)]
+pub struct NextRows<'a> {
+    model: &'a Model,
+    states: &'a TypeStates,
+}
+
+impl<'a> std::marker::Model for NextRows<'a> {
+    ghost use Rattle.type_state.specs.Views.{Content, content_code, AreNext, table_of, next_halves};
+
+    ghost Value = { Content };
+
+    ghost coded = { content_code };
+
+    ghost view = { λ r. record { schemas = r.model.now; table = table_of (next_halves r.states.now) } };
+
+    ghost invariant = { λ r. AreNext r.model.now r.states.now };
+}
+
+impl<'a> NextRows<'a> {
+    /// The rows in the next halves of these states, which are those of the model's types.
+    pub fn new(model: &'a Model, states: &'a TypeStates) -> NextRows<'a>
+        requires { AreNext model.now states.now }
+        ensures schemas { result.schemas ≡ model.now }
+        ensures table { result.table ≡ table_of (next_halves states.now) }
+    {
+        NextRows { model, states }
+    }
+}
+
+impl<'a> Rows for NextRows<'a> {
+    ghost schemas = { λ rows. rows.schemas };
+
+    ghost table = { λ rows. rows.table };
+
+    fn model(&self) -> &Model {
+        self.model
+    }
+
+    fn bound(&self, t: u32) -> u32 {
+        let t = t as usize;
+        if t < self.states.len() {
+            self.states.get(t).next_bound()
+        } else {
+            0
+        }
+    }
+
+    fn is_live(&self, t: u32, o: u32) -> bool {
+        let t = t as usize;
+        if t < self.states.len() {
+            self.states.get(t).next_is_live(o)
+        } else {
+            false
+        }
+    }
+
+    fn row(&self, alloc: Global, t: u32, o: u32) -> Result<Row, AllocError> {
+        self.states.get(t as usize).next_row(alloc, o)
+    }
+}
