@@ -5,8 +5,8 @@ use Rattle.hol_io.specs.Store.{told}
 use Rattle.schema_model.specs.declared.reason.Reason.{Reason}
 use Rattle.blob_frame.specs.declared.fault.BlobFault.{BlobFault}
 use Rattle.blob_frame.specs.declared.fault.BlobFault.TheVariants as fault
-use Rattle.blob_frame.specs.Decided.{IsJudge}
-use Rattle.blob_frame.specs.Form.{Form, ◌>>=◌, nothing, judged, made}
+use Rattle.blob_grammar.specs.Decided.{IsJudge}
+use Rattle.blob_grammar.specs.Form.{Form, ◌>>=◌, nothing, judged, made}
 use Rattle.blob_frame.specs.Scene.{Scene, Stays, IsOver, Tells, Reads}
 
 -- a cause stays one where the count goes on
@@ -19,6 +19,7 @@ rose_earlier a b c h k = omega arith
 pub stays_then : {before mid after : Scene} → Stays before mid → Stays mid after → Stays before after
 stays_then {before} {mid} {after} p q = record {
   store = q.store ∙ p.store;
+  puts = q.puts ∙ p.puts;
   later = omega (arith, p.later, q.later);
   name = q.name ∙ p.name;
   size = q.size ∙ p.size;
@@ -73,7 +74,7 @@ tells_nothing v (Some blob) at = (refl, refl)
 -- nothing is left to read
 pub reads_nothing : {A : Type 0} {v : A} {now : Scene} → IsOver now → Reads (nothing v) now now (Ok v)
 reads_nothing {v = v} {now} over = record {
-  stays = record { store = refl; later = omega arith; name = refl; size = refl };
+  stays = record { store = refl; puts = refl; later = omega arith; name = refl; size = refl };
   over = over;
   cause = λ e. absurd (cc);
   kind = tt;

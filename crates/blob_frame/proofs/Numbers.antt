@@ -11,9 +11,9 @@ use Rattle.schema_model.specs.declared.reason.Reason.TheVariants.{Truncated, Bad
 use Rattle.blob_frame.specs.declared.fault.BlobFault.{BlobFault}
 use Rattle.blob_frame.specs.declared.fault.BlobFault.TheVariants as fault
 use Rattle.blob_frame.specs.Item.{varint}
-use Rattle.blob_frame.specs.Words.{VarFails}
+use Rattle.blob_grammar.specs.Words.{VarFails, StopsLater}
 use Rattle.blob_frame.specs.Scene.{Place, Scene, at_place, moved, IsPlaceIn, Tells, Reads}
-use Rattle.blob_frame.specs.Filling.{Fills, StopsLater, Seeks}
+use Rattle.blob_frame.specs.Filling.{Fills, Seeks}
 use Rattle.blob_frame.proofs.Chain.{told_stays, stays_then}
 use Rattle.blob_frame.proofs.Fixed.{take_ahead, within_ahead, over_moved, stays_passed}
 use Rattle.blob_frame.proofs.Seeking.{long_run}

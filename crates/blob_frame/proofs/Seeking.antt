@@ -7,24 +7,16 @@ use Rattle.std.proofs.Math.Seq.{take-add}
 use Rattle.std.proofs.lemmas.List.{drop-drop, take-take, take-append-drop, take_more, get_or-take, get_or-drop}
 use Rattle.std.proofs.lemmas.Grind.{common_steps}
 use Rattle.hol_io.specs.Store.{told}
-use Rattle.hol_varint.specs.Varint.{GoOn, SpellsOn, IsVarint}
+use Rattle.hol_varint.specs.Varint.{GoOn, IsVarint}
 use Rattle.blob_frame.specs.declared.fault.BlobFault.{BlobFault}
 use Rattle.blob_frame.specs.declared.fault.BlobFault.TheVariants as fault
 use Rattle.blob_frame.specs.Scene.{Place, Scene, at_place, moved, Stays, IsOver, IsPlaceIn}
-use Rattle.blob_frame.specs.Filling.{Fills, StopsLater, Seeks, HasAhead}
+use Rattle.blob_grammar.specs.Words.{StopsLater}
+use Rattle.blob_grammar.proofs.SomeNumbers.{grouped, spells-push}
+use Rattle.blob_frame.specs.Filling.{Fills, Seeks, HasAhead}
 use Rattle.blob_frame.proofs.Chain.{told_stays, stays_then, rose_earlier}
 use Rattle.blob_frame.proofs.Fixed.{stays_passed}
 use Rattle.blob_frame.proofs.Runs.{stays_here}
-
--- what the groups of the bytes make, behind those that make high
-abbrev grouped : ℕ → List ℕ → ℕ
-grouped high [] = high
-grouped high (b ∷ bs) = grouped (high * 128 + (b - 128)) bs
-
-spells-push : (high : ℕ) (bs : List ℕ) (b : ℕ) → GoOn bs → b < 128 → SpellsOn high (bs ++ b ∷ []) (grouped high bs * 128 + b)
-spells-push high [] b on last = (last, refl)
-spells-push high (c ∷ []) b on last = (on.0, on.1, spells-push (high * 128 + (c - 128)) [] b tt last)
-spells-push high (c ∷ d ∷ ds) b on last = (on.0, on.1, spells-push (high * 128 + (c - 128)) (d ∷ ds) b on.2 last)
 
 pub GoOn-append : (xs ys : List ℕ) → GoOn xs → GoOn ys → GoOn (xs ++ ys)
 GoOn-append [] ys p q = q

@@ -1,3 +1,4 @@
+//! Tests of reading and writing.
 use super::{BlobFault, Cursor, put_header};
 use hol_io::{BlobName, BlobStore, SureStore};
 use hol_varint::Ordinals;

@@ -1,3 +1,4 @@
+//! Reading numbers of variable length.
 ghost use Rattle.std.specs.Prelude.{◌≡◌, ◌<◌, ℕ, length, take, slice_index, IfErr, MatchOption, if◌then◌else◌};
 ghost use Rattle.hol_io.specs.Store.{told};
 ghost use Rattle.hol_varint.specs.Varint.{GoOn};
