@@ -1,3 +1,4 @@
+//! Tests of models and paths.
 use super::*;
 use std::alloc::{AllocError, Global};
 use std::test::Fail;
@@ -46,7 +47,9 @@ fn a_model_and_its_paths(rt: HostRuntime) -> Result<(), Fail> {
     assert!(rt; model.schema(1).name.text() == "Film");
     for text in ["title", "title.value"] {
         match resolve(alloc, &model, 1, text) {
-            Ok(path) => assert!(rt; path.t == 1 && path.fields.as_slice() == [1, 0].as_slice()),
+            Ok(path) => assert!(rt;
+                path.type_index == 1 && path.fields.as_slice() == [1, 0].as_slice()
+            ),
             Err(_) => assert!(rt; false),
         }
     }
@@ -60,7 +63,7 @@ fn a_model_and_its_paths(rt: HostRuntime) -> Result<(), Fail> {
 fn a_type_that_is_not_there(rt: HostRuntime) -> Result<(), Fail> {
     let alloc = rt.alloc();
     match model_of(alloc, two_types(alloc, "Name")?) {
-        Err(ModelFault::Broken(Rule::UnknownType, t)) => assert!(rt; t == 1),
+        Err(ModelFault::Broken(Rule::UnknownType, type_index)) => assert!(rt; type_index == 1),
         _ => assert!(rt; false),
     }
     assert!(rt; Model::none(alloc).len() == 0);

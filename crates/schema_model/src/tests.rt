@@ -1,3 +1,4 @@
+//! Tests of schemas, rows and trees.
 ghost use Rattle.std.specs.Prelude.{◌≡◌, [], ◌∷◌, IfOk, codes};
 
 use super::*;

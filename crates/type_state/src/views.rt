@@ -45,25 +45,27 @@ impl<'a> Rows for NextRows<'a> {
         self.model
     }
 
-    fn bound(&self, t: u32) -> u32 {
-        let t = t as usize;
-        if t < self.states.len() {
-            self.states.get(t).next_bound()
+    fn bound(&self, type_index: u32) -> u32 {
+        let type_index = type_index as usize;
+        if type_index < self.states.len() {
+            self.states.get(type_index).next_bound()
         } else {
             0
         }
     }
 
-    fn is_live(&self, t: u32, o: u32) -> bool {
-        let t = t as usize;
-        if t < self.states.len() {
-            self.states.get(t).next_is_live(o)
+    fn is_live(&self, type_index: u32, ordinal: u32) -> bool {
+        let type_index = type_index as usize;
+        if type_index < self.states.len() {
+            self.states.get(type_index).next_is_live(ordinal)
         } else {
             false
         }
     }
 
-    fn row(&self, alloc: Global, t: u32, o: u32) -> Result<Row, AllocError> {
-        self.states.get(t as usize).next_row(alloc, o)
+    fn row(&self, alloc: Global, type_index: u32, ordinal: u32) -> Result<Row, AllocError> {
+        self.states
+            .get(type_index as usize)
+            .next_row(alloc, ordinal)
     }
 }
