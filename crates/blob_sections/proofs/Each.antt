@@ -36,20 +36,21 @@ front items done item h is = rw add-one (drop-cons items done item h ∙ ap (λ 
 more : {A : Type 0} (items : List A) (done : ℕ) (item : A) → done < length items → item ≡ get_or items done item → take (done + 1) items ≡ take done items ++ item ∷ []
 more items done item h is = take_more items done item h ∙ ap (λ x. take done items ++ x ∷ []) (sym is)
 
-module _ {A B : Type 0} {f : A → Form B} {P : A → B → Type 0} {items : List A} where
-  one_more : {x : A} {xs : List A} {y : B} {now mid end : Scene} (r : Result (List B) BlobFault) → Reads (f x) now mid (Ok y) → Reads (each_of f xs) mid end r → Reads (each_of f (x ∷ xs)) now end (prefixed (y ∷ []) r)
+module _ {A B : Type 0} (f : A → Form B) where
+  one_more : (x : A) (xs : List A) {y : B} {now mid end : Scene} (r : Result (List B) BlobFault) → Reads (f x) now mid (Ok y) → Reads (each_of f xs) mid end r → Reads (each_of f (x ∷ xs)) now end (prefixed (y ∷ []) r)
   unfolding prefixed each_of
-  one_more (Ok ys) p q = reads_then _ p (reads_then _ q (reads_nothing q.over))
-  one_more (Err e) p q = reads_then _ p (reads_stops _ q refl)
+  one_more x xs (Ok ys) p q = reads_then _ p (reads_then _ q (reads_nothing q.over))
+  one_more x xs (Err e) p q = reads_then _ p (reads_stops _ q refl)
 
-  stop_here : {x : A} {xs : List A} {now mid : Scene} (e : BlobFault) → Reads (f x) now mid (Err e) → Reads (each_of f (x ∷ xs)) now mid (Err e)
+  stop_here : (x : A) (xs : List A) {now mid : Scene} (e : BlobFault) → Reads (f x) now mid (Err e) → Reads (each_of f (x ∷ xs)) now mid (Err e)
   unfolding each_of
-  stop_here e p = reads_stops _ p refl
+  stop_here x xs e p = reads_stops _ p refl
 
-  none_left : {now : Scene} (xs : List A) → xs ≡ [] → IsOver now → Reads (each_of f xs) now now (Ok [])
+  none_left : (xs : List A) {now : Scene} → xs ≡ [] → IsOver now → Reads (each_of f xs) now now (Ok [])
   unfolding each_of
-  none_left {now} xs is over = subst (λ xs. Reads (each_of f xs) now now (Ok [])) (sym is) (reads_nothing over)
+  none_left xs {now} is over = subst (λ (xs : List A). Reads (each_of f xs) now now (Ok [])) (sym is) (reads_nothing over)
 
+module _ {A B : Type 0} {f : A → Form B} {P : A → B → Type 0} {items : List A} where
   pub walks_start : {now : Scene} {list : List B} → IsOver now → list ≡ [] → Walks f P items 0 now now list
   walks_start {now} over is = subst (λ (list : List B). Walks f P items 0 now now list) (sym is) (record {
     stays = stays_here now;
@@ -65,7 +66,7 @@ module _ {A B : Type 0} {f : A → Form B} {P : A → B → Type 0} {items : Lis
     stays = stays_then w.stays p.stays;
     over = p.over;
     rest = λ r end q. subst (λ r. Reads (each_of f items) before end r) (prefixed_more list y r)
-        (w.rest (prefixed (y ∷ []) r) end (subst (λ (xs : List A). Reads (each_of f xs) now end (prefixed (y ∷ []) r)) (sym (front items done x h at)) (one_more r p q)));
+        (w.rest (prefixed (y ∷ []) r) end (subst (λ (xs : List A). Reads (each_of f xs) now end (prefixed (y ∷ []) r)) (sym (front items done x h at)) (one_more f x (drop (done + 1) items) r p q)));
     each = subst (λ (xs : List A). AllZip P xs (list ++ y ∷ [])) (sym (more items done x h at)) (all_zipped_more P (take done items) list x y w.each fits);
   })
 
@@ -74,18 +75,18 @@ module _ {A B : Type 0} {f : A → Form B} {P : A → B → Type 0} {items : Lis
       Walks f P items done before now list → Reads (f x) now mid (Err e) → r ≡ Err e → Reads (each_of f items) before mid r
   unfolding prefixed
   walks_stops {done} {before} {now} {mid} x {e} h at w p is = subst (λ r. Reads (each_of f items) before mid r) (sym is)
-      (w.rest (Err e) mid (subst (λ (xs : List A). Reads (each_of f xs) now mid (Err e)) (sym (front items done x h at)) (stop_here e p)))
+      (w.rest (Err e) mid (subst (λ (xs : List A). Reads (each_of f xs) now mid (Err e)) (sym (front items done x h at)) (stop_here f x (drop (done + 1) items) e p)))
 
   -- memory is refused on the way
-  pub walks_free : {done : ℕ} {before now mid : Scene} {list : List B} {x : A} {y : B} {r : Result (List B) BlobFault} →
+  pub walks_free : {done : ℕ} {before now mid : Scene} {list : List B} (x : A) {y : B} {r : Result (List B) BlobFault} →
       Walks f P items done before now list → Reads (f x) now mid (Ok y) → r ≡ Err fault.Memory → Reads (each_of f items) before mid r
-  walks_free w p is = reads_free (stays_then w.stays p.stays) p.over is
+  walks_free x w p is = reads_free (stays_then w.stays p.stays) p.over is
 
   -- all are read
   pub walks_done : {done : ℕ} {before now : Scene} {list : List B} → Walks f P items done before now list → length items ≤ done → Reads (each_of f items) before now (Ok list)
   unfolding prefixed
   walks_done {done} {before} {now} {list} w h =
-      subst (λ (xs : List B). Reads (each_of f items) before now (Ok xs)) (append-nil list) (w.rest (Ok []) now (none_left (drop done items) (drop_all done items h) w.over))
+      subst (λ (xs : List B). Reads (each_of f items) before now (Ok xs)) (append-nil list) (w.rest (Ok []) now (none_left f (drop done items) (drop_all done items h) w.over))
 
   pub walks_each : {done : ℕ} {before now : Scene} {list : List B} → Walks f P items done before now list → length items ≤ done → AllZip P items list
   walks_each {done} {list = list} w h = subst (λ (xs : List A). AllZip P xs list) (take_all done items h) w.each

@@ -1,6 +1,6 @@
 -- What stands in front of a type's section: its schema and its shard envelope.
-use Rattle.std.specs.Prelude.{◌≡◌, ◌⊎◌, inl, inr, refl}
-use Rattle.schema_model.specs.declared.reason.Reason.{Reason}
+use Rattle.std.specs.Prelude.{◌≡◌, ◌⊎◌, refl}
+use Rattle.std.proofs.Common.{inl, inr, ◌∙◌, sym}
 use Rattle.schema_model.specs.declared.reason.Reason.TheVariants.{BadSchema}
 use Rattle.schema_model.specs.declared.schema.Shape.{Shape}
 use Rattle.type_state.specs.WellFormed.{IsBuilt}
@@ -20,7 +20,7 @@ built_or (Shape.Map key value) = inr (λ b. b)
 pub judge_built : (shape : Shape) → IsJudge {A = Unit} {B = Unit} (λ u v. IsBuilt shape) (λ u why. (IsBuilt shape → ⊥) × (why ≡ BadSchema))
 judge_built shape = record {
   one = λ x v w p q. refl;
-  once = λ x why because p q. λ i. BadSchema;
+  once = λ x why because p q. p.1 ∙ sym q.1;
   apart = λ x v why p q. q.0 p;
   some = λ x. elim (built_or shape) [ inl p ↦ inl (tt, p) | inr p ↦ inr (BadSchema, (p, refl)) ];
 }

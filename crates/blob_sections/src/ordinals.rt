@@ -7,10 +7,7 @@ use hol_io::BlobStore;
 use ordinal_set::OrdinalSet;
 
 /// The live ordinals of a type, a bit each of so many words.
-pub fn population<S: BlobStore>(
-    cursor: &mut Cursor,
-    store: &mut S,
-) -> Result<OrdinalSet, BlobFault>
+pub fn population<S: BlobStore>(cursor: &mut Cursor, store: &mut S) -> Result<OrdinalSet, BlobFault>
     requires over { IsAbove S.seen store.old cursor.old }
     ensures reads { Leads S.seen population store.old cursor.old store.new cursor.new result }
 {

@@ -1,6 +1,5 @@
 //! The items of a section that a snapshot and a delta have.
 ghost use Rattle.std.specs.Prelude.{◌≡◌, ◌≤◌, [], IfOk, length};
-ghost use Rattle.schema_model.specs.Parts.{shape_fields};
 ghost use Rattle.type_state.specs.WellFormed.{IsBuilt, IsWellFormed};
 ghost use Rattle.blob_grammar.specs.Form.{repeated};
 ghost use Rattle.blob_frame.specs.Scene.{IsAbove, Leads};
@@ -10,7 +9,7 @@ use crate::widths::field_widths;
 use blob_frame::{BlobFault, Cursor};
 use hol_io::BlobStore;
 use hol_varint::Octets;
-use schema_model::{Areas, Field, Packed, Reason, Shape, Widths, Words};
+use schema_model::{Areas, Packed, Reason, Shape, Widths, Words};
 use type_state::words_needed;
 
 /// The rows of a type as they are packed in a blob.
@@ -52,7 +51,7 @@ pub fn packed_rows<S: BlobStore>(
     ensures reads { Leads S.seen (packed_rows shape.now max) store.old cursor.old store.new cursor.new result }
     ensures whole { IfOk result (λ rows. IsWellFormed shape.now (section_with max rows [])) }
 {
-    let fields = fields_of(shape);
+    let fields = shape.fields();
     let widths = field_widths(cursor, store, max, fields)?;
     let least = words_needed(shape, max, widths.as_slice());
     let first = word_array(cursor, store, least)?;
@@ -68,16 +67,6 @@ pub fn packed_rows<S: BlobStore>(
         total: 0,
         packed,
     })
-}
-
-// The fields of a type; none where it is no OBJECT.
-fn fields_of(shape: &Shape) -> &[Field]
-    ensures { result.now ≡ shape_fields shape.now }
-{
-    match shape {
-        Shape::Object(_, fields) => fields.as_slice(),
-        _ => &[],
-    }
 }
 
 // A count that is no less than this, else `BadLength` at it.
@@ -118,11 +107,7 @@ fn area<S: BlobStore>(cursor: &mut Cursor, store: &mut S) -> Result<Octets, Blob
 }
 
 // The variable bytes of so many fields.
-fn areas<S: BlobStore>(
-    cursor: &mut Cursor,
-    store: &mut S,
-    count: usize,
-) -> Result<Areas, BlobFault>
+fn areas<S: BlobStore>(cursor: &mut Cursor, store: &mut S, count: usize) -> Result<Areas, BlobFault>
     requires over { IsAbove S.seen store.old cursor.old }
     ensures reads { Leads S.seen (repeated count area) store.old cursor.old store.new cursor.new result }
     ensures whole { IfOk result (λ areas. length areas ≡ count) }

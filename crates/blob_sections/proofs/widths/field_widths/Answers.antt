@@ -9,7 +9,7 @@ pub returns-in_err-field_width-clause-reads : goal.returns-in_err-field_width-cl
 returns-in_err-field_width-clause-reads g c = walks_stops c.field-item.result (omega arith) c.field-item.is c.loop-field.invariant c.in_err-field_width.ensures.reads (search rules)
 
 pub returns-in_err-push-clause-reads : goal.returns-in_err-push-clause-reads
-returns-in_err-push-clause-reads g c = walks_free c.loop-field.invariant c.in_ok-field_width.ensures.reads (search rules)
+returns-in_err-push-clause-reads g c = walks_free c.field-item.result c.loop-field.invariant c.in_ok-field_width.ensures.reads (search rules)
 
 pub loop-field-preserved : goal.loop-field-preserved
 loop-field-preserved g c =
