@@ -4,8 +4,7 @@ use Rattle.blob_frame.specs.declared.fault.BlobFault.{BlobFault}
 use Rattle.blob_frame.specs.declared.fault.BlobFault.TheVariants as fault
 use Rattle.blob_grammar.specs.Form.{Form, repeated, counted}
 use Rattle.blob_frame.specs.Scene.{Scene, Stays, IsOver, Reads}
-use Rattle.blob_frame.proofs.Chain.{reads_then, reads_stops, reads_nothing, reads_free, stays_then}
-use Rattle.blob_frame.proofs.Runs.{stays_here}
+use Rattle.blob_frame.proofs.Chain.{reads_then, reads_stops, reads_nothing, reads_free, stays_here, stays_then}
 
 -- the answer, with these in front of what it found
 unfoldable pub prefixed : {V : Type 0} → List V → Result (List V) BlobFault → Result (List V) BlobFault
