@@ -1,31 +1,19 @@
 -- Reading the offset of a type, and whether its codec stands.
-use Rattle.std.proofs.Common.{◌≡◌, ℕ, List, Option, None, Some, Result, Ok, Err, refl}
-use Rattle.hol_io.specs.Store.{told}
+use Rattle.std.proofs.Common.{◌≡◌, Result, Ok, Err, refl}
 use Rattle.schema_model.specs.declared.reason.Reason.TheVariants.{BadSchema}
 use Rattle.schema_model.specs.declared.schema.Shape.{Shape}
 use Rattle.type_state.specs.WellFormed.{IsBuilt}
 use Rattle.blob_grammar.specs.Form.{here}
 use Rattle.blob_frame.specs.declared.fault.BlobFault.{BlobFault}
 use Rattle.blob_frame.specs.declared.fault.BlobFault.TheVariants as fault
-use Rattle.blob_frame.specs.Scene.{Scene, IsOver, Tells, Reads}
-use Rattle.blob_frame.proofs.Chain.{reads_nothing, reads_judged, reads_refused}
-use Rattle.blob_frame.proofs.Runs.{stays_here}
+use Rattle.blob_frame.specs.Scene.{Scene, IsOver, Reads}
+use Rattle.blob_frame.proofs.Chain.{reads_found, stays_here, reads_nothing, reads_judged, reads_refused}
 use Rattle.blob_sections.specs.Head.{built}
-
-tells_here : (content : Option (List ℕ)) (at : ℕ) → Tells here content at (Ok at) at
-unfolding here
-tells_here None at = tt
-tells_here (Some blob) at = (refl, refl)
 
 -- the offset itself
 pub reads_here : {now : Scene} → IsOver now → Reads here now now (Ok now.place.at)
-reads_here {now} over = record {
-  stays = stays_here now;
-  over = over;
-  cause = λ e. absurd (cc);
-  kind = tt;
-  tells = tells_here (told now.held now.place.name) now.place.at;
-}
+unfolding here
+reads_here {now} over = reads_found (stays_here now) over (λ blob holds. (refl, refl)) refl
 
 -- a type whose codec stands
 pub reads_built : (shape : Shape) {now : Scene} → IsOver now → IsBuilt shape → Reads (built shape) now now (Ok tt)
