@@ -1,14 +1,11 @@
 -- Which rows a section is that of.
-use Rattle.std.proofs.Common.{◌≡◌, ℕ, ◌+◌, ◌^◌, ◌<◌, ◌≤◌, inl, inr, List, [], ◌∷◌, zero, suc, length, get_or, Some, None, Result, Ok, Err, refl, ap, sym, ◌∙◌, subst, arith}
+use Rattle.std.proofs.Common.{◌≡◌, ℕ, ◌+◌, ◌<◌, ◌≤◌, inl, inr, List, [], ◌∷◌, zero, suc, length, get_or, Some, None, Result, Ok, Err, refl, ap, sym, ◌∙◌, subst, arith}
 use Rattle.std.specs.Prelude.{All}
-use Rattle.std.specs.FinMap.{entries, keys}
+use Rattle.std.specs.FinMap.{entries}
 use Rattle.std.specs.Map.{keys_of, values_of}
-use Rattle.std.specs.Ordering.{nat_cmp}
-use Rattle.std.specs.List.Sorted.{IsStrictlyIncreasing, IsStrictlySortedBy}
 use Rattle.std.proofs.lemmas.List.Elements.{All-contains, All-contains_itself}
-use Rattle.std.proofs.lemmas.Map.Keys.{sorted_from_strictly_increasing}
 use Rattle.hol_varint.specs.Yields.{Yields}
-use Rattle.ordinal_set.specs.Ordinals.{TellsNext, bound_of}
+use Rattle.ordinal_set.specs.Ordinals.{TellsNext}
 use Rattle.schema_model.specs.declared.limit.Limit.TheVariants.{Bytes, Words}
 use Rattle.schema_model.specs.Limit.{number_of_limit}
 use Rattle.schema_model.specs.Parts.{shape_fields}
@@ -19,7 +16,7 @@ use Rattle.object_codec.proofs.Rows.{row_once}
 use Rattle.type_state.specs.declared.section.Section.{Section}
 use Rattle.type_state.specs.declared.fault.RowFault.{RowFault}
 use Rattle.type_state.specs.Layout.{places_of, fixed_words}
-use Rattle.type_state.specs.WordsHeld.{bytes_held, row_bytes}
+use Rattle.type_state.specs.WordsHeld.{row_bytes}
 use Rattle.type_state.specs.Ends.{FitsRow, HasValues}
 use Rattle.std.proofs.lemmas.List.{length-map}
 use Rattle.schema_model.specs.declared.schema.Field.{Field}

@@ -1,16 +1,19 @@
 -- A section that can be read: what the codec of its kind needs at a place.
-use Rattle.std.proofs.Common.{◌≡◌, ◌+◌, ◌*◌, ◌/◌, ◌<◌, ◌≤◌, ◌^◌, ℕ, zero, suc, List, [], ◌∷◌, Option, None, Some, length, arith}
+use Rattle.std.proofs.Common.{◌≡◌, ◌+◌, ◌*◌, ◌/◌, ◌<◌, ◌≤◌, ℕ, zero, suc, List, [], ◌∷◌, Option, None, Some, length, refl, ap, sym, ◌∙◌, arith}
 use Rattle.std.specs.Prelude.{sum, slice_index}
 use Rattle.std.specs.List.{AllZip}
 use Rattle.std.proofs.Math.Nat.{mul-le-mul_right}
 use Rattle.std.proofs.lemmas.Slice.Zip.{AllZip-long}
 use Rattle.schema_model.specs.declared.schema.Field.{Field}
+use Rattle.schema_model.specs.declared.schema.Schema.{Schema}
 use Rattle.schema_model.specs.declared.schema.Shape.{Shape}
 use Rattle.schema_model.specs.Parts.{shape_fields}
 use Rattle.object_codec.specs.ObjectPlace.{IsObject, IsFieldWidth, HoldsPlace}
 use Rattle.type_state.specs.declared.section.Section.{Section}
-use Rattle.type_state.specs.Layout.{places_of}
-use Rattle.type_state.specs.WellFormed.{IsBuilt, IsWidth, IsWellFormed, IsReadable}
+use Rattle.type_state.specs.Layout.{places_of, width_count}
+use Rattle.type_state.specs.Loads.{layout_of}
+use Rattle.type_state.specs.State.{Half, IsLaidOut}
+use Rattle.type_state.specs.WellFormed.{IsBuilt, IsWidth, IsReadable}
 
 pub is_object : (shape : Shape) → IsBuilt shape → IsObject shape
 is_object (Shape.Object key fields) built = tt
@@ -40,6 +43,15 @@ holds_place _ section place h inside = absurd h.well.built
 -- There is a width for each field.
 pub widths_long : (shape : Shape) (section : Section) → IsReadable shape section → length section.widths ≡ length (shape_fields shape)
 widths_long shape section h = AllZip-long (λ (field : Field) width. IsWidth section.max field.kind width) (shape_fields shape) section.widths h.well.wide
+
+-- Where the codec stands the kind has a width for each field.
+count_built : (shape : Shape) → IsBuilt shape → width_count shape ≡ length (shape_fields shape)
+count_built (Shape.Object key fields) built = refl
+count_built _ built = absurd built
+
+-- A half at the layout of the section is laid out.
+pub laid_out : (schema : Schema) (section : Section) (half : Half) → IsReadable schema.shape section → half.layout ≡ layout_of section → IsLaidOut schema half
+laid_out schema section half h is = ap (λ l. length l.widths) is ∙ widths_long schema.shape section h ∙ sym (count_built schema.shape h.well.built)
 
 pub narrow_one : (max : Option ℕ) (field : Field) (width : ℕ) → IsWidth max field.kind width → width ≤ 64
 narrow_one None field width h = h

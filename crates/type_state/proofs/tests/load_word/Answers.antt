@@ -1,0 +1,36 @@
+use Rattle.std.proofs.Common.{◌≡◌, ◌+◌, ◌*◌, ◌<◌, ◌≤◌, ◌∷◌, [], ℕ, List, Option, Some, Result, Ok, Err, length, arith, refl, sym, ap, subst, ◌∙◌}
+use Rattle.std.specs.Prelude.{sum}
+use Rattle.std.specs.List.{AllZip}
+use Rattle.std.proofs.lemmas.Slice.Zip.{AllZip-long}
+use Rattle.schema_model.specs.Parts.{shape_fields}
+use Rattle.schema_model.specs.declared.schema.Field.{Field}
+use Rattle.schema_model.specs.declared.schema.Shape.{Shape}
+use Rattle.object_codec.specs.ObjectPlace.{IsFieldWidth}
+use Rattle.type_state.specs.declared.section.Section.{Section}
+use Rattle.type_state.specs.Layout.{places_of}
+use Rattle.type_state.specs.WellFormed.{IsBuilt, IsWidth, IsReadable}
+use Rattle.type_state.proofs.tests.load_word.Goals as goal
+
+-- A section with two fields of 4 bits and one word has words for each of 8 places.
+readable : (shape : Shape) (section : Section) (max : ℕ) → IsBuilt shape → AllZip IsFieldWidth (shape_fields shape) (4 ∷ 4 ∷ []) → section.max ≡ Some max → max < 8
+    → section.widths ≡ 4 ∷ 4 ∷ [] → length section.first ≡ 1 → length section.areas ≡ 2 → IsReadable shape section
+readable (Shape.Object key fields) section max built wide most few is words filled =
+    let long : 2 ≡ length fields = AllZip-long IsFieldWidth fields (4 ∷ 4 ∷ []) wide in
+    let places : places_of section.max ≡ max + 1 = ap places_of most in
+    let size : sum section.widths ≡ 8 = ap sum is in
+    let bits : places_of section.max * sum section.widths ≡ (max + 1) * 8 = λ i. places i * size i in
+    record {
+      well = record {
+        built = tt;
+        wide = subst (λ top. AllZip (λ (field : Field) width. IsWidth top field.kind width) fields section.widths) (sym most) (subst (AllZip IsFieldWidth fields) (sym is) wide);
+        filled = filled ∙ long;
+        enough = omega (arith, bits, words);
+      };
+      many = omega arith;
+      few = omega arith;
+    }
+readable _ section max built wide most few is words filled = absurd built
+
+pub load_next-requires : goal.load_next-requires
+load_next-requires c =
+    readable _ _ c.args.max c.requires.built c.requires.wide c.in_ok-section.ensures.max c.requires.place c.in_ok-section.ensures.widths c.in_ok-section.ensures.words c.in_ok-section.ensures.areas
