@@ -32,6 +32,4 @@ pub use schema::put::put_schema;
 pub use schema::{Field, FieldKind, Schema, Shape};
 
 #[cfg(test)]
-mod model_tests;
-#[cfg(test)]
 mod tests;

@@ -3,7 +3,7 @@ use Rattle.std.specs.BTreeMap.{get_by_text}
 use Rattle.std.specs.List.{filter_map}
 use Rattle.schema_model.specs.Checked.{are_known}
 use Rattle.schema_model.specs.Parts.{referenced_names}
-use Rattle.schema_model.proofs.model.references.add_references.Given as goal
+use Rattle.schema_model.proofs.model.type_graph.add_field_types.Given as goal
 
 -- the types that the first fields refer to are there, and in the row
 abbrev pub invariant-loop-field : goal.invariant-loop-field

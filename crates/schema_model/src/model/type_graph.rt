@@ -1,18 +1,18 @@
-//! The rule of named types: each is there. The types that each type names, by their indexes.
+//! The rule of named types: each is there. The graph of the types that each type names, by their indexes.
 ghost use Rattle.std.specs.Prelude.{◌≡◌, ◌≤◌, ◌++◌, ◌∷◌, ◌&&◌, [], length, is_some, IfOk, OnOk, IsTrue};
 ghost use Rattle.std.specs.BTreeMap.{get_by_text};
 ghost use Rattle.std.specs.List.{filter_map, list_all};
-ghost use Rattle.schema_model.specs.Checked.{Indexes, TellsRule, all_references, are_known};
+ghost use Rattle.schema_model.specs.Checked.{Indexes, TellsRule, all_indexes, are_known};
 ghost use Rattle.schema_model.specs.Model.{type_graph};
 ghost use Rattle.schema_model.specs.Parts.{named_types, referenced_names, type_names};
 
 use crate::model::name_index::{NameIndex, find_name};
 use crate::{Field, FieldKind, ModelFault, Name, Rule, Schema, Schemas, Shape};
-use hol_varint::Ordinals;
+use hol_varint::{List, Ordinals};
 use std::alloc::{AllocError, Global};
 
-/// Adds the index of a named type to a row. Whether there is such a type.
-fn add_reference(index: &NameIndex, name: &Name, row: &mut Ordinals) -> Result<bool, AllocError>
+/// Adds the index of a named type to the row of a type. Whether there is such a type.
+fn add_type(index: &NameIndex, name: &Name, row: &mut Ordinals) -> Result<bool, AllocError>
     ensures known { IfOk result (λ known. known ≡ is_some (get_by_text index.now name.now)) }
     ensures added { OnOk result (row.new ≡ row.old ++ filter_map (get_by_text index.now) (name.now ∷ [])) }
 {
@@ -26,18 +26,18 @@ fn add_reference(index: &NameIndex, name: &Name, row: &mut Ordinals) -> Result<b
 }
 
 /// Adds the index of the type that a field refers to, if it does. Whether there is such a type.
-fn add_field(index: &NameIndex, field: &Field, row: &mut Ordinals) -> Result<bool, AllocError>
+fn add_field_type(index: &NameIndex, field: &Field, row: &mut Ordinals) -> Result<bool, AllocError>
     ensures known { IfOk result (λ known. known ≡ are_known (get_by_text index.now) (referenced_names (field.now ∷ []))) }
     ensures added { OnOk result (row.new ≡ row.old ++ filter_map (get_by_text index.now) (referenced_names (field.now ∷ []))) }
 {
     match &field.kind {
-        FieldKind::Reference(name) => add_reference(index, name, row),
+        FieldKind::Reference(name) => add_type(index, name, row),
         _ => Ok(true),
     }
 }
 
 /// Adds the indexes of the types that fields refer to. Whether there are all these types.
-fn add_references(
+fn add_field_types(
     index: &NameIndex,
     fields: &[Field],
     row: &mut Ordinals,
@@ -46,7 +46,7 @@ fn add_references(
     ensures added { IfOk result (λ known. IsTrue known → row.new ≡ row.old ++ filter_map (get_by_text index.now) (referenced_names fields.now)) }
 {
     for field in fields {
-        if !add_field(index, field, row)? {
+        if !add_field_type(index, field, row)? {
             return Ok(false);
         }
     }
@@ -54,43 +54,43 @@ fn add_references(
 }
 
 /// The indexes of the types that a type names, unless one of them is not there.
-fn references_of(
+fn named_indexes_of(
     alloc: Global,
     index: &NameIndex,
     schema: &Schema,
 ) -> Result<Option<Ordinals>, AllocError>
-    ensures { IfOk result (λ row. row ≡ all_references (get_by_text index.now) (named_types schema.now)) }
+    ensures { IfOk result (λ row. row ≡ all_indexes (get_by_text index.now) (named_types schema.now)) }
 {
     let mut row = Ordinals::new(alloc);
     let known = match &schema.shape {
-        Shape::Object(_, fields) => add_references(index, fields.as_slice(), &mut row)?,
-        Shape::Set(element) => add_reference(index, element, &mut row)?,
-        Shape::List(element) => add_reference(index, element, &mut row)?,
+        Shape::Object(_, fields) => add_field_types(index, fields.as_slice(), &mut row)?,
+        Shape::Set(element) => add_type(index, element, &mut row)?,
+        Shape::List(element) => add_type(index, element, &mut row)?,
         Shape::Map(key, value) => {
-            let known = add_reference(index, key, &mut row)?;
-            add_reference(index, value, &mut row)? && known
+            let known = add_type(index, key, &mut row)?;
+            add_type(index, value, &mut row)? && known
         }
     };
     if known { Ok(Some(row)) } else { Ok(None) }
 }
 
-/// Tries that each named type is there, and gives the references of each type.
-pub(crate) fn check_references(
+/// Tries that each named type is there, and gives the graph of the types that each type names.
+pub(crate) fn check_named_types(
     alloc: Global,
     schemas: &Schemas,
     index: &NameIndex,
-) -> Result<Vec<Ordinals>, ModelFault>
+) -> Result<List<Ordinals>, ModelFault>
     requires indexed { Indexes (type_names schemas.now) index.now }
     requires short { length schemas.now ≤ 512 }
     ensures tells { TellsRule schemas.now Rule.UnknownType result }
-    ensures rows { IfOk result (λ rows. rows.items ≡ type_graph schemas.now) }
+    ensures graph { IfOk result (λ graph. graph ≡ type_graph schemas.now) }
 {
-    let mut rows = Vec::with_capacity(alloc, schemas.len())?;
+    let mut graph = List::with_capacity(alloc, schemas.len())?;
     for type_index in 0..schemas.len() {
-        match references_of(alloc, index, schemas.get(type_index))? {
-            Some(row) => rows.push(row)?,
+        match named_indexes_of(alloc, index, schemas.get(type_index))? {
+            Some(row) => graph.push(row)?,
             None => return Err(ModelFault::Broken(Rule::UnknownType, type_index as u32)),
         }
     }
-    Ok(rows)
+    Ok(graph)
 }
