@@ -57,7 +57,7 @@ reads_ahead {before} {mid} count stays over here enough is =
       ap (λ n. n + count) here,
       omega (arith, place.1, enough),
       ap (λ (xs : List ℕ). take count xs) place.2
-      ∙ (take-take count (length mid.place.ahead) (drop mid.place.at blob) enough ∙ ap (λ n. take count (drop n blob)) here),
+          ∙ (take-take count (length mid.place.ahead) (drop mid.place.at blob) enough ∙ ap (λ n. take count (drop n blob)) here),
     )) refl)
 
 tells_short : (count : ℕ) (content : Option (List ℕ)) (at next : ℕ) (e : BlobFault) → IsReadFault e → TellsNeed {T = Unit {0}} count content at (Err e) → Tells (run count) content at (Err e) next

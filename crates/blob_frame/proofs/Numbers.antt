@@ -146,9 +146,11 @@ unfolding varint
 reads_unended limit {before} {mid} {after} {stops} small f inside s is = reads_missed (stays_then f.stays s.stays) s.over (λ blob holds.
     let enough = subst (λ at. min 10 (length blob - at) ≤ length mid.place.ahead) (sym f.place)
     (subst (λ content. IfSome content (λ blob. min 10 (length blob - before.place.at) ≤ length mid.place.ahead)) holds f.enough) in
-    let later = subst (λ content. IfSome content (λ blob. MatchBool stops (StopsLater (drop mid.place.at blob)) (GoOn (drop mid.place.at blob)))) (told_stays f.stays ∙ holds) s.tells in
-    (subst (λ at. VarFails limit (drop at blob) (cond stops BadVarint Truncated)) f.place
-    (unended_told limit blob mid.place stops small (place_in f.stays f.over blob holds) enough inside later), f.place)) is
+    let later = subst (λ content. IfSome content (λ blob. MatchBool stops (StopsLater (drop mid.place.at blob)) (GoOn (drop mid.place.at blob)))) (told_stays f.stays ∙ holds) s.tells in (
+      subst (λ at. VarFails limit (drop at blob) (cond stops BadVarint Truncated)) f.place
+          (unended_told limit blob mid.place stops small (place_in f.stays f.over blob holds) enough inside later),
+      f.place,
+    )) is
 
 -- a number below a smaller limit
 pub reads_lower : (limit lower : ℕ) {before after : Scene} {n : ℕ} → Reads (varint limit) before after (Ok n) → n < lower → Reads (varint lower) before after (Ok n)

@@ -24,8 +24,8 @@ reads_joined m n {before} {mid} {after} {xs} {ys} p q = reads_found (stays_then 
       omega (arith, a.0, b.0),
       b.1,
       ap (λ (zs : List ℕ). zs ++ ys) a.2 ∙ (ap (λ (zs : List ℕ). take m (drop before.place.at blob) ++ zs)
-      (b.2 ∙ (ap (λ k. take n (drop k blob)) a.0 ∙ ap (λ (zs : List ℕ). take n zs) (sym (drop-drop m before.place.at blob))))
-      ∙ sym (take-add m n (drop before.place.at blob))),
+          (b.2 ∙ (ap (λ k. take n (drop k blob)) a.0 ∙ ap (λ (zs : List ℕ). take n zs) (sym (drop-drop m before.place.at blob))))
+          ∙ sym (take-add m n (drop before.place.at blob))),
     )) refl
 
 -- the bytes so far are read
