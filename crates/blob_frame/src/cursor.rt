@@ -133,7 +133,7 @@ impl Cursor {
     }
 
     /// What the cursor takes memory from.
-    pub(crate) fn allocator(&self) -> Global {
+    pub fn allocator(&self) -> Global {
         self.alloc
     }
 

@@ -2,7 +2,8 @@
 use Rattle.std.specs.Prelude.{◌≡◌, ℕ, ◌<◌, ◌≤◌, List, [], All, Result, Ok, Err}
 use Rattle.std.specs.FinMap.{entries, keys}
 use Rattle.std.specs.Map.{keys_of, values_of}
-use Rattle.schema_model.specs.declared.limit.Limit.TheVariants.{Bytes}
+use Rattle.schema_model.specs.declared.limit.Limit.{Limit}
+use Rattle.schema_model.specs.declared.limit.Limit.TheVariants.{Words, Bytes}
 use Rattle.schema_model.specs.Limit.{number_of_limit}
 use Rattle.schema_model.specs.Parts.{shape_fields}
 use Rattle.schema_model.specs.Table.{RowMap}
@@ -44,6 +45,17 @@ pub record Loads (shape : Shape) (section : Section) (rows : RowMap) : Type 0 wh
 abbrev pub IsFreeRow : RowFault → Type 0
 IsFreeRow RowFault.Memory = Unit {0}
 IsFreeRow _ = ⊥
+
+-- The limits that the rows of a section may pass.
+abbrev pub IsLoadLimit : Limit → Type 0
+IsLoadLimit Words = Unit {0}
+IsLoadLimit Bytes = Unit {0}
+IsLoadLimit _ = ⊥
+
+-- A section is refused for no other limit.
+abbrev pub IsLoadFault : RowFault → Type 0
+IsLoadFault (RowFault.Limit limit) = IsLoadLimit limit
+IsLoadFault _ = Unit {0}
 
 -- What a refusal tells of the section.
 abbrev pub RefusesLoad : Shape → Section → RowFault → Type 0

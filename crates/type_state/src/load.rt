@@ -1,11 +1,11 @@
 //! From a section of a snapshot to the rows that its places spell.
-ghost use Rattle.std.specs.Prelude.{ℕ, ◌≡◌, ◌<◌, All, IfOk, MatchResult, length, slice_index};
+ghost use Rattle.std.specs.Prelude.{ℕ, ◌≡◌, ◌<◌, All, IfErr, IfOk, MatchResult, length, slice_index};
 ghost use Rattle.std.specs.FinMap.{entries};
 ghost use Rattle.std.specs.List.Sorted.{IsStrictlyIncreasing};
 ghost use Rattle.schema_model.specs.Parts.{shape_fields};
 ghost use Rattle.type_state.specs.Layout.{places_of};
 ghost use Rattle.type_state.specs.WellFormed.{IsReadable};
-ghost use Rattle.type_state.specs.Loads.{Loads, RefusesLoad, TellsRow, AreRead, RefusesRows, layout_of};
+ghost use Rattle.type_state.specs.Loads.{IsLoadFault, Loads, RefusesLoad, TellsRow, AreRead, RefusesRows, layout_of};
 
 use crate::count::row_len;
 use crate::fits::add_row;
@@ -26,7 +26,8 @@ fn read_row(
 ) -> Result<Row, RowFault>
     requires readable { IsReadable schema.now.shape section.now }
     requires place { ordinal < places_of section.now.max }
-    ensures { TellsRow schema.now.shape section.now ordinal result }
+    ensures row { TellsRow schema.now.shape section.now ordinal result }
+    ensures kind { IfErr result IsLoadFault }
 {
     let place = u64::from(ordinal);
     let row = read(
@@ -50,6 +51,7 @@ fn read_rows(alloc: Global, schema: &Schema, section: &Section) -> Result<Kept, 
     requires places { All (λ ordinal. ordinal < places_of section.now.max) section.now.live }
     ensures read { MatchResult result (λ half. AreRead schema.now.shape section.now (entries half.rows)) (RefusesRows schema.now.shape section.now) }
     ensures layout { IfOk result (λ half. half.layout ≡ layout_of section.now) }
+    ensures kind { IfErr result IsLoadFault }
 {
     let ordinals = section.live.ordinals(alloc)?;
     let fields = schema.shape.fields();
@@ -73,6 +75,7 @@ fn read_listed(
     requires long { length ends.old ≡ length (shape_fields schema.now.shape) }
     ensures read { MatchResult result (λ half. AreRead schema.now.shape section.now (entries half.rows)) (RefusesRows schema.now.shape section.now) }
     ensures layout { IfOk result (λ half. half.layout ≡ layout_of section.now) }
+    ensures kind { IfErr result IsLoadFault }
 {
     let fields = schema.shape.fields();
     let widths = section.widths.as_slice();
@@ -97,6 +100,7 @@ pub(crate) fn load(alloc: Global, schema: &Schema, section: &Section) -> Result<
     requires { IsReadable schema.now.shape section.now }
     ensures tells { MatchResult result (λ half. Loads schema.now.shape section.now half.rows) (RefusesLoad schema.now.shape section.now) }
     ensures layout { IfOk result (λ half. half.layout ≡ layout_of section.now) }
+    ensures kind { IfErr result IsLoadFault }
 {
     let places = places(section.max) as u32;
     match section.live.next_from(places) {
@@ -112,6 +116,7 @@ fn load_live(alloc: Global, schema: &Schema, section: &Section) -> Result<Kept, 
     requires places { All (λ ordinal. ordinal < places_of section.now.max) section.now.live }
     ensures tells { MatchResult result (λ half. Loads schema.now.shape section.now half.rows) (RefusesLoad schema.now.shape section.now) }
     ensures layout { IfOk result (λ half. half.layout ≡ layout_of section.now) }
+    ensures kind { IfErr result IsLoadFault }
 {
     let half = read_rows(alloc, schema, section)?;
     let words = words_needed(&schema.shape, section.max, section.widths.as_slice());

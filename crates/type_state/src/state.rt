@@ -1,12 +1,12 @@
 //! The state of one type: its current rows, and those of the state before or of the next one.
-ghost use Rattle.std.specs.Prelude.{◌≡◌, ◌↔◌, Some, IsSome, IfOk, IsTrue, OnOk};
+ghost use Rattle.std.specs.Prelude.{◌≡◌, ◌↔◌, Some, IsSome, IfErr, IfOk, IsTrue, OnOk};
 ghost use Rattle.std.specs.FinMap.{get, keys};
 ghost use Rattle.ordinal_set.specs.Ordinals.{bound_of};
 ghost use Rattle.hol_varint.specs.Yields.{Yields};
 ghost use Rattle.schema_model.specs.Table.{RowMap};
 ghost use Rattle.type_state.specs.State.{IsLaidOut, empty_half};
 ghost use Rattle.type_state.specs.WellFormed.{IsReadable};
-ghost use Rattle.type_state.specs.Loads.{IsFreeRow, Loads, TellsLoad, layout_of};
+ghost use Rattle.type_state.specs.Loads.{IsLoadFault, IsFreeRow, Loads, TellsLoad, layout_of};
 
 use crate::kept::Kept;
 use crate::load::load;
@@ -50,6 +50,13 @@ impl TypeState {
         }
     }
 
+    /// The type's schema.
+    pub fn schema(&self) -> &Schema
+        ensures { result.now ≡ self.now.schema }
+    {
+        &self.schema
+    }
+
     /// Reads the live rows of a section of a snapshot into the next half, at the section's layout. The current half stays as it is. What the
     /// other one holds where the section is refused is not said.
     ///
@@ -60,6 +67,7 @@ impl TypeState {
         requires { IsReadable self.old.schema.shape section.now }
         ensures exact { Yields IsFreeRow result (Ok tt) ((rows : RowMap) × Loads self.old.schema.shape section.now rows) }
         ensures tells { TellsLoad self.old.schema.shape section.now self.new.other.rows result }
+        ensures kind { IfErr result IsLoadFault }
         ensures layout { OnOk result (self.new.other.layout ≡ layout_of section.now) }
         ensures laid { OnOk result (IsLaidOut self.new.schema self.new.other) }
         ensures schema { self.new.schema ≡ self.old.schema }

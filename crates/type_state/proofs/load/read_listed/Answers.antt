@@ -22,7 +22,7 @@ loop-ordinal-init c =
 pub returns-in_err-row-clause-read : goal.returns-in_err-row-clause-read
 returns-in_err-row-clause-read c =
     let told : RefusesRows c.args.schema.now.shape c.args.section.now c.in_err-row.field-0.0 =
-    row_refused c.args.schema.now.shape c.args.section.now c.args.live.now c.loop-ordinal.ordinal-index c.in_err-row.field-0.0 c.requires.live (omega arith) c.in_err-row.ensures in
+    row_refused c.args.schema.now.shape c.args.section.now c.args.live.now c.loop-ordinal.ordinal-index c.in_err-row.field-0.0 c.requires.live (omega arith) c.in_err-row.ensures.row in
     search rules
 
 pub add_row-requires-clause-widths : goal.add_row-requires-clause-widths
@@ -34,17 +34,17 @@ add_row-requires-clause-narrow c =
     λ f. subst (λ widths. slice_index widths f ≤ 64) (sym c.as_slice-widths.ensures) (narrow c.args.schema.now.shape c.args.section.now c.requires.readable f)
 
 pub add_row-requires-clause-values : goal.add_row-requires-clause-values
-add_row-requires-clause-values c = has_values c.args.schema.now.shape c.args.section.now c.fields-fields.result.now _ c.in_ok-row.row c.fields-fields.ensures c.in_ok-row.ensures
+add_row-requires-clause-values c = has_values c.args.schema.now.shape c.args.section.now c.fields-fields.result.now _ c.in_ok-row.row c.fields-fields.ensures c.in_ok-row.ensures.row
 
 pub returns-then-not-add_row-clause-read : goal.returns-then-not-add_row-clause-read
 returns-then-not-add_row-clause-read c =
     misfit_rows c.args.schema.now.shape c.args.section.now c.fields-fields.result.now c.args.live.now c.loop-ordinal.ordinal-index (entries c.loop-ordinal.half.rows) c.loop-ordinal.ends c.loop-ordinal.bytes
-    c.in_ok-row.row c.fields-fields.ensures c.requires.live c.loop-ordinal.invariant.read (omega arith) c.in_ok-row.ensures (search rules)
+    c.in_ok-row.row c.fields-fields.ensures c.requires.live c.loop-ordinal.invariant.read (omega arith) c.in_ok-row.ensures.row (search rules)
 
 pub returns-then-bytes-gt-MAX_BYTES-clause-read : goal.returns-then-bytes-gt-MAX_BYTES-clause-read
 returns-then-bytes-gt-MAX_BYTES-clause-read c =
     heavy_rows c.args.schema.now.shape c.args.section.now c.fields-fields.result.now c.args.live.now c.loop-ordinal.ordinal-index (entries c.loop-ordinal.half.rows) c.loop-ordinal.ends c.loop-ordinal.bytes
-    c.saturating_add-bytes.result c.in_ok-row.row c.requires.live c.loop-ordinal.invariant.read (omega arith) c.in_ok-row.ensures (omega arith) (omega (arith, c.row_len.ensures))
+    c.saturating_add-bytes.result c.in_ok-row.row c.requires.live c.loop-ordinal.invariant.read (omega arith) c.in_ok-row.ensures.row (omega arith) (omega (arith, c.row_len.ensures))
 
 pub push-requires-clause-above : goal.push-requires-clause-above
 push-requires-clause-above c =
@@ -55,7 +55,7 @@ pub loop-ordinal-preserved : goal.loop-ordinal-preserved
 loop-ordinal-preserved c = record {
   read =
       read_on (IsSpelledIn c.args.schema.now.shape c.args.section.now) c.fields-fields.result.now c.args.section.now.widths c.args.live.now c.loop-ordinal.ordinal-index (entries c.loop-ordinal.half.rows)
-      (entries c.push.new.self.rows) c.loop-ordinal.ends c.add_row.new.ends c.loop-ordinal.bytes c.saturating_add-bytes.result _ c.in_ok-row.row c.loop-ordinal.invariant.read (omega arith) refl c.in_ok-row.ensures
+      (entries c.push.new.self.rows) c.loop-ordinal.ends c.add_row.new.ends c.loop-ordinal.bytes c.saturating_add-bytes.result _ c.in_ok-row.row c.loop-ordinal.invariant.read (omega arith) refl c.in_ok-row.ensures.row
       (search rules) (search rules) (search rules) (omega (arith, c.row_len.ensures)) (omega arith) c.in_ok-push.ensures.rows;
   layout = c.in_ok-push.ensures.layout ∙ c.loop-ordinal.invariant.layout;
 }
