@@ -7,16 +7,26 @@ use Rattle.hol_io.specs.declared.name.BlobName.TheVariants.{Snapshot}
 use Rattle.hol_io.specs.Store.{Store, told}
 use Rattle.blob_frame.specs.declared.fault.BlobFault.{BlobFault}
 use Rattle.blob_frame.specs.declared.fault.BlobFault.TheVariants as fault
+use Rattle.blob_frame.specs.declared.header.Header.{Header}
+use Rattle.blob_frame.specs.Scene.{Place}
+use Rattle.schema_model.specs.declared.schema.Schema.{Schema}
+use Rattle.schema_model.specs.Table.{Table}
+use Rattle.snapshot_blob.specs.declared.loaded.Loaded.{Loaded}
 use Rattle.snapshot_blob.specs.Snapshot.{TellsSnapshot, IsRefused}
+use Rattle.snapshot_blob.specs.Types.{table_of, next_halves}
+use Rattle.hollow_top.specs.declared.refusal.Refusal.{Refusal}
+use Rattle.hollow_top.specs.declared.refusal.Refusal.TheVariants.{BadBody}
 use Rattle.hollow_top.specs.declared.reply.Reply.{Reply}
-use Rattle.hollow_top.specs.declared.reply.Reply.TheVariants.{Head, NoBlob, TooLarge, BadBlob, BadBody, NotYet}
+use Rattle.hollow_top.specs.declared.reply.Reply.TheVariants.{Refused}
 use Rattle.hollow_top.specs.declared.stop.Stop.{Stop}
 use Rattle.hollow_top.specs.declared.stop.Stop.TheVariants.{Memory, Sink, Store as StoreFailed}
 use Rattle.hollow_top.specs.Command.{IsLineOf}
-use Rattle.hollow_top.specs.Head.{HeadIs, HeadReply}
+use Rattle.hollow_top.specs.Head.{HeadRefusal, TellsHeader, refusal_of}
 use Rattle.hollow_top.specs.Reply.{is_refusal, line_of}
+use Rattle.hollow_top.specs.RowLines.{Listed, LeavesLines, rows_in_order}
 use Rattle.hollow_top.specs.Show.{ShowRefusal, ShowsContent, Shows, body_refusal_of}
 use Rattle.hollow_top.specs.Stopping.{Leaves}
+use Rattle.hollow_top.proofs.Heads.{has_header, refused}
 use Rattle.hollow_top.proofs.Writes.{failed}
 
 -- what is written so is also written so
@@ -27,65 +37,75 @@ leaves_as P Q before after (Err Sink) gives (text, refused, count, is, part, gai
 leaves_as P Q before after (Err StoreFailed) gives left = tt
 leaves_as P Q before after (Err Memory) gives left = tt
 
--- a blob that has a header and is no snapshot
-no_snapshot : (name : BlobName) (content : Option (List ℕ)) (reply : Reply) → HeadIs name content reply → is_refusal reply ≡ false →
-    ((blob : List ℕ) × (content ≡ Some blob) × IsRefused blob) → ShowRefusal name content (BadBody name)
-no_snapshot name content (Head header) (blob, n, there, short, is) read (other, also, never) =
-    let same : other ≡ blob = cc in
-    (blob, n, header, refl, there, short, is, subst IsRefused same never)
-no_snapshot name content (NoBlob other) is read never = absurd cc
-no_snapshot name content (TooLarge what) is read never = absurd cc
-no_snapshot name content (BadBlob other at reason) is read never = absurd cc
-no_snapshot name content (BadBody other) is read never = absurd is
-no_snapshot name content NotYet is read never = absurd is
-
-body_refuses : (name : BlobName) (content : Option (List ℕ)) (reply answer : Reply) (found : BlobFault) → HeadIs name content reply → is_refusal reply ≡ false →
-    TellsSnapshot name content (Err found) → Ok answer ≡ body_refusal_of name found → ShowRefusal name content answer
-body_refuses name content reply answer found head read told is = told_so found told is
+-- a fault of the body of a blob that has a header is the refusal of it
+body_refuses : (name : BlobName) (content : Option (List ℕ)) (opened : Header × Place) (refusal : Refusal) (found : BlobFault) → TellsHeader name content (Ok opened) →
+    TellsSnapshot name content (Err found) → Ok refusal ≡ body_refusal_of name found → ShowRefusal name content refusal
+body_refuses name content opened refusal found head told is = told_so found told is
   where
-    told_so : (f : BlobFault) → TellsSnapshot name content (Err f) → Ok answer ≡ body_refusal_of name f → ShowRefusal name content answer
-    told_so (fault.NoBlob other) tells e =
-        let same : answer ≡ NoBlob name = cc in subst (ShowRefusal name content) (sym same) (refl, tells.1)
+    bad_body : ((blob : List ℕ) × (content ≡ Some blob) × IsRefused blob) → refusal ≡ BadBody name → ShowRefusal name content refusal
+    bad_body (blob, there, never) same =
+        subst (ShowRefusal name content) (sym same) (refl, (opened.0, blob, has_header name content opened head, there, never))
+
+    told_so : (f : BlobFault) → TellsSnapshot name content (Err f) → Ok refusal ≡ body_refusal_of name f → ShowRefusal name content refusal
+    told_so (fault.NoBlob other) tells e = (let is = head.1 in let none = tells.1 in absurd cc)
     told_so fault.Store tells e = absurd cc
     told_so fault.Memory tells e = absurd cc
-    told_so (fault.Large what) tells e =
-        let same : answer ≡ BadBody name = cc in subst (ShowRefusal name content) (sym same) (no_snapshot name content reply head read tells)
-    told_so (fault.Bad at reason) tells e =
-        let same : answer ≡ BadBody name = cc in subst (ShowRefusal name content) (sym same) (no_snapshot name content reply head read tells)
-    told_so (fault.BadRow at reason of ordinal) tells e =
-        let same : answer ≡ BadBody name = cc in subst (ShowRefusal name content) (sym same) (no_snapshot name content reply head read tells)
-    told_so (fault.OtherOrigin other current) tells e = absurd tells
-    told_so (fault.OtherModel of) tells e = absurd tells
+    told_so (fault.Large what) tells e = bad_body tells cc
+    told_so (fault.Bad at reason) tells e = bad_body tells cc
+    told_so (fault.BadRow at reason of ordinal) tells e = bad_body tells cc
+    told_so _ tells e = absurd tells
 
--- each refusal of `show` is a refusal
-refusals : (name : BlobName) (content : Option (List ℕ)) (reply : Reply) → ShowRefusal name content reply → is_refusal reply ≡ true
-refusals name content (Head header) is = absurd is
-refusals name content (NoBlob other) is = refl
-refusals name content (TooLarge what) is = refl
-refusals name content (BadBlob other at reason) is = refl
-refusals name content (BadBody other) is = refl
-refusals name content NotYet is = absurd is
+refusal_shown : (name : BlobName) (content : Option (List ℕ)) (refusal : Refusal) → ShowRefusal name content refusal → (text : List ℕ) (refused : Bool) →
+    IsLineOf (λ answer. answer ≡ Refused refusal) text refused → ShowsContent name content text refused
+refusal_shown name content refusal refuses text refused (answer, same, text_is, verdict) =
+    let told_so : refused ≡ true = verdict ∙ ap is_refusal same in
+    subst (ShowsContent name content text) (sym told_so) (refusal, refuses, text_is ∙ ap line_of same)
 
-refusal_shown : (name : BlobName) (content : Option (List ℕ)) (reply : Reply) → ShowRefusal name content reply → (text : List ℕ) (refused : Bool) →
-    IsLineOf (λ answer. answer ≡ reply) text refused → ShowsContent name content text refused
-refusal_shown name content reply refuses text refused (answer, same, text_is, verdict) =
-    let line : text ≡ line_of reply = text_is ∙ ap line_of same in
-    let told_so : refused ≡ true = verdict ∙ ap is_refusal same ∙ refusals name content reply refuses in
-    subst (ShowsContent name content text) (sym told_so) (reply, refuses, line)
+-- a refusal of the header is one of `show`
+pub head_shown : (name : BlobName) (content : Option (List ℕ)) (refusal : Refusal) → HeadRefusal name content refusal → ShowRefusal name content refusal
+head_shown name content (BadBody other) is = absurd is
+head_shown name content _ is = is
 
 module _ (version : ℕ) (before after : Option (List ℕ)) where
   abbrev pub ServesShow : Option Store → Result Bool Stop → Type 0
   ServesShow held r = IfSome held (λ store. Leaves (Shows store version) before after r)
 
-  pub body_served : (held mid : Option Store) (reply answer : Reply) (found : BlobFault) (body : Result Reply Stop) (r : Result Bool Stop) → mid ≡ held →
-      IfSome held (λ store. HeadReply store (Snapshot version) reply) → is_refusal reply ≡ false →
-      IfSome mid (λ store. TellsSnapshot (Snapshot version) (told mid (Snapshot version)) (Err found)) → body ≡ body_refusal_of (Snapshot version) found → body ≡ Ok answer →
-      Leaves (IsLineOf (λ given. given ≡ answer)) before after r → ServesShow held r
-  body_served None mid reply answer found body r same head read tells is was left = tt
-  body_served (Some store) mid reply answer found body r same head read tells is was left =
+  pub head_served : (held : Option Store) (found : BlobFault) (refusal : Refusal) (given : Result Refusal Stop) (r : Result Bool Stop) →
+      IfSome held (λ store. TellsHeader (Snapshot version) (told held (Snapshot version)) (Err found)) → given ≡ refusal_of (Snapshot version) found → given ≡ Ok refusal →
+      Leaves (IsLineOf (λ answer. answer ≡ Refused refusal)) before after r → ServesShow held r
+  head_served None found refusal given r tells is was left = tt
+  head_served (Some store) found refusal given r tells is was left =
+      let content = told (Some store) (Snapshot version) in
+      let refuses = head_shown (Snapshot version) content refusal (refused (Snapshot version) content found refusal tells (sym was ∙ is)) in
+      leaves_as (IsLineOf (λ answer. answer ≡ Refused refusal)) (Shows store version) before after r (refusal_shown (Snapshot version) content refusal refuses) left
+
+  pub body_served : (held mid : Option Store) (opened : Header × Place) (found : BlobFault) (refusal : Refusal) (given : Result Refusal Stop) (r : Result Bool Stop) → mid ≡ held →
+      IfSome held (λ store. TellsHeader (Snapshot version) (told held (Snapshot version)) (Ok opened)) →
+      IfSome mid (λ store. TellsSnapshot (Snapshot version) (told mid (Snapshot version)) (Err found)) → given ≡ body_refusal_of (Snapshot version) found → given ≡ Ok refusal →
+      Leaves (IsLineOf (λ answer. answer ≡ Refused refusal)) before after r → ServesShow held r
+  body_served None mid opened found refusal given r same head tells is was left = tt
+  body_served (Some store) mid opened found refusal given r same head tells is was left =
+      let content = told (Some store) (Snapshot version) in
       let here = subst (λ (h : Option Store). IfSome h (λ s. TellsSnapshot (Snapshot version) (told h (Snapshot version)) (Err found))) same tells in
-      leaves_as (IsLineOf (λ given. given ≡ answer)) (Shows store version) before after r
-      (refusal_shown (Snapshot version) (told (Some store) (Snapshot version)) answer (body_refuses _ _ reply answer found head read here (sym was ∙ is))) left
+      let refuses = body_refuses (Snapshot version) content opened refusal found head here (sym was ∙ is) in
+      leaves_as (IsLineOf (λ answer. answer ≡ Refused refusal)) (Shows store version) before after r (refusal_shown (Snapshot version) content refusal refuses) left
+
+  -- a part of the lines of the rows was written
+  pub rows_cut : (held mid : Option Store) (loaded : Loaded) (schemas : List Schema) (table : Table) (stop : Stop) (r : Result Bool Stop) → mid ≡ held →
+      IfSome mid (λ store. TellsSnapshot (Snapshot version) (told mid (Snapshot version)) (Ok loaded)) → schemas ≡ loaded.model → table ≡ table_of (next_halves loaded.states) →
+      LeavesLines (rows_in_order schemas table) before after (Err stop) → IsErrAnd r (λ e. e ≡ stop) → ServesShow held r
+  rows_cut None mid loaded schemas table stop r same tells model rows left is = tt
+  rows_cut (Some store) mid loaded schemas table stop r same tells model rows left is =
+      let here = subst (λ (h : Option Store). IfSome h (λ s. TellsSnapshot (Snapshot version) (told h (Snapshot version)) (Ok loaded))) same tells in
+      let lines = subst (λ (rows : List Listed). LeavesLines rows before after (Err stop)) (λ i. rows_in_order (model i) (rows i)) left in
+      failed r stop (Leaves (Shows store version) before after) is (cut stop here lines)
+    where
+      cut : (e : Stop) → TellsSnapshot (Snapshot version) (told (Some store) (Snapshot version)) (Ok loaded) →
+          LeavesLines (rows_in_order loaded.model (table_of (next_halves loaded.states))) before after (Err e) → Leaves (Shows store version) before after (Err e)
+      cut Sink (blob, there, accepted) (text, count, are, part, gained) =
+          (text, false, count, (blob, loaded.header, loaded.model, next_halves loaded.states, there, accepted, are), part, gained)
+      cut Memory here lines = tt
+      cut StoreFailed here lines = tt
 
 -- a part of the line of an answer was written
 pub line_cut : (reply : Reply) (before after : Option (List ℕ)) (line : List ℕ) (r : Result Bool Stop) → IsErrAnd r (λ e. e ≡ Sink) → line ≡ line_of reply →

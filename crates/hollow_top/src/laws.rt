@@ -1,5 +1,5 @@
-//! Laws of the commands: words ask for one command, and a command writes one text.
-ghost use Rattle.std.specs.Prelude.{◌≡◌, ℕ, List, Bool, map, string_bytes};
+//! Laws of the commands: words ask for one command, and a command writes one text and leaves one store.
+ghost use Rattle.std.specs.Prelude.{◌≡◌, ℕ, List, Bool, Option, map, string_bytes};
 ghost use Rattle.hol_io.specs.Store.{Store};
 ghost use Rattle.hollow_top.specs.declared.words.Command.{Command};
 ghost use Rattle.hollow_top.specs.Command.{Writes};
@@ -18,10 +18,11 @@ pub fn one_command(words: &[String])
     let _command = command_of(words);
 }
 
-/// Over a store a command writes one text at most, with one verdict.
+/// Over an input and a store a command writes one text at most, with one verdict, and leaves one store.
 pub fn one_answer()
-    ensures { (store : Store) (command : Command) (one other : List ℕ) (refused also : Bool) → Writes store command one refused
-        → Writes store command other also → (one ≡ other) × (refused ≡ also) }
+    ensures { (input : Option (List ℕ)) (store : Store) (command : Command) (one other : List ℕ) (refused also : Bool) (next after : Store)
+        → Writes input store command one refused next → Writes input store command other also after
+        → (one ≡ other) × (refused ≡ also) × (next ≡ after) }
 {
     one_header();
     one_snapshot();
