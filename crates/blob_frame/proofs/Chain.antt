@@ -20,7 +20,6 @@ pub stays_then : {before mid after : Scene} → Stays before mid → Stays mid a
 stays_then {before} {mid} {after} p q = record {
   store = q.store ∙ p.store;
   later = omega (arith, p.later, q.later);
-  unput = q.unput ∙ p.unput;
   name = q.name ∙ p.name;
   size = q.size ∙ p.size;
 }
@@ -74,7 +73,7 @@ tells_nothing v (Some blob) at = (refl, refl)
 -- nothing is left to read
 pub reads_nothing : {A : Type 0} {v : A} {now : Scene} → IsOver now → Reads (nothing v) now now (Ok v)
 reads_nothing {v = v} {now} over = record {
-  stays = record { store = refl; later = omega arith; unput = refl; name = refl; size = refl };
+  stays = record { store = refl; later = omega arith; name = refl; size = refl };
   over = over;
   cause = λ e. absurd (cc);
   kind = tt;

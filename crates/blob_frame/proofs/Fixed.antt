@@ -48,7 +48,7 @@ abbrev pub passed : Scene → ℕ → Scene
 passed now count = at_place now (moved now.place count)
 
 pub stays_passed : {before mid : Scene} (count : ℕ) → Stays before mid → Stays before (passed mid count)
-stays_passed count p = record { store = p.store; later = p.later; unput = p.unput; name = p.name; size = p.size }
+stays_passed count p = record { store = p.store; later = p.later; name = p.name; size = p.size }
 
 tells_fixed : (w : Width) (content : Option (List ℕ)) (place : Place) (v : ℕ) → IsPlaceIn place content → byte_len w ≤ length place.ahead →
     v ≡ from_be_bytes w (take (byte_len w) place.ahead) → Tells (fixed w) content place.at (Ok v) (place.at + byte_len w)

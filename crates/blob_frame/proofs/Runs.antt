@@ -17,7 +17,7 @@ use Rattle.blob_frame.proofs.Fixed.{take_ahead, over_moved, stays_passed}
 
 -- nothing moved
 pub stays_here : (now : Scene) → Stays now now
-stays_here now = record { store = refl; later = omega arith; unput = refl; name = refl; size = refl }
+stays_here now = record { store = refl; later = omega arith; name = refl; size = refl }
 
 -- the bytes so far are those behind the first place, and the cursor stands behind them
 pub record Gathers (count : ℕ) (before now : Scene) (bytes : List ℕ) : Type 0 where
@@ -162,7 +162,7 @@ pub reads_skipped : (count : ℕ) (seen : Seen) (place after : Place) → IsPlac
     after.name ≡ place.name → after.size ≡ place.size → after.at ≡ place.at + count → IsPlaceIn after (told seen.held place.name) →
     Reads (skipped count) (scene seen place) (scene seen after) (Ok tt)
 reads_skipped count seen place after over fits name size at here = record {
-  stays = record { store = refl; later = omega arith; unput = refl; name = name; size = size };
+  stays = record { store = refl; later = omega arith; name = name; size = size };
   over = subst (λ n. IsPlaceIn after (told seen.held n)) (sym name) here;
   cause = λ e. absurd (cc);
   kind = tt;

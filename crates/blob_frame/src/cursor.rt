@@ -60,7 +60,6 @@ impl Cursor {
     ) -> Result<Cursor, BlobFault>
         ensures kept { (S.seen store.new).held ≡ (S.seen store.old).held }
         ensures later { (S.seen store.old).faults ≤ (S.seen store.new).faults }
-        ensures unput { (S.seen store.new).puts ≡ (S.seen store.old).puts }
         ensures cause { result ≡ Err BlobFault.Store → Rose (S.seen store.old).faults (S.seen store.new).faults }
         ensures start { IfOk result (IsStart name.now) }
         ensures over { IfOk result (λ place. IsOver (scene (S.seen store.new) place)) }
