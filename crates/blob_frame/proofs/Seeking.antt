@@ -7,24 +7,15 @@ use Rattle.std.proofs.Math.Seq.{take-add}
 use Rattle.std.proofs.lemmas.List.{drop-drop, take-take, take-append-drop, take_more, get_or-take, get_or-drop}
 use Rattle.std.proofs.lemmas.Grind.{common_steps}
 use Rattle.hol_io.specs.Store.{told}
-use Rattle.hol_varint.specs.Varint.{GoOn, SpellsOn, IsVarint}
+use Rattle.hol_varint.specs.Varint.{GoOn, IsVarint}
 use Rattle.blob_frame.specs.declared.fault.BlobFault.{BlobFault}
 use Rattle.blob_frame.specs.declared.fault.BlobFault.TheVariants as fault
 use Rattle.blob_frame.specs.Scene.{Place, Scene, at_place, moved, Stays, IsOver, IsPlaceIn}
-use Rattle.blob_frame.specs.Filling.{Fills, StopsLater, Seeks, HasAhead}
-use Rattle.blob_frame.proofs.Chain.{told_stays, stays_then, rose_earlier}
+use Rattle.blob_grammar.specs.Words.{StopsLater}
+use Rattle.blob_grammar.proofs.SomeNumbers.{grouped, spells-push}
+use Rattle.blob_frame.specs.Filling.{Fills, Seeks, HasAhead}
+use Rattle.blob_frame.proofs.Chain.{told_stays, stays_here, stays_then, rose_earlier}
 use Rattle.blob_frame.proofs.Fixed.{stays_passed}
-use Rattle.blob_frame.proofs.Runs.{stays_here}
-
--- what the groups of the bytes make, behind those that make high
-abbrev grouped : ℕ → List ℕ → ℕ
-grouped high [] = high
-grouped high (b ∷ bs) = grouped (high * 128 + (b - 128)) bs
-
-spells-push : (high : ℕ) (bs : List ℕ) (b : ℕ) → GoOn bs → b < 128 → SpellsOn high (bs ++ b ∷ []) (grouped high bs * 128 + b)
-spells-push high [] b on last = (last, refl)
-spells-push high (c ∷ []) b on last = (on.0, on.1, spells-push (high * 128 + (c - 128)) [] b tt last)
-spells-push high (c ∷ d ∷ ds) b on last = (on.0, on.1, spells-push (high * 128 + (c - 128)) (d ∷ ds) b on.2 last)
 
 pub GoOn-append : (xs ys : List ℕ) → GoOn xs → GoOn ys → GoOn (xs ++ ys)
 GoOn-append [] ys p q = q
@@ -73,19 +64,6 @@ pub record Seeking (before now : Scene) : Type 0 where
   pub on : IfSome (told before.held before.place.name) (λ blob. GoOn (take (now.place.at - before.place.at) (drop before.place.at blob)))
   pub ahead : HasAhead 1 now
 
-start_on : (content : Option (List ℕ)) (at : ℕ) → IfSome content (λ blob. GoOn (take (at - at) (drop at blob)))
-start_on None at = tt
-start_on (Some blob) at = let none : at - at ≡ 0 = omega arith in rw none tt
-
-pub seeking_start : (now : Scene) → IsOver now → HasAhead 1 now → Seeking now now
-seeking_start now over ahead = record {
-  stays = stays_here now;
-  over = over;
-  place = omega arith;
-  on = start_on (told now.held now.place.name) now.place.at;
-  ahead = ahead;
-}
-
 -- what stands behind the bytes so far
 rest_told : (blob : List ℕ) (from : ℕ) (place : Place) → from ≤ place.at → IsPlaceIn place (Some blob) →
     place.ahead ≡ take (length place.ahead) (drop (place.at - from) (drop from blob))
@@ -118,23 +96,6 @@ seeking_more {before} {now} {mid} {place} count p on all is f =
       ahead = subst (λ content. IfSome content (λ blob. min 1 (length blob - mid.place.at) ≤ length mid.place.ahead)) (sym (told_stays f.stays))
           (subst (λ n. IfSome (told now.held place.name) (λ blob. min 1 (length blob - n) ≤ length mid.place.ahead)) (sym f.place) f.enough);
     }
-
--- the store fails
-pub seeking_fault : {before now mid : Scene} {place : Place} {e : BlobFault} {r : Result Bool BlobFault} (count : ℕ) → Seeking before now →
-    place ≡ moved now.place count → Fills {T = Unit {0}} 1 (at_place now place) mid (Err e) → r ≡ Err e → Seeks before mid r
-seeking_fault {before} {now} {mid} {place} {e} {r} count p is f same =
-    let stays : Stays before (at_place now place) = subst (λ (place : Place). Stays before (at_place now place)) (sym is) (stays_passed count p.stays) in
-    subst (λ r. Seeks before mid r) (sym (same ∙ ap Err f.kind)) (record {
-      stays = stays_then stays f.stays;
-      over = f.over;
-      cause = λ k. rose_earlier before.faults now.faults mid.faults p.stays.later (f.cause (ap Err f.kind));
-      kind = refl;
-      tells = untold (told before.held before.place.name) before.place.at;
-    })
-  where
-    untold : (content : Option (List ℕ)) (at : ℕ) → IfSome content (λ blob. IfOk {E = BlobFault} (Err fault.Store) (λ found. MatchBool found (StopsLater (drop at blob)) (GoOn (drop at blob))))
-    untold None at = tt
-    untold (Some blob) at = tt
 
 stop_told : (content : Option (List ℕ)) (from : ℕ) (place : Place) (k : ℕ) → from ≤ place.at → IsPlaceIn place content → k < length place.ahead → GoOn (take k place.ahead) →
     get_or place.ahead k 0 < 128 → IfSome content (λ blob. GoOn (take (place.at - from) (drop from blob))) →

@@ -1,0 +1,12 @@
+use Rattle.std.proofs.Common.{◌≡◌, length}
+use Rattle.blob_frame.specs.Scene.{scene}
+use Rattle.blob_frame.proofs.Counting.{Counts}
+use Rattle.blob_sections.specs.Section.{area}
+use Rattle.blob_sections.proofs.section.areas.Given as goal
+
+abbrev pub invariant-loop-item : goal.invariant-loop-item
+invariant-loop-item g l = record {
+  counts : Counts area l.count l._item (scene (g.S.BlobStore.seen l.initial.store) l.initial.cursor)
+      (scene (g.S.BlobStore.seen l.store) l.cursor) l.list;
+  long : length l.list ≡ l._item;
+}

@@ -1,5 +1,0 @@
-use Rattle.snapshot_blob.specs.Body.{body, snapshot}
-use Rattle.snapshot_blob.proofs.laws.one_body.Goals as goal
-
-pub returns : goal.returns
-returns c = record { body = body.decided; snapshot = snapshot.decided }
