@@ -4,12 +4,13 @@ use Rattle.std.proofs.lemmas.Bool.{cases_lt}
 use Rattle.hol_io.specs.declared.name.BlobName.{BlobName}
 use Rattle.hol_io.specs.Store.{Store, told}
 use Rattle.schema_model.specs.declared.limit.Limit.TheVariants as limit
+use Rattle.schema_model.specs.Limit.{number_of_limit}
 use Rattle.blob_frame.specs.declared.fault.BlobFault.{BlobFault}
 use Rattle.blob_frame.specs.declared.fault.BlobFault.TheVariants as fault
 use Rattle.blob_frame.specs.declared.header.Header.{Header}
 use Rattle.blob_frame.specs.Header.{header}
 use Rattle.blob_frame.specs.Scene.{Place, Scene, IsFree, Tells, Reads}
-use Rattle.blob_frame.specs.Starting.{Starts, IsStart, largest}
+use Rattle.blob_frame.specs.Starting.{Starts, IsStart}
 use Rattle.hollow_top.specs.declared.refusal.Refusal.{Refusal}
 use Rattle.hollow_top.specs.declared.refusal.Refusal.TheVariants.{NoBlob, BadBlob, TooLarge}
 use Rattle.hollow_top.specs.Head.{HasHeader, HeadRefusal, TellsHeader, refusal_of}
@@ -27,7 +28,7 @@ unstarted name None found starts =
       | inr free ↦ free_tells name None found free
     ]
 unstarted name (Some blob) found starts =
-    elim (cases_lt largest (length blob)) [
+    elim (cases_lt (number_of_limit limit.Blob) (length blob)) [
       | inl large ↦ elim (starts.large blob refl large) [
         | inl is ↦ (let same : found ≡ fault.Large limit.Blob = cc in
             subst (λ f. TellsHeader name (Some blob) (Err f)) (sym same) (blob, refl, large, refl))
@@ -46,10 +47,10 @@ tells_start (Some store) name found answer is starts =
     subst (λ (a : Result (Header × Place) BlobFault). TellsHeader name (told (Some store) name) a) (sym is) (unstarted name (told (Some store) name) found starts)
 
 -- a cursor that was made stands in a blob that is not too large
-fitting : (name : BlobName) (content : Option (List ℕ)) (place : Place) → Starts name content (Ok place) → (blob : List ℕ) × (content ≡ Some blob) × (length blob ≤ largest)
+fitting : (name : BlobName) (content : Option (List ℕ)) (place : Place) → Starts name content (Ok place) → (blob : List ℕ) × (content ≡ Some blob) × (length blob ≤ number_of_limit limit.Blob)
 fitting name None place starts = elim (starts.absent refl) [ inl is ↦ absurd cc | inr free ↦ absurd free ]
 fitting name (Some blob) place starts =
-    elim (cases_lt largest (length blob)) [
+    elim (cases_lt (number_of_limit limit.Blob) (length blob)) [
       | inl large ↦ elim (starts.large blob refl large) [ inl is ↦ absurd cc | inr free ↦ absurd free ]
       | inr fits ↦ (blob, refl, fits)
     ]
@@ -59,7 +60,7 @@ abbrev pub with_place : Place → Result Header BlobFault → Result (Header × 
 with_place place (Ok h) = Ok (h, place)
 with_place place (Err found) = Err found
 
-read_here : (name : BlobName) (blob : List ℕ) (place : Place) (read : Result Header BlobFault) → length blob ≤ largest → Tells header (Some blob) 0 read place.at →
+read_here : (name : BlobName) (blob : List ℕ) (place : Place) (read : Result Header BlobFault) → length blob ≤ number_of_limit limit.Blob → Tells header (Some blob) 0 read place.at →
     TellsHeader name (Some blob) (with_place place read)
 read_here name blob place (Ok h) fits tells = (blob, refl, fits, tells)
 read_here name blob place (Err (fault.Bad at why)) fits tells = (blob, refl, fits, tells)

@@ -12,3 +12,4 @@ mod Shown
 mod Verdicts
 mod Serving
 mod OneAnswer
+mod SomeAnswer

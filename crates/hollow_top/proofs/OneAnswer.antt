@@ -8,20 +8,18 @@ use Rattle.hol_io.specs.declared.name.BlobName.{BlobName}
 use Rattle.hol_io.specs.declared.name.BlobName.TheVariants.{Snapshot}
 use Rattle.hol_io.specs.Store.{Store, told}
 use Rattle.schema_model.specs.declared.limit.Limit.TheVariants as limit
+use Rattle.schema_model.specs.Limit.{number_of_limit}
 use Rattle.schema_model.specs.declared.reason.Reason.{Reason}
 use Rattle.schema_model.specs.declared.rows.row.Row.{Row}
 use Rattle.schema_model.specs.declared.schema.Schema.{Schema}
 use Rattle.schema_model.specs.declared.schema.Shape.{Shape}
 use Rattle.type_state.specs.State.{Half}
+use Rattle.type_state.specs.Views.{table_of}
 use Rattle.blob_frame.specs.declared.header.Header.{Header}
-use Rattle.blob_frame.specs.Form.{◌>>=◌, nothing}
-use Rattle.blob_frame.specs.Decided.{IsDecided}
+use Rattle.blob_grammar.specs.Decided.{IsDecided}
 use Rattle.blob_frame.specs.Header.{header, HeaderIs}
-use Rattle.blob_frame.specs.Starting.{largest}
 use Rattle.snapshot_blob.specs.declared.part.TypePart.{TypePart}
-use Rattle.snapshot_blob.specs.Body.{snapshot}
 use Rattle.snapshot_blob.specs.Snapshot.{SnapshotIs, IsAccepted}
-use Rattle.snapshot_blob.specs.Types.{table_of}
 use Rattle.json_rows.specs.StoredRow.{IsRowData}
 use Rattle.hollow_top.specs.declared.reply.Reply.{Reply}
 use Rattle.hollow_top.specs.declared.reply.Reply.TheVariants.{Head, Refused}
@@ -43,7 +41,13 @@ PrintsOnce = (shape : Shape) (row : Row) (a b : Data) → IsRowData shape row a 
 
 -- a blob is the snapshot of one state at most
 abbrev pub IsOneSnapshot : Type 0
-IsOneSnapshot = (blob : List ℕ) (a b : Header) (s t : List Schema) (x y : List Half) → SnapshotIs blob a s x → SnapshotIs blob b t y → (a ≡ b) × (s ≡ t) × (x ≡ y)
+IsOneSnapshot = (blob : List ℕ) (a b : Header) (ps qs : List TypePart) (s t : List Schema) (x y : List Half) →
+    SnapshotIs blob a ps s x → SnapshotIs blob b qs t y → (a ≡ b) × (ps ≡ qs) × (s ≡ t) × (x ≡ y)
+
+-- a snapshot begins with its header
+abbrev pub BeginsWithHeader : Type 0
+BeginsWithHeader = (blob : List ℕ) (head : Header) (schemas : List Schema) (halves : List Half) → IsAccepted blob head schemas halves →
+    (n : ℕ) × HeaderIs blob n head × (length blob ≤ number_of_limit limit.Blob)
 
 -- two contents of one name are one
 same_blob : (content : Option (List ℕ)) (blob other : List ℕ) → content ≡ Some blob → content ≡ Some other → blob ≡ other
@@ -60,13 +64,13 @@ module _ (decided : IsDecided header.Stands header.Stuck) (name : BlobName) wher
   of_none (TooLarge what) is = let there = is.1 in absurd cc
   of_none _ is = absurd is
 
-  of_large : (blob : List ℕ) (refusal : Refusal) → largest < length blob → HeadRefusal name (Some blob) refusal → refusal ≡ TooLarge limit.Blob
+  of_large : (blob : List ℕ) (refusal : Refusal) → number_of_limit limit.Blob < length blob → HeadRefusal name (Some blob) refusal → refusal ≡ TooLarge limit.Blob
   of_large blob (NoBlob other) large is = let there = is.1 in absurd cc
   of_large blob (BadBlob other at reason row) large is = absurd (omega (arith, ap length (same_some is.0 blob is.1), is.2, large))
   of_large blob (TooLarge what) large is = ap TooLarge is.3
   of_large blob _ large is = absurd is
 
-  of_short : (blob : List ℕ) (refusal : Refusal) → length blob ≤ largest → HeadRefusal name (Some blob) refusal →
+  of_short : (blob : List ℕ) (refusal : Refusal) → length blob ≤ number_of_limit limit.Blob → HeadRefusal name (Some blob) refusal →
       (at : ℕ) × (reason : Reason) × header.Stuck blob 0 at reason × (refusal ≡ BadBlob name at reason None)
   of_short blob (NoBlob other) short is = let there = is.1 in absurd cc
   of_short blob (BadBlob other at reason row) short is =
@@ -78,7 +82,7 @@ module _ (decided : IsDecided header.Stands header.Stuck) (name : BlobName) wher
   one_refused : (content : Option (List ℕ)) (one other : Refusal) → HeadRefusal name content one → HeadRefusal name content other → one ≡ other
   one_refused None one other a b = of_none one a ∙ sym (of_none other b)
   one_refused (Some blob) one other a b =
-      elim (cases_lt largest (length blob)) [
+      elim (cases_lt (number_of_limit limit.Blob) (length blob)) [
         | inl large ↦ of_large blob one large a ∙ sym (of_large blob other large b)
         | inr short ↦ (
             let p = of_short blob one short a in
@@ -133,20 +137,15 @@ lines_once once rows a b (ls, ls_are, a_is) (ms, ms_are, b_is) = a_is ∙ ap con
 rows_once : PrintsOnce → IsOneSnapshot → (content : Option (List ℕ)) (one other : List ℕ) → ShowsRows content one → ShowsRows content other → one ≡ other
 rows_once prints snapshots content one other (blob, head, schemas, halves, there, accepted, lines) (blob', head', schemas', halves', there', accepted', lines') =
     let same = same_blob content blob' blob there' there in
-    let also = subst (λ b. SnapshotIs b head' schemas' halves') same accepted'.0 in
-    let equal = snapshots blob head' head schemas' schemas halves' halves also accepted.0 in
-    let here = subst (λ (rows : List Listed). AreLinesOf rows other) (λ i. rows_in_order (equal.1 i) (table_of (equal.2 i))) lines' in
+    let also = subst (λ b. SnapshotIs b head' accepted'.0 schemas' halves') same accepted'.1 in
+    let equal = snapshots blob head' head accepted'.0 accepted.0 schemas' schemas halves' halves also accepted.1 in
+    let here = subst (λ (rows : List Listed). AreLinesOf rows other) (λ i. rows_in_order (equal.2 i) (table_of (equal.3 i))) lines' in
     lines_once prints (rows_in_order schemas (table_of halves)) one other lines here
 
--- a snapshot begins with its header
-header_of : (blob : List ℕ) (head : Header) (parts : List TypePart) (next : ℕ) → snapshot.Stands blob 0 (head, parts) next → (n : ℕ) × HeaderIs blob n head
-unfolding snapshot ◌>>=◌ nothing
-header_of blob head parts next (x, n, stands, rest) = (n, subst (λ h. header.Stands blob 0 h n) (ap (λ p. p.0) (sym rest.3.0)) stands)
-
-snapshot_head : (content : Option (List ℕ)) (text : List ℕ) → ShowsRows content text → (head : Header) × HasHeader content head
-snapshot_head content text (blob, head, schemas, halves, there, accepted, lines) =
-    let begins = header_of blob head accepted.0.parts (length blob) accepted.0.items in
-    (head, (blob, begins.0, there, accepted.1.short, begins.1))
+snapshot_head : BeginsWithHeader → (content : Option (List ℕ)) (text : List ℕ) → ShowsRows content text → (head : Header) × HasHeader content head
+snapshot_head begins content text (blob, head, schemas, halves, there, accepted, lines) =
+    let (n, stands, short) = begins blob head schemas halves accepted in
+    (head, (blob, n, there, short, stands))
 
 -- a refusal of `show` is one of the header, or that of a bad body
 shown_refusals : (name : BlobName) (content : Option (List ℕ)) (refusal : Refusal) → ShowRefusal name content refusal →
@@ -154,12 +153,12 @@ shown_refusals : (name : BlobName) (content : Option (List ℕ)) (refusal : Refu
 shown_refusals name content (BadBody other) is = inr (ap BadBody is.0, is.1)
 shown_refusals name content _ is = inl is
 
-module _ (decided : IsDecided header.Stands header.Stuck) (prints : PrintsOnce) (snapshots : IsOneSnapshot) (name : BlobName) (content : Option (List ℕ)) where
+module _ (decided : IsDecided header.Stands header.Stuck) (prints : PrintsOnce) (snapshots : IsOneSnapshot) (begins : BeginsWithHeader) (name : BlobName) (content : Option (List ℕ)) where
   -- what is shown is no refusal
   not_refused : (text : List ℕ) (refusal : Refusal) → ShowsRows content text → ShowRefusal name content refusal → ⊥
   not_refused text refusal shows refuses =
       elim (shown_refusals name content refusal refuses) [
-        | inl head ↦ (let h = snapshot_head content text shows in header_apart decided name content h.0 refusal h.1 head)
+        | inl head ↦ (let h = snapshot_head begins content text shows in header_apart decided name content h.0 refusal h.1 head)
         | inr body ↦ (
             let (header, blob, has, there, never) = body.1 in never shows.1 shows.2 shows.3 (subst (λ b. IsAccepted b shows.1 shows.2 shows.3) (same_blob content shows.0 blob shows.4 there) shows.5))
       ]
@@ -184,19 +183,19 @@ module _ (decided : IsDecided header.Stands header.Stuck) (prints : PrintsOnce) 
   one_shown one other true true a b = (a.2 ∙ ap refusal_line (one_refusal a.0 b.0 a.1 b.1) ∙ sym b.2, refl)
 
 -- a command writes one text, and leaves one store
-pub one_text : IsDecided header.Stands header.Stuck → PrintsOnce → IsOneSnapshot → (input : Option (List ℕ)) (store : Store) (asked : Command)
+pub one_text : IsDecided header.Stands header.Stuck → PrintsOnce → IsOneSnapshot → BeginsWithHeader → (input : Option (List ℕ)) (store : Store) (asked : Command)
     (one other : List ℕ) (refused also : Bool) (next after : Store) →
     Writes input store asked one refused next → Writes input store asked other also after → (one ≡ other) × (refused ≡ also) × (next ≡ after)
-one_text decided prints snapshots input store command.Run one other refused also next after a b =
+one_text decided prints snapshots begins input store command.Run one other refused also next after a b =
     let same = one_line (λ reply. reply ≡ Refused NotYet) (λ x y p q. p ∙ sym q) one other refused also a.0 b.0 in
     (same.0, same.1, a.1 ∙ sym b.1)
-one_text decided prints snapshots input store (command.Head name) one other refused also next after a b =
+one_text decided prints snapshots begins input store (command.Head name) one other refused also next after a b =
     let same = one_line (HeadIs name (told (Some store) name)) (one_head decided name (told (Some store) name)) one other refused also a.0 b.0 in
     (same.0, same.1, a.1 ∙ sym b.1)
-one_text decided prints snapshots input store (command.Show version) one other refused also next after a b =
-    let same = one_shown decided prints snapshots (Snapshot version) (told (Some store) (Snapshot version)) one other refused also a.0 b.0 in
+one_text decided prints snapshots begins input store (command.Show version) one other refused also next after a b =
+    let same = one_shown decided prints snapshots begins (Snapshot version) (told (Some store) (Snapshot version)) one other refused also a.0 b.0 in
     (same.0, same.1, a.1 ∙ sym b.1)
-one_text decided prints snapshots input store (command.Make seed rows cycles) one other refused also next after a b =
+one_text decided prints snapshots begins input store (command.Make seed rows cycles) one other refused also next after a b =
     let same = one_line (λ reply. reply ≡ Refused NotYet) (λ x y p q. p ∙ sym q) one other refused also a.0 b.0 in
     (same.0, same.1, a.1 ∙ sym b.1)
 

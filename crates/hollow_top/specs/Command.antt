@@ -1,7 +1,9 @@
 -- What each command writes, and what it leaves of the store.
-use Rattle.std.specs.Prelude.{◌≡◌, ℕ, List, Bool, Option, Some, Result, Ok, Err}
+use Rattle.std.specs.Prelude.{◌≡◌, ℕ, List, Bool, Option, Some, Result, Ok, Err, IfSome}
 use Rattle.std.specs.Io.KnownBytes.{Appends}
-use Rattle.hol_io.specs.Store.{Store}
+use Rattle.hol_io.specs.declared.name.BlobName.{BlobName}
+use Rattle.hol_io.specs.Store.{Store, told}
+use Rattle.blob_grammar.specs.Decided.{AreBytes}
 use Rattle.hollow_top.specs.declared.refusal.Refusal.TheVariants.{NotYet}
 use Rattle.hollow_top.specs.declared.reply.Reply.{Reply}
 use Rattle.hollow_top.specs.declared.reply.Reply.TheVariants.{Refused}
@@ -33,6 +35,14 @@ Writes input store (Make seed rows cycles) text refused next = WritesNotYet text
 -- The command writes the text, with this verdict, and leaves some store.
 abbrev pub WritesText : Option (List ℕ) → Store → Command → List ℕ → Bool → Type 0
 WritesText input store command text refused = (next : Store) × Writes input store command text refused next
+
+-- The command writes some text.
+abbrev pub WritesSome : Option (List ℕ) → Store → Command → Type 0
+WritesSome input store command = (text : List ℕ) × (refused : Bool) × WritesText input store command text refused
+
+-- What the store holds under each name are bytes.
+abbrev pub HoldsBytes : Store → Type 0
+HoldsBytes store = (name : BlobName) → IfSome (told (Some store) name) AreBytes
 
 -- What a command leaves of the store and of the sink: all that it writes, or where the sink failed a part of the text.
 abbrev pub Serves : Option (List ℕ) → Store → Command → Option Store → Option (List ℕ) → Option (List ℕ) → Result Bool Stop → Type 0

@@ -3,12 +3,12 @@ use Rattle.std.specs.Prelude.{◌≡◌, ◌≤◌, ◌<◌, ℕ, List, length, 
 use Rattle.hol_io.specs.declared.name.BlobName.{BlobName}
 use Rattle.hol_io.specs.Store.{Store, told}
 use Rattle.schema_model.specs.declared.limit.Limit.TheVariants as limit
+use Rattle.schema_model.specs.Limit.{number_of_limit}
 use Rattle.blob_frame.specs.declared.fault.BlobFault.{BlobFault}
 use Rattle.blob_frame.specs.declared.fault.BlobFault.TheVariants as fault
 use Rattle.blob_frame.specs.declared.header.Header.{Header}
 use Rattle.blob_frame.specs.Header.{HeaderIs, StuckInHeader}
 use Rattle.blob_frame.specs.Scene.{Place}
-use Rattle.blob_frame.specs.Starting.{largest}
 use Rattle.hollow_top.specs.declared.refusal.Refusal.{Refusal}
 use Rattle.hollow_top.specs.declared.refusal.Refusal.TheVariants.{NoBlob, BadBlob, TooLarge}
 use Rattle.hollow_top.specs.declared.reply.Reply.{Reply}
@@ -18,15 +18,15 @@ use Rattle.hollow_top.specs.declared.stop.Stop.TheVariants as stop
 
 -- What a name holds begins with this header, and is not too large.
 abbrev pub HasHeader : Option (List ℕ) → Header → Type 0
-HasHeader content header = (blob : List ℕ) × (n : ℕ) × (content ≡ Some blob) × (length blob ≤ largest) × HeaderIs blob n header
+HasHeader content header = (blob : List ℕ) × (n : ℕ) × (content ≡ Some blob) × (length blob ≤ number_of_limit limit.Blob) × HeaderIs blob n header
 
 -- Why what a name holds, if anything, has no header: the first cause.
 abbrev pub HeadRefusal : BlobName → Option (List ℕ) → Refusal → Type 0
 HeadRefusal name content (NoBlob other) = (other ≡ name) × (content ≡ None)
 HeadRefusal name content (BadBlob other at reason row) =
-    (blob : List ℕ) × (content ≡ Some blob) × (length blob ≤ largest) × StuckInHeader blob at reason × (other ≡ name) × (row ≡ None)
+    (blob : List ℕ) × (content ≡ Some blob) × (length blob ≤ number_of_limit limit.Blob) × StuckInHeader blob at reason × (other ≡ name) × (row ≡ None)
 HeadRefusal name content (TooLarge what) =
-    (blob : List ℕ) × (content ≡ Some blob) × (largest < length blob) × (what ≡ limit.Blob)
+    (blob : List ℕ) × (content ≡ Some blob) × (number_of_limit limit.Blob < length blob) × (what ≡ limit.Blob)
 HeadRefusal name content _ = ⊥
 
 -- The answer for what a name holds, if anything.
@@ -42,12 +42,12 @@ HeadReply store name reply = HeadIs name (told (Some store) name) reply
 -- none.
 abbrev pub TellsHeader : BlobName → Option (List ℕ) → Result (Header × Place) BlobFault → Type 0
 TellsHeader name content (Ok opened) =
-    (blob : List ℕ) × (content ≡ Some blob) × (length blob ≤ largest) × HeaderIs blob opened.1.at opened.0
+    (blob : List ℕ) × (content ≡ Some blob) × (length blob ≤ number_of_limit limit.Blob) × HeaderIs blob opened.1.at opened.0
 TellsHeader name content (Err (fault.NoBlob other)) = (other ≡ name) × (content ≡ None)
 TellsHeader name content (Err (fault.Large what)) =
-    (blob : List ℕ) × (content ≡ Some blob) × (largest < length blob) × (what ≡ limit.Blob)
+    (blob : List ℕ) × (content ≡ Some blob) × (number_of_limit limit.Blob < length blob) × (what ≡ limit.Blob)
 TellsHeader name content (Err (fault.Bad at reason)) =
-    (blob : List ℕ) × (content ≡ Some blob) × (length blob ≤ largest) × StuckInHeader blob at reason
+    (blob : List ℕ) × (content ≡ Some blob) × (length blob ≤ number_of_limit limit.Blob) × StuckInHeader blob at reason
 TellsHeader name content (Err fault.Store) = Unit {0}
 TellsHeader name content (Err fault.Memory) = Unit {0}
 TellsHeader name content (Err _) = ⊥

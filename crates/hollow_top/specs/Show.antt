@@ -5,11 +5,11 @@ use Rattle.hol_io.specs.declared.name.BlobName.TheVariants.{Snapshot}
 use Rattle.hol_io.specs.Store.{Store, told}
 use Rattle.schema_model.specs.declared.schema.Schema.{Schema}
 use Rattle.type_state.specs.State.{Half}
+use Rattle.type_state.specs.Views.{table_of}
 use Rattle.blob_frame.specs.declared.fault.BlobFault.{BlobFault}
 use Rattle.blob_frame.specs.declared.fault.BlobFault.TheVariants as fault
 use Rattle.blob_frame.specs.declared.header.Header.{Header}
 use Rattle.snapshot_blob.specs.Snapshot.{IsAccepted, IsRefused}
-use Rattle.snapshot_blob.specs.Types.{table_of}
 use Rattle.hollow_top.specs.declared.refusal.Refusal.{Refusal}
 use Rattle.hollow_top.specs.declared.refusal.Refusal.TheVariants.{BadBody}
 use Rattle.hollow_top.specs.declared.stop.Stop.{Stop}

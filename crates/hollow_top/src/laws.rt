@@ -1,14 +1,16 @@
-//! Laws of the commands: words ask for one command, and a command writes one text and leaves one store.
+//! Laws of the commands: words ask for one command, and a command writes one text and leaves one store, and some text.
 ghost use Rattle.std.specs.Prelude.{◌≡◌, ℕ, List, Bool, Option, map, string_bytes};
+ghost use Rattle.hol_io.specs.declared.name.BlobName.{BlobName};
 ghost use Rattle.hol_io.specs.Store.{Store};
 ghost use Rattle.hollow_top.specs.declared.words.Command.{Command};
-ghost use Rattle.hollow_top.specs.Command.{Writes};
+ghost use Rattle.hollow_top.specs.Command.{HoldsBytes, IsUnbuilt, Writes, WritesSome};
 ghost use Rattle.hollow_top.specs.Words.{Asks};
 
 use crate::words::command_of;
 use blob_frame::laws::one_header;
 use json_rows::laws::one_row_value;
-use snapshot_blob::laws::one_snapshot;
+use snapshot_blob::laws::{header_and_body, one_snapshot};
+use type_state::laws::rows_fit;
 
 /// The words ask for one command at most.
 pub fn one_command(words: &[String])
@@ -26,5 +28,19 @@ pub fn one_answer()
 {
     one_header();
     one_snapshot();
+    header_and_body();
     one_row_value();
+}
+
+/// Over a store of bytes `head` writes some text, and so does what is not built; that `show` writes none cannot be.
+pub fn some_answer()
+    ensures head { (input : Option (List ℕ)) (store : Store) (blob : BlobName) → HoldsBytes store
+        → WritesSome input store (Command.Head blob) }
+    ensures unbuilt { (input : Option (List ℕ)) (store : Store) (command : Command) → IsUnbuilt command
+        → WritesSome input store command }
+    ensures show { (input : Option (List ℕ)) (store : Store) (version : ℕ) → HoldsBytes store
+        → (WritesSome input store (Command.Show version) → ⊥) → ⊥ }
+{
+    one_header();
+    rows_fit();
 }

@@ -12,7 +12,8 @@ use crate::row_lines::show_rows;
 use crate::stop::Stop;
 use blob_frame::BlobFault;
 use hol_io::{BlobName, BlobStore, Sink};
-use snapshot_blob::read_snapshot;
+use snapshot_blob::laws::header_and_body;
+use snapshot_blob::read_body;
 use std::alloc::Global;
 
 /// Writes a line for each row of the snapshot of a version, types in model order and the ordinals of each type rising,
@@ -37,13 +38,14 @@ pub fn show<O: Sink, S: BlobStore>(
         (λ held. GainsFront (Shows held version) (O.taken out.old) (O.taken out.new)) }
 {
     let name = BlobName::Snapshot(version);
-    let (_header, _cursor) = match opened(alloc, store, &name) {
+    header_and_body();
+    let (_header, mut cursor) = match opened(alloc, store, &name) {
         Ok(opened) => opened,
         Err(fault) => return write_reply(alloc, &Reply::Refused(refusal(&name, fault)?), out),
     };
-    match read_snapshot(alloc, store, &name) {
-        Ok(loaded) => {
-            show_rows(alloc, &loaded.rows(), out)?;
+    match read_body(alloc, &mut cursor, store) {
+        Ok(body) => {
+            show_rows(alloc, &body.rows(), out)?;
             Ok(false)
         }
         Err(fault) => write_reply(alloc, &Reply::Refused(body_refusal(&name, fault)?), out),
