@@ -3,10 +3,8 @@ use Rattle.std.proofs.Common.{◌≡◌, ◌≤◌, ◌+◌, ◌-◌, ℕ, ◌<�
 use Rattle.std.specs.Int.{Width, w8, byte_len, from_be_bytes}
 use Rattle.std.proofs.lemmas.List.{drop-take, drop-drop, take-take, length-drop, take_more}
 use Rattle.hol_io.specs.Store.{told}
-use Rattle.schema_model.specs.declared.reason.Reason.{Reason}
 use Rattle.blob_frame.specs.declared.fault.BlobFault.{BlobFault}
 use Rattle.blob_frame.specs.declared.fault.BlobFault.TheVariants as fault
-use Rattle.blob_grammar.specs.Form.{Form}
 use Rattle.blob_frame.specs.Item.{fixed, run}
 use Rattle.blob_frame.specs.Scene.{Place, Scene, at_place, moved, Stays, IsOver, IsPlaceIn, IsItemFault, IsReadFault, Tells, Reads}
 use Rattle.blob_frame.specs.Filling.{Needs, TellsNeed}

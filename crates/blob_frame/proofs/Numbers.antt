@@ -1,11 +1,10 @@
 -- Reading a number of variable length from the bytes that stand ahead.
-use Rattle.std.proofs.Common.{◌≡◌, ◌≢◌, ◌≤◌, ◌<◌, ◌+◌, ◌-◌, ◌^◌, ◌⊎◌, ℕ, zero, suc, List, [], ◌∷◌, ◌++◌, get_or, take, drop, length, min, cond, Bool, true, false, Option, Some, None, Result, Ok, Err, inl, inr, refl, ◌∙◌, subst, sym, ap, arith, length-append, length-drop, append_assoc}
+use Rattle.std.proofs.Common.{◌≡◌, ◌≢◌, ◌≤◌, ◌<◌, ◌-◌, ◌^◌, ◌⊎◌, ℕ, zero, suc, List, [], ◌∷◌, ◌++◌, get_or, take, drop, length, min, cond, Bool, true, false, Some, Result, Ok, Err, inl, inr, refl, ◌∙◌, subst, sym, ap, arith, length-append, length-drop, append_assoc}
 use Rattle.std.specs.Option.{IfSome}
 use Rattle.std.specs.Bool.{MatchBool}
 use Rattle.std.proofs.lemmas.List.{take-append-drop}
 use Rattle.std.proofs.lemmas.Bool.{cases_lt}
 use Rattle.std.proofs.lemmas.Grind.{common_steps}
-use Rattle.hol_io.specs.Store.{told}
 use Rattle.hol_varint.specs.Varint.{GoOn, IsVarint, VarStandsBelow, VarEndsInside, IsNullVar, IsLongVar}
 use Rattle.hol_varint.proofs.Varints.{stands_below, stands_over, long_over}
 use Rattle.schema_model.specs.declared.reason.Reason.{Reason}

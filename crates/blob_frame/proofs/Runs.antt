@@ -1,5 +1,5 @@
 -- Reading a run of bytes piece by piece, moving past one, and the end of a blob.
-use Rattle.std.proofs.Common.{◌≡◌, ◌≤◌, ◌<◌, ◌+◌, ◌-◌, ◌*◌, ◌^◌, ℕ, List, [], ◌∷◌, ◌++◌, take, drop, length, min, Option, Some, Result, Ok, Err, refl, ◌∙◌, subst, sym, ap, arith, length-append}
+use Rattle.std.proofs.Common.{◌≡◌, ◌≤◌, ◌<◌, ◌+◌, ◌-◌, ◌*◌, ◌^◌, ℕ, List, [], ◌∷◌, ◌++◌, take, drop, length, min, Result, Ok, Err, refl, ◌∙◌, subst, sym, ap, arith, length-append}
 use Rattle.std.specs.Option.{IfSome}
 use Rattle.std.proofs.Math.Seq.{take-add}
 use Rattle.std.proofs.lemmas.List.{drop-drop, length-take-le}
@@ -9,7 +9,7 @@ use Rattle.blob_frame.specs.declared.fault.BlobFault.{BlobFault}
 use Rattle.blob_frame.specs.declared.fault.BlobFault.TheVariants as fault
 use Rattle.blob_grammar.specs.Form.{judged}
 use Rattle.blob_frame.specs.Item.{run, skipped, end}
-use Rattle.blob_frame.specs.Scene.{Place, Scene, scene, at_place, moved, Stays, IsOver, IsPlaceIn, Reads}
+use Rattle.blob_frame.specs.Scene.{Place, Scene, scene, at_place, moved, IsOver, IsPlaceIn, Reads}
 use Rattle.blob_frame.specs.Filling.{Fills}
 use Rattle.blob_frame.proofs.Chain.{told_stays, stays_here, stays_then, found_in, reads_found, reads_missed}
 use Rattle.blob_frame.proofs.Fixed.{place_in, reads_ahead}

@@ -1,20 +1,15 @@
 -- Seeking the end of a number that goes on.
-use Rattle.std.proofs.Common.{◌≡◌, ◌≢◌, ◌≤◌, ◌<◌, ◌+◌, ◌-◌, ◌*◌, ◌^◌, ℕ, suc, List, [], ◌∷◌, ◌++◌, get_or, take, drop, length, min, Bool, true, false, Option, Some, None, Result, Ok, Err, refl, ◌∙◌, subst, sym, ap, arith, length-drop, drop-cons}
+use Rattle.std.proofs.Common.{◌≡◌, ◌≢◌, ◌≤◌, ◌<◌, ◌+◌, ◌-◌, ◌*◌, ◌^◌, ℕ, suc, List, [], ◌∷◌, ◌++◌, get_or, take, drop, length, min, true, Option, Some, None, Ok, ◌∙◌, subst, sym, ap, arith, length-drop, drop-cons}
 use Rattle.std.specs.Option.{IfSome}
-use Rattle.std.specs.Result.{IfOk}
-use Rattle.std.specs.Bool.{MatchBool}
 use Rattle.std.proofs.Math.Seq.{take-add}
 use Rattle.std.proofs.lemmas.List.{drop-drop, take-take, take-append-drop, take_more, get_or-take, get_or-drop}
-use Rattle.std.proofs.lemmas.Grind.{common_steps}
 use Rattle.hol_io.specs.Store.{told}
 use Rattle.hol_varint.specs.Varint.{GoOn, IsVarint}
-use Rattle.blob_frame.specs.declared.fault.BlobFault.{BlobFault}
-use Rattle.blob_frame.specs.declared.fault.BlobFault.TheVariants as fault
 use Rattle.blob_frame.specs.Scene.{Place, Scene, at_place, moved, Stays, IsOver, IsPlaceIn}
 use Rattle.blob_grammar.specs.Words.{StopsLater}
 use Rattle.blob_grammar.proofs.SomeNumbers.{grouped, spells-push}
 use Rattle.blob_frame.specs.Filling.{Fills, Seeks, HasAhead}
-use Rattle.blob_frame.proofs.Chain.{told_stays, stays_here, stays_then, rose_earlier}
+use Rattle.blob_frame.proofs.Chain.{told_stays, stays_then}
 use Rattle.blob_frame.proofs.Fixed.{stays_passed}
 
 pub GoOn-append : (xs ys : List ℕ) → GoOn xs → GoOn ys → GoOn (xs ++ ys)
@@ -129,25 +124,4 @@ seeking_found {before} {now} k p stop = record {
   kind = tt;
   tells = stop_told (told before.held before.place.name) before.place.at now.place k p.place
       (subst (λ content. IsPlaceIn now.place content) (told_stays p.stays) p.over) stop.0 stop.1 stop.2 p.on;
-}
-
-all_told : (content : Option (List ℕ)) (from : ℕ) (place : Place) → from ≤ place.at → length place.ahead ≡ 0 →
-    IfSome content (λ blob. min 1 (length blob - place.at) ≤ length place.ahead) →
-    IfSome content (λ blob. GoOn (take (place.at - from) (drop from blob))) → IfSome content (λ blob. GoOn (drop from blob))
-all_told None from place h none enough so_far = tt
-all_told (Some blob) from place h none enough so_far =
-    subst GoOn (take_all (place.at - from) (drop from blob) (omega (arith, length-drop from blob))) so_far
-  where
-    take_all : (n : ℕ) (xs : List ℕ) → length xs ≤ n → take n xs ≡ xs
-    take_all n xs h = grind (arith, common_steps)
-
--- the blob ends, and no byte ended the number
-pub seeking_none : {before now : Scene} → Seeking before now → length now.place.ahead ≡ 0 → Seeks before now (Ok false)
-seeking_none {before} {now} p none = record {
-  stays = p.stays;
-  over = p.over;
-  cause = λ e. absurd (cc);
-  kind = tt;
-  tells = all_told (told before.held before.place.name) before.place.at now.place p.place none
-      (subst (λ content. IfSome content (λ blob. min 1 (length blob - now.place.at) ≤ length now.place.ahead)) (told_stays p.stays) p.ahead) p.on;
 }

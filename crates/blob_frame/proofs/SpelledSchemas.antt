@@ -1,9 +1,9 @@
 -- The bytes that are written of a schema and of a header are read as them.
-use Rattle.std.proofs.Common.{◌≡◌, ◌≤◌, ◌<◌, ◌+◌, ◌*◌, ◌/◌, ◌%◌, ◌^◌, ℕ, ℤ, zero, suc, true, ltb, List, [], ◌∷◌, ◌++◌, length, Option, Some, None, refl, ◌∙◌, subst, sym, ap, arith, append_assoc, append-nil, codes, rules}
+use Rattle.std.proofs.Common.{◌≡◌, ◌≤◌, ◌<◌, ◌+◌, ◌/◌, ◌%◌, ◌^◌, ℕ, ℤ, zero, suc, true, ltb, List, [], ◌∷◌, ◌++◌, length, Option, Some, None, refl, ◌∙◌, sym, ap, arith, append_assoc, append-nil}
 use Rattle.std.specs.List.{flat_map, All, list_all}
 use Rattle.std.specs.Char.Escape.{encode_utf16}
 use Rattle.std.specs.Option.{IfSome}
-use Rattle.std.specs.Int.{w8, w16, w32, w64, from_be_bytes, to_be_bytes, cast_unsigned, cast_signed}
+use Rattle.std.specs.Int.{w8, w16, w32, w64, to_be_bytes, cast_unsigned}
 use Rattle.std.specs.Prelude.{FitsSigned}
 use Rattle.std.specs.Str.{IsUtf8, IsAscii}
 use Rattle.std.proofs.lemmas.List.Elements.{All-nil}
@@ -30,7 +30,7 @@ use Rattle.blob_grammar.specs.declared.kind.FieldType.{FieldType}
 use Rattle.blob_grammar.specs.declared.kind.FieldType.TheVariants as type_
 use Rattle.blob_grammar.specs.Words.{kind_byte, type_text}
 use Rattle.blob_grammar.specs.Form.{Form, at_most, envelope, behind_number}
-use Rattle.blob_frame.specs.Item.{fixed, signed, vint, name}
+use Rattle.blob_frame.specs.Item.{fixed, signed, name}
 use Rattle.blob_frame.specs.Header.{format_number, format, listed_schemas, schema_envelope, header_tags, header}
 use Rattle.blob_frame.specs.Written.{schema_list_bytes, header_bytes}
 use Rattle.blob_frame.specs.SchemaForm.{schema_kind, field_type, field_kind_of, field, fields, key_paths, shape_of, schema, schemas}

@@ -1,15 +1,13 @@
 -- What is written stands: the bytes that spell a part are read as it, wherever they stand.
-use Rattle.std.proofs.Common.{◌≡◌, ◌≤◌, ◌<◌, ◌+◌, ◌*◌, ◌/◌, ◌%◌, ◌^◌, ℕ, ℤ, zero, suc, List, [], ◌∷◌, ◌++◌, take, drop, length, Option, Some, None, refl, ◌∙◌, subst, sym, ap, arith, length-append, append_assoc, append-nil, rules, codes}
+use Rattle.std.proofs.Common.{◌≡◌, ◌≤◌, ◌<◌, ◌+◌, ◌^◌, ℕ, List, [], ◌∷◌, ◌++◌, take, drop, length, refl, ◌∙◌, subst, sym, ap, arith, length-append, append_assoc, append-nil}
 use Rattle.std.specs.List.{flat_map, All}
-use Rattle.std.specs.Option.{IfSome}
-use Rattle.std.specs.Int.{Width, w8, w16, w32, w64, byte_len, from_be_bytes, to_be_bytes, cast_unsigned, cast_signed}
-use Rattle.std.specs.Prelude.{FitsSigned}
+use Rattle.std.specs.Int.{Width, byte_len, from_be_bytes}
 use Rattle.std.specs.Str.{IsUtf8}
 use Rattle.std.proofs.lemmas.List.{take_at, drop_at}
 use Rattle.std.proofs.lemmas.List.Elements.{All-head, All-tail}
 use Rattle.hol_varint.specs.Varint.{varint_bytes}
 use Rattle.hol_varint.specs.JavaUtf.{java_bytes, utf_bytes}
-use Rattle.hol_varint.specs.TextUnits.{AreUnits, text_units, IsTextOf}
+use Rattle.hol_varint.specs.TextUnits.{AreUnits, text_units}
 use Rattle.hol_varint.proofs.VarWriting.{stands_between}
 use Rattle.hol_varint.proofs.JavaTexts.{utf_stands_between}
 use Rattle.hol_varint.proofs.Characters.{text_units-are}

@@ -1,5 +1,5 @@
 -- Reading a Java UTF text: its bytes are gathered, and its units are read from them.
-use Rattle.std.proofs.Common.{◌≡◌, ◌≤◌, ◌+◌, ◌-◌, ◌*◌, ◌/◌, ◌%◌, ℕ, List, ◌∷◌, get_or, take, drop, length, Option, Some, None, Result, Ok, Err, inl, inr, refl, ◌∙◌, subst, sym, ap, arith, length-drop}
+use Rattle.std.proofs.Common.{◌≡◌, ◌≤◌, ◌+◌, ◌-◌, ◌*◌, ◌/◌, ◌%◌, ℕ, List, ◌∷◌, get_or, take, drop, length, Some, Result, Ok, Err, inl, inr, refl, ◌∙◌, subst, sym, ap, arith, length-drop}
 use Rattle.std.proofs.lemmas.List.{get_or-take, length-take-le}
 use Rattle.hol_io.specs.Store.{told}
 use Rattle.hol_varint.specs.JavaUtf.{UtfStandsAt, UtfEndsInside, IsBadUtf, text_length, utf_bytes, java_bytes}

@@ -1,5 +1,5 @@
 -- How a cursor reads ahead.
-use Rattle.std.specs.Prelude.{◌≡◌, ◌≤◌, ◌<◌, ◌+◌, ◌-◌, ℕ, List, ◌∷◌, ◌++◌, length, drop, min, Bool, Option, Some, Result, Err, OnOk, IfOk, IfErr, IfSome, MatchBool}
+use Rattle.std.specs.Prelude.{◌≡◌, ◌≤◌, ◌<◌, ◌+◌, ◌-◌, ℕ, List, length, drop, min, Bool, Option, Some, Result, Err, OnOk, IfOk, IfErr, IfSome, MatchBool}
 use Rattle.hol_varint.specs.Varint.{GoOn}
 use Rattle.blob_grammar.specs.Words.{StopsLater}
 use Rattle.hol_io.specs.Causes.{Rose}

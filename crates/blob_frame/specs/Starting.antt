@@ -1,5 +1,5 @@
 -- How a cursor comes to a blob: the blob is there, and it is not too large.
-use Rattle.std.specs.Prelude.{◌≡◌, ◌≤◌, ◌<◌, ◌^◌, ◌⊎◌, ℕ, List, [], length, Option, Some, None, Result, Ok, Err, IsErrAnd}
+use Rattle.std.specs.Prelude.{◌≡◌, ◌≤◌, ◌<◌, ◌⊎◌, ℕ, List, [], length, Option, Some, None, Result, Ok, Err, IsErrAnd}
 use Rattle.hol_io.specs.declared.name.BlobName.{BlobName}
 use Rattle.schema_model.specs.declared.limit.Limit.TheVariants.{Blob}
 use Rattle.schema_model.specs.Limit.{number_of_limit}

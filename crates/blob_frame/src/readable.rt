@@ -1,4 +1,5 @@
 //! What a cursor reads from a blob, so many of it, and two things one behind the other.
+ghost use Rattle.std.specs.Prelude.{◌≡◌, IfOk, length};
 ghost use Rattle.blob_grammar.specs.Form.{repeated};
 ghost use Rattle.blob_frame.specs.Scene.{IsAbove, Leads};
 
@@ -31,6 +32,7 @@ pub fn counted<T: Readable, S: BlobStore>(
 ) -> Result<List<T>, BlobFault>
     requires over { IsAbove S.seen store.old cursor.old }
     ensures reads { Leads S.seen (repeated count T.form) store.old cursor.old store.new cursor.new result }
+    ensures long { IfOk result (λ list. length list ≡ count) }
 {
     let mut list = List::new(cursor.allocator());
     for _item in 0..count {

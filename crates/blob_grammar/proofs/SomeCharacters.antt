@@ -1,9 +1,9 @@
 -- Units are those of some text, or of none.
-use Rattle.std.proofs.Common.{◌≡◌, ◌≤◌, ◌<◌, ◌+◌, ◌-◌, ◌*◌, ◌/◌, ◌%◌, ◌^◌, ◌⊎◌, ℕ, Bool, true, false, not, List, [], ◌∷◌, ◌++◌, get_or, length, Option, Some, None, Err, is_some, inl, inr, refl, ◌∙◌, subst, sym, ap, arith, rules}
+use Rattle.std.proofs.Common.{◌≡◌, ◌≤◌, ◌<◌, ◌+◌, ◌-◌, ◌%◌, ◌^◌, ◌⊎◌, ℕ, true, not, List, [], ◌∷◌, ◌++◌, get_or, Option, Some, None, Err, is_some, inl, inr, refl, ◌∙◌, subst, sym, ap, arith, rules}
 use Rattle.std.specs.List.{flat_map, list_any}
 use Rattle.std.specs.Char.Escape.{encode_utf16}
 use Rattle.std.specs.Char.Utf16.{utf16_chars, lone_unit_char, surrogate_pair_char, has_unpaired_surrogate}
-use Rattle.std.specs.Str.{IsUtf8, all_scalars, encode_utf8_all}
+use Rattle.std.specs.Str.{all_scalars, encode_utf8_all}
 use Rattle.std.proofs.Math.Utf8.{scalar, low_scalar}
 use Rattle.std.proofs.lemmas.Bool.{cases_lt}
 use Rattle.std.proofs.lemmas.List.Elements.{All-head, All-tail, All-nil, All-cons}

@@ -1,13 +1,13 @@
 -- At each place of a blob a Java UTF text stands, or it cannot be read.
-use Rattle.std.proofs.Common.{◌≡◌, ◌≤◌, ◌<◌, ◌+◌, ◌-◌, ◌*◌, ◌^◌, ◌⊎◌, ℕ, zero, suc, List, [], ◌∷◌, ◌++◌, get_or, take, drop, length, Option, Some, None, inl, inr, refl, ◌∙◌, subst, sym, ap, arith, append-nil}
+use Rattle.std.proofs.Common.{◌≡◌, ◌≤◌, ◌<◌, ◌+◌, ◌-◌, ◌*◌, ◌^◌, ◌⊎◌, ℕ, zero, suc, List, [], ◌∷◌, ◌++◌, get_or, take, drop, length, Some, None, inl, inr, refl, ◌∙◌, sym, ap, arith, append-nil}
 use Rattle.std.proofs.lemmas.Bool.{cases_lt, cases_eq}
 use Rattle.std.proofs.lemmas.List.Elements.{All-nil}
 use Rattle.std.proofs.lemmas.List.{get_or-drop, length-drop, drop-drop, length-take}
 use Rattle.std.specs.List.{flat_map}
 use Rattle.hol_varint.specs.JavaBytes.{TellsUnit}
-use Rattle.hol_varint.specs.JavaUtf.{unit_bytes, AreJavaBytes, UtfStandsAt, UtfEndsInside, text_length}
+use Rattle.hol_varint.specs.JavaUtf.{unit_bytes, AreJavaBytes, UtfStandsAt, text_length}
 use Rattle.hol_varint.proofs.Runs.{ReadSoFar}
-use Rattle.hol_varint.proofs.JavaUnits.{OneByte, TwoBytes, ThreeBytes, refused, one_byte, two_bytes, three_bytes}
+use Rattle.hol_varint.proofs.JavaUnits.{TwoBytes, ThreeBytes, refused, one_byte, two_bytes, three_bytes}
 use Rattle.hol_varint.proofs.JavaTexts.{text_more, text_refused, utf_found}
 use Rattle.schema_model.specs.declared.reason.Reason.TheVariants.{Truncated, BadName}
 use Rattle.blob_grammar.specs.Decided.{AreBytes, StandsThere, StuckThere}

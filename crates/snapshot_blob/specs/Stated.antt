@@ -7,7 +7,7 @@ use Rattle.schema_model.specs.declared.schema.Schema.{Schema}
 use Rattle.schema_model.specs.Limit.{number_of_limit}
 use Rattle.schema_model.specs.Model.{IsModel}
 use Rattle.schema_model.specs.Table.{RowMap, IsClosed}
-use Rattle.type_state.specs.State.{Half, State, empty_half}
+use Rattle.type_state.specs.State.{Half, State, IsLaidOut, empty_half}
 use Rattle.type_state.specs.Layout.{places_of}
 use Rattle.type_state.specs.Loads.{SectionIs, Loads, layout_of}
 use Rattle.type_state.specs.Holds.{Holds, KeepsLimits}
@@ -78,4 +78,5 @@ pub record IsLoadedFrom (part : TypePart) (state : State) : Type 0 where
   pub schema : state.schema ≡ part.schema
   pub current : state.current ≡ empty_half
   pub layout : state.other.layout ≡ layout_of part.section
+  pub laid : IsLaidOut state.schema state.other
   pub loads : LoadsPart part state.other.rows

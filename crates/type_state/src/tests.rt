@@ -74,24 +74,33 @@ fn load_word(
     Ok(state.load_next(&section))
 }
 
-/// Loads such a section, and makes its rows the current ones. Tells whether it was loaded.
+/// Loads such a section, and makes its rows the current ones where it is loaded.
 fn step(
     alloc: Global,
     state: &mut TypeState,
     max: u32,
     live: u64,
     word: u64,
-) -> Result<bool, AllocError>
+) -> Result<(), AllocError>
     requires place { max < 8 }
     requires built { IsBuilt state.old.schema.shape }
     requires wide { AllZip IsFieldWidth (shape_fields state.old.schema.shape) (4 ∷ 4 ∷ []) }
-    ensures { state.new.schema ≡ state.old.schema }
+    ensures built { IsBuilt state.new.schema.shape }
+    ensures wide { AllZip IsFieldWidth (shape_fields state.new.schema.shape) (4 ∷ 4 ∷ []) }
 {
     let loaded = load_word(alloc, state, max, live, word)?;
     if loaded.is_ok() {
         state.flip();
     }
-    Ok(loaded.is_ok())
+    Ok(())
+}
+
+/// A type of which two such sections were loaded, one after the other.
+fn twice(alloc: Global) -> Result<TypeState, AllocError> {
+    let mut state = TypeState::new(alloc, schema(alloc)?);
+    step(alloc, &mut state, 2, 0b101, 0x4F_20_2A)?;
+    step(alloc, &mut state, 1, 0b11, 0x2E_85)?;
+    Ok(state)
 }
 
 /// What is answered where such a section is loaded, as its text.
@@ -112,6 +121,24 @@ fn next_text(alloc: Global, state: &TypeState, ordinal: u32) -> Result<String, A
     format!(in alloc; "{row:?}")
 }
 
+/// The row of the current state under an ordinal, as its text.
+fn text(alloc: Global, state: &TypeState, ordinal: u32) -> Result<String, AllocError> {
+    if !state.is_live(ordinal) {
+        return Ok(String::new(alloc));
+    }
+    let row = state.row(alloc, ordinal)?;
+    format!(in alloc; "{row:?}")
+}
+
+/// The row of the state before under an ordinal, as its text.
+fn text_before(alloc: Global, state: &TypeState, ordinal: u32) -> Result<String, AllocError> {
+    if !state.was_live(ordinal) {
+        return Ok(String::new(alloc));
+    }
+    let row = state.row_before(alloc, ordinal)?;
+    format!(in alloc; "{row:?}")
+}
+
 #[test]
 fn next_half(rt: HostRuntime) -> Result<(), Fail> {
     let alloc = rt.alloc();
@@ -122,6 +149,20 @@ fn next_half(rt: HostRuntime) -> Result<(), Fail> {
     assert_eq!(rt;
         row.as_str(),
         "Object(List { items: [Int(5), Text(List { items: [72, 105] })] })"
+    );
+    Ok(())
+}
+
+#[test]
+fn two_states(rt: HostRuntime) -> Result<(), Fail> {
+    let alloc = rt.alloc();
+    let state = twice(alloc)?;
+    let row = text(alloc, &state, 0)?;
+    assert_eq!(rt; row.as_str(), "Object(List { items: [Int(-3), Null] })");
+    let before = text_before(alloc, &state, 2)?;
+    assert_eq!(rt;
+        before.as_str(),
+        "Object(List { items: [Null, Text(List { items: [233] })] })"
     );
     Ok(())
 }

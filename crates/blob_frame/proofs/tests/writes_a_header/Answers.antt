@@ -1,4 +1,4 @@
-use Rattle.std.proofs.Common.{◌≡◌, ◌≤◌, ◌^◌, ◌∙◌, ℕ, List, [], ◌∷◌, None, length, subst, sym, ap, codes, lit≤, arith}
+use Rattle.std.proofs.Common.{◌≡◌, ◌≤◌, ◌^◌, ◌∙◌, ℕ, List, [], ◌∷◌, None, length, codes, lit≤}
 use Rattle.hol_varint.specs.Varint.{varint_bytes}
 use Rattle.hol_varint.specs.Varint as varints
 use Rattle.std.specs.Str.{chars}

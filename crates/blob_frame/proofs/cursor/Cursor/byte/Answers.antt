@@ -1,6 +1,6 @@
-use Rattle.std.proofs.Common.{ap, sym, ◌∙◌, ◌∷◌, [], ℕ, List, get_or, arith, rules}
-use Rattle.std.specs.Int.{w8, from_be_bytes}
-use Rattle.blob_frame.proofs.Fixed.{reads_fixed, reads_no_fixed, first_one, value_one}
+use Rattle.std.proofs.Common.{rules}
+use Rattle.std.specs.Int.{w8}
+use Rattle.blob_frame.proofs.Fixed.{reads_fixed, reads_no_fixed, value_one}
 use Rattle.blob_frame.proofs.cursor.Cursor.byte.Goals as goal
 
 pub returns-in_err-need-clause-reads : goal.returns-in_err-need-clause-reads
