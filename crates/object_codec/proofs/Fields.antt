@@ -22,9 +22,6 @@ pub record Progress (fields : List Field) (widths first : List ℕ) (areas : Lis
   pub fails : (reason : Reason) → FirstFails (drop index fields) (parts_from first (sum widths) place before (drop index widths) (drop index areas)) reason
       → FailsObject fields widths first areas place reason
 
-pub started : (fields : List Field) (widths first : List ℕ) (areas : List (List ℕ)) (place : ℕ) → Progress fields widths first areas place 0 0 []
-started fields widths first areas place = record { summed = refl; spells = λ rest h. h; fails = λ reason h. h }
-
 -- what the fields, widths and areas from an index on begin with
 record Heads (fields : List Field) (widths : List ℕ) (areas : List (List ℕ)) (index : ℕ) (field : Field) : Type 0 where
   field_first : drop index fields ≡ field ∷ drop (index + 1) fields

@@ -1,5 +1,6 @@
 pub mod Bodies
 pub mod Loading
-pub mod Refusals
 pub mod Reading
+pub mod Refusals
+pub mod Whole
 pub mod Zipped

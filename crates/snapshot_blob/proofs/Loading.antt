@@ -86,8 +86,8 @@ all_taken done [] all are none = sym (append-nil done) ∙ are
 all_taken done (x ∷ left) all are none = absurd (omega arith)
 
 -- what was taken and what is left are the parts
-pub parts_are : {done left rest initial items parts : List TypePart} {part : TypePart} → left ≡ part ∷ rest → done ++ left ≡ initial → initial ≡ items → items ≡ parts → done ++ part ∷ rest ≡ parts
-parts_are {done} steps at from of = ap (λ (ls : List TypePart). done ++ ls) (sym steps) ∙ at ∙ from ∙ of
+pub parts_are : (done : List TypePart) {left rest initial items parts : List TypePart} {part : TypePart} → left ≡ part ∷ rest → done ++ left ≡ initial → initial ≡ items → items ≡ parts → done ++ part ∷ rest ≡ parts
+parts_are done steps at from of = ap (λ (ls : List TypePart). done ++ ls) (sym steps) ∙ at ∙ from ∙ of
 
-pub one_taken : {done left rest initial : List TypePart} {part : TypePart} → left ≡ part ∷ rest → done ++ left ≡ initial → (done ++ part ∷ []) ++ rest ≡ initial
-one_taken {done} {rest = rest} {part = part} steps at = append_assoc done (part ∷ []) rest ∙ (ap (λ (ls : List TypePart). done ++ ls) (sym steps) ∙ at)
+pub one_taken : (done rest : List TypePart) {left initial : List TypePart} {part : TypePart} → left ≡ part ∷ rest → done ++ left ≡ initial → (done ++ part ∷ []) ++ rest ≡ initial
+one_taken done rest {part = part} steps at = append_assoc done (part ∷ []) rest ∙ (ap (λ (ls : List TypePart). done ++ ls) (sym steps) ∙ at)

@@ -5,7 +5,7 @@ ghost use Rattle.schema_model.specs.declared.schema.Schema.{Schema};
 ghost use Rattle.schema_model.specs.Limit.{number_of_limit};
 ghost use Rattle.type_state.specs.State.{Half};
 ghost use Rattle.type_state.specs.Views.{next_halves};
-ghost use Rattle.blob_grammar.specs.Decided.{AreBytes, IsDecided, StandsThere, StuckThere};
+ghost use Rattle.blob_grammar.specs.Decided.{EachPlace, IsDecided};
 ghost use Rattle.blob_frame.specs.declared.fault.BlobFault.{BlobFault};
 ghost use Rattle.blob_frame.specs.declared.header.Header.{Header};
 ghost use Rattle.blob_frame.specs.Header.{HeaderIs};
@@ -31,8 +31,8 @@ pub fn one_snapshot()
 
 /// A snapshot stands at each place of each blob, or reading it is stuck; so it is with its types.
 pub fn each_place()
-    ensures body { (blob : List ℕ) (at : ℕ) → AreBytes blob → at ≤ length blob → StandsThere body.Stands blob at ⊎ StuckThere body.Stuck blob at }
-    ensures snapshot { (blob : List ℕ) (at : ℕ) → AreBytes blob → at ≤ length blob → StandsThere snapshot.Stands blob at ⊎ StuckThere snapshot.Stuck blob at }
+    ensures body { EachPlace body.Stands body.Stuck }
+    ensures snapshot { EachPlace snapshot.Stands snapshot.Stuck }
 {}
 
 /// A header at the start of a blob and the body behind it are a snapshot: one within the limits where the reader of the

@@ -12,7 +12,9 @@ use crate::body::Body;
 use crate::part::{TypePart, TypeParts};
 use blob_frame::BlobFault;
 use hol_varint::{Duplicate, GapList};
-use schema_model::{Limit, MAX_ORDINALS, Model, ModelFault, Reason, Schemas, first_dangling, model_of};
+use schema_model::{
+    Limit, MAX_ORDINALS, Model, ModelFault, Reason, Schemas, first_dangling, model_of,
+};
 use std::alloc::{AllocError, Global};
 use type_state::{NextRows, RowFault, TypeState, TypeStates};
 

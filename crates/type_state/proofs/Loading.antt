@@ -100,10 +100,6 @@ has_values (Shape.Object key names) section fields o (Row.Object values) is h = 
 has_values (Shape.Object key names) section fields o _ is h = absurd h
 has_values _ section fields o row is h = absurd h
 
--- The next ordinal has a place, and is above those that were read.
-pub low_place : (section : Section) (live : List ℕ) (index : ℕ) → All (λ o. o < places_of section.max) section.live → live ≡ section.live → index < length live → get_or live index 0 < places_of section.max
-low_place section live index places same inside = subst (All (λ o. o < places_of section.max)) (sym same) places index 0 inside
-
 -- What the loop over the rows refuses, and how it goes on.
 pub misfit_rows : (shape : Shape) (section : Section) (fields : List Field) (live : List ℕ) (index : ℕ) (es : List (ℕ × Row)) (ends : List ℕ) (bytes : ℕ) (row : Row) → fields ≡ shape_fields shape → live ≡ section.live
     → Progress (IsSpelledIn shape section) fields section.widths live index es ends bytes → index < length live → IsSpelledIn shape section (get_or live index 0, row) → (FitsRow fields section.widths ends row → ⊥) → (rows : List (ℕ × Row)) → AreRead shape section rows → ⊥

@@ -8,16 +8,12 @@ use Rattle.schema_model.specs.declared.schema.Field.{Field}
 use Rattle.schema_model.specs.declared.schema.Schema.{Schema}
 use Rattle.schema_model.specs.declared.schema.Shape.{Shape}
 use Rattle.schema_model.specs.Parts.{shape_fields}
-use Rattle.object_codec.specs.ObjectPlace.{IsObject, IsFieldWidth, HoldsPlace}
+use Rattle.object_codec.specs.ObjectPlace.{IsFieldWidth, HoldsPlace}
 use Rattle.type_state.specs.declared.section.Section.{Section}
 use Rattle.type_state.specs.Layout.{places_of, width_count}
 use Rattle.type_state.specs.Loads.{layout_of}
 use Rattle.type_state.specs.State.{Half, IsLaidOut}
 use Rattle.type_state.specs.WellFormed.{IsBuilt, IsWidth, IsReadable}
-
-pub is_object : (shape : Shape) → IsBuilt shape → IsObject shape
-is_object (Shape.Object key fields) built = tt
-is_object _ built = absurd built
 
 -- Where there is a place the widths are those of the fields.
 field_widths : (max : Option ℕ) (fields : List Field) (widths : List ℕ) → 0 < places_of max → AllZip (λ (field : Field) width. IsWidth max field.kind width) fields widths → AllZip IsFieldWidth fields widths

@@ -51,7 +51,7 @@ HoldsRows fields widths before (row ∷ rest) = HoldsRow fields widths (before +
 -- A layout holds the rows of a type: laid out by rising ordinal, with no place between them, each fits, and each has a place.
 pub record Holds (shape : Shape) (layout : Layout) (rows : RowMap) : Type 0 where
   pub parts : HoldsRows (shape_fields shape) layout.widths [] (values rows)
-  pub places : All (λ o. o < places_of layout.max) (keys rows)
+  pub places : All (λ ordinal. ordinal < places_of layout.max) (keys rows)
 
 -- The limits on the fixed words and the variable bytes of a type in one state.
 pub record KeepsLimits (shape : Shape) (layout : Layout) (rows : RowMap) : Type 0 where

@@ -32,7 +32,7 @@ IsSpelledIn shape section entry = Spells shape section entry.0 entry.1
 -- The section is that of these rows: their ordinals are its live ones, none above the max ordinal, and each row is spelled at its place.
 pub record SectionIs (shape : Shape) (section : Section) (rows : RowMap) : Type 0 where
   pub live : keys rows ≡ section.live
-  pub places : All (λ o. o < places_of section.max) section.live
+  pub places : All (λ ordinal. ordinal < places_of section.max) section.live
   pub spelled : All (IsSpelledIn shape section) (entries rows)
 
 -- The section is that of these rows, its layout holds them, and they keep the limits.

@@ -48,7 +48,7 @@ fn read_row(
 /// The rows at the places of the live ordinals, each read once, with their bytes counted as they come.
 fn read_rows(alloc: Global, schema: &Schema, section: &Section) -> Result<Kept, RowFault>
     requires readable { IsReadable schema.now.shape section.now }
-    requires places { All (λ o. o < places_of section.now.max) section.now.live }
+    requires places { All (λ ordinal. ordinal < places_of section.now.max) section.now.live }
     ensures read { MatchResult result (λ half. AreRead schema.now.shape section.now (entries half.rows)) (RefusesRows schema.now.shape section.now) }
     ensures layout { IfOk result (λ half. half.layout ≡ layout_of section.now) }
     ensures kind { IfErr result IsLoadFault }
@@ -68,7 +68,7 @@ fn read_listed(
     ends: &mut [u64],
 ) -> Result<Kept, RowFault>
     requires readable { IsReadable schema.now.shape section.now }
-    requires places { All (λ o. o < places_of section.now.max) section.now.live }
+    requires places { All (λ ordinal. ordinal < places_of section.now.max) section.now.live }
     requires live { live.now ≡ section.now.live }
     requires rising { IsStrictlyIncreasing live.now }
     requires zero { (f : ℕ) → slice_index ends.old f ≡ 0 }
@@ -113,7 +113,7 @@ pub(crate) fn load(alloc: Global, schema: &Schema, section: &Section) -> Result<
 #[tactic(auto, using(crate::proofs::Loading::refuses, crate::proofs::Loading::loads))]
 fn load_live(alloc: Global, schema: &Schema, section: &Section) -> Result<Kept, RowFault>
     requires readable { IsReadable schema.now.shape section.now }
-    requires places { All (λ o. o < places_of section.now.max) section.now.live }
+    requires places { All (λ ordinal. ordinal < places_of section.now.max) section.now.live }
     ensures tells { MatchResult result (λ half. Loads schema.now.shape section.now half.rows) (RefusesLoad schema.now.shape section.now) }
     ensures layout { IfOk result (λ half. half.layout ≡ layout_of section.now) }
     ensures kind { IfErr result IsLoadFault }

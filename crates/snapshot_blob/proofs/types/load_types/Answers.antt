@@ -16,19 +16,19 @@ loop-part-init c = record { parts = refl; long = search rules; loaded = subst (�
 
 pub load_type-requires : goal.load_type-requires
 load_type-requires c =
-    let are = parts_are c.in-Some.ensures.steps.0 c.loop-part.invariant.parts c.into_iter-part-iterator.ensures.into_iter_gives.0 c.into_vec-part-items.ensures in
+    let are = parts_are c.loop-part.yielded c.in-Some.ensures.steps.0 c.loop-part.invariant.parts c.into_iter-part-iterator.ensures.into_iter_gives.0 c.into_vec-part-items.ensures in
     let Readable : TypePart → Type 0 = λ part. IsReadable part.schema.shape part.section in
     all_middle Readable c.loop-part.yielded c.in-Some.part (into_iter_items c.next.new.self) (subst (λ (parts : List TypePart). All Readable parts) (sym are) c.requires)
 
 pub returns-in_err-load_type : goal.returns-in_err-load_type
 returns-in_err-load_type c =
-    let are = parts_are c.in-Some.ensures.steps.0 c.loop-part.invariant.parts c.into_iter-part-iterator.ensures.into_iter_gives.0 c.into_vec-part-items.ensures in
+    let are = parts_are c.loop-part.yielded c.in-Some.ensures.steps.0 c.loop-part.invariant.parts c.into_iter-part-iterator.ensures.into_iter_gives.0 c.into_vec-part-items.ensures in
     refusal (List State) ((rows : RowMap) × LoadsPart c.in-Some.part rows) ((rows : List RowMap) × AllZip LoadsPart c.args.parts rows) (λ states. AllZip IsLoadedFrom c.args.parts states)
     (part_loads c.args.parts c.loop-part.yielded c.in-Some.part (into_iter_items c.next.new.self) are) c.from_residual.result c.in_err-load_type.field-0.0 (search rules) c.in_err-load_type.ensures
 
 pub loop-part-preserved : goal.loop-part-preserved
 loop-part-preserved c = record {
-  parts = one_taken c.in-Some.ensures.steps.0 c.loop-part.invariant.parts;
+  parts = one_taken c.loop-part.yielded (into_iter_items c.next.new.self) c.in-Some.ensures.steps.0 c.loop-part.invariant.parts;
   long = let was = c.loop-part.invariant.long in let gone = c.in-Some.ensures.steps.1 in let short = ap length c.in-Some.ensures.steps.0 in omega arith;
   loaded = states_more c.loop-part.yielded c.in-Some.part c.loop-part.states c.push.new.self c.in_ok-load_type.field-0 c.loop-part.invariant.loaded c.in_ok-load_type.ensures c.in_ok-push.ensures.ok;
 }
