@@ -1,4 +1,4 @@
-use Rattle.std.proofs.Common.{inr}
+use Rattle.std.proofs.Common.{inr, Ok, Err}
 use Rattle.hol_io.specs.declared.name.BlobName.TheVariants.{Snapshot}
 use Rattle.hollow_top.specs.Stopping.{IsVerdict, Leaves}
 use Rattle.hollow_top.proofs.Shown.{is_read, body_served, rows_written, rows_cut, rows_front}
@@ -10,7 +10,7 @@ pub returns-in-Ok-read_body-clause-served : goal.returns-in-Ok-read_body-clause-
 returns-in-Ok-read_body-clause-served g c =
     rows_written c.args.version (g.O.Sink.taken c.args.out.now) (g.O.Sink.taken c.show_rows.new.out) c.header_and_body.ensures.accepted c.in-Ok.opened c.in-Ok-read_body.body
     (g.S.BlobStore.seen c.args.store.now).held c.rows.result.schemas c.rows.result.table
-    (is_read (g.S.BlobStore.seen c.args.store.now).held (g.S.BlobStore.seen c.opened.new.store).held (Snapshot c.args.version) c.in-Ok.opened _
+    (is_read (g.S.BlobStore.seen c.args.store.now).held (g.S.BlobStore.seen c.opened.new.store).held (Snapshot c.args.version) c.in-Ok.opened (Ok c.in-Ok-read_body.body)
     c.in-Ok.ensures.kept c.in-Ok.ensures.named c.in-Ok.ensures.tells c.in-Ok-read_body.ensures.tells)
     (c.rows.ensures.schemas, c.rows.ensures.table, c.in_ok-show_rows-in-Ok-read_body.ensures.lines)
 
@@ -23,7 +23,7 @@ returns-in_err-show_rows-in-Ok-read_body-clause-served g c =
     rows_cut c.args.version (g.O.Sink.taken c.args.out.now) (g.O.Sink.taken c.show_rows.new.out) c.header_and_body.ensures.accepted c.in-Ok.opened c.in-Ok-read_body.body
     (g.S.BlobStore.seen c.args.store.now).held c.rows.result.schemas c.rows.result.table c.in_err-show_rows-in-Ok-read_body.field-0.0
     c.from_residual-in_err-show_rows-in-Ok-read_body.result
-    (is_read (g.S.BlobStore.seen c.args.store.now).held (g.S.BlobStore.seen c.opened.new.store).held (Snapshot c.args.version) c.in-Ok.opened _
+    (is_read (g.S.BlobStore.seen c.args.store.now).held (g.S.BlobStore.seen c.opened.new.store).held (Snapshot c.args.version) c.in-Ok.opened (Ok c.in-Ok-read_body.body)
     c.in-Ok.ensures.kept c.in-Ok.ensures.named c.in-Ok.ensures.tells c.in-Ok-read_body.ensures.tells)
     (c.rows.ensures.schemas, c.rows.ensures.table, c.in_err-show_rows-in-Ok-read_body.ensures.lines) c.from_residual-in_err-show_rows-in-Ok-read_body.ensures.1
 
@@ -38,7 +38,7 @@ returns-in_err-show_rows-in-Ok-read_body-clause-stopped g c = λ memory.
     inr (rows_front c.args.version (g.O.Sink.taken c.args.out.now) (g.O.Sink.taken c.show_rows.new.out) c.header_and_body.ensures.accepted c.in-Ok.opened c.in-Ok-read_body.body
     (g.S.BlobStore.seen c.args.store.now).held c.rows.result.schemas c.rows.result.table c.in_err-show_rows-in-Ok-read_body.field-0.0
     c.from_residual-in_err-show_rows-in-Ok-read_body.result
-    (is_read (g.S.BlobStore.seen c.args.store.now).held (g.S.BlobStore.seen c.opened.new.store).held (Snapshot c.args.version) c.in-Ok.opened _
+    (is_read (g.S.BlobStore.seen c.args.store.now).held (g.S.BlobStore.seen c.opened.new.store).held (Snapshot c.args.version) c.in-Ok.opened (Ok c.in-Ok-read_body.body)
     c.in-Ok.ensures.kept c.in-Ok.ensures.named c.in-Ok.ensures.tells c.in-Ok-read_body.ensures.tells)
     (c.rows.ensures.schemas, c.rows.ensures.table, c.in_err-show_rows-in-Ok-read_body.ensures.lines) c.from_residual-in_err-show_rows-in-Ok-read_body.ensures.1 memory)
 
@@ -47,6 +47,6 @@ returns-clause-served g c =
     body_served c.args.version (g.O.Sink.taken c.args.out.now) (g.O.Sink.taken c.write_reply-in-Err-read_body.new.out) c.header_and_body.ensures.refused
     (g.S.BlobStore.seen c.args.store.now).held c.in-Ok.opened c.in-Err-read_body.fault c.in_ok-body_refusal-in-Err-read_body.field-0 c.body_refusal.result
     c.write_reply-in-Err-read_body.result
-    (is_read (g.S.BlobStore.seen c.args.store.now).held (g.S.BlobStore.seen c.opened.new.store).held (Snapshot c.args.version) c.in-Ok.opened _
+    (is_read (g.S.BlobStore.seen c.args.store.now).held (g.S.BlobStore.seen c.opened.new.store).held (Snapshot c.args.version) c.in-Ok.opened (Err c.in-Err-read_body.fault)
     c.in-Ok.ensures.kept c.in-Ok.ensures.named c.in-Ok.ensures.tells c.in-Err-read_body.ensures.tells)
     c.body_refusal.ensures c.in_ok-body_refusal-in-Err-read_body.was c.write_reply-in-Err-read_body.ensures.written
