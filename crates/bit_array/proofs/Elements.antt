@@ -156,15 +156,6 @@ number_of-lt (word ∷ rest) fits =
     (mul_comm (2 ^ 64) (2 ^ (64 * length rest)) ∙ sym (power_of_words (length rest)))
     (mul-add-lt (number_of rest) (2 ^ 64) word (2 ^ (64 * length rest)) (number_of-lt rest (λ k. fits (suc k))) (fits 0).fits)
 
--- an element stays the same where more words are put behind
-pub element_of-append : (words more : List ℕ) (at width : ℕ) → ((k : ℕ) → Fits w64 (get_or words k 0)) → at + width ≤ 64 * length words
-    → element_of (words ++ more) at width ≡ element_of words at width
-unfolding element_of
-element_of-append words more at width fits inside =
-    ap (λ n. n / 2 ^ at % 2 ^ width) (number_of-append words more)
-    ∙ field_within (number_of more * 2 ^ (64 * length words) + number_of words) (64 * length words) at width inside
-    ∙ ap (λ n. n / 2 ^ at % 2 ^ width) (mod_low (number_of more) (64 * length words) (number_of words) (number_of-lt words fits))
-
 -- the lowest w bits of a word, by the mask that has the w lowest bits of 64
 pub low_mask : (word w : ℕ) → w ≤ 64 → bit_and word ((2 ^ 64 - 1) / 2 ^ (64 - w)) ≡ word % 2 ^ w
 low_mask word w h =

@@ -158,12 +158,3 @@ decided_here = record {
   apart = λ bytes at v next place why p q. q;
   some = λ bytes at all within. inl (at, at, (refl, refl), within);
 }
-
--- nothing stands, and this is why
-pub decided_unread : {V : Type 0} (reason : Reason) → IsDecided {V = V} (λ bytes at v next. ⊥) (λ bytes at place why. (place ≡ at) × (why ≡ reason))
-decided_unread reason = record {
-  one = λ bytes at v w next end p q. absurd p;
-  once = λ bytes at place other why because p q. (p.0 ∙ sym q.0, p.1 ∙ sym q.1);
-  apart = λ bytes at v next place why p q. p;
-  some = λ bytes at all within. inr (at, reason, (refl, refl));
-}

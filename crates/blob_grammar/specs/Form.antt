@@ -4,7 +4,7 @@ use Rattle.std.specs.Prelude.{◌≡◌, ◌≤◌, ◌<◌, ◌⊎◌, ℕ, zer
 use Rattle.schema_model.specs.declared.reason.Reason.{Reason}
 use Rattle.schema_model.specs.declared.reason.Reason.TheVariants.{BadSchema}
 use Rattle.blob_grammar.specs.Decided.{IsDecided, IsJudge}
-use Rattle.blob_grammar.specs.Deciding.{decided_nothing, decided_then, decided_judged, judge_at_most, decided_here, decided_unread}
+use Rattle.blob_grammar.specs.Deciding.{decided_nothing, decided_then, decided_judged, judge_at_most, decided_here}
 
 -- What may stand at a place of a blob's bytes.
 pub record Form (V : Type 0) : Type 1 where
@@ -98,12 +98,4 @@ here = record {
   Stands = λ bytes at v next. (v ≡ at) × (next ≡ at);
   Stuck = λ bytes at place why. ⊥;
   decided = decided_here;
-}
-
--- Nothing of this kind is read: it is refused for this reason.
-unfoldable pub unread : {V : Type 0} → Reason → Form V
-unread reason = record {
-  Stands = λ bytes at v next. ⊥;
-  Stuck = λ bytes at place why. (place ≡ at) × (why ≡ reason);
-  decided = decided_unread reason;
 }

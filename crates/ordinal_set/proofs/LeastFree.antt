@@ -1,8 +1,7 @@
 -- Lemmas on the least number in neither of two word arrays' populations.
-use Rattle.std.proofs.Common.{◌≡◌, ℕ, ◌+◌, ◌-◌, ◌*◌, ◌/◌, ◌%◌, ◌^◌, ◌<◌, ◌≤◌, Bool, true, false, List, length, get_or, ◌⊎◌, refl, sym, ap, ◌∙◌, subst, inl, inr, arith, w64, max}
+use Rattle.std.proofs.Common.{◌≡◌, ℕ, ◌+◌, ◌-◌, ◌*◌, ◌/◌, ◌%◌, ◌^◌, ◌<◌, ◌≤◌, true, false, List, length, get_or, ◌⊎◌, ap, ◌∙◌, inl, inr, arith, w64}
 use Rattle.std.specs.Int.{bit_at, trailing_ones}
 use Rattle.std.specs.Int.Bits.{bit_or}
-use Rattle.std.specs.Prelude.{Contains}
 use Rattle.std.proofs.lemmas.Bool.{cases_lt}
 use Rattle.std.proofs.lemmas.Nat.{div-mul-add, mod-mul-add}
 use Rattle.std.proofs.lemmas.Nat.Bits.{bit_at-lt, bit_at_or, bit_at_ones, bit_at-trailing_ones}
@@ -81,15 +80,3 @@ least_in_word words others place fits before =
 pub least_past : (words others : List ℕ) (len : ℕ) → length words ≤ len → length others ≤ len → AreTaken words others (len * 64) → IsLeastFree (population_of words) (population_of others) (len * 64)
 least_past words others len within others_within taken =
     least_is words others (len * 64) (bit_past words (len * 64) (omega arith)) (bit_past others (len * 64) (omega arith)) taken
-
--- which are not so many that the number past them is no ordinal
-pub few_full : (words others : List ℕ) (len : ℕ) → FitOrdinals words → FitOrdinals others → len ≤ 2 ^ 26 → AreTaken words others (len * 64) → len * 64 < 2 ^ 32
-few_full words others len fit others_fit few taken =
-    elim (cases_lt (len * 64) (2 ^ 32)) [
-      | inl below ↦ below
-      | inr not_below ↦
-          elim (taken (2 ^ 32 - 1) (omega arith)) [
-            | inl one ↦ let small = fit.small (2 ^ 32 - 1) one in absurd (omega arith)
-            | inr one ↦ let small = others_fit.small (2 ^ 32 - 1) one in absurd (omega arith)
-          ]
-    ]

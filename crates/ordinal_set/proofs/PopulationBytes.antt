@@ -1,14 +1,13 @@
 -- Lemmas on the bytes that a population is written with.
-use Rattle.std.proofs.Common.{◌≡◌, ℕ, ◌+◌, ◌*◌, ◌/◌, ◌^◌, ◌<◌, ◌≤◌, Bool, true, false, List, [], ◌∷◌, ◌++◌, Option, Some, None, length, get_or, take, drop, refl, sym, ap, ◌∙◌, subst, inl, inr, arith, Fits, w64, append_assoc, append-nil}
-use Rattle.std.specs.Prelude.{Result, Ok, Err, OnOk, All, Contains, flat_map, map, max}
+use Rattle.std.proofs.Common.{◌≡◌, ℕ, ◌+◌, ◌*◌, ◌/◌, ◌^◌, ◌<◌, ◌≤◌, List, [], ◌∷◌, ◌++◌, Option, Some, None, length, get_or, take, refl, sym, ap, ◌∙◌, subst, inl, inr, arith, Fits, w64, append_assoc, append-nil}
+use Rattle.std.specs.Prelude.{Result, Ok, Err, OnOk, All, Contains, flat_map}
 use Rattle.std.specs.Int.{w32, to_be_bytes}
-use Rattle.std.specs.List.{range_with_len}
-use Rattle.std.proofs.lemmas.Bool.{cases_Bool, cases_lt}
+use Rattle.std.proofs.lemmas.Bool.{cases_lt}
 use Rattle.std.proofs.lemmas.List.{take_at}
 use Rattle.std.proofs.lemmas.List.Concat.{flat_map-append}
 use Rattle.std.proofs.lemmas.List.Elements.{All-contains, All-from_get_or}
 use Rattle.std.proofs.lemmas.List.FromFn.{length-map-range_with_len, get_or-map-range_with_len, map-range_with_len_more}
-use Rattle.ordinal_set.specs.Population.{has_bit, population_of, AreUpTo, count_up_to, population_words, first_words, words_bytes, IsPopulation}
+use Rattle.ordinal_set.specs.Population.{population_of, AreUpTo, count_up_to, population_words, first_words, words_bytes, IsPopulation}
 use Rattle.ordinal_set.proofs.Members.{same_rising, no_member}
 use Rattle.ordinal_set.proofs.Populations.{rising-population, same_bit, bit_past, bit_from_member, member_from_bit}
 
@@ -91,7 +90,3 @@ words_none start out words bytes count is_bytes is =
 pub words_all : (start out words : List ℕ) (count : ℕ) → WordsSoFar start out words count count → out ≡ start ++ words_bytes (first_words words count)
 words_all start out words count done =
     done ∙ ap (λ n. start ++ (to_be_bytes w32 n ++ flat_map (to_be_bytes w64) (first_words words count))) (sym (first_long words count))
-
-pub words_kept : (start out words : List ℕ) (count place : ℕ) → WordsSoFar start out words count place → take (length start) out ≡ start
-words_kept start out words count place done =
-    ap (take (length start)) done ∙ take_at start (to_be_bytes w32 count ++ flat_map (to_be_bytes w64) (first_words words place)) (length start) refl
