@@ -17,12 +17,12 @@ pub record Counts {V : Type 0} (form : Form V) (count done : ℕ) (before now : 
   pub over : IsOver now
   pub rest : (r : Result (List V) BlobFault) (end : Scene) → Reads (repeated (count - done) form) now end r → Reads (repeated count form) before end (prefixed list r)
 
-prefixed_none : {V : Type 0} (r : Result (List V) BlobFault) → r ≡ prefixed [] r
+pub prefixed_none : {V : Type 0} (r : Result (List V) BlobFault) → r ≡ prefixed [] r
 unfolding prefixed
 prefixed_none (Ok xs) = refl
 prefixed_none (Err e) = refl
 
-prefixed_more : {V : Type 0} (list : List V) (x : V) (r : Result (List V) BlobFault) → prefixed list (prefixed (x ∷ []) r) ≡ prefixed (list ++ x ∷ []) r
+pub prefixed_more : {V : Type 0} (list : List V) (x : V) (r : Result (List V) BlobFault) → prefixed list (prefixed (x ∷ []) r) ≡ prefixed (list ++ x ∷ []) r
 unfolding prefixed
 prefixed_more list x (Ok xs) = ap Ok (sym (append_assoc list (x ∷ []) xs))
 prefixed_more list x (Err e) = refl

@@ -3,7 +3,7 @@ ghost use Rattle.std.specs.Prelude.{◌≡◌, ◌≤◌, ◌+◌, ◌*◌, ◌^
 ghost use Rattle.std.specs.Int.{w8, w16, w32, w64};
 ghost use Rattle.hol_io.specs.Store.{Seen};
 ghost use Rattle.blob_grammar.specs.Form.{repeated};
-ghost use Rattle.blob_frame.specs.Item.{fixed, signed, run, skipped, end};
+ghost use Rattle.blob_frame.specs.Item.{counted_run, fixed, signed, run, skipped, end};
 ghost use Rattle.blob_frame.specs.Scene.{IsAbove, Leads, IsOver, IsReadFault, Reads, scene};
 
 use crate::cursor::Cursor;
@@ -111,6 +111,15 @@ impl Cursor {
             self.pass(piece);
         }
         Ok(Octets::from_vec(bytes))
+    }
+
+    /// The next run of bytes, whose number stands in front of it as a VLong. The faults are those of its items.
+    pub fn counted_run<S: BlobStore>(&mut self, store: &mut S) -> Result<Octets, BlobFault>
+        requires over { IsAbove S.seen store.old self.old }
+        ensures reads { Leads S.seen counted_run store.old self.old store.new self.new result }
+    {
+        let count = self.vlong(store)?;
+        self.run(store, count)
     }
 
     /// Moves past so many bytes and reads none of them. `Truncated`, at their offset, where the blob has fewer.

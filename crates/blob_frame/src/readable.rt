@@ -6,7 +6,7 @@ ghost use Rattle.blob_frame.specs.Scene.{IsAbove, Leads};
 use crate::cursor::Cursor;
 use crate::fault::BlobFault;
 use hol_io::BlobStore;
-use hol_varint::List;
+use hol_varint::{List, Octets};
 use schema_model::{Field, Fields, Name, Names, Schema};
 
 /// What a cursor reads from a blob.
@@ -62,6 +62,17 @@ impl Readable for Name {
 
     fn read<S: BlobStore>(cursor: &mut Cursor, store: &mut S) -> Result<Name, BlobFault> {
         cursor.utf(store)
+    }
+}
+
+impl Readable for Octets {
+    ghost use Rattle.blob_frame.specs.Item.{counted_run};
+    ghost use Rattle.blob_frame.specs.Scene.{IsAbove, Leads};
+
+    ghost form = { counted_run };
+
+    fn read<S: BlobStore>(cursor: &mut Cursor, store: &mut S) -> Result<Octets, BlobFault> {
+        cursor.counted_run(store)
     }
 }
 

@@ -1,5 +1,5 @@
 -- Reading for each of some things what it calls for, one behind the other.
-use Rattle.std.proofs.Common.{◌≡◌, ◌≤◌, ◌<◌, ◌+◌, ℕ, suc, List, [], ◌∷◌, ◌++◌, length, take, drop, get_or, Result, Ok, Err, refl, ◌∙◌, subst, sym, ap, append_assoc, append-nil, drop-cons, add-one}
+use Rattle.std.proofs.Common.{◌≡◌, ◌≤◌, ◌<◌, ◌+◌, ℕ, suc, List, [], ◌∷◌, ◌++◌, length, take, drop, get_or, Result, Ok, Err, refl, ◌∙◌, subst, sym, ap, append-nil, drop-cons, add-one}
 use Rattle.std.specs.List.{AllZip}
 use Rattle.std.proofs.lemmas.List.{take_more, take_all, drop_all}
 use Rattle.std.proofs.lemmas.Slice.Zip.{all_zipped_more}
@@ -8,7 +8,7 @@ use Rattle.blob_frame.specs.declared.fault.BlobFault.{BlobFault}
 use Rattle.blob_frame.specs.declared.fault.BlobFault.TheVariants as fault
 use Rattle.blob_frame.specs.Scene.{Scene, Stays, IsOver, Reads}
 use Rattle.blob_frame.proofs.Chain.{reads_then, reads_stops, reads_nothing, reads_free, stays_here, stays_then}
-use Rattle.blob_frame.proofs.Counting.{prefixed}
+use Rattle.blob_frame.proofs.Counting.{prefixed, prefixed_none, prefixed_more}
 
 module _ {A B : Type 0} (f : A → Form B) (P : A → B → Type 0) where
   -- what some of them call for is read, and what is read for the others belongs behind it
@@ -17,16 +17,6 @@ module _ {A B : Type 0} (f : A → Form B) (P : A → B → Type 0) where
     pub over : IsOver now
     pub rest : (r : Result (List B) BlobFault) (end : Scene) → Reads (each_of f (drop done items)) now end r → Reads (each_of f items) before end (prefixed list r)
     pub each : AllZip P (take done items) list
-
-prefixed_none : {B : Type 0} (r : Result (List B) BlobFault) → r ≡ prefixed [] r
-unfolding prefixed
-prefixed_none (Ok xs) = refl
-prefixed_none (Err e) = refl
-
-prefixed_more : {B : Type 0} (list : List B) (x : B) (r : Result (List B) BlobFault) → prefixed list (prefixed (x ∷ []) r) ≡ prefixed (list ++ x ∷ []) r
-unfolding prefixed
-prefixed_more list x (Ok xs) = ap Ok (sym (append_assoc list (x ∷ []) xs))
-prefixed_more list x (Err e) = refl
 
 -- the things from one on are it and those behind it
 front : {A : Type 0} (items : List A) (done : ℕ) (item : A) → done < length items → item ≡ get_or items done item → drop done items ≡ item ∷ drop (done + 1) items

@@ -7,8 +7,9 @@ use Rattle.schema_model.specs.Parts.{shape_fields}
 use Rattle.type_state.specs.Layout.{words_needed}
 use Rattle.blob_grammar.specs.Form.{repeated, each_of}
 use Rattle.blob_frame.specs.declared.fault.BlobFault.{BlobFault}
+use Rattle.blob_frame.specs.Item.{counted_run}
 use Rattle.blob_frame.specs.Scene.{Scene, Reads}
-use Rattle.blob_sections.specs.Section.{max_of, word_array, area}
+use Rattle.blob_sections.specs.Section.{max_of, word_array}
 use Rattle.blob_sections.specs.Width.{field_width, widths_of}
 
 -- the greatest VInt is none
@@ -33,5 +34,5 @@ reads_widths shape max fields {before = before} {after} {r} is p = subst (λ (fs
 
 -- the bytes that are read are those of the type's fields
 pub reads_areas : (shape : Shape) (fields : List Field) {before after : Scene} {r : Result (List (List ℕ)) BlobFault} → fields ≡ shape_fields shape →
-    Reads (repeated (length fields) area) before after r → Reads (repeated (length (shape_fields shape)) area) before after r
-reads_areas shape fields {before = before} {after} {r} is p = subst (λ (fs : List Field). Reads (repeated (length fs) area) before after r) is p
+    Reads (repeated (length fields) counted_run) before after r → Reads (repeated (length (shape_fields shape)) counted_run) before after r
+reads_areas shape fields {before = before} {after} {r} is p = subst (λ (fs : List Field). Reads (repeated (length fs) counted_run) before after r) is p

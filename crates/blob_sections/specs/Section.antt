@@ -1,5 +1,5 @@
 -- The items of a section that a snapshot and a delta have: the max ordinal, and the packed rows, which are the width of
--- each field, the words of the records and the variable bytes of each field.
+-- each field, the words of the records, and the variable bytes of each field.
 use Rattle.std.specs.Prelude.{◌≡◌, ◌≤◌, ◌<◌, ◌==◌, ◌-◌, ◌^◌, ℕ, List, [], Option, Some, None, length, if◌then◌else◌}
 use Rattle.std.specs.Int.{w64}
 use Rattle.schema_model.specs.declared.reason.Reason.TheVariants.{BadLength}
@@ -9,7 +9,7 @@ use Rattle.type_state.specs.declared.section.Section.{Section}
 use Rattle.type_state.specs.Layout.{words_needed}
 use Rattle.blob_grammar.specs.Deciding.{judge_as, judge_at_least}
 use Rattle.blob_grammar.specs.Form.{Form, ◌>>=◌, nothing, judged, repeated, counted}
-use Rattle.blob_frame.specs.Item.{fixed, vint, vlong, run}
+use Rattle.blob_frame.specs.Item.{fixed, vint, vlong, counted_run}
 use Rattle.blob_sections.specs.declared.section.PackedRows.{PackedRows}
 use Rattle.blob_sections.specs.Width.{widths_of}
 
@@ -29,18 +29,12 @@ at_least least = judged vlong (λ n m. (m ≡ n) × (least ≤ n)) (λ n why. (n
 unfoldable pub word_array : ℕ → Form (List ℕ)
 word_array least = counted (at_least least) (fixed w64)
 
--- The variable bytes of a field: their count, and the bytes.
-unfoldable pub area : Form (List ℕ)
-area = do
-  count ← vlong
-  run count
-
 -- The packed rows of a type of this shape, under this max ordinal.
 unfoldable pub packed_rows : Shape → Option ℕ → Form PackedRows
 packed_rows shape max = do
   widths ← widths_of shape max
   records ← word_array (words_needed shape (record { max = max; widths = widths }))
-  areas ← repeated (length (shape_fields shape)) area
+  areas ← repeated (length (shape_fields shape)) counted_run
   nothing (record { widths = widths; total = 0; packed = record { first = records; second = []; areas = areas } })
 
 -- The section of a max ordinal, packed rows and live ordinals.

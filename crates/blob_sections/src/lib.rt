@@ -10,3 +10,6 @@ mod widths;
 pub use head::{TypeHead, type_head};
 pub use ordinals::population;
 pub use section::{PackedRows, max_ordinal, packed_rows};
+
+#[cfg(test)]
+mod tests;

@@ -1,15 +1,14 @@
 //! The items of a section that a snapshot and a delta have.
 ghost use Rattle.std.specs.Prelude.{◌≡◌, ◌≤◌, [], IfOk, length};
 ghost use Rattle.type_state.specs.WellFormed.{IsBuilt, IsWellFormed};
-ghost use Rattle.blob_grammar.specs.Form.{repeated};
 ghost use Rattle.blob_frame.specs.Scene.{IsAbove, Leads};
-ghost use Rattle.blob_sections.specs.Section.{max_ordinal, at_least, word_array, area, packed_rows, section_with};
+ghost use Rattle.blob_sections.specs.Section.{max_ordinal, at_least, word_array, packed_rows, section_with};
 
 use crate::widths::field_widths;
-use blob_frame::{BlobFault, Cursor};
+use blob_frame::{BlobFault, Cursor, counted};
 use hol_io::BlobStore;
 use hol_varint::Octets;
-use schema_model::{Areas, Packed, Reason, Shape, Widths, Words};
+use schema_model::{Packed, Reason, Shape, Widths, Words};
 use type_state::words_needed;
 
 /// The rows of a type as they are packed in a blob.
@@ -56,7 +55,7 @@ pub fn packed_rows<S: BlobStore>(
     let least = words_needed(shape, max, widths.as_slice());
     let first = word_array(cursor, store, least)?;
     let second = Words::new(cursor.allocator());
-    let areas = areas(cursor, store, fields.len())?;
+    let areas = counted::<Octets, S>(cursor, store, fields.len() as u64)?;
     let packed = Packed {
         first,
         second,
@@ -95,26 +94,4 @@ fn word_array<S: BlobStore>(
 {
     let count = at_least(cursor, store, least)?;
     cursor.words(store, count)
-}
-
-// The variable bytes of a field.
-fn area<S: BlobStore>(cursor: &mut Cursor, store: &mut S) -> Result<Octets, BlobFault>
-    requires over { IsAbove S.seen store.old cursor.old }
-    ensures reads { Leads S.seen area store.old cursor.old store.new cursor.new result }
-{
-    let count = cursor.vlong(store)?;
-    cursor.run(store, count)
-}
-
-// The variable bytes of so many fields.
-fn areas<S: BlobStore>(cursor: &mut Cursor, store: &mut S, count: usize) -> Result<Areas, BlobFault>
-    requires over { IsAbove S.seen store.old cursor.old }
-    ensures reads { Leads S.seen (repeated count area) store.old cursor.old store.new cursor.new result }
-    ensures whole { IfOk result (λ areas. length areas ≡ count) }
-{
-    let mut list = Areas::new(cursor.allocator());
-    for _item in 0..count {
-        list.push(area(cursor, store)?)?;
-    }
-    Ok(list)
 }

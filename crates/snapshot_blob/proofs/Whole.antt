@@ -167,25 +167,24 @@ behind_told held name place {before} {after} answer kept at start stays tells =
     let content : told before.held before.place.name ≡ told held name = λ i. told (kept i) ((ap (λ p. p.name) at ∙ start.blob) i) in
     subst (λ c. IfSome c (λ blob. TellsBody blob after.place.at answer)) (told_stays stays ∙ content) tells
 
--- the answers of the reader, of a store that may tell nothing
+-- an answer of the reader tells what it tells where the store tells something
+held_stop : (held : Option Store) (name : BlobName) (e : BlobFault) (answer : Result Loaded BlobFault) {Started : Type 0} → answer ≡ Err e → OnSome held Started → (Started → TellsSnapshot name (told held name) (Err e))
+    → IfSome held (λ store. TellsSnapshot name (told held name) answer)
+held_stop None name e answer is starts tells = tt
+held_stop (Some store) name e answer is starts tells = subst (λ (a : Result Loaded BlobFault). TellsSnapshot name (told (Some store) name) a) (sym is) (tells starts)
+
 pub tells_start : (held : Option Store) (name : BlobName) (e : BlobFault) (answer : Result Loaded BlobFault) → answer ≡ Err e → IsStartFault name e → OnSome held (Starts name (told held name) (Err e))
     → IfSome held (λ store. TellsSnapshot name (told held name) answer)
-tells_start None name e answer is kind starts = tt
-tells_start (Some store) name e answer is kind starts = subst (λ (a : Result Loaded BlobFault). TellsSnapshot name (told (Some store) name) a) (sym is) (unstarted name (told (Some store) name) e kind starts)
+tells_start held name e answer is kind starts = held_stop held name e answer is starts (unstarted name (told held name) e kind)
 
-pub tells_head : (held : Option Store) (name : BlobName) (place : Place) {before after : Scene} (e : BlobFault) (answer : Result Loaded BlobFault) → answer ≡ Err e → OnSome held (Starts name (told held name) (Ok place)) → IsStart name place
-    → before.held ≡ held → before.place ≡ place → Reads header before after (Err e) → IfSome held (λ store. TellsSnapshot name (told held name) answer)
-tells_head None name place e answer is starts start kept at reads = tt
-tells_head (Some store) name place {before} {after} e answer is starts start kept at reads = subst (λ (a : Result Loaded BlobFault). TellsSnapshot name (told (Some store) name) a) (sym is)
-    (stopped_head name (told (Some store) name) place starts after.place.at e (begun (Some store) name place (Err e) kept at start reads))
+module _ (held : Option Store) (name : BlobName) (place : Place) {before after : Scene} (starts : OnSome held (Starts name (told held name) (Ok place))) (start : IsStart name place) (kept : before.held ≡ held) (at : before.place ≡ place) where
+  pub tells_head : (e : BlobFault) (answer : Result Loaded BlobFault) → answer ≡ Err e → Reads header before after (Err e) → IfSome held (λ store. TellsSnapshot name (told held name) answer)
+  tells_head e answer is reads = held_stop held name e answer is starts (λ s. stopped_head name (told held name) place s after.place.at e (begun held name place (Err e) kept at start reads))
 
-pub tells_body : (held : Option Store) (name : BlobName) (place : Place) {before after : Scene} (head : Header) (e : BlobFault) (answer : Result Loaded BlobFault) → answer ≡ Err e → OnSome held (Starts name (told held name) (Ok place)) → IsStart name place
-    → before.held ≡ held → before.place ≡ place → Reads header before after (Ok head) → IsBodyFault e → IfSome (told after.held after.place.name) (λ blob. TellsBody blob after.place.at (Err e))
-    → IfSome held (λ store. TellsSnapshot name (told held name) answer)
-tells_body None name place head e answer is starts start kept at reads kind tells = tt
-tells_body (Some store) name place {before} {after} head e answer is starts start kept at reads kind tells = subst (λ (a : Result Loaded BlobFault). TellsSnapshot name (told (Some store) name) a) (sym is)
-    (stopped_body name (told (Some store) name) place starts head after.place.at e (begun (Some store) name place (Ok head) kept at start reads) kind
-    (behind_told (Some store) name place (Err e) kept at start reads.stays tells))
+  pub tells_body : (head : Header) (e : BlobFault) (answer : Result Loaded BlobFault) → answer ≡ Err e → Reads header before after (Ok head) → IsBodyFault e
+      → IfSome (told after.held after.place.name) (λ blob. TellsBody blob after.place.at (Err e)) → IfSome held (λ store. TellsSnapshot name (told held name) answer)
+  tells_body head e answer is reads kind tells = held_stop held name e answer is starts (λ s. stopped_body name (told held name) place s head after.place.at e
+      (begun held name place (Ok head) kept at start reads) kind (behind_told held name place (Err e) kept at start reads.stays tells))
 
 pub tells_loaded : (held : Option Store) (name : BlobName) (place : Place) {before after : Scene} (head : Header) (found : Body) → OnSome held (Starts name (told held name) (Ok place)) → IsStart name place
     → before.held ≡ held → before.place ≡ place → Reads header before after (Ok head) → IfSome (told after.held after.place.name) (λ blob. TellsBody blob after.place.at (Ok found))

@@ -16,13 +16,13 @@ returns-in_err-cursor-clause-kind g c = kind_of c.args.name.now c.in_err-cursor.
 
 pub returns-in_err-header-clause-tells : goal.returns-in_err-header-clause-tells
 returns-in_err-header-clause-tells g c =
-    tells_head (g.S.BlobStore.seen c.args.store.now).held c.args.name.now c.in_ok-cursor.cursor c.in_err-header.field-0.0 _ (search rules) c.in_ok-cursor.ensures.starts c.in_ok-cursor.ensures.start
-    c.in_ok-cursor.ensures.kept refl c.in_err-header.ensures.reads
+    tells_head (g.S.BlobStore.seen c.args.store.now).held c.args.name.now c.in_ok-cursor.cursor c.in_ok-cursor.ensures.starts c.in_ok-cursor.ensures.start c.in_ok-cursor.ensures.kept refl
+    c.in_err-header.field-0.0 _ (search rules) c.in_err-header.ensures.reads
 
 pub returns-in_err-header-clause-exact : goal.returns-in_err-header-clause-exact
 returns-in_err-header-clause-exact g c = exact_held (g.S.BlobStore.seen c.args.store.now).held c.args.name.now _
-    (tells_head (g.S.BlobStore.seen c.args.store.now).held c.args.name.now c.in_ok-cursor.cursor c.in_err-header.field-0.0 c.from_residual-in_err-header.result (search rules) c.in_ok-cursor.ensures.starts c.in_ok-cursor.ensures.start
-    c.in_ok-cursor.ensures.kept refl c.in_err-header.ensures.reads)
+    (tells_head (g.S.BlobStore.seen c.args.store.now).held c.args.name.now c.in_ok-cursor.cursor c.in_ok-cursor.ensures.starts c.in_ok-cursor.ensures.start c.in_ok-cursor.ensures.kept refl
+    c.in_err-header.field-0.0 c.from_residual-in_err-header.result (search rules) c.in_err-header.ensures.reads)
 
 pub returns-in_err-header-clause-kind : goal.returns-in_err-header-clause-kind
 returns-in_err-header-clause-kind g c =
@@ -30,13 +30,13 @@ returns-in_err-header-clause-kind g c =
 
 pub returns-in_err-model-clause-tells : goal.returns-in_err-model-clause-tells
 returns-in_err-model-clause-tells g c =
-    tells_body (g.S.BlobStore.seen c.args.store.now).held c.args.name.now c.in_ok-cursor.cursor c.in_ok-header.header c.in_err-model.field-0.0 _ (search rules) c.in_ok-cursor.ensures.starts c.in_ok-cursor.ensures.start
-    c.in_ok-cursor.ensures.kept refl c.in_ok-header.ensures.reads c.in_err-model.ensures.kind c.in_err-model.ensures.tells
+    tells_body (g.S.BlobStore.seen c.args.store.now).held c.args.name.now c.in_ok-cursor.cursor c.in_ok-cursor.ensures.starts c.in_ok-cursor.ensures.start c.in_ok-cursor.ensures.kept refl
+    c.in_ok-header.header c.in_err-model.field-0.0 _ (search rules) c.in_ok-header.ensures.reads c.in_err-model.ensures.kind c.in_err-model.ensures.tells
 
 pub returns-in_err-model-clause-exact : goal.returns-in_err-model-clause-exact
 returns-in_err-model-clause-exact g c = exact_held (g.S.BlobStore.seen c.args.store.now).held c.args.name.now _
-    (tells_body (g.S.BlobStore.seen c.args.store.now).held c.args.name.now c.in_ok-cursor.cursor c.in_ok-header.header c.in_err-model.field-0.0 c.from_residual-in_err-model.result (search rules) c.in_ok-cursor.ensures.starts
-    c.in_ok-cursor.ensures.start c.in_ok-cursor.ensures.kept refl c.in_ok-header.ensures.reads c.in_err-model.ensures.kind c.in_err-model.ensures.tells)
+    (tells_body (g.S.BlobStore.seen c.args.store.now).held c.args.name.now c.in_ok-cursor.cursor c.in_ok-cursor.ensures.starts c.in_ok-cursor.ensures.start c.in_ok-cursor.ensures.kept refl
+    c.in_ok-header.header c.in_err-model.field-0.0 c.from_residual-in_err-model.result (search rules) c.in_ok-header.ensures.reads c.in_err-model.ensures.kind c.in_err-model.ensures.tells)
 
 pub returns-in_err-model-clause-kind : goal.returns-in_err-model-clause-kind
 returns-in_err-model-clause-kind g c = kind_of c.args.name.now c.in_err-model.field-0.0 _ (search rules) (body_kind c.args.name.now c.in_err-model.field-0.0 c.in_err-model.ensures.kind)
