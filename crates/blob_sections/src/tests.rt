@@ -18,7 +18,7 @@ fn reads_a_type(rt: HostRuntime) -> Result<(), Fail> {
     assert_eq!(rt; head.schema.name.text(), "A");
     let max = max_ordinal(&mut cursor, &mut store)?;
     let rows = packed_rows(&mut cursor, &mut store, &head.schema.shape, max)?;
-    assert_eq!(rt; rows.packed.first.as_slice(), &[0xFA]);
+    assert_eq!(rt; rows.packed.first.as_slice(), [0xFA].as_slice());
     let live = population(&mut cursor, &mut store)?;
     assert!(rt; live.contains(1) && !live.contains(2));
     Ok(())

@@ -2,7 +2,6 @@
 use Rattle.std.proofs.Common.{◌≡◌, ◌⊎◌, inl, inr, ℕ, List, length, Option, Some, None, Result, Ok, Err, IfSome, IfErr, refl, ap, sym, ◌∙◌, subst}
 use Rattle.std.specs.Prelude.{IsErrAnd, MatchResult, map}
 use Rattle.std.specs.List.{AllZip}
-use Rattle.schema_model.specs.declared.limit.Limit.{Limit}
 use Rattle.schema_model.specs.declared.reason.Reason.{Reason}
 use Rattle.schema_model.specs.declared.schema.Schema.{Schema}
 use Rattle.type_state.specs.State.{Half}

@@ -1,8 +1,7 @@
 -- The states that a snapshot's types were loaded into, one after another.
-use Rattle.std.proofs.Common.{◌≡◌, ◌≤◌, ◌<◌, ◌+◌, ℕ, zero, suc, List, [], ◌∷◌, ◌++◌, Some, length, get_or, take, map, slice_get, refl, sym, ◌∙◌, ap, subst, append_assoc, append-nil, arith}
+use Rattle.std.proofs.Common.{◌≡◌, ◌≤◌, ◌<◌, ◌+◌, ℕ, zero, suc, List, [], ◌∷◌, ◌++◌, Some, length, get_or, take, map, sym, ◌∙◌, ap, subst, append_assoc, append-nil, arith}
 use Rattle.std.specs.FinMap.{get}
-use Rattle.std.specs.List.{All, AllZip}
-use Rattle.std.specs.Vec.Iter.{into_iter_items}
+use Rattle.std.specs.List.{AllZip}
 use Rattle.std.proofs.lemmas.List.{take_more, take_all, map-append, length-map}
 use Rattle.std.proofs.lemmas.Slice.Zip.{all_zipped_more}
 use Rattle.schema_model.specs.declared.schema.Schema.{Schema}
@@ -13,7 +12,6 @@ use Rattle.schema_model.specs.Table.{EachRow, IsClosed}
 use Rattle.type_state.specs.State.{State, IsLaidOut, empty_half}
 use Rattle.type_state.specs.Views.{AreNext, next_halves, table_of}
 use Rattle.type_state.proofs.SectionRows.{rows_fit, rows_range}
-use Rattle.snapshot_blob.specs.declared.body.Body.{Body}
 use Rattle.snapshot_blob.specs.declared.part.TypePart.{TypePart}
 use Rattle.snapshot_blob.specs.Body.{IsWholeBody}
 use Rattle.snapshot_blob.specs.Stated.{AreAccepted, IsLoadedFrom, KeepsTypeLimits, TypeIs, schemas_of}

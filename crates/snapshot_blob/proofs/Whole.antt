@@ -16,7 +16,7 @@ use Rattle.blob_frame.specs.declared.fault.BlobFault.{BlobFault}
 use Rattle.blob_frame.specs.declared.fault.BlobFault.TheVariants as fault
 use Rattle.blob_frame.specs.declared.header.Header.{Header}
 use Rattle.blob_frame.specs.Header.{header, HeaderIs}
-use Rattle.blob_frame.specs.Scene.{Place, Scene, IsFree, IsItemFault, Reads, Stays, Tells}
+use Rattle.blob_frame.specs.Scene.{Place, Scene, IsFree, Reads, Stays, Tells}
 use Rattle.blob_frame.specs.Starting.{Starts, IsStart, IsStartFault}
 use Rattle.blob_frame.proofs.Chain.{told_stays}
 use Rattle.snapshot_blob.specs.declared.body.Body.{Body}
@@ -24,8 +24,8 @@ use Rattle.snapshot_blob.specs.declared.loaded.Loaded.{Loaded}
 use Rattle.snapshot_blob.specs.declared.part.TypePart.{TypePart}
 use Rattle.snapshot_blob.specs.Body.{IsBody, HasNoState, IsBodyFault, TellsBody}
 use Rattle.snapshot_blob.specs.Parts.{body, snapshot}
-use Rattle.snapshot_blob.specs.Stated.{AreAccepted, HasState, IsTypeLimit, TypeIs, schemas_of}
-use Rattle.snapshot_blob.specs.Snapshot.{SnapshotIs, KeepsAll, IsAccepted, IsRefused, IsUnstated, TellsBlob, TellsSnapshot, ReadsExactly, IsSnapshotFault}
+use Rattle.snapshot_blob.specs.Stated.{AreAccepted, TypeIs, schemas_of}
+use Rattle.snapshot_blob.specs.Snapshot.{SnapshotIs, IsAccepted, IsRefused, IsUnstated, TellsBlob, TellsSnapshot, ReadsExactly, IsSnapshotFault}
 use Rattle.snapshot_blob.proofs.Bodies.{stated_none}
 use Rattle.snapshot_blob.proofs.Refusals.{same_halves}
 
