@@ -1,5 +1,5 @@
 -- What a command leaves where it writes one line, or the lines of rows, and the store stays.
-use Rattle.std.proofs.Common.{◌≡◌, ◌<◌, ℕ, List, length, Bool, true, false, Option, Some, None, Result, Ok, Err, IfSome, sym, ◌∙◌, subst}
+use Rattle.std.proofs.Common.{◌≡◌, ℕ, List, Bool, true, false, Option, Some, None, Result, Ok, Err, IfSome, sym, subst}
 use mir.Val.{bool_byte}
 use Rattle.hol_io.specs.declared.name.BlobName.{BlobName}
 use Rattle.hol_io.specs.Store.{Store}
@@ -10,7 +10,7 @@ use Rattle.hollow_top.specs.declared.stop.Stop.{Stop}
 use Rattle.hollow_top.specs.declared.stop.Stop.TheVariants.{Memory, Sink, Store as StoreFailed}
 use Rattle.hollow_top.specs.declared.words.Command.{Command}
 use Rattle.hollow_top.specs.declared.words.Command.TheVariants.{Run, Head, Show, Make}
-use Rattle.hollow_top.specs.Command.{IsLineOf, IsUnbuilt, Serves, Writes, WritesText}
+use Rattle.hollow_top.specs.Command.{IsLineOf, IsUnbuilt, Serves, Writes}
 use Rattle.hollow_top.specs.Head.{HeadReply}
 use Rattle.hollow_top.specs.Run.{Finishes, WritesPart, status_of}
 use Rattle.hollow_top.specs.Show.{Shows}

@@ -1,8 +1,7 @@
 -- Lines of refusals are told from all other lines by their third byte.
-use Rattle.std.proofs.Common.{◌≡◌, ◌<◌, ◌↔◌, ◌⊎◌, inl, inr, ℕ, List, [], ◌∷◌, ◌++◌, get_or, Bool, true, false, Option, Some, None, Result, Ok, Err, OnSome, refl, sym, ap, ◌∙◌, subst, arith}
+use Rattle.std.proofs.Common.{◌≡◌, ◌↔◌, ◌⊎◌, inl, inr, ℕ, List, [], ◌∷◌, ◌++◌, get_or, Bool, true, false, Option, Some, None, Ok, Err, OnSome, refl, sym, ap, ◌∙◌, subst, arith}
 use Rattle.std.proofs.lemmas.List.{append_cancel_left}
-use Rattle.std.specs.List.{AllZip, concat}
-use Rattle.std.specs.Io.KnownBytes.{Appends}
+use Rattle.std.specs.List.{concat}
 use Rattle.serde_json.proofs.OnLiterals.{serde_json_on_literals}
 use Rattle.hollow_top.specs.declared.refusal.Refusal.{Refusal}
 use Rattle.hollow_top.specs.declared.refusal.Refusal.TheVariants.{NoBlob, BadBlob, TooLarge, NotYet, BadBody}
