@@ -55,37 +55,6 @@ fitting name (Some blob) place starts =
       | inr fits ↦ (blob, refl, fits)
     ]
 
--- the answer, with the place behind the header
-abbrev pub with_place : Place → Result Header BlobFault → Result (Header × Place) BlobFault
-with_place place (Ok h) = Ok (h, place)
-with_place place (Err found) = Err found
-
-read_here : (name : BlobName) (blob : List ℕ) (place : Place) (read : Result Header BlobFault) → length blob ≤ number_of_limit limit.Blob → Tells header (Some blob) 0 read place.at →
-    TellsHeader name (Some blob) (with_place place read)
-read_here name blob place (Ok h) fits tells = (blob, refl, fits, tells)
-read_here name blob place (Err (fault.Bad at why)) fits tells = (blob, refl, fits, tells)
-read_here name blob place (Err fault.Store) fits tells = tt
-read_here name blob place (Err fault.Memory) fits tells = tt
-read_here name blob place (Err _) fits tells = absurd tells
-
--- what reading the header from the start on says
-pub tells_read : (held : Option Store) (name : BlobName) (place : Place) (before after : Scene) (read : Result Header BlobFault) (answer : Result (Header × Place) BlobFault) →
-    answer ≡ with_place after.place read → OnSome held (Starts name (told held name) (Ok place)) → IsStart name place → before.held ≡ held → before.place ≡ place →
-    Reads header before after read → IfSome held (λ store. TellsHeader name (told held name) answer)
-tells_read None name place before after read answer is starts start kept at reads = tt
-tells_read (Some store) name place before after read answer is starts start kept at reads =
-    let content : told before.held before.place.name ≡ told (Some store) name = λ i. told (kept i) ((ap (λ p. p.name) at ∙ start.blob) i) in
-    let zero : before.place.at ≡ 0 = ap (λ p. p.at) at ∙ start.start in
-    let there = fitting name (told (Some store) name) place starts in
-    let told_here : Tells header (Some there.0) 0 read after.place.at =
-    subst (λ c. Tells header c 0 read after.place.at) (content ∙ there.1) (subst (λ n. Tells header (told before.held before.place.name) n read after.place.at) zero reads.tells) in
-    subst (λ (a : Result (Header × Place) BlobFault). TellsHeader name (told (Some store) name) a) (sym is)
-    (subst (λ c. TellsHeader name c (with_place after.place read)) (sym there.1) (read_here name there.0 after.place read there.2 told_here))
-
--- the header that was read is that of the content
-pub has_header : (name : BlobName) (content : Option (List ℕ)) (opened : Header × Place) → TellsHeader name content (Ok opened) → HasHeader content opened.0
-has_header name content opened (blob, there, short, stands) = (blob, opened.1.at, there, short, stands)
-
 -- the refusal for a fault of the header is that of the content
 pub refused : (name : BlobName) (content : Option (List ℕ)) (found : BlobFault) (refusal : Refusal) → TellsHeader name content (Err found) → Ok refusal ≡ refusal_of name found →
     HeadRefusal name content refusal

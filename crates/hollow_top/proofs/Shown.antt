@@ -97,15 +97,6 @@ module _ (version : ℕ) (before after : Option (List ℕ)) where
   abbrev pub ServesShow : Option Store → Result Bool Stop → Type 0
   ServesShow held r = IfSome held (λ store. Leaves (Shows store version) before after r)
 
-  pub head_served : (held : Option Store) (found : BlobFault) (refusal : Refusal) (given : Result Refusal Stop) (r : Result Bool Stop) →
-      IfSome held (λ store. TellsHeader (Snapshot version) (told held (Snapshot version)) (Err found)) → given ≡ refusal_of (Snapshot version) found → given ≡ Ok refusal →
-      Leaves (IsLineOf (λ answer. answer ≡ Refused refusal)) before after r → ServesShow held r
-  head_served None found refusal given r tells is was left = tt
-  head_served (Some store) found refusal given r tells is was left =
-      let content = told (Some store) (Snapshot version) in
-      let refuses = head_shown (Snapshot version) content refusal (refused (Snapshot version) content found refusal tells (sym was ∙ is)) in
-      leaves_as (IsLineOf (λ answer. answer ≡ Refused refusal)) (Shows store version) before after r (refusal_shown (Snapshot version) content refusal refuses) left
-
   pub body_served : RefusesBody → (held : Option Store) (opened : Header × Place) (found : BlobFault) (refusal : Refusal) (given : Result Refusal Stop) (r : Result Bool Stop) →
       IfSome held (λ store. IsRead (told held (Snapshot version)) opened (Err found)) → given ≡ body_refusal_of (Snapshot version) found → given ≡ Ok refusal →
       Leaves (IsLineOf (λ answer. answer ≡ Refused refusal)) before after r → ServesShow held r

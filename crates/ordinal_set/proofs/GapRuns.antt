@@ -3,7 +3,7 @@ use Rattle.std.proofs.Common.{◌≡◌, ℕ, ◌+◌, ◌-◌, ◌*◌, ◌^◌
 use Rattle.std.specs.Prelude.{All}
 use Rattle.std.specs.List.Sorted.{IsStrictlyIncreasing}
 use Rattle.std.proofs.lemmas.Bool.{cases_lt, cases_order}
-use Rattle.std.proofs.lemmas.List.{append_cancel_left, take-append-drop, length-drop, length-take-le, take_all, take_at, drop_all}
+use Rattle.std.proofs.lemmas.List.{append_cancel_left, take-append-drop, length-drop, length-take-le, drop_all}
 use Rattle.std.proofs.lemmas.List.Elements.{All-weaker, All-head, All-tail, All-from_get_or}
 use Rattle.std.proofs.Math.Seq.{take-add, drop-cons}
 use Rattle.hol_varint.specs.Yields.{Yields}

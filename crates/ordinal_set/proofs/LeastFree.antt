@@ -6,7 +6,7 @@ use Rattle.std.proofs.lemmas.Bool.{cases_lt}
 use Rattle.std.proofs.lemmas.Nat.{div-mul-add, mod-mul-add}
 use Rattle.std.proofs.lemmas.Nat.Bits.{bit_at-lt, bit_at_or, bit_at_ones, bit_at-trailing_ones}
 use Rattle.ordinal_set.specs.Ordinals.{IsLeastFree}
-use Rattle.ordinal_set.specs.Population.{has_bit, population_of, FitOrdinals}
+use Rattle.ordinal_set.specs.Population.{has_bit, population_of}
 use Rattle.ordinal_set.proofs.Populations.{set_bit, clear_bit, bit_past, bit_from_member, member_from_bit}
 
 -- each number below a limit is in one of the arrays
