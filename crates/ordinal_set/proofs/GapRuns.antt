@@ -1,16 +1,16 @@
 -- Lemmas on ordinal runs: one list for each, and one place where a run is none.
-use Rattle.std.proofs.Common.{◌≡◌, ℕ, ◌+◌, ◌-◌, ◌*◌, ◌^◌, ◌<◌, ◌≤◌, suc, zero, List, [], ◌∷◌, ◌++◌, ◌⊎◌, Result, Ok, Err, length, get_or, take, drop, refl, sym, ap, ◌∙◌, subst, inl, inr, arith, Fits, w32, append_assoc, append-nil, add-one}
-use Rattle.std.specs.Prelude.{All, OnOk}
+use Rattle.std.proofs.Common.{◌≡◌, ℕ, ◌+◌, ◌-◌, ◌*◌, ◌^◌, ◌<◌, ◌≤◌, List, [], ◌∷◌, ◌++◌, Result, Ok, Err, length, get_or, take, drop, refl, sym, ap, ◌∙◌, subst, inl, inr, arith, Fits, w32, append_assoc, append-nil, add-one}
+use Rattle.std.specs.Prelude.{All}
 use Rattle.std.specs.List.Sorted.{IsStrictlyIncreasing}
 use Rattle.std.proofs.lemmas.Bool.{cases_lt, cases_order}
 use Rattle.std.proofs.lemmas.List.{append_cancel_left, take-append-drop, length-drop, length-take-le, take_all, take_at, drop_all}
 use Rattle.std.proofs.lemmas.List.Elements.{All-weaker, All-head, All-tail, All-from_get_or}
 use Rattle.std.proofs.Math.Seq.{take-add, drop-cons}
 use Rattle.hol_varint.specs.Yields.{Yields}
-use Rattle.hol_varint.specs.Varint.{IsVarint, VintStandsAt, VarStandsBelow, varint_bytes}
+use Rattle.hol_varint.specs.Varint.{IsVarint, VintStandsAt, varint_bytes}
 use Rattle.hol_varint.proofs.Varints.{varint_once}
-use Rattle.hol_varint.proofs.VarWriting.{varint_is, varint_only, begins_stands, stands_begins}
-use Rattle.ordinal_set.specs.Gaps.{BeginsWithGap, GapsAfter, Gaps, gap_bytes, gap_bytes_after, IsGapFault, IsFreeGaps, TellsGaps}
+use Rattle.hol_varint.proofs.VarWriting.{varint_is, varint_only, begins_stands}
+use Rattle.ordinal_set.specs.Gaps.{GapsAfter, Gaps, gap_bytes, gap_bytes_after, IsGapFault, IsFreeGaps, TellsGaps}
 use Rattle.ordinal_set.specs.declared.gaps.GapFault.{GapFault}
 use Rattle.ordinal_set.specs.declared.gaps.GapFault.TheVariants.{Bad, Memory}
 use Rattle.ordinal_set.proofs.Members.{rising-head, rising-tail}

@@ -69,15 +69,16 @@ fn runs_of_gaps(rt: HostRuntime) -> Result<(), Fail> {
 #[test]
 fn populations_written(rt: HostRuntime) -> Result<(), Fail> {
     let mut set = OrdinalSet::new(rt.alloc());
-    let mut out = Vec::new(rt.alloc());
-    set.put_population(&mut out, None)?;
-    assert_eq!(rt; out.len(), 2052);
+    let mut none = Vec::new(rt.alloc());
+    set.put_population(&mut none, None)?;
+    assert_eq!(rt; none.len(), 2052);
     set.insert(1)?;
+    let mut out = Vec::new(rt.alloc());
     set.put_population(&mut out, Some(16384))?;
-    assert_eq!(rt; out.len(), 2052 + 4100);
-    assert_eq!(rt;
-        &out[2052..2064],
-        [0, 0, 2, 0, 0, 0, 0, 0, 0, 0, 0, 2].as_slice()
+    assert_eq!(rt; out.len(), 4100);
+    assert!(rt;
+        out.as_slice()
+            .starts_with(&[0, 0, 2, 0, 0, 0, 0, 0, 0, 0, 0, 2])
     );
     Ok(())
 }

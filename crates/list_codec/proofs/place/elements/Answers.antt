@@ -1,5 +1,4 @@
-use Rattle.std.proofs.Common.{◌≡◌, ◌+◌, ◌-◌, ◌<◌, ◌≤◌, refl, sym, subst, ◌∙◌, arith}
-use Rattle.list_codec.specs.ListPlace.{elements_between}
+use Rattle.std.proofs.Common.{◌+◌, ◌≤◌, refl, sym, subst, arith}
 use Rattle.list_codec.proofs.Elements.{ReadSoFar, read_more, read_all, past_ordinals}
 use Rattle.list_codec.proofs.place.elements.Goals as goal
 

@@ -1,4 +1,4 @@
-use Rattle.std.proofs.Common.{◌+◌, subst, sym, ap, ◌∙◌, ◌++◌, ◌∷◌, []}
+use Rattle.std.proofs.Common.{subst, sym}
 use Rattle.ordinal_set.proofs.GapRuns.{ReadSoFar, read_none, read_more}
 use Rattle.ordinal_set.proofs.gaps.all_gaps.Goals as goal
 

@@ -1,4 +1,4 @@
-use Rattle.std.proofs.Common.{◌≡◌, ◌∙◌, subst, sym, arith}
+use Rattle.std.proofs.Common.{◌≡◌, subst, arith}
 use Rattle.ordinal_set.proofs.PopulationBytes.{WordsSoFar, words_more, words_all, first_fit}
 use Rattle.ordinal_set.proofs.population.push_words.Goals as goal
 

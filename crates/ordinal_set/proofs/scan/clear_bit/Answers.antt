@@ -1,4 +1,4 @@
-use Rattle.std.proofs.Common.{◌≡◌, ◌/◌, ◌*◌, ◌%◌, ◌^◌, ◌-◌, ◌<◌, length, set, bit_and, subst, sym, arith, ℕ}
+use Rattle.std.proofs.Common.{◌≡◌, ◌/◌, ◌*◌, ◌%◌, ◌^◌, ◌-◌, ◌<◌, length, set, bit_and, subst, sym, arith}
 use Rattle.std.specs.Prelude.{◌&&◌, not, ◌==◌}
 use Rattle.std.proofs.lemmas.List.{get_or_read}
 use Rattle.ordinal_set.specs.Population.{has_bit}

@@ -1,11 +1,10 @@
-use Rattle.std.proofs.Common.{◌≡◌, ◌+◌, ◌-◌, ◌^◌, ◌<◌, ◌≤◌, ◌*◌, get_or, bit_or, length, subst, sym, ap, ◌∙◌, arith, Fits, w64}
-use Rattle.std.specs.Prelude.{max}
+use Rattle.std.proofs.Common.{◌≡◌, ◌+◌, ◌^◌, ◌<◌, ◌≤◌, ◌*◌, get_or, bit_or, length, subst, sym, ap, ◌∙◌, arith, w64}
 use Rattle.std.proofs.lemmas.Nat.Bits.{bit_at-trailing_ones}
 use Rattle.std.specs.Int.{trailing_ones}
 use Rattle.std.proofs.lemmas.Nat.{or_lt}
 use Rattle.ordinal_set.specs.Ordinals.{IsLeastFree}
 use Rattle.ordinal_set.specs.Population.{population_of}
-use Rattle.ordinal_set.proofs.LeastFree.{taken_more, least_in_word, least_past, few_full}
+use Rattle.ordinal_set.proofs.LeastFree.{taken_more, least_in_word, least_past}
 use Rattle.ordinal_set.proofs.scan.least_clear.Goals as goal
 
 pub overflow_add-result : goal.overflow_add-result

@@ -1,4 +1,4 @@
-use Rattle.std.proofs.Common.{◌-◌, ◌<◌, ◌^◌, subst, sym, ap, ◌∙◌, arith, ◌++◌, ◌∷◌, []}
+use Rattle.std.proofs.Common.{◌-◌, ◌<◌, ◌^◌, subst, sym, ap, ◌∙◌, arith}
 use Rattle.std.proofs.lemmas.List.Elements.{All-contains}
 use Rattle.ordinal_set.specs.Ordinals.{TellsNext, lacking}
 use Rattle.ordinal_set.proofs.Members.{members_below-none, members_below-all}
