@@ -1,1 +1,2 @@
 pub mod ListPlace
+pub mod Widths

@@ -1,9 +1,11 @@
 //! The rows of LIST types as packed bits, and back.
 #![tactic(auto)]
 
+mod chosen;
 pub mod laws;
 mod place;
 
+pub use chosen::{total, widths};
 pub use place::read;
 
 #[cfg(test)]
