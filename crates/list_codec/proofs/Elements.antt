@@ -23,7 +23,7 @@ read_none words width start =
     }
 
 -- one element more
-elements_more : (words : List ℕ) (width start index : ℕ) → start ≤ index → elements_between words width start (index + 1) ≡ elements_between words width start index ++ element_of words (index * width) width ∷ []
+pub elements_more : (words : List ℕ) (width start index : ℕ) → start ≤ index → elements_between words width start (index + 1) ≡ elements_between words width start index ++ element_of words (index * width) width ∷ []
 elements_more words width start index from =
     let count : index + 1 - start ≡ index - start + 1 = omega arith in
     ap (λ n. map (λ k. element_of words (k * width) width) (range_with_len start n)) count

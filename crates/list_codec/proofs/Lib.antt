@@ -1,2 +1,4 @@
 pub mod Elements
 pub mod Spreads
+pub mod Written
+pub mod Places

@@ -3,9 +3,11 @@
 
 mod chosen;
 pub mod laws;
+mod packing;
 mod place;
 
 pub use chosen::{total, widths};
+pub use packing::{pack, put_row};
 pub use place::read;
 
 #[cfg(test)]
