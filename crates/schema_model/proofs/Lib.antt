@@ -1,3 +1,4 @@
+pub mod Danglings
 pub mod FirstBroken
 pub mod Fronts
 pub mod Indexing
