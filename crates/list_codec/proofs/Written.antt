@@ -1,15 +1,15 @@
 -- Lemmas on elements that are written behind one another.
-use Rattle.std.proofs.Common.{◌≡◌, ℕ, ◌+◌, ◌-◌, ◌*◌, ◌^◌, ◌<◌, ◌≤◌, ◌⊎◌, suc, zero, List, [], ◌∷◌, ◌++◌, length, get_or, take, refl, sym, ap, ◌∙◌, subst, inl, inr, arith, Fits, w32}
-use Rattle.std.specs.Prelude.{All, map, slice_get, unwrap_or, Some}
+use Rattle.std.proofs.Common.{◌≡◌, ℕ, ◌+◌, ◌-◌, ◌*◌, ◌^◌, ◌<◌, ◌≤◌, ◌⊎◌, suc, zero, List, [], ◌∷◌, ◌++◌, length, get_or, take, refl, sym, ap, ◌∙◌, subst, inl, arith, Fits, w32}
+use Rattle.std.specs.Prelude.{map, slice_get, unwrap_or, Some}
 use Rattle.std.proofs.lemmas.Option.{unwrap_or-slice_get}
 use Rattle.std.specs.List.{range_with_len}
 use Rattle.std.proofs.lemmas.List.{take_more, take_all}
-use Rattle.std.proofs.lemmas.List.Elements.{All-get_or, All-from_get_or}
+use Rattle.std.proofs.lemmas.List.Elements.{All-from_get_or}
 use Rattle.std.proofs.Math.Nat.{mul-le-mul_right}
 use Rattle.std.proofs.lemmas.Nat.{pow-add, pow_pos}
 use Rattle.bit_array.specs.Element.{element_of, number_of, SetsBlock}
 use Rattle.bit_array.proofs.Blocks.{block_bits}
-use Rattle.list_codec.specs.ListPlace.{pointer_width, element_width, pointer_at, pointer_before, start_at, end_at, elements_between, elements_at, SpellsList, HasElements}
+use Rattle.list_codec.specs.ListPlace.{pointer_width, element_width, pointer_at, pointer_before, start_at, end_at, elements_between, elements_at, SpellsList}
 use Rattle.list_codec.specs.Packing.{HasRoom}
 use Rattle.list_codec.proofs.Elements.{elements_more}
 

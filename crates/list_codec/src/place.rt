@@ -92,17 +92,13 @@ fn elements(
     ensures { TellsElements words.now width start end result }
 {
     let room = if width == 0 { 0 } else { end - start };
-    let Ok(mut ordinals) = Ordinals::with_capacity(alloc, room as usize) else {
-        return Err(PlaceFault::Memory);
-    };
+    let mut ordinals = Ordinals::with_capacity(alloc, room as usize)?;
     for index in start..end {
         let element = element_at(words, index, width);
         if element > u64::from(u32::MAX) {
             return Err(PlaceFault::Bad(Reason::BadValue));
         }
-        let Ok(()) = ordinals.push(element as u32) else {
-            return Err(PlaceFault::Memory);
-        };
+        ordinals.push(element as u32)?;
     }
     Ok(ordinals)
 }

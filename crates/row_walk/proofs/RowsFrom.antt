@@ -1,12 +1,12 @@
 -- Lemmas on the rows of a type from an ordinal on.
-use Rattle.std.proofs.Common.{◌≡◌, ◌<◌, ◌≤◌, ◌+◌, inl, inr, ℕ, List, [], ◌∷◌, Bool, true, false, T, Option, Some, None, refl, sym, ap, ◌∙◌, subst, arith, leb}
+use Rattle.std.proofs.Common.{◌≡◌, ◌<◌, ◌≤◌, ◌+◌, inl, inr, ℕ, List, [], ◌∷◌, Bool, true, false, T, Option, Some, None, refl, sym, ap, ◌∙◌, arith, leb}
 use Rattle.std.specs.Prelude.{IsSome, cond, map, filter, nat_le, not, is_some, slice_get, unwrap_or}
 use Rattle.std.specs.Option.{option_and_then}
 use Rattle.std.specs.Ordering.{nat_cmp, is_eq, is_lt}
 use Rattle.std.specs.declared.cmp.Ordering.{Ordering}
 use Rattle.std.specs.declared.cmp.Ordering.TheVariants.{Less, Equal, Greater}
 use Rattle.std.specs.Cmp.{ranked, nat_cmp_is}
-use Rattle.std.specs.FinMap.{find, is_sorted, entries, entries_sorted, get, get-entries, get-empty, get-retain_keys, empty, retain_keys}
+use Rattle.std.specs.FinMap.{find, is_sorted, entries, entries_sorted, get, get-entries, get-empty, get-retain_keys, empty}
 use Rattle.std.specs.FinMap.Entries.{below_all}
 use Rattle.std.proofs.lemmas.Bool.{and_parts, cases_lt, cases_order, cond-true, cond-false, le-leb, lt-leb}
 use Rattle.schema_model.specs.declared.rows.row.Row.{Row}

@@ -1,4 +1,4 @@
-use Rattle.std.proofs.Common.{◌≡◌, length, subst, sym, ap, ◌∙◌, arith, List}
+use Rattle.std.proofs.Common.{length, ap, ◌∙◌, arith, List}
 use Rattle.list_codec.specs.Packing.{elements_of_places}
 use Rattle.list_codec.proofs.Written.{read_is}
 use Rattle.list_codec.proofs.Places.{Place, packed_none, lent_room, lent_more}

@@ -1,4 +1,4 @@
-use Rattle.std.proofs.Common.{◌≡◌, ◌+◌, ◌*◌, ◌^◌, ◌<◌, ◌≤◌, length, get_or, subst, sym, ap, ◌∙◌, arith, Fits, w64}
+use Rattle.std.proofs.Common.{◌≡◌, ◌+◌, ◌*◌, ◌^◌, ◌<◌, length, get_or, subst, sym, arith, Fits, w64}
 use Rattle.list_codec.proofs.Written.{WrittenSoFar, written_more, ends_before}
 use Rattle.list_codec.proofs.packing.put_elements.Goals as goal
 

@@ -1,6 +1,6 @@
-use Rattle.std.proofs.Common.{◌≡◌, ◌+◌, length, arith, sym, subst, ap, ◌∙◌, refl}
-use Rattle.list_codec.specs.ListPlace.{pointer_width, element_width}
-use Rattle.list_codec.proofs.Written.{PointerPut, pointer_put, row_spelled, row_kept, end_fits, read_is}
+use Rattle.std.proofs.Common.{◌+◌, length, arith, refl}
+use Rattle.list_codec.specs.ListPlace.{pointer_width}
+use Rattle.list_codec.proofs.Written.{pointer_put, row_spelled, row_kept, end_fits, read_is}
 use Rattle.list_codec.proofs.packing.put_row.Goals as goal
 
 pub overflow_add-end : goal.overflow_add-end

@@ -8,7 +8,7 @@ returns-then-element-from c =
 
 pub loop-index-preserved : goal.loop-index-preserved
 loop-index-preserved c =
-    subst (ReadSoFar c.args.words.now c.args.width c.args.start (c.loop-index.index + 1)) (sym c.in-Ok-push.ensures.ok)
+    subst (ReadSoFar c.args.words.now c.args.width c.args.start (c.loop-index.index + 1)) (sym c.in_ok-push.ensures.ok)
     (read_more c.args.words.now c.args.width c.args.start c.loop-index.index c.element_at-element.result c.loop-index.ordinals c.loop-index.invariant
     c.element_at-element.ensures (omega arith))
 

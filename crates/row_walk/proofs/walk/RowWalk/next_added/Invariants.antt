@@ -1,4 +1,4 @@
-use Rattle.std.proofs.Common.{◌≡◌, ◌<◌, ◌^◌, ◌-◌, true}
+use Rattle.std.proofs.Common.{◌≡◌, ◌^◌, ◌-◌, true}
 use Rattle.row_walk.specs.BothStates.{rows_from, rows_added}
 use Rattle.row_walk.proofs.walk.RowWalk.next_added.Given as goal
 
