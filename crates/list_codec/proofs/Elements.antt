@@ -2,7 +2,7 @@
 use Rattle.std.proofs.Common.{◌≡◌, ℕ, ◌+◌, ◌-◌, ◌*◌, ◌^◌, ◌<◌, ◌≤◌, List, [], ◌∷◌, ◌++◌, sym, ap, ◌∙◌, arith}
 use Rattle.std.specs.Prelude.{All, Any, map}
 use Rattle.std.specs.List.{range_with_len}
-use Rattle.std.proofs.lemmas.List.Elements.{All-nil, All-push}
+use Rattle.std.proofs.lemmas.List.Elements.{All-push}
 use Rattle.std.proofs.lemmas.List.FromFn.{length-map-range_with_len, get_or-map-range_with_len, map-range_with_len_more}
 use Rattle.bit_array.specs.Element.{element_of}
 use Rattle.list_codec.specs.ListPlace.{elements_between, IsPastOrdinals}
@@ -12,15 +12,6 @@ pub record ReadSoFar (words : List ℕ) (width start index : ℕ) (ordinals : Li
   pub from : start ≤ index
   pub are : ordinals ≡ elements_between words width start index
   pub small : All (λ ordinal. ordinal ≤ 2 ^ 32 - 1) ordinals
-
-pub read_none : (words : List ℕ) (width start : ℕ) → ReadSoFar words width start start []
-read_none words width start =
-    let none : start - start ≡ 0 = omega arith in
-    record {
-      from = omega arith;
-      are = sym (ap (λ n. map (λ index. element_of words (index * width) width) (range_with_len start n)) none);
-      small = All-nil (λ ordinal. ordinal ≤ 2 ^ 32 - 1);
-    }
 
 -- one element more
 pub elements_more : (words : List ℕ) (width start index : ℕ) → start ≤ index → elements_between words width start (index + 1) ≡ elements_between words width start index ++ element_of words (index * width) width ∷ []

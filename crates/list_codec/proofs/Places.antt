@@ -34,14 +34,6 @@ places_from rows index d row inside is =
 
 -- ---- counting
 
-pub count_more : (rows : List Place) (index count more : ℕ) (row : Place) → index < length rows → row ≡ get_or rows index row → more ≡ length (elements_of_place row)
-    → count + length (elements_of_places (drop index rows)) ≡ length (elements_of_places rows) → count + more + length (elements_of_places (drop (index + 1) rows)) ≡ length (elements_of_places rows)
-count_more rows index count more row inside is long so_far =
-    let here = elements_of_place row in
-    let behind = elements_of_places (drop (index + 1) rows) in
-    let split = ap (λ (es : List ℕ). length es) (places_from rows index row row inside is) ∙ length-append here behind in
-    omega arith
-
 pub count_all : (rows : List Place) (index count : ℕ) → length rows ≤ index → count + length (elements_of_places (drop index rows)) ≡ length (elements_of_places rows) → count ≡ length (elements_of_places rows)
 count_all rows index count past so_far =
     let none : length (elements_of_places (drop index rows)) ≡ 0 = ap (λ (rs : List Place). length (elements_of_places rs)) (drop_all index rows past) in
@@ -169,12 +161,6 @@ packed_more widths rows first second first' second' place end end' row elements 
       few = omega arith;
       second_few = omega arith;
     }
-
-pub packed_all : (widths : List ℕ) (rows : List Place) (first second : List ℕ) (place end : ℕ) → PackedSoFar widths rows first second place end → place ≡ length rows
-    → WordsOf widths rows first second (length rows) (length (elements_of_places rows))
-packed_all widths rows first second place end done all =
-    let last = count_all rows place end (omega arith) done.counted in
-    subst (λ n. WordsOf widths rows first second n (length (elements_of_places rows))) all (subst (λ n. WordsOf widths rows first second place n) last done.words)
 
 -- ---- the rows that are packed
 

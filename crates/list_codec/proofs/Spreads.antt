@@ -34,9 +34,6 @@ pub record IsGathered (all left : List Row) (count most : ℕ) : Type 0 where
   pub fits : count ≤ 2 ^ 64 - 1
   pub highest : max most (greatest (flat_map elements_of_row left)) ≡ greatest (flat_map elements_of_row all)
 
-pub gathered_none : (all : List Row) → IsGathered all all 0 0
-gathered_none all = record { counted = omega arith; fits = omega arith; highest = omega arith }
-
 pub gathered_more : (all left rest : List Row) (taken : Option Row) (row : Row) (count most count' most' : ℕ) → IsGathered all left count most → Takes left taken rest → taken ≡ Some row
     → count' ≡ min (count + length (elements_of_row row)) (2 ^ 64 - 1) → most' ≡ max most (greatest (elements_of_row row)) → IsGathered all rest count' most'
 gathered_more all left rest taken row count most count' most' done takes found counted highest =

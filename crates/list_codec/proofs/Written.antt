@@ -3,7 +3,7 @@ use Rattle.std.proofs.Common.{◌≡◌, ℕ, ◌+◌, ◌-◌, ◌*◌, ◌^◌
 use Rattle.std.specs.Prelude.{map, slice_get, unwrap_or, Some}
 use Rattle.std.proofs.lemmas.Option.{unwrap_or-slice_get}
 use Rattle.std.specs.List.{range_with_len}
-use Rattle.std.proofs.lemmas.List.{take_more, take_all}
+use Rattle.std.proofs.lemmas.List.{take_more}
 use Rattle.std.proofs.lemmas.List.Elements.{All-from_get_or}
 use Rattle.std.proofs.Math.Nat.{mul-le-mul_right}
 use Rattle.std.proofs.lemmas.Nat.{pow-add, pow_pos}
@@ -57,18 +57,6 @@ pub record WrittenSoFar (old words : List ℕ) (width start index at : ℕ) (ele
   pub bits : number_of old < 2 ^ (start * width) → number_of words < 2 ^ ((start + index) * width)
   pub long : length words ≡ length old
 
-pub written_none : (words : List ℕ) (width start : ℕ) (elements : List ℕ) → WrittenSoFar words words width start 0 (start * width) elements
-written_none words width start elements =
-    let none : start + 0 - start ≡ 0 = omega arith in
-    let same : start + 0 ≡ start = omega arith in
-    record {
-      position = ap (λ n. n * width) (sym same);
-      are = ap (λ n. map (λ k. element_of words (k * width) width) (range_with_len start n)) none;
-      before = λ at v within. refl;
-      bits = λ below. subst (λ n. number_of words < 2 ^ (n * width)) (sym same) below;
-      long = refl;
-    }
-
 pub written_more : (old words new : List ℕ) (width start index at element : ℕ) (elements : List ℕ) → WrittenSoFar old words width start index at elements → index < length elements
     → element ≡ get_or elements index 0 → element < 2 ^ width → SetsBlock words new at width element → element_of new at width ≡ element
     → ((i v : ℕ) → (i + v ≤ at) ⊎ (at + width ≤ i) → element_of new i v ≡ element_of words i v) → length new ≡ length words
@@ -94,13 +82,6 @@ written_more old words new width start index at element elements done inside is 
           subst (λ n. number_of new < 2 ^ n) e grown;
       long = long ∙ done.long;
     }
-
-pub written_all : (old words : List ℕ) (width start index at : ℕ) (elements : List ℕ) → WrittenSoFar old words width start index at elements → index ≡ length elements
-    → (elements_between words width start (start + length elements) ≡ elements) × (number_of old < 2 ^ (start * width) → number_of words < 2 ^ ((start + length elements) * width))
-written_all old words width start index at elements done all = (
-  ap (λ n. elements_between words width start (start + n)) (sym all) ∙ done.are ∙ take_all index elements (omega arith),
-  subst (λ n. number_of old < 2 ^ (start * width) → number_of words < 2 ^ ((start + n) * width)) all done.bits,
-)
 
 -- ---- a list that is written at a place
 

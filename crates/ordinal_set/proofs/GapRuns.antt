@@ -3,7 +3,7 @@ use Rattle.std.proofs.Common.{◌≡◌, ℕ, ◌+◌, ◌-◌, ◌*◌, ◌^◌
 use Rattle.std.specs.Prelude.{All}
 use Rattle.std.specs.List.Sorted.{IsStrictlyIncreasing}
 use Rattle.std.proofs.lemmas.Bool.{cases_lt, cases_order}
-use Rattle.std.proofs.lemmas.List.{append_cancel_left, take-append-drop, length-drop, length-take-le, take_all, take_at, drop_all}
+use Rattle.std.proofs.lemmas.List.{append_cancel_left, take-append-drop, length-drop, length-take-le, drop_all}
 use Rattle.std.proofs.lemmas.List.Elements.{All-weaker, All-head, All-tail, All-from_get_or}
 use Rattle.std.proofs.Math.Seq.{take-add, drop-cons}
 use Rattle.hol_varint.specs.Yields.{Yields}
@@ -192,9 +192,6 @@ read_more bytes place number gap next list done stands =
       small = let ahead : place < next = further bytes place gap next stands in omega arith;
     }
 
-pub read_all : (bytes : List ℕ) (place number : ℕ) (list : List ℕ) → ReadSoFar bytes place number list → length bytes ≤ place → Gaps bytes list
-read_all bytes place number list done past = subst (λ bs. Gaps bs list) (take_all place bytes past) done.whole
-
 -- ---- writing
 
 -- the numbers of a run that is written
@@ -229,15 +226,6 @@ pub record WrittenSoFar (start out list : List ℕ) (before index : ℕ) : Type 
   pub rising : IsStrictlyIncreasing (drop index list)
   pub above : All (λ n. before ≤ n) (drop index list)
 
-pub written_none : (out list : List ℕ) → IsStrictlyIncreasing list → WrittenSoFar out out list 0 0
-written_none out list rising = record {
-  written = [];
-  is = sym (append-nil out);
-  rest = refl;
-  rising = rising;
-  above = λ k d h. omega arith;
-}
-
 pub written_more : (start out out' list : List ℕ) (before index : ℕ) → index < length list → WrittenSoFar start out list before index
     → out' ≡ out ++ varint_bytes (get_or list index 0 - before) → WrittenSoFar start out' list (get_or list index 0) (index + 1)
 unfolding gap_bytes_after
@@ -269,6 +257,3 @@ written_all start out list before index past done =
     done.is
     ∙ ap (λ (bs : List ℕ). start ++ bs)
     (sym (append-nil done.written) ∙ ap (λ ns. done.written ++ gap_bytes_after before ns) (sym (drop_all index list past)) ∙ done.rest)
-
-pub written_kept : (start out list : List ℕ) (before index : ℕ) → WrittenSoFar start out list before index → take (length start) out ≡ start
-written_kept start out list before index done = ap (take (length start)) done.is ∙ take_at start done.written (length start) refl

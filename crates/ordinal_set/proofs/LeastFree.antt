@@ -6,7 +6,7 @@ use Rattle.std.proofs.lemmas.Bool.{cases_lt}
 use Rattle.std.proofs.lemmas.Nat.{div-mul-add, mod-mul-add}
 use Rattle.std.proofs.lemmas.Nat.Bits.{bit_at-lt, bit_at_or, bit_at_ones, bit_at-trailing_ones}
 use Rattle.ordinal_set.specs.Ordinals.{IsLeastFree}
-use Rattle.ordinal_set.specs.Population.{has_bit, population_of, FitOrdinals}
+use Rattle.ordinal_set.specs.Population.{has_bit, population_of}
 use Rattle.ordinal_set.proofs.Populations.{set_bit, clear_bit, bit_past, bit_from_member, member_from_bit}
 
 -- each number below a limit is in one of the arrays
@@ -80,15 +80,3 @@ least_in_word words others place fits before =
 pub least_past : (words others : List ℕ) (len : ℕ) → length words ≤ len → length others ≤ len → AreTaken words others (len * 64) → IsLeastFree (population_of words) (population_of others) (len * 64)
 least_past words others len within others_within taken =
     least_is words others (len * 64) (bit_past words (len * 64) (omega arith)) (bit_past others (len * 64) (omega arith)) taken
-
--- which are not so many that the number past them is no ordinal
-pub few_full : (words others : List ℕ) (len : ℕ) → FitOrdinals words → FitOrdinals others → len ≤ 2 ^ 26 → AreTaken words others (len * 64) → len * 64 < 2 ^ 32
-few_full words others len fit others_fit few taken =
-    elim (cases_lt (len * 64) (2 ^ 32)) [
-      | inl below ↦ below
-      | inr not_below ↦
-          elim (taken (2 ^ 32 - 1) (omega arith)) [
-            | inl one ↦ let small = fit.small (2 ^ 32 - 1) one in absurd (omega arith)
-            | inr one ↦ let small = others_fit.small (2 ^ 32 - 1) one in absurd (omega arith)
-          ]
-    ]

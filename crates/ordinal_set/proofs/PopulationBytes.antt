@@ -1,9 +1,8 @@
 -- Lemmas on the bytes that a population is written with.
-use Rattle.std.proofs.Common.{◌≡◌, ℕ, ◌+◌, ◌*◌, ◌/◌, ◌^◌, ◌<◌, ◌≤◌, List, [], ◌∷◌, ◌++◌, Option, Some, None, length, get_or, take, refl, sym, ap, ◌∙◌, subst, inl, inr, arith, Fits, w64, append_assoc, append-nil}
+use Rattle.std.proofs.Common.{◌≡◌, ℕ, ◌+◌, ◌*◌, ◌/◌, ◌^◌, ◌<◌, ◌≤◌, List, [], ◌∷◌, ◌++◌, Option, Some, None, length, get_or, refl, sym, ap, ◌∙◌, subst, inl, inr, arith, Fits, w64, append_assoc, append-nil}
 use Rattle.std.specs.Prelude.{Result, Ok, Err, OnOk, All, Contains, flat_map}
 use Rattle.std.specs.Int.{w32, to_be_bytes}
 use Rattle.std.proofs.lemmas.Bool.{cases_lt}
-use Rattle.std.proofs.lemmas.List.{take_at}
 use Rattle.std.proofs.lemmas.List.Concat.{flat_map-append}
 use Rattle.std.proofs.lemmas.List.Elements.{All-contains, All-from_get_or}
 use Rattle.std.proofs.lemmas.List.FromFn.{length-map-range_with_len, get_or-map-range_with_len, map-range_with_len_more}
@@ -83,14 +82,6 @@ words_more start out out' words bytes count place word done is_word is_bytes is 
     is ∙ ap (λ (bs : List ℕ). bs ++ bytes) done ∙ ap (λ (bs : List ℕ). (start ++ (head ++ before)) ++ bs) (is_bytes ∙ ap (to_be_bytes w64) is_word)
     ∙ append_assoc start (head ++ before) last ∙ ap (λ (bs : List ℕ). start ++ bs) (append_assoc head before last ∙ ap (λ (bs : List ℕ). head ++ bs) (sym more))
 
-pub words_none : (start out words bytes : List ℕ) (count : ℕ) → bytes ≡ to_be_bytes w32 count → out ≡ start ++ bytes → WordsSoFar start out words count 0
-words_none start out words bytes count is_bytes is =
-    is ∙ ap (λ (bs : List ℕ). start ++ bs) (is_bytes ∙ sym (append-nil (to_be_bytes w32 count)))
-
 pub words_all : (start out words : List ℕ) (count : ℕ) → WordsSoFar start out words count count → out ≡ start ++ words_bytes (first_words words count)
 words_all start out words count done =
     done ∙ ap (λ n. start ++ (to_be_bytes w32 n ++ flat_map (to_be_bytes w64) (first_words words count))) (sym (first_long words count))
-
-pub words_kept : (start out words : List ℕ) (count place : ℕ) → WordsSoFar start out words count place → take (length start) out ≡ start
-words_kept start out words count place done =
-    ap (take (length start)) done ∙ take_at start (to_be_bytes w32 count ++ flat_map (to_be_bytes w64) (first_words words place)) (length start) refl
