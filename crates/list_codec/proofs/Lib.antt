@@ -1,0 +1,5 @@
+pub mod Elements
+pub mod Spreads
+pub mod Written
+pub mod Places
+pub mod EmptyTables

@@ -1,0 +1,3 @@
+pub mod ListPlace
+pub mod Packing
+pub mod Widths

@@ -1,0 +1,2 @@
+pub mod RowsFrom
+pub mod Steps
