@@ -82,6 +82,10 @@ words_more start out out' words bytes count place word done is_word is_bytes is 
     is ∙ ap (λ (bs : List ℕ). bs ++ bytes) done ∙ ap (λ (bs : List ℕ). (start ++ (head ++ before)) ++ bs) (is_bytes ∙ ap (to_be_bytes w64) is_word)
     ∙ append_assoc start (head ++ before) last ∙ ap (λ (bs : List ℕ). start ++ bs) (append_assoc head before last ∙ ap (λ (bs : List ℕ). head ++ bs) (sym more))
 
+pub words_none : (start out words bytes : List ℕ) (count : ℕ) → bytes ≡ to_be_bytes w32 count → out ≡ start ++ bytes → WordsSoFar start out words count 0
+words_none start out words bytes count is_bytes is =
+    is ∙ ap (λ (bs : List ℕ). start ++ bs) (is_bytes ∙ sym (append-nil (to_be_bytes w32 count)))
+
 pub words_all : (start out words : List ℕ) (count : ℕ) → WordsSoFar start out words count count → out ≡ start ++ words_bytes (first_words words count)
 words_all start out words count done =
     done ∙ ap (λ n. start ++ (to_be_bytes w32 n ++ flat_map (to_be_bytes w64) (first_words words count))) (sym (first_long words count))
