@@ -1,3 +1,4 @@
+pub mod Danglings
 pub mod FirstBroken
 pub mod Fronts
 pub mod Indexing
@@ -6,6 +7,7 @@ pub mod KindNames
 pub mod ModelFacts
 pub mod NamedTypes
 pub mod ReferenceChains
+pub mod ReferenceWalks
 pub mod RuleTests
 pub mod Spellable
 pub mod Spellings

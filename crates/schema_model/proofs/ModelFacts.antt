@@ -7,7 +7,7 @@ use Rattle.std.proofs.lemmas.List.{get_or-take, length-take, length-map}
 use Rattle.std.proofs.lemmas.List.Elements.{Contains-get_or}
 use Rattle.std.proofs.lemmas.Option.{slice_get_within, get_or_from_slice_get, slice_get-get_or}
 use Rattle.schema_model.specs.Model.{IsKept, StandsEarlier}
-use Rattle.schema_model.specs.Parts.{name_index, type_index, type_names}
+use Rattle.schema_model.specs.Parts.{name_index, index_of_type, type_names}
 use Rattle.schema_model.specs.declared.model.rule.Rule.TheVariants.{TooMany, DuplicateName}
 use Rattle.schema_model.specs.declared.schema.Schema.{Schema}
 use Rattle.schema_model.specs.declared.schema.Shape.TheVariants.{Set}
@@ -22,7 +22,7 @@ few_schemas schemas kept =
       | inr few ↦ few
     ]
 
-first_place : (schemas : List Schema) (name : List ℕ) (t : ℕ) (o : Option ℕ) → IsKept schemas DuplicateName → slice_get (type_names schemas) t ≡ Some name → type_index schemas name ≡ o → o ≡ Some t
+first_place : (schemas : List Schema) (name : List ℕ) (t : ℕ) (o : Option ℕ) → IsKept schemas DuplicateName → slice_get (type_names schemas) t ≡ Some name → index_of_type schemas name ≡ o → o ≡ Some t
 first_place schemas name t None apart at e =
     absurd (name_missing (type_names schemas) name e t (slice_get_within (type_names schemas) t name at) (get_or_from_slice_get (type_names schemas) t name [] at))
 first_place schemas name t (Some j) apart at e =
@@ -43,10 +43,10 @@ first_place schemas name t (Some j) apart at e =
     ]
 
 -- the index of a name is where it stands
-pub index_at : (schemas : List Schema) (name : List ℕ) → IsKept schemas DuplicateName → (t : ℕ) → (type_index schemas name ≡ Some t) ↔ (slice_get (type_names schemas) t ≡ Some name)
+pub index_at : (schemas : List Schema) (name : List ℕ) → IsKept schemas DuplicateName → (t : ℕ) → (index_of_type schemas name ≡ Some t) ↔ (slice_get (type_names schemas) t ≡ Some name)
 index_at schemas name apart t = (
   λ e. let found = name_found (type_names schemas) name t e in slice_get-get_or (type_names schemas) t [] found.0 ∙ ap Some found.1,
-  λ at. first_place schemas name t (type_index schemas name) apart at refl,
+  λ at. first_place schemas name t (index_of_type schemas name) apart at refl,
 )
 
 none_there : (names : List (List ℕ)) (name : List ℕ) (o : Option ℕ) → name_index names name ≡ o → (Contains names name → ⊥) → o ≡ None

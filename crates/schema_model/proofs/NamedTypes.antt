@@ -10,8 +10,8 @@ use Rattle.std.proofs.lemmas.List.Elements.{filter_map-append}
 use Rattle.std.proofs.lemmas.List.Folds.{list_all-append}
 use Rattle.std.proofs.lemmas.Option.{slice_get_within, get_or_from_slice_get}
 use Rattle.schema_model.specs.Checked.{are_known, all_references}
-use Rattle.schema_model.specs.Model.{BreaksAt, references}
-use Rattle.schema_model.specs.Parts.{referenced, referenced_names, named_types, type_index}
+use Rattle.schema_model.specs.Model.{BreaksAt, named_indexes}
+use Rattle.schema_model.specs.Parts.{referenced, referenced_names, named_types, index_of_type}
 use Rattle.schema_model.specs.declared.model.rule.Rule.TheVariants.{UnknownType}
 use Rattle.schema_model.specs.declared.schema.Field.{Field}
 use Rattle.schema_model.specs.declared.schema.Schema.{Schema}
@@ -75,23 +75,23 @@ none_by true xs e = absurd cc
 none_by false xs e = refl
 
 -- a row says that each named type is there, and has their indexes
-pub known_row : (schemas : List Schema) (find : List ℕ → Option ℕ) (s : Schema) (row : List ℕ) → ((name : List ℕ) → find name ≡ type_index schemas name) → Some row ≡ all_references find (named_types s)
-    → (are_known (type_index schemas) (named_types s) ≡ true) × (row ≡ references schemas s)
+pub known_row : (schemas : List Schema) (find : List ℕ → Option ℕ) (s : Schema) (row : List ℕ) → ((name : List ℕ) → find name ≡ index_of_type schemas name) → Some row ≡ all_references find (named_types s)
+    → (are_known (index_of_type schemas) (named_types s) ≡ true) × (row ≡ named_indexes schemas s)
 known_row schemas find s row indexed found =
     let known = row_by (are_known find (named_types s)) row (filter_map find (named_types s)) found in
-    let same : find ≡ type_index schemas = fun_ext indexed in
+    let same : find ≡ index_of_type schemas = fun_ext indexed in
     (ap (λ f. are_known f (named_types s)) (sym same) ∙ known.0, known.1 ∙ ap (λ f. filter_map f (named_types s)) same)
 
 -- a type with a row names no other type
-pub names_known : (schemas : List Schema) (t : ℕ) (s : Schema) → slice_get schemas t ≡ Some s → are_known (type_index schemas) (named_types s) ≡ true → BreaksAt schemas UnknownType t → ⊥
-names_known schemas t s at known breaks = all_found (type_index schemas) (named_types s) known (breaks_itself schemas UnknownType t s at breaks)
+pub names_known : (schemas : List Schema) (t : ℕ) (s : Schema) → slice_get schemas t ≡ Some s → are_known (index_of_type schemas) (named_types s) ≡ true → BreaksAt schemas UnknownType t → ⊥
+names_known schemas t s at known breaks = all_found (index_of_type schemas) (named_types s) known (breaks_itself schemas UnknownType t s at breaks)
 
 -- a type without a row names another type
-pub names_unknown : (schemas : List Schema) (find : List ℕ → Option ℕ) (t : ℕ) (s : Schema) → slice_get schemas t ≡ Some s → ((name : List ℕ) → find name ≡ type_index schemas name) → None ≡ all_references find (named_types s) → BreaksAt schemas UnknownType t
+pub names_unknown : (schemas : List Schema) (find : List ℕ → Option ℕ) (t : ℕ) (s : Schema) → slice_get schemas t ≡ Some s → ((name : List ℕ) → find name ≡ index_of_type schemas name) → None ≡ all_references find (named_types s) → BreaksAt schemas UnknownType t
 names_unknown schemas find t s at indexed none =
-    let same : find ≡ type_index schemas = fun_ext indexed in
+    let same : find ≡ index_of_type schemas = fun_ext indexed in
     let unknown = none_by (are_known find (named_types s)) (filter_map find (named_types s)) none in
-    (s, at, unknown_found (type_index schemas) (named_types s) (ap (λ f. are_known f (named_types s)) (sym same) ∙ unknown))
+    (s, at, unknown_found (index_of_type schemas) (named_types s) (ap (λ f. are_known f (named_types s)) (sym same) ∙ unknown))
 
 -- one row more
 pub rows_more : {X : Type 0} (f : Schema → X) (schemas : List Schema) (t : ℕ) (s : Schema) → slice_get schemas t ≡ Some s → map f (take (t + 1) schemas) ≡ map f (take t schemas) ++ f s ∷ []

@@ -11,7 +11,7 @@ use Rattle.schema_model.specs.Checked.{has_chained, chained}
 use Rattle.std.proofs.lemmas.Iterator.Adapters.{position_from-zero}
 use Rattle.std.proofs.lemmas.List.Quantifiers.{position-Some}
 use Rattle.std.proofs.lemmas.Option.{slice_get-get_or}
-use Rattle.schema_model.specs.Model.{HasChain, BreaksAt, IsKept, references, reference_rows}
+use Rattle.schema_model.specs.Model.{HasChain, BreaksAt, IsKept, named_indexes, type_graph}
 use Rattle.schema_model.specs.declared.model.rule.Rule.{Rule}
 use Rattle.schema_model.specs.declared.model.rule.Rule.TheVariants.{CyclicModel, TooDeep}
 use Rattle.schema_model.specs.declared.schema.Schema.{Schema}
@@ -142,11 +142,11 @@ fewer_after_round rows xs ys k old new differ =
     (marks_differ ys xs differ)
 
 -- the schema at an index from which a chain begins
-schema_at : (schemas : List Schema) (t : ℕ) → HasChain (reference_rows schemas) 0 t → (s : Schema) × (slice_get schemas t ≡ Some s)
+schema_at : (schemas : List Schema) (t : ℕ) → HasChain (type_graph schemas) 0 t → (s : Schema) × (slice_get schemas t ≡ Some s)
 unfolding HasChain
 schema_at schemas t below =
     let d : Schema = record { name = []; shape = Set [] } in
-    let inside : t < length schemas = rw (sym (length-map schemas (references schemas))) below in
+    let inside : t < length schemas = rw (sym (length-map schemas (named_indexes schemas))) below in
     (get_or schemas t d, slice_get-get_or schemas t d inside)
 
 -- The first mark names the first type that breaks a rule, where the marks are of the types that break it.
@@ -169,19 +169,19 @@ none_broken schemas rule marks m none t breaks =
     ]
 
 -- marks that have settled are of the types whose references lead into a cycle
-pub cycle_marks : (schemas : List Schema) (marks : List Bool) (k : ℕ) → marks ≡ chained (reference_rows schemas) k → chained (reference_rows schemas) (k + 1) ≡ chained (reference_rows schemas) k → Marks schemas CyclicModel marks
+pub cycle_marks : (schemas : List Schema) (marks : List Bool) (k : ℕ) → marks ≡ chained (type_graph schemas) k → chained (type_graph schemas) (k + 1) ≡ chained (type_graph schemas) k → Marks schemas CyclicModel marks
 cycle_marks schemas marks k e settled = record {
   broken = λ t marked.
-      let endless = endless_from_mark (reference_rows schemas) k t settled (ap (λ ms. get_or ms t false) (sym e) ∙ marked) in
+      let endless = endless_from_mark (type_graph schemas) k t settled (ap (λ ms. get_or ms t false) (sym e) ∙ marked) in
       let at = schema_at schemas t (endless 0) in (at.0, at.1, endless);
-  marked = λ t breaks. ap (λ ms. get_or ms t false) e ∙ mark_from_chain (reference_rows schemas) k t (breaks.2 k);
+  marked = λ t breaks. ap (λ ms. get_or ms t false) e ∙ mark_from_chain (type_graph schemas) k t (breaks.2 k);
 }
 
 -- marks after so many rounds are of the types at the top of too long a chain
-pub depth_marks : (schemas : List Schema) (marks : List Bool) → marks ≡ chained (reference_rows schemas) 32 → Marks schemas TooDeep marks
+pub depth_marks : (schemas : List Schema) (marks : List Bool) → marks ≡ chained (type_graph schemas) 32 → Marks schemas TooDeep marks
 depth_marks schemas marks e = record {
   broken = λ t marked.
-      let chain = chain_from_mark (reference_rows schemas) 32 t (ap (λ ms. get_or ms t false) (sym e) ∙ marked) in
-      let at = schema_at schemas t (shorter (reference_rows schemas) 0 32 t (omega arith) chain) in (at.0, at.1, chain);
-  marked = λ t breaks. ap (λ ms. get_or ms t false) e ∙ mark_from_chain (reference_rows schemas) 32 t breaks.2;
+      let chain = chain_from_mark (type_graph schemas) 32 t (ap (λ ms. get_or ms t false) (sym e) ∙ marked) in
+      let at = schema_at schemas t (shorter (type_graph schemas) 0 32 t (omega arith) chain) in (at.0, at.1, chain);
+  marked = λ t breaks. ap (λ ms. get_or ms t false) e ∙ mark_from_chain (type_graph schemas) 32 t breaks.2;
 }

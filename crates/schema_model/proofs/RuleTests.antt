@@ -1,6 +1,6 @@
 -- From what a loop over the types finds to what the test of a rule tells.
-use Rattle.std.proofs.Common.{◌≡◌, ℕ, zero, suc, ◌∷◌, ◌<◌, ◌≤◌, ◌∙◌, sym, ap, subst, List, Some, length, slice_get, arith, inl, inr, true, false, Bool, get_or, []}
-use Rattle.std.specs.Prelude.{IsTrue, ◌↔◌}
+use Rattle.std.proofs.Common.{◌≡◌, ℕ, zero, suc, ◌∷◌, ◌<◌, ◌≤◌, ◌∙◌, sym, ap, subst, refl, List, Some, length, slice_get, ◌++◌, arith, inl, inr, true, false, Bool, get_or, []}
+use Rattle.std.specs.Prelude.{IsTrue, ◌↔◌, ◌||◌}
 use Rattle.std.proofs.lemmas.Option.{slice_get_within, slice_get-get_or}
 use Rattle.std.proofs.lemmas.Bool.{cases_lt, or_left, or_right, lt-ltb, ltb-true}
 use Rattle.std.proofs.lemmas.List.Folds.{list_any-append, Any-from_list_any, list_any-from_Any}
@@ -60,14 +60,14 @@ pub none_any : (P : List ℕ → Type 0) (xs : List (List ℕ)) (n : ℕ) → le
 none_any P xs n all none (k, x, inside, same, holds) =
     none k (omega arith) (subst P (sym same ∙ get_or_default xs k x [] inside) holds)
 
--- one piece settles what is asked of some item
-pub any_piece : {X : Type 0} (p : List ℕ → Bool) (f : X → List (List ℕ)) (xs : List X) (i : ℕ) (x : X) → slice_get xs i ≡ Some x → list_any p (f x) ≡ true → list_any p (flat_map f xs) ≡ true
-any_piece p f [] i x at some = absurd cc
-any_piece p f (y ∷ ys) zero x at some =
-    let same : y ≡ x = cc in
-    list_any-append p (f y) (flat_map f ys) ∙ or_left (list_any p (f y)) (list_any p (flat_map f ys)) (ap (λ z. list_any p (f z)) same ∙ some)
-any_piece p f (y ∷ ys) (suc i) x at some =
-    list_any-append p (f y) (flat_map f ys) ∙ or_right (list_any p (f y)) (list_any p (flat_map f ys)) (any_piece p f ys i x at some)
+-- a test of all pieces goes piece by piece
+pub any_pieces : {X Y : Type 0} (p : Y → Bool) (f : X → List Y) (xs : List X) → list_any p (flat_map f xs) ≡ list_any (λ x. list_any p (f x)) xs
+any_pieces p f [] = refl
+any_pieces p f (y ∷ ys) = list_any-append p (f y) (flat_map f ys) ∙ ap (λ b. list_any p (f y) || b) (any_pieces p f ys)
+
+-- the same behind other items
+pub any_behind : {X Y : Type 0} (p : Y → Bool) (f : X → List Y) (firsts : List Y) (xs : List X) → list_any p (firsts ++ flat_map f xs) ≡ (list_any p firsts || list_any (λ x. list_any p (f x)) xs)
+any_behind p f firsts xs = list_any-append p firsts (flat_map f xs) ∙ ap (λ b. list_any p firsts || b) (any_pieces p f xs)
 
 -- a schema with a long text breaks the rule, and no other does
 pub long_breaks : (schemas : List Schema) (t : ℕ) (s : Schema) → slice_get schemas t ≡ Some s → list_any is_long_text (texts_of s) ≡ true → BreaksAt schemas LongName t

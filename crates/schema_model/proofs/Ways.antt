@@ -8,8 +8,8 @@ use Rattle.std.proofs.lemmas.Bool.{cases_order, cases_lt, cases_Bool}
 use Rattle.std.proofs.lemmas.List.{get_or-take, length-take, length-map}
 use Rattle.std.proofs.lemmas.List.Elements.{Contains-get_or}
 use Rattle.std.proofs.lemmas.Option.{slice_get_within, get_or_from_slice_get, slice_get-map, slice_get-get_or, MatchOption-at_none, MatchOption-at_some}
-use Rattle.schema_model.specs.Model.{HasChain, reference_rows, references, IsKept, StandsEarlier}
-use Rattle.schema_model.specs.Parts.{fields_of, field_names, shape_fields, shape_names, named_types, referenced, referenced_names, type_index, type_names}
+use Rattle.schema_model.specs.Model.{HasChain, type_graph, named_indexes, IsKept, StandsEarlier}
+use Rattle.schema_model.specs.Parts.{fields_of, field_names, shape_fields, shape_names, named_types, referenced, referenced_names, index_of_type, type_names}
 use Rattle.hol_varint.specs.Yields.{Yields}
 use Rattle.schema_model.specs.Faults.{IsFreePath, TellsPath}
 use Rattle.schema_model.specs.declared.model.path.Path.{Path}
@@ -38,31 +38,31 @@ object_names (ListShape element) i field at = absurd cc
 object_names (Map key value) i field at = absurd cc
 
 -- a chain goes on from a type whose field refers to its first type
-pub chain_through : (schemas : List Schema) (t i : ℕ) (field : Field) (u n : ℕ) → HasField schemas t i field → RefersTo schemas field.kind u → HasChain (reference_rows schemas) n u → HasChain (reference_rows schemas) (suc n) t
+pub chain_through : (schemas : List Schema) (t i : ℕ) (field : Field) (u n : ℕ) → HasField schemas t i field → RefersTo schemas field.kind u → HasChain (type_graph schemas) n u → HasChain (type_graph schemas) (suc n) t
 unfolding HasChain
 chain_through schemas t i field u n (s, at, own) (name, refers, index) chain =
     let (j, named) = filtered_at (λ (f : Field). referenced f.kind) (fields_of s) i field name own refers in
-    let (k, inside) = filtered_at (type_index schemas) (named_types s) j name u (ap (λ names. slice_get names j) (object_names s.shape i field own) ∙ named) index in
-    let row : get_or (reference_rows schemas) t [] ≡ references schemas s =
-    get_or_from_slice_get (reference_rows schemas) t (references schemas s) [] (slice_get-map (references schemas) schemas t ∙ ap (option_map (references schemas)) at) in
-    rw row (k, u, slice_get_within (references schemas s) k u inside, get_or_from_slice_get (references schemas s) k u u inside, chain)
+    let (k, inside) = filtered_at (index_of_type schemas) (named_types s) j name u (ap (λ names. slice_get names j) (object_names s.shape i field own) ∙ named) index in
+    let row : get_or (type_graph schemas) t [] ≡ named_indexes schemas s =
+    get_or_from_slice_get (type_graph schemas) t (named_indexes schemas s) [] (slice_get-map (named_indexes schemas) schemas t ∙ ap (option_map (named_indexes schemas)) at) in
+    rw row (k, u, slice_get_within (named_indexes schemas s) k u inside, get_or_from_slice_get (named_indexes schemas s) k u u inside, chain)
 
 -- a field refers to one type
 pub one_referred : (schemas : List Schema) (kind : FieldKind) (u v : ℕ) → RefersTo schemas kind u → RefersTo schemas kind v → u ≡ v
 one_referred schemas kind u v (m, a, b) (n, c, d) =
     let same : m ≡ n = (let e : Some m ≡ Some n = sym a ∙ c in cc) in
-    let e : Some u ≡ Some v = sym b ∙ ap (type_index schemas) same ∙ d in cc
+    let e : Some u ≡ Some v = sym b ∙ ap (index_of_type schemas) same ∙ d in cc
 
 -- the only field is a field
 pub only_is_field : (schemas : List Schema) (t : ℕ) (field : Field) → HasOnlyField schemas t field → HasField schemas t 0 field
 only_is_field schemas t field (s, at, only) = (s, at, ap (λ fields. slice_get fields 0) only)
 
 -- a reference to no type leads nowhere
-pub no_way_unknown : (schemas : List Schema) (kind : FieldKind) (name : List ℕ) → referenced kind ≡ Some name → type_index schemas name ≡ None → (more : List ℕ) → GoesOn schemas kind more → ⊥
+pub no_way_unknown : (schemas : List Schema) (kind : FieldKind) (name : List ℕ) → referenced kind ≡ Some name → index_of_type schemas name ≡ None → (more : List ℕ) → GoesOn schemas kind more → ⊥
 no_way_unknown schemas kind name refers none [] way = let e : None ≡ Some name = sym way ∙ refers in cc
 no_way_unknown schemas kind name refers none (i ∷ more) (u, field, (n, again, index), has, zeroth, way) =
     let same : n ≡ name = (let e : Some n ≡ Some name = sym again ∙ refers in cc) in
-    let e : Some u ≡ None = sym index ∙ ap (type_index schemas) same ∙ none in cc
+    let e : Some u ≡ None = sym index ∙ ap (index_of_type schemas) same ∙ none in cc
 
 -- a reference to a type without exactly one field leads nowhere
 pub no_way_many : (schemas : List Schema) (kind : FieldKind) (u : ℕ) (s : Schema) → RefersTo schemas kind u → slice_get schemas u ≡ Some s → (length (fields_of s) ≡ 1 → ⊥) → (more : List ℕ) → GoesOn schemas kind more → ⊥
@@ -118,7 +118,7 @@ more_names text name rest (before, after, inside) =
     ∙ ap (λ t. name ∷ path_names t) (sym after)
 
 -- an index of a type is below the number of types
-pub type_inside : (schemas : List Schema) (name : List ℕ) (u : ℕ) → type_index schemas name ≡ Some u → u < length schemas
+pub type_inside : (schemas : List Schema) (name : List ℕ) (u : ℕ) → index_of_type schemas name ≡ Some u → u < length schemas
 type_inside schemas name u index = rw (sym (length-map schemas (λ s. s.name))) (name_found (type_names schemas) name u index).0
 
 -- the only field of a type
@@ -128,16 +128,16 @@ only_from schemas u s (x ∷ []) only at own one first = (s, at, sym own ∙ ap 
 only_from schemas u s (x ∷ y ∷ more) only at own one first = absurd (omega arith)
 
 -- where no chain of so many references begins at a type that is there, they are not none
-pub deep_enough : (schemas : List Schema) (depth u : ℕ) → u < length schemas → (HasChain (reference_rows schemas) depth u → ⊥) → 1 ≤ depth
+pub deep_enough : (schemas : List Schema) (depth u : ℕ) → u < length schemas → (HasChain (type_graph schemas) depth u → ⊥) → 1 ≤ depth
 unfolding HasChain
-deep_enough schemas zero u inside shallow = absurd (shallow (rw (length-map schemas (references schemas)) inside))
+deep_enough schemas zero u inside shallow = absurd (shallow (rw (length-map schemas (named_indexes schemas)) inside))
 deep_enough schemas (suc depth) u inside shallow = omega arith
 
 -- behind a field fewer references follow
-pub shallower : (schemas : List Schema) (depth t i u : ℕ) (field : Field) → HasField schemas t i field → 1 ≤ depth → (HasChain (reference_rows schemas) depth t → ⊥) → RefersTo schemas field.kind u → HasChain (reference_rows schemas) (depth - 1) u → ⊥
+pub shallower : (schemas : List Schema) (depth t i u : ℕ) (field : Field) → HasField schemas t i field → 1 ≤ depth → (HasChain (type_graph schemas) depth t → ⊥) → RefersTo schemas field.kind u → HasChain (type_graph schemas) (depth - 1) u → ⊥
 shallower schemas depth t i u field has deep shallow refers chain =
     let e : suc (depth - 1) ≡ depth = omega arith in
-    shallow (subst (λ n. HasChain (reference_rows schemas) n t) e (chain_through schemas t i field u (depth - 1) has refers chain))
+    shallow (subst (λ n. HasChain (type_graph schemas) n t) e (chain_through schemas t i field u (depth - 1) has refers chain))
 
 -- a way that goes on through the only field of the referred type
 pub way_on : (schemas : List Schema) (kind : FieldKind) (u : ℕ) (only : Field) (old mid new : List ℕ) (r : Result (Unit {0}) PathFault) → RefersTo schemas kind u → HasOnlyField schemas u only
@@ -148,7 +148,7 @@ way_on schemas kind u only old mid new (Err BadPath) refers has front none = no_
 way_on schemas kind u only old mid new (Err Memory) refers has front none = tt
 
 -- what a look-up of a name in an index of the types finds
-pub looked_up : (schemas : List Schema) (find : List ℕ → Option ℕ) → ((n : List ℕ) → find n ≡ type_index schemas n) → (name text : List ℕ) (r : Option ℕ) → text ≡ name → r ≡ find text → type_index schemas name ≡ r
+pub looked_up : (schemas : List Schema) (find : List ℕ → Option ℕ) → ((n : List ℕ) → find n ≡ index_of_type schemas n) → (name text : List ℕ) (r : Option ℕ) → text ≡ name → r ≡ find text → index_of_type schemas name ≡ r
 looked_up schemas find indexed name text r same e = sym (indexed name) ∙ ap find (sym same) ∙ sym e
 
 repeated_at : (fields : List Field) (i j : ℕ) (f g : Field) → slice_get fields i ≡ Some f → slice_get fields j ≡ Some g → f.name ≡ g.name → i < j → StandsEarlier (field_names fields) j
@@ -235,7 +235,7 @@ pub some_name : (text : List ℕ) → (name : List ℕ) × (names : List (List �
 some_name text = some_part (count_by (λ b. eqb b 46) text) (path_names text) (length-slice_split (λ b. eqb b 46) text)
 
 -- no chain is too long from a type that a field refers to, where none is from any type
-pub none_deep : (schemas : List Schema) → IsKept schemas TooDeep → (kind : FieldKind) (u : ℕ) → RefersTo schemas kind u → HasChain (reference_rows schemas) 32 u → ⊥
+pub none_deep : (schemas : List Schema) → IsKept schemas TooDeep → (kind : FieldKind) (u : ℕ) → RefersTo schemas kind u → HasChain (type_graph schemas) 32 u → ⊥
 none_deep schemas kept kind u (name, refers, index) chain =
     let d : Schema = record { name = []; shape = Set [] } in
     kept u (get_or schemas u d, slice_get-get_or schemas u d (type_inside schemas name u index), chain)
@@ -295,8 +295,8 @@ leads_once schemas apart (name ∷ next ∷ names) t (i ∷ p) (j ∷ q) (f, u, 
 pub one_path : (schemas : List Schema) → IsKept schemas DuplicateName → (t : ℕ) (text : List ℕ) (p q : Path) → Resolves schemas t text p → Resolves schemas t text q → p ≡ q
 one_path schemas apart t text p q (begins, leads) (starts, other) =
     let ways = leads_once schemas apart (path_names text) t p.fields q.fields leads other in
-    let begin : ℕ → Path = λ n. record { t = n; fields = p.fields } in
-    let pass : List ℕ → Path = λ fields. record { t = q.t; fields = fields } in
+    let begin : ℕ → Path = λ n. record { type_index = n; fields = p.fields } in
+    let pass : List ℕ → Path = λ fields. record { type_index = q.type_index; fields = fields } in
     ap begin (begins ∙ sym starts) ∙ ap pass ways
 
 -- the path is told exactly where the text resolves to it

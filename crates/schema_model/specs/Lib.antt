@@ -1,5 +1,6 @@
 pub mod Areas
 pub mod Checked
+pub mod Dangling
 pub mod Faults
 pub mod Limit
 pub mod Model

@@ -3,7 +3,7 @@ use Rattle.std.specs.Prelude.{◌≡◌, ℕ, zero, suc, ◌<◌, ◌≤◌, ◌
 use Rattle.std.specs.List.{filter_map}
 use Rattle.hol_varint.specs.JavaUtf.{java_bytes}
 use Rattle.hol_varint.specs.TextUnits.{text_units}
-use Rattle.schema_model.specs.Parts.{fields_of, field_names, shape_key, named_types, texts_of, type_names, type_index}
+use Rattle.schema_model.specs.Parts.{fields_of, field_names, shape_key, named_types, texts_of, type_names, index_of_type}
 use Rattle.schema_model.specs.Path.{path_names, Leads}
 use Rattle.schema_model.specs.declared.schema.Schema.{Schema}
 use Rattle.schema_model.specs.declared.model.rule.Rule.{Rule}
@@ -14,12 +14,12 @@ abbrev pub StandsEarlier : List (List ℕ) → ℕ → Type 0
 StandsEarlier names i = Contains (take i names) (slice_index_or names i [])
 
 -- the types that a type names, by their indexes; a name of no type is passed over
-abbrev pub references : List Schema → Schema → List ℕ
-references schemas schema = filter_map (type_index schemas) (named_types schema)
+abbrev pub named_indexes : List Schema → Schema → List ℕ
+named_indexes schemas schema = filter_map (index_of_type schemas) (named_types schema)
 
--- the references of each type
-abbrev pub reference_rows : List Schema → List (List ℕ)
-reference_rows schemas = map (references schemas) schemas
+-- the types that each type names, by their indexes
+abbrev pub type_graph : List Schema → List (List ℕ)
+type_graph schemas = map (named_indexes schemas) schemas
 
 -- From the type at an index a chain of this many references can be followed.
 unfoldable pub HasChain : List (List ℕ) → ℕ → ℕ → Type 0
@@ -53,9 +53,9 @@ Breaks schemas TooMany t s = (512 ≤ t) ⊎ (1024 < length (fields_of s))
 Breaks schemas LongName t s = Any IsLongText (texts_of s)
 Breaks schemas DuplicateName t s = StandsEarlier (type_names schemas) t ⊎ SomeIndex (field_names (fields_of s)) (StandsEarlier (field_names (fields_of s)))
 Breaks schemas FloatField t s = ⊥
-Breaks schemas UnknownType t s = Any (λ name. type_index schemas name ≡ None) (named_types s)
-Breaks schemas CyclicModel t s = (n : ℕ) → HasChain (reference_rows schemas) n t
-Breaks schemas TooDeep t s = HasChain (reference_rows schemas) 32 t
+Breaks schemas UnknownType t s = Any (λ name. index_of_type schemas name ≡ None) (named_types s)
+Breaks schemas CyclicModel t s = (n : ℕ) → HasChain (type_graph schemas) n t
+Breaks schemas TooDeep t s = HasChain (type_graph schemas) 32 t
 Breaks schemas BadPath t s = IsBadKey schemas t (shape_key s.shape)
 
 -- The list has a type at this index, and it breaks the rule.

@@ -78,5 +78,5 @@ abbrev pub name_index : List (List ℕ) → List ℕ → Option ℕ
 name_index names name = position_from (λ n. bytes_eq n name) 0 names
 
 -- the index of the type of this name
-abbrev pub type_index : List Schema → List ℕ → Option ℕ
-type_index schemas name = name_index (type_names schemas) name
+abbrev pub index_of_type : List Schema → List ℕ → Option ℕ
+index_of_type schemas name = name_index (type_names schemas) name

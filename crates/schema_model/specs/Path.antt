@@ -1,7 +1,7 @@
 -- The fields that a key path goes through.
 use Rattle.std.specs.Prelude.{◌≡◌, ℕ, ◌==◌, List, [], ◌∷◌, Some, None, slice_get}
 use Rattle.std.specs.List.{slice_split}
-use Rattle.schema_model.specs.Parts.{fields_of, referenced, type_index}
+use Rattle.schema_model.specs.Parts.{fields_of, referenced, index_of_type}
 use Rattle.schema_model.specs.declared.model.path.Path.{Path}
 use Rattle.schema_model.specs.declared.schema.Field.{Field}
 use Rattle.schema_model.specs.declared.schema.FieldKind.{FieldKind}
@@ -21,7 +21,7 @@ HasOnlyField schemas t field = (s : Schema) × (slice_get schemas t ≡ Some s) 
 
 -- A field of this kind refers to the type at an index.
 abbrev pub RefersTo : List Schema → FieldKind → ℕ → Type 0
-RefersTo schemas kind t = (name : List ℕ) × (referenced kind ≡ Some name) × (type_index schemas name ≡ Some t)
+RefersTo schemas kind t = (name : List ℕ) × (referenced kind ≡ Some name) × (index_of_type schemas name ≡ Some t)
 
 -- Where its names are used up, a path ends at a field that is no REFERENCE, or goes on through the only field of the referenced OBJECT.
 abbrev pub GoesOn : List Schema → FieldKind → List ℕ → Type 0
@@ -39,4 +39,4 @@ Leads schemas t (name ∷ next ∷ names) (i ∷ more) =
 
 -- The path resolves a text: it begins at the type, and goes through the fields to which the text's names lead.
 abbrev pub Resolves : List Schema → ℕ → List ℕ → Path → Type 0
-Resolves schemas t text path = (path.t ≡ t) × Leads schemas t (path_names text) path.fields
+Resolves schemas t text path = (path.type_index ≡ t) × Leads schemas t (path_names text) path.fields

@@ -31,14 +31,14 @@ FitsShape (Shape.Set element) (Row.Set ordinals) = Rises ordinals
 FitsShape (Shape.Map key value) (Row.Map pairs) = Rises (map (λ pair. pair.0) pairs)
 FitsShape _ _ = ⊥
 
--- the numbers of a value are in the range of its kind
+-- the numbers of a value are in the range of its kind: an INT of 32 bits, a LONG of 64, units below 2^16, an ordinal below 2^32
 abbrev pub IsValueInRange : Value → Type 0
 IsValueInRange Value.Null = Unit {0}
 IsValueInRange (Value.Int number) = FitsSigned w32 number
 IsValueInRange (Value.Long number) = FitsSigned w64 number
 IsValueInRange (Value.Bool flag) = Unit {0}
 IsValueInRange (Value.Text units) = All (λ unit. unit < 2 ^ 16) units
-IsValueInRange (Value.Bytes bytes) = All (λ byte. byte < 2 ^ 8) bytes
+IsValueInRange (Value.Bytes bytes) = Unit {0}
 IsValueInRange (Value.Ref ordinal) = ordinal < 2 ^ 32
 
 -- the numbers of a row are in range
@@ -49,17 +49,17 @@ IsRowInRange (Row.Set ordinals) = All (λ ordinal. ordinal < 2 ^ 32) ordinals
 IsRowInRange (Row.Map pairs) = All (λ pair. (pair.0 < 2 ^ 32) × (pair.1 < 2 ^ 32)) pairs
 
 -- the row that a value names: the type's name, and the ordinal
-abbrev pub rows_of_value : FieldKind → Value → List (Name × ℕ)
-rows_of_value (FieldKind.Reference name) (Value.Ref ordinal) = (name, ordinal) ∷ []
-rows_of_value _ _ = []
+abbrev pub references_of_value : FieldKind → Value → List (Name × ℕ)
+references_of_value (FieldKind.Reference name) (Value.Ref ordinal) = (name, ordinal) ∷ []
+references_of_value _ _ = []
 
 -- the rows that a row names, in its order: each type's name, and the ordinal
-abbrev pub rows_of_row : Shape → Row → List (Name × ℕ)
-rows_of_row (Shape.Object key fields) (Row.Object values) = flat_map (λ part. rows_of_value part.0.kind part.1) (zip fields values)
-rows_of_row (Shape.List element) (Row.List ordinals) = map (λ ordinal. (element, ordinal)) ordinals
-rows_of_row (Shape.Set element) (Row.Set ordinals) = map (λ ordinal. (element, ordinal)) ordinals
-rows_of_row (Shape.Map key value) (Row.Map pairs) = flat_map (λ pair. (key, pair.0) ∷ (value, pair.1) ∷ []) pairs
-rows_of_row _ _ = []
+abbrev pub references_of_row : Shape → Row → List (Name × ℕ)
+references_of_row (Shape.Object key fields) (Row.Object values) = flat_map (λ part. references_of_value part.0.kind part.1) (zip fields values)
+references_of_row (Shape.List element) (Row.List ordinals) = map (λ ordinal. (element, ordinal)) ordinals
+references_of_row (Shape.Set element) (Row.Set ordinals) = map (λ ordinal. (element, ordinal)) ordinals
+references_of_row (Shape.Map key value) (Row.Map pairs) = flat_map (λ pair. (key, pair.0) ∷ (value, pair.1) ∷ []) pairs
+references_of_row _ _ = []
 
 -- the least number of so many bits, which a blob cannot hold
 abbrev pub is_least : ℕ → ℤ → Bool

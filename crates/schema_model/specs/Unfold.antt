@@ -7,7 +7,7 @@ use Rattle.schema_model.specs.declared.schema.Schema.{Schema}
 use Rattle.schema_model.specs.declared.rows.row.Value.{Value}
 use Rattle.schema_model.specs.declared.rows.row.Row.{Row}
 use Rattle.schema_model.specs.PlainTree.{PlainTree, trees_of_list, pairs_of_list}
-use Rattle.schema_model.specs.Parts.{type_index}
+use Rattle.schema_model.specs.Parts.{index_of_type}
 use Rattle.schema_model.specs.Table.{Table, row_at}
 
 -- the tree of a value, given the tree of each row by its type's name and its ordinal
@@ -38,7 +38,7 @@ tree_of_live follow _ _ = PlainTree.leaf Value.Null
 abbrev pub unfold_within : List Schema → Table → ℕ → ℕ → ℕ → PlainTree
 unfold_within schemas table zero t ordinal = PlainTree.leaf Value.Null
 unfold_within schemas table (suc depth) t ordinal =
-    tree_of_live (λ name named. tree_of_type (type_index schemas name) (λ u. unfold_within schemas table depth u named)) (slice_get schemas t) (row_at table t ordinal)
+    tree_of_live (λ name named. tree_of_type (index_of_type schemas name) (λ u. unfold_within schemas table depth u named)) (slice_get schemas t) (row_at table t ordinal)
 
 -- the tree of a live row of a closed table; no type of a model is more than 32 types deep
 unfoldable pub unfold_row : List Schema → Table → ℕ → ℕ → PlainTree

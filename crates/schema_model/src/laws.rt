@@ -15,10 +15,10 @@ pub fn one_schema()
 
 /// In a model a text resolves to one path at most.
 pub fn one_path()
-    ensures { (schemas : List Schema) (t : ℕ) (text : List ℕ) (a b : Path) → IsModel schemas → Resolves schemas t text a → Resolves schemas t text b → a ≡ b }
+    ensures { (schemas : List Schema) (type_index : ℕ) (text : List ℕ) (a b : Path) → IsModel schemas → Resolves schemas type_index text a → Resolves schemas type_index text b → a ≡ b }
 {}
 
 /// Each schema of a model can be spelled, where it has fewer than 2^32 key paths.
 pub fn spellable_model()
-    ensures { (schemas : List Schema) (t : ℕ) (schema : Schema) → IsModel schemas → slice_get schemas t ≡ Some schema → IfSome (shape_key schema.shape) (λ paths. length paths < 2 ^ 32) → IsSpellable schema }
+    ensures { (schemas : List Schema) (type_index : ℕ) (schema : Schema) → IsModel schemas → slice_get schemas type_index ≡ Some schema → IfSome (shape_key schema.shape) (λ paths. length paths < 2 ^ 32) → IsSpellable schema }
 {}

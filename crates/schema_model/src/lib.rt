@@ -22,15 +22,14 @@ pub use model::rule::Rule;
 pub use model::{Model, model_of, resolve};
 pub use reason::Reason;
 pub use rows::Rows;
+pub use rows::dangling::{Dangling, first_dangling};
 pub use rows::packed::{Packed, PlaceFault};
-pub use rows::parts::Parts;
+pub use rows::parts::{Parts, area_byte, area_size};
 pub use rows::row::{Row, Value};
 pub use rows::tree::{Tree, TreePairs, Trees};
 pub use schema::name::Name;
 pub use schema::put::put_schema;
 pub use schema::{Field, FieldKind, Schema, Shape};
 
-#[cfg(test)]
-mod model_tests;
 #[cfg(test)]
 mod tests;

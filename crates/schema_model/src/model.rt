@@ -4,7 +4,7 @@ ghost use Rattle.hol_varint.specs.Yields.{Yields};
 ghost use Rattle.schema_model.specs.Checked.{Indexes};
 ghost use Rattle.schema_model.specs.Faults.{IsFreeModel, IsFreePath, TellsFault, TellsModel, TellsPath};
 ghost use Rattle.schema_model.specs.Model.{IsFirstBroken, IsModel};
-ghost use Rattle.schema_model.specs.Parts.{type_index, type_names};
+ghost use Rattle.schema_model.specs.Parts.{index_of_type, type_names};
 ghost use Rattle.schema_model.specs.Path.{Resolves};
 ghost use Rattle.schema_model.specs.declared.model.path.Path.{Path};
 ghost use Rattle.schema_model.specs.declared.model.rule.Rule.{Rule};
@@ -23,7 +23,7 @@ pub(crate) mod rules;
 use crate::model::chains::{check_cycles, check_depth};
 use crate::model::keys::check_keys;
 use crate::model::lengths::check_lengths;
-use crate::model::name_index::{Places, index_types, place_of};
+use crate::model::name_index::{NameIndex, find_name, index_types};
 use crate::model::path_walk::way_of;
 use crate::model::references::check_references;
 use crate::model::rules::{check_names, check_sizes};
@@ -36,7 +36,7 @@ use std::collections::BTreeMap;
 #[derive(Drop)]
 pub struct Model {
     schemas: Schemas,
-    places: Places,
+    index: NameIndex,
 }
 
 impl std::marker::Model for Model {
@@ -50,32 +50,32 @@ impl std::marker::Model for Model {
 
     ghost view = { λ a. a.schemas };
 
-    ghost invariant = { λ a. IsModel a.schemas × Indexes (type_names a.schemas) a.places };
+    ghost invariant = { λ a. IsModel a.schemas × Indexes (type_names a.schemas) a.index };
 }
 
 /// Tries the rules in their order, and gives the index of the types' names.
-fn check(alloc: Global, schemas: &Schemas) -> Result<Places, ModelFault>
-    ensures { MatchResult result (λ places. IsModel schemas.now × Indexes (type_names schemas.now) places) (TellsFault schemas.now) }
+fn check(alloc: Global, schemas: &Schemas) -> Result<NameIndex, ModelFault>
+    ensures { MatchResult result (λ index. IsModel schemas.now × Indexes (type_names schemas.now) index) (TellsFault schemas.now) }
 {
     check_sizes(schemas)?;
     check_lengths(schemas)?;
-    let places = index_types(alloc, schemas)?;
-    check_names(alloc, schemas, &places)?;
-    let rows = check_references(alloc, schemas, &places)?;
+    let index = index_types(alloc, schemas)?;
+    check_names(alloc, schemas, &index)?;
+    let rows = check_references(alloc, schemas, &index)?;
     check_cycles(alloc, schemas, rows.as_slice())?;
     check_depth(alloc, schemas, rows.as_slice())?;
-    check_keys(alloc, schemas, &places)?;
-    Ok(places)
+    check_keys(alloc, schemas, &index)?;
+    Ok(index)
 }
 
 /// Makes a model of schemas. `Broken` names the first rule that some type breaks, and the first type that breaks it.
 pub fn model_of(alloc: Global, schemas: Schemas) -> Result<Model, ModelFault>
     ensures tells { TellsModel schemas result }
     ensures made { Yields IsFreeModel result (Ok schemas) (IsModel schemas) }
-    ensures broken { (rule : Rule) (t : ℕ) → Yields IsFreeModel result (Err (ModelFault.Broken rule t)) (IsFirstBroken schemas rule t) }
+    ensures broken { (rule : Rule) (type_index : ℕ) → Yields IsFreeModel result (Err (ModelFault.Broken rule type_index)) (IsFirstBroken schemas rule type_index) }
 {
-    let places = check(alloc, &schemas)?;
-    Ok(Model { schemas, places })
+    let index = check(alloc, &schemas)?;
+    Ok(Model { schemas, index })
 }
 
 impl Model {
@@ -85,7 +85,7 @@ impl Model {
     {
         Model {
             schemas: Schemas::new(alloc),
-            places: BTreeMap::new(alloc),
+            index: BTreeMap::new(alloc),
         }
     }
 
@@ -107,22 +107,22 @@ impl Model {
     }
 
     /// The schema of a type.
-    pub fn schema(&self, t: u32) -> &Schema
-        requires { t < length self.now }
-        ensures value { slice_get self.now t ≡ Some result.now }
+    pub fn schema(&self, type_index: u32) -> &Schema
+        requires { type_index < length self.now }
+        ensures value { slice_get self.now type_index ≡ Some result.now }
         ensures model { IsModel self.now }
     {
-        self.schemas.get(t as usize)
+        self.schemas.get(type_index as usize)
     }
 
     /// The index of the type of this name.
     pub fn index_of(&self, name: &str) -> Option<u32>
-        ensures value { result ≡ type_index self.now name.now }
-        ensures found { (t : ℕ) → (result ≡ Some t) ↔ (slice_get (type_names self.now) t ≡ Some name.now) }
+        ensures value { result ≡ index_of_type self.now name.now }
+        ensures found { (type_index : ℕ) → (result ≡ Some type_index) ↔ (slice_get (type_names self.now) type_index ≡ Some name.now) }
         ensures missing { (result ≡ None) ↔ (¬ Contains (type_names self.now) name.now) }
         ensures model { IsModel self.now }
     {
-        place_of(&self.places, name)
+        find_name(&self.index, name)
     }
 
     /// An equal model of its own.
@@ -130,19 +130,19 @@ impl Model {
         ensures { IfOk result (λ copy. copy ≡ self.now) }
     {
         let schemas = self.schemas.copy(alloc)?;
-        let places = index_types(alloc, &schemas)?;
-        Ok(Model { schemas, places })
+        let index = index_types(alloc, &schemas)?;
+        Ok(Model { schemas, index })
     }
 }
 
 /// The path that a text names from a type: it is cut at each '.' into the names of fields, and goes on through types of one field.
 /// `BadPath` comes where it leads to no value.
-pub fn resolve(alloc: Global, model: &Model, t: u32, text: &str) -> Result<Path, PathFault>
-    requires { t < length model.now }
-    ensures tells { TellsPath model.now t text.now result }
-    ensures found { (path : Path) → Yields IsFreePath result (Ok path) (Resolves model.now t text.now path) }
-    ensures unresolved { Yields IsFreePath result (Err PathFault.BadPath) ((path : Path) → ¬ Resolves model.now t text.now path) }
+pub fn resolve(alloc: Global, model: &Model, type_index: u32, text: &str) -> Result<Path, PathFault>
+    requires { type_index < length model.now }
+    ensures tells { TellsPath model.now type_index text.now result }
+    ensures found { (path : Path) → Yields IsFreePath result (Ok path) (Resolves model.now type_index text.now path) }
+    ensures unresolved { Yields IsFreePath result (Err PathFault.BadPath) ((path : Path) → ¬ Resolves model.now type_index text.now path) }
 {
-    let fields = way_of(alloc, &model.schemas, &model.places, t, text)?;
-    Ok(Path { t, fields })
+    let fields = way_of(alloc, &model.schemas, &model.index, type_index, text)?;
+    Ok(Path { type_index, fields })
 }

@@ -1,3 +1,4 @@
+//! The reasons for which a blob or a record is refused.
 /// Why a blob or a record is refused. Its number stands in the answer line.
 #[derive(Clone, Copy, Debug, PartialEq, Eq)]
 pub enum Reason {

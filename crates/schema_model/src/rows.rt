@@ -3,6 +3,7 @@ ghost use Rattle.std.specs.Prelude.{List, ℕ, ◌≡◌, ◌↔◌, Some, IfOk,
 ghost use Rattle.schema_model.specs.declared.schema.Schema.{Schema};
 ghost use Rattle.schema_model.specs.Table.{Table, IsTableOf, IsBound, IsLive, row_at};
 
+pub(crate) mod dangling;
 pub(crate) mod packed;
 pub(crate) mod parts;
 pub(crate) mod row;
@@ -25,15 +26,15 @@ pub trait Rows {
         ensures fits { IsTableOf (schemas self.now) (table self.now) };
 
     /// One past the greatest live ordinal of a type; 0 where none is live, or where there is no such type.
-    fn bound(&self, t: u32) -> u32
-        ensures { IsBound (table self.now) t result };
+    fn bound(&self, type_index: u32) -> u32
+        ensures { IsBound (table self.now) type_index result };
 
     /// Whether a type has a row under an ordinal.
-    fn is_live(&self, t: u32, o: u32) -> bool
-        ensures { IsTrue result ↔ IsLive (table self.now) t o };
+    fn is_live(&self, type_index: u32, ordinal: u32) -> bool
+        ensures { IsTrue result ↔ IsLive (table self.now) type_index ordinal };
 
     /// A copy of the row of a type under a live ordinal.
-    fn row(&self, alloc: Global, t: u32, o: u32) -> Result<Row, AllocError>
-        requires { IsLive (table self.now) t o }
-        ensures { IfOk result (λ row. row_at (table self.now) t o ≡ Some row) };
+    fn row(&self, alloc: Global, type_index: u32, ordinal: u32) -> Result<Row, AllocError>
+        requires { IsLive (table self.now) type_index ordinal }
+        ensures { IfOk result (λ row. row_at (table self.now) type_index ordinal ≡ Some row) };
 }

@@ -67,14 +67,27 @@ pub enum Shape {
     Map(Name, Name),
 }
 
+impl Shape {
+    ghost use Rattle.std.specs.Prelude.{◌≡◌};
+    ghost use Rattle.schema_model.specs.Parts.{shape_fields};
+
+    /// The fields of an OBJECT, in order; the other shapes have none.
+    pub fn fields(&self) -> &[Field]
+        ensures { result.now ≡ shape_fields self.now }
+    {
+        match self {
+            Shape::Object(_, fields) => fields.as_slice(),
+            Shape::Set(_) => &[],
+            Shape::List(_) => &[],
+            Shape::Map(_, _) => &[],
+        }
+    }
+}
+
 impl Duplicate for Shape {
     fn copy(&self, alloc: Global) -> Result<Shape, AllocError> {
         match self {
-            Shape::Object(None, fields) => Ok(Shape::Object(None, fields.copy(alloc)?)),
-            Shape::Object(Some(key), fields) => Ok(Shape::Object(
-                Some(key.copy(alloc)?),
-                fields.copy(alloc)?,
-            )),
+            Shape::Object(key, fields) => Ok(Shape::Object(key.copy(alloc)?, fields.copy(alloc)?)),
             Shape::Set(element) => Ok(Shape::Set(element.copy(alloc)?)),
             Shape::List(element) => Ok(Shape::List(element.copy(alloc)?)),
             Shape::Map(key, value) => Ok(Shape::Map(key.copy(alloc)?, value.copy(alloc)?)),

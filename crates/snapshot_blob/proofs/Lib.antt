@@ -1,5 +1,4 @@
 pub mod Accepting
-pub mod Danglings
 pub mod FieldWidths
 pub mod Items
 pub mod LoadedTypes
@@ -10,4 +9,3 @@ pub mod Sections
 pub mod Shards
 pub mod TypeRefusals
 pub mod TypeTables
-pub mod Walks

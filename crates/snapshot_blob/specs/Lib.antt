@@ -1,5 +1,4 @@
 pub mod Body
-pub mod Dangling
 pub mod NextRows
 pub mod Section
 pub mod Snapshot

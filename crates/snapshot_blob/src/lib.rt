@@ -2,7 +2,6 @@
 #![tactic(auto)]
 
 mod body;
-mod closed;
 mod envelope;
 pub mod laws;
 mod loaded;
@@ -14,7 +13,6 @@ mod snapshot;
 mod types;
 mod widths;
 
-pub use closed::{Dangling, first_dangling};
 pub use loaded::Loaded;
 pub use next_rows::NextRows;
 pub use part::TypePart;

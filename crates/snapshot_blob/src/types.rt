@@ -9,7 +9,6 @@ ghost use Rattle.snapshot_blob.specs.NextRows.{AreNext};
 ghost use Rattle.snapshot_blob.specs.Types.{AreAccepted, HasState, IsLoadedFrom, KeepsOrdinals, LoadsPart, Refuses, next_halves, schemas_of, table_of};
 
 use crate::TypePart;
-use crate::closed::first_dangling;
 use crate::next_rows::NextRows;
 use blob_frame::BlobFault;
 use hol_varint::Duplicate;
@@ -107,7 +106,7 @@ fn check_closed(
     match first_dangling(alloc, &rows)? {
         None => Ok(()),
         Some(found) => {
-            let part = &parts[found.t as usize];
+            let part = &parts[found.type_index as usize];
             let name = part.schema.name.copy(alloc)?;
             Err(BlobFault::BadRow(part.at, Reason::Dangling, name, u64::from(found.ordinal)))
         }

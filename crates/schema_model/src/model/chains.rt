@@ -1,7 +1,8 @@
+//! Chains of references from type to type: cycles, and depth.
 ghost use Rattle.std.specs.Prelude.{◌≡◌, ◌<◌, ◌≤◌, ◌+◌, ℕ, length, map, IfOk};
 ghost use Rattle.std.specs.List.{position};
 ghost use Rattle.schema_model.specs.Checked.{TellsRule, chained, has_chained};
-ghost use Rattle.schema_model.specs.Model.{reference_rows};
+ghost use Rattle.schema_model.specs.Model.{type_graph};
 
 use crate::{MAX_DEPTH, ModelFault, Rule, Schemas};
 use hol_varint::Ordinals;
@@ -11,12 +12,7 @@ use std::alloc::{AllocError, Global};
 fn has_marked(row: &[u32], marks: &[bool]) -> bool
     ensures { result ≡ has_chained marks.now row.now }
 {
-    for t in row {
-        if marks.get(*t as usize).copied().unwrap_or(false) {
-            return true;
-        }
-    }
-    false
+    row.iter().any(|type_index| marks.get(*type_index as usize).copied().unwrap_or(false))
 }
 
 /// The first marked type.
@@ -70,13 +66,13 @@ pub(crate) fn check_cycles(
     schemas: &Schemas,
     rows: &[Ordinals],
 ) -> Result<(), ModelFault>
-    requires rows { rows.now ≡ reference_rows schemas.now }
+    requires rows { rows.now ≡ type_graph schemas.now }
     requires short { length schemas.now ≤ 512 }
     ensures { TellsRule schemas.now Rule.CyclicModel result }
 {
     let marks = endless_marks(alloc, rows)?;
     match first_mark(marks.as_slice()) {
-        Some(t) => Err(ModelFault::Broken(Rule::CyclicModel, t as u32)),
+        Some(type_index) => Err(ModelFault::Broken(Rule::CyclicModel, type_index as u32)),
         None => Ok(()),
     }
 }
@@ -87,13 +83,13 @@ pub(crate) fn check_depth(
     schemas: &Schemas,
     rows: &[Ordinals],
 ) -> Result<(), ModelFault>
-    requires rows { rows.now ≡ reference_rows schemas.now }
+    requires rows { rows.now ≡ type_graph schemas.now }
     requires short { length schemas.now ≤ 512 }
     ensures { TellsRule schemas.now Rule.TooDeep result }
 {
     let marks = marks_after(alloc, rows, MAX_DEPTH)?;
     match first_mark(marks.as_slice()) {
-        Some(t) => Err(ModelFault::Broken(Rule::TooDeep, t as u32)),
+        Some(type_index) => Err(ModelFault::Broken(Rule::TooDeep, type_index as u32)),
         None => Ok(()),
     }
 }

@@ -1,3 +1,4 @@
+//! Why schemas are no model, and why a path is not resolved.
 ghost use Rattle.std.specs.Prelude.{◌≡◌};
 
 use crate::Rule;

@@ -1,9 +1,10 @@
+//! The rule of primary keys: each has a path, and its paths resolve.
 ghost use Rattle.std.specs.Prelude.{◌≡◌, ◌<◌, ◌≤◌, ◌↔◌, length, Any, IfOk, IsTrue};
 ghost use Rattle.schema_model.specs.Checked.{Indexes, TellsRule};
 ghost use Rattle.schema_model.specs.Model.{BreaksAt, IsBadPath, IsKept};
 ghost use Rattle.schema_model.specs.Parts.{type_names};
 
-use crate::model::name_index::Places;
+use crate::model::name_index::NameIndex;
 use crate::model::path_walk::way_of;
 use crate::{ModelFault, Names, PathFault, Rule, Schemas, Shape};
 use std::alloc::{AllocError, Global};
@@ -12,19 +13,19 @@ use std::alloc::{AllocError, Global};
 fn has_bad_path(
     alloc: Global,
     schemas: &Schemas,
-    places: &Places,
-    t: u32,
+    index: &NameIndex,
+    type_index: u32,
     paths: &Names,
 ) -> Result<bool, AllocError>
-    requires inside { t < length schemas.now }
-    requires indexed { Indexes (type_names schemas.now) places.now }
+    requires inside { type_index < length schemas.now }
+    requires indexed { Indexes (type_names schemas.now) index.now }
     requires few { IsKept schemas.now Rule.TooMany }
     requires apart { IsKept schemas.now Rule.DuplicateName }
     requires shallow { IsKept schemas.now Rule.TooDeep }
-    ensures { IfOk result (λ bad. IsTrue bad ↔ Any (IsBadPath schemas.now t) paths.now) }
+    ensures { IfOk result (λ bad. IsTrue bad ↔ Any (IsBadPath schemas.now type_index) paths.now) }
 {
     for path in paths.as_slice() {
-        match way_of(alloc, schemas, places, t, path.text()) {
+        match way_of(alloc, schemas, index, type_index, path.text()) {
             Ok(_) => {}
             Err(PathFault::BadPath) => return Ok(true),
             Err(PathFault::Memory) => return Err(AllocError),
@@ -37,22 +38,22 @@ fn has_bad_path(
 fn has_bad_key(
     alloc: Global,
     schemas: &Schemas,
-    places: &Places,
-    t: u32,
+    index: &NameIndex,
+    type_index: u32,
 ) -> Result<bool, AllocError>
-    requires inside { t < length schemas.now }
-    requires indexed { Indexes (type_names schemas.now) places.now }
+    requires inside { type_index < length schemas.now }
+    requires indexed { Indexes (type_names schemas.now) index.now }
     requires few { IsKept schemas.now Rule.TooMany }
     requires apart { IsKept schemas.now Rule.DuplicateName }
     requires shallow { IsKept schemas.now Rule.TooDeep }
-    ensures { IfOk result (λ bad. IsTrue bad ↔ BreaksAt schemas.now Rule.BadPath t) }
+    ensures { IfOk result (λ bad. IsTrue bad ↔ BreaksAt schemas.now Rule.BadPath type_index) }
 {
-    match &schemas.get(t as usize).shape {
+    match &schemas.get(type_index as usize).shape {
         Shape::Object(Some(paths), _) => {
             if paths.is_empty() {
                 return Ok(true);
             }
-            has_bad_path(alloc, schemas, places, t, paths)
+            has_bad_path(alloc, schemas, index, type_index, paths)
         }
         _ => Ok(false),
     }
@@ -62,18 +63,18 @@ fn has_bad_key(
 pub(crate) fn check_keys(
     alloc: Global,
     schemas: &Schemas,
-    places: &Places,
+    index: &NameIndex,
 ) -> Result<(), ModelFault>
-    requires indexed { Indexes (type_names schemas.now) places.now }
+    requires indexed { Indexes (type_names schemas.now) index.now }
     requires few { IsKept schemas.now Rule.TooMany }
     requires apart { IsKept schemas.now Rule.DuplicateName }
     requires shallow { IsKept schemas.now Rule.TooDeep }
     requires short { length schemas.now ≤ 512 }
     ensures { TellsRule schemas.now Rule.BadPath result }
 {
-    for t in 0..schemas.len() as u32 {
-        if has_bad_key(alloc, schemas, places, t)? {
-            return Err(ModelFault::Broken(Rule::BadPath, t));
+    for type_index in 0..schemas.len() as u32 {
+        if has_bad_key(alloc, schemas, index, type_index)? {
+            return Err(ModelFault::Broken(Rule::BadPath, type_index));
         }
     }
     Ok(())

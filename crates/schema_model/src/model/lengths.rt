@@ -1,3 +1,4 @@
+//! The rule of lengths: each name and key path can be spelled in a blob.
 ghost use Rattle.std.specs.Prelude.{◌≡◌, ◌≤◌, length};
 ghost use Rattle.std.specs.Char.Escape.{encode_utf16};
 ghost use Rattle.hol_varint.specs.JavaUtf.{java_bytes};
@@ -5,7 +6,9 @@ ghost use Rattle.std.specs.List.{flat_map, list_any};
 ghost use Rattle.schema_model.specs.Checked.{TellsRule, is_long_text};
 ghost use Rattle.schema_model.specs.Parts.{field_texts, shape_texts, texts_of};
 
-use crate::{Field, FieldKind, MAX_NAME_BYTES, ModelFault, Names, Rule, Schema, Schemas, Shape};
+use crate::{
+    Field, FieldKind, Fields, MAX_NAME_BYTES, ModelFault, Names, Rule, Schema, Schemas, Shape,
+};
 
 /// How many bytes of Java UTF a character has.
 fn java_size(character: char) -> usize
@@ -35,18 +38,6 @@ fn is_long(text: &str) -> bool
     false
 }
 
-/// Whether one of the key paths is too long.
-fn has_long_path(paths: &Names) -> bool
-    ensures { result ≡ list_any is_long_text paths.now }
-{
-    for path in paths.as_slice() {
-        if is_long(path.text()) {
-            return true;
-        }
-    }
-    false
-}
-
 /// Whether the name of a field, or that of the type that it refers to, is too long.
 fn is_long_field(field: &Field) -> bool
     ensures { result ≡ list_any is_long_text (field_texts field.now) }
@@ -57,27 +48,28 @@ fn is_long_field(field: &Field) -> bool
     }
 }
 
-/// Whether a text of one of the fields is too long.
-fn has_long_field(fields: &[Field]) -> bool
-    ensures { result ≡ list_any is_long_text (flat_map field_texts fields.now) }
+/// Whether one of the key paths is too long.
+fn has_long_path(paths: &Names) -> bool
+    ensures { result ≡ list_any is_long_text paths.now }
 {
-    for field in fields {
-        if is_long_field(field) {
-            return true;
-        }
-    }
-    false
+    paths.as_slice().iter().any(|path| is_long(path.text()))
+}
+
+/// Whether a text of one of the fields is too long.
+fn has_long_field(fields: &Fields) -> bool
+    ensures { result ≡ list_any (λ field. list_any is_long_text (field_texts field)) fields.now }
+{
+    fields.as_slice().iter().any(|field| is_long_field(field))
 }
 
 /// Whether a text of a shape is too long.
+#[tactic(auto, using(crate::proofs::RuleTests::any_pieces, crate::proofs::RuleTests::any_behind))]
 fn has_long_text(shape: &Shape) -> bool
     ensures { result ≡ list_any is_long_text (shape_texts shape.now) }
 {
     match shape {
-        Shape::Object(Some(paths), fields) => {
-            has_long_path(paths) || has_long_field(fields.as_slice())
-        }
-        Shape::Object(None, fields) => has_long_field(fields.as_slice()),
+        Shape::Object(Some(paths), fields) => has_long_path(paths) || has_long_field(fields),
+        Shape::Object(None, fields) => has_long_field(fields),
         Shape::Set(element) => is_long(element.text()),
         Shape::List(element) => is_long(element.text()),
         Shape::Map(key, value) => is_long(key.text()) || is_long(value.text()),
@@ -96,9 +88,9 @@ pub(crate) fn check_lengths(schemas: &Schemas) -> Result<(), ModelFault>
     requires { length schemas.now ≤ 512 }
     ensures { TellsRule schemas.now Rule.LongName result }
 {
-    for t in 0..schemas.len() {
-        if has_long_name(schemas.get(t)) {
-            return Err(ModelFault::Broken(Rule::LongName, t as u32));
+    for type_index in 0..schemas.len() {
+        if has_long_name(schemas.get(type_index)) {
+            return Err(ModelFault::Broken(Rule::LongName, type_index as u32));
         }
     }
     Ok(())

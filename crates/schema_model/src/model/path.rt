@@ -6,7 +6,7 @@ use std::alloc::{AllocError, Global};
 #[derive(Debug, Drop)]
 pub struct Path {
     /// The index of the type at which it begins.
-    pub t: u32,
+    pub type_index: u32,
     /// The indexes of the fields that it goes through, each in the type that the one before leads to.
     pub fields: Ordinals,
 }
@@ -14,7 +14,7 @@ pub struct Path {
 impl Duplicate for Path {
     fn copy(&self, alloc: Global) -> Result<Path, AllocError> {
         Ok(Path {
-            t: self.t,
+            type_index: self.type_index,
             fields: self.fields.copy(alloc)?,
         })
     }

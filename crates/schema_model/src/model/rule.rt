@@ -1,3 +1,4 @@
+//! The rules of a model.
 /// What a list of schemas must keep to be a model, in the order in which the rules are tried.
 #[derive(Clone, Copy, Debug, PartialEq, Eq)]
 pub enum Rule {

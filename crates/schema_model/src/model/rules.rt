@@ -1,31 +1,20 @@
+//! The rules of sizes and of repeated names.
 ghost use Rattle.std.specs.Prelude.{◌≡◌, ◌<◌, ◌≤◌, ◌↔◌, ◌⊎◌, ℕ, List, length, Some, IfOk, OnOk, IsTrue, SomeIndex, slice_get, slice_index_or, []};
 ghost use Rattle.schema_model.specs.Checked.{Indexes, TellsRule};
-ghost use Rattle.schema_model.specs.Model.{BreaksAt, IsKept, StandsEarlier, reference_rows};
+ghost use Rattle.schema_model.specs.Model.{BreaksAt, IsKept, StandsEarlier, type_graph};
 ghost use Rattle.schema_model.specs.Parts.{fields_of, type_names};
 
-use crate::model::name_index::{Places, has_repeated_field, place_of};
-use crate::{Field, MAX_FIELDS, MAX_TYPES, ModelFault, Rule, Schema, Schemas, Shape};
+use crate::model::name_index::{NameIndex, find_name, has_repeated_field};
+use crate::{MAX_FIELDS, MAX_TYPES, ModelFault, Rule, Schemas};
 use std::alloc::{AllocError, Global};
 
-/// The fields of an OBJECT; the other shapes have none.
-pub(crate) fn fields_of(schema: &Schema) -> &[Field]
-    ensures { result.now ≡ fields_of schema.now }
-{
-    match &schema.shape {
-        Shape::Object(_, fields) => fields.as_slice(),
-        Shape::Set(_) => &[],
-        Shape::List(_) => &[],
-        Shape::Map(_, _) => &[],
-    }
-}
-
 /// Whether a type is past the greatest number of types, or has too many fields.
-fn is_too_many(schemas: &Schemas, t: usize) -> bool
-    requires { t < length schemas.now }
-    ensures { IsTrue result ↔ BreaksAt schemas.now Rule.TooMany t }
+fn is_too_many(schemas: &Schemas, type_index: usize) -> bool
+    requires { type_index < length schemas.now }
+    ensures { IsTrue result ↔ BreaksAt schemas.now Rule.TooMany type_index }
 {
-    let fields = fields_of(schemas.get(t));
-    t >= MAX_TYPES as usize || fields.len() > usize::from(MAX_FIELDS)
+    let fields = schemas.get(type_index).shape.fields();
+    type_index >= MAX_TYPES as usize || fields.len() > usize::from(MAX_FIELDS)
 }
 
 /// Tries the numbers of types and of fields.
@@ -33,20 +22,20 @@ pub(crate) fn check_sizes(schemas: &Schemas) -> Result<(), ModelFault>
     ensures tells { TellsRule schemas.now Rule.TooMany result }
     ensures few { OnOk result (length schemas.now ≤ 512) }
 {
-    for t in 0..schemas.len() {
-        if is_too_many(schemas, t) {
-            return Err(ModelFault::Broken(Rule::TooMany, t as u32));
+    for type_index in 0..schemas.len() {
+        if is_too_many(schemas, type_index) {
+            return Err(ModelFault::Broken(Rule::TooMany, type_index as u32));
         }
     }
     Ok(())
 }
 
 /// Whether the name at an index stands earlier in an indexed list.
-fn stands_earlier(places: &Places, name: &str, t: usize) -> bool
-    ensures { (names : List (List ℕ)) → Indexes names places.now → t < length names → slice_index_or names t [] ≡ name.now → (IsTrue result ↔ StandsEarlier names t) }
+fn stands_earlier(index: &NameIndex, name: &str, type_index: usize) -> bool
+    ensures { (names : List (List ℕ)) → Indexes names index.now → type_index < length names → slice_index_or names type_index [] ≡ name.now → (IsTrue result ↔ StandsEarlier names type_index) }
 {
-    match place_of(places, name) {
-        Some(first) => (first as usize) < t,
+    match find_name(index, name) {
+        Some(first) => (first as usize) < type_index,
         None => false,
     }
 }
@@ -55,35 +44,35 @@ fn stands_earlier(places: &Places, name: &str, t: usize) -> bool
 fn has_repeated_name(
     alloc: Global,
     schemas: &Schemas,
-    places: &Places,
-    t: usize,
+    index: &NameIndex,
+    type_index: usize,
 ) -> Result<bool, AllocError>
-    requires inside { t < length schemas.now }
-    requires indexed { Indexes (type_names schemas.now) places.now }
+    requires inside { type_index < length schemas.now }
+    requires indexed { Indexes (type_names schemas.now) index.now }
     requires few { IsKept schemas.now Rule.TooMany }
-    ensures { IfOk result (λ repeated. IsTrue repeated ↔ BreaksAt schemas.now Rule.DuplicateName t) }
+    ensures { IfOk result (λ repeated. IsTrue repeated ↔ BreaksAt schemas.now Rule.DuplicateName type_index) }
 {
-    let schema = schemas.get(t);
-    if stands_earlier(places, schema.name.text(), t) {
+    let schema = schemas.get(type_index);
+    if stands_earlier(index, schema.name.text(), type_index) {
         return Ok(true);
     }
-    has_repeated_field(alloc, fields_of(schema))
+    has_repeated_field(alloc, schema.shape.fields())
 }
 
 /// Tries the names of types and of fields, which stand once.
 pub(crate) fn check_names(
     alloc: Global,
     schemas: &Schemas,
-    places: &Places,
+    index: &NameIndex,
 ) -> Result<(), ModelFault>
-    requires indexed { Indexes (type_names schemas.now) places.now }
+    requires indexed { Indexes (type_names schemas.now) index.now }
     requires few { IsKept schemas.now Rule.TooMany }
     requires short { length schemas.now ≤ 512 }
     ensures { TellsRule schemas.now Rule.DuplicateName result }
 {
-    for t in 0..schemas.len() {
-        if has_repeated_name(alloc, schemas, places, t)? {
-            return Err(ModelFault::Broken(Rule::DuplicateName, t as u32));
+    for type_index in 0..schemas.len() {
+        if has_repeated_name(alloc, schemas, index, type_index)? {
+            return Err(ModelFault::Broken(Rule::DuplicateName, type_index as u32));
         }
     }
     Ok(())

@@ -1,4 +1,6 @@
+//! The packed rows of a type, and why a place holds none.
 use crate::{Areas, Reason, Words};
+use std::alloc::{AllocError, AllocFailed};
 
 /// The packed rows of a type: what a section of a blob holds besides its ordinals.
 #[derive(Debug, Drop)]
@@ -18,4 +20,26 @@ pub enum PlaceFault {
     Bad(Reason),
     /// Memory was refused.
     Memory,
+}
+
+impl From<AllocError> for PlaceFault {
+    ghost use Rattle.std.specs.Prelude.{◌≡◌};
+    ghost use Rattle.schema_model.specs.declared.rows.packed.PlaceFault.TheVariants.{Memory};
+
+    ghost from_gives = { λ error fault. fault ≡ Memory };
+
+    fn from(error: AllocError) -> PlaceFault {
+        PlaceFault::Memory
+    }
+}
+
+impl<T: Drop> From<AllocFailed<T>> for PlaceFault {
+    ghost use Rattle.std.specs.Prelude.{◌≡◌};
+    ghost use Rattle.schema_model.specs.declared.rows.packed.PlaceFault.TheVariants.{Memory};
+
+    ghost from_gives = { λ error fault. fault ≡ Memory };
+
+    fn from(error: AllocFailed<T>) -> PlaceFault {
+        PlaceFault::Memory
+    }
 }

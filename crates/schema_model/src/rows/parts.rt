@@ -1,7 +1,8 @@
+//! What a codec reads: the packed words and bytes of a type, wherever they stand.
 ghost use Rattle.std.specs.Prelude.{List, ℕ, ◌≡◌, ◌<◌, length, slice_index};
 ghost use Rattle.schema_model.specs.Areas.{area_of};
 
-use crate::Packed;
+use crate::{Areas, Packed};
 
 /// The packed words and bytes of one type, wherever they stand.
 pub trait Parts {
@@ -32,6 +33,26 @@ pub trait Parts {
         ensures { result ≡ slice_index (area_of (area_bytes self.now) field) at };
 }
 
+/// How many bytes a field's area has; none where the field has no area.
+pub fn area_size(areas: &Areas, field: u32) -> u64
+    ensures { result ≡ length (area_of areas.now field) }
+{
+    let field = field as usize;
+    if field < areas.len() {
+        areas.get(field).len() as u64
+    } else {
+        0
+    }
+}
+
+/// A byte of a field's area.
+pub fn area_byte(areas: &Areas, field: u32, at: u64) -> u8
+    requires { at < length (area_of areas.now field) }
+    ensures { result ≡ slice_index (area_of areas.now field) at }
+{
+    *areas.get(field as usize).get(at as usize)
+}
+
 impl Parts for Packed {
     ghost first_words = { λ packed. packed.first };
 
@@ -48,15 +69,10 @@ impl Parts for Packed {
     }
 
     fn area(&self, field: u32) -> u64 {
-        let field = field as usize;
-        if field < self.areas.len() {
-            self.areas.get(field).len() as u64
-        } else {
-            0
-        }
+        area_size(&self.areas, field)
     }
 
     fn byte(&self, field: u32, at: u64) -> u8 {
-        *self.areas.get(field as usize).get(at as usize)
+        area_byte(&self.areas, field, at)
     }
 }

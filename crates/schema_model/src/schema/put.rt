@@ -1,3 +1,4 @@
+//! Schemas as the bytes of a blob.
 ghost use Rattle.std.specs.Prelude.{◌≡◌, ◌<◌, ◌≤◌, ◌^◌, ◌++◌, length, take, All, flat_map, OnOk, OnErr};
 ghost use Rattle.hol_varint.specs.JavaUtf.{utf_bytes};
 ghost use Rattle.schema_model.specs.Schema.{name_bytes, kind_name, target_bytes, field_bytes, paths_bytes, fields_bytes, kind_number as kind_number_of, shape_bytes, schema_bytes, EachNameOfKind, EachNameOfField, EachNameOfShape, IsShortName, HasFewParts, IsSpellable};

@@ -74,4 +74,4 @@ returns c =
     let passed6 : Passed schemas 6 = passed_more schemas CyclicModel 5 refl passed5 c.in_ok-check_cycles.ensures in
     let passed7 : Passed schemas 7 = passed_more schemas TooDeep 6 refl passed6 c.in_ok-check_depth.ensures in
     let passed8 : Passed schemas 8 = passed_more schemas BadPath 7 refl passed7 c.in_ok-check_keys.ensures in
-    (all_passed schemas passed8, c.in_ok-places.ensures)
+    (all_passed schemas passed8, c.in_ok-index.ensures)

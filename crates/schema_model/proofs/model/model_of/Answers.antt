@@ -2,13 +2,13 @@ use Rattle.std.proofs.Common.{refl, Ok}
 use Rattle.schema_model.proofs.FirstBroken.{made, named, model_exit}
 use Rattle.schema_model.proofs.model.model_of.Goals as goal
 
-pub returns-in_err-places-clause-made : goal.returns-in_err-places-clause-made
-returns-in_err-places-clause-made c =
-    made c.args.schemas c.from_residual.result (model_exit c.args.schemas c.from_residual.result c.in_err-places.field-0.0 c.from_residual.ensures.1 c.in_err-places.ensures)
+pub returns-in_err-index-clause-made : goal.returns-in_err-index-clause-made
+returns-in_err-index-clause-made c =
+    made c.args.schemas c.from_residual.result (model_exit c.args.schemas c.from_residual.result c.in_err-index.field-0.0 c.from_residual.ensures.1 c.in_err-index.ensures)
 
-pub returns-in_err-places-clause-broken : goal.returns-in_err-places-clause-broken
-returns-in_err-places-clause-broken c = λ rule t.
-    named c.args.schemas rule t c.from_residual.result (model_exit c.args.schemas c.from_residual.result c.in_err-places.field-0.0 c.from_residual.ensures.1 c.in_err-places.ensures)
+pub returns-in_err-index-clause-broken : goal.returns-in_err-index-clause-broken
+returns-in_err-index-clause-broken c = λ rule t.
+    named c.args.schemas rule t c.from_residual.result (model_exit c.args.schemas c.from_residual.result c.in_err-index.field-0.0 c.from_residual.ensures.1 c.in_err-index.ensures)
 
 pub returns-clause-broken : goal.returns-clause-broken
-returns-clause-broken c = λ rule t. named c.args.schemas rule t (Ok c.args.schemas) (refl, c.in_ok-places.ensures.0)
+returns-clause-broken c = λ rule t. named c.args.schemas rule t (Ok c.args.schemas) (refl, c.in_ok-index.ensures.0)

@@ -21,22 +21,22 @@ returns-in_err-fields c =
     let schemas = c.args.model.now in
     let apart = subst IsModel c.model.view_is c.model.invariant.0 DuplicateName in
     let r = c.from_residual.result in
-    let tells = subst (λ (ss : List Schema). TellsPath ss c.args.t c.args.text.now r) c.model.view_is
-    (path_exit c.model.inside.schemas c.args.t c.args.text.now r c.in_err-fields.field-0.0 c.from_residual.ensures.1 c.in_err-fields.ensures) in
+    let tells = subst (λ (ss : List Schema). TellsPath ss c.args.type_index c.args.text.now r) c.model.view_is
+    (path_exit c.model.inside.schemas c.args.type_index c.args.text.now r c.in_err-fields.field-0.0 c.from_residual.ensures.1 c.in_err-fields.ensures) in
     record {
       tells = tells;
-      found = λ path. path_found schemas apart c.args.t c.args.text.now path r tells;
-      unresolved = path_missing schemas c.args.t c.args.text.now r tells;
+      found = λ path. path_found schemas apart c.args.type_index c.args.text.now path r tells;
+      unresolved = path_missing schemas c.args.type_index c.args.text.now r tells;
     }
 
 pub returns : goal.returns
 returns c =
     let schemas = c.args.model.now in
     let apart = subst IsModel c.model.view_is c.model.invariant.0 DuplicateName in
-    let leads = subst (λ (ss : List Schema). Leads ss c.args.t (path_names c.args.text.now) c.in_ok-fields.fields) c.model.view_is c.in_ok-fields.ensures in
-    let r = Ok (record { t = c.args.t; fields = c.in_ok-fields.fields }) in
+    let leads = subst (λ (ss : List Schema). Leads ss c.args.type_index (path_names c.args.text.now) c.in_ok-fields.fields) c.model.view_is c.in_ok-fields.ensures in
+    let r = Ok (record { type_index = c.args.type_index; fields = c.in_ok-fields.fields }) in
     record {
       tells = (refl, leads);
-      found = λ path. path_found schemas apart c.args.t c.args.text.now path r (refl, leads);
-      unresolved = path_missing schemas c.args.t c.args.text.now r (refl, leads);
+      found = λ path. path_found schemas apart c.args.type_index c.args.text.now path r (refl, leads);
+      unresolved = path_missing schemas c.args.type_index c.args.text.now r (refl, leads);
     }

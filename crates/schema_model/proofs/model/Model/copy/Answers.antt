@@ -10,4 +10,4 @@ index_types-requires c =
     subst (λ (schemas : List Schema). length schemas ≤ 512) (sym c.in_ok-schemas.ensures) (few_schemas c.self.inside.schemas (c.self.invariant.0 TooMany))
 
 pub invariant_of-result : goal.invariant_of-result
-invariant_of-result c = (subst IsModel (sym c.in_ok-schemas.ensures) c.self.invariant.0, c.in_ok-places.ensures)
+invariant_of-result c = (subst IsModel (sym c.in_ok-schemas.ensures) c.self.invariant.0, c.in_ok-index.ensures)

@@ -4,5 +4,5 @@ use Rattle.schema_model.specs.declared.model.rule.Rule.TheVariants.{BadPath}
 use Rattle.schema_model.proofs.model.keys.check_keys.Given as goal
 
 -- none of the first types breaks the rule
-abbrev pub invariant-loop-t : goal.invariant-loop-t
-invariant-loop-t l = (u : ℕ) → u < l.t → ¬ BreaksAt l.schemas BadPath u
+abbrev pub invariant-loop-type_index : goal.invariant-loop-type_index
+invariant-loop-type_index l = (u : ℕ) → u < l.type_index → ¬ BreaksAt l.schemas BadPath u

@@ -7,5 +7,5 @@ pub returns : goal.returns
 returns c =
     let all : length c.args.paths.now ≤ c.loop-path.path-index = subst (λ xs. length xs ≤ c.loop-path.path-index) c.as_slice-path-items.ensures c.loop-path-test.false in (
       λ e. absurd (let bad : false ≡ true = e in cc),
-      λ some. absurd (none_any (IsBadPath c.args.schemas.now c.args.t) c.args.paths.now c.loop-path.path-index all c.loop-path.invariant some),
+      λ some. absurd (none_any (IsBadPath c.args.schemas.now c.args.type_index) c.args.paths.now c.loop-path.path-index all c.loop-path.invariant some),
     )

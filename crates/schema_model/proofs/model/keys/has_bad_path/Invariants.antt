@@ -4,4 +4,4 @@ use Rattle.schema_model.proofs.model.keys.has_bad_path.Given as goal
 
 -- none of the first paths leads nowhere
 abbrev pub invariant-loop-path : goal.invariant-loop-path
-invariant-loop-path l = (k : ℕ) → k < l.path-index → ¬ IsBadPath l.schemas l.t (get_or l.paths k [])
+invariant-loop-path l = (k : ℕ) → k < l.path-index → ¬ IsBadPath l.schemas l.type_index (get_or l.paths k [])

@@ -6,4 +6,4 @@ use Rattle.schema_model.proofs.model.name_index.has_repeated_field.Given as goal
 
 -- the first names are indexed, and none of them stands earlier
 abbrev pub invariant-loop-i : goal.invariant-loop-i
-invariant-loop-i l = Indexes (take l.i (field_names l.fields)) l.places × ((k : ℕ) → k < l.i → ¬ StandsEarlier (field_names l.fields) k)
+invariant-loop-i l = Indexes (take l.i (field_names l.fields)) l.index × ((k : ℕ) → k < l.i → ¬ StandsEarlier (field_names l.fields) k)

@@ -9,4 +9,4 @@ use Rattle.schema_model.proofs.model.references.add_references.Given as goal
 abbrev pub invariant-loop-field : goal.invariant-loop-field
 invariant-loop-field l =
     let names = referenced_names (take l.field-index l.fields) in
-    (are_known (get_by_text l.places) names ≡ true) × (l.row ≡ l.fn.row ++ filter_map (get_by_text l.places) names)
+    (are_known (get_by_text l.index) names ≡ true) × (l.row ≡ l.fn.row ++ filter_map (get_by_text l.index) names)

@@ -10,18 +10,18 @@ use Rattle.schema_model.proofs.model.rules.has_repeated_name.Goals as goal
 
 pub has_repeated_field-requires : goal.has_repeated_field-requires
 has_repeated_field-requires c =
-    subst (λ (fields : List Field). length fields ≤ 1024) (sym c.fields_of.ensures)
-    (few_fields c.args.schemas.now c.args.t c.get-schema.result.now c.get-schema.ensures c.requires.few)
+    subst (λ (fields : List Field). length fields ≤ 1024) (sym c.fields.ensures)
+    (few_fields c.args.schemas.now c.args.type_index c.get-schema.result.now c.get-schema.ensures c.requires.few)
 
 pub returns : goal.returns
 returns c =
     let schemas = c.args.schemas.now in
     let schema = c.get-schema.result.now in
-    let name : get_or (type_names schemas) c.args.t [] ≡ c.text.result.now =
-    item_name (λ s. s.name) schemas c.args.t schema c.get-schema.ensures ∙ sym c.text.ensures in
-    let inside : c.args.t < length (type_names schemas) = rw (length-map schemas (λ s. s.name)) c.requires.inside in
-    let first : StandsEarlier (type_names schemas) c.args.t → ⊥ =
+    let name : get_or (type_names schemas) c.args.type_index [] ≡ c.text.result.now =
+    item_name (λ s. s.name) schemas c.args.type_index schema c.get-schema.ensures ∙ sym c.text.ensures in
+    let inside : c.args.type_index < length (type_names schemas) = rw (length-map schemas (λ s. s.name)) c.requires.inside in
+    let first : StandsEarlier (type_names schemas) c.args.type_index → ⊥ =
     told_no _ (c.stands_earlier.ensures (type_names schemas) c.requires.indexed inside name) c.if-stands_earlier.false in
     IfOk-weaker c.has_repeated_field.result _ _
-    (λ b tells. repeated_name schemas c.args.t schema c.get-schema.ensures first c.fields_of.result.now c.fields_of.ensures b tells)
+    (λ b tells. repeated_name schemas c.args.type_index schema c.get-schema.ensures first c.fields.result.now c.fields.ensures b tells)
     c.has_repeated_field.ensures

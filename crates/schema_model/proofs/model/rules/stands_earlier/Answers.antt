@@ -7,17 +7,17 @@ use Rattle.schema_model.proofs.model.rules.stands_earlier.Goals as goal
 pub returns-in-Some : goal.returns-in-Some
 returns-in-Some c = λ names indexed inside same.
     let first = c.in-Some.first in
-    let found : name_index names (get_or names c.args.t []) ≡ Some first =
-    ap (name_index names) same ∙ sym (indexed c.args.name.now) ∙ sym c.place_of.ensures ∙ c.in-Some.is in (
-      λ less. found_earlier names c.args.t first inside found (ltb-true first c.args.t less),
-      λ stands. elim (cases_lt first c.args.t) [
-        | inl less ↦ lt-ltb first c.args.t less
-        | inr late ↦ absurd (stands_first names c.args.t first found late stands)
+    let found : name_index names (get_or names c.args.type_index []) ≡ Some first =
+    ap (name_index names) same ∙ sym (indexed c.args.name.now) ∙ sym c.find_name.ensures ∙ c.in-Some.is in (
+      λ less. found_earlier names c.args.type_index first inside found (ltb-true first c.args.type_index less),
+      λ stands. elim (cases_lt first c.args.type_index) [
+        | inl less ↦ lt-ltb first c.args.type_index less
+        | inr late ↦ absurd (stands_first names c.args.type_index first found late stands)
       ],
     )
 
 pub returns-in-None : goal.returns-in-None
 returns-in-None c = λ names indexed inside same.
-    let missing : name_index names (get_or names c.args.t []) ≡ None =
-    ap (name_index names) same ∙ sym (indexed c.args.name.now) ∙ sym c.place_of.ensures ∙ c.in-None.is in
-    absurd (name_missing names (get_or names c.args.t []) missing c.args.t inside refl)
+    let missing : name_index names (get_or names c.args.type_index []) ≡ None =
+    ap (name_index names) same ∙ sym (indexed c.args.name.now) ∙ sym c.find_name.ensures ∙ c.in-None.is in
+    absurd (name_missing names (get_or names c.args.type_index []) missing c.args.type_index inside refl)

@@ -1,0 +1,155 @@
+//! Closedness: each ordinal that a row names is live.
+ghost use Rattle.std.specs.Prelude.{◌≡◌, ◌<◌, ◌↔◌, ◌∷◌, [], List, ℕ, All, IfOk, IsSomeAnd, IsTrue, length, map, flat_map, slice_get, zip};
+ghost use Rattle.schema_model.specs.Row.{references_of_value};
+ghost use Rattle.schema_model.specs.Table.{IsLiveByName};
+ghost use Rattle.schema_model.specs.Dangling.{AreLive, IsClosedAt, NamesLive, TellsDangling, TellsType};
+
+use crate::{Field, FieldKind, Name, Row, Rows, Shape, Value};
+use std::alloc::{AllocError, Global};
+
+/// A row that names an ordinal that is not live.
+#[derive(Clone, Copy, Debug, PartialEq, Eq)]
+pub struct Dangling {
+    /// The type of the row.
+    pub type_index: u32,
+    /// The ordinal of the row.
+    pub ordinal: u32,
+}
+
+/// The first row that names an ordinal that is not live, in the order of the types and then of the ordinals; `None`
+/// exactly where the rows are closed.
+pub fn first_dangling<R: Rows>(alloc: Global, rows: &R) -> Result<Option<Dangling>, AllocError>
+    ensures { IfOk result (TellsDangling (R.schemas rows.now) (R.table rows.now)) }
+{
+    for type_index in 0..rows.model().len() {
+        if let Some(ordinal) = dangling_in(alloc, rows, type_index)? {
+            return Ok(Some(Dangling {
+                type_index,
+                ordinal,
+            }));
+        }
+    }
+    Ok(None)
+}
+
+// The least ordinal of a type whose row names one that is not live.
+fn dangling_in<R: Rows>(alloc: Global, rows: &R, type_index: u32) -> Result<Option<u32>, AllocError>
+    requires { type_index < length (R.schemas rows.now) }
+    ensures { IfOk result (TellsType (R.schemas rows.now) (R.table rows.now) type_index) }
+{
+    let schema = rows.model().schema(type_index);
+    for ordinal in 0..rows.bound(type_index) {
+        if !is_closed_at(alloc, rows, &schema.shape, type_index, ordinal)? {
+            return Ok(Some(ordinal));
+        }
+    }
+    Ok(None)
+}
+
+// Whether the row under an ordinal of a type of this shape names live ordinals alone, if there is such a row.
+fn is_closed_at<R: Rows>(
+    alloc: Global,
+    rows: &R,
+    shape: &Shape,
+    type_index: u32,
+    ordinal: u32,
+) -> Result<bool, AllocError>
+    requires { IsSomeAnd (slice_get (R.schemas rows.now) type_index) (λ schema. schema.shape ≡ shape.now) }
+    ensures { IfOk result (λ closed. IsTrue closed ↔ IsClosedAt (R.schemas rows.now) (R.table rows.now) type_index ordinal) }
+{
+    if !rows.is_live(type_index, ordinal) {
+        return Ok(true);
+    }
+    let row = rows.row(alloc, type_index, ordinal)?;
+    Ok(names_live(rows, shape, &row))
+}
+
+// Whether each ordinal that a row of a type of this shape names is live.
+fn names_live<R: Rows>(rows: &R, shape: &Shape, row: &Row) -> bool
+    ensures { IsTrue result ↔ NamesLive (R.schemas rows.now) (R.table rows.now) shape.now row.now }
+{
+    match (shape, row) {
+        (Shape::Object(_, fields), Row::Object(values)) => {
+            values_live(rows, fields.as_slice(), values.as_slice())
+        }
+        (Shape::List(element), Row::List(ordinals)) => {
+            ordinals_live(rows, element, ordinals.as_slice())
+        }
+        (Shape::Set(element), Row::Set(ordinals)) => {
+            ordinals_live(rows, element, ordinals.as_slice())
+        }
+        (Shape::Map(key, value), Row::Map(pairs)) => {
+            pairs_live(rows, key, value, pairs.as_slice())
+        }
+        _ => true,
+    }
+}
+
+// Whether the type of this name has a row under the ordinal.
+fn is_named_live<R: Rows>(rows: &R, name: &Name, ordinal: u32) -> bool
+    ensures { IsTrue result ↔ IsLiveByName (R.schemas rows.now) (R.table rows.now) name.now ordinal }
+{
+    match rows.model().index_of(name.text()) {
+        Some(type_index) => rows.is_live(type_index, ordinal),
+        None => false,
+    }
+}
+
+// Whether the row that a value of a field names is live, if it names one.
+fn value_live<R: Rows>(rows: &R, kind: &FieldKind, value: &Value) -> bool
+    ensures { IsTrue result ↔ AreLive (R.schemas rows.now) (R.table rows.now) (references_of_value kind.now value.now) }
+{
+    match (kind, value) {
+        (FieldKind::Reference(name), Value::Ref(ordinal)) => is_named_live(rows, name, *ordinal),
+        _ => true,
+    }
+}
+
+// The same of each field that has a value.
+fn values_live<R: Rows>(rows: &R, fields: &[Field], values: &[Value]) -> bool
+    ensures { IsTrue result ↔ AreLive (R.schemas rows.now) (R.table rows.now)
+        (flat_map (λ part. references_of_value part.0.kind part.1) (zip fields.now values.now)) }
+{
+    for (place, field) in fields.iter().enumerate() {
+        if place >= values.len() {
+            return true;
+        }
+        if !value_live(rows, &field.kind, &values[place]) {
+            return false;
+        }
+    }
+    true
+}
+
+// Whether the type of this name has a row under each ordinal.
+fn ordinals_live<R: Rows>(rows: &R, name: &Name, ordinals: &[u32]) -> bool
+    ensures { IsTrue result ↔ AreLive (R.schemas rows.now) (R.table rows.now)
+        (map (λ ordinal. (name.now, ordinal)) ordinals.now) }
+{
+    for ordinal in ordinals {
+        if !is_named_live(rows, name, *ordinal) {
+            return false;
+        }
+    }
+    true
+}
+
+// Whether the types of these names have a row under each key and under each value.
+fn pairs_live<R: Rows>(rows: &R, key: &Name, value: &Name, pairs: &[(u32, u32)]) -> bool
+    ensures { IsTrue result ↔ AreLive (R.schemas rows.now) (R.table rows.now)
+        (flat_map (λ pair. (key.now, pair.0) ∷ (value.now, pair.1) ∷ []) pairs.now) }
+{
+    for pair in pairs {
+        if !pair_live(rows, key, value, *pair) {
+            return false;
+        }
+    }
+    true
+}
+
+// Whether the types of these names have a row under the key and under the value.
+fn pair_live<R: Rows>(rows: &R, key: &Name, value: &Name, pair: (u32, u32)) -> bool
+    ensures { IsTrue result ↔ AreLive (R.schemas rows.now) (R.table rows.now) ((key.now, pair.0) ∷ (value.now, pair.1) ∷ []) }
+{
+    is_named_live(rows, key, pair.0) && is_named_live(rows, value, pair.1)
+}
