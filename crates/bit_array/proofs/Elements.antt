@@ -18,7 +18,7 @@ pub element_of_no_width : (words : List ℕ) (at : ℕ) → element_of words at 
 element_of_no_width words at = omega (arith, element_of-lt words at 0)
 
 -- the binary digits from s up to s + w are those of the number's lowest m digits
-field_within : (n m s w : ℕ) → s + w ≤ m → n / 2 ^ s % 2 ^ w ≡ n % 2 ^ m / 2 ^ s % 2 ^ w
+pub field_within : (n m s w : ℕ) → s + w ≤ m → n / 2 ^ s % 2 ^ w ≡ n % 2 ^ m / 2 ^ s % 2 ^ w
 field_within n m s w h =
     let e : m ≡ (m - (w + s)) + (w + s) = omega arith in
     let low : n % 2 ^ m % 2 ^ (w + s) ≡ n % 2 ^ (w + s) =
@@ -116,7 +116,7 @@ element_of_across_words words at width fits inside wh =
     ∙ ap (λ k. bit_or (low / 2 ^ (at % 64)) (get_or words k 0 * 2 ^ (64 - at % 64) % 2 ^ 64) % 2 ^ width) (sym (add-one (at / 64)))
 
 -- 2 to the power of the bits of one word more
-power_of_words : (count : ℕ) → 2 ^ (64 * suc count) ≡ 2 ^ (64 * count) * 2 ^ 64
+pub power_of_words : (count : ℕ) → 2 ^ (64 * suc count) ≡ 2 ^ (64 * count) * 2 ^ 64
 power_of_words count =
     let more : 64 * suc count ≡ 64 * count + 64 = omega arith in
     ap (λ k. 2 ^ k) more ∙ pow-add 2 (64 * count) 64

@@ -1,3 +1,4 @@
 pub mod Elements
 pub mod DigitCounts
 pub mod Totals
+pub mod Blocks

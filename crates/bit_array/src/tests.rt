@@ -35,3 +35,14 @@ fn sizes_in_bits_and_words(rt: HostRuntime) {
         assert_eq!(rt; words_for(bits), want, "at {bits}");
     }
 }
+
+#[test]
+fn elements_written(rt: HostRuntime) {
+    let mut words = [u64::MAX, 0];
+    set_element(&mut words, 60, 8, 0xA5);
+    set_element(&mut words, 4, 0, 0);
+    set_element(&mut words, 0, 4, 0);
+    assert_eq!(rt; words, [0x5FFF_FFFF_FFFF_FFF0, 0xA]);
+    set_element(&mut words, 64, 64, 7);
+    assert_eq!(rt; words, [0x5FFF_FFFF_FFFF_FFF0, 7]);
+}
