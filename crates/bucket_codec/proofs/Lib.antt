@@ -1,1 +1,10 @@
 mod BucketCounts
+mod Places
+mod Members
+mod Buckets
+mod Sorted
+mod Streaks
+mod Found
+mod TakenPairs
+mod Spelled
+mod PlaceRows

@@ -1,2 +1,6 @@
 pub mod Hash
 pub mod BucketCount
+pub mod Run
+pub mod BucketPlace
+pub mod Streak
+pub mod Taken

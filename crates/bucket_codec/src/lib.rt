@@ -2,8 +2,18 @@
 #![tactic(auto)]
 
 mod hash;
+pub mod laws;
+mod lookup;
+mod pairs;
+mod place;
+mod reached;
+mod row;
+mod run;
+mod taken;
 
 pub use hash::{buckets_for, hash_int};
+pub use lookup::{at, has};
+pub use row::read;
 
 #[cfg(test)]
 mod tests;
