@@ -30,11 +30,11 @@ key_within words k v both start size place h below is =
     let same : (start + place) * both ≡ (start + place) * (k + v) = ap (λ w. (start + place) * w) is in
     omega (arith, whole, same)
 
-if_true : {A : Type 0} (b : Bool) (x y : A) → b ≡ true → cond b x y ≡ x
+pub if_true : {A : Type 0} (b : Bool) (x y : A) → b ≡ true → cond b x y ≡ x
 if_true true x y e = refl
 if_true false x y e = absurd cc
 
-if_false : {A : Type 0} (b : Bool) (x y : A) → b ≡ false → cond b x y ≡ y
+pub if_false : {A : Type 0} (b : Bool) (x y : A) → b ≡ false → cond b x y ≡ y
 if_false true x y e = absurd cc
 if_false false x y e = refl
 

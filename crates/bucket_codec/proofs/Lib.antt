@@ -7,4 +7,7 @@ mod Streaks
 mod Found
 mod TakenPairs
 mod Spelled
+mod Filling
+mod Writing
+mod Fills
 mod PlaceRows

@@ -34,7 +34,7 @@ steps_once n home a b h p q same =
     (round_cases n home a h p)
 
 -- the steps that the code computes
-steps_are : (n home place found : ℕ) → home < n → place < n → (home ≤ place → found ≡ place - home) → (place < home → found ≡ place + (n - home))
+pub steps_are : (n home place found : ℕ) → home < n → place < n → (home ≤ place → found ≡ place - home) → (place < home → found ≡ place + (n - home))
     → ((home + found) % n ≡ place) × (found < n)
 steps_are n home place found a b ahead behind =
     ⊎_elim

@@ -1,5 +1,6 @@
 -- How many buckets a set or map has that is written.
-use Rattle.std.specs.Prelude.{◌≡◌, ℕ, zero, suc, ◌*◌, ◌/◌, ◌^◌, ◌≤◌}
+use Rattle.std.specs.Prelude.{◌≡◌, ℕ, zero, suc, ◌-◌, ◌*◌, ◌/◌, ◌^◌, ◌≤◌}
+use Rattle.bit_array.specs.Digits.{digit_count}
 
 -- The least power of two that is at least a number.
 pub record IsLeastPower (least count : ℕ) : Type 0 where
@@ -13,3 +14,10 @@ IsBucketCount zero count = count ≡ 1
 IsBucketCount (suc zero) count = count ≡ 2
 IsBucketCount (suc (suc zero)) count = count ≡ 4
 IsBucketCount elements count = IsLeastPower (10 * elements / 7) count
+
+-- That number, by the binary digits of one less than ten sevenths.
+unfoldable pub bucket_count : ℕ → ℕ
+bucket_count zero = 1
+bucket_count (suc zero) = 2
+bucket_count (suc (suc zero)) = 4
+bucket_count elements = 2 ^ digit_count (10 * elements / 7 - 1)

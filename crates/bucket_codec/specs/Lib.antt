@@ -4,3 +4,5 @@ pub mod Run
 pub mod BucketPlace
 pub mod Streak
 pub mod Taken
+pub mod Filled
+pub mod Packed

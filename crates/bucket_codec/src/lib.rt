@@ -1,6 +1,7 @@
 //! The rows of SET and MAP types as packed bits, and back: hash buckets, in which sets and maps are looked up without being unpacked.
 #![tactic(auto)]
 
+mod fill;
 mod hash;
 pub mod laws;
 mod lookup;

@@ -1,10 +1,11 @@
 //! The pointer and the size of a place, and the run that they bound.
 ghost use Rattle.std.specs.Prelude.{◌≡◌, ◌*◌, ◌^◌, ◌<◌, ◌≤◌, length, MatchOption};
 ghost use Rattle.bucket_codec.specs.Run.{run_in, HoldsRun};
-ghost use Rattle.bucket_codec.specs.BucketPlace.{place_width, value_width, start_at, end_at, size_at, run_at, IsSpan, HoldsPointers};
+ghost use Rattle.bucket_codec.specs.Filled.{KeepsFront};
+ghost use Rattle.bucket_codec.specs.BucketPlace.{pointer_width, size_width, place_width, value_width, start_at, end_at, size_at, run_at, IsSpan, HoldsPointers};
 
 use crate::run::Run;
-use bit_array::element;
+use bit_array::{element, set_element};
 
 /// The run of a place; none where the pointers bound no run of the buckets that there are.
 pub fn bounded_run(
@@ -87,4 +88,19 @@ pub fn size(widths: &[u32], first: &[u64], place: u64) -> u64
         place * place_bits(widths) + u64::from(widths[0]),
         widths[1],
     )
+}
+
+/// Writes the pointer and the size of a place.
+pub fn put_pointers(widths: &[u32], first: &mut [u64], place: u64, end: u64, size: u64)
+    requires three { 3 ≤ length widths.now }
+    requires holds { HoldsPointers widths.now first.old place }
+    requires end { end < 2 ^ pointer_width widths.now }
+    requires size { size < 2 ^ size_width widths.now }
+    ensures end { end_at widths.now first.new place ≡ end }
+    ensures size { size_at widths.now first.new place ≡ size }
+    ensures front { KeepsFront first.old first.new (place * place_width widths.now) }
+{
+    let at = place * place_bits(widths);
+    set_element(first, at, widths[0], end);
+    set_element(first, at + u64::from(widths[0]), widths[1], size);
 }
