@@ -10,4 +10,6 @@ mod Spelled
 mod Filling
 mod Writing
 mod Fills
+mod Rows
+mod Placed
 mod PlaceRows

@@ -1,10 +1,11 @@
 -- SET and MAP rows of a blob, written: how many buckets they take, and which words spell them.
 use Rattle.std.specs.Prelude.{◌≡◌, ℕ, ◌+◌, ◌-◌, ◌*◌, ◌^◌, ◌<◌, ◌≤◌, List, [], length, map, All, Option, None, Some, slice_get}
 use Rattle.std.specs.List.{sum_by}
-use Rattle.schema_model.specs.Row.{FitsShape}
+use Rattle.schema_model.specs.Row.{FitsShape, Rises}
 use Rattle.schema_model.specs.declared.schema.Shape.{Shape}
 use Rattle.schema_model.specs.declared.rows.row.Row.{Row}
 use Rattle.bucket_codec.specs.BucketCount.{bucket_count}
+use Rattle.bucket_codec.specs.Run.{keys_of}
 use Rattle.bucket_codec.specs.BucketPlace.{pointer_width, size_width, key_width, value_width, place_width, bucket_width, start_at, end_at, size_at, IsWidthCount, SpellsBucketRow, SpellsPairs}
 
 -- An element of a set as a pair.
@@ -69,3 +70,13 @@ abbrev pub PacksPairs : List ℕ → ℕ → List ℕ → List ℕ → ℕ → O
 PacksPairs widths total first second place None = (end_at widths first place ≡ start_at widths first place) × (size_at widths first place ≡ 0)
 PacksPairs widths total first second place (Some row) =
     (end_at widths first place ≡ start_at widths first place + bucket_count (length (pairs_of row))) × SpellsPairs widths total first second place (pairs_of row)
+
+-- The row of a place, if it has one, has fewer than 2^32 elements or pairs.
+abbrev pub IsFew : Option Row → Type 0
+IsFew None = Unit {0}
+IsFew (Some row) = length (pairs_of row) < 2 ^ 32
+
+-- It is a set or a map, by rising key, that the widths hold.
+abbrev pub IsWritable : List ℕ → Option Row → Type 0
+IsWritable widths None = Unit {0}
+IsWritable widths (Some row) = IsBuckets row × Rises (keys_of (pairs_of row)) × HoldsRow widths row

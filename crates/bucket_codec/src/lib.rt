@@ -5,6 +5,7 @@ mod fill;
 mod hash;
 pub mod laws;
 mod lookup;
+mod packing;
 mod pairs;
 mod place;
 mod reached;
@@ -14,6 +15,7 @@ mod taken;
 
 pub use hash::{buckets_for, hash_int};
 pub use lookup::{at, has};
+pub use packing::{pack, put_row};
 pub use row::read;
 
 #[cfg(test)]

@@ -42,14 +42,14 @@ pub fn bounded_run(
 }
 
 /// The width of a value: that of a map; a set has none, and values of no bits.
-fn map_value_width(widths: &[u32]) -> u32
+pub fn map_value_width(widths: &[u32]) -> u32
     ensures { result ≡ value_width widths.now }
 {
     if widths.len() > 3 { widths[3] } else { 0 }
 }
 
 /// The width of a place: of a pointer and a size.
-fn place_bits(widths: &[u32]) -> u64
+pub fn place_bits(widths: &[u32]) -> u64
     requires { 2 ≤ length widths.now }
     ensures { result ≡ place_width widths.now }
 {

@@ -2,7 +2,8 @@
 ghost use Rattle.std.specs.Prelude.{◌≤◌};
 
 use super::*;
-use schema_model::{Areas, Name, Packed, PlaceFault, Row, Schema, Shape, Widths, Words};
+use hol_varint::Ordinals;
+use schema_model::{Areas, Name, Packed, PlaceFault, Places, Row, Schema, Shape, Widths, Words};
 use std::alloc::{AllocError, Global};
 use std::test::Fail;
 
@@ -78,4 +79,24 @@ fn look_ups(rt: HostRuntime) {
     let map = [0x43];
     assert_eq!(rt; at(&map, 0, 2, 2, 2, 0), Some(1));
     assert_eq!(rt; at(&map, 0, 2, 2, 2, 1), None);
+}
+
+/// The packed words of the set of 0 and 1 alone.
+fn packed_set(alloc: Global) -> Result<Packed, AllocError> {
+    let schema = Schema {
+        name: Name::from_text(alloc, "S")?,
+        shape: Shape::Set(Name::from_text(alloc, "E")?),
+    };
+    let widths = Widths::from_vec(vec![in alloc; 3, 2, 2]?);
+    let elements = Ordinals::from_vec(vec![in alloc; 0, 1]?);
+    let rows = Places::from_vec(vec![in alloc; Some(Row::Set(elements))]?);
+    pack(alloc, &schema, &widths, &rows)
+}
+
+#[test]
+fn packed_words(rt: HostRuntime) -> Result<(), Fail> {
+    let packed = packed_set(rt.alloc())?;
+    assert_eq!(rt; packed.first.as_slice(), [0x14].as_slice());
+    assert_eq!(rt; packed.second.as_slice(), [0x1F].as_slice());
+    Ok(())
 }
