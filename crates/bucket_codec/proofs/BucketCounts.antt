@@ -1,12 +1,12 @@
 -- Lemmas on the number of buckets: the next power of two is the least one.
-use Rattle.std.proofs.Common.{◌≡◌, ℕ, zero, suc, ◌+◌, ◌-◌, ◌*◌, ◌/◌, ◌%◌, ◌^◌, ◌<◌, ◌≤◌, max, Bool, true, false, eqb, nat_eq, MatchBool, arith, refl, ap, sym, subst, ◌∙◌, ⊎_elim}
+use Rattle.std.proofs.Common.{◌≡◌, ℕ, zero, suc, ◌-◌, ◌*◌, ◌/◌, ◌%◌, ◌^◌, ◌<◌, ◌≤◌, max, true, false, eqb, nat_eq, MatchBool, arith, refl, ap, sym, subst, ◌∙◌, ⊎_elim}
 use Rattle.std.specs.Int.{IsPowerOfTwo}
 use Rattle.std.proofs.lemmas.Bool.Decides.{eqb_tells}
 use Rattle.std.proofs.Math.Nat.{pow-suc, mod-eq_of_lt}
 use Rattle.std.proofs.Math.Pow.{pow_mono}
 use Rattle.std.proofs.lemmas.Bool.{cases_lt}
 use Rattle.std.proofs.lemmas.Nat.{pow_pos}
-use Rattle.bucket_codec.specs.BucketCount.{IsBucketCount, IsLeastPower, bucket_count}
+use Rattle.bucket_codec.specs.BucketCount.{IsBucketCount, bucket_count}
 use Rattle.bit_array.specs.Digits.{digit_count}
 
 -- a power of two whose half is below the number is at most each power that is not

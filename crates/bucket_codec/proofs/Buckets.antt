@@ -1,11 +1,10 @@
 -- Lemmas on the buckets of a run in words.
-use Rattle.std.proofs.Common.{◌≡◌, ℕ, ◌+◌, ◌-◌, ◌*◌, ◌^◌, ◌<◌, ◌≤◌, List, length, map, Bool, true, false, cond, Option, Some, None, arith, refl, sym, ap, ◌∙◌}
-use Rattle.std.specs.List.{range_with_len}
+use Rattle.std.proofs.Common.{◌≡◌, ℕ, ◌+◌, ◌-◌, ◌*◌, ◌^◌, ◌<◌, ◌≤◌, List, length, Bool, true, false, cond, Some, None, arith, refl, sym, ap, ◌∙◌}
 use Rattle.std.proofs.lemmas.List.FromFn.{get_or-map-range_with_len, length-map-range_with_len}
 use Rattle.std.proofs.Math.Nat.{mul-le-mul_right}
 use Rattle.std.proofs.lemmas.Bool.{eq-eqb, ne_eqb}
 use Rattle.bit_array.specs.Element.{element_of}
-use Rattle.bucket_codec.specs.Run.{Bucket, bucket_in, run_in, bucket_at, HoldsRun}
+use Rattle.bucket_codec.specs.Run.{bucket_in, run_in, bucket_at, HoldsRun}
 
 -- a run has so many buckets
 pub length-run_in : (words : List ℕ) (k v start size : ℕ) → length (run_in words k v start size) ≡ size

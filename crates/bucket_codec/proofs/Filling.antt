@@ -1,17 +1,12 @@
 -- Lemmas on runs as they are written: what a bucket that is put changes, and that the pairs put in stay reached.
-use Rattle.std.proofs.Common.{◌≡◌, ◌≢◌, ℕ, zero, suc, ◌+◌, ◌-◌, ◌*◌, ◌%◌, ◌^◌, ◌<◌, ◌≤◌, ◌⊎◌, inl, inr, List, [], ◌∷◌, ◌++◌, length, map, get_or, set, Option, Some, None, IsSome, arith, refl, sym, ap, subst, ⊎_elim, ◌∙◌}
+use Rattle.std.proofs.Common.{◌≡◌, ◌≢◌, ℕ, zero, suc, ◌+◌, ◌<◌, ◌≤◌, ◌⊎◌, List, [], ◌∷◌, ◌++◌, length, map, set, Some, None, IsSome, arith, refl, sym, ap, subst, ⊎_elim, ◌∙◌}
 use Rattle.std.specs.List.{range_with_len}
 use Rattle.std.specs.List.Sorted.{IsPermutation}
-use Rattle.std.proofs.Math.Nat.{mul-le-mul_right, mod-lt}
-use Rattle.std.proofs.lemmas.Bool.{cases_lt, cases_order}
+use Rattle.std.proofs.lemmas.Bool.{cases_order}
 use Rattle.std.proofs.lemmas.List.{get_or-set_same, get_or-set_other, length-set}
-use Rattle.std.proofs.lemmas.List.Sorted.{IsPermutation-refl, IsPermutation-sym, IsPermutation-trans, IsPermutation-cons, IsPermutation-append_right, IsPermutation-to_front, IsPermutation-middle, length_permutation}
-use Rattle.bit_array.specs.Element.{element_of}
-use Rattle.bucket_codec.specs.Hash.{hash_of}
-use Rattle.bucket_codec.specs.Run.{Bucket, bucket_in, bucket_at, run_in, taken_of, place_from, IsReached}
-use Rattle.bucket_codec.specs.Streak.{IsReachedAt}
-use Rattle.bucket_codec.specs.Filled.{KeepsFront, IsFilled, IsFree}
-use Rattle.bucket_codec.proofs.Streaks.{steps_are}
+use Rattle.std.proofs.lemmas.List.Sorted.{IsPermutation-refl, IsPermutation-sym, IsPermutation-trans, IsPermutation-cons, IsPermutation-to_front, IsPermutation-middle}
+use Rattle.bucket_codec.specs.Run.{Bucket, bucket_at, taken_of, place_from, IsReached}
+use Rattle.bucket_codec.specs.Filled.{IsFilled, IsFree}
 
 -- buckets that are the same on a range of indices
 pub same_run : (f g : ℕ → Bucket) (start size : ℕ) → ((index : ℕ) → start ≤ index → index < start + size → g index ≡ f index) → map g (range_with_len start size) ≡ map f (range_with_len start size)

@@ -1,5 +1,5 @@
 -- Lemmas on look-ups in a run: what is found on the way from a key's home up to an empty bucket is what the set or map has.
-use Rattle.std.proofs.Common.{◌≡◌, ℕ, ◌+◌, ◌%◌, ◌^◌, ◌<◌, ◌≤◌, ◌⊎◌, ◌↔◌, List, length, All, Bool, Option, Some, None, IsSome, IsTrue, is_some, arith, refl, sym, ap, subst, ⊎_elim, ◌∙◌}
+use Rattle.std.proofs.Common.{◌≡◌, ℕ, ◌+◌, ◌%◌, ◌^◌, ◌<◌, ◌≤◌, ◌⊎◌, ◌↔◌, List, length, All, Bool, Option, Some, None, IsSome, IsTrue, is_some, arith, sym, ap, ⊎_elim, ◌∙◌}
 use Rattle.std.specs.List.{Contains}
 use Rattle.std.proofs.lemmas.Bool.{cases_order}
 use Rattle.std.proofs.lemmas.List.Elements.{All-contains}

@@ -1,5 +1,5 @@
 -- Lemmas on members of lists, and on the taken buckets of a run.
-use Rattle.std.proofs.Common.{◌≡◌, ℕ, zero, suc, ◌+◌, ◌<◌, ◌≤◌, ◌⊎◌, inl, inr, List, [], ◌∷◌, ◌++◌, length, map, Option, Some, None, arith, refl, ap, subst, ⊎_elim}
+use Rattle.std.proofs.Common.{◌≡◌, ℕ, zero, suc, ◌<◌, ◌⊎◌, inl, inr, List, [], ◌∷◌, length, Some, None, arith, refl, ap, subst, ⊎_elim}
 use Rattle.std.specs.List.{Contains}
 use Rattle.bucket_codec.specs.Run.{Bucket, bucket_at, taken_of, keys_of}
 

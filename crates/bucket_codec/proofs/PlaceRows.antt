@@ -1,5 +1,5 @@
 -- Lemmas on the row of a place: there is at most one, and not both a row and a reason.
-use Rattle.std.proofs.Common.{◌≡◌, ℕ, List, All, Result, Ok, Err, arith, refl, sym, ap, subst, inl, inr, ◌∙◌}
+use Rattle.std.proofs.Common.{◌≡◌, ℕ, List, All, Result, Ok, Err, refl, sym, ap, subst, inl, inr, ◌∙◌}
 use Rattle.std.proofs.lemmas.List.Sorted.{All-permutation, IsPermutation-sym}
 use Rattle.hol_varint.specs.Yields.{Yields}
 use Rattle.schema_model.specs.declared.schema.Shape.{Shape}
@@ -7,7 +7,7 @@ use Rattle.schema_model.specs.declared.rows.row.Row.{Row}
 use Rattle.schema_model.specs.declared.reason.Reason.{Reason}
 use Rattle.schema_model.specs.declared.rows.packed.PlaceFault.{PlaceFault}
 use Rattle.bucket_codec.specs.Taken.{HasBadValue, TellsPairs}
-use Rattle.bucket_codec.specs.Run.{Bucket, taken_of, keys_of, IsPairInRange, SpellsRun}
+use Rattle.bucket_codec.specs.Run.{Bucket, taken_of, IsPairInRange, SpellsRun}
 use Rattle.bucket_codec.specs.BucketPlace.{run_at, IsSpan, SpellsPairs, IsRowOf, SpellsBucketRow, FailsBucketRow, TellsBucketRow, TellsPlace, size_at, IsFreePlace}
 use Rattle.bucket_codec.proofs.Sorted.{run_once}
 

@@ -1,6 +1,5 @@
 -- Lemmas on the rows that are written one after another.
-use Rattle.std.proofs.Common.{◌≡◌, ℕ, zero, suc, ◌+◌, ◌-◌, ◌*◌, ◌^◌, ◌<◌, ◌≤◌, ◌⊎◌, List, [], ◌∷◌, ◌++◌, length, map, take, get_or, All, Option, Some, None, slice_get, arith, refl, sym, ap, subst, ⊎_elim, ◌∙◌}
-use Rattle.std.specs.List.{sum_by}
+use Rattle.std.proofs.Common.{◌≡◌, ℕ, suc, ◌+◌, ◌*◌, ◌^◌, ◌<◌, ◌≤◌, List, [], ◌∷◌, ◌++◌, length, map, take, get_or, All, Option, Some, None, arith, refl, sym, ap, subst, ⊎_elim, ◌∙◌}
 use Rattle.std.proofs.Math.Nat.{mul-le-mul_right}
 use Rattle.std.proofs.Math.Pow.{pow_mono}
 use Rattle.std.proofs.Math.Seq.{take-append_seam}
@@ -16,7 +15,7 @@ use Rattle.bucket_codec.specs.BucketCount.{IsBucketCount, bucket_count}
 use Rattle.bucket_codec.specs.Run.{run_in, keys_of, HoldsRun, IsPairInRange}
 use Rattle.bucket_codec.specs.Filled.{KeepsFront, IsFilled}
 use Rattle.bucket_codec.specs.BucketPlace.{pointer_width, key_width, value_width, place_width, bucket_width, start_at, end_at, size_at, HoldsPointers, SpellsPairs, IsRowOf, IsWidthCount}
-use Rattle.bucket_codec.specs.Packed.{set_pair, pairs_of, buckets_of, bucket_total, HoldsRow, IsBuckets, IsFew, IsWritable, IsPackableRow, IsPackable, PacksPairs, PacksPlace, PacksRows}
+use Rattle.bucket_codec.specs.Packed.{set_pair, pairs_of, buckets_of, bucket_total, IsFew, IsWritable, IsPackableRow, IsPackable, PacksPairs, PacksPlace, PacksRows}
 use Rattle.bucket_codec.proofs.Rows.{count_power, pairs_spelled, start_stays, packs_stay}
 
 -- a place without a row

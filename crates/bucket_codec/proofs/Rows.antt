@@ -1,10 +1,7 @@
 -- Lemmas on rows as they are written, place by place.
-use Rattle.std.proofs.Common.{◌≡◌, ℕ, zero, suc, ◌+◌, ◌-◌, ◌*◌, ◌^◌, ◌<◌, ◌≤◌, List, [], ◌∷◌, length, map, take, get_or, All, Option, Some, None, IsSome, cond, eqb, arith, refl, sym, ap, subst, ⊎_elim, ◌∙◌, add-one}
+use Rattle.std.proofs.Common.{◌≡◌, ℕ, zero, suc, ◌+◌, ◌-◌, ◌*◌, ◌^◌, ◌<◌, ◌≤◌, List, [], ◌∷◌, length, All, Option, Some, None, cond, eqb, arith, refl, sym, ap, subst, ◌∙◌}
 use Rattle.std.specs.Int.{IsPowerOfTwo}
-use Rattle.std.specs.List.{range_with_len, sum_by}
 use Rattle.std.proofs.Math.Nat.{mul-le-mul_right}
-use Rattle.std.proofs.lemmas.Bool.{cases_lt}
-use Rattle.std.proofs.lemmas.List.Sums.{sum_by_more, sum_by-take-le}
 use Rattle.std.proofs.lemmas.List.Sorted.{length_permutation}
 use Rattle.bit_array.specs.Element.{element_of}
 use Rattle.schema_model.specs.Row.{Rises}
@@ -12,8 +9,8 @@ use Rattle.schema_model.specs.declared.rows.row.Row.{Row}
 use Rattle.bucket_codec.specs.BucketCount.{IsBucketCount, bucket_count}
 use Rattle.bucket_codec.specs.Run.{Bucket, bucket_at, bucket_in, run_in, taken_of, keys_of, IsPairInRange, SpellsRun}
 use Rattle.bucket_codec.specs.Filled.{KeepsFront, IsFilled}
-use Rattle.bucket_codec.specs.BucketPlace.{pointer_width, size_width, key_width, value_width, place_width, bucket_width, start_at, end_at, size_at, run_at, IsSpan, SpellsPairs}
-use Rattle.bucket_codec.specs.Packed.{pairs_of, buckets_of, bucket_total, PacksPairs}
+use Rattle.bucket_codec.specs.BucketPlace.{pointer_width, size_width, key_width, value_width, place_width, bucket_width, start_at, end_at, size_at, run_at, SpellsPairs}
+use Rattle.bucket_codec.specs.Packed.{pairs_of, PacksPairs}
 use Rattle.bucket_codec.proofs.Buckets.{length-run_in}
 use Rattle.bucket_codec.proofs.Filling.{same_run}
 

@@ -1,5 +1,5 @@
 -- Lemmas on pairs by rising key: there is one order in which they stand.
-use Rattle.std.proofs.Common.{◌≡◌, ℕ, zero, suc, ◌+◌, ◌-◌, ◌<◌, ◌≤◌, ◌⊎◌, inl, inr, List, [], ◌∷◌, length, map, Bool, true, false, cond, eqb, ◌&&◌, arith, refl, sym, ap, subst, ⊎_elim, ◌∙◌, get_or}
+use Rattle.std.proofs.Common.{◌≡◌, ℕ, suc, ◌+◌, ◌-◌, ◌<◌, ◌≤◌, List, [], ◌∷◌, length, Bool, true, false, cond, eqb, ◌&&◌, arith, refl, sym, ap, subst, ⊎_elim, get_or}
 use Rattle.std.specs.List.{Contains, sum_by, AllAdjacentBelow}
 use Rattle.std.specs.List.Sorted.{IsNonDecreasingBy, IsPermutation}
 use Rattle.std.proofs.lemmas.Bool.{cases_lt, eq-eqb, eqb-true}

@@ -1,5 +1,5 @@
 -- Lemmas on streaks of taken buckets: a key is reached from its home where its steps from there are no more than the taken buckets before it.
-use Rattle.std.proofs.Common.{◌≡◌, ℕ, zero, suc, ◌+◌, ◌-◌, ◌%◌, ◌<◌, ◌≤◌, ◌⊎◌, List, length, Option, Some, None, IsSome, arith, refl, sym, ap, subst, ⊎_elim, ◌∙◌}
+use Rattle.std.proofs.Common.{◌≡◌, ℕ, ◌+◌, ◌-◌, ◌%◌, ◌<◌, ◌≤◌, List, length, Option, Some, None, IsSome, arith, refl, sym, ap, subst, ⊎_elim, ◌∙◌}
 use Rattle.std.proofs.Math.Nat.{mod-eq_of_lt, mod-lt, add-mod_left}
 use Rattle.std.proofs.lemmas.Bool.{cases_lt}
 use Rattle.bucket_codec.specs.Hash.{hash_of}

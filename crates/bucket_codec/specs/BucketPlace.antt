@@ -1,5 +1,5 @@
 -- SET and MAP rows of a blob: which row the pointer, the size and the buckets of a place spell, and why they spell none. A set is a map without values.
-use Rattle.std.specs.Prelude.{◌≡◌, ℕ, zero, suc, ◌+◌, ◌-◌, ◌*◌, ◌^◌, ◌<◌, ◌≤◌, List, length, map, All, slice_index, Result, Ok, Err}
+use Rattle.std.specs.Prelude.{◌≡◌, ℕ, zero, suc, ◌+◌, ◌-◌, ◌*◌, ◌^◌, ◌<◌, ◌≤◌, List, length, All, slice_index, Result, Ok, Err}
 use Rattle.bit_array.specs.Element.{element_of}
 use Rattle.schema_model.specs.declared.schema.Shape.{Shape}
 use Rattle.schema_model.specs.declared.rows.row.Row.{Row}

@@ -6,7 +6,7 @@ use Rattle.schema_model.specs.declared.schema.Shape.{Shape}
 use Rattle.schema_model.specs.declared.rows.row.Row.{Row}
 use Rattle.bucket_codec.specs.BucketCount.{bucket_count}
 use Rattle.bucket_codec.specs.Run.{keys_of}
-use Rattle.bucket_codec.specs.BucketPlace.{pointer_width, size_width, key_width, value_width, place_width, bucket_width, start_at, end_at, size_at, IsWidthCount, SpellsBucketRow, SpellsPairs}
+use Rattle.bucket_codec.specs.BucketPlace.{pointer_width, size_width, key_width, value_width, bucket_width, start_at, end_at, size_at, IsWidthCount, SpellsBucketRow, SpellsPairs}
 
 -- An element of a set as a pair.
 abbrev pub set_pair : ℕ → ℕ × ℕ

@@ -1,4 +1,4 @@
-use Rattle.std.proofs.Common.{arith, ◌∙◌, sym, refl, ap, subst, All, ◌<◌, ◌^◌}
+use Rattle.std.proofs.Common.{◌∙◌, sym, subst, All, ◌<◌, ◌^◌}
 use Rattle.bucket_codec.specs.Packed.{bucket_total, IsWritable}
 use Rattle.bucket_codec.proofs.Placed.{all_writable, packs_all, total_small, written_over}
 use Rattle.bucket_codec.proofs.packing.pack.Goals as goal

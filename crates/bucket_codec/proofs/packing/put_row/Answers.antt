@@ -1,4 +1,4 @@
-use Rattle.std.proofs.Common.{arith, ◌∙◌, sym, refl, ap}
+use Rattle.std.proofs.Common.{arith, refl}
 use Rattle.bucket_codec.proofs.Placed.{packs_none, packs_some, row_held}
 use Rattle.bucket_codec.proofs.packing.put_row.Goals as goal
 

@@ -1,4 +1,4 @@
-use Rattle.std.proofs.Common.{arith, ◌∙◌, sym, refl, ap, ◌≡◌, ◌≤◌, ◌*◌, ◌+◌, get_or, None}
+use Rattle.std.proofs.Common.{arith, ◌+◌}
 use Rattle.bucket_codec.specs.BucketPlace.{bucket_width}
 use Rattle.bucket_codec.specs.Packed.{bucket_total, buckets_of}
 use Rattle.bucket_codec.proofs.Placed.{begun_more, within_total, buckets_held, item_is}

@@ -1,4 +1,4 @@
-use Rattle.std.proofs.Common.{arith, ℕ}
+use Rattle.std.proofs.Common.{arith}
 use Rattle.bucket_codec.proofs.Sorted.{rises_of, not_rising}
 use Rattle.bucket_codec.proofs.pairs.has_rising_keys.Goals as goal
 

@@ -1,4 +1,4 @@
-use Rattle.std.proofs.Common.{ℕ, ◌<◌}
+use Rattle.std.proofs.Common.{◌<◌}
 use Rattle.std.specs.List.{AllAdjacentBelow}
 use Rattle.bucket_codec.proofs.pairs.has_rising_keys.Given as goal
 

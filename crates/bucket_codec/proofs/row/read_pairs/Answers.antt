@@ -1,4 +1,3 @@
-use Rattle.std.proofs.Common.{rules}
 use Rattle.bucket_codec.proofs.PlaceRows.{place_tells}
 use Rattle.bucket_codec.proofs.row.read_pairs.Goals as goal
 

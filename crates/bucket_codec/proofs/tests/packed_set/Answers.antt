@@ -1,11 +1,11 @@
-use Rattle.std.proofs.Common.{◌≡◌, ℕ, ◌<◌, ◌≤◌, List, [], ◌∷◌, Option, Some, ◌+◌, arith, rules, refl, sym, ap, subst, get_or, lit<, ◌∙◌}
+use Rattle.std.proofs.Common.{◌≡◌, ℕ, ◌<◌, List, [], ◌∷◌, Option, Some, ◌+◌, arith, rules, refl, sym, ap, subst, get_or, lit<, ◌∙◌}
 use Rattle.std.proofs.lemmas.List.Kept.{AllPairs-from_increasing}
 use Rattle.std.proofs.lemmas.List.Elements.{All-cons, All-nil}
 use Rattle.schema_model.specs.Row.{Rises}
 use Rattle.schema_model.specs.declared.schema.Shape.{Shape}
 use Rattle.schema_model.specs.declared.rows.row.Row.{Row}
 use Rattle.bucket_codec.specs.BucketCount.{bucket_count}
-use Rattle.bucket_codec.specs.Packed.{IsPackable, IsPackableRow, HoldsRow}
+use Rattle.bucket_codec.specs.Packed.{IsPackable, IsPackableRow}
 use Rattle.bucket_codec.proofs.tests.packed_set.Goals as goal
 
 rises_two : Rises (0 ∷ 1 ∷ [])

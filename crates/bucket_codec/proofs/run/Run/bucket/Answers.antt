@@ -1,4 +1,4 @@
-use Rattle.std.proofs.Common.{rules, arith, ◌∙◌, sym, ap, ◌+◌, ◌*◌}
+use Rattle.std.proofs.Common.{◌∙◌, sym, ap, ◌+◌, ◌*◌}
 use Rattle.bit_array.specs.Element.{element_of}
 use Rattle.bucket_codec.proofs.Buckets.{key_within, bucket_empty, bucket_taken}
 use Rattle.bucket_codec.proofs.run.Run.bucket.Goals as goal

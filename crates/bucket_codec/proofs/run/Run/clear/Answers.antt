@@ -1,6 +1,6 @@
-use Rattle.std.proofs.Common.{arith, ◌≡◌, ◌+◌, ◌*◌, ◌≤◌, ℕ, refl}
+use Rattle.std.proofs.Common.{arith, ◌+◌, ◌*◌, ◌≤◌}
 use Rattle.std.proofs.Math.Nat.{mul-le-mul_right}
-use Rattle.bucket_codec.proofs.Writing.{still_holds, kept_both, kept_all, put_empty, empty_more, all_empty}
+use Rattle.bucket_codec.proofs.Writing.{still_holds, kept_both, put_empty, empty_more, all_empty}
 use Rattle.bucket_codec.proofs.run.Run.clear.Goals as goal
 
 pub put-requires-clause-held : goal.put-requires-clause-held

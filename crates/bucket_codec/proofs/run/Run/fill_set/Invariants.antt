@@ -1,4 +1,4 @@
-use Rattle.std.proofs.Common.{◌+◌, ◌*◌, map, take, ℕ, All}
+use Rattle.std.proofs.Common.{◌+◌, ◌*◌, map, take, All}
 use Rattle.bucket_codec.specs.Run.{run_in, IsPairInRange}
 use Rattle.bucket_codec.specs.Packed.{set_pair}
 use Rattle.bucket_codec.specs.Filled.{KeepsFront, IsFilled}

@@ -1,7 +1,7 @@
-use Rattle.std.proofs.Common.{rules, arith, refl, sym, ◌∙◌, ◌≡◌, ℕ, ◌<◌, length, List, Option, Some, None, ap}
-use Rattle.bucket_codec.specs.Run.{bucket_at, run_in, place_from, SpellsRun, FindsIn}
+use Rattle.std.proofs.Common.{arith, sym, ◌∙◌, ◌≡◌, Some, None, ap}
+use Rattle.bucket_codec.specs.Run.{run_in}
 use Rattle.bucket_codec.proofs.Buckets.{length-run_in}
-use Rattle.bucket_codec.proofs.Found.{IsPassed, passed_more, found_at, none_at_empty, none_at_all, bucket_on_way}
+use Rattle.bucket_codec.proofs.Found.{passed_more, found_at, none_at_empty, none_at_all, bucket_on_way}
 use Rattle.bucket_codec.proofs.run.Run.find.Goals as goal
 
 pub returns-in_default : goal.returns-in_default

@@ -1,4 +1,4 @@
-use Rattle.std.proofs.Common.{arith, ◌≡◌, ◌+◌, ◌*◌, ◌∙◌, sym, ap, subst, ℕ, ◌<◌, ◌^◌, ◌-◌, Some}
+use Rattle.std.proofs.Common.{arith, ◌≡◌, ◌+◌, ◌∙◌, ap, Some}
 use Rattle.bucket_codec.specs.Run.{bucket_in}
 use Rattle.bucket_codec.proofs.Buckets.{length-run_in}
 use Rattle.bucket_codec.proofs.Writing.{inserted, put_taken}

@@ -1,4 +1,4 @@
-use Rattle.std.proofs.Common.{arith, ◌∙◌, sym}
+use Rattle.std.proofs.Common.{arith}
 use Rattle.bucket_codec.proofs.Buckets.{length-run_in}
 use Rattle.bucket_codec.proofs.Streaks.{room_of, reached_more}
 use Rattle.bucket_codec.proofs.run.Run.is_open.Goals as goal

@@ -1,4 +1,4 @@
-use Rattle.std.proofs.Common.{arith, ◌∙◌, refl, sym, ◌<◌, ◌^◌, length, ◌≡◌}
+use Rattle.std.proofs.Common.{arith, ◌∙◌, sym, ◌<◌, ◌^◌, length}
 use Rattle.bucket_codec.specs.Run.{run_in}
 use Rattle.bucket_codec.proofs.Buckets.{length-run_in}
 use Rattle.bucket_codec.proofs.Found.{key_fits}

@@ -1,4 +1,4 @@
-use Rattle.std.proofs.Common.{rules, arith, sym, subst, ◌∙◌, Err}
+use Rattle.std.proofs.Common.{rules, sym, subst, ◌∙◌, Err}
 use Rattle.schema_model.specs.Row.{Rises}
 use Rattle.bucket_codec.specs.Run.{keys_of, run_in}
 use Rattle.bucket_codec.specs.Taken.{TellsPairs}

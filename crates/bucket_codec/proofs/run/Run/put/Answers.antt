@@ -1,4 +1,4 @@
-use Rattle.std.proofs.Common.{arith, ◌≡◌, ◌+◌, ◌*◌, ◌≤◌, ◌⊎◌, ◌∙◌, sym, ap, subst, ℕ}
+use Rattle.std.proofs.Common.{◌≡◌, ◌+◌, ◌*◌, ◌≤◌, ◌⊎◌, ap, subst, ℕ}
 use Rattle.bit_array.specs.Element.{element_of}
 use Rattle.bucket_codec.proofs.Buckets.{key_within}
 use Rattle.bucket_codec.proofs.Writing.{both_written, buckets_stay}

@@ -1,4 +1,4 @@
-use Rattle.std.proofs.Common.{arith, ◌∙◌, refl, sym}
+use Rattle.std.proofs.Common.{arith, ◌∙◌, refl}
 use Rattle.bucket_codec.proofs.Streaks.{steps_from}
 use Rattle.bucket_codec.proofs.run.Run.steps_to.Goals as goal
 

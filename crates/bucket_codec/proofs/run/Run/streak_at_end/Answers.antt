@@ -1,6 +1,6 @@
 use Rattle.std.proofs.Common.{arith, ◌∙◌, sym}
 use Rattle.bucket_codec.proofs.Buckets.{length-run_in}
-use Rattle.bucket_codec.proofs.Streaks.{streak_at, full_more, full_not_open}
+use Rattle.bucket_codec.proofs.Streaks.{streak_at, full_not_open}
 use Rattle.bucket_codec.proofs.run.Run.streak_at_end.Goals as goal
 
 pub returns-in_default : goal.returns-in_default

@@ -1,4 +1,4 @@
-use Rattle.std.proofs.Common.{rules, arith, ◌∙◌, sym, Err, ◌<◌, length}
+use Rattle.std.proofs.Common.{rules, arith, Err, ◌<◌, length}
 use Rattle.bucket_codec.specs.Run.{run_in}
 use Rattle.bucket_codec.specs.Taken.{TellsTaken}
 use Rattle.bucket_codec.proofs.Buckets.{length-run_in}
