@@ -14,8 +14,8 @@ use Rattle.schema_model.specs.declared.rows.row.Row.{Row}
 use Rattle.bucket_codec.specs.BucketCount.{IsBucketCount, bucket_count}
 use Rattle.bucket_codec.specs.Run.{run_in, keys_of, HoldsRun, IsPairInRange}
 use Rattle.bucket_codec.specs.Filled.{KeepsFront, IsFilled}
-use Rattle.bucket_codec.specs.BucketPlace.{pointer_width, key_width, value_width, place_width, bucket_width, start_at, end_at, size_at, HoldsPointers, SpellsPairs, IsRowOf, IsWidthCount}
-use Rattle.bucket_codec.specs.Packed.{set_pair, pairs_of, buckets_of, bucket_total, IsFew, IsWritable, IsPackableRow, IsPackable, PacksPairs, PacksPlace, PacksRows}
+use Rattle.bucket_codec.specs.BucketPlace.{pointer_width, key_width, value_width, place_width, bucket_width, start_at, end_at, size_at, SpellsPairs, IsRowOf, IsWidthCount}
+use Rattle.bucket_codec.specs.Packed.{set_pair, pairs_of, buckets_of, bucket_total, IsWritable, IsPackableRow, IsPackable, PacksPairs, PacksPlace, PacksRows}
 use Rattle.bucket_codec.proofs.Rows.{count_power, pairs_spelled, start_stays, packs_stay}
 
 -- a place without a row
@@ -79,9 +79,6 @@ pub record IsBegun (widths : List ℕ) (rows : List (Option Row)) (first0 second
   pub wide : length second ≡ length second0
   pub packs : (place : ℕ) → place < index → PacksPairs widths end first second place (get_or rows place None)
 
-pub begun_none : (widths : List ℕ) (rows : List (Option Row)) (first second : List ℕ) → IsBegun widths rows first second first second 0 0
-begun_none widths rows first second = record { ends = refl; starts = refl; long = refl; wide = refl; packs = λ place below. absurd (omega arith) }
-
 pub begun_more : (widths : List ℕ) (rows : List (Option Row)) (first0 second0 first1 second1 first2 second2 : List ℕ) (index end next : ℕ) (row : Option Row) → index < length rows
     → row ≡ get_or rows index None → IsBegun widths rows first0 second0 first1 second1 index end → next ≡ end + buckets_of row → end_at widths first2 index ≡ next
     → PacksPairs widths next first2 second2 index row → KeepsFront first1 first2 (index * place_width widths) → KeepsFront second1 second2 (end * bucket_width widths)
@@ -112,14 +109,6 @@ within_total rows index end row below is ends =
     let here : buckets_of row ≡ buckets_of (get_or rows index None) = ap buckets_of is in
     omega (arith, more, here, ends, sum_by-take-le buckets_of rows (index + 1))
 
-pub pointers_held : (widths first : List ℕ) (count place : ℕ) → All (λ width. width ≤ 64) widths → place < count → count < 2 ^ 32 → count * place_width widths ≤ 64 * length first
-    → HoldsPointers widths first place
-pointers_held widths first count place narrow below few inside = record {
-  narrow = narrow;
-  within = let up : (place + 1) * place_width widths ≤ count * place_width widths = mul-le-mul_right (place_width widths) (let l : place + 1 ≤ count = omega arith in l) in omega (arith, up, inside);
-  below = omega arith;
-}
-
 pub buckets_held : (all here width long : ℕ) → here ≤ all → all * width ≤ long → here * width ≤ long
 buckets_held all here width long below inside = let up : here * width ≤ all * width = mul-le-mul_right width below in omega arith
 
@@ -137,15 +126,8 @@ writable (Shape.Set element) widths count (Some _) counted h = absurd h.0
 writable (Shape.Map key value) widths count (Some _) counted h = absurd h.0
 writable _ widths count (Some _) counted h = absurd counted
 
-pub few_row : (shape : Shape) (widths : List ℕ) (row : Option Row) → IsPackableRow shape widths row → IsFew row
-few_row shape widths None h = tt
-few_row shape widths (Some row) h = h.1.few
-
 pub all_writable : (shape : Shape) (widths : List ℕ) (rows : List (Option Row)) → IsPackable shape widths rows → All (λ row. IsWritable widths row) rows
 all_writable shape widths rows h = All-weaker (λ row. IsPackableRow shape widths row) (λ row. IsWritable widths row) (λ row fits. writable shape widths (length widths) row h.counted fits) rows h.each
-
-pub all_few : (shape : Shape) (widths : List ℕ) (rows : List (Option Row)) → IsPackable shape widths rows → All (λ row. IsFew row) rows
-all_few shape widths rows h = All-weaker (λ row. IsPackableRow shape widths row) (λ row. IsFew row) (λ row fits. few_row shape widths row fits) rows h.each
 
 -- the row that is packed is that of the place
 row_is : (shape : Shape) (count : ℕ) (row : Row) → IsWidthCount shape count → FitsShape shape row → IsRowOf shape row (pairs_of row)

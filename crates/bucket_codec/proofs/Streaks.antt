@@ -182,15 +182,6 @@ reached_more run place before here p less =
     (λ (later : place ≤ p). let same : place ≡ p = omega arith in subst (λ q. IsReachedAt run q) same here)
     (cases_lt p place)
 
--- one more taken bucket, walking back from the end
-pub full_more : (run : List Bucket) (size back : ℕ) (pair : ℕ × ℕ) → ((b : ℕ) → b < back → IsSome (bucket_at run (size - 1 - b))) → Some pair ≡ bucket_at run (size - 1 - back)
-    → (b : ℕ) → b < back + 1 → IsSome (bucket_at run (size - 1 - b))
-full_more run size back pair before is b less =
-    ⊎_elim
-    (λ (earlier : b < back). before b earlier)
-    (λ (later : back ≤ b). let same : back ≡ b = omega arith in subst (λ q. IsSome (bucket_at run (size - 1 - q))) same (is_some_of _ pair is))
-    (cases_lt b back)
-
 -- a run of taken buckets alone has no room
 pub full_not_open : (run : List Bucket) (size back : ℕ) → length run ≡ size → size ≤ back → ((b : ℕ) → b < back → IsSome (bucket_at run (size - 1 - b))) → IsOpen run → ⊥
 full_not_open run size back long all full opens =

@@ -26,9 +26,6 @@ kept_both a b c first second limit h k p q = record {
   front = λ i v inside. k.front i v (omega arith) ∙ h.front i v (omega arith);
 }
 
-pub kept_all : (a : List ℕ) (limit : ℕ) → KeepsFront a a limit
-kept_all a limit = record { long = refl; front = λ i v inside. refl }
-
 -- two elements that follow one another are written, and no other bit changes
 pub both_written : (w0 w1 w2 : List ℕ) (at k v : ℕ) → ((i u : ℕ) → (i + u ≤ at) ⊎ (at + k ≤ i) → element_of w1 i u ≡ element_of w0 i u)
     → ((i u : ℕ) → (i + u ≤ at + k) ⊎ (at + k + v ≤ i) → element_of w2 i u ≡ element_of w1 i u)
@@ -38,17 +35,6 @@ both_written w0 w1 w2 at k v one two i u apart =
     (λ (before : i + u ≤ at). let near : i + u ≤ at + k = omega arith in two i u (inl near) ∙ one i u (inl before))
     (λ (behind : at + (k + v) ≤ i). let far : at + k + v ≤ i = omega arith in let past : at + k ≤ i = omega arith in two i u (inr far) ∙ one i u (inr past))
     apart
-
--- the bucket that is written
-pub bucket_written : (w1 w2 : List ℕ) (at k v index key value : ℕ) → at ≡ index * (k + v) → element_of w1 at k ≡ key
-    → ((i u : ℕ) → (i + u ≤ at + k) ⊎ (at + k + v ≤ i) → element_of w2 i u ≡ element_of w1 i u) → element_of w2 (at + k) v ≡ value
-    → bucket_in w2 k v index ≡ (if key == 2 ^ k - 1 then None else Some (key, value))
-bucket_written w1 w2 at k v index key value is first others second =
-    let up : at + k ≤ at + k = omega arith in
-    let key_is : element_of w2 (index * (k + v)) k ≡ key = ap (λ x. element_of w2 x k) (sym is) ∙ others at k (inl up) ∙ first in
-    let value_is : element_of w2 (index * (k + v) + k) v ≡ value = ap (λ x. element_of w2 (x + k) v) (sym is) ∙ second in
-    ap (λ x. cond (eqb x (2 ^ k - 1)) None (Some (x, element_of w2 (index * (k + v) + k) v))) key_is
-    ∙ ap (λ y. cond (eqb key (2 ^ k - 1)) None (Some (key, y))) value_is
 
 -- and the others, which stay
 pub buckets_stay : (w0 w2 : List ℕ) (at k v index other : ℕ) → at ≡ index * (k + v) → ((i u : ℕ) → (i + u ≤ at) ⊎ (at + (k + v) ≤ i) → element_of w2 i u ≡ element_of w0 i u)
