@@ -1,7 +1,7 @@
 -- Lemmas on the change of one block of a number's binary digits.
 use Rattle.std.proofs.Common.{◌≡◌, ℕ, ◌+◌, ◌-◌, ◌*◌, ◌/◌, ◌%◌, ◌^◌, ◌<◌, ◌≤◌, ◌⊎◌, suc, zero, List, [], ◌∷◌, length, get_or, set, refl, sym, ap, ◌∙◌, subst, inl, inr, arith, Fits, w64}
 use Rattle.std.proofs.lemmas.Nat.{pow_pos, pow-add, mod_below, shr-shr, shr_high, mod_low, shr_split, shr_below, mod-pow-add, mul-add-lt}
-use Rattle.std.proofs.Math.Nat.{mul_comm}
+use Rattle.std.proofs.Math.Nat.{mul_comm, zero-mod}
 use Rattle.bit_array.specs.Element.{number_of, element_of, SetsBlock}
 use Rattle.bit_array.proofs.Elements.{field_within, power_of_words, element_of_one_word, element_of_no_width}
 
@@ -196,3 +196,20 @@ word_changed word shift width value old fits within small is_old =
       fits = omega arith;
       sum = omega arith;
     }
+
+-- a number that ends where a block begins has nothing in it
+nothing_above : (n at width : ℕ) → n < 2 ^ at → n / 2 ^ at % 2 ^ width ≡ 0
+nothing_above n at width below =
+    let is : n ≡ 0 * 2 ^ at + n = omega arith in
+    ap (λ k. k % 2 ^ width) (ap (λ m. m / 2 ^ at) is ∙ shr_high 0 at n below) ∙ zero-mod (2 ^ width)
+
+without_block : (old new value e p : ℕ) → e ≡ 0 → new + e * p ≡ old + value * p → new ≡ value * p + old
+without_block old new value e p none change = let c = subst (λ k. new + k * p ≡ old + value * p) none change in omega arith
+
+-- then the number ends behind the block once it is written
+pub block_bits : (old new : List ℕ) (at width value : ℕ) → value < 2 ^ width → SetsBlock old new at width value → number_of old < 2 ^ at → number_of new < 2 ^ (at + width)
+unfolding element_of
+block_bits old new at width value small change below =
+    let is : number_of new ≡ value * 2 ^ at + number_of old =
+    without_block (number_of old) (number_of new) value (element_of old at width) (2 ^ at) (nothing_above (number_of old) at width below) change in
+    rw (is, pow-add) (mul-add-lt value (2 ^ at) (number_of old) (2 ^ width) small below)

@@ -1,11 +1,12 @@
 -- Lemmas on the elements of a word array.
-use Rattle.std.proofs.Common.{◌≡◌, ℕ, ◌+◌, ◌-◌, ◌*◌, ◌/◌, ◌%◌, ◌^◌, ◌<◌, ◌≤◌, suc, zero, List, [], ◌∷◌, ◌++◌, length, get_or, drop, refl, sym, ap, ◌∙◌, subst, arith, add-one, Fits, w64}
+use Rattle.std.proofs.Common.{◌≡◌, ℕ, ◌+◌, ◌-◌, ◌*◌, ◌/◌, ◌%◌, ◌^◌, ◌<◌, ◌≤◌, suc, zero, List, [], ◌∷◌, ◌++◌, length, get_or, take, drop, refl, sym, ap, ◌∙◌, subst, arith, add-one, Fits, w64}
 use Rattle.std.specs.Int.Bits.{bit_and, bit_or}
 use Rattle.std.proofs.lemmas.Nat.{pow_pos, pow-add, mod_below, shr-shr, field_of, shr_high, mod_low, or_mod, or_comm, or_shifted, and_mask, shr_below, shr_split, mul-add-lt}
 use Rattle.std.proofs.lemmas.Nat.Bits.{ones_shr}
 use Rattle.std.proofs.Math.Nat.{mul_comm, zero-div, div-one}
 use Rattle.std.proofs.Math.Pow.{mod-mod-pow}
 use Rattle.std.proofs.Math.Seq.{drop-cons}
+use Rattle.std.proofs.lemmas.List.{take_all, length-drop}
 use Rattle.bit_array.specs.Element.{number_of, element_of}
 
 -- an element is below 2 to the power of its width
@@ -46,6 +47,16 @@ element_of-drop words at width fits =
     ap (λ k. number_of words / 2 ^ k % 2 ^ width) e
     ∙ ap (λ n. n % 2 ^ width) (sym (shr-shr (number_of words) (64 * (at / 64)) (at % 64)))
     ∙ ap (λ n. n / 2 ^ (at % 64) % 2 ^ width) (number_of-drop words (at / 64) fits)
+
+-- the same, as the code cuts the words before it off
+pub element_from : (words : List ℕ) (at place width : ℕ) → ((k : ℕ) → Fits w64 (get_or words k 0)) → place ≡ at
+    → element_of (take (length words - place / 64) (drop (place / 64) words)) (place % 64) width ≡ element_of words at width
+element_from words at place width fits is =
+    let whole : take (length words - place / 64) (drop (place / 64) words) ≡ drop (place / 64) words =
+    take_all (length words - place / 64) (drop (place / 64) words) (omega (arith, length-drop (place / 64) words)) in
+    ap (λ ws. element_of ws (place % 64) width) whole
+    ∙ sym (element_of-drop words place width fits)
+    ∙ ap (λ k. element_of words k width) is
 
 -- an element within the first word
 element_of_first : (word : ℕ) (rest : List ℕ) (at width : ℕ) → word < 2 ^ 64 → at + width ≤ 64 → element_of (word ∷ rest) at width ≡ word / 2 ^ at % 2 ^ width
@@ -144,15 +155,6 @@ number_of-lt (word ∷ rest) fits =
     (λ p. number_of rest * 2 ^ 64 + word < p)
     (mul_comm (2 ^ 64) (2 ^ (64 * length rest)) ∙ sym (power_of_words (length rest)))
     (mul-add-lt (number_of rest) (2 ^ 64) word (2 ^ (64 * length rest)) (number_of-lt rest (λ k. fits (suc k))) (fits 0).fits)
-
--- an element stays the same where more words are put behind
-pub element_of-append : (words more : List ℕ) (at width : ℕ) → ((k : ℕ) → Fits w64 (get_or words k 0)) → at + width ≤ 64 * length words
-    → element_of (words ++ more) at width ≡ element_of words at width
-unfolding element_of
-element_of-append words more at width fits inside =
-    ap (λ n. n / 2 ^ at % 2 ^ width) (number_of-append words more)
-    ∙ field_within (number_of more * 2 ^ (64 * length words) + number_of words) (64 * length words) at width inside
-    ∙ ap (λ n. n / 2 ^ at % 2 ^ width) (mod_low (number_of more) (64 * length words) (number_of words) (number_of-lt words fits))
 
 -- the lowest w bits of a word, by the mask that has the w lowest bits of 64
 pub low_mask : (word w : ℕ) → w ≤ 64 → bit_and word ((2 ^ 64 - 1) / 2 ^ (64 - w)) ≡ word % 2 ^ w

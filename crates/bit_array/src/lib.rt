@@ -5,7 +5,7 @@ mod counts;
 mod words;
 
 pub use counts::{all_ones, digits, total_width, words_for};
-pub use words::{element, set_element};
+pub use words::{element, element_at, set_element};
 
 #[cfg(test)]
 mod tests;

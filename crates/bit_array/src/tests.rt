@@ -16,6 +16,8 @@ fn elements_of_words(rt: HostRuntime) {
     assert_eq!(rt; element(&words, 191, 1), 1);
     assert_eq!(rt; element(&words, 192, 0), 0);
     assert_eq!(rt; element(&[], 0, 0), 0);
+    assert_eq!(rt; element_at(&words, 12, 5), 0x1F);
+    assert_eq!(rt; element_at(&words, u64::MAX, 0), 0);
 }
 
 #[test]

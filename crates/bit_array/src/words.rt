@@ -22,6 +22,16 @@ pub fn element(words: &[u64], at: u64, w: u32) -> u64
     low_bits(low | (words[place + 1] << (64 - shift)), w)
 }
 
+/// The element at an index of a word array whose elements all have the width `w`, in bits.
+pub fn element_at(words: &[u64], index: u64, w: u32) -> u64
+    requires width { w ≤ 64 }
+    requires inside { (index + 1) * w ≤ 64 * length words.now }
+    ensures { result ≡ element_of words.now (index * w) w }
+{
+    let at = u128::from(index) * u128::from(w);
+    element(&words[(at / 64) as usize..], (at % 64) as u64, w)
+}
+
 /// Writes the element of width `w`, in bits, that begins at bit `at` of a word array, its lowest bit first. No other bit changes.
 pub fn set_element(words: &mut [u64], at: u64, w: u32, value: u64)
     requires width { w ≤ 64 }

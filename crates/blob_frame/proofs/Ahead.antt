@@ -5,8 +5,10 @@ use Rattle.std.proofs.lemmas.List.{drop-take, drop-drop}
 use Rattle.std.proofs.lemmas.Grind.{common_steps}
 use Rattle.hol_io.specs.Store.{Store, told}
 use Rattle.hol_io.specs.declared.name.BlobName.{BlobName}
+use Rattle.schema_model.specs.Limit.{number_of_limit}
+use Rattle.schema_model.specs.declared.limit.Limit.TheVariants.{Blob}
 use Rattle.blob_frame.specs.Scene.{Place, IsPlaceIn}
-use Rattle.blob_frame.specs.Starting.{Starts, largest}
+use Rattle.blob_frame.specs.Starting.{Starts}
 
 -- moving past the first of them leaves the rest
 pub drop_ahead : {A : Type 0} (buffer : List A) (begin end count : ℕ) → count ≤ end - begin →
@@ -40,7 +42,7 @@ over_start (Some store) name size h =
       | Some blob ↦ λ e. let same : size ≡ length blob = cc in (same, omega arith, refl)
     ] h
 
-pub starts_found : (name : BlobName) (content : Option (List ℕ)) (place : Place) → Some place.size ≡ option_map length content → place.size ≤ largest →
+pub starts_found : (name : BlobName) (content : Option (List ℕ)) (place : Place) → Some place.size ≡ option_map length content → place.size ≤ number_of_limit Blob →
     Starts name content (Ok place)
 starts_found name None place e small = absurd (cc)
 starts_found name (Some blob) place e small =
@@ -52,7 +54,7 @@ starts_found name (Some blob) place e small =
     }
 
 -- the same, of a store that may tell nothing
-pub starts_held : (held : Option Store) (name : BlobName) (place : Place) → OnSome held (Some place.size ≡ option_map length (told held name)) → place.size ≤ largest →
+pub starts_held : (held : Option Store) (name : BlobName) (place : Place) → OnSome held (Some place.size ≡ option_map length (told held name)) → place.size ≤ number_of_limit Blob →
     OnSome held (Starts name (told held name) (Ok place))
 starts_held None name place e small = tt
 starts_held (Some store) name place e small = starts_found name (told (Some store) name) place e small

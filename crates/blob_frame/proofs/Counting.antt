@@ -2,10 +2,9 @@
 use Rattle.std.proofs.Common.{◌≡◌, ◌≤◌, ◌<◌, ◌+◌, ◌-◌, ℕ, suc, List, [], ◌∷◌, ◌++◌, Result, Ok, Err, refl, subst, sym, ap, arith, append_assoc, append-nil}
 use Rattle.blob_frame.specs.declared.fault.BlobFault.{BlobFault}
 use Rattle.blob_frame.specs.declared.fault.BlobFault.TheVariants as fault
-use Rattle.blob_frame.specs.Form.{Form, repeated}
+use Rattle.blob_grammar.specs.Form.{Form, repeated, counted}
 use Rattle.blob_frame.specs.Scene.{Scene, Stays, IsOver, Reads}
-use Rattle.blob_frame.proofs.Chain.{reads_then, reads_stops, reads_nothing, reads_free, stays_then}
-use Rattle.blob_frame.proofs.Runs.{stays_here}
+use Rattle.blob_frame.proofs.Chain.{reads_then, reads_stops, reads_nothing, reads_free, stays_here, stays_then}
 
 -- the answer, with these in front of what it found
 unfoldable pub prefixed : {V : Type 0} → List V → Result (List V) BlobFault → Result (List V) BlobFault
@@ -18,12 +17,12 @@ pub record Counts {V : Type 0} (form : Form V) (count done : ℕ) (before now : 
   pub over : IsOver now
   pub rest : (r : Result (List V) BlobFault) (end : Scene) → Reads (repeated (count - done) form) now end r → Reads (repeated count form) before end (prefixed list r)
 
-prefixed_none : {V : Type 0} (r : Result (List V) BlobFault) → r ≡ prefixed [] r
+pub prefixed_none : {V : Type 0} (r : Result (List V) BlobFault) → r ≡ prefixed [] r
 unfolding prefixed
 prefixed_none (Ok xs) = refl
 prefixed_none (Err e) = refl
 
-prefixed_more : {V : Type 0} (list : List V) (x : V) (r : Result (List V) BlobFault) → prefixed list (prefixed (x ∷ []) r) ≡ prefixed (list ++ x ∷ []) r
+pub prefixed_more : {V : Type 0} (list : List V) (x : V) (r : Result (List V) BlobFault) → prefixed list (prefixed (x ∷ []) r) ≡ prefixed (list ++ x ∷ []) r
 unfolding prefixed
 prefixed_more list x (Ok xs) = ap Ok (sym (append_assoc list (x ∷ []) xs))
 prefixed_more list x (Err e) = refl
@@ -77,3 +76,15 @@ pub counts_done : {V : Type 0} {form : Form V} {count done : ℕ} {before now : 
 unfolding prefixed
 counts_done {V} {form} {count} {done} {before} {now} {list} c h =
     subst (λ (xs : List V). Reads (repeated count form) before now (Ok xs)) (append-nil list) (c.rest (Ok []) now (none_left form (count - done) (omega arith) c.over))
+
+-- a number is read, and then as many parts
+pub reads_counted : {A : Type 0} {number : Form ℕ} (form : Form A) {before mid after : Scene} {n m : ℕ} {r : Result (List A) BlobFault} →
+    Reads number before mid (Ok n) → m ≡ n → Reads (repeated m form) mid after r → Reads (counted number form) before after r
+unfolding counted
+reads_counted form {mid = mid} {after = after} {r = r} p is q = reads_then _ p (subst (λ n. Reads (repeated n form) mid after r) is q)
+
+-- the number cannot be read
+pub reads_uncounted : {A : Type 0} {number : Form ℕ} (form : Form A) {before after : Scene} {e : BlobFault} {r : Result (List A) BlobFault} →
+    Reads number before after (Err e) → r ≡ Err e → Reads (counted number form) before after r
+unfolding counted
+reads_uncounted form p is = reads_stops _ p is

@@ -5,7 +5,7 @@ use Rattle.std.specs.Option.{IfSome}
 use Rattle.schema_model.specs.declared.reason.Reason.{Reason}
 use Rattle.blob_frame.specs.declared.fault.BlobFault.{BlobFault}
 use Rattle.blob_frame.specs.declared.fault.BlobFault.TheVariants as fault
-use Rattle.blob_frame.specs.Form.{Form}
+use Rattle.blob_grammar.specs.Form.{Form}
 use Rattle.blob_frame.specs.Scene.{IsFree, Tells, Exactly}
 
 found_told : {V : Type 0} (form : Form V) → (blob : List ℕ) (at next : ℕ) (answer : Result V BlobFault) (v : V) (end : ℕ) →

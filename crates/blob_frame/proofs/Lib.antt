@@ -9,3 +9,5 @@ pub mod Counting
 pub mod Envelopes
 pub mod Decided
 pub mod Listing
+pub mod Spelling
+pub mod SpelledSchemas

@@ -1,21 +1,22 @@
 -- Reading a number of variable length from the bytes that stand ahead.
-use Rattle.std.proofs.Common.{◌≡◌, ◌≢◌, ◌≤◌, ◌<◌, ◌+◌, ◌-◌, ◌^◌, ◌⊎◌, ℕ, zero, suc, List, [], ◌∷◌, ◌++◌, get_or, take, drop, length, min, cond, Bool, true, false, Option, Some, None, Result, Ok, Err, inl, inr, refl, ◌∙◌, subst, sym, ap, arith, length-append, length-drop, append_assoc}
+use Rattle.std.proofs.Common.{◌≡◌, ◌≢◌, ◌≤◌, ◌<◌, ◌-◌, ◌^◌, ◌⊎◌, ℕ, zero, suc, List, [], ◌∷◌, ◌++◌, get_or, take, drop, length, min, cond, Bool, true, false, Some, Result, Ok, Err, inl, inr, refl, ◌∙◌, subst, sym, ap, arith, length-append, length-drop, append_assoc}
 use Rattle.std.specs.Option.{IfSome}
 use Rattle.std.specs.Bool.{MatchBool}
 use Rattle.std.proofs.lemmas.List.{take-append-drop}
 use Rattle.std.proofs.lemmas.Bool.{cases_lt}
 use Rattle.std.proofs.lemmas.Grind.{common_steps}
-use Rattle.hol_io.specs.Store.{told}
 use Rattle.hol_varint.specs.Varint.{GoOn, IsVarint, VarStandsBelow, VarEndsInside, IsNullVar, IsLongVar}
+use Rattle.hol_varint.proofs.Varints.{stands_below, stands_over, long_over}
+use Rattle.schema_model.specs.declared.reason.Reason.{Reason}
 use Rattle.schema_model.specs.declared.reason.Reason.TheVariants.{Truncated, BadVarint}
 use Rattle.blob_frame.specs.declared.fault.BlobFault.{BlobFault}
 use Rattle.blob_frame.specs.declared.fault.BlobFault.TheVariants as fault
-use Rattle.blob_frame.specs.Item.{varint}
-use Rattle.blob_frame.specs.Words.{VarFails}
-use Rattle.blob_frame.specs.Scene.{Place, Scene, at_place, moved, IsPlaceIn, Tells, Reads}
-use Rattle.blob_frame.specs.Filling.{Fills, StopsLater, Seeks}
-use Rattle.blob_frame.proofs.Chain.{told_stays, stays_then}
-use Rattle.blob_frame.proofs.Fixed.{take_ahead, within_ahead, over_moved, stays_passed}
+use Rattle.blob_frame.specs.Item.{varint, run}
+use Rattle.blob_grammar.specs.Words.{VarFails, StopsLater}
+use Rattle.blob_frame.specs.Scene.{Place, Scene, at_place, moved, IsPlaceIn, Reads}
+use Rattle.blob_frame.specs.Filling.{Fills, Seeks}
+use Rattle.blob_frame.proofs.Chain.{told_stays, stays_then, reads_missed, reads_ok, reads_bad, reads_err}
+use Rattle.blob_frame.proofs.Fixed.{place_in, reads_ahead}
 use Rattle.blob_frame.proofs.Seeking.{long_run}
 
 -- each byte of those that go on has its high bit set
@@ -30,37 +31,20 @@ whole_ahead blob place over =
     sym (take-append-drop (length place.ahead) (drop place.at blob))
     ∙ ap (λ (xs : List ℕ). xs ++ drop (length place.ahead) (drop place.at blob)) (sym over.2)
 
-tells_number : (limit : ℕ) (content : Option (List ℕ)) (place : Place) (n next : ℕ) → IsPlaceIn place content → VarStandsBelow limit place.ahead 0 n next →
-    Tells (varint limit) content place.at (Ok n) (place.at + next)
-unfolding varint
-tells_number limit None place n next over p = tt
-tells_number limit (Some blob) place n next over p = record {
-  from = omega arith;
-  within = within_ahead blob place.ahead place.at next over.1 p.within;
-  spelled = subst (λ (bytes : List ℕ). IsVarint bytes n)
-      (ap (λ k. take k place.ahead) first ∙ (take_ahead blob place.ahead place.at next over.2 p.within ∙ ap (λ k. take k (drop place.at blob)) (sym then)))
-      p.spelled;
-  below = p.below;
-}
-  where
-    first : next - 0 ≡ next
-    first = omega arith
-
-    then : place.at + next - place.at ≡ next
-    then = omega arith
-
 -- a number is read from the bytes ahead
 pub reads_number : (limit : ℕ) {before mid : Scene} {place : Place} {n next : ℕ} → Fills {T = Unit {0}} 10 before mid (Ok tt) →
     VarStandsBelow limit mid.place.ahead 0 n next → place ≡ moved mid.place next → Reads (varint limit) before (at_place mid place) (Ok n)
-reads_number limit {before} {mid} {place} {n} {next} f p is = subst (λ (place : Place). Reads (varint limit) before (at_place mid place) (Ok n)) (sym is) (record {
-  stays = stays_passed next f.stays;
-  over = over_moved mid.place (told mid.held mid.place.name) next p.within f.over;
-  cause = λ e. absurd (cc);
-  kind = tt;
-  tells = subst (λ content. Tells (varint limit) content before.place.at (Ok n) (mid.place.at + next)) (told_stays f.stays)
-      (subst (λ at. Tells (varint limit) (told mid.held mid.place.name) at (Ok n) (mid.place.at + next)) f.place
-      (tells_number limit (told mid.held mid.place.name) mid.place n next f.over p));
-})
+unfolding varint run
+reads_number limit {before} {mid} {place} {n} {next} f p is = reads_ok (reads_ahead next f.stays f.over f.place p.within is) (λ blob holds q. record {
+  from = omega (arith, q.0);
+  within = q.1;
+  spelled = subst (λ (bytes : List ℕ). IsVarint bytes n)
+      (ap (λ k. take k mid.place.ahead) first ∙ (q.2 ∙ ap (λ k. take k (drop before.place.at blob)) (omega (arith, q.0)))) p.spelled;
+  below = p.below;
+}) refl
+  where
+    first : next - 0 ≡ next
+    first = omega arith
 
 null_told : (blob : List ℕ) (place : Place) → IsPlaceIn place (Some blob) → IsNullVar place.ahead → IsNullVar (drop place.at blob)
 null_told blob place over is = rw (whole_ahead blob place over) (front_null place.ahead (drop (length place.ahead) (drop place.at blob)) is)
@@ -81,25 +65,17 @@ long_told limit blob place over is =
       over = is.over;
     }
 
-tells_bad : (limit : ℕ) (content : Option (List ℕ)) (place : Place) → IsPlaceIn place content → IsNullVar place.ahead ⊎ IsLongVar limit place.ahead →
-    Tells (varint limit) content place.at (Err (fault.Bad place.at BadVarint)) place.at
-unfolding varint
-tells_bad limit None place over is = tt
-tells_bad limit (Some blob) place over (inl null) = (inr (inl (null_told blob place over null), refl), refl)
-tells_bad limit (Some blob) place over (inr long) = (inr (inr (long_told limit blob place over long), refl), refl)
-
 -- the null, or a number that is too large, stands ahead
 pub reads_bad_number : (limit : ℕ) {before mid : Scene} {r : Result ℕ BlobFault} → Fills {T = Unit {0}} 10 before mid (Ok tt) →
     IsNullVar mid.place.ahead ⊎ IsLongVar limit mid.place.ahead → r ≡ Err (fault.Bad mid.place.at BadVarint) → Reads (varint limit) before mid r
-reads_bad_number limit {before} {mid} {r} f p is = subst (λ r. Reads (varint limit) before mid r) (sym is) (record {
-  stays = f.stays;
-  over = f.over;
-  cause = λ e. absurd (cc);
-  kind = tt;
-  tells = subst (λ content. Tells (varint limit) content before.place.at (Err (fault.Bad mid.place.at BadVarint)) mid.place.at) (told_stays f.stays)
-      (subst (λ at. Tells (varint limit) (told mid.held mid.place.name) at (Err (fault.Bad mid.place.at BadVarint)) mid.place.at) f.place
-      (tells_bad limit (told mid.held mid.place.name) mid.place f.over p));
-})
+unfolding varint
+reads_bad_number limit {before} {mid} f p is = reads_missed f.stays f.over (λ blob holds.
+    (subst (λ at. VarFails limit (drop at blob) BadVarint) f.place (inr (bad blob (place_in f.stays f.over blob holds) p, refl)), f.place)) is
+  where
+    bad : (blob : List ℕ) → IsPlaceIn mid.place (Some blob) → IsNullVar mid.place.ahead ⊎ IsLongVar limit mid.place.ahead →
+        IsNullVar (drop mid.place.at blob) ⊎ IsLongVar limit (drop mid.place.at blob)
+    bad blob over (inl null) = inl (null_told blob mid.place over null)
+    bad blob over (inr long) = inr (long_told limit blob mid.place over long)
 
 first_same : (xs ys : List ℕ) → 0 < length xs → get_or (xs ++ ys) 0 0 ≡ get_or xs 0 0
 first_same [] ys h = absurd (omega arith)
@@ -162,30 +138,38 @@ unended_told limit blob place true small over enough inside s =
       refl,
     )
 
-tells_unended : (limit : ℕ) (content : Option (List ℕ)) (place : Place) (stops : Bool) (end : ℕ) → limit ≤ 2 ^ 64 → IsPlaceIn place content →
-    IfSome content (λ blob. min 10 (length blob - place.at) ≤ length place.ahead) → VarEndsInside place.ahead →
-    IfSome content (λ blob. MatchBool stops (StopsLater (drop place.at blob)) (GoOn (drop place.at blob))) →
-    Tells (varint limit) content place.at (Err (fault.Bad place.at (cond stops BadVarint Truncated))) end
-unfolding varint
-tells_unended limit None place stops end small over enough inside s = tt
-tells_unended limit (Some blob) place stops end small over enough inside s = (unended_told limit blob place stops small over enough inside s, refl)
-
 -- the bytes ahead all go on, so the number is too large or the blob ends inside it
 pub reads_unended : (limit : ℕ) {before mid after : Scene} {stops : Bool} {r : Result ℕ BlobFault} → limit ≤ 2 ^ 64 → Fills {T = Unit {0}} 10 before mid (Ok tt) →
     VarEndsInside mid.place.ahead → Seeks mid after (Ok stops) → r ≡ Err (fault.Bad mid.place.at (cond stops BadVarint Truncated)) → Reads (varint limit) before after r
-reads_unended limit {before} {mid} {after} {stops} {r} small f inside s is = subst (λ r. Reads (varint limit) before after r) (sym is) (record {
-  stays = stays_then f.stays s.stays;
-  over = s.over;
-  cause = λ e. absurd (cc);
-  kind = tt;
-  tells = subst (λ content. Tells (varint limit) content before.place.at fails after.place.at) (told_stays f.stays)
-      (subst (λ at. Tells (varint limit) (told mid.held mid.place.name) at fails after.place.at) f.place
-      (tells_unended limit (told mid.held mid.place.name) mid.place stops after.place.at small f.over enough inside s.tells));
-})
-  where
-    fails : Result ℕ BlobFault
-    fails = Err (fault.Bad mid.place.at (cond stops BadVarint Truncated))
+unfolding varint
+reads_unended limit {before} {mid} {after} {stops} small f inside s is = reads_missed (stays_then f.stays s.stays) s.over (λ blob holds.
+    let enough = subst (λ at. min 10 (length blob - at) ≤ length mid.place.ahead) (sym f.place)
+    (subst (λ content. IfSome content (λ blob. min 10 (length blob - before.place.at) ≤ length mid.place.ahead)) holds f.enough) in
+    let later = subst (λ content. IfSome content (λ blob. MatchBool stops (StopsLater (drop mid.place.at blob)) (GoOn (drop mid.place.at blob)))) (told_stays f.stays ∙ holds) s.tells in (
+      subst (λ at. VarFails limit (drop at blob) (cond stops BadVarint Truncated)) f.place
+          (unended_told limit blob mid.place stops small (place_in f.stays f.over blob holds) enough inside later),
+      f.place,
+    )) is
 
-    enough : IfSome (told mid.held mid.place.name) (λ blob. min 10 (length blob - mid.place.at) ≤ length mid.place.ahead)
-    enough = subst (λ content. IfSome content (λ blob. min 10 (length blob - mid.place.at) ≤ length mid.place.ahead)) (sym (told_stays f.stays))
-        (subst (λ at. IfSome (told before.held before.place.name) (λ blob. min 10 (length blob - at) ≤ length mid.place.ahead)) (sym f.place) f.enough)
+-- a number below a smaller limit
+pub reads_lower : (limit lower : ℕ) {before after : Scene} {n : ℕ} → Reads (varint limit) before after (Ok n) → n < lower → Reads (varint lower) before after (Ok n)
+unfolding varint
+reads_lower limit lower {before} {after} {n} p below = reads_ok p (λ blob holds stands. stands_below limit lower blob before.place.at n after.place.at stands below) refl
+
+-- a number that is not
+pub reads_over : (limit lower : ℕ) {before after : Scene} {n : ℕ} {r : Result ℕ BlobFault} → Reads (varint limit) before after (Ok n) → lower ≤ n →
+    r ≡ Err (fault.Bad before.place.at BadVarint) → Reads (varint lower) before after r
+unfolding varint
+reads_over limit lower {before} {after} {n} p over is =
+    reads_bad p (λ blob holds stands. (inr (inr (stands_over limit lower blob before.place.at n after.place.at stands over), refl), refl)) is
+
+-- no number
+pub reads_no_number : (limit lower : ℕ) {before after : Scene} {e : BlobFault} {r : Result ℕ BlobFault} → lower ≤ limit → Reads (varint limit) before after (Err e) → r ≡ Err e →
+    Reads (varint lower) before after r
+unfolding varint
+reads_no_number limit lower {before} smaller p is = reads_err p (λ blob place why holds stuck. (fails (drop before.place.at blob) why stuck.0, stuck.1)) is
+  where
+    fails : (rest : List ℕ) (why : Reason) → VarFails limit rest why → VarFails lower rest why
+    fails rest why (inl p) = inl p
+    fails rest why (inr (inl null, is)) = inr (inl null, is)
+    fails rest why (inr (inr long, is)) = inr (inr (long_over limit lower rest smaller long), is)

@@ -1,204 +1,98 @@
 -- Reading a run of bytes piece by piece, moving past one, and the end of a blob.
-use Rattle.std.proofs.Common.{◌≡◌, ◌≤◌, ◌<◌, ◌+◌, ◌-◌, ◌*◌, ◌^◌, ℕ, List, [], ◌∷◌, ◌++◌, take, drop, length, min, Option, Some, None, Result, Ok, Err, refl, ◌∙◌, subst, sym, ap, arith, length-append}
+use Rattle.std.proofs.Common.{◌≡◌, ◌≤◌, ◌<◌, ◌+◌, ◌-◌, ◌*◌, ◌^◌, ℕ, List, [], ◌∷◌, ◌++◌, take, drop, length, min, Result, Ok, Err, refl, ◌∙◌, subst, sym, ap, arith, length-append}
 use Rattle.std.specs.Option.{IfSome}
 use Rattle.std.proofs.Math.Seq.{take-add}
-use Rattle.std.proofs.lemmas.List.{drop-drop}
-use Rattle.std.proofs.lemmas.Grind.{common_steps}
+use Rattle.std.proofs.lemmas.List.{drop-drop, length-take-le}
 use Rattle.hol_io.specs.Store.{Seen, told}
 use Rattle.schema_model.specs.declared.reason.Reason.TheVariants.{Truncated, TrailingBytes}
 use Rattle.blob_frame.specs.declared.fault.BlobFault.{BlobFault}
 use Rattle.blob_frame.specs.declared.fault.BlobFault.TheVariants as fault
-use Rattle.blob_frame.specs.Form.{judged}
+use Rattle.blob_grammar.specs.Form.{judged}
 use Rattle.blob_frame.specs.Item.{run, skipped, end}
-use Rattle.blob_frame.specs.Scene.{Place, Scene, scene, at_place, moved, Stays, IsOver, IsPlaceIn, Tells, Reads}
+use Rattle.blob_frame.specs.Scene.{Place, Scene, scene, at_place, moved, IsOver, IsPlaceIn, Reads}
 use Rattle.blob_frame.specs.Filling.{Fills}
-use Rattle.blob_frame.proofs.Chain.{told_stays, stays_then, rose_earlier, reads_free}
-use Rattle.blob_frame.proofs.Fixed.{take_ahead, over_moved, stays_passed}
+use Rattle.blob_frame.proofs.Chain.{told_stays, stays_here, stays_then, found_in, reads_found, reads_missed}
+use Rattle.blob_frame.proofs.Fixed.{place_in, reads_ahead}
 
--- nothing moved
-pub stays_here : (now : Scene) → Stays now now
-stays_here now = record { store = refl; later = omega arith; name = refl; size = refl }
+-- two runs, one behind the other
+reads_joined : (m n : ℕ) {before mid after : Scene} {xs ys : List ℕ} → Reads (run m) before mid (Ok xs) → Reads (run n) mid after (Ok ys) →
+    Reads (run (m + n)) before after (Ok (xs ++ ys))
+unfolding run
+reads_joined m n {before} {mid} {after} {xs} {ys} p q = reads_found (stays_then p.stays q.stays) q.over (λ blob holds.
+    let a = found_in (run m) p blob holds in
+    let b = found_in (run n) q blob (told_stays p.stays ∙ holds) in (
+      omega (arith, a.0, b.0),
+      b.1,
+      ap (λ (zs : List ℕ). zs ++ ys) a.2 ∙ (ap (λ (zs : List ℕ). take m (drop before.place.at blob) ++ zs)
+          (b.2 ∙ (ap (λ k. take n (drop k blob)) a.0 ∙ ap (λ (zs : List ℕ). take n zs) (sym (drop-drop m before.place.at blob))))
+          ∙ sym (take-add m n (drop before.place.at blob))),
+    )) refl
 
--- the bytes so far are those behind the first place, and the cursor stands behind them
+-- the bytes so far are read
 pub record Gathers (count : ℕ) (before now : Scene) (bytes : List ℕ) : Type 0 where
-  pub stays : Stays before now
-  pub over : IsOver now
-  pub place : now.place.at ≡ before.place.at + length bytes
+  pub reads : Reads (run (length bytes)) before now (Ok bytes)
   pub within : length bytes ≤ count
-  pub are : IfSome (told before.held before.place.name) (λ blob. bytes ≡ take (length bytes) (drop before.place.at blob))
 
-start_are : (content : Option (List ℕ)) (at : ℕ) → IfSome content (λ blob. [] ≡ take 0 (drop at blob))
-start_are None at = tt
-start_are (Some blob) at = refl
-
-pub gathers_start : (count : ℕ) (now : Scene) → IsOver now → Gathers count now now []
-gathers_start count now over = record {
-  stays = stays_here now;
-  over = over;
-  place = omega arith;
+pub gathers_start : (count : ℕ) (now : Scene) {bytes : List ℕ} → IsOver now → bytes ≡ [] → Gathers count now now bytes
+unfolding run
+gathers_start count now over is = subst (λ (bytes : List ℕ). Gathers count now now bytes) (sym is) (record {
+  reads = reads_found (stays_here now) over (λ blob holds. let place = place_in (stays_here now) over blob holds in (omega arith, omega (arith, place.1), refl)) refl;
   within = omega arith;
-  are = start_are (told now.held now.place.name) now.place.at;
-}
-
-more_are : (content : Option (List ℕ)) (at piece : ℕ) (bytes : List ℕ) (place : Place) → piece ≤ length place.ahead → place.at ≡ at + length bytes →
-    IsPlaceIn place content → IfSome content (λ blob. bytes ≡ take (length bytes) (drop at blob)) →
-    IfSome content (λ blob. (bytes ++ take piece place.ahead) ≡ take (length (bytes ++ take piece place.ahead)) (drop at blob))
-more_are None at piece bytes place h is over are = tt
-more_are (Some blob) at piece bytes place h is over are =
-    let here : take piece place.ahead ≡ take piece (drop (at + length bytes) blob) =
-    take_ahead blob place.ahead place.at piece over.2 h ∙ ap (λ n. take piece (drop n blob)) is in
-    let there : take piece (drop (at + length bytes) blob) ≡ take piece (drop (length bytes) (drop at blob)) =
-    ap (λ (xs : List ℕ). take piece xs) (sym (drop-drop (length bytes) at blob)) in
-    let long : length (bytes ++ take piece place.ahead) ≡ length bytes + piece =
-    length-append bytes (take piece place.ahead) ∙ ap (λ n. length bytes + n) (length_first piece place.ahead h) in
-    rw long (ap (λ (xs : List ℕ). xs ++ take piece place.ahead) are ∙ ap (λ (xs : List ℕ). take (length bytes) (drop at blob) ++ xs) (here ∙ there)
-    ∙ sym (take-add (length bytes) piece (drop at blob)))
-  where
-    length_first : (n : ℕ) (xs : List ℕ) → n ≤ length xs → length (take n xs) ≡ n
-    length_first n xs h = grind (arith, common_steps)
+})
 
 -- a piece more
 pub gathers_more : {count : ℕ} {before now mid : Scene} {bytes all : List ℕ} (piece : ℕ) {place : Place} → Gathers count before now bytes → Fills {T = Unit {0}} 1 now mid (Ok tt) →
     piece ≤ length mid.place.ahead → length bytes + piece ≤ count → place ≡ moved mid.place piece → all ≡ bytes ++ take piece mid.place.ahead →
     Gathers count before (at_place mid place) all
 gathers_more {count} {before} {now} {mid} {bytes} {all} piece {place} p f h fits is longer =
-    subst (λ (all : List ℕ). Gathers count before (at_place mid place) all) (sym longer)
-    (subst (λ (place : Place). Gathers count before (at_place mid place) (bytes ++ take piece mid.place.ahead)) (sym is) (record {
-      stays = stays_passed piece (stays_then p.stays f.stays);
-      over = over_moved mid.place (told mid.held mid.place.name) piece h f.over;
-      place = omega (arith, p.place, f.place, length-append bytes (take piece mid.place.ahead), length_first piece mid.place.ahead h);
-      within = omega (arith, length-append bytes (take piece mid.place.ahead), length_first piece mid.place.ahead h);
-      are = more_are (told before.held before.place.name) before.place.at piece bytes mid.place h (f.place ∙ p.place)
-          (subst (λ content. IsPlaceIn mid.place content) (told_stays (stays_then p.stays f.stays)) f.over) p.are;
-    }))
-  where
-    length_first : (n : ℕ) (xs : List ℕ) → n ≤ length xs → length (take n xs) ≡ n
-    length_first n xs h = grind (arith, common_steps)
-
-tells_run : (content : Option (List ℕ)) (count at end size : ℕ) (bytes : List ℕ) (place : Place) → IsPlaceIn place content → at + count ≤ place.size →
-    end ≡ at + count → length bytes ≡ count → IfSome content (λ blob. bytes ≡ take (length bytes) (drop at blob)) → Tells (run count) content at (Ok bytes) end
-unfolding run
-tells_run None count at end size bytes place over fits behind long are = tt
-tells_run (Some blob) count at end size bytes place over fits behind long are =
-    (behind, omega (arith, over.0), are ∙ ap (λ n. take n (drop at blob)) long)
-
--- all of the bytes are there
-pub gathers_done : {count : ℕ} {before now : Scene} {bytes all : List ℕ} → Gathers count before now bytes → count ≤ length bytes →
-    before.place.at + count ≤ before.place.size → IsOver before → all ≡ bytes → Reads (run count) before now (Ok all)
-gathers_done {count} {before} {now} {bytes} {all} p enough fits over is = subst (λ (all : List ℕ). Reads (run count) before now (Ok all)) (sym is) (record {
-  stays = p.stays;
-  over = p.over;
-  cause = λ e. absurd (cc);
-  kind = tt;
-  tells = tells_run (told before.held before.place.name) count before.place.at now.place.at 0 bytes before.place over fits
-      (omega (arith, p.place, p.within)) (omega (arith, p.within)) p.are;
-})
-
-tells_store : {V : Type 0} (form : _) (content : Option (List ℕ)) (at last : ℕ) → Tells {V = V} form content at (Err fault.Store) last
-tells_store form None at last = tt
-tells_store form (Some blob) at last = tt
-
--- the store fails on the way
-pub gathers_fault : {count : ℕ} {before now mid : Scene} {bytes : List ℕ} {e : BlobFault} {r : Result (List ℕ) BlobFault} → Gathers count before now bytes →
-    Fills {T = Unit {0}} 1 now mid (Err e) → r ≡ Err e → Reads (run count) before mid r
-gathers_fault {count} {before} {now} {mid} {bytes} {e} {r} p f is =
-    subst (λ r. Reads (run count) before mid r) (sym (is ∙ ap Err f.kind)) (record {
-      stays = stays_then p.stays f.stays;
-      over = f.over;
-      cause = λ k. rose_earlier before.faults now.faults mid.faults p.stays.later (f.cause (ap Err f.kind));
-      kind = tt;
-      tells = tells_store (run count) (told before.held before.place.name) before.place.at mid.place.at;
+    let long : length (bytes ++ take piece mid.place.ahead) ≡ length bytes + piece =
+    length-append bytes (take piece mid.place.ahead) ∙ ap (λ n. length bytes + n) (length-take-le piece mid.place.ahead h) in
+    subst (λ (all : List ℕ). Gathers count before (at_place mid place) all) (sym longer) (record {
+      reads = subst (λ n. Reads (run n) before (at_place mid place) (Ok (bytes ++ take piece mid.place.ahead))) (sym long)
+          (reads_joined (length bytes) piece p.reads (reads_ahead piece f.stays f.over f.place h is));
+      within = omega (arith, long, fits);
     })
 
-tells_gone : (content : Option (List ℕ)) (count at end here : ℕ) (place : Place) → IsPlaceIn place content → at + count ≤ place.size → here < at + count →
-    IfSome content (λ blob. min 1 (length blob - here) ≤ 0) → Tells (run count) content at (Err (fault.Bad at Truncated)) end
-tells_gone None count at end here place over fits less none = tt
-tells_gone (Some blob) count at end here place over fits less none = absurd (omega (arith, over.0))
+-- all of the bytes are there
+pub gathers_done : {count : ℕ} {before now : Scene} {bytes all : List ℕ} → Gathers count before now bytes → count ≤ length bytes → all ≡ bytes → Reads (run count) before now (Ok all)
+gathers_done {count} {before} {now} {bytes} {all} p enough is = subst (λ (all : List ℕ). Reads (run count) before now (Ok all)) (sym is)
+    (subst (λ n. Reads (run n) before now (Ok bytes)) (omega (arith, p.within, enough)) p.reads)
 
 -- a store that tells its content gives all of the bytes that are there
-pub gathers_gone : {count : ℕ} {before now mid : Scene} {bytes : List ℕ} → Gathers count before now bytes → Fills {T = Unit {0}} 1 now mid (Ok tt) →
+pub gathers_gone : {count : ℕ} {before now mid : Scene} {bytes : List ℕ} {r : Result (List ℕ) BlobFault} → Gathers count before now bytes → Fills {T = Unit {0}} 1 now mid (Ok tt) →
     length mid.place.ahead ≡ 0 → length bytes < count → before.place.at + count ≤ before.place.size → IsOver before →
-    Reads (run count) before mid (Err (fault.Bad before.place.at Truncated))
-gathers_gone {count} {before} {now} {mid} {bytes} p f none less fits over = record {
-  stays = stays_then p.stays f.stays;
-  over = f.over;
-  cause = λ e. absurd (cc);
-  kind = tt;
-  tells = tells_gone (told before.held before.place.name) count before.place.at mid.place.at now.place.at before.place over fits (omega (arith, p.place))
-      (subst (λ n. IfSome (told before.held before.place.name) (λ blob. min 1 (length blob - now.place.at) ≤ n)) none
-      (subst (λ content. IfSome content (λ blob. min 1 (length blob - now.place.at) ≤ length mid.place.ahead)) (told_stays p.stays) f.enough));
-}
-
--- memory is refused on the way
-pub gathers_free : {count : ℕ} {before now mid : Scene} {bytes : List ℕ} {r : Result (List ℕ) BlobFault} → Gathers count before now bytes →
-    Fills {T = Unit {0}} 1 now mid (Ok tt) → r ≡ Err fault.Memory → Reads (run count) before mid r
-gathers_free p f is = reads_free (stays_then p.stays f.stays) f.over is
-
-tells_cut : (content : Option (List ℕ)) (count end : ℕ) (place : Place) → IsPlaceIn place content → place.size < place.at + count →
-    Tells (run count) content place.at (Err (fault.Bad place.at Truncated)) end
+    r ≡ Err (fault.Bad before.place.at Truncated) → Reads (run count) before mid r
 unfolding run
-tells_cut None count end place over less = tt
-tells_cut (Some blob) count end place over less = (omega (arith, over.0), refl, refl)
+gathers_gone {before = before} {now} {mid} {bytes} p f none less fits over is = reads_missed (stays_then p.reads.stays f.stays) f.over (λ blob holds.
+    let place = place_in (stays_here before) over blob holds in
+    let here = found_in (run (length bytes)) p.reads blob holds in
+    let enough = subst (λ content. IfSome content (λ blob. min 1 (length blob - now.place.at) ≤ length mid.place.ahead)) (told_stays p.reads.stays ∙ holds) f.enough in
+    absurd (omega (arith, place.0, here.0, enough, none, less, fits))) is
 
 -- the blob has fewer bytes
 pub reads_cut : (count : ℕ) {now : Scene} {r : Result (List ℕ) BlobFault} → IsOver now → now.place.size < now.place.at + count →
     r ≡ Err (fault.Bad now.place.at Truncated) → Reads (run count) now now r
-reads_cut count {now} {r} over less is = subst (λ r. Reads (run count) now now r) (sym is) (record {
-  stays = stays_here now;
-  over = over;
-  cause = λ e. absurd (cc);
-  kind = tt;
-  tells = tells_cut (told now.held now.place.name) count now.place.at now.place over less;
-})
-
-tells_skipped : (content : Option (List ℕ)) (count : ℕ) (place : Place) → IsPlaceIn place content → place.at + count ≤ place.size →
-    Tells (skipped count) content place.at (Ok tt) (place.at + count)
-unfolding skipped run judged
-tells_skipped None count place over fits = tt
-tells_skipped (Some blob) count place over fits = (take count (drop place.at blob), (refl, omega (arith, over.0), refl), tt)
+unfolding run
+reads_cut count {now} over less is = reads_missed (stays_here now) over (λ blob holds. let place = place_in (stays_here now) over blob holds in (omega (arith, place.0, less), refl, refl)) is
 
 -- moving past bytes that are there
 pub reads_skipped : (count : ℕ) (seen : Seen) (place after : Place) → IsPlaceIn place (told seen.held place.name) → place.at + count ≤ place.size →
     after.name ≡ place.name → after.size ≡ place.size → after.at ≡ place.at + count → IsPlaceIn after (told seen.held place.name) →
     Reads (skipped count) (scene seen place) (scene seen after) (Ok tt)
-reads_skipped count seen place after over fits name size at here = record {
-  stays = record { store = refl; later = omega arith; name = name; size = size };
-  over = subst (λ n. IsPlaceIn after (told seen.held n)) (sym name) here;
-  cause = λ e. absurd (cc);
-  kind = tt;
-  tells = subst (λ n. Tells (skipped count) (told seen.held place.name) place.at (Ok tt) n) (sym at) (tells_skipped (told seen.held place.name) count place over fits);
-}
-
-tells_end : (content : Option (List ℕ)) (place : Place) → IsPlaceIn place content → place.at ≡ place.size → Tells end content place.at (Ok tt) place.at
-unfolding end
-tells_end None place over is = tt
-tells_end (Some blob) place over is = (is ∙ over.0, refl)
+unfolding skipped run judged
+reads_skipped count seen place after over fits name size at here = reads_found
+    (record { store = refl; puts = refl; later = omega arith; name = name; size = size }) (subst (λ n. IsPlaceIn after (told seen.held n)) (sym name) here)
+    (λ blob holds. let in_blob = place_in (stays_here (scene seen place)) over blob holds in (take count (drop place.at blob), (at, omega (arith, in_blob.0, at, fits), refl), tt)) refl
 
 -- nothing is left
 pub reads_end : {now : Scene} → IsOver now → now.place.at ≡ now.place.size → Reads end now now (Ok tt)
-reads_end {now} over is = record {
-  stays = stays_here now;
-  over = over;
-  cause = λ e. absurd (cc);
-  kind = tt;
-  tells = tells_end (told now.held now.place.name) now.place over is;
-}
-
-tells_trailing : (content : Option (List ℕ)) (place : Place) → IsPlaceIn place content → place.at < place.size →
-    Tells end content place.at (Err (fault.Bad place.at TrailingBytes)) place.at
 unfolding end
-tells_trailing None place over less = tt
-tells_trailing (Some blob) place over less = (omega (arith, over.0), refl, refl)
+reads_end {now} over is = reads_found (stays_here now) over (λ blob holds. (is ∙ (place_in (stays_here now) over blob holds).0, refl)) refl
 
 -- a byte is left
 pub reads_trailing : {now : Scene} {r : Result Unit BlobFault} → IsOver now → now.place.at < now.place.size → r ≡ Err (fault.Bad now.place.at TrailingBytes) → Reads end now now r
-reads_trailing {now} {r} over less is = subst (λ r. Reads end now now r) (sym is) (record {
-  stays = stays_here now;
-  over = over;
-  cause = λ e. absurd (cc);
-  kind = tt;
-  tells = tells_trailing (told now.held now.place.name) now.place over less;
-})
+unfolding end
+reads_trailing {now} over less is = reads_missed (stays_here now) over (λ blob holds. (omega (arith, less, (place_in (stays_here now) over blob holds).0), refl, refl)) is
 
 -- one word more, and the cursor stands behind it
 pub words_more : (list all : List ℕ) (x start now next : ℕ) → now ≡ start + 8 * length list → (next ≡ now + 8) × (next ≤ 2 ^ 28) → all ≡ list ++ x ∷ [] →

@@ -1,30 +1,16 @@
 -- Seeking the end of a number that goes on.
-use Rattle.std.proofs.Common.{◌≡◌, ◌≢◌, ◌≤◌, ◌<◌, ◌+◌, ◌-◌, ◌*◌, ◌^◌, ℕ, suc, List, [], ◌∷◌, ◌++◌, get_or, take, drop, length, min, Bool, true, false, Option, Some, None, Result, Ok, Err, refl, ◌∙◌, subst, sym, ap, arith, length-drop, drop-cons}
+use Rattle.std.proofs.Common.{◌≡◌, ◌≢◌, ◌≤◌, ◌<◌, ◌+◌, ◌-◌, ◌*◌, ◌^◌, ℕ, suc, List, [], ◌∷◌, ◌++◌, get_or, take, drop, length, min, true, Option, Some, None, Ok, ◌∙◌, subst, sym, ap, arith, length-drop, drop-cons}
 use Rattle.std.specs.Option.{IfSome}
-use Rattle.std.specs.Result.{IfOk}
-use Rattle.std.specs.Bool.{MatchBool}
 use Rattle.std.proofs.Math.Seq.{take-add}
 use Rattle.std.proofs.lemmas.List.{drop-drop, take-take, take-append-drop, take_more, get_or-take, get_or-drop}
-use Rattle.std.proofs.lemmas.Grind.{common_steps}
 use Rattle.hol_io.specs.Store.{told}
-use Rattle.hol_varint.specs.Varint.{GoOn, SpellsOn, IsVarint}
-use Rattle.blob_frame.specs.declared.fault.BlobFault.{BlobFault}
-use Rattle.blob_frame.specs.declared.fault.BlobFault.TheVariants as fault
+use Rattle.hol_varint.specs.Varint.{GoOn, IsVarint}
 use Rattle.blob_frame.specs.Scene.{Place, Scene, at_place, moved, Stays, IsOver, IsPlaceIn}
-use Rattle.blob_frame.specs.Filling.{Fills, StopsLater, Seeks, HasAhead}
-use Rattle.blob_frame.proofs.Chain.{told_stays, stays_then, rose_earlier}
+use Rattle.blob_grammar.specs.Words.{StopsLater}
+use Rattle.blob_grammar.proofs.SomeNumbers.{grouped, spells-push}
+use Rattle.blob_frame.specs.Filling.{Fills, Seeks, HasAhead}
+use Rattle.blob_frame.proofs.Chain.{told_stays, stays_then}
 use Rattle.blob_frame.proofs.Fixed.{stays_passed}
-use Rattle.blob_frame.proofs.Runs.{stays_here}
-
--- what the groups of the bytes make, behind those that make high
-abbrev grouped : ℕ → List ℕ → ℕ
-grouped high [] = high
-grouped high (b ∷ bs) = grouped (high * 128 + (b - 128)) bs
-
-spells-push : (high : ℕ) (bs : List ℕ) (b : ℕ) → GoOn bs → b < 128 → SpellsOn high (bs ++ b ∷ []) (grouped high bs * 128 + b)
-spells-push high [] b on last = (last, refl)
-spells-push high (c ∷ []) b on last = (on.0, on.1, spells-push (high * 128 + (c - 128)) [] b tt last)
-spells-push high (c ∷ d ∷ ds) b on last = (on.0, on.1, spells-push (high * 128 + (c - 128)) (d ∷ ds) b on.2 last)
 
 pub GoOn-append : (xs ys : List ℕ) → GoOn xs → GoOn ys → GoOn (xs ++ ys)
 GoOn-append [] ys p q = q
@@ -73,19 +59,6 @@ pub record Seeking (before now : Scene) : Type 0 where
   pub on : IfSome (told before.held before.place.name) (λ blob. GoOn (take (now.place.at - before.place.at) (drop before.place.at blob)))
   pub ahead : HasAhead 1 now
 
-start_on : (content : Option (List ℕ)) (at : ℕ) → IfSome content (λ blob. GoOn (take (at - at) (drop at blob)))
-start_on None at = tt
-start_on (Some blob) at = let none : at - at ≡ 0 = omega arith in rw none tt
-
-pub seeking_start : (now : Scene) → IsOver now → HasAhead 1 now → Seeking now now
-seeking_start now over ahead = record {
-  stays = stays_here now;
-  over = over;
-  place = omega arith;
-  on = start_on (told now.held now.place.name) now.place.at;
-  ahead = ahead;
-}
-
 -- what stands behind the bytes so far
 rest_told : (blob : List ℕ) (from : ℕ) (place : Place) → from ≤ place.at → IsPlaceIn place (Some blob) →
     place.ahead ≡ take (length place.ahead) (drop (place.at - from) (drop from blob))
@@ -119,23 +92,6 @@ seeking_more {before} {now} {mid} {place} count p on all is f =
           (subst (λ n. IfSome (told now.held place.name) (λ blob. min 1 (length blob - n) ≤ length mid.place.ahead)) (sym f.place) f.enough);
     }
 
--- the store fails
-pub seeking_fault : {before now mid : Scene} {place : Place} {e : BlobFault} {r : Result Bool BlobFault} (count : ℕ) → Seeking before now →
-    place ≡ moved now.place count → Fills {T = Unit {0}} 1 (at_place now place) mid (Err e) → r ≡ Err e → Seeks before mid r
-seeking_fault {before} {now} {mid} {place} {e} {r} count p is f same =
-    let stays : Stays before (at_place now place) = subst (λ (place : Place). Stays before (at_place now place)) (sym is) (stays_passed count p.stays) in
-    subst (λ r. Seeks before mid r) (sym (same ∙ ap Err f.kind)) (record {
-      stays = stays_then stays f.stays;
-      over = f.over;
-      cause = λ k. rose_earlier before.faults now.faults mid.faults p.stays.later (f.cause (ap Err f.kind));
-      kind = refl;
-      tells = untold (told before.held before.place.name) before.place.at;
-    })
-  where
-    untold : (content : Option (List ℕ)) (at : ℕ) → IfSome content (λ blob. IfOk {E = BlobFault} (Err fault.Store) (λ found. MatchBool found (StopsLater (drop at blob)) (GoOn (drop at blob))))
-    untold None at = tt
-    untold (Some blob) at = tt
-
 stop_told : (content : Option (List ℕ)) (from : ℕ) (place : Place) (k : ℕ) → from ≤ place.at → IsPlaceIn place content → k < length place.ahead → GoOn (take k place.ahead) →
     get_or place.ahead k 0 < 128 → IfSome content (λ blob. GoOn (take (place.at - from) (drop from blob))) →
     IfSome content (λ blob. StopsLater (drop from blob))
@@ -168,25 +124,4 @@ seeking_found {before} {now} k p stop = record {
   kind = tt;
   tells = stop_told (told before.held before.place.name) before.place.at now.place k p.place
       (subst (λ content. IsPlaceIn now.place content) (told_stays p.stays) p.over) stop.0 stop.1 stop.2 p.on;
-}
-
-all_told : (content : Option (List ℕ)) (from : ℕ) (place : Place) → from ≤ place.at → length place.ahead ≡ 0 →
-    IfSome content (λ blob. min 1 (length blob - place.at) ≤ length place.ahead) →
-    IfSome content (λ blob. GoOn (take (place.at - from) (drop from blob))) → IfSome content (λ blob. GoOn (drop from blob))
-all_told None from place h none enough so_far = tt
-all_told (Some blob) from place h none enough so_far =
-    subst GoOn (take_all (place.at - from) (drop from blob) (omega (arith, length-drop from blob))) so_far
-  where
-    take_all : (n : ℕ) (xs : List ℕ) → length xs ≤ n → take n xs ≡ xs
-    take_all n xs h = grind (arith, common_steps)
-
--- the blob ends, and no byte ended the number
-pub seeking_none : {before now : Scene} → Seeking before now → length now.place.ahead ≡ 0 → Seeks before now (Ok false)
-seeking_none {before} {now} p none = record {
-  stays = p.stays;
-  over = p.over;
-  cause = λ e. absurd (cc);
-  kind = tt;
-  tells = all_told (told before.held before.place.name) before.place.at now.place p.place none
-      (subst (λ content. IfSome content (λ blob. min 1 (length blob - now.place.at) ≤ length now.place.ahead)) (told_stays p.stays) p.ahead) p.on;
 }

@@ -1,6 +1,7 @@
 -- How a cursor reads ahead.
-use Rattle.std.specs.Prelude.{◌≡◌, ◌≤◌, ◌<◌, ◌+◌, ◌-◌, ℕ, List, ◌∷◌, ◌++◌, length, drop, min, Bool, Option, Some, Result, Err, OnOk, IfOk, IfErr, IfSome, MatchBool}
+use Rattle.std.specs.Prelude.{◌≡◌, ◌≤◌, ◌<◌, ◌+◌, ◌-◌, ℕ, List, length, drop, min, Bool, Option, Some, Result, Err, OnOk, IfOk, IfErr, IfSome, MatchBool}
 use Rattle.hol_varint.specs.Varint.{GoOn}
+use Rattle.blob_grammar.specs.Words.{StopsLater}
 use Rattle.hol_io.specs.Causes.{Rose}
 use Rattle.hol_io.specs.Store.{told}
 use Rattle.schema_model.specs.declared.reason.Reason.TheVariants.{Truncated}
@@ -32,15 +33,6 @@ pub record Needs {T : Type 0} (count : ℕ) (before after : Scene) (answer : Res
   pub kind : IfErr answer IsReadFault
   pub enough : OnOk answer (count ≤ length after.place.ahead)
   pub tells : TellsNeed count (told before.held before.place.name) before.place.at answer
-
--- A byte that ends a number comes later, and each byte before it goes on.
-pub record StopsLater (rest : List ℕ) : Type 0 where
-  pub front : List ℕ
-  pub stop : ℕ
-  pub behind : List ℕ
-  pub is : rest ≡ front ++ stop ∷ behind
-  pub on : GoOn front
-  pub ends : stop < 128
 
 -- Whether a byte that ends a number comes before the blob ends.
 pub record Seeks (before after : Scene) (answer : Result Bool BlobFault) : Type 0 where

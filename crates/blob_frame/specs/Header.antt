@@ -1,18 +1,22 @@
 -- The header of a blob: the format, the tags of the state before and of this state, the schemas, and pairs of texts.
-use Rattle.std.specs.Prelude.{◌≡◌, ◌≢◌, ℕ, zero, suc, List, []}
+use Rattle.std.specs.Prelude.{◌≡◌, ◌≢◌, ℕ, List, []}
 use Rattle.std.specs.Int.{w16, w32}
 use Rattle.schema_model.specs.declared.reason.Reason.{Reason}
 use Rattle.schema_model.specs.declared.reason.Reason.TheVariants.{OtherFormat}
 use Rattle.schema_model.specs.declared.schema.Schema.{Schema}
 use Rattle.blob_frame.specs.declared.header.Header.{Header}
-use Rattle.blob_frame.specs.Form.{Form, ◌>>=◌, nothing, judged, repeated}
-use Rattle.blob_frame.specs.Deciding.{judge_only}
+use Rattle.blob_grammar.specs.Form.{Form, ◌>>=◌, nothing, judged, both, counted, envelope}
+use Rattle.blob_grammar.specs.Deciding.{judge_number}
 use Rattle.blob_frame.specs.Item.{fixed, signed, vint, name, skipped}
 use Rattle.blob_frame.specs.SchemaForm.{schemas}
 
--- The format, which is 1030.
+-- The number of the format.
+abbrev pub format_number : ℕ
+format_number = 1030
+
+-- The format.
 unfoldable pub format : Form Unit
-format = judged (fixed w32) (λ n u. n ≡ 1030) (λ n why. (n ≢ 1030) × (why ≡ OtherFormat)) (judge_only 1030 OtherFormat)
+format = judged (fixed w32) (λ n u. n ≡ format_number) (λ n why. (n ≢ format_number) × (why ≡ OtherFormat)) (judge_number format_number OtherFormat)
 
 -- The listed schemas, and behind them bytes to skip.
 unfoldable pub listed_schemas : Form (List Schema)
@@ -22,29 +26,17 @@ listed_schemas = do
   _ ← skipped count
   nothing listed
 
--- What stands in the schema envelope behind its number: nothing behind 0, else the listed schemas.
-unfoldable pub enveloped_schemas : ℕ → Form (List Schema)
-enveloped_schemas zero = nothing []
-enveloped_schemas (suc n) = listed_schemas
-
 -- The schema envelope.
 unfoldable pub schema_envelope : Form (List Schema)
-schema_envelope = do
-  number ← vint
-  enveloped_schemas number
+schema_envelope = envelope vint [] listed_schemas
 
 -- A pair of texts.
 unfoldable pub name_pair : Form (List ℕ × List ℕ)
-name_pair = do
-  key ← name
-  value ← name
-  nothing (key, value)
+name_pair = both name name
 
 -- The header tags: their number in 2 bytes, and each pair.
 unfoldable pub header_tags : Form (List (List ℕ × List ℕ))
-header_tags = do
-  count ← fixed w16
-  repeated count name_pair
+header_tags = counted (fixed w16) name_pair
 
 -- A header.
 unfoldable pub header : Form Header

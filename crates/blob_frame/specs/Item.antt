@@ -5,11 +5,11 @@ use Rattle.hol_varint.specs.Varint.{VarStandsBelow}
 use Rattle.hol_varint.specs.JavaUtf.{UtfStandsAt}
 use Rattle.hol_varint.specs.TextUnits.{IsTextOf}
 use Rattle.schema_model.specs.declared.reason.Reason.TheVariants.{Truncated, BadName, TrailingBytes}
-use Rattle.blob_frame.specs.Form.{Form, judged}
-use Rattle.blob_frame.specs.Words.{VarFails, UtfFails}
-use Rattle.blob_frame.specs.Deciding.{judge_as, judge_any}
-use Rattle.blob_frame.specs.DecidedItems.{decided_fixed, decided_varint, decided_units, decided_run, decided_end}
-use Rattle.blob_frame.specs.Judges.{judge_text}
+use Rattle.blob_grammar.specs.Form.{Form, ◌>>=◌, judged}
+use Rattle.blob_grammar.specs.Words.{VarFails, UtfFails}
+use Rattle.blob_grammar.specs.Deciding.{judge_as, judge_any}
+use Rattle.blob_grammar.proofs.DecidedItems.{decided_fixed, decided_varint, decided_units, decided_run, decided_end}
+use Rattle.blob_grammar.proofs.Judges.{judge_text}
 
 -- A number of a fixed size, its highest byte first.
 unfoldable pub fixed : Width → Form ℕ
@@ -59,6 +59,12 @@ run n = record {
   Stuck = λ bytes at place why. (length bytes < at + n) × (place ≡ at) × (why ≡ Truncated);
   decided = decided_run n;
 }
+
+-- A run of bytes behind their number.
+unfoldable pub counted_run : Form (List ℕ)
+counted_run = do
+  count ← vlong
+  run count
 
 -- A run of this many bytes that mean nothing.
 unfoldable pub skipped : ℕ → Form Unit

@@ -1,4 +1,3 @@
-pub mod Form
 pub mod Item
 pub mod SchemaForm
 pub mod Header
@@ -6,8 +5,3 @@ pub mod Scene
 pub mod Filling
 pub mod Starting
 pub mod Written
-pub mod Decided
-pub mod Words
-pub mod Deciding
-pub mod DecidedItems
-pub mod Judges

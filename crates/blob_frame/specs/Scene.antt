@@ -6,7 +6,7 @@ use Rattle.hol_io.specs.declared.name.BlobName.{BlobName}
 use Rattle.schema_model.specs.declared.reason.Reason.{Reason}
 use Rattle.blob_frame.specs.declared.fault.BlobFault.{BlobFault}
 use Rattle.blob_frame.specs.declared.fault.BlobFault.TheVariants as fault
-use Rattle.blob_frame.specs.Form.{Form}
+use Rattle.blob_grammar.specs.Form.{Form}
 
 -- Where a cursor stands: in which blob, how long it is, at which place, and the bytes that it read ahead.
 pub record Place : Type 0 where
@@ -15,18 +15,19 @@ pub record Place : Type 0 where
   pub at : ℕ
   pub ahead : List ℕ
 
--- The content that the store tells, how often the store failed, and the cursor's place.
+-- The content that the store tells, how often it failed and how often something was put, and the cursor's place.
 pub record Scene : Type 0 where
   pub held : Option Store
   pub faults : ℕ
+  pub puts : ℕ
   pub place : Place
 
 abbrev pub scene : Seen → Place → Scene
-scene seen place = record { held = seen.held; faults = seen.faults; place = place }
+scene seen place = record { held = seen.held; faults = seen.faults; puts = seen.puts; place = place }
 
 -- The same store, at this place.
 abbrev pub at_place : Scene → Place → Scene
-at_place now place = record { held = now.held; faults = now.faults; place = place }
+at_place now place = record { held = now.held; faults = now.faults; puts = now.puts; place = place }
 
 -- The place behind so many bytes that were read ahead.
 abbrev pub moved : Place → ℕ → Place
@@ -42,9 +43,10 @@ IsPlaceIn place (Some blob) = (place.size ≡ length blob) × (place.at + length
 abbrev pub IsOver : Scene → Type 0
 IsOver scene = IsPlaceIn scene.place (told scene.held scene.place.name)
 
--- The store holds what it held, the count of its faults did not fall, and the cursor is in the same blob.
+-- The store holds what it held, nothing was put, the count of its faults did not fall, and the cursor is in the same blob.
 pub record Stays (before after : Scene) : Type 0 where
   pub store : after.held ≡ before.held
+  pub puts : after.puts ≡ before.puts
   pub later : before.faults ≤ after.faults
   pub name : after.place.name ≡ before.place.name
   pub size : after.place.size ≡ before.place.size

@@ -7,13 +7,13 @@ use Rattle.schema_model.specs.declared.schema.Field.{Field}
 use Rattle.schema_model.specs.declared.schema.Shape.{Shape}
 use Rattle.schema_model.specs.declared.schema.Shape.TheVariants as shape
 use Rattle.schema_model.specs.declared.schema.Schema.{Schema}
-use Rattle.blob_frame.specs.declared.kind.SchemaKind.{SchemaKind}
-use Rattle.blob_frame.specs.declared.kind.SchemaKind.TheVariants as kind
-use Rattle.blob_frame.specs.declared.kind.FieldType.{FieldType}
-use Rattle.blob_frame.specs.declared.kind.FieldType.TheVariants as type_
-use Rattle.blob_frame.specs.Form.{Form, ◌>>=◌, nothing, judged, at_most, repeated}
-use Rattle.blob_frame.specs.Words.{kind_byte, IsRefusedKind, type_text, IsRefusedType}
-use Rattle.blob_frame.specs.Judges.{judge_kind, judge_type}
+use Rattle.blob_grammar.specs.declared.kind.SchemaKind.{SchemaKind}
+use Rattle.blob_grammar.specs.declared.kind.SchemaKind.TheVariants as kind
+use Rattle.blob_grammar.specs.declared.kind.FieldType.{FieldType}
+use Rattle.blob_grammar.specs.declared.kind.FieldType.TheVariants as type_
+use Rattle.blob_grammar.specs.Form.{Form, ◌>>=◌, nothing, judged, at_most, made, both, counted}
+use Rattle.blob_grammar.specs.Words.{kind_byte, IsRefusedKind, type_text, IsRefusedType}
+use Rattle.blob_grammar.proofs.Judges.{judge_kind, judge_type}
 use Rattle.blob_frame.specs.Item.{fixed, vint, name}
 
 -- The byte of a schema's kind.
@@ -26,9 +26,7 @@ field_type = judged name (λ text t. text ≡ type_text t) IsRefusedType judge_t
 
 -- What a field holds: behind REFERENCE stands the name of the type that it refers to.
 unfoldable pub field_kind_of : FieldType → Form FieldKind
-field_kind_of type_.Reference = do
-  to ← name
-  nothing (Reference to)
+field_kind_of type_.Reference = made (λ to. Reference to) name
 field_kind_of type_.Int = nothing Int
 field_kind_of type_.Long = nothing Long
 field_kind_of type_.Boolean = nothing Boolean
@@ -45,35 +43,19 @@ field = do
 
 -- The fields of a type: their number in 2 bytes, and each of them.
 unfoldable pub fields : Form (List Field)
-fields = do
-  count ← at_most (fixed w16) 1024
-  repeated count field
+fields = counted (at_most (fixed w16) 1024) field
 
 -- The key paths of a type: their number, and each of them.
 unfoldable pub key_paths : Form (List (List ℕ))
-key_paths = do
-  count ← vint
-  repeated count name
+key_paths = counted vint name
 
 -- What a kind calls for behind the type's name.
 unfoldable pub shape_of : SchemaKind → Form Shape
-shape_of kind.Object = do
-  all ← fields
-  nothing (shape.Object None all)
-shape_of kind.KeyedObject = do
-  paths ← key_paths
-  all ← fields
-  nothing (shape.Object (Some paths) all)
-shape_of kind.Set = do
-  element ← name
-  nothing (shape.Set element)
-shape_of kind.List = do
-  element ← name
-  nothing (shape.List element)
-shape_of kind.Map = do
-  key ← name
-  value ← name
-  nothing (shape.Map key value)
+shape_of kind.Object = made (λ all. shape.Object None all) fields
+shape_of kind.KeyedObject = made (λ p. shape.Object (Some p.0) p.1) (both key_paths fields)
+shape_of kind.Set = made (λ element. shape.Set element) name
+shape_of kind.List = made (λ element. shape.List element) name
+shape_of kind.Map = made (λ p. shape.Map p.0 p.1) (both name name)
 
 -- A schema.
 unfoldable pub schema : Form Schema
@@ -85,6 +67,4 @@ schema = do
 
 -- A list of schemas: their number, which is 512 at most, and each of them.
 unfoldable pub schemas : Form (List Schema)
-schemas = do
-  count ← at_most vint 512
-  repeated count schema
+schemas = counted (at_most vint 512) schema

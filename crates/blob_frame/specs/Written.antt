@@ -5,6 +5,7 @@ use Rattle.std.specs.Int.{w32, w64, to_be_bytes, cast_unsigned}
 use Rattle.hol_varint.specs.Varint.{varint_bytes}
 use Rattle.schema_model.specs.declared.schema.Schema.{Schema}
 use Rattle.schema_model.specs.Schema.{schema_bytes}
+use Rattle.blob_frame.specs.Header.{format_number}
 
 -- the schemas of these types
 abbrev pub schemas_at : List Schema → List ℕ → List Schema
@@ -18,5 +19,5 @@ schema_list_bytes listed = varint_bytes (length listed) ++ flat_map schema_bytes
 -- and no header tags
 abbrev pub header_bytes : ℤ → ℤ → List Schema → List ℕ
 header_bytes origin destination listed =
-    to_be_bytes w32 1030 ++ (to_be_bytes w64 (cast_unsigned w64 origin) ++ (to_be_bytes w64 (cast_unsigned w64 destination)
+    to_be_bytes w32 format_number ++ (to_be_bytes w64 (cast_unsigned w64 origin) ++ (to_be_bytes w64 (cast_unsigned w64 destination)
     ++ (varint_bytes (length (schema_list_bytes listed) + 1) ++ (schema_list_bytes listed ++ 0 ∷ 0 ∷ 0 ∷ []))))

@@ -1,21 +1,19 @@
-ghost use Rattle.std.specs.Prelude.{◌≡◌, ◌≤◌, ◌+◌, ◌^◌, ℕ, List, Option, length, drop, min, IsTrue, IfOk, OnOk, OnSome, Result, Ok, Err};
+//! A place in a blob of a store, and the bytes that were read ahead.
+ghost use Rattle.std.specs.Prelude.{◌≡◌, ◌≤◌, ◌+◌, ◌^◌, ℕ, List, Option, length, drop, min, IsTrue, IfErr, IfOk, OnOk, OnSome, Result, Ok, Err};
 ghost use Rattle.hol_io.specs.Causes.{Rose};
 ghost use Rattle.hol_io.specs.Store.{Store, told};
 ghost use Rattle.blob_frame.specs.Scene.{IsAbove, Leads, Place, IsOver, IsPlaceIn, scene, moved};
 ghost use Rattle.blob_frame.specs.Filling.{Fills, Needs};
-ghost use Rattle.blob_frame.specs.Starting.{Starts, IsStart};
+ghost use Rattle.blob_frame.specs.Starting.{Starts, IsStart, IsStartFault};
 
 use crate::fault::BlobFault;
 use hol_io::{BlobName, BlobStore};
-use schema_model::{Limit, Reason};
+use schema_model::{Limit, MAX_BLOB_BYTES, Reason};
 use std::alloc::Global;
 use std::marker::Model;
 
 /// How many bytes a cursor reads ahead.
 const WINDOW: usize = 4096;
-
-/// The most bytes that a blob may have.
-const LARGEST: u64 = 0x1000_0000;
 
 /// A place in a blob of a store, from which its items are read in byte order.
 #[derive(Drop)]
@@ -59,8 +57,10 @@ impl Cursor {
         name: &BlobName,
     ) -> Result<Cursor, BlobFault>
         ensures kept { (S.seen store.new).held ≡ (S.seen store.old).held }
+        ensures puts { (S.seen store.new).puts ≡ (S.seen store.old).puts }
         ensures later { (S.seen store.old).faults ≤ (S.seen store.new).faults }
         ensures cause { result ≡ Err BlobFault.Store → Rose (S.seen store.old).faults (S.seen store.new).faults }
+        ensures kind { IfErr result (IsStartFault name.now) }
         ensures start { IfOk result (IsStart name.now) }
         ensures over { IfOk result (λ place. IsOver (scene (S.seen store.new) place)) }
         ensures starts { OnSome (S.seen store.old).held (Starts name.now (told (S.seen store.old).held name.now) result) }
@@ -69,7 +69,7 @@ impl Cursor {
         let Some(size) = size else {
             return Err(BlobFault::NoBlob(*name));
         };
-        if size > LARGEST {
+        if size > MAX_BLOB_BYTES {
             return Err(BlobFault::Large(Limit::Blob));
         }
         Ok(Cursor {
@@ -133,7 +133,7 @@ impl Cursor {
     }
 
     /// What the cursor takes memory from.
-    pub(crate) fn allocator(&self) -> Global {
+    pub fn allocator(&self) -> Global {
         self.alloc
     }
 

@@ -1,3 +1,4 @@
+//! Why a blob is refused.
 use hol_io::{BlobName, StoreFailed};
 use schema_model::{Limit, Name, Reason};
 use std::alloc::{AllocError, AllocFailed};

@@ -1,8 +1,9 @@
+//! Reading numbers of a fixed size, runs of bytes, and the end.
 ghost use Rattle.std.specs.Prelude.{◌≡◌, ◌≤◌, ◌+◌, ◌*◌, ◌^◌, ℕ, IfErr, IfOk, OnOk, Option, length};
 ghost use Rattle.std.specs.Int.{w8, w16, w32, w64};
 ghost use Rattle.hol_io.specs.Store.{Seen};
-ghost use Rattle.blob_frame.specs.Form.{repeated};
-ghost use Rattle.blob_frame.specs.Item.{fixed, signed, run, skipped, end};
+ghost use Rattle.blob_grammar.specs.Form.{repeated};
+ghost use Rattle.blob_frame.specs.Item.{counted_run, fixed, signed, run, skipped, end};
 ghost use Rattle.blob_frame.specs.Scene.{IsAbove, Leads, IsOver, IsReadFault, Reads, scene};
 
 use crate::cursor::Cursor;
@@ -112,16 +113,35 @@ impl Cursor {
         Ok(Octets::from_vec(bytes))
     }
 
+    /// The next run of bytes, whose number stands in front of it as a VLong. The faults are those of its items.
+    pub fn counted_run<S: BlobStore>(&mut self, store: &mut S) -> Result<Octets, BlobFault>
+        requires over { IsAbove S.seen store.old self.old }
+        ensures reads { Leads S.seen counted_run store.old self.old store.new self.new result }
+    {
+        let count = self.vlong(store)?;
+        self.run(store, count)
+    }
+
     /// Moves past so many bytes and reads none of them. `Truncated`, at their offset, where the blob has fewer.
     pub fn skip(&mut self, count: u64) -> Result<(), BlobFault>
         ensures reads { (seen : Seen) → IsOver (scene seen self.old)
             → Reads (skipped count) (scene seen self.old) (scene seen self.new) result }
+        ensures kind { IfErr result IsReadFault }
     {
         if self.left() < count {
             return Err(self.bad(Reason::Truncated));
         }
         self.jump(count);
         Ok(())
+    }
+
+    /// Moves past so many bytes, whose number was a VInt. `Truncated`, at their offset, where the blob has fewer.
+    pub fn skip_counted(&mut self, count: u32) -> Result<(), BlobFault>
+        ensures reads { (seen : Seen) → IsOver (scene seen self.old)
+            → Reads (skipped count) (scene seen self.old) (scene seen self.new) result }
+        ensures kind { IfErr result IsReadFault }
+    {
+        self.skip(u64::from(count))
     }
 
     /// The end of the blob. `TrailingBytes` where a byte stands there.

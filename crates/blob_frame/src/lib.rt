@@ -5,11 +5,10 @@ mod cursor;
 mod fault;
 mod header;
 mod items;
-mod kind;
 pub mod laws;
+mod readable;
 mod reading;
 mod schema;
-mod several;
 mod texts;
 mod varints;
 mod writing;
@@ -17,7 +16,7 @@ mod writing;
 pub use cursor::Cursor;
 pub use fault::BlobFault;
 pub use header::Header;
-pub use several::{Readable, Several, counted};
+pub use readable::{Readable, counted};
 pub use writing::put_header;
 
 #[cfg(test)]

@@ -1,18 +1,15 @@
-ghost use Rattle.std.specs.Prelude.{ℕ, Option, IfSome};
-ghost use Rattle.hol_io.specs.Store.{Seen, told};
-ghost use Rattle.blob_frame.specs.Item.{skipped};
-ghost use Rattle.blob_frame.specs.Form.{repeated};
-ghost use Rattle.blob_frame.specs.Header.{header, format, schema_envelope, listed_schemas, name_pair, header_tags};
-ghost use Rattle.blob_frame.specs.Scene.{IsOver, IsAbove, Reads, Leads, Exactly, scene};
+//! Reading the header of a blob.
+ghost use Rattle.std.specs.Prelude.{IfSome};
+ghost use Rattle.hol_io.specs.Store.{told};
+ghost use Rattle.blob_frame.specs.Header.{header, format, schema_envelope, listed_schemas, header_tags};
+ghost use Rattle.blob_frame.specs.Scene.{IsAbove, Leads, Exactly};
 
 use crate::cursor::Cursor;
 use crate::fault::BlobFault;
-use crate::header::Header;
+use crate::header::{FORMAT, Header};
+use crate::readable::counted;
 use hol_io::BlobStore;
-use schema_model::{Name, NamePairs, Reason, Schemas};
-
-/// The number of the blob format.
-const FORMAT: u32 = 1030;
+use schema_model::{NamePairs, Reason, Schemas};
 
 impl Cursor {
     /// The header of the blob, from its start. The fault is that of the first item that cannot be read;
@@ -80,46 +77,12 @@ impl Cursor {
         Ok(listed)
     }
 
-    /// Moves past so many bytes, whose number is a VInt.
-    fn skip_counted(&mut self, count: u32) -> Result<(), BlobFault>
-        ensures reads { (seen : Seen) → IsOver (scene seen self.old)
-            → Reads (skipped count) (scene seen self.old) (scene seen self.new) result }
-    {
-        self.skip(u64::from(count))
-    }
-
     /// The pairs of texts of the header, their number first.
     fn header_tags<S: BlobStore>(&mut self, store: &mut S) -> Result<NamePairs, BlobFault>
         requires over { IsAbove S.seen store.old self.old }
         ensures reads { Leads S.seen header_tags store.old self.old store.new self.new result }
     {
         let count = self.be16(store)?;
-        self.name_pairs(store, count)
-    }
-
-    /// A pair of texts.
-    fn name_pair<S: BlobStore>(&mut self, store: &mut S) -> Result<(Name, Name), BlobFault>
-        requires over { IsAbove S.seen store.old self.old }
-        ensures reads { Leads S.seen name_pair store.old self.old store.new self.new result }
-    {
-        let key = self.utf(store)?;
-        let value = self.utf(store)?;
-        Ok((key, value))
-    }
-
-    /// So many pairs of texts.
-    fn name_pairs<S: BlobStore>(
-        &mut self,
-        store: &mut S,
-        count: u16,
-    ) -> Result<NamePairs, BlobFault>
-        requires over { IsAbove S.seen store.old self.old }
-        ensures reads { Leads S.seen (repeated count name_pair) store.old self.old store.new self.new result }
-    {
-        let mut list = NamePairs::new(self.allocator());
-        for _item in 0..count {
-            list.push(self.name_pair(store)?)?;
-        }
-        Ok(list)
+        counted(self, store, u64::from(count))
     }
 }

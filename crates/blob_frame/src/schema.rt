@@ -1,22 +1,20 @@
-ghost use Rattle.std.specs.Prelude.{IfSome};
-ghost use Rattle.std.specs.Int.{w8, w16};
+//! Reading a schema: its kind, its name, and what its kind calls for.
+ghost use Rattle.std.specs.Prelude.{IfErr, IfSome};
+ghost use Rattle.std.specs.Int.{w16};
 ghost use Rattle.hol_io.specs.Store.{told};
-ghost use Rattle.blob_frame.specs.Form.{at_most, repeated};
-ghost use Rattle.blob_frame.specs.Item.{fixed, vint, name};
+ghost use Rattle.blob_grammar.specs.Form.{at_most};
+ghost use Rattle.blob_frame.specs.Item.{fixed, vint};
 ghost use Rattle.blob_frame.specs.SchemaForm.{schema_kind, field_type, field_kind_of, field, fields, key_paths, shape_of, schema, schemas};
-ghost use Rattle.blob_frame.specs.Scene.{IsAbove, Leads, IsOver, Reads, Exactly, scene};
+ghost use Rattle.blob_frame.specs.Scene.{IsAbove, Leads, IsReadFault, Exactly};
 
 use crate::cursor::Cursor;
 use crate::fault::BlobFault;
-use crate::kind::{FieldType, SchemaKind, kind_of, type_of};
+use crate::readable::{Readable, counted};
+use blob_grammar::{FieldType, SchemaKind, kind_of, type_of};
 use hol_io::BlobStore;
-use schema_model::{Field, FieldKind, Fields, Names, Reason, Schema, Schemas, Shape};
-
-/// The most fields that a type may have.
-const MOST_FIELDS: u16 = 1024;
-
-/// The most types that a blob may have.
-const MOST_TYPES: u32 = 512;
+use schema_model::{
+    Field, FieldKind, Fields, MAX_FIELDS, MAX_TYPES, Name, Names, Reason, Schema, Schemas, Shape,
+};
 
 impl Cursor {
     /// The next schema. Its faults are those of its items; `BadSchema` stands at a kind, a count or a field's type that
@@ -60,77 +58,45 @@ impl Cursor {
         ensures reads { Leads S.seen (shape_of kind) store.old self.old store.new self.new result }
     {
         match kind {
-            SchemaKind::Object => self.object(store),
-            SchemaKind::KeyedObject => self.keyed_object(store),
-            SchemaKind::Set => self.set(store),
-            SchemaKind::List => self.list(store),
-            SchemaKind::Map => self.map(store),
+            SchemaKind::Object => {
+                let fields = self.fields(store)?;
+                Ok(Shape::Object(None, fields))
+            }
+            SchemaKind::KeyedObject => {
+                let (paths, fields) = <(Names, Fields)>::read(self, store)?;
+                Ok(Shape::Object(Some(paths), fields))
+            }
+            SchemaKind::Set => {
+                let element = self.utf(store)?;
+                Ok(Shape::Set(element))
+            }
+            SchemaKind::List => {
+                let element = self.utf(store)?;
+                Ok(Shape::List(element))
+            }
+            SchemaKind::Map => {
+                let (key, value) = <(Name, Name)>::read(self, store)?;
+                Ok(Shape::Map(key, value))
+            }
         }
     }
 
-    /// The fields of a type.
-    fn object<S: BlobStore>(&mut self, store: &mut S) -> Result<Shape, BlobFault>
-        requires over { IsAbove S.seen store.old self.old }
-        ensures reads { Leads S.seen (shape_of SchemaKind.Object) store.old self.old store.new self.new result }
-    {
-        let fields = self.fields(store)?;
-        Ok(Shape::Object(None, fields))
-    }
-
-    /// The key paths and the fields of a type.
-    fn keyed_object<S: BlobStore>(&mut self, store: &mut S) -> Result<Shape, BlobFault>
-        requires over { IsAbove S.seen store.old self.old }
-        ensures reads { Leads S.seen (shape_of SchemaKind.KeyedObject) store.old self.old store.new self.new result }
-    {
-        let paths = self.key_paths(store)?;
-        let fields = self.fields(store)?;
-        Ok(Shape::Object(Some(paths), fields))
-    }
-
-    /// The type of a set's elements.
-    fn set<S: BlobStore>(&mut self, store: &mut S) -> Result<Shape, BlobFault>
-        requires over { IsAbove S.seen store.old self.old }
-        ensures reads { Leads S.seen (shape_of SchemaKind.Set) store.old self.old store.new self.new result }
-    {
-        let element = self.utf(store)?;
-        Ok(Shape::Set(element))
-    }
-
-    /// The type of a list's elements.
-    fn list<S: BlobStore>(&mut self, store: &mut S) -> Result<Shape, BlobFault>
-        requires over { IsAbove S.seen store.old self.old }
-        ensures reads { Leads S.seen (shape_of SchemaKind.List) store.old self.old store.new self.new result }
-    {
-        let element = self.utf(store)?;
-        Ok(Shape::List(element))
-    }
-
-    /// The types of a map's keys and values.
-    fn map<S: BlobStore>(&mut self, store: &mut S) -> Result<Shape, BlobFault>
-        requires over { IsAbove S.seen store.old self.old }
-        ensures reads { Leads S.seen (shape_of SchemaKind.Map) store.old self.old store.new self.new result }
-    {
-        let key = self.utf(store)?;
-        let value = self.utf(store)?;
-        Ok(Shape::Map(key, value))
-    }
-
-    /// The paths of a primary key.
-    fn key_paths<S: BlobStore>(&mut self, store: &mut S) -> Result<Names, BlobFault>
+    /// The paths of a primary key, their number first.
+    pub(crate) fn key_paths<S: BlobStore>(&mut self, store: &mut S) -> Result<Names, BlobFault>
         requires over { IsAbove S.seen store.old self.old }
         ensures reads { Leads S.seen key_paths store.old self.old store.new self.new result }
     {
         let count = self.vint(store)?;
-        self.names(store, count)
+        counted(self, store, u64::from(count))
     }
 
     /// The fields of a type, their number first.
-    fn fields<S: BlobStore>(&mut self, store: &mut S) -> Result<Fields, BlobFault>
+    pub(crate) fn fields<S: BlobStore>(&mut self, store: &mut S) -> Result<Fields, BlobFault>
         requires over { IsAbove S.seen store.old self.old }
         ensures reads { Leads S.seen fields store.old self.old store.new self.new result }
     {
         let count = self.field_count(store)?;
-        self.counted_fields(store, count)
+        counted(self, store, u64::from(count))
     }
 
     /// The number of a type's fields.
@@ -140,13 +106,13 @@ impl Cursor {
     {
         let at = self.at();
         let count = self.be16(store)?;
-        if count > MOST_FIELDS {
+        if count > MAX_FIELDS {
             return Err(BlobFault::Bad(at, Reason::BadSchema));
         }
         Ok(count)
     }
 
-    /// The next field.
+    /// The next field: its name, its type's name, and what that calls for.
     pub(crate) fn field<S: BlobStore>(&mut self, store: &mut S) -> Result<Field, BlobFault>
         requires over { IsAbove S.seen store.old self.old }
         ensures reads { Leads S.seen field store.old self.old store.new self.new result }
@@ -170,7 +136,7 @@ impl Cursor {
         }
     }
 
-    /// What a field of a type holds.
+    /// What a field of a type holds: behind REFERENCE stands the type that it refers to.
     fn field_kind<S: BlobStore>(
         &mut self,
         store: &mut S,
@@ -180,7 +146,10 @@ impl Cursor {
         ensures reads { Leads S.seen (field_kind_of type_name) store.old self.old store.new self.new result }
     {
         match type_name {
-            FieldType::Reference => self.reference(store),
+            FieldType::Reference => {
+                let to = self.utf(store)?;
+                Ok(FieldKind::Reference(to))
+            }
             FieldType::Int => Ok(FieldKind::Int),
             FieldType::Long => Ok(FieldKind::Long),
             FieldType::Boolean => Ok(FieldKind::Boolean),
@@ -189,78 +158,26 @@ impl Cursor {
         }
     }
 
-    /// The type that a REFERENCE refers to.
-    fn reference<S: BlobStore>(&mut self, store: &mut S) -> Result<FieldKind, BlobFault>
-        requires over { IsAbove S.seen store.old self.old }
-        ensures reads { Leads S.seen (field_kind_of FieldType.Reference) store.old self.old store.new self.new result }
-    {
-        let to = self.utf(store)?;
-        Ok(FieldKind::Reference(to))
-    }
-
     /// The next list of schemas, their number first.
     pub(crate) fn schemas<S: BlobStore>(&mut self, store: &mut S) -> Result<Schemas, BlobFault>
         requires over { IsAbove S.seen store.old self.old }
         ensures reads { Leads S.seen schemas store.old self.old store.new self.new result }
     {
         let count = self.type_count(store)?;
-        self.counted_schemas(store, count)
+        counted(self, store, u64::from(count))
     }
 
     /// The number of types, which is 512 at most, else `BadSchema` at it.
     pub fn type_count<S: BlobStore>(&mut self, store: &mut S) -> Result<u32, BlobFault>
         requires over { IsAbove S.seen store.old self.old }
         ensures reads { Leads S.seen (at_most vint 512) store.old self.old store.new self.new result }
+        ensures kind { IfErr result IsReadFault }
     {
         let at = self.at();
         let count = self.vint(store)?;
-        if count > MOST_TYPES {
+        if count > MAX_TYPES {
             return Err(BlobFault::Bad(at, Reason::BadSchema));
         }
         Ok(count)
-    }
-
-    /// So many texts.
-    fn names<S: BlobStore>(&mut self, store: &mut S, count: u32) -> Result<Names, BlobFault>
-        requires over { IsAbove S.seen store.old self.old }
-        ensures reads { Leads S.seen (repeated count name) store.old self.old store.new self.new result }
-    {
-        let mut list = Names::new(self.allocator());
-        for _item in 0..count {
-            list.push(self.utf(store)?)?;
-        }
-        Ok(list)
-    }
-
-    /// So many fields.
-    fn counted_fields<S: BlobStore>(
-        &mut self,
-        store: &mut S,
-        count: u16,
-    ) -> Result<Fields, BlobFault>
-        requires over { IsAbove S.seen store.old self.old }
-        ensures reads { Leads S.seen (repeated count field) store.old self.old store.new self.new result }
-    {
-        let mut list = Fields::new(self.allocator());
-        for _item in 0..count {
-            list.push(self.field(store)?)?;
-        }
-        Ok(list)
-    }
-
-    /// So many schemas.
-    fn counted_schemas<S: BlobStore>(
-        &mut self,
-        store: &mut S,
-        count: u32,
-    ) -> Result<Schemas, BlobFault>
-        requires over { IsAbove S.seen store.old self.old }
-        ensures reads { Leads S.seen (repeated count schema) store.old self.old store.new self.new result }
-    {
-        let mut list = Schemas::new(self.allocator());
-        for _item in 0..count {
-            list.push(self.whole_schema(store)?)?;
-        }
-        Ok(list)
     }
 }

@@ -1,3 +1,4 @@
+//! Reading texts.
 ghost use Rattle.blob_frame.specs.Item.{name, units};
 ghost use Rattle.blob_frame.specs.Scene.{IsAbove, Leads, IsOver, Reads, scene};
 

@@ -1,3 +1,4 @@
+//! Reading numbers of variable length.
 ghost use Rattle.std.specs.Prelude.{◌≡◌, ◌<◌, ℕ, length, take, slice_index, IfErr, MatchOption, if◌then◌else◌};
 ghost use Rattle.hol_io.specs.Store.{told};
 ghost use Rattle.hol_varint.specs.Varint.{GoOn};
@@ -8,7 +9,7 @@ ghost use Rattle.blob_frame.specs.Filling.{Seeks, HasAhead};
 use crate::cursor::Cursor;
 use crate::fault::BlobFault;
 use hol_io::BlobStore;
-use hol_varint::{VarFault, get_vint, get_vlong};
+use hol_varint::{VarFault, get_vlong};
 use schema_model::Reason;
 
 /// So many bytes tell whether a number fits: one that goes on past them is too large, if it ends.
@@ -36,20 +37,12 @@ impl Cursor {
         ensures reads { Leads S.seen vint store.old self.old store.new self.new result }
         ensures kind { IfErr result IsReadFault }
     {
-        self.want(store, LONGEST)?;
-        match get_vint(self.ahead(), 0) {
-            Ok((number, next)) => {
-                self.pass(next);
-                Ok(number)
-            }
-            Err(VarFault::Null) => Err(self.bad(Reason::BadVarint)),
-            Err(VarFault::Long) => Err(self.bad(Reason::BadVarint)),
-            Err(VarFault::Short) => {
-                let at = self.at();
-                let stops = self.stops(store)?;
-                Err(BlobFault::Bad(at, unended(stops)))
-            }
+        let at = self.at();
+        let number = self.vlong(store)?;
+        if number > u64::from(u32::MAX) {
+            return Err(BlobFault::Bad(at, Reason::BadVarint));
         }
+        Ok(number as u32)
     }
 
     /// The next VLong, a number below 2^64. `Truncated` where the blob ends inside it, `BadVarint`

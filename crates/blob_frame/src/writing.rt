@@ -1,14 +1,13 @@
+//! Writing the header of a blob.
 ghost use Rattle.std.specs.Prelude.{◌≡◌, ◌<◌, ◌≤◌, ◌^◌, [], ◌++◌, length, All, OnOk, OnErr, IfOk};
 ghost use Rattle.schema_model.specs.Row.{Rises};
 ghost use Rattle.blob_frame.specs.Written.{schemas_at, schema_list_bytes, header_bytes};
 
+use crate::header::FORMAT;
 use hol_varint::{Ordinals, put_vint};
 use schema_model::laws::spellable_model;
 use schema_model::{Model, put_schema};
 use std::alloc::{AllocError, Global};
-
-/// The number of the blob format.
-const FORMAT: u32 = 1030;
 
 /// Writes a header at the end: the format, the two tags, the schemas of these types of the model in this order, no
 /// bytes to skip and no header tags. The types are indexes of the model, rising, and their list takes 2^28 bytes at
@@ -20,7 +19,7 @@ pub fn put_header(
     model: &Model,
     types: &Ordinals,
 ) -> Result<(), AllocError>
-    requires in_model { All (λ t. t < length model.now) types.now }
+    requires in_model { All (λ type_index. type_index < length model.now) types.now }
     requires rising { Rises types.now }
     requires short { length (schema_list_bytes (schemas_at model.now types.now)) ≤ 2 ^ 28 }
     ensures ok { OnOk result (out.new.items ≡ out.old.items ++ header_bytes origin destination (schemas_at model.now types.now)) }
@@ -38,7 +37,7 @@ fn header_of(
     model: &Model,
     types: &Ordinals,
 ) -> Result<Vec<u8>, AllocError>
-    requires in_model { All (λ t. t < length model.now) types.now }
+    requires in_model { All (λ type_index. type_index < length model.now) types.now }
     requires short { length (schema_list_bytes (schemas_at model.now types.now)) ≤ 2 ^ 28 }
     ensures { IfOk result (λ header. header.items ≡ header_bytes origin destination (schemas_at model.now types.now)) }
 {
@@ -56,7 +55,7 @@ fn header_of(
 
 // Writes the list of the schemas of these types at the end.
 fn push_schemas(out: &mut Vec<u8>, model: &Model, types: &Ordinals) -> Result<(), AllocError>
-    requires in_model { All (λ t. t < length model.now) types.now }
+    requires in_model { All (λ type_index. type_index < length model.now) types.now }
     requires short { length (schema_list_bytes (schemas_at model.now types.now)) ≤ 2 ^ 28 }
     requires empty { out.old.items ≡ [] }
     ensures ok { OnOk result (out.new.items ≡ schema_list_bytes (schemas_at model.now types.now)) }
@@ -64,8 +63,8 @@ fn push_schemas(out: &mut Vec<u8>, model: &Model, types: &Ordinals) -> Result<()
     put_vint(out, types.len() as u32)?;
     spellable_model();
     let indexes = types.as_slice();
-    for t in indexes {
-        put_schema(out, model.schema(*t))?;
+    for type_index in indexes {
+        put_schema(out, model.schema(*type_index))?;
     }
     Ok(())
 }

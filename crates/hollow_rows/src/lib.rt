@@ -1,12 +1,10 @@
-//! Worked cases of the program as tables, run through the top call over memory. Nothing stands on this crate.
+//! Worked cases of the program as texts, run through the top call over memory. Nothing stands on this crate.
 #![tactic(auto)]
 
 #[cfg(test)]
-mod bench;
-#[cfg(test)]
-mod blobs;
-#[cfg(test)]
 mod bodies;
+#[cfg(test)]
+mod case;
 #[cfg(test)]
 mod heads;
 #[cfg(test)]

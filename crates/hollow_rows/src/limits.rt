@@ -1,7 +1,6 @@
 //! The limit on the bytes of a blob: a size that just keeps it, and one that passes it.
-use crate::bench::text_of;
+use crate::case::Bench;
 use hol_io::{BlobName, BlobStore, PutFault, StoreFailed};
-use std::alloc::Global;
 use std::test::Fail;
 
 /// A store whose every name has so many bytes, all 0. It does not tell them to contracts.
@@ -52,19 +51,18 @@ const SIZES: &[(u64, &str)] = &[
     ),
 ];
 
-/// Whether a command refuses a blob of so many zeros with this line.
-fn refuses(alloc: Global, command: &str, size: u64, line: &str) -> Result<bool, Fail> {
-    let mut store = ZeroStore { size, puts: 0 };
-    let (status, text) = text_of(alloc, &[command, "snapshot-1"], &mut store)?;
-    Ok(status == 1 && text.as_str() == line)
-}
-
 #[test]
 fn refuses_large_blobs(rt: HostRuntime) -> Result<(), Fail> {
-    let alloc = rt.alloc();
+    let mut bench = Bench::new(rt.alloc());
     for (size, line) in SIZES {
-        assert!(rt; refuses(alloc, "head", *size, line)?, "{size}");
-        assert!(rt; refuses(alloc, "show", *size, line)?, "{size}");
+        for words in ["head snapshot-1", "show snapshot-1"] {
+            let mut store = ZeroStore {
+                size: *size,
+                puts: 0,
+            };
+            let status = bench.answer_over(words, &mut store)?;
+            assert!(rt; status == 1 && bench.text() == line.as_bytes(), "{size}");
+        }
     }
     Ok(())
 }

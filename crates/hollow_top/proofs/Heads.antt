@@ -1,54 +1,69 @@
--- What starting at a blob and reading its header say of the answer.
-use Rattle.std.proofs.Common.{◌≡◌, ◌<◌, ◌⊎◌, inl, inr, ℕ, List, length, Option, Some, None, Result, Err, IfOk, IfSome, OnSome, refl, sym, subst}
+-- What opening a blob and reading its header say of the answer.
+use Rattle.std.proofs.Common.{◌≡◌, ◌≤◌, inl, inr, ℕ, List, length, Option, Some, None, Result, Ok, Err, IfSome, OnSome, refl, sym, ap, ◌∙◌, subst}
 use Rattle.std.proofs.lemmas.Bool.{cases_lt}
-use Rattle.std.specs.Prelude.{IsErrAnd}
 use Rattle.hol_io.specs.declared.name.BlobName.{BlobName}
 use Rattle.hol_io.specs.Store.{Store, told}
 use Rattle.schema_model.specs.declared.limit.Limit.TheVariants as limit
+use Rattle.schema_model.specs.Limit.{number_of_limit}
 use Rattle.blob_frame.specs.declared.fault.BlobFault.{BlobFault}
 use Rattle.blob_frame.specs.declared.fault.BlobFault.TheVariants as fault
-use Rattle.blob_frame.specs.Scene.{Place, IsFree}
-use Rattle.blob_frame.specs.Starting.{Starts, largest}
-use Rattle.hollow_top.specs.declared.reply.Reply.{Reply}
-use Rattle.hollow_top.specs.declared.stop.Stop.{Stop}
-use Rattle.hollow_top.specs.Head.{HeadIs, HeadReply, refusal_of}
+use Rattle.blob_frame.specs.declared.header.Header.{Header}
+use Rattle.blob_frame.specs.Header.{header}
+use Rattle.blob_frame.specs.Scene.{Place, Scene, IsFree, Tells, Reads}
+use Rattle.blob_frame.specs.Starting.{Starts, IsStart}
+use Rattle.hollow_top.specs.declared.refusal.Refusal.{Refusal}
+use Rattle.hollow_top.specs.declared.refusal.Refusal.TheVariants.{NoBlob, BadBlob, TooLarge}
+use Rattle.hollow_top.specs.Head.{HasHeader, HeadRefusal, TellsHeader, refusal_of}
 
--- an answer is this one or a free one, which a fault that is not free is not
-settled : (found : BlobFault) (answer : Result Place BlobFault) → (Err found ≡ answer) ⊎ IsErrAnd {T = Place} (Err found) IsFree → (IsFree found → ⊥) → Err found ≡ answer
-settled found answer (inl is) bound = is
-settled found answer (inr free) bound = absurd (bound free)
-
--- where there is a blob, a fault that is not free is that it is too large
-sized : (name : BlobName) (blob : List ℕ) (found : BlobFault) → Starts name (Some blob) (Err found) → (IsFree found → ⊥) →
-    (largest < length blob) × (found ≡ fault.Large limit.Blob)
-sized name blob found starts bound =
-    elim (cases_lt largest (length blob)) [
-      | inl large ↦ (large, (let is = settled found (Err (fault.Large limit.Blob)) (starts.large blob refl large) bound in cc))
-      | inr fits ↦ elim (starts.found blob refl fits) [ inl made ↦ (let is = made.1 in absurd cc) | inr free ↦ absurd (bound free) ]
-    ]
+free_tells : (name : BlobName) (content : Option (List ℕ)) (found : BlobFault) → IsFree found → TellsHeader name content (Err found)
+free_tells name content fault.Store free = tt
+free_tells name content fault.Memory free = tt
+free_tells name content _ free = absurd free
 
 -- what a fault at the start says of the content
-refused : (name : BlobName) (content : Option (List ℕ)) (found : BlobFault) → Starts name content (Err found) → IfOk (refusal_of name found) (HeadIs name content)
-refused name content fault.Store starts = tt
-refused name content fault.Memory starts = tt
-refused name content (fault.BadRow at reason of ordinal) starts = tt
-refused name content (fault.OtherOrigin other current) starts = tt
-refused name content (fault.OtherModel of) starts = tt
-refused name None (fault.NoBlob other) starts = (refl, refl)
-refused name None (fault.Large what) starts =
-    let is = settled (fault.Large what) (Err (fault.NoBlob name)) (starts.absent refl) (λ free. free) in absurd cc
-refused name None (fault.Bad at reason) starts =
-    let is = settled (fault.Bad at reason) (Err (fault.NoBlob name)) (starts.absent refl) (λ free. free) in absurd cc
-refused name (Some blob) (fault.NoBlob other) starts = let is = (sized name blob _ starts (λ free. free)).1 in absurd cc
-refused name (Some blob) (fault.Large what) starts =
-    let large = sized name blob _ starts (λ free. free) in
-    let is : fault.Large what ≡ fault.Large limit.Blob = large.1 in
-    (blob, refl, large.0, cc)
-refused name (Some blob) (fault.Bad at reason) starts = let is = (sized name blob _ starts (λ free. free)).1 in absurd cc
+unstarted : (name : BlobName) (content : Option (List ℕ)) (found : BlobFault) → Starts name content (Err found) → TellsHeader name content (Err found)
+unstarted name None found starts =
+    elim (starts.absent refl) [
+      | inl is ↦ (let same : found ≡ fault.NoBlob name = cc in subst (λ f. TellsHeader name None (Err f)) (sym same) (refl, refl))
+      | inr free ↦ free_tells name None found free
+    ]
+unstarted name (Some blob) found starts =
+    elim (cases_lt (number_of_limit limit.Blob) (length blob)) [
+      | inl large ↦ elim (starts.large blob refl large) [
+        | inl is ↦ (let same : found ≡ fault.Large limit.Blob = cc in
+            subst (λ f. TellsHeader name (Some blob) (Err f)) (sym same) (blob, refl, large, refl))
+        | inr free ↦ free_tells name (Some blob) found free
+      ]
+      | inr fits ↦ elim (starts.found blob refl fits) [
+        | inl made ↦ (let is = made.1 in absurd cc)
+        | inr free ↦ free_tells name (Some blob) found free
+      ]
+    ]
 
--- the answer for a fault at the start
-pub refused_at_start : (held : Option Store) (name : BlobName) (found : BlobFault) (answer : Result Reply Stop) → answer ≡ refusal_of name found →
-    OnSome held (Starts name (told held name) (Err found)) → IfSome held (λ store. IfOk answer (HeadReply store name))
-refused_at_start None name found answer is starts = tt
-refused_at_start (Some store) name found answer is starts =
-    subst (λ (a : Result Reply Stop). IfOk a (HeadReply store name)) (sym is) (refused name (told (Some store) name) found starts)
+pub tells_start : (held : Option Store) (name : BlobName) (found : BlobFault) (answer : Result (Header × Place) BlobFault) → answer ≡ Err found →
+    OnSome held (Starts name (told held name) (Err found)) → IfSome held (λ store. TellsHeader name (told held name) answer)
+tells_start None name found answer is starts = tt
+tells_start (Some store) name found answer is starts =
+    subst (λ (a : Result (Header × Place) BlobFault). TellsHeader name (told (Some store) name) a) (sym is) (unstarted name (told (Some store) name) found starts)
+
+-- a cursor that was made stands in a blob that is not too large
+fitting : (name : BlobName) (content : Option (List ℕ)) (place : Place) → Starts name content (Ok place) → (blob : List ℕ) × (content ≡ Some blob) × (length blob ≤ number_of_limit limit.Blob)
+fitting name None place starts = elim (starts.absent refl) [ inl is ↦ absurd cc | inr free ↦ absurd free ]
+fitting name (Some blob) place starts =
+    elim (cases_lt (number_of_limit limit.Blob) (length blob)) [
+      | inl large ↦ elim (starts.large blob refl large) [ inl is ↦ absurd cc | inr free ↦ absurd free ]
+      | inr fits ↦ (blob, refl, fits)
+    ]
+
+-- the refusal for a fault of the header is that of the content
+pub refused : (name : BlobName) (content : Option (List ℕ)) (found : BlobFault) (refusal : Refusal) → TellsHeader name content (Err found) → Ok refusal ≡ refusal_of name found →
+    HeadRefusal name content refusal
+refused name content (fault.NoBlob other) refusal tells is =
+    let same : refusal ≡ NoBlob name = cc in subst (HeadRefusal name content) (sym same) (refl, tells.1)
+refused name content (fault.Large what) refusal tells is =
+    let same : refusal ≡ TooLarge what = cc in subst (HeadRefusal name content) (sym same) tells
+refused name content (fault.Bad at reason) refusal (blob, there, short, stuck) is =
+    let same : refusal ≡ BadBlob name at reason None = cc in subst (HeadRefusal name content) (sym same) (blob, there, short, stuck, refl, refl)
+refused name content fault.Store refusal tells is = absurd cc
+refused name content fault.Memory refusal tells is = absurd cc
+refused name content _ refusal tells is = absurd tells

@@ -9,4 +9,7 @@ mod Printed
 mod Writes
 mod Walks
 mod Shown
+mod Verdicts
+mod Serving
 mod OneAnswer
+mod SomeAnswer

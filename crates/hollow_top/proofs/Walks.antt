@@ -22,13 +22,13 @@ use Rattle.hollow_top.proofs.SortedRows.{AreWalked, walk_starts, walk_passes, wa
 use Rattle.hollow_top.proofs.Writes.{if_found, found_if, failed, LeavesRow}
 
 -- the types of a table, each with its schema
-abbrev Types : Type 0
+abbrev pub Types : Type 0
 Types = List (Schema × RowMap)
 
-abbrev FitsEach : Schema → List (ℕ × Row) → Type 0
+abbrev pub FitsEach : Schema → List (ℕ × Row) → Type 0
 FitsEach schema es = AllByRecursion (λ entry. FitsShape schema.shape entry.1) es
 
-abbrev FitTypes : Types → Type 0
+abbrev pub FitTypes : Types → Type 0
 FitTypes types = AllByRecursion (λ typed. FitsEach typed.0 (entries typed.1)) types
 
 zip_at : {A B : Type 0} (xs : List A) (ys : List B) (t : ℕ) (x : A × B) → slice_get (zip xs ys) t ≡ Some x → (slice_get xs t ≡ Some x.0) × (slice_get ys t ≡ Some x.1)
@@ -63,7 +63,7 @@ is_true : (b : Bool) → T b → b ≡ true
 is_true true h = refl
 is_true false h = absurd h
 
-sorted_entries : (rows : RowMap) → is_sorted nat_cmp (entries rows) ≡ true
+pub sorted_entries : (rows : RowMap) → is_sorted nat_cmp (entries rows) ≡ true
 sorted_entries rows = is_true _ (entries_sorted rows)
 
 row_there : (table : Table) (t ordinal : ℕ) (rows : RowMap) → slice_get table t ≡ Some rows → row_at table t ordinal ≡ find nat_cmp ordinal (entries rows)
@@ -77,7 +77,7 @@ entries_have_lines schema (e ∷ es) fit =
     let others = entries_have_lines schema es fit.1 in
     (first.0 ++ others.0, lines_append ((schema, e) ∷ []) (map (λ entry. (schema, entry)) es) first.0 others.0 (one_line (schema, e) first.0 first.1) others.1)
 
-types_have_lines : (types : Types) → FitTypes types → (text : List ℕ) × AreLinesOf (flat_map rows_of_type types) text
+pub types_have_lines : (types : Types) → FitTypes types → (text : List ℕ) × AreLinesOf (flat_map rows_of_type types) text
 types_have_lines [] fit = ([], no_lines)
 types_have_lines (typed ∷ types) fit =
     let first = entries_have_lines typed.0 (entries typed.1) fit.0 in

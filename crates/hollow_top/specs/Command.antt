@@ -1,21 +1,65 @@
--- What each command writes over a store.
-use Rattle.std.specs.Prelude.{◌≡◌, ℕ, List, Bool}
-use Rattle.hol_io.specs.Store.{Store}
+-- What each command writes, and what it leaves of the store.
+use Rattle.std.specs.Prelude.{◌≡◌, ℕ, List, Bool, Option, Some, Result, Ok, Err, IfSome}
+use Rattle.std.specs.Io.KnownBytes.{Appends}
+use Rattle.hol_io.specs.declared.name.BlobName.{BlobName}
+use Rattle.hol_io.specs.Store.{Store, told}
+use Rattle.blob_grammar.specs.Decided.{AreBytes}
+use Rattle.hollow_top.specs.declared.refusal.Refusal.TheVariants.{NotYet}
 use Rattle.hollow_top.specs.declared.reply.Reply.{Reply}
-use Rattle.hollow_top.specs.declared.reply.Reply.TheVariants.{NotYet}
+use Rattle.hollow_top.specs.declared.reply.Reply.TheVariants.{Refused}
+use Rattle.hollow_top.specs.declared.stop.Stop.{Stop}
+use Rattle.hollow_top.specs.declared.stop.Stop.TheVariants.{Memory, Sink, Store as StoreFailed}
 use Rattle.hollow_top.specs.declared.words.Command.{Command}
 use Rattle.hollow_top.specs.declared.words.Command.TheVariants.{Run, Head, Show, Make}
 use Rattle.hollow_top.specs.Head.{HeadReply}
 use Rattle.hollow_top.specs.Reply.{is_refusal, line_of}
 use Rattle.hollow_top.specs.Show.{Shows}
+use Rattle.hollow_top.specs.Stopping.{GainsPart}
 
 -- The text is the line of an answer for which this holds, and the answer is a refusal or not, as told.
 abbrev pub IsLineOf : (Reply → Type 0) → List ℕ → Bool → Type 0
 IsLineOf Answers text refused = (reply : Reply) × Answers reply × (text ≡ line_of reply) × (refused ≡ is_refusal reply)
 
--- What a command writes over a store, and whether that is a refusal. `run` and `make` are not built.
-abbrev pub Writes : Store → Command → List ℕ → Bool → Type 0
-Writes store Run text refused = IsLineOf (λ reply. reply ≡ NotYet) text refused
-Writes store (Head blob) text refused = IsLineOf (HeadReply store blob) text refused
-Writes store (Show version) text refused = Shows store version text refused
-Writes store (Make seed rows cycles) text refused = IsLineOf (λ reply. reply ≡ NotYet) text refused
+-- The text is the refusal of a command that is not built.
+abbrev pub WritesNotYet : List ℕ → Bool → Type 0
+WritesNotYet text refused = IsLineOf (λ reply. reply ≡ Refused NotYet) text refused
+
+-- What a command writes over an input and a store, whether that is a refusal, and the store that it leaves. The input is
+-- what is left in the source, where that is told. `run` and `make` are not built.
+abbrev pub Writes : Option (List ℕ) → Store → Command → List ℕ → Bool → Store → Type 0
+Writes input store Run text refused next = WritesNotYet text refused × (next ≡ store)
+Writes input store (Head blob) text refused next = IsLineOf (HeadReply store blob) text refused × (next ≡ store)
+Writes input store (Show version) text refused next = Shows store version text refused × (next ≡ store)
+Writes input store (Make seed rows cycles) text refused next = WritesNotYet text refused × (next ≡ store)
+
+-- The command writes the text, with this verdict, and leaves some store.
+abbrev pub WritesText : Option (List ℕ) → Store → Command → List ℕ → Bool → Type 0
+WritesText input store command text refused = (next : Store) × Writes input store command text refused next
+
+-- The command writes some text.
+abbrev pub WritesSome : Option (List ℕ) → Store → Command → Type 0
+WritesSome input store command = (text : List ℕ) × (refused : Bool) × WritesText input store command text refused
+
+-- What the store holds under each name are bytes.
+abbrev pub HoldsBytes : Store → Type 0
+HoldsBytes store = (name : BlobName) → IfSome (told (Some store) name) AreBytes
+
+-- What a command leaves of the store and of the sink: all that it writes, or where the sink failed a part of the text.
+abbrev pub Serves : Option (List ℕ) → Store → Command → Option Store → Option (List ℕ) → Option (List ℕ) → Result Bool Stop → Type 0
+Serves input store command held before after (Ok refused) =
+    (text : List ℕ) × (next : Store) × Writes input store command text refused next × (held ≡ Some next) × Appends before after text
+Serves input store command held before after (Err Sink) = GainsPart (WritesText input store command) before after
+Serves input store command held before after (Err StoreFailed) = Unit {0}
+Serves input store command held before after (Err Memory) = Unit {0}
+
+-- The command reads the store and changes nothing.
+abbrev pub IsReading : Command → Type 0
+IsReading (Head blob) = Unit {0}
+IsReading (Show version) = Unit {0}
+IsReading _ = ⊥
+
+-- The command is not built.
+abbrev pub IsUnbuilt : Command → Type 0
+IsUnbuilt Run = Unit {0}
+IsUnbuilt (Make seed rows cycles) = Unit {0}
+IsUnbuilt _ = ⊥

@@ -1,9 +1,11 @@
 -- What a command leaves of the sink and the counts where it ends, and where it stops before.
-use Rattle.std.specs.Prelude.{◌<◌, ◌≤◌, ℕ, List, length, take, Option, Bool, Result, Ok, Err}
+use Rattle.std.specs.Prelude.{◌≡◌, ◌≢◌, ◌<◌, ◌≤◌, ℕ, List, length, take, Option, Bool, true, false, Result, Ok, Err}
 use Rattle.std.specs.Io.KnownBytes.{Appends}
 use Rattle.hol_io.specs.Causes.{Rose}
+use Rattle.hollow_top.specs.declared.refusal.Refusal.{Refusal}
 use Rattle.hollow_top.specs.declared.stop.Stop.{Stop}
 use Rattle.hollow_top.specs.declared.stop.Stop.TheVariants.{Memory, Sink, Store as StoreFailed}
+use Rattle.hollow_top.specs.Refusal.{refusal_line}
 
 -- A command that has written nothing stops for want of memory, or where the store's count of faults rose.
 abbrev pub StopsBefore : ℕ → ℕ → Stop → Type 0
@@ -29,3 +31,12 @@ Leaves IsWritten before after (Ok refused) = (text : List ℕ) × IsWritten text
 Leaves IsWritten before after (Err Sink) = GainsPart IsWritten before after
 Leaves IsWritten before after (Err StoreFailed) = Unit {0}
 Leaves IsWritten before after (Err Memory) = Unit {0}
+
+-- The text is the line of a refusal, or is that of none, as told.
+abbrev pub IsVerdict : List ℕ → Bool → Type 0
+IsVerdict text true = (refusal : Refusal) × (text ≡ refusal_line refusal)
+IsVerdict text false = (refusal : Refusal) → text ≢ refusal_line refusal
+
+-- What the sink gained is the line of a refusal.
+abbrev pub GainsRefusal : Option (List ℕ) → Option (List ℕ) → Type 0
+GainsRefusal before after = (refusal : Refusal) × Appends before after (refusal_line refusal)

@@ -1,11 +1,15 @@
 //! `head`: the header of a blob.
-ghost use Rattle.std.specs.Prelude.{◌≡◌, ◌≤◌, IfOk, IfErr, IfSome};
-ghost use Rattle.hollow_top.specs.Head.{HeadReply, refusal_of};
+ghost use Rattle.std.specs.Prelude.{◌≡◌, ◌≤◌, Err, IfOk, IfErr, IfSome};
+ghost use Rattle.hol_io.specs.Causes.{Rose};
+ghost use Rattle.hol_io.specs.Store.{told};
+ghost use Rattle.blob_frame.specs.Scene.{IsAbove};
+ghost use Rattle.hollow_top.specs.Head.{HeadReply, TellsHeader, refusal_of};
 ghost use Rattle.hollow_top.specs.Stopping.{StopsBefore};
 
+use crate::refusal::Refusal;
 use crate::reply::Reply;
 use crate::stop::Stop;
-use blob_frame::{BlobFault, Cursor};
+use blob_frame::{BlobFault, Cursor, Header};
 use hol_io::{BlobName, BlobStore};
 use std::alloc::Global;
 
@@ -17,28 +21,46 @@ pub fn head<S: BlobStore>(alloc: Global, store: &mut S, name: &BlobName) -> Resu
     ensures stop { IfErr result (StopsBefore (S.seen store.old).faults (S.seen store.new).faults) }
     ensures kept { (S.seen store.new).held ≡ (S.seen store.old).held }
     ensures later { (S.seen store.old).faults ≤ (S.seen store.new).faults }
+    ensures unput { (S.seen store.new).puts ≡ (S.seen store.old).puts }
 {
-    let mut cursor = match Cursor::start(alloc, store, name) {
-        Ok(cursor) => cursor,
-        Err(fault) => return refusal(name, fault),
-    };
-    match cursor.read_header(store) {
-        Ok(header) => Ok(Reply::Head(header)),
-        Err(fault) => refusal(name, fault),
+    match opened(alloc, store, name) {
+        Ok((header, _cursor)) => Ok(Reply::Head(header)),
+        Err(fault) => Ok(Reply::Refused(refusal(name, fault)?)),
     }
 }
 
-// The answer for a fault of the blob of a name. The faults of the last line are none of a header.
-fn refusal(name: &BlobName, fault: BlobFault) -> Result<Reply, Stop>
+/// The header of a blob, and a cursor that stands behind it.
+pub fn opened<S: BlobStore>(
+    alloc: Global,
+    store: &mut S,
+    name: &BlobName,
+) -> Result<(Header, Cursor), BlobFault>
+    ensures tells { IfSome (S.seen store.old).held
+        (λ held. TellsHeader name.now (told (S.seen store.old).held name.now) result) }
+    ensures over { IfOk result (λ opened. IsAbove S.seen store.new opened.1) }
+    ensures named { IfOk result (λ opened. opened.1.name ≡ name.now) }
+    ensures cause { result ≡ Err BlobFault.Store → Rose (S.seen store.old).faults (S.seen store.new).faults }
+    ensures kept { (S.seen store.new).held ≡ (S.seen store.old).held }
+    ensures later { (S.seen store.old).faults ≤ (S.seen store.new).faults }
+    ensures unput { (S.seen store.new).puts ≡ (S.seen store.old).puts }
+{
+    let mut cursor = Cursor::start(alloc, store, name)?;
+    let header = cursor.read_header(store)?;
+    Ok((header, cursor))
+}
+
+/// The refusal for a fault of the header of a name's blob. The faults of the last line are none of a header.
+pub fn refusal(name: &BlobName, fault: BlobFault) -> Result<Refusal, Stop>
     ensures { result ≡ refusal_of name.now fault }
 {
     match fault {
-        BlobFault::NoBlob(_) => Ok(Reply::NoBlob(*name)),
-        BlobFault::Large(limit) => Ok(Reply::TooLarge(limit)),
-        BlobFault::Bad(at, reason) => Ok(Reply::BadBlob {
+        BlobFault::NoBlob(_) => Ok(Refusal::NoBlob(*name)),
+        BlobFault::Large(limit) => Ok(Refusal::TooLarge(limit)),
+        BlobFault::Bad(at, reason) => Ok(Refusal::BadBlob {
             blob: *name,
             at,
             reason,
+            row: None,
         }),
         BlobFault::Store => Err(Stop::Store),
         BlobFault::Memory => Err(Stop::Memory),

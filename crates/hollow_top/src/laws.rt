@@ -1,14 +1,16 @@
-//! Laws of the commands: words ask for one command, and a command writes one text.
-ghost use Rattle.std.specs.Prelude.{◌≡◌, ℕ, List, Bool, map, string_bytes};
+//! Laws of the commands: words ask for one command, and a command writes one text and leaves one store, and some text.
+ghost use Rattle.std.specs.Prelude.{◌≡◌, ℕ, List, Bool, Option, map, string_bytes};
+ghost use Rattle.hol_io.specs.declared.name.BlobName.{BlobName};
 ghost use Rattle.hol_io.specs.Store.{Store};
 ghost use Rattle.hollow_top.specs.declared.words.Command.{Command};
-ghost use Rattle.hollow_top.specs.Command.{Writes};
+ghost use Rattle.hollow_top.specs.Command.{HoldsBytes, IsUnbuilt, Writes, WritesSome};
 ghost use Rattle.hollow_top.specs.Words.{Asks};
 
 use crate::words::command_of;
 use blob_frame::laws::one_header;
 use json_rows::laws::one_row_value;
-use snapshot_blob::laws::one_snapshot;
+use snapshot_blob::laws::{header_and_body, one_snapshot};
+use type_state::laws::rows_fit;
 
 /// The words ask for one command at most.
 pub fn one_command(words: &[String])
@@ -18,12 +20,27 @@ pub fn one_command(words: &[String])
     let _command = command_of(words);
 }
 
-/// Over a store a command writes one text at most, with one verdict.
+/// Over an input and a store a command writes one text at most, with one verdict, and leaves one store.
 pub fn one_answer()
-    ensures { (store : Store) (command : Command) (one other : List ℕ) (refused also : Bool) → Writes store command one refused
-        → Writes store command other also → (one ≡ other) × (refused ≡ also) }
+    ensures { (input : Option (List ℕ)) (store : Store) (command : Command) (one other : List ℕ) (refused also : Bool) (next after : Store)
+        → Writes input store command one refused next → Writes input store command other also after
+        → (one ≡ other) × (refused ≡ also) × (next ≡ after) }
 {
     one_header();
     one_snapshot();
+    header_and_body();
     one_row_value();
+}
+
+/// Over a store of bytes `head` writes some text, and so does what is not built; that `show` writes none cannot be.
+pub fn some_answer()
+    ensures head { (input : Option (List ℕ)) (store : Store) (blob : BlobName) → HoldsBytes store
+        → WritesSome input store (Command.Head blob) }
+    ensures unbuilt { (input : Option (List ℕ)) (store : Store) (command : Command) → IsUnbuilt command
+        → WritesSome input store command }
+    ensures show { (input : Option (List ℕ)) (store : Store) (version : ℕ) → HoldsBytes store
+        → (WritesSome input store (Command.Show version) → ⊥) → ⊥ }
+{
+    one_header();
+    rows_fit();
 }

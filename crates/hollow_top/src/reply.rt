@@ -1,36 +1,21 @@
-//! What the program answers in one line, and the line that it writes for each answer.
+//! What a command answers in one line, and the line that it writes for each answer.
 ghost use Rattle.std.specs.Prelude.{◌≡◌, IfOk, string_bytes};
 ghost use Rattle.serde_json.specs.View.{view};
-ghost use Rattle.hollow_top.specs.Reply.{reply_data, head_data, names_data, tags_data, no_blob_data, too_large_data, bad_blob_data, bad_body_data, not_yet_data, is_refusal, line_of};
+ghost use Rattle.hollow_top.specs.Reply.{reply_data, head_data, names_data, tags_data, is_refusal, line_of};
 
+use crate::refusal::{Refusal, refusal_value};
 use blob_frame::Header;
-use hol_io::{BlobName, name_text};
-use schema_model::{Limit, NamePairs, Reason, Schemas};
+use schema_model::{NamePairs, Schemas};
 use serde_json::{Value, json};
 use std::alloc::{AllocError, Global};
 
-/// What a command answers in one line. All but the header are refusals.
+/// What a command answers in one line.
 #[derive(Debug, Drop)]
 pub enum Reply {
     /// The header of a blob.
     Head(Header),
-    /// The store has no blob of this name.
-    NoBlob(BlobName),
-    /// A counted number of the blob passes this limit.
-    TooLarge(Limit),
-    /// The blob's syntax is at fault.
-    BadBlob {
-        /// The blob's name.
-        blob: BlobName,
-        /// The offset of the item that cannot be read.
-        at: u64,
-        /// Why it cannot be read.
-        reason: Reason,
-    },
-    /// The blob's header can be read, but the blob is no snapshot, or passes a limit.
-    BadBody(BlobName),
-    /// The command is not built.
-    NotYet,
+    /// Why the command is refused.
+    Refused(Refusal),
 }
 
 impl Reply {
@@ -38,7 +23,7 @@ impl Reply {
     pub fn is_refusal(&self) -> bool
         ensures { result ≡ is_refusal self.now }
     {
-        !matches!(self, Reply::Head(_))
+        matches!(self, Reply::Refused(_))
     }
 }
 
@@ -58,11 +43,7 @@ fn reply_value(alloc: Global, reply: &Reply) -> Result<Value, AllocError>
 {
     match reply {
         Reply::Head(header) => head_value(alloc, header),
-        Reply::NoBlob(blob) => no_blob_value(alloc, blob),
-        Reply::TooLarge(limit) => too_large_value(alloc, limit),
-        Reply::BadBlob { blob, at, reason } => bad_blob_value(alloc, blob, *at, reason),
-        Reply::BadBody(blob) => bad_body_value(alloc, blob),
-        Reply::NotYet => not_yet_value(alloc),
+        Reply::Refused(refusal) => refusal_value(alloc, refusal),
     }
 }
 
@@ -101,53 +82,4 @@ fn tags_value(alloc: Global, tags: &NamePairs) -> Result<Value, AllocError>
         pairs.push(json!(in alloc; [(tag.0.text()), (tag.1.text())])?)?;
     }
     Ok(Value::Array(pairs))
-}
-
-fn no_blob_value(alloc: Global, blob: &BlobName) -> Result<Value, AllocError>
-    ensures { IfOk result (λ value. view value ≡ no_blob_data blob.now) }
-{
-    let text = name_text(alloc, blob)?;
-    json!(in alloc; {"blob": (&text), "error": 18u64, "name": "NoBlob"})
-}
-
-fn too_large_value(alloc: Global, limit: &Limit) -> Result<Value, AllocError>
-    ensures { IfOk result (λ value. view value ≡ too_large_data limit.now) }
-{
-    json!(in alloc; {
-        "error": 28u64,
-        "limit": (limit.number()),
-        "name": "TooLarge",
-        "what": (limit.what())
-    })
-}
-
-fn bad_blob_value(
-    alloc: Global,
-    blob: &BlobName,
-    at: u64,
-    reason: &Reason,
-) -> Result<Value, AllocError>
-    ensures { IfOk result (λ value. view value ≡ bad_blob_data blob.now at reason.now) }
-{
-    let text = name_text(alloc, blob)?;
-    json!(in alloc; {
-        "at": at,
-        "blob": (&text),
-        "error": 19u64,
-        "name": "BadBlob",
-        "reason": (reason.number())
-    })
-}
-
-fn bad_body_value(alloc: Global, blob: &BlobName) -> Result<Value, AllocError>
-    ensures { IfOk result (λ value. view value ≡ bad_body_data blob.now) }
-{
-    let text = name_text(alloc, blob)?;
-    json!(in alloc; {"blob": (&text), "error": 92u64, "name": "BadBody"})
-}
-
-fn not_yet_value(alloc: Global) -> Result<Value, AllocError>
-    ensures { IfOk result (λ value. view value ≡ not_yet_data) }
-{
-    json!(in alloc; {"error": 90u64, "name": "NotYet"})
 }

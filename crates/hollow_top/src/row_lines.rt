@@ -21,24 +21,29 @@ pub fn show_rows<R: Rows, O: Sink>(alloc: Global, rows: &R, out: &mut O) -> Resu
     ensures sink_fault { IsErrOf result Stop.Sink → Rose (O.faults out.old) (O.faults out.new) }
     ensures later { O.faults out.old ≤ O.faults out.new }
 {
-    for t in 0..rows.model().len() {
-        show_type(alloc, rows, t, out)?;
+    for type_index in 0..rows.model().len() {
+        show_type(alloc, rows, type_index, out)?;
     }
     Ok(())
 }
 
 // Writes a line for each row of a type.
-fn show_type<R: Rows, O: Sink>(alloc: Global, rows: &R, t: u32, out: &mut O) -> Result<(), Stop>
-    requires known { t < length (R.schemas rows.now) }
+fn show_type<R: Rows, O: Sink>(
+    alloc: Global,
+    rows: &R,
+    type_index: u32,
+    out: &mut O,
+) -> Result<(), Stop>
+    requires known { type_index < length (R.schemas rows.now) }
     requires fits { IsTableOf (R.schemas rows.now) (R.table rows.now) }
-    ensures lines { IfSome (slice_get (zip (R.schemas rows.now) (R.table rows.now)) t)
+    ensures lines { IfSome (slice_get (zip (R.schemas rows.now) (R.table rows.now)) type_index)
         (λ typed. LeavesLines (rows_of_type typed) (O.taken out.old) (O.taken out.new) result) }
     ensures sink_fault { IsErrOf result Stop.Sink → Rose (O.faults out.old) (O.faults out.new) }
     ensures later { O.faults out.old ≤ O.faults out.new }
 {
-    for o in 0..rows.bound(t) {
-        if rows.is_live(t, o) {
-            show_row(alloc, rows, t, o, out)?;
+    for ordinal in 0..rows.bound(type_index) {
+        if rows.is_live(type_index, ordinal) {
+            show_row(alloc, rows, type_index, ordinal, out)?;
         }
     }
     Ok(())
@@ -48,34 +53,45 @@ fn show_type<R: Rows, O: Sink>(alloc: Global, rows: &R, t: u32, out: &mut O) -> 
 fn show_row<R: Rows, O: Sink>(
     alloc: Global,
     rows: &R,
-    t: u32,
-    o: u32,
+    type_index: u32,
+    ordinal: u32,
     out: &mut O,
 ) -> Result<(), Stop>
-    requires known { t < length (R.schemas rows.now) }
+    requires known { type_index < length (R.schemas rows.now) }
     requires fits { IsTableOf (R.schemas rows.now) (R.table rows.now) }
-    requires live { IsLive (R.table rows.now) t o }
-    ensures lines { IfSome (slice_get (R.schemas rows.now) t) (λ schema. IfSome (row_at (R.table rows.now) t o)
-        (λ row. LeavesLines ((schema, (o, row)) ∷ []) (O.taken out.old) (O.taken out.new) result)) }
+    requires live { IsLive (R.table rows.now) type_index ordinal }
+    ensures lines { IfSome (slice_get (R.schemas rows.now) type_index) (λ schema. IfSome (row_at (R.table rows.now) type_index ordinal)
+        (λ row. LeavesLines ((schema, (ordinal, row)) ∷ []) (O.taken out.old) (O.taken out.new) result)) }
     ensures sink_fault { IsErrOf result Stop.Sink → Rose (O.faults out.old) (O.faults out.new) }
     ensures later { O.faults out.old ≤ O.faults out.new }
 {
-    let line = row_line(alloc, rows, t, o)?;
+    let line = row_line(alloc, rows, type_index, ordinal)?;
     write_all(out, line.as_bytes())?;
     Ok(())
 }
 
 // The line of a row.
-fn row_line<R: Rows>(alloc: Global, rows: &R, t: u32, o: u32) -> Result<String, AllocError>
-    requires known { t < length (R.schemas rows.now) }
-    requires live { IsLive (R.table rows.now) t o }
-    ensures { IfOk result (λ line. IfSome (slice_get (R.schemas rows.now) t) (λ schema. IfSome (row_at (R.table rows.now) t o)
-        (λ row. IsRowLine (schema, (o, row)) (string_bytes line)))) }
+fn row_line<R: Rows>(
+    alloc: Global,
+    rows: &R,
+    type_index: u32,
+    ordinal: u32,
+) -> Result<String, AllocError>
+    requires known { type_index < length (R.schemas rows.now) }
+    requires live { IsLive (R.table rows.now) type_index ordinal }
+    ensures { IfOk result (λ line. IfSome (slice_get (R.schemas rows.now) type_index) (λ schema. IfSome (row_at (R.table rows.now) type_index ordinal)
+        (λ row. IsRowLine (schema, (ordinal, row)) (string_bytes line)))) }
 {
-    let row = rows.row(alloc, t, o)?;
+    let row = rows.row(alloc, type_index, ordinal)?;
     let model = rows.model();
-    let printed = row_value(alloc, model, t, &row)?;
-    let mut line = listed_value(alloc, model.schema(t).name.text(), o, printed)?.to_string(alloc)?;
+    let printed = row_value(alloc, model, type_index, &row)?;
+    let mut line = listed_value(
+        alloc,
+        model.schema(type_index).name.text(),
+        ordinal,
+        printed,
+    )?
+    .to_string(alloc)?;
     line.push('\n')?;
     Ok(line)
 }

@@ -2,16 +2,18 @@
 ghost use Rattle.std.specs.Prelude.{◌≡◌, ◌≤◌, ◌⊎◌, IfSome, IsErrOf};
 ghost use Rattle.hol_io.specs.Causes.{Rose};
 ghost use Rattle.hollow_top.specs.Show.{Shows, body_refusal_of};
-ghost use Rattle.hollow_top.specs.Stopping.{GainsFront, Leaves};
+ghost use Rattle.hollow_top.specs.Stopping.{GainsFront, IsVerdict, Leaves};
 
 use crate::answer::write_reply;
-use crate::head::head;
+use crate::head::{opened, refusal};
+use crate::refusal::Refusal;
 use crate::reply::Reply;
 use crate::row_lines::show_rows;
 use crate::stop::Stop;
 use blob_frame::BlobFault;
 use hol_io::{BlobName, BlobStore, Sink};
-use snapshot_blob::read_snapshot;
+use snapshot_blob::laws::header_and_body;
+use snapshot_blob::read_body;
 use std::alloc::Global;
 
 /// Writes a line for each row of the snapshot of a version, types in model order and the ordinals of each type rising,
@@ -26,39 +28,37 @@ pub fn show<O: Sink, S: BlobStore>(
 ) -> Result<bool, Stop>
     ensures served { IfSome (S.seen store.old).held
         (λ held. Leaves (Shows held version) (O.taken out.old) (O.taken out.new) result) }
+    ensures verdict { Leaves IsVerdict (O.taken out.old) (O.taken out.new) result }
     ensures sink_fault { IsErrOf result Stop.Sink → Rose (O.faults out.old) (O.faults out.new) }
     ensures store_fault { IsErrOf result Stop.Store → Rose (S.seen store.old).faults (S.seen store.new).faults }
     ensures held { (S.seen store.new).held ≡ (S.seen store.old).held }
+    ensures unput { (S.seen store.new).puts ≡ (S.seen store.old).puts }
     ensures silent { IsErrOf result Stop.Store → out.new ≡ out.old }
     ensures stopped { IsErrOf result Stop.Memory → (out.new ≡ out.old) ⊎ IfSome (S.seen store.old).held
         (λ held. GainsFront (Shows held version) (O.taken out.old) (O.taken out.new)) }
 {
     let name = BlobName::Snapshot(version);
-    let reply = head(alloc, store, &name)?;
-    if reply.is_refusal() {
-        return write_reply(alloc, &reply, out);
-    }
-    match read_snapshot(alloc, store, &name) {
-        Ok(loaded) => {
-            show_rows(alloc, &loaded.rows(), out)?;
+    header_and_body();
+    let (_header, mut cursor) = match opened(alloc, store, &name) {
+        Ok(opened) => opened,
+        Err(fault) => return write_reply(alloc, &Reply::Refused(refusal(&name, fault)?), out),
+    };
+    match read_body(alloc, &mut cursor, store) {
+        Ok(body) => {
+            show_rows(alloc, &body.rows(), out)?;
             Ok(false)
         }
-        Err(fault) => write_reply(alloc, &body_refusal(&name, fault)?, out),
+        Err(fault) => write_reply(alloc, &Reply::Refused(body_refusal(&name, fault)?), out),
     }
 }
 
-// The answer for a fault of a blob whose header can be read. Which fault it is of the blob's body is not told.
-fn body_refusal(name: &BlobName, fault: BlobFault) -> Result<Reply, Stop>
+// The refusal for a fault of a blob whose header can be read. Which fault it is of the blob's body is not told.
+fn body_refusal(name: &BlobName, fault: BlobFault) -> Result<Refusal, Stop>
     ensures { result ≡ body_refusal_of name.now fault }
 {
     match fault {
-        BlobFault::NoBlob(_) => Ok(Reply::NoBlob(*name)),
         BlobFault::Store => Err(Stop::Store),
         BlobFault::Memory => Err(Stop::Memory),
-        BlobFault::Large(_)
-        | BlobFault::Bad(..)
-        | BlobFault::BadRow(..)
-        | BlobFault::OtherOrigin(..)
-        | BlobFault::OtherModel(_) => Ok(Reply::BadBody(*name)),
+        _ => Ok(Refusal::BadBody(*name)),
     }
 }

@@ -14,12 +14,17 @@ use std::alloc::{AllocError, Global};
 /// units where they are not well-formed UTF-16, for BYTES lower-case hexadecimal digits, and for a REFERENCE its ordinal.
 /// A list or a set is the array of its ordinals, and a map the array of its pairs of ordinals.
 /// It fails only for want of memory.
-pub fn row_value(alloc: Global, model: &Model, t: u32, row: &Row) -> Result<Value, AllocError>
-    requires within { t < length model.now }
-    requires fits { IfSome (slice_get model.now t) (λ schema. FitsShape schema.shape row.now) }
-    ensures { IfOk result (λ value. IfSome (slice_get model.now t) (λ schema. IsRowData schema.shape row.now (view value))) }
+pub fn row_value(
+    alloc: Global,
+    model: &Model,
+    type_index: u32,
+    row: &Row,
+) -> Result<Value, AllocError>
+    requires within { type_index < length model.now }
+    requires fits { IfSome (slice_get model.now type_index) (λ schema. FitsShape schema.shape row.now) }
+    ensures { IfOk result (λ value. IfSome (slice_get model.now type_index) (λ schema. IsRowData schema.shape row.now (view value))) }
 {
-    shaped_value(alloc, &model.schema(t).shape, row)
+    shaped_value(alloc, &model.schema(type_index).shape, row)
 }
 
 // A row of a type of this shape.

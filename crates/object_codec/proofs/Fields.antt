@@ -1,6 +1,6 @@
 -- Lemmas on the walk along the fields of a record: what is left to read decides what the place spells.
 use Rattle.std.proofs.Common.{◌≡◌, ℕ, ◌+◌, ◌<◌, ◌≤◌, List, [], ◌∷◌, ◌++◌, length, take, drop, get_or, arith, ap, sym, refl, ◌∙◌, subst, add-one, append_assoc, append-nil, inl, inr, ◌⊎◌}
-use Rattle.std.specs.Prelude.{sum, Bool, false, Result, Ok, Err, is_err, is_ok, if◌then◌else◌}
+use Rattle.std.specs.Prelude.{sum, Err}
 use Rattle.std.proofs.Math.Seq.{drop-cons}
 use Rattle.std.proofs.lemmas.List.{drop_all}
 use Rattle.std.proofs.lemmas.Option.{unwrap_or-slice_get}
@@ -21,9 +21,6 @@ pub record Progress (fields : List Field) (widths first : List ℕ) (areas : Lis
       → SpellsObject fields widths first areas place (values ++ rest)
   pub fails : (reason : Reason) → FirstFails (drop index fields) (parts_from first (sum widths) place before (drop index widths) (drop index areas)) reason
       → FailsObject fields widths first areas place reason
-
-pub started : (fields : List Field) (widths first : List ℕ) (areas : List (List ℕ)) (place : ℕ) → Progress fields widths first areas place 0 0 []
-started fields widths first areas place = record { summed = refl; spells = λ rest h. h; fails = λ reason h. h }
 
 -- what the fields, widths and areas from an index on begin with
 record Heads (fields : List Field) (widths : List ℕ) (areas : List (List ℕ)) (index : ℕ) (field : Field) : Type 0 where
@@ -98,12 +95,6 @@ failed fields widths first areas size place index before values field (PlaceFaul
     (fails_next first (sum widths) place before (get_or widths index 0) (area_of areas index) (drop index fields) (drop (index + 1) fields)
     (drop index widths) (drop (index + 1) widths) (drop index areas) (drop (index + 1) areas) field reason
     h.field_first h.width_first h.area_first (inl here))
-
--- what a push that was not refused leaves
-pub pushed : {X T E : Type 0} (result : Result T E) (refused : Bool) (old more new : List X) → refused ≡ is_err result → refused ≡ false
-    → new ≡ (if is_ok result then more else old) → new ≡ more
-pushed (Ok x) refused old more new is kept h = h
-pushed (Err e) refused old more new is kept h = absurd cc
 
 nothing_left : (first : List ℕ) (size place before : ℕ) (fields : List Field) (widths : List ℕ) (areas : List (List ℕ))
     → fields ≡ [] → widths ≡ [] → SpellsFields fields (parts_from first size place before widths areas) []

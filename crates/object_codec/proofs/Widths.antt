@@ -1,8 +1,7 @@
 -- Lemmas on the widths of fields.
-use Rattle.std.proofs.Common.{◌≡◌, ℕ, zero, suc, ◌+◌, ◌-◌, ◌*◌, ◌/◌, ◌^◌, ◌<◌, ◌≤◌, List, [], ◌∷◌, length, take, get_or, arith, ap, ◌∙◌, subst, sym}
+use Rattle.std.proofs.Common.{◌≡◌, ℕ, zero, suc, ◌+◌, ◌*◌, ◌^◌, ◌<◌, ◌≤◌, List, [], ◌∷◌, length, take, get_or, arith, subst, sym}
 use Rattle.std.specs.Prelude.{sum}
 use Rattle.std.specs.List.{AllZip, AllByRecursion}
-use Rattle.std.proofs.lemmas.Nat.Bits.{ones_shr}
 use Rattle.std.proofs.lemmas.List.Elements.{All-from_recursion}
 use Rattle.std.proofs.lemmas.List.Sums.{sum_by-le, sum_by_more_le}
 use Rattle.std.proofs.lemmas.Slice.Zip.{AllZip-long}
@@ -13,12 +12,6 @@ use Rattle.schema_model.specs.declared.schema.FieldKind.{FieldKind}
 use Rattle.schema_model.specs.declared.schema.Field.{Field}
 use Rattle.object_codec.specs.Cell.{IsWithin}
 use Rattle.object_codec.specs.ObjectPlace.{IsKindWidth, IsFieldWidth, HoldsPlace}
-
--- the greatest of 64 bits, shifted so that so many are left
-pub all_ones_shifted : (width : ℕ) → width ≤ 64 → 18446744073709551615 / 2 ^ (64 - width) ≡ 2 ^ width - 1
-all_ones_shifted width within =
-    let e : 64 - (64 - width) ≡ width = omega arith in
-    ones_shr 64 (64 - width) (omega arith) ∙ ap (λ k. 2 ^ k - 1) e
 
 -- the element of a BOOLEAN has two bits
 pub boolean_below : (kind : FieldKind) (width element : ℕ) → IsKindWidth kind width → kind ≡ FieldKind.Boolean → element < 2 ^ width → element < 4

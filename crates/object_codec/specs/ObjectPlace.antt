@@ -10,7 +10,7 @@ use Rattle.schema_model.specs.declared.rows.row.Value.{Value}
 use Rattle.schema_model.specs.declared.rows.row.Row.{Row}
 use Rattle.schema_model.specs.declared.reason.Reason.{Reason}
 use Rattle.schema_model.specs.declared.rows.packed.PlaceFault.{PlaceFault}
-use Rattle.object_codec.specs.Part.{Part, offset_in, SpellsValue, FailsValue}
+use Rattle.object_codec.specs.Part.{FieldPart, offset_in, SpellsValue, FailsValue}
 
 -- The element of a field at a place: a record has `size` bits, of which `before` stand before the field's.
 abbrev pub element_at : List ℕ → ℕ → ℕ → ℕ → ℕ → ℕ
@@ -22,7 +22,7 @@ start_at first size before width zero = 0
 start_at first size before width (suc earlier) = offset_in width (element_at first size before width earlier)
 
 -- What a field has at a place.
-abbrev pub part_at : List ℕ → ℕ → ℕ → ℕ → ℕ → List ℕ → Part
+abbrev pub part_at : List ℕ → ℕ → ℕ → ℕ → ℕ → List ℕ → FieldPart
 part_at first size place before width area =
     record {
       width = width;
@@ -32,23 +32,23 @@ part_at first size place before width area =
     }
 
 -- The same for each of some fields that follow one another.
-abbrev pub parts_from : List ℕ → ℕ → ℕ → ℕ → List ℕ → List (List ℕ) → List Part
+abbrev pub parts_from : List ℕ → ℕ → ℕ → ℕ → List ℕ → List (List ℕ) → List FieldPart
 parts_from first size place before (width ∷ widths) (area ∷ areas) =
     part_at first size place before width area ∷ parts_from first size place (before + width) widths areas
 parts_from first size place before _ _ = []
 
 -- The parts of the record at a place, in the order of the schema: a record is as wide as its fields together.
-abbrev pub parts_of : List ℕ → List ℕ → List (List ℕ) → ℕ → List Part
+abbrev pub parts_of : List ℕ → List ℕ → List (List ℕ) → ℕ → List FieldPart
 parts_of widths first areas place = parts_from first (sum widths) place 0 widths areas
 
 -- Each part gives the value of its field.
-abbrev pub SpellsFields : List Field → List Part → List Value → Type 0
+abbrev pub SpellsFields : List Field → List FieldPart → List Value → Type 0
 SpellsFields [] [] [] = Unit {0}
 SpellsFields (field ∷ fields) (part ∷ parts) (value ∷ values) = SpellsValue field.kind part value × SpellsFields fields parts values
 SpellsFields _ _ _ = ⊥
 
 -- The first part that gives no value fails for this reason.
-abbrev pub FirstFails : List Field → List Part → Reason → Type 0
+abbrev pub FirstFails : List Field → List FieldPart → Reason → Type 0
 FirstFails (field ∷ fields) (part ∷ parts) reason =
     FailsValue field.kind part reason ⊎ (((value : Value) × SpellsValue field.kind part value) × FirstFails fields parts reason)
 FirstFails _ _ reason = ⊥

@@ -1,20 +1,10 @@
-ghost use Rattle.std.specs.Prelude.{◌≡◌, ◌-◌, ◌^◌, ◌<◌, ◌≤◌, MatchOption};
+//! The values of the kinds that have no variable bytes.
+ghost use Rattle.std.specs.Prelude.{◌≡◌, ◌<◌, ◌≤◌, MatchOption};
 ghost use Rattle.object_codec.specs.Part.{SpellsInt, SpellsLong, SpellsReference, SpellsBoolean, IsBadInt, IsBadReference};
 
+use bit_array::all_ones;
 use hol_varint::{unzigzag32, unzigzag64};
 use schema_model::Value;
-
-/// The element of a width that has ones alone.
-#[tactic(auto, using(crate::proofs::Widths::all_ones_shifted))]
-fn all_ones(width: u32) -> u64
-    requires { width ≤ 64 }
-    ensures { result ≡ 2 ^ width - 1 }
-{
-    if width == 0 {
-        return 0;
-    }
-    u64::MAX >> (64 - width)
-}
 
 /// The value of an INT: null for ones alone, else the number whose zigzag number the element is. None where that is no INT.
 pub fn int_value(width: u32, element: u64) -> Option<Value>

@@ -1,4 +1,5 @@
-ghost use Rattle.std.specs.Prelude.{◌≡◌, ◌^◌, ◌<◌, sum, Ok, Err};
+//! The record of an OBJECT type at a place.
+ghost use Rattle.std.specs.Prelude.{Ok, Err};
 ghost use Rattle.hol_varint.specs.Yields.{Yields};
 ghost use Rattle.schema_model.specs.Parts.{shape_fields};
 ghost use Rattle.schema_model.specs.declared.rows.row.Row.{Row as StoredRow};
@@ -8,7 +9,8 @@ ghost use Rattle.object_codec.specs.ObjectPlace.{IsObject, HoldsPlace, SpellsObj
 
 use crate::cell::Cell;
 use crate::value::value;
-use schema_model::{Field, Parts, PlaceFault, Row, Schema, Shape, Values, Widths};
+use bit_array::total_width;
+use schema_model::{Field, Parts, PlaceFault, Row, Schema, Values, Widths};
 use std::alloc::Global;
 
 /// The record that the parts of an OBJECT type spell at a place.
@@ -48,21 +50,9 @@ fn read_row<P: Parts>(
     requires holds { HoldsPlace (shape_fields schema.now.shape) widths.now (P.first_words parts.now) (P.area_bytes parts.now) place }
     ensures { TellsObjectRow schema.now.shape widths.now (P.first_words parts.now) (P.area_bytes parts.now) place result }
 {
-    match &schema.shape {
-        Shape::Object(_, fields) => {
-            let values = read_fields(alloc, fields.as_slice(), widths.as_slice(), parts, place)?;
-            Ok(Row::Object(values))
-        }
-        _ => unreachable!(),
-    }
-}
-
-/// The width of a record, in bits: its fields' together.
-fn record_size(widths: &[u32]) -> u64
-    requires { sum widths.now < 2 ^ 64 }
-    ensures { result ≡ sum widths.now }
-{
-    widths.iter().map(|width| u64::from(*width)).sum()
+    let fields = schema.shape.fields();
+    let values = read_fields(alloc, fields, widths.as_slice(), parts, place)?;
+    Ok(Row::Object(values))
 }
 
 /// The values of the record at a place.
@@ -76,10 +66,8 @@ fn read_fields<P: Parts>(
     requires { HoldsPlace fields.now widths.now (P.first_words parts.now) (P.area_bytes parts.now) place }
     ensures { TellsObject fields.now widths.now (P.first_words parts.now) (P.area_bytes parts.now) place result }
 {
-    let size = record_size(widths);
-    let Ok(mut values) = Vec::with_capacity(alloc, fields.len()) else {
-        return Err(PlaceFault::Memory);
-    };
+    let size = total_width(widths) as u64;
+    let mut values = Vec::with_capacity(alloc, fields.len())?;
     let mut before = 0;
     for (index, field) in fields.iter().enumerate() {
         let width = widths[index];
@@ -91,9 +79,7 @@ fn read_fields<P: Parts>(
             field: index as u32,
         };
         let value = value(alloc, parts, &field.kind, cell)?;
-        if values.push(value).is_err() {
-            return Err(PlaceFault::Memory);
-        }
+        values.push(value)?;
         before += u64::from(width);
     }
     Ok(Values::from_vec(values))

@@ -1,3 +1,4 @@
+//! The variable bytes of a STRING or BYTES.
 ghost use Rattle.std.specs.Prelude.{◌≡◌, ◌-◌, ◌≤◌, length, take, drop, IfOk};
 ghost use Rattle.schema_model.specs.Areas.{area_of};
 ghost use Rattle.object_codec.specs.Cell.{IsWithin};
@@ -51,8 +52,5 @@ pub fn span<P: Parts>(
     if is_null {
         return Ok(None);
     }
-    match copy(alloc, parts, cell.field, start, end) {
-        Ok(bytes) => Ok(Some(bytes)),
-        Err(_) => Err(PlaceFault::Memory),
-    }
+    Ok(Some(copy(alloc, parts, cell.field, start, end)?))
 }

@@ -1,3 +1,4 @@
+//! Tests: records of each kind of field, and why there is none.
 ghost use Rattle.std.specs.Prelude.{◌≡◌, ◌<◌, ◌∷◌, [], length, IfOk};
 ghost use Rattle.std.specs.List.{AllZip};
 ghost use Rattle.object_codec.specs.ObjectPlace.{IsFieldWidth};
@@ -66,8 +67,8 @@ fn packed(alloc: Global, word: u64) -> Result<Packed, AllocError>
     })
 }
 
-/// What is read at a place of records of 20 bits each.
-fn read_at(alloc: Global, word: u64, place: u64) -> Result<Result<Row, PlaceFault>, AllocError>
+/// What is read at a place of records of 20 bits each, as its text.
+fn read_at(alloc: Global, word: u64, place: u64) -> Result<String, AllocError>
     requires { place < 3 }
 {
     let schema = Schema {
@@ -76,38 +77,44 @@ fn read_at(alloc: Global, word: u64, place: u64) -> Result<Result<Row, PlaceFaul
     };
     let widths = Widths::from_vec(vec![in alloc; 2, 4, 5, 2, 4, 3]?);
     let packed = packed(alloc, word)?;
-    Ok(read(alloc, &schema, &widths, 0, &packed, place))
+    let row = read(alloc, &schema, &widths, 0, &packed, place);
+    format!(in alloc; "{row:?}")
 }
 
 #[test]
 fn records(rt: HostRuntime) -> Result<(), Fail> {
     let alloc = rt.alloc();
-    let cases = [
-        (
-            0x0483_94B5_FFF2_4BEA,
-            0,
-            "Ok(Object(Values { items: [Ref(2), Int(5), Long(-8), Bool(true), Text(Units { items: [72, 105] }), Bytes(Octets { items: [255] })] }))",
-        ),
-        (
-            0x0483_94B5_FFF2_4BEA,
-            1,
-            "Ok(Object(Values { items: [Null, Null, Null, Null, Null, Null] }))",
-        ),
-        (
-            0x0483_94B5_FFF2_4BEA,
-            2,
-            "Ok(Object(Values { items: [Ref(0), Int(-3), Long(7), Bool(false), Text(Units { items: [233] }), Bytes(Octets { items: [0] })] }))",
-        ),
-        (0x253EA, 0, "Err(Bad(BadValue))"),
-        (0x2ABEA, 0, "Err(Bad(BadPointers))"),
-        (0x34BEA, 0, "Err(Bad(BadPointers))"),
-        (0x0A_3FFF_24BEA, 1, "Err(Bad(BadPointers))"),
-        (0x26BEA, 0, "Err(Bad(BadText))"),
-    ];
-    for (word, place, expected) in cases {
-        assert!(rt; place < 3);
-        let row = read_at(alloc, word, place)?;
-        assert_eq!(rt; format!(in alloc; "{row:?}")?.as_str(), expected);
-    }
+    let word = 0x0483_94B5_FFF2_4BEA;
+    let first = read_at(alloc, word, 0)?;
+    assert_eq!(rt;
+        first.as_str(),
+        "Ok(Object(List { items: [Ref(2), Int(5), Long(-8), Bool(true), Text(List { items: [72, 105] }), Bytes(List { items: [255] })] }))"
+    );
+    let nulls = read_at(alloc, word, 1)?;
+    assert_eq!(rt;
+        nulls.as_str(),
+        "Ok(Object(List { items: [Null, Null, Null, Null, Null, Null] }))"
+    );
+    let last = read_at(alloc, word, 2)?;
+    assert_eq!(rt;
+        last.as_str(),
+        "Ok(Object(List { items: [Ref(0), Int(-3), Long(7), Bool(false), Text(List { items: [233] }), Bytes(List { items: [0] })] }))"
+    );
+    Ok(())
+}
+
+#[test]
+fn refusals(rt: HostRuntime) -> Result<(), Fail> {
+    let alloc = rt.alloc();
+    assert_eq!(rt; read_at(alloc, 0x253EA, 0)?.as_str(), "Err(Bad(BadValue))");
+    assert_eq!(rt;
+        read_at(alloc, 0x2ABEA, 0)?.as_str(),
+        "Err(Bad(BadPointers))"
+    );
+    assert_eq!(rt;
+        read_at(alloc, 0x0A_3FFF_24BEA, 1)?.as_str(),
+        "Err(Bad(BadPointers))"
+    );
+    assert_eq!(rt; read_at(alloc, 0x26BEA, 0)?.as_str(), "Err(Bad(BadText))");
     Ok(())
 }

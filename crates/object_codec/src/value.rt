@@ -1,3 +1,4 @@
+//! The value of a field, by its kind.
 ghost use Rattle.std.specs.Prelude.{◌≡◌, ◌≤◌};
 ghost use Rattle.schema_model.specs.Areas.{area_of};
 ghost use Rattle.schema_model.specs.declared.schema.FieldKind.TheVariants.{Text, Bytes};

@@ -1,2 +1,6 @@
 pub mod Members
 pub mod Populations
+pub mod Lacking
+pub mod LeastFree
+pub mod GapRuns
+pub mod PopulationBytes

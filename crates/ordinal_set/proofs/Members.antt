@@ -13,13 +13,13 @@ use Rattle.ordinal_set.specs.Ordinals.{members_below, with_ordinal, bound_of, le
 
 -- ---- members of a list by its first one and the others
 
-here : (x : ℕ) (xs : List ℕ) → Contains (x ∷ xs) x
+pub here : (x : ℕ) (xs : List ℕ) → Contains (x ∷ xs) x
 here x xs = (0, omega arith, refl)
 
-there : (x : ℕ) (xs : List ℕ) (n : ℕ) → Contains xs n → Contains (x ∷ xs) n
+pub there : (x : ℕ) (xs : List ℕ) (n : ℕ) → Contains xs n → Contains (x ∷ xs) n
 there x xs n (k, within, is) = (suc k, omega arith, is)
 
-first_or_other : (x : ℕ) (xs : List ℕ) (n : ℕ) → Contains (x ∷ xs) n → (x ≡ n) ⊎ Contains xs n
+pub first_or_other : (x : ℕ) (xs : List ℕ) (n : ℕ) → Contains (x ∷ xs) n → (x ≡ n) ⊎ Contains xs n
 first_or_other x xs n (zero, within, is) = inl is
 first_or_other x xs n (suc k, within, is) = inr (k, omega arith, is)
 
@@ -61,10 +61,10 @@ Contains-kept p (x ∷ xs) n h passes =
 
 -- ---- rising lists
 
-rising-head : (x : ℕ) (xs : List ℕ) → IsStrictlyIncreasing (x ∷ xs) → All (λ y. x < y) xs
+pub rising-head : (x : ℕ) (xs : List ℕ) → IsStrictlyIncreasing (x ∷ xs) → All (λ y. x < y) xs
 rising-head x xs rising k d within = AllPairs-from_increasing (x ∷ xs) rising 0 (suc k) d (omega arith) (omega arith)
 
-rising-tail : (x : ℕ) (xs : List ℕ) → IsStrictlyIncreasing (x ∷ xs) → IsStrictlyIncreasing xs
+pub rising-tail : (x : ℕ) (xs : List ℕ) → IsStrictlyIncreasing (x ∷ xs) → IsStrictlyIncreasing xs
 rising-tail x xs rising =
     IsStrictlyIncreasing-from_sorted xs (sorted_tail nat_cmp x xs (sorted_from_strictly_increasing (x ∷ xs) rising))
 
@@ -106,7 +106,7 @@ same_others x xs y ys rising same n has_n among =
       | inr other ↦ other
     ]
 
-no_member : (n : ℕ) → Contains [] n → ⊥
+pub no_member : (n : ℕ) → Contains [] n → ⊥
 no_member n (k, within, is) = omega arith
 
 -- two rising lists with the same members are one

@@ -70,11 +70,11 @@ population-none = refl
 
 -- ---- one bit, by its word and its place in the word
 
-set_bit : (words : List ℕ) (o : ℕ) → bit_at (get_or words (o / 64) 0) (o % 64) ≡ 1 → has_bit words o ≡ true
+pub set_bit : (words : List ℕ) (o : ℕ) → bit_at (get_or words (o / 64) 0) (o % 64) ≡ 1 → has_bit words o ≡ true
 unfolding has_bit
 set_bit words o h = eq-eqb (bit_at (get_or words (o / 64) 0) (o % 64)) 1 h
 
-clear_bit : (words : List ℕ) (o : ℕ) → bit_at (get_or words (o / 64) 0) (o % 64) ≡ 0 → has_bit words o ≡ false
+pub clear_bit : (words : List ℕ) (o : ℕ) → bit_at (get_or words (o / 64) 0) (o % 64) ≡ 0 → has_bit words o ≡ false
 unfolding has_bit
 clear_bit words o h = ne_eqb (bit_at (get_or words (o / 64) 0) (o % 64)) 1 (λ one. absurd (omega arith))
 
@@ -259,7 +259,7 @@ bound_in_word words place some fits clear =
 
 -- ---- one bit more
 
-same_bit : (xs ys : List ℕ) (o : ℕ) → get_or xs (o / 64) 0 ≡ get_or ys (o / 64) 0 → has_bit xs o ≡ has_bit ys o
+pub same_bit : (xs ys : List ℕ) (o : ℕ) → get_or xs (o / 64) 0 ≡ get_or ys (o / 64) 0 → has_bit xs o ≡ has_bit ys o
 unfolding has_bit
 same_bit xs ys o same = ap (λ w. eqb (bit_at w (o % 64)) 1) same
 

@@ -1,5 +1,6 @@
 -- Sets of ordinals, each seen as the rising list of its members.
-use Rattle.std.specs.Prelude.{ℕ, ◌+◌, ◌-◌, ◌^◌, ◌<◌, max, ◌≤◌, List, [], ◌∷◌, ◌++◌, Option, None, Some, All, Contains, filter, find, nat_lt, nat_le}
+use Rattle.std.specs.Prelude.{ℕ, ◌+◌, ◌-◌, ◌^◌, ◌<◌, max, ◌≤◌, ◌⊎◌, List, [], ◌∷◌, ◌++◌, Option, None, Some, All, Contains, filter, find, nat_lt, nat_le, ◌==◌, not}
+use Rattle.std.specs.List.{list_any}
 use Rattle.std.specs.List.Sorted.{IsStrictlyIncreasing}
 
 -- A rising list of ordinals, which are below 2 ^ 32 - 1.
@@ -35,3 +36,17 @@ pub record IsNextMember (o : ℕ) (set : List ℕ) (next : ℕ) : Type 0 where
 abbrev pub TellsNext : ℕ → List ℕ → Option ℕ → Type 0
 TellsNext o set None = (m : ℕ) → Contains set m → m < o
 TellsNext o set (Some next) = IsNextMember o set next
+
+-- The set with one ordinal taken out.
+unfoldable pub without_ordinal : ℕ → List ℕ → List ℕ
+without_ordinal o set = filter (λ m. not (m == o)) set
+
+-- The members that another set lacks.
+unfoldable pub lacking : List ℕ → List ℕ → List ℕ
+lacking set other = filter (λ m. not (list_any (λ n. n == m) other)) set
+
+-- The number is in neither set, and each number below it is in one of them.
+pub record IsLeastFree (set other : List ℕ) (least : ℕ) : Type 0 where
+  pub free : Contains set least → ⊥
+  pub other_free : Contains other least → ⊥
+  pub below : (m : ℕ) → m < least → Contains set m ⊎ Contains other m

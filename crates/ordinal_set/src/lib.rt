@@ -1,9 +1,12 @@
 //! Sets of ordinals, a bit each in 64-bit words, as a blob's populations hold them.
 #![tactic(auto)]
 
+mod gaps;
+mod population;
 mod scan;
 mod set;
 
+pub use gaps::{GapFault, put_gaps, read_gaps};
 pub use set::OrdinalSet;
 
 #[cfg(test)]

@@ -1,9 +1,10 @@
 //! Sets of ordinals.
-ghost use Rattle.std.specs.Prelude.{◌≡◌, ◌-◌, ◌^◌, ◌<◌, ◌↔◌, [], vec_len, Contains, IfOk, IsTrue, OnOk, OnErr};
-ghost use Rattle.ordinal_set.specs.Ordinals.{AreOrdinals, with_ordinal, bound_of, least_from, TellsNext};
-ghost use Rattle.ordinal_set.specs.Population.{population_of};
+ghost use Rattle.std.specs.Prelude.{ℕ, List, ◌≡◌, ◌-◌, ◌^◌, ◌<◌, ◌↔◌, [], ◌++◌, vec_len, Contains, IfOk, IsTrue, OnOk, OnErr};
+ghost use Rattle.ordinal_set.specs.Ordinals.{AreOrdinals, with_ordinal, without_ordinal, lacking, bound_of, least_from, TellsNext, IsLeastFree};
+ghost use Rattle.ordinal_set.specs.Population.{population_of, AreUpTo, IsPopulation};
 
-use crate::scan::{has_set, last_set, lengthen, next_set};
+use crate::population::{population_words, push_words};
+use crate::scan::{clear_bit, has_set, last_set, least_clear, lengthen, next_set};
 use hol_varint::Ordinals;
 use std::alloc::{AllocError, Global};
 use std::marker::Model;
@@ -59,6 +60,21 @@ impl OrdinalSet {
         Ok(())
     }
 
+    /// Takes a number out.
+    pub fn remove(&mut self, o: u32)
+        ensures removed { self.new ≡ without_ordinal o self.old }
+        ensures ordinals { AreOrdinals self.new }
+    {
+        clear_bit(&mut self.words, o);
+    }
+
+    /// Takes all numbers out.
+    pub fn clear(&mut self)
+        ensures { self.new ≡ [] }
+    {
+        self.words.clear();
+    }
+
     /// Whether a number is in the set.
     pub fn contains(&self, o: u32) -> bool
         ensures member { IsTrue result ↔ Contains self.now o }
@@ -96,5 +112,46 @@ impl OrdinalSet {
             from = o + 1;
         }
         Ok(list)
+    }
+
+    /// The least number that is in neither set.
+    pub fn least_free(&self, other: &OrdinalSet) -> u32
+        ensures { IsLeastFree self.now other.now result }
+    {
+        least_clear(&self.words, &other.words)
+    }
+
+    /// The numbers of the set that the other one lacks, rising.
+    pub fn without(&self, alloc: Global, other: &OrdinalSet) -> Result<Ordinals, AllocError>
+        ensures members { IfOk result (λ list. list ≡ lacking self.now other.now) }
+        ensures ordinals { AreOrdinals (lacking self.now other.now) }
+    {
+        let mut list = Ordinals::new(alloc);
+        let mut from = 0;
+        while let Some(o) = self.next_from(from) {
+            if !other.contains(o) {
+                list.push(o)?;
+            }
+            from = o + 1;
+        }
+        Ok(list)
+    }
+
+    /// Writes a population at the end: 4 bytes with the number of its words, and the words, 8 bytes each, the highest byte first; bit o
+    /// mod 64 of word o div 64, counted from the least, is set where o is in the set.
+    ///
+    /// There are as many times 256 words as the ordinals up to `greatest` need, and 256 at least. No number of the set is above `greatest`,
+    /// and where that is None the set is empty. Where memory is refused nothing is written.
+    pub fn put_population(&self, out: &mut Vec<u8>, greatest: Option<u32>) -> Result<(), AllocError>
+        requires { AreUpTo greatest self.now }
+        ensures ok { OnOk result ((bytes : List ℕ) × (out.new.items ≡ out.old.items ++ bytes) × IsPopulation self.now greatest bytes) }
+        ensures err { OnErr result (out.new.items ≡ out.old.items) }
+    {
+        let start = out.len();
+        let written = push_words(out, &self.words, population_words(greatest));
+        if written.is_err() {
+            out.truncate(start);
+        }
+        written
     }
 }

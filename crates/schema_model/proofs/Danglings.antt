@@ -1,7 +1,10 @@
 -- Whether the rows under the ordinals of a type name live ordinals alone, one after another.
-use Rattle.std.proofs.Common.{◌≡◌, ℕ, ◌+◌, ◌<◌, ◌≤◌, ◌↔◌, inl, inr, List, [], ◌∷◌, length, map, flat_map, zip, Bool, true, Option, Some, None, refl, sym, ◌∙◌, subst, arith, below_more}
-use Rattle.std.specs.Prelude.{All, slice_get, IsSome}
-use Rattle.std.proofs.lemmas.Bool.{cases_lt}
+use Rattle.std.proofs.Common.{◌≡◌, ℕ, ◌+◌, ◌<◌, ◌≤◌, ◌↔◌, inl, inr, List, [], ◌∷◌, length, map, flat_map, zip, Bool, true, false, Option, Some, None, refl, sym, ◌∙◌, ap, arith, below_more}
+use Rattle.std.specs.Prelude.{All, IsSome, IsSomeAnd, is_some, option_and_then, ◌&&◌}
+use Rattle.std.specs.List.{list_all}
+use Rattle.std.proofs.lemmas.Bool.{cases_lt, false≢true}
+use Rattle.std.proofs.lemmas.List.Elements.{All-nil, All-cons, All-head, All-tail}
+use Rattle.std.proofs.lemmas.List.Folds.{list_all-append, list_all-map}
 use Rattle.std.proofs.lemmas.Option.{slice_get_past}
 use Rattle.schema_model.specs.declared.schema.name.Name.{Name}
 use Rattle.schema_model.specs.declared.schema.Schema.{Schema}
@@ -10,47 +13,76 @@ use Rattle.schema_model.specs.declared.schema.Field.{Field}
 use Rattle.schema_model.specs.declared.rows.row.Value.{Value}
 use Rattle.schema_model.specs.declared.rows.row.Row.{Row}
 use Rattle.schema_model.specs.Row.{references_of_row, references_of_value}
-use Rattle.schema_model.specs.Table.{Table, row_at, IsLive, IsBound, IsClosed}
-use Rattle.schema_model.specs.Dangling.{NamesLive, IsClosedAt, TellsType}
+use Rattle.schema_model.specs.Parts.{index_of_type}
+use Rattle.schema_model.specs.Table.{Table, row_at, IsLive, IsLiveByName, IsBound, IsClosed}
+use Rattle.schema_model.specs.Dangling.{AreLive, IsClosedAt, TellsType, is_live_reference, are_live}
 
--- what tells of some rows tells of the same ones
-same_told : (P : Name × ℕ → Type 0) (some all : List (Name × ℕ)) {same : Bool} → some ≡ all → (same ≡ true) ↔ All P some → (same ≡ true) ↔ All P all
-same_told P some all {same} is told = subst (λ rows. (same ≡ true) ↔ All P rows) is told
+-- both of two tests
+and_parts : (a b : Bool) → (a && b) ≡ true → (a ≡ true) × (b ≡ true)
+and_parts true b t = (refl, t)
+and_parts false b t = absurd (false≢true t)
 
--- the rows that a record, a list, a set or a map names
-pub record_rows : (P : Name × ℕ → Type 0) (shape : Shape) (row : Row) (key : Option (List (List ℕ))) (fields fs : List Field) (values vs : List Value) {same : Bool} → shape ≡ Shape.Object key fields → row ≡ Row.Object values → fs ≡ fields → vs ≡ values
-    → (same ≡ true) ↔ All P (flat_map (λ part. references_of_value part.0.kind part.1) (zip fs vs)) → (same ≡ true) ↔ All P (references_of_row shape row)
-record_rows P shape row key fields fs values vs {same} is_shape is_row fields_are values_are told =
-    let first = same_told P _ (references_of_row (Shape.Object key fields) (Row.Object values)) (λ i. flat_map (λ part. references_of_value part.0.kind part.1) (zip (fields_are i) (values_are i))) told in
-    same_told P _ (references_of_row shape row) (λ i. references_of_row (sym is_shape i) (sym is_row i)) first
+and_both : (a b : Bool) → a ≡ true → b ≡ true → (a && b) ≡ true
+and_both true b s t = t
+and_both false b s t = absurd (false≢true s)
 
-pub list_rows : (P : Name × ℕ → Type 0) (shape : Shape) (row : Row) (element : Name) (ordinals os : List ℕ) {same : Bool} → shape ≡ Shape.List element → row ≡ Row.List ordinals → os ≡ ordinals
-    → (same ≡ true) ↔ All P (map (λ ordinal. (element, ordinal)) os) → (same ≡ true) ↔ All P (references_of_row shape row)
-list_rows P shape row element ordinals os {same} is_shape is_row are told =
-    let first = same_told P _ (references_of_row (Shape.List element) (Row.List ordinals)) (λ i. map (λ ordinal. (element, ordinal)) (are i)) told in
-    same_told P _ (references_of_row shape row) (λ i. references_of_row (sym is_shape i) (sym is_row i)) first
+-- a test of each item tells what holds of each
+all_told : {X : Type 0} (p : X → Bool) (P : X → Type 0) → ((x : X) → (p x ≡ true) ↔ P x) → (xs : List X) → (list_all p xs ≡ true) ↔ All P xs
+all_told p P told [] = (λ t. All-nil P, λ all. refl)
+all_told p P told (x ∷ xs) =
+    let rest = all_told p P told xs in (
+      λ t. let each = and_parts (p x) (list_all p xs) t in All-cons P x xs ((told x).0 each.0) (rest.0 each.1),
+      λ all. and_both (p x) (list_all p xs) ((told x).1 (All-head P x xs all)) (rest.1 (All-tail P x xs all)),
+    )
 
-pub set_rows : (P : Name × ℕ → Type 0) (shape : Shape) (row : Row) (element : Name) (ordinals os : List ℕ) {same : Bool} → shape ≡ Shape.Set element → row ≡ Row.Set ordinals → os ≡ ordinals
-    → (same ≡ true) ↔ All P (map (λ ordinal. (element, ordinal)) os) → (same ≡ true) ↔ All P (references_of_row shape row)
-set_rows P shape row element ordinals os {same} is_shape is_row are told =
-    let first = same_told P _ (references_of_row (Shape.Set element) (Row.Set ordinals)) (λ i. map (λ ordinal. (element, ordinal)) (are i)) told in
-    same_told P _ (references_of_row shape row) (λ i. references_of_row (sym is_shape i) (sym is_row i)) first
+by_index : {X : Type 0} (index : Option ℕ) (row : ℕ → Option X) → (is_some (option_and_then row index) ≡ true) ↔ IsSomeAnd index (λ i. IsSome (row i))
+by_index None row = (λ t. absurd (false≢true t), λ there. absurd there)
+by_index (Some i) row = (λ t. t, λ there. there)
 
-pub map_rows : (P : Name × ℕ → Type 0) (shape : Shape) (row : Row) (key value : Name) (pairs ps : List (ℕ × ℕ)) {same : Bool} → shape ≡ Shape.Map key value → row ≡ Row.Map pairs → ps ≡ pairs
-    → (same ≡ true) ↔ All P (flat_map (λ pair. (key, pair.0) ∷ (value, pair.1) ∷ []) ps) → (same ≡ true) ↔ All P (references_of_row shape row)
-map_rows P shape row key value pairs ps {same} is_shape is_row are told =
-    let first = same_told P _ (references_of_row (Shape.Map key value) (Row.Map pairs)) (λ i. flat_map (λ pair. (key, pair.0) ∷ (value, pair.1) ∷ []) (are i)) told in
-    same_told P _ (references_of_row shape row) (λ i. references_of_row (sym is_shape i) (sym is_row i)) first
+-- the test of rows tells whether they are live
+pub told_live : (schemas : List Schema) (table : Table) (references : List (Name × ℕ)) → (are_live schemas table references ≡ true) ↔ AreLive schemas table references
+told_live schemas table references =
+    all_told (is_live_reference schemas table) (λ named. IsLiveByName schemas table named.0 named.1) (λ named. by_index (index_of_type schemas named.0) (λ type_index. row_at table type_index named.1)) references
 
-some_same : {A : Type 0} {x y : A} → Some x ≡ Some y → x ≡ y
-some_same {A} {x} {y} e = cc
+-- a test of all pieces goes piece by piece
+pub all_pieces : {X Y : Type 0} (p : Y → Bool) (f : X → List Y) (xs : List X) → list_all p (flat_map f xs) ≡ list_all (λ x. list_all p (f x)) xs
+all_pieces p f [] = refl
+all_pieces p f (x ∷ xs) = list_all-append p (f x) (flat_map f xs) ∙ ap (λ b. list_all p (f x) && b) (all_pieces p f xs)
 
--- the row names live ordinals alone
-pub closed_here : (schemas : List Schema) (table : Table) (t o : ℕ) (schema : Schema) (row : Row) → slice_get schemas t ≡ Some schema → row_at table t o ≡ Some row → NamesLive schemas table schema.shape row → IsClosedAt schemas table t o
-closed_here schemas table t o schema row is found live other_schema other gs gr =
-    let s : schema ≡ other_schema = some_same (sym is ∙ gs) in
-    let r : row ≡ other = some_same (sym found ∙ gr) in
-    subst (λ x. NamesLive schemas table x.shape other) s (subst (NamesLive schemas table schema.shape) r live)
+and_again : (a b c : Bool) → (a && (b && c)) ≡ ((a && b) && c)
+and_again true b c = refl
+and_again false b c = refl
+
+-- the same, where each piece has two items
+pair_pieces : {X Y : Type 0} (p : Y → Bool) (f g : X → Y) (xs : List X) → list_all p (flat_map (λ x. f x ∷ g x ∷ []) xs) ≡ list_all (λ x. p (f x) && p (g x)) xs
+pair_pieces p f g [] = refl
+pair_pieces p f g (x ∷ xs) = ap (λ b. p (f x) && (p (g x) && b)) (pair_pieces p f g xs) ∙ and_again (p (f x)) (p (g x)) (list_all (λ y. p (f y) && p (g y)) xs)
+
+-- the test of what a record, a list, a set or a map names
+module _ (schemas : List Schema) (table : Table) (shape : Shape) (row : Row) (told : Bool) where
+  pub record_told : (key : Option (List (List ℕ))) (fields fs : List Field) (values vs : List Value) → shape ≡ Shape.Object key fields → row ≡ Row.Object values → fs ≡ fields → vs ≡ values
+      → told ≡ list_all (λ part. are_live schemas table (references_of_value part.0.kind part.1)) (zip fs vs) → told ≡ are_live schemas table (references_of_row shape row)
+  record_told key fields fs values vs is_shape is_row fields_are values_are tells =
+      tells
+      ∙ (λ i. list_all (λ part. are_live schemas table (references_of_value part.0.kind part.1)) (zip (fields_are i) (values_are i)))
+      ∙ sym (all_pieces (is_live_reference schemas table) (λ part. references_of_value part.0.kind part.1) (zip fields values))
+      ∙ (λ i. are_live schemas table (references_of_row (sym is_shape i) (sym is_row i)))
+
+  pub list_told : (element : Name) (ordinals os : List ℕ) → references_of_row shape row ≡ map (λ ordinal. (element, ordinal)) ordinals → os ≡ ordinals
+      → told ≡ list_all (λ ordinal. is_live_reference schemas table (element, ordinal)) os → told ≡ are_live schemas table (references_of_row shape row)
+  list_told element ordinals os named are tells =
+      tells
+      ∙ (λ i. list_all (λ ordinal. is_live_reference schemas table (element, ordinal)) (are i))
+      ∙ sym (list_all-map (is_live_reference schemas table) (λ ordinal. (element, ordinal)) ordinals)
+      ∙ ap (are_live schemas table) (sym named)
+
+  pub map_told : (key value : Name) (pairs ps : List (ℕ × ℕ)) → shape ≡ Shape.Map key value → row ≡ Row.Map pairs → ps ≡ pairs
+      → told ≡ list_all (λ pair. is_live_reference schemas table (key, pair.0) && is_live_reference schemas table (value, pair.1)) ps → told ≡ are_live schemas table (references_of_row shape row)
+  map_told key value pairs ps is_shape is_row are tells =
+      tells
+      ∙ (λ i. list_all (λ pair. is_live_reference schemas table (key, pair.0) && is_live_reference schemas table (value, pair.1)) (are i))
+      ∙ sym (pair_pieces (is_live_reference schemas table) (λ pair. (key, pair.0)) (λ pair. (value, pair.1)) pairs)
+      ∙ (λ i. are_live schemas table (references_of_row (sym is_shape i) (sym is_row i)))
 
 some_there : {A : Type 0} (o : Option A) (x : A) → o ≡ Some x → IsSome o
 some_there None x e = absurd cc

@@ -7,7 +7,6 @@ pub mod KindNames
 pub mod ModelFacts
 pub mod NamedTypes
 pub mod ReferenceChains
-pub mod ReferenceWalks
 pub mod RuleTests
 pub mod Spellable
 pub mod Spellings

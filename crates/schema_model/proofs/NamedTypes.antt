@@ -9,7 +9,7 @@ use Rattle.std.proofs.lemmas.List.{take_more, take-append-drop, map-append}
 use Rattle.std.proofs.lemmas.List.Elements.{filter_map-append}
 use Rattle.std.proofs.lemmas.List.Folds.{list_all-append}
 use Rattle.std.proofs.lemmas.Option.{slice_get_within, get_or_from_slice_get}
-use Rattle.schema_model.specs.Checked.{are_known, all_references}
+use Rattle.schema_model.specs.Checked.{are_known, all_indexes}
 use Rattle.schema_model.specs.Model.{BreaksAt, named_indexes}
 use Rattle.schema_model.specs.Parts.{referenced, referenced_names, named_types, index_of_type}
 use Rattle.schema_model.specs.declared.model.rule.Rule.TheVariants.{UnknownType}
@@ -75,7 +75,7 @@ none_by true xs e = absurd cc
 none_by false xs e = refl
 
 -- a row says that each named type is there, and has their indexes
-pub known_row : (schemas : List Schema) (find : List ℕ → Option ℕ) (s : Schema) (row : List ℕ) → ((name : List ℕ) → find name ≡ index_of_type schemas name) → Some row ≡ all_references find (named_types s)
+pub known_row : (schemas : List Schema) (find : List ℕ → Option ℕ) (s : Schema) (row : List ℕ) → ((name : List ℕ) → find name ≡ index_of_type schemas name) → Some row ≡ all_indexes find (named_types s)
     → (are_known (index_of_type schemas) (named_types s) ≡ true) × (row ≡ named_indexes schemas s)
 known_row schemas find s row indexed found =
     let known = row_by (are_known find (named_types s)) row (filter_map find (named_types s)) found in
@@ -87,7 +87,7 @@ pub names_known : (schemas : List Schema) (t : ℕ) (s : Schema) → slice_get s
 names_known schemas t s at known breaks = all_found (index_of_type schemas) (named_types s) known (breaks_itself schemas UnknownType t s at breaks)
 
 -- a type without a row names another type
-pub names_unknown : (schemas : List Schema) (find : List ℕ → Option ℕ) (t : ℕ) (s : Schema) → slice_get schemas t ≡ Some s → ((name : List ℕ) → find name ≡ index_of_type schemas name) → None ≡ all_references find (named_types s) → BreaksAt schemas UnknownType t
+pub names_unknown : (schemas : List Schema) (find : List ℕ → Option ℕ) (t : ℕ) (s : Schema) → slice_get schemas t ≡ Some s → ((name : List ℕ) → find name ≡ index_of_type schemas name) → None ≡ all_indexes find (named_types s) → BreaksAt schemas UnknownType t
 names_unknown schemas find t s at indexed none =
     let same : find ≡ index_of_type schemas = fun_ext indexed in
     let unknown = none_by (are_known find (named_types s)) (filter_map find (named_types s)) none in

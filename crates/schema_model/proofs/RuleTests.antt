@@ -1,8 +1,8 @@
 -- From what a loop over the types finds to what the test of a rule tells.
-use Rattle.std.proofs.Common.{◌≡◌, ℕ, zero, suc, ◌∷◌, ◌<◌, ◌≤◌, ◌∙◌, sym, ap, subst, refl, List, Some, length, slice_get, ◌++◌, arith, inl, inr, true, false, Bool, get_or, []}
+use Rattle.std.proofs.Common.{◌≡◌, ℕ, ◌∷◌, ◌<◌, ◌≤◌, ◌∙◌, sym, ap, subst, refl, List, Some, length, slice_get, ◌++◌, arith, inl, inr, true, false, Bool, get_or, []}
 use Rattle.std.specs.Prelude.{IsTrue, ◌↔◌, ◌||◌}
 use Rattle.std.proofs.lemmas.Option.{slice_get_within, slice_get-get_or}
-use Rattle.std.proofs.lemmas.Bool.{cases_lt, or_left, or_right, lt-ltb, ltb-true}
+use Rattle.std.proofs.lemmas.Bool.{cases_lt, lt-ltb, ltb-true}
 use Rattle.std.proofs.lemmas.List.Folds.{list_any-append, Any-from_list_any, list_any-from_Any}
 use Rattle.std.specs.List.{list_any, flat_map}
 use Rattle.hol_varint.specs.JavaUtf.{java_bytes}

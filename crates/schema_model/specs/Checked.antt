@@ -6,10 +6,11 @@ use Rattle.std.specs.declared.alloc.Global.{Global}
 use Rattle.std.specs.declared.string.String.{String}
 use Rattle.hol_varint.specs.JavaUtf.{java_bytes}
 use Rattle.hol_varint.specs.TextUnits.{text_units}
-use Rattle.schema_model.specs.Parts.{name_index}
+use Rattle.schema_model.specs.Parts.{name_index, type_names}
 use Rattle.schema_model.specs.Model.{BreaksAt, IsKept}
 use Rattle.schema_model.specs.declared.schema.Schema.{Schema}
 use Rattle.schema_model.specs.declared.model.rule.Rule.{Rule}
+use Rattle.schema_model.specs.declared.model.rule.Rule.TheVariants.{TooMany, DuplicateName, TooDeep}
 use Rattle.schema_model.specs.Path.{RefersTo}
 use Rattle.schema_model.specs.declared.schema.Field.{Field}
 use Rattle.schema_model.specs.declared.schema.FieldKind.{FieldKind}
@@ -32,6 +33,13 @@ TellsRule schemas rule (Err fault) = TellsBroken schemas rule fault
 abbrev pub Indexes : List (List ℕ) → BTreeMap (String Global) ℕ → Type 0
 Indexes names places = (name : List ℕ) → get_by_text places name ≡ name_index names name
 
+-- What a walk along a path relies on: an index of the types' names, and the rules that bound it.
+pub record CanBeWalked (schemas : List Schema) (index : BTreeMap (String Global) ℕ) : Type 0 where
+  pub indexed : Indexes (type_names schemas) index
+  pub few : IsKept schemas TooMany
+  pub apart : IsKept schemas DuplicateName
+  pub shallow : IsKept schemas TooDeep
+
 -- Whether one of these types is marked.
 abbrev pub has_chained : List Bool → List ℕ → Bool
 has_chained marks row = list_any (λ u. slice_index_or marks u false) row
@@ -46,8 +54,8 @@ abbrev pub are_known : (List ℕ → Option ℕ) → List (List ℕ) → Bool
 are_known find names = list_all (λ name. is_some (find name)) names
 
 -- the indexes of all the names, if each has one
-abbrev pub all_references : (List ℕ → Option ℕ) → List (List ℕ) → Option (List ℕ)
-all_references find names = if are_known find names then Some (filter_map find names) else None
+abbrev pub all_indexes : (List ℕ → Option ℕ) → List (List ℕ) → Option (List ℕ)
+all_indexes find names = if are_known find names then Some (filter_map find names) else None
 
 -- The place of the field of a name, if the fields have one.
 abbrev pub TellsField : List Field → List ℕ → Option ℕ → Type 0

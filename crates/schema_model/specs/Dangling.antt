@@ -1,12 +1,22 @@
 -- Closedness, row by row: the first row that names an ordinal that is not live.
-use Rattle.std.specs.Prelude.{◌≡◌, ◌<◌, ℕ, List, Option, Some, None, slice_get, All}
+use Rattle.std.specs.Prelude.{◌≡◌, ◌<◌, ℕ, List, Option, Some, None, Bool, slice_get, All, is_some, option_and_then}
+use Rattle.std.specs.List.{list_all}
 use Rattle.schema_model.specs.declared.schema.name.Name.{Name}
 use Rattle.schema_model.specs.declared.schema.Schema.{Schema}
 use Rattle.schema_model.specs.declared.schema.Shape.{Shape}
 use Rattle.schema_model.specs.declared.rows.row.Row.{Row}
+use Rattle.schema_model.specs.Parts.{index_of_type}
 use Rattle.schema_model.specs.Row.{references_of_row}
 use Rattle.schema_model.specs.Table.{Table, row_at, IsLiveByName, IsClosed}
 use Rattle.schema_model.specs.declared.rows.dangling.Dangling.{Dangling}
+
+-- whether a row, by its type's name and its ordinal, is live
+abbrev pub is_live_reference : List Schema → Table → Name × ℕ → Bool
+is_live_reference schemas table named = is_some (option_and_then (λ type_index. row_at table type_index named.1) (index_of_type schemas named.0))
+
+-- whether each of these rows is live
+abbrev pub are_live : List Schema → Table → List (Name × ℕ) → Bool
+are_live schemas table references = list_all (is_live_reference schemas table) references
 
 -- These rows, each by its type's name and its ordinal, are live.
 abbrev pub AreLive : List Schema → Table → List (Name × ℕ) → Type 0

@@ -16,17 +16,17 @@ pub(crate) mod lengths;
 pub(crate) mod name_index;
 pub(crate) mod path;
 pub(crate) mod path_walk;
-pub(crate) mod references;
 pub(crate) mod rule;
 pub(crate) mod rules;
+pub(crate) mod type_graph;
 
 use crate::model::chains::{check_cycles, check_depth};
 use crate::model::keys::check_keys;
 use crate::model::lengths::check_lengths;
 use crate::model::name_index::{NameIndex, find_name, index_types};
 use crate::model::path_walk::way_of;
-use crate::model::references::check_references;
 use crate::model::rules::{check_names, check_sizes};
+use crate::model::type_graph::check_named_types;
 use crate::{ModelFault, Path, PathFault, Schema, Schemas};
 use hol_varint::Duplicate;
 use std::alloc::{AllocError, Global};
@@ -61,9 +61,9 @@ fn check(alloc: Global, schemas: &Schemas) -> Result<NameIndex, ModelFault>
     check_lengths(schemas)?;
     let index = index_types(alloc, schemas)?;
     check_names(alloc, schemas, &index)?;
-    let rows = check_references(alloc, schemas, &index)?;
-    check_cycles(alloc, schemas, rows.as_slice())?;
-    check_depth(alloc, schemas, rows.as_slice())?;
+    let graph = check_named_types(alloc, schemas, &index)?;
+    check_cycles(alloc, schemas, graph.as_slice())?;
+    check_depth(alloc, schemas, graph.as_slice())?;
     check_keys(alloc, schemas, &index)?;
     Ok(index)
 }

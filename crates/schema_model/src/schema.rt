@@ -77,9 +77,7 @@ impl Shape {
     {
         match self {
             Shape::Object(_, fields) => fields.as_slice(),
-            Shape::Set(_) => &[],
-            Shape::List(_) => &[],
-            Shape::Map(_, _) => &[],
+            _ => &[],
         }
     }
 }

@@ -1,11 +1,5 @@
-pub mod Accepting
-pub mod FieldWidths
-pub mod Items
-pub mod LoadedTypes
-pub mod NextStates
-pub mod PartLists
-pub mod Readable
-pub mod Sections
-pub mod Shards
-pub mod TypeRefusals
-pub mod TypeTables
+pub mod Bodies
+pub mod Loading
+pub mod Refusals
+pub mod Whole
+pub mod Zipped

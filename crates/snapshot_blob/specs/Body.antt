@@ -1,61 +1,56 @@
--- The bytes of a snapshot: its header, and for each type its schema, its shard envelope and its section.
-use Rattle.std.specs.Prelude.{◌≡◌, ◌≢◌, ℕ, zero, suc, List}
-use Rattle.schema_model.specs.declared.reason.Reason.TheVariants.{Sharded}
-use Rattle.blob_frame.specs.Form.{Form, ◌>>=◌, nothing, judged, at_most, repeated}
-use Rattle.blob_frame.specs.Deciding.{judge_only, decided_place}
-use Rattle.blob_frame.specs.Item.{vint, skipped, end}
-use Rattle.blob_frame.specs.SchemaForm.{schema}
-use Rattle.blob_frame.specs.Header.{header}
-use Rattle.blob_frame.specs.declared.header.Header.{Header}
+-- What each answer of the reader of a body tells: of the types of a snapshot, from a place behind the header up to the
+-- end of the blob.
+use Rattle.std.specs.Prelude.{◌≡◌, ◌⊎◌, ℕ, List, Result, Ok, Err, length, All, IsErrAnd}
+use Rattle.schema_model.specs.declared.reason.Reason.{Reason}
+use Rattle.schema_model.specs.declared.schema.Schema.{Schema}
+use Rattle.schema_model.specs.Table.{IsClosed}
+use Rattle.type_state.specs.State.{Half, empty_half}
+use Rattle.type_state.specs.Views.{AreNext, next_halves, table_of}
+use Rattle.blob_frame.specs.declared.fault.BlobFault.{BlobFault}
+use Rattle.blob_frame.specs.declared.fault.BlobFault.TheVariants as fault
+use Rattle.blob_frame.specs.Scene.{IsFree}
+use Rattle.snapshot_blob.specs.declared.body.Body.{Body}
 use Rattle.snapshot_blob.specs.declared.part.TypePart.{TypePart}
-use Rattle.snapshot_blob.specs.Section.{section_of}
+use Rattle.snapshot_blob.specs.Parts.{body}
+use Rattle.snapshot_blob.specs.Stated.{AreAccepted, HasState, IsTypeLimit}
 
--- The number of shards, which is 1.
-unfoldable pub shards : Form Unit
-shards = judged vint (λ n u. n ≡ 1) (λ n why. (n ≢ 1) × (why ≡ Sharded)) (judge_only 1 Sharded)
+-- From this place on types stand up to the end of the blob, and they are those of this state within the limits.
+abbrev pub IsBody : List ℕ → ℕ → List Schema → List Half → Type 0
+IsBody blob at schemas halves = (parts : List TypePart) × body.Stands blob at parts (length blob) × AreAccepted parts schemas halves
 
--- What stands in a shard envelope behind its number: nothing behind 0, else bytes to skip and the number of shards.
-unfoldable pub enveloped_shards : ℕ → Form Unit
-enveloped_shards zero = nothing tt
-enveloped_shards (suc n) = do
-  count ← vint
-  _ ← skipped count
-  shards
+-- Types stand there, and they are those of no state within the limits.
+abbrev pub HasNoState : List ℕ → ℕ → Type 0
+HasNoState blob at = (parts : List TypePart) × body.Stands blob at parts (length blob) × (HasState parts → ⊥)
 
--- The shard envelope.
-unfoldable pub shard_envelope : Form Unit
-shard_envelope = do
-  number ← vint
-  enveloped_shards number
+-- What each answer tells of the blob.
+abbrev pub TellsBody : List ℕ → ℕ → Result Body BlobFault → Type 0
+TellsBody blob at (Ok found) = IsBody blob at found.model (next_halves found.states)
+TellsBody blob at (Err (fault.Bad place why)) = body.Stuck blob at place why ⊎ HasNoState blob at
+TellsBody blob at (Err (fault.BadRow place why of ordinal)) = HasNoState blob at
+TellsBody blob at (Err (fault.Large limit)) = HasNoState blob at
+TellsBody blob at (Err fault.Store) = Unit {0}
+TellsBody blob at (Err fault.Memory) = Unit {0}
+TellsBody blob at (Err _) = ⊥
 
--- The offset itself, and no bytes.
-unfoldable pub here : Form ℕ
-here = record {
-  Stands = λ bytes at v next. (v ≡ at) × (next ≡ at);
-  Stuck = λ bytes at place why. ⊥;
-  decided = decided_place;
-}
+-- The answer is a body exactly where one is there within the limits, and the fault of its syntax exactly where it has
+-- it, but for the free answers.
+pub record ReadsBody (blob : List ℕ) (at : ℕ) (answer : Result Body BlobFault) : Type 0 where
+  pub found : (schemas : List Schema) (halves : List Half) → IsBody blob at schemas halves
+      → ((found : Body) × (answer ≡ Ok found) × (found.model ≡ schemas) × (next_halves found.states ≡ halves)) ⊎ IsErrAnd answer IsFree
+  pub stuck : (place : ℕ) (why : Reason) → body.Stuck blob at place why → (answer ≡ Err (fault.Bad place why)) ⊎ IsErrAnd answer IsFree
 
--- A type: the offset of its schema, its schema and its section.
-unfoldable pub type_part : Form TypePart
-type_part = do
-  offset ← here
-  of_type ← schema
-  _ ← shard_envelope
-  rows ← section_of of_type.shape
-  nothing (record { at = offset; schema = of_type; section = rows })
+-- The faults of a body.
+abbrev pub IsBodyFault : BlobFault → Type 0
+IsBodyFault (fault.Bad place why) = Unit {0}
+IsBodyFault (fault.BadRow place why of ordinal) = Unit {0}
+IsBodyFault (fault.Large limit) = IsTypeLimit limit
+IsBodyFault fault.Store = Unit {0}
+IsBodyFault fault.Memory = Unit {0}
+IsBodyFault _ = ⊥
 
--- The types of a snapshot, of which there are 512 at most, and the end of the blob behind them.
-unfoldable pub body : Form (List TypePart)
-body = do
-  count ← at_most vint 512
-  parts ← repeated count type_part
-  _ ← end
-  nothing parts
-
--- A snapshot, up to the end of the blob.
-unfoldable pub snapshot : Form (Header × List TypePart)
-snapshot = do
-  head ← header
-  parts ← body
-  nothing (head, parts)
+-- What was read, wherever it came from: an empty current half for each type of the model, and a next half, laid out,
+-- with rows that fit the types and name live ordinals alone.
+pub record IsWholeBody (found : Body) : Type 0 where
+  pub next : AreNext found.model found.states
+  pub closed : IsClosed found.model (table_of (next_halves found.states))
+  pub current : All (λ state. state.current ≡ empty_half) found.states

@@ -1,6 +1,4 @@
 pub mod Body
-pub mod NextRows
-pub mod Section
+pub mod Parts
 pub mod Snapshot
-pub mod Types
-pub mod Whole
+pub mod Stated

@@ -1,68 +1,63 @@
-ghost use Rattle.std.specs.Prelude.{All, IfOk};
-ghost use Rattle.blob_frame.specs.Form.{repeated};
-ghost use Rattle.blob_frame.specs.Scene.{IsAbove, Leads, IsOver, Reads, scene};
-ghost use Rattle.snapshot_blob.specs.Body.{type_part, body};
-ghost use Rattle.snapshot_blob.specs.Whole.{IsWholeSection};
+//! The body of a snapshot: what stands behind its header.
+ghost use Rattle.std.specs.Prelude.{◌≡◌, ◌≤◌, Err, IfErr, IfOk, IfSome};
+ghost use Rattle.hol_io.specs.Causes.{Rose};
+ghost use Rattle.hol_io.specs.Store.{told};
+ghost use Rattle.type_state.specs.Views.{table_of, next_halves};
+ghost use Rattle.blob_frame.specs.Scene.{IsAbove};
+ghost use Rattle.snapshot_blob.specs.Body.{IsBodyFault, IsWholeBody, ReadsBody, TellsBody};
 
-use crate::TypePart;
-use crate::envelope::shard_envelope;
-use crate::parts::TypeParts;
-use crate::section::section;
+use crate::part::body;
+use crate::types::state_of;
 use blob_frame::{BlobFault, Cursor};
 use hol_io::BlobStore;
+use schema_model::Model;
 use std::alloc::Global;
+use type_state::{NextRows, TypeStates};
 
-/// A type: its schema, its shard envelope and its section.
-fn type_part<S: BlobStore>(
-    alloc: Global,
-    cursor: &mut Cursor,
-    store: &mut S,
-) -> Result<TypePart, BlobFault>
-    requires over { IsAbove S.seen store.old cursor.old }
-    ensures reads { Leads S.seen type_part store.old cursor.old store.new cursor.new result }
-    ensures whole { IfOk result (λ part. IsWholeSection part.schema.shape part.section) }
-{
-    let at = cursor.at();
-    let schema = cursor.schema(store)?;
-    shard_envelope(cursor, store)?;
-    let section = section(alloc, cursor, store, &schema)?;
-    Ok(TypePart {
-        at,
-        schema,
-        section,
-    })
+/// The body of a snapshot that was read: its model, and each type's rows in the next half of its state.
+#[derive(Drop)]
+pub struct Body {
+    /// The model that the types of the blob are.
+    pub model: Model,
+    /// The types in model order, each with the rows of the snapshot in its next half and none in its current one.
+    pub states: TypeStates,
 }
 
-/// So many types.
-fn type_parts<S: BlobStore>(
-    alloc: Global,
-    cursor: &mut Cursor,
-    store: &mut S,
-    count: u32,
-) -> Result<TypeParts, BlobFault>
-    requires over { IsAbove S.seen store.old cursor.old }
-    ensures reads { Leads S.seen (repeated count type_part) store.old cursor.old store.new cursor.new result }
-    ensures whole { IfOk result (All (λ part. IsWholeSection part.schema.shape part.section)) }
-{
-    let mut list = TypeParts::new(alloc);
-    for _item in 0..count {
-        list.push(type_part(alloc, cursor, store)?)?;
+impl Body {
+    /// The rows of the snapshot.
+    pub fn rows(&self) -> NextRows<'_>
+        requires { IsWholeBody self.now }
+        ensures schemas { result.schemas ≡ self.now.model }
+        ensures table { result.table ≡ table_of (next_halves self.now.states) }
+    {
+        NextRows::new(&self.model, &self.states)
     }
-    Ok(list)
 }
 
-/// The types of a snapshot and the end of the blob behind them.
-pub(crate) fn body<S: BlobStore>(
+/// Reads the body of a snapshot, from where the cursor stands behind the header up to the end of the blob, and makes its
+/// state: its model, and the rows of each type in the next half of a state. Nothing is kept of a body that is refused.
+///
+/// `Bad` comes at the first item that cannot be read and at the first schema that breaks a rule of models, `Large` where
+/// an ordinal is 2^22 or more or a type has more words or bytes than a state may have, and `BadRow` at a row that is not
+/// spelled, that its widths cannot hold or that names an ordinal that is not live. `Store` comes only where the store's
+/// count of faults rose.
+///
+/// Types of another kind than OBJECT are refused.
+pub fn read_body<S: BlobStore>(
     alloc: Global,
     cursor: &mut Cursor,
     store: &mut S,
-) -> Result<TypeParts, BlobFault>
+) -> Result<Body, BlobFault>
     requires over { IsAbove S.seen store.old cursor.old }
-    ensures reads { Leads S.seen body store.old cursor.old store.new cursor.new result }
-    ensures whole { IfOk result (All (λ part. IsWholeSection part.schema.shape part.section)) }
+    ensures tells { IfSome (told (S.seen store.old).held cursor.old.name) (λ blob. TellsBody blob cursor.old.at result) }
+    ensures exact { IfSome (told (S.seen store.old).held cursor.old.name) (λ blob. ReadsBody blob cursor.old.at result) }
+    ensures whole { IfOk result IsWholeBody }
+    ensures kind { IfErr result IsBodyFault }
+    ensures kept { (S.seen store.new).held ≡ (S.seen store.old).held }
+    ensures unput { (S.seen store.new).puts ≡ (S.seen store.old).puts }
+    ensures later { (S.seen store.old).faults ≤ (S.seen store.new).faults }
+    ensures cause { result ≡ Err BlobFault.Store → Rose (S.seen store.old).faults (S.seen store.new).faults }
 {
-    let count = cursor.type_count(store)?;
-    let parts = type_parts(alloc, cursor, store, count)?;
-    cursor.end(store)?;
-    Ok(parts)
+    let parts = body(alloc, cursor, store)?;
+    state_of(alloc, parts)
 }

@@ -1,14 +1,23 @@
 //! Laws of snapshots: what the reader answers is the only answer that the bytes allow.
-ghost use Rattle.std.specs.Prelude.{◌≡◌, List, ℕ};
+ghost use Rattle.std.specs.Prelude.{◌≡◌, ◌≤◌, ◌⊎◌, List, ℕ, Ok, Err, length};
+ghost use Rattle.schema_model.specs.declared.limit.Limit.TheVariants.{Blob};
 ghost use Rattle.schema_model.specs.declared.schema.Schema.{Schema};
+ghost use Rattle.schema_model.specs.Limit.{number_of_limit};
 ghost use Rattle.type_state.specs.State.{Half};
-ghost use Rattle.blob_frame.specs.Decided.{IsDecided};
+ghost use Rattle.type_state.specs.Views.{next_halves};
+ghost use Rattle.blob_grammar.specs.Decided.{EachPlace, IsDecided};
+ghost use Rattle.blob_frame.specs.declared.fault.BlobFault.{BlobFault};
 ghost use Rattle.blob_frame.specs.declared.header.Header.{Header};
-ghost use Rattle.snapshot_blob.specs.Body.{body, snapshot};
-ghost use Rattle.snapshot_blob.specs.Snapshot.{SnapshotIs};
+ghost use Rattle.blob_frame.specs.Header.{HeaderIs};
+ghost use Rattle.blob_frame.specs.Scene.{IsFree};
+ghost use Rattle.snapshot_blob.specs.declared.body.Body.{Body};
+ghost use Rattle.snapshot_blob.specs.declared.part.TypePart.{TypePart};
+ghost use Rattle.snapshot_blob.specs.Body.{TellsBody};
+ghost use Rattle.snapshot_blob.specs.Parts.{body, snapshot};
+ghost use Rattle.snapshot_blob.specs.Snapshot.{SnapshotIs, IsAccepted, IsRefused};
 
-/// A snapshot has one body at most, reading it is stuck at one place at most and for one reason, and never both; so it
-/// is with the whole of it.
+/// At each place a snapshot's types stand in one way at most, reading them is stuck at one place at most and for one
+/// reason, and never both; so it is with the whole of a snapshot.
 pub fn one_body()
     ensures body { IsDecided body.Stands body.Stuck }
     ensures snapshot { IsDecided snapshot.Stands snapshot.Stuck }
@@ -16,5 +25,24 @@ pub fn one_body()
 
 /// A blob is the snapshot of one state at most.
 pub fn one_snapshot()
-    ensures { (blob : List ℕ) (a b : Header) (s t : List Schema) (x y : List Half) → SnapshotIs blob a s x → SnapshotIs blob b t y → (a ≡ b) × (s ≡ t) × (x ≡ y) }
+    ensures { (blob : List ℕ) (a b : Header) (ps qs : List TypePart) (s t : List Schema) (x y : List Half)
+        → SnapshotIs blob a ps s x → SnapshotIs blob b qs t y → (a ≡ b) × (ps ≡ qs) × (s ≡ t) × (x ≡ y) }
+{}
+
+/// A snapshot stands at each place of each blob, or reading it is stuck; so it is with its types.
+pub fn each_place()
+    ensures body { EachPlace body.Stands body.Stuck }
+    ensures snapshot { EachPlace snapshot.Stands snapshot.Stuck }
+{}
+
+/// A header at the start of a blob and the body behind it are a snapshot: one within the limits where the reader of the
+/// body answers it, and none where it answers a fault that is not free. A snapshot begins with its header.
+pub fn header_and_body()
+    ensures items { (blob : List ℕ) (head : Header) (n : ℕ) (parts : List TypePart) → HeaderIs blob n head → body.Stands blob n parts (length blob)
+        → snapshot.Stands blob 0 (head, parts) (length blob) }
+    ensures begins { (blob : List ℕ) (head : Header) (schemas : List Schema) (halves : List Half) → IsAccepted blob head schemas halves
+        → (n : ℕ) × HeaderIs blob n head × (length blob ≤ number_of_limit Blob) }
+    ensures accepted { (blob : List ℕ) (head : Header) (n : ℕ) (found : Body) → HeaderIs blob n head → length blob ≤ number_of_limit Blob → TellsBody blob n (Ok found)
+        → IsAccepted blob head found.model (next_halves found.states) }
+    ensures refused { (blob : List ℕ) (head : Header) (n : ℕ) (fault : BlobFault) → HeaderIs blob n head → TellsBody blob n (Err fault) → IsFree fault ⊎ IsRefused blob }
 {}

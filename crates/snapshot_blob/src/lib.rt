@@ -2,18 +2,14 @@
 #![tactic(auto)]
 
 mod body;
-mod envelope;
 pub mod laws;
 mod loaded;
-mod next_rows;
 mod part;
-mod parts;
-mod section;
-mod snapshot;
 mod types;
-mod widths;
 
-pub use loaded::Loaded;
-pub use next_rows::NextRows;
-pub use part::TypePart;
-pub use snapshot::read_snapshot;
+pub use body::{Body, read_body};
+pub use loaded::{Loaded, read_snapshot};
+pub use part::{TypePart, TypeParts};
+
+#[cfg(test)]
+mod tests;

@@ -1,36 +1,39 @@
 //! From the types of a snapshot, as they stand in the blob, to their states.
-ghost use Rattle.std.specs.Prelude.{◌≡◌, List, All, IfOk, MatchResult};
+ghost use Rattle.std.specs.Prelude.{◌≡◌, List, All, IfOk, MatchResult, length};
 ghost use Rattle.std.specs.List.{AllZip};
 ghost use Rattle.schema_model.specs.Model.{IsModel};
 ghost use Rattle.schema_model.specs.Table.{RowMap, IsClosed};
-ghost use Rattle.type_state.specs.Loads.{IsReadable};
-ghost use Rattle.snapshot_blob.specs.Whole.{IsWholeSection};
-ghost use Rattle.snapshot_blob.specs.NextRows.{AreNext};
-ghost use Rattle.snapshot_blob.specs.Types.{AreAccepted, HasState, IsLoadedFrom, KeepsOrdinals, LoadsPart, Refuses, next_halves, schemas_of, table_of};
+ghost use Rattle.type_state.specs.Views.{AreNext, next_halves, table_of};
+ghost use Rattle.type_state.specs.WellFormed.{IsReadable, IsWellFormed};
+ghost use Rattle.snapshot_blob.specs.Body.{IsWholeBody};
+ghost use Rattle.snapshot_blob.specs.Stated.{AreAccepted, HasState, IsLoadedFrom, KeepsOrdinals, LoadsPart, Refuses, schemas_of};
 
-use crate::TypePart;
-use crate::next_rows::NextRows;
+use crate::body::Body;
+use crate::part::{TypePart, TypeParts};
 use blob_frame::BlobFault;
-use hol_varint::Duplicate;
-use schema_model::{Limit, Model, ModelFault, Reason, Schemas, model_of};
-use std::alloc::Global;
-use type_state::{RowFault, TypeState, TypeStates};
+use hol_varint::{Duplicate, GapList};
+use schema_model::{
+    Limit, MAX_ORDINALS, Model, ModelFault, Reason, Schemas, first_dangling, model_of,
+};
+use std::alloc::{AllocError, Global};
+use type_state::{NextRows, RowFault, TypeState, TypeStates};
 
 /// The state of a snapshot's types: their model, which their schemas are, the rows of each in the next half of its
 /// state, all within the limits, and each ordinal that a row names live.
 ///
 /// `Bad` with `BadSchema` names the first type that breaks a rule of models, `Large` a limit that is passed, `BadRow` a
 /// row that its place does not spell, that the widths cannot hold, or that names an ordinal that is not live.
-pub(crate) fn state_of(alloc: Global, parts: &[TypePart]) -> Result<(Model, TypeStates), BlobFault>
-    requires { All (λ part. IsWholeSection part.schema.shape part.section) parts.now }
-    ensures tells { MatchResult result (λ state. AreAccepted parts.now state.0 (next_halves state.1)) (Refuses (HasState parts.now)) }
-    ensures whole { IfOk result (λ state. AreNext state.0 state.1 × IsClosed state.0 (table_of (next_halves state.1))) }
+pub(crate) fn state_of(alloc: Global, parts: TypeParts) -> Result<Body, BlobFault>
+    requires { All (λ part. IsWellFormed part.schema.shape part.section) parts }
+    ensures tells { MatchResult result (λ found. AreAccepted parts found.model (next_halves found.states)) (Refuses (HasState parts)) }
+    ensures whole { IfOk result IsWholeBody }
 {
-    let model = model_of_parts(alloc, parts)?;
-    check_ordinals(parts)?;
+    let model = model_of_parts(alloc, parts.as_slice())?;
+    check_ordinals(parts.as_slice())?;
+    let offsets = schema_offsets(alloc, parts.as_slice())?;
     let states = load_types(alloc, parts)?;
-    check_closed(alloc, &model, &states, parts)?;
-    Ok((model, states))
+    check_closed(alloc, &model, &states, &offsets)?;
+    Ok(Body { model, states })
 }
 
 // The model that the schemas of the parts are.
@@ -43,8 +46,8 @@ fn model_of_parts(alloc: Global, parts: &[TypePart]) -> Result<Model, BlobFault>
     }
     match model_of(alloc, schemas) {
         Ok(model) => Ok(model),
-        Err(ModelFault::Broken(_, t)) => {
-            Err(BlobFault::Bad(parts[t as usize].at, Reason::BadSchema))
+        Err(ModelFault::Broken(_, type_index)) => {
+            Err(BlobFault::Bad(parts[type_index as usize].at, Reason::BadSchema))
         }
         Err(ModelFault::Memory) => Err(BlobFault::Memory),
     }
@@ -55,36 +58,52 @@ fn check_ordinals(parts: &[TypePart]) -> Result<(), BlobFault>
     ensures { MatchResult result (λ done. All KeepsOrdinals parts.now) (Refuses (All KeepsOrdinals parts.now)) }
 {
     for part in parts {
-        if part.section.max.is_some_and(|max| max >= 4194304) {
+        if part.section.max.is_some_and(|max| max >= MAX_ORDINALS) {
             return Err(BlobFault::Large(Limit::Ordinals));
         }
     }
     Ok(())
 }
 
+// The offset of each schema.
+fn schema_offsets(alloc: Global, parts: &[TypePart]) -> Result<GapList, AllocError>
+    ensures { IfOk result (λ offsets. length offsets ≡ length parts.now) }
+{
+    let mut offsets = GapList::with_capacity(alloc, parts.len())?;
+    for part in parts {
+        offsets.push(part.at)?;
+    }
+    Ok(offsets)
+}
+
 // Loads each type into the next half of a state.
-fn load_types(alloc: Global, parts: &[TypePart]) -> Result<TypeStates, BlobFault>
-    requires readable { All (λ part. IsReadable part.schema.shape part.section) parts.now }
-    ensures { MatchResult result (λ states. AllZip IsLoadedFrom parts.now states) (Refuses ((rows : List RowMap) × AllZip LoadsPart parts.now rows)) }
+fn load_types(alloc: Global, parts: TypeParts) -> Result<TypeStates, BlobFault>
+    requires { All (λ part. IsReadable part.schema.shape part.section) parts }
+    ensures { MatchResult result (λ states. AllZip IsLoadedFrom parts states) (Refuses ((rows : List RowMap) × AllZip LoadsPart parts rows)) }
 {
     let mut states = TypeStates::new(alloc);
-    for part in parts {
+    for part in parts.into_vec() {
         states.push(load_type(alloc, part)?)?;
     }
     Ok(states)
 }
 
 // Loads a type into the next half of a state.
-fn load_type(alloc: Global, part: &TypePart) -> Result<TypeState, BlobFault>
-    requires { IsReadable part.now.schema.shape part.now.section }
-    ensures { MatchResult result (IsLoadedFrom part.now) (Refuses ((rows : RowMap) × LoadsPart part.now rows)) }
+fn load_type(alloc: Global, part: TypePart) -> Result<TypeState, BlobFault>
+    requires { IsReadable part.schema.shape part.section }
+    ensures { MatchResult result (IsLoadedFrom part) (Refuses ((rows : RowMap) × LoadsPart part rows)) }
 {
-    let mut state = TypeState::new(alloc, part.schema.copy(alloc)?);
-    match state.load_next(&part.section) {
+    let TypePart {
+        at,
+        schema,
+        section,
+    } = part;
+    let mut state = TypeState::new(alloc, schema);
+    match state.load_next(&section) {
         Ok(()) => Ok(state),
         Err(RowFault::At(reason, ordinal)) => {
-            let name = part.schema.name.copy(alloc)?;
-            Err(BlobFault::BadRow(part.at, reason, name, ordinal))
+            let name = state.schema().name.copy(alloc)?;
+            Err(BlobFault::BadRow(at, reason, name, ordinal))
         }
         Err(RowFault::Limit(limit)) => Err(BlobFault::Large(limit)),
         Err(RowFault::Memory) => Err(BlobFault::Memory),
@@ -96,19 +115,19 @@ fn check_closed(
     alloc: Global,
     model: &Model,
     states: &TypeStates,
-    parts: &[TypePart],
+    offsets: &GapList,
 ) -> Result<(), BlobFault>
     requires next { AreNext model.now states.now }
-    requires parts { schemas_of parts.now ≡ model.now }
+    requires long { length offsets.now ≡ length model.now }
     ensures { MatchResult result (λ done. IsClosed model.now (table_of (next_halves states.now))) (Refuses (IsClosed model.now (table_of (next_halves states.now)))) }
 {
     let rows = NextRows::new(model, states);
     match first_dangling(alloc, &rows)? {
         None => Ok(()),
         Some(found) => {
-            let part = &parts[found.type_index as usize];
-            let name = part.schema.name.copy(alloc)?;
-            Err(BlobFault::BadRow(part.at, Reason::Dangling, name, u64::from(found.ordinal)))
+            let at = *offsets.get(found.type_index as usize);
+            let name = model.schema(found.type_index).name.copy(alloc)?;
+            Err(BlobFault::BadRow(at, Reason::Dangling, name, u64::from(found.ordinal)))
         }
     }
 }

@@ -1,6 +1,7 @@
 pub mod Ends
 pub mod Entries
 pub mod Loading
+pub mod NextStates
+pub mod Places
 pub mod Reading
 pub mod SectionRows
-pub mod Sections

@@ -1,14 +1,13 @@
 -- Which rows a section is that of.
-use Rattle.std.proofs.Common.{◌≡◌, ℕ, ◌+◌, ◌^◌, ◌<◌, ◌≤◌, inl, inr, List, [], ◌∷◌, zero, suc, length, get_or, Some, None, Result, Ok, Err, refl, ap, sym, ◌∙◌, subst, arith}
+use Rattle.std.proofs.Common.{◌≡◌, ℕ, ◌+◌, ◌<◌, ◌≤◌, inl, inr, List, [], ◌∷◌, zero, suc, length, get_or, Some, None, Result, Ok, Err, refl, ap, sym, ◌∙◌, subst, arith}
 use Rattle.std.specs.Prelude.{All}
-use Rattle.std.specs.FinMap.{entries, keys}
+use Rattle.std.specs.FinMap.{entries}
 use Rattle.std.specs.Map.{keys_of, values_of}
-use Rattle.std.specs.Ordering.{nat_cmp}
-use Rattle.std.specs.List.Sorted.{IsStrictlyIncreasing, IsStrictlySortedBy}
 use Rattle.std.proofs.lemmas.List.Elements.{All-contains, All-contains_itself}
-use Rattle.std.proofs.lemmas.Map.Keys.{sorted_from_strictly_increasing}
 use Rattle.hol_varint.specs.Yields.{Yields}
-use Rattle.ordinal_set.specs.Ordinals.{TellsNext, bound_of}
+use Rattle.ordinal_set.specs.Ordinals.{TellsNext}
+use Rattle.schema_model.specs.declared.limit.Limit.TheVariants.{Bytes, Words}
+use Rattle.schema_model.specs.Limit.{number_of_limit}
 use Rattle.schema_model.specs.Parts.{shape_fields}
 use Rattle.schema_model.specs.Table.{RowMap}
 use Rattle.schema_model.specs.declared.schema.Shape.{Shape}
@@ -17,41 +16,30 @@ use Rattle.object_codec.proofs.Rows.{row_once}
 use Rattle.type_state.specs.declared.section.Section.{Section}
 use Rattle.type_state.specs.declared.fault.RowFault.{RowFault}
 use Rattle.type_state.specs.Layout.{places_of, fixed_words}
-use Rattle.type_state.specs.WordsHeld.{bytes_held, row_bytes}
+use Rattle.type_state.specs.WordsHeld.{row_bytes}
 use Rattle.type_state.specs.Ends.{FitsRow, HasValues}
 use Rattle.std.proofs.lemmas.List.{length-map}
 use Rattle.schema_model.specs.declared.schema.Field.{Field}
 use Rattle.schema_model.specs.declared.rows.row.Value.{Value}
-use Rattle.object_codec.specs.Part.{Part}
+use Rattle.object_codec.specs.Part.{FieldPart}
 use Rattle.object_codec.specs.ObjectPlace.{parts_of, SpellsFields}
 use Rattle.type_state.specs.Holds.{HoldsRows}
-use Rattle.type_state.specs.State.{rows_of}
 use Rattle.type_state.specs.Loads.{IsSpelledIn, Loads, AreRead, TellsRow, RefusesRows, RefusesLoad, TellsLoad, IsFreeRow, layout_of}
-use Rattle.type_state.proofs.Entries.{kept_entries}
 use Rattle.type_state.proofs.Reading.{IsFunction, Progress, misfit, heavy}
 
 -- A place spells one row.
 pub one_row : (shape : Shape) (section : Section) → IsFunction (IsSpelledIn shape section)
-one_row shape section = record { once = λ o a b. row_once shape section.widths section.first section.areas o a b }
+one_row (Shape.Object key fields) section = record { once = λ o a b. row_once (Shape.Object key fields) section.widths section.first section.areas o a b }
+one_row _ section = record { once = λ o a b h. absurd h }
 
--- The entries that were read are those of the rows.
-pub same_rows : (shape : Shape) (section : Section) (es : List (ℕ × Row)) → AreRead shape section es → IsStrictlyIncreasing section.live → entries (rows_of es) ≡ es
-same_rows shape section es read rising = kept_entries es (subst (IsStrictlySortedBy nat_cmp) (sym read.live) (sorted_from_strictly_increasing section.live rising))
-
-pub loads : (shape : Shape) (section : Section) (es : List (ℕ × Row)) → AreRead shape section es → IsStrictlyIncreasing section.live → All (λ o. o < places_of section.max) section.live → fixed_words (layout_of section) ≤ 2 ^ 22
-    → Loads shape section (rows_of es)
-loads shape section es read rising places words =
-    let same = same_rows shape section es read rising in
-    let live : keys (rows_of es) ≡ section.live = ap keys_of same ∙ read.live in
-    let rows = ap values_of same in
-    record {
-      is = record { live = live; places = places; spelled = subst (All (IsSpelledIn shape section)) (sym same) read.spelled };
-      held = record { parts = subst (HoldsRows (shape_fields shape) section.widths []) (sym rows) read.held; places = subst (All (λ o. o < places_of section.max)) (sym live) places };
-      within = record { words = words; bytes = subst (λ vs. bytes_held vs ≤ 2 ^ 25) (sym rows) read.bytes };
-    }
-
-pub bound_same : (shape : Shape) (section : Section) (es : List (ℕ × Row)) (bound : ℕ) → AreRead shape section es → IsStrictlyIncreasing section.live → bound ≡ bound_of section.live → bound ≡ bound_of (keys (rows_of es))
-bound_same shape section es bound read rising is = is ∙ ap bound_of (sym (ap keys_of (same_rows shape section es read rising) ∙ read.live))
+-- Rows that are read load, where they have places and the words keep the limit.
+pub loads : (shape : Shape) (section : Section) (rows : RowMap) → AreRead shape section (entries rows) → All (λ o. o < places_of section.max) section.live → fixed_words shape (layout_of section) ≤ number_of_limit Words
+    → Loads shape section rows
+loads shape section rows read places words = record {
+  is = record { live = read.live; places = places; spelled = read.spelled };
+  held = record { parts = read.held; places = subst (All (λ o. o < places_of section.max)) (sym read.live) places };
+  within = record { words = words; bytes = read.bytes };
+}
 
 -- Rows that load are read.
 read_from : (shape : Shape) (section : Section) (rows : RowMap) → Loads shape section rows → AreRead shape section (entries rows)
@@ -102,14 +90,15 @@ row_refused shape section live index (RowFault.At reason o) same inside told = �
 row_refused shape section live index (RowFault.Limit limit) same inside told = λ rows read. none_at shape section live index rows same inside told read
 
 -- A record that is spelled has a value for each field.
-fields_long : (fields : List Field) (parts : List Part) (values : List Value) → SpellsFields fields parts values → length values ≡ length fields
+fields_long : (fields : List Field) (parts : List FieldPart) (values : List Value) → SpellsFields fields parts values → length values ≡ length fields
 fields_long [] [] [] h = refl
 fields_long (f ∷ fs) (p ∷ ps) (v ∷ vs) h = ap (λ n. suc n) (fields_long fs ps vs h.1)
 fields_long _ _ _ h = absurd h
 
 pub has_values : (shape : Shape) (section : Section) (fields : List Field) (o : ℕ) (row : Row) → fields ≡ shape_fields shape → IsSpelledIn shape section (o, row) → HasValues row (length fields)
-has_values shape section fields o (Row.Object values) is h = fields_long (shape_fields shape) (parts_of section.widths section.first section.areas o) values h ∙ ap length (sym is)
-has_values shape section fields o _ is h = absurd h
+has_values (Shape.Object key names) section fields o (Row.Object values) is h = fields_long names (parts_of section.widths section.first section.areas o) values h ∙ ap length (sym is)
+has_values (Shape.Object key names) section fields o _ is h = absurd h
+has_values _ section fields o row is h = absurd h
 
 -- What the loop over the rows refuses, and how it goes on.
 pub misfit_rows : (shape : Shape) (section : Section) (fields : List Field) (live : List ℕ) (index : ℕ) (es : List (ℕ × Row)) (ends : List ℕ) (bytes : ℕ) (row : Row) → fields ≡ shape_fields shape → live ≡ section.live
@@ -119,6 +108,6 @@ misfit_rows shape section fields live index es ends bytes row is same p inside h
     (subst (λ fs. HoldsRows fs section.widths [] (values_of rows)) (sym is) read.held)
 
 pub heavy_rows : (shape : Shape) (section : Section) (fields : List Field) (live : List ℕ) (index : ℕ) (es : List (ℕ × Row)) (ends : List ℕ) (bytes counted : ℕ) (row : Row) → live ≡ section.live
-    → Progress (IsSpelledIn shape section) fields section.widths live index es ends bytes → index < length live → IsSpelledIn shape section (get_or live index 0, row) → 2 ^ 25 < counted → counted ≤ bytes + row_bytes row → (rows : List (ℕ × Row)) → AreRead shape section rows → ⊥
+    → Progress (IsSpelledIn shape section) fields section.widths live index es ends bytes → index < length live → IsSpelledIn shape section (get_or live index 0, row) → number_of_limit Bytes < counted → counted ≤ bytes + row_bytes row → (rows : List (ℕ × Row)) → AreRead shape section rows → ⊥
 heavy_rows shape section fields live index es ends bytes counted row same p inside here over most rows read =
     heavy (IsSpelledIn shape section) (one_row shape section) fields section.widths live index es ends bytes (get_or live index 0) row p inside refl here (omega arith) rows (read.live ∙ sym same) read.spelled read.bytes

@@ -1,34 +1,24 @@
 -- The rows of a section, read one after another by rising ordinal.
-use Rattle.std.proofs.Common.{◌≡◌, ℕ, ◌+◌, ◌^◌, ◌<◌, ◌≤◌, List, [], ◌∷◌, ◌++◌, length, take, drop, get_or, refl, ap, sym, ◌∙◌, subst, arith, append_assoc, suc, zero-add}
+use Rattle.std.proofs.Common.{◌≡◌, ℕ, ◌+◌, ◌<◌, ◌≤◌, List, [], ◌∷◌, ◌++◌, length, take, drop, get_or, refl, ap, sym, ◌∙◌, subst, arith, append_assoc, suc, zero-add}
 use Rattle.std.specs.Prelude.{All, slice_index}
-use Rattle.std.specs.declared.cmp.Ordering.TheVariants.{Greater}
-use Rattle.std.specs.Ordering.{nat_cmp, match_ordering}
-use Rattle.std.specs.BTreeMap.{insert_entry}
 use Rattle.std.specs.Map.{keys_of, values_of}
 use Rattle.std.specs.List.Sorted.{IsStrictlyIncreasing}
-use Rattle.std.proofs.lemmas.List.{take_more, take-map, map-append, take-append-drop, length-take, length-map, get_or-take}
+use Rattle.std.proofs.lemmas.List.{take_more, take-map, map-append, take-append-drop, length-take, get_or-take}
 use Rattle.std.proofs.lemmas.List.Elements.{All-take, All-append, All-from_recursion}
 use Rattle.std.proofs.lemmas.List.Sums.{sum_by-append}
 use Rattle.std.proofs.lemmas.Map.Keys.{sorted_from_strictly_increasing, below_from_sorted}
+use Rattle.schema_model.specs.declared.limit.Limit.TheVariants.{Bytes}
+use Rattle.schema_model.specs.Limit.{number_of_limit}
 use Rattle.schema_model.specs.declared.schema.Field.{Field}
 use Rattle.schema_model.specs.declared.rows.row.Value.{Value}
 use Rattle.schema_model.specs.declared.rows.row.Row.{Row}
+use Rattle.ordinal_set.specs.Ordinals.{bound_of}
 use Rattle.type_state.specs.WordsHeld.{row_bytes, part_bytes, field_bytes, bytes_held}
 use Rattle.type_state.specs.Holds.{FitsWidth, FitsWidths, HoldsRow, HoldsRows}
 use Rattle.type_state.specs.Ends.{end_after, FitsRow}
 
 abbrev pub Entry : Type 0
 Entry = ℕ × Row
-
--- The map's new entry comes last, where its key is above the others.
-greater : (k m : ℕ) → m < k → nat_cmp k m ≡ Greater
-greater k m h = grind arith
-
-pub insert_last : (es : List Entry) (k : ℕ) (v : Row) → ((i : ℕ) → i < length es → get_or (keys_of es) i 0 < k) → insert_entry nat_cmp es k v ≡ es ++ (k, v) ∷ []
-insert_last [] k v below = refl
-insert_last (e ∷ es) k v below =
-    ap (λ r. match_ordering r ((k, v) ∷ e ∷ es) ((e.0, v) ∷ es) (e ∷ insert_entry nat_cmp es k v)) (greater k e.0 (below 0 (omega arith)))
-    ∙ ap (λ rest. e ∷ rest) (insert_last es k v (λ i h. below (suc i) (omega arith)))
 
 -- The same entries: equal keys, and for each key one row.
 pub record IsFunction (P : Entry → Type 0) : Type 0 where
@@ -94,7 +84,13 @@ pub record Progress (P : Entry → Type 0) (fields : List Field) (widths live : 
   pub reached : (f : ℕ) → slice_index ends f ≡ field_bytes f (values_of es)
   pub long : length ends ≡ length fields
   pub total : bytes ≡ bytes_held (values_of es)
-  pub few : bytes ≤ 2 ^ 25
+  pub few : bytes ≤ number_of_limit Bytes
+
+-- At first none are read.
+pub begun : (P : Entry → Type 0) (fields : List Field) (widths live : List ℕ) (es : List Entry) (ends : List ℕ) → es ≡ [] → ((f : ℕ) → slice_index ends f ≡ 0) → length ends ≡ length fields → Progress P fields widths live 0 es ends 0
+begun P fields widths live es ends none zeros long =
+    subst (λ all. Progress P fields widths live 0 all ends 0) (sym none)
+    record { keys = refl; spelled = λ k d l. absurd (omega arith); held = tt; reached = zeros; long = long; total = refl; few = omega arith }
 
 values_more : (es : List Entry) (o : ℕ) (row : Row) → values_of (es ++ (o, row) ∷ []) ≡ values_of es ++ row ∷ []
 values_more es o row = map-append (λ e. e.1) es ((o, row) ∷ [])
@@ -132,24 +128,32 @@ misfit P one fields widths live index es ends bytes o row p inside is here wide 
 
 -- Rows of more bytes than the limit are part of no fewer.
 pub heavy : (P : Entry → Type 0) → IsFunction P → (fields : List Field) (widths live : List ℕ) (index : ℕ) (es : List Entry) (ends : List ℕ) (bytes o : ℕ) (row : Row) → Progress P fields widths live index es ends bytes → index < length live
-    → o ≡ get_or live index 0 → P (o, row) → 2 ^ 25 < bytes + row_bytes row → (fs : List Entry) → keys_of fs ≡ live → All P fs → bytes_held (values_of fs) ≤ 2 ^ 25 → ⊥
+    → o ≡ get_or live index 0 → P (o, row) → number_of_limit Bytes < bytes + row_bytes row → (fs : List Entry) → keys_of fs ≡ live → All P fs → bytes_held (values_of fs) ≤ number_of_limit Bytes → ⊥
 heavy P one fields widths live index es ends bytes o row p inside is here over fs lived all few =
     let whole = front_values P one live index o es row fs p.keys p.spelled inside is here lived all in
     let sum = ap bytes_held whole ∙ sum_by-append row_bytes (values_of es) (row ∷ values_of (drop (index + 1) fs)) in
     let next = sum_by-append row_bytes (row ∷ []) (values_of (drop (index + 1) fs)) in
     omega (arith, p.total)
 
+-- The next ordinal is above those that were read.
+low_bound : (os : List ℕ) (o : ℕ) → ((i : ℕ) → i < length os → get_or os i 0 < o) → bound_of os ≤ o
+unfolding bound_of
+low_bound [] o below = omega arith
+low_bound (k ∷ os) o below = let first = below 0 (omega arith) in let rest = low_bound os o (λ i h. below (suc i) (omega arith)) in omega arith
+
+pub next_above : (P : Entry → Type 0) (fields : List Field) (widths live : List ℕ) (index : ℕ) (es : List Entry) (ends : List ℕ) (bytes o : ℕ) → Progress P fields widths live index es ends bytes → index < length live
+    → o ≡ get_or live index 0 → IsStrictlyIncreasing live → bound_of (keys_of es) ≤ o
+next_above P fields widths live index es ends bytes o p inside is rising =
+    let sorted = sorted_from_strictly_increasing live rising in
+    let taken = length-take index live in
+    subst (λ os. bound_of os ≤ o) (sym p.keys) (low_bound (take index live) o (λ i h.
+    subst (λ n. n < o) (sym (get_or-take index live i 0 (omega arith))) (subst (λ n. get_or live i 0 < n) (sym is) (below_from_sorted live i index 0 sorted (omega arith) inside))))
+
 -- The next row is read.
 pub read_on : (P : Entry → Type 0) (fields : List Field) (widths live : List ℕ) (index : ℕ) (es new : List Entry) (ends after : List ℕ) (bytes counted o : ℕ) (row : Row) → Progress P fields widths live index es ends bytes → index < length live
-    → o ≡ get_or live index 0 → P (o, row) → IsStrictlyIncreasing live → FitsRow fields widths ends row → ((f : ℕ) → slice_index after f ≡ slice_index ends f + part_bytes f row) → length after ≡ length fields → counted ≡ bytes + row_bytes row → counted ≤ 2 ^ 25
-    → new ≡ insert_entry nat_cmp es o row → Progress P fields widths live (index + 1) new after counted
-read_on P fields widths live index es new ends after bytes counted o row p inside is here rising fits grown long sum few inserted =
-    let sorted = sorted_from_strictly_increasing live rising in
-    let shown : length (keys_of es) ≡ length es = length-map es (λ e. e.0) in
-    let taken = ap length p.keys ∙ length-take index live in
-    let below : (i : ℕ) → i < length es → get_or (keys_of es) i 0 < o =
-    λ i h. subst (λ n. n < o) (sym (ap (λ t. get_or t i 0) p.keys ∙ get_or-take index live i 0 (omega arith))) (subst (λ n. get_or live i 0 < n) (sym is) (below_from_sorted live i index 0 sorted (omega arith) inside)) in
-    let last : new ≡ es ++ (o, row) ∷ [] = inserted ∙ insert_last es o row below in
+    → o ≡ get_or live index 0 → P (o, row) → FitsRow fields widths ends row → ((f : ℕ) → slice_index after f ≡ slice_index ends f + part_bytes f row) → length after ≡ length fields → counted ≡ bytes + row_bytes row → counted ≤ number_of_limit Bytes
+    → new ≡ es ++ (o, row) ∷ [] → Progress P fields widths live (index + 1) new after counted
+read_on P fields widths live index es new ends after bytes counted o row p inside is here fits grown long sum few last =
     let whole : values_of new ≡ values_of es ++ row ∷ [] = ap values_of last ∙ values_more es o row in
     let single : All P ((o, row) ∷ []) = All-from_recursion P ((o, row) ∷ []) (here, tt) in
     record {

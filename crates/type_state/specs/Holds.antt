@@ -2,6 +2,8 @@
 use Rattle.std.specs.Prelude.{◌≡◌, ℕ, ◌-◌, ◌^◌, ◌<◌, ◌≤◌, List, [], ◌∷◌, ◌++◌, Some, slice_get, slice_index, All}
 use Rattle.std.specs.FinMap.{keys, values}
 use Rattle.hol_varint.specs.Zigzag.{zigzag}
+use Rattle.schema_model.specs.declared.limit.Limit.TheVariants.{Words, Bytes}
+use Rattle.schema_model.specs.Limit.{number_of_limit}
 use Rattle.schema_model.specs.Parts.{shape_fields}
 use Rattle.schema_model.specs.Table.{RowMap}
 use Rattle.schema_model.specs.declared.schema.FieldKind.{FieldKind}
@@ -49,9 +51,9 @@ HoldsRows fields widths before (row ∷ rest) = HoldsRow fields widths (before +
 -- A layout holds the rows of a type: laid out by rising ordinal, with no place between them, each fits, and each has a place.
 pub record Holds (shape : Shape) (layout : Layout) (rows : RowMap) : Type 0 where
   pub parts : HoldsRows (shape_fields shape) layout.widths [] (values rows)
-  pub places : All (λ o. o < places_of layout.max) (keys rows)
+  pub places : All (λ ordinal. ordinal < places_of layout.max) (keys rows)
 
 -- The limits on the fixed words and the variable bytes of a type in one state.
-pub record KeepsLimits (layout : Layout) (rows : RowMap) : Type 0 where
-  pub words : fixed_words layout ≤ 2 ^ 22
-  pub bytes : bytes_held (values rows) ≤ 2 ^ 25
+pub record KeepsLimits (shape : Shape) (layout : Layout) (rows : RowMap) : Type 0 where
+  pub words : fixed_words shape layout ≤ number_of_limit Words
+  pub bytes : bytes_held (values rows) ≤ number_of_limit Bytes

@@ -1,6 +1,9 @@
 pub mod Ends
+pub mod Entries
 pub mod Holds
 pub mod Layout
 pub mod Loads
 pub mod State
+pub mod Views
+pub mod WellFormed
 pub mod WordsHeld

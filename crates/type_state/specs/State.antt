@@ -1,14 +1,13 @@
 -- The two states of a type that are kept: the current one, and beside it the one before or the next one.
-use Rattle.std.specs.Prelude.{◌≡◌, ℕ, List, length, Option, refl}
+use Rattle.std.specs.Prelude.{◌≡◌, ℕ, List, [], length, Option, None, refl}
 use Rattle.std.specs.Coded.{Coded, code_by, coded×, coded_ℕ, coded_list, coded_option}
-use Rattle.std.specs.FinMap.{code, from_entries}
+use Rattle.std.specs.FinMap.{code, empty, from_entries}
 use Rattle.schema_model.specs.declared.schema.Schema.{Schema}
 use Rattle.schema_model.specs.declared.rows.row.Row.{Row}
 use Rattle.schema_model.specs.contracts.schema.Schema as schema_contract
 use Rattle.schema_model.specs.contracts.rows.row.Row as row_contract
-use Rattle.schema_model.specs.Parts.{fields_of}
 use Rattle.schema_model.specs.Table.{RowMap}
-use Rattle.type_state.specs.Layout.{Layout}
+use Rattle.type_state.specs.Layout.{Layout, width_count}
 
 -- The rows of a type in one state, by ordinal, and their layout in the blob that gave them.
 pub record Half : Type 0 where
@@ -21,13 +20,17 @@ pub record State : Type 0 where
   pub current : Half
   pub other : Half
 
+-- No rows, and no layout.
+abbrev pub empty_half : Half
+empty_half = record { layout = record { max = None; widths = [] }; rows = empty }
+
 -- The rows of a list of entries.
 abbrev pub rows_of : List (ℕ × Row) → RowMap
 rows_of entries = from_entries entries
 
--- A half is laid out where each field has a width.
+-- A half is laid out where it has as many widths as its kind has.
 abbrev pub IsLaidOut : Schema → Half → Type 0
-IsLaidOut schema half = length half.layout.widths ≡ length (fields_of schema)
+IsLaidOut schema half = length half.layout.widths ≡ width_count schema.shape
 
 abbrev pub layout_code : Coded Layout
 layout_code = code_by (Option ℕ × List ℕ) (coded× (coded_option coded_ℕ) (coded_list coded_ℕ)) (λ l. (l.max, l.widths)) (λ p. record { max = p.0; widths = p.1 }) (λ _. refl)

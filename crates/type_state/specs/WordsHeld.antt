@@ -1,11 +1,9 @@
--- How many words and bytes the rows of an OBJECT type take at a layout.
-use Rattle.std.specs.Prelude.{ℕ, ◌+◌, ◌/◌, List, length, slice_get, map, sum, sum_by}
+-- How many bytes the rows of a type take.
+use Rattle.std.specs.Prelude.{ℕ, List, length, slice_get, sum_by}
 use Rattle.std.specs.Option.{option_map_or}
-use Rattle.std.specs.List.{range_with_len}
 use Rattle.hol_varint.specs.TextUnits.{units_bytes}
 use Rattle.schema_model.specs.declared.rows.row.Value.{Value}
 use Rattle.schema_model.specs.declared.rows.row.Row.{Row}
-use Rattle.type_state.specs.Layout.{Layout, fixed_words}
 
 -- The variable bytes of a value: those of a STRING or BYTES.
 abbrev pub value_bytes : Value → ℕ
@@ -30,7 +28,3 @@ field_bytes field rows = sum_by (part_bytes field) rows
 -- The bytes of a state: the variable bytes of its live rows.
 abbrev pub bytes_held : List Row → ℕ
 bytes_held rows = sum_by row_bytes rows
-
--- The words of a state: the fixed words, and for each STRING or BYTES field as many as its bytes take; other fields have no bytes.
-abbrev pub words_held : ℕ → Layout → List Row → ℕ
-words_held fields layout rows = fixed_words layout + sum (map (λ field. (field_bytes field rows + 7) / 8) (range_with_len 0 fields))

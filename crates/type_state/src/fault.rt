@@ -1,4 +1,9 @@
+//! Why the rows of a type are refused.
+ghost use Rattle.std.specs.Prelude.{◌≡◌};
+ghost use Rattle.type_state.specs.declared.fault.RowFault.TheVariants.{Memory as row_memory};
+
 use schema_model::{Limit, Reason};
+use std::alloc::AllocError;
 
 /// Why the rows of a type are refused.
 #[derive(Clone, Copy, Debug, PartialEq, Eq)]
@@ -9,4 +14,12 @@ pub enum RowFault {
     Limit(Limit),
     /// Memory was refused.
     Memory,
+}
+
+impl From<AllocError> for RowFault {
+    ghost from_gives = { λ _ e. e ≡ row_memory };
+
+    fn from(_e: AllocError) -> RowFault {
+        RowFault::Memory
+    }
 }

@@ -1,23 +1,13 @@
+//! Which rows the widths of a layout can hold.
 ghost use Rattle.std.specs.Prelude.{◌≡◌, ◌↔◌, ◌+◌, ◌-◌, ◌^◌, ◌≤◌, ℕ, length, slice_index, IsTrue};
 ghost use Rattle.type_state.specs.Holds.{FitsWidth, FitsWidths};
 ghost use Rattle.type_state.specs.WordsHeld.{part_bytes};
 ghost use Rattle.type_state.specs.Ends.{end_after, FitsRow, HasValues};
 
 use crate::count::value_len;
+use bit_array::all_ones;
 use hol_varint::{zigzag32, zigzag64};
 use schema_model::{Field, FieldKind, Row, Value};
-
-/// The element of a width that has ones alone.
-#[tactic(auto, using(object_codec::proofs::Widths::all_ones_shifted))]
-fn all_ones(width: u32) -> u64
-    requires { width ≤ 64 }
-    ensures { result ≡ 2 ^ width - 1 }
-{
-    if width == 0 {
-        return 0;
-    }
-    u64::MAX >> (64 - width)
-}
 
 /// The top bit of a width, 1 for none.
 fn null_bit(width: u32) -> u64

@@ -1,56 +1,103 @@
-ghost use Rattle.std.specs.Prelude.{◌≡◌, ◌↔◌, [], Some, IsSome, IfOk, IsTrue};
-ghost use Rattle.std.specs.FinMap.{get};
-ghost use Rattle.type_state.specs.State.{rows_of};
+//! One half of a type's state: the rows of the type in one state, and their layout.
+ghost use Rattle.std.specs.Prelude.{◌≡◌, ◌↔◌, ◌+◌, ◌^◌, ◌<◌, ◌≤◌, ◌∷◌, ◌++◌, [], Some, IsSome, IfOk, IsTrue, OnOk};
+ghost use Rattle.std.specs.FinMap.{get, keys, entries, empty};
+ghost use Rattle.ordinal_set.specs.Ordinals.{bound_of};
+ghost use Rattle.type_state.specs.State.{empty_half};
 
 use hol_varint::Duplicate;
 use schema_model::{Row, Widths};
 use std::alloc::{AllocError, Global};
 use std::collections::BTreeMap;
+use std::marker::Model;
 
-/// The rows of a type in one state.
+/// The rows of a type in one state, with their layout.
 #[derive(Debug, Drop)]
 pub(crate) struct Kept {
     /// The greatest ordinal that has a place.
-    pub(crate) max: Option<u32>,
-    /// The widths of the fields, in bits.
-    pub(crate) widths: Widths,
+    max: Option<u32>,
+    /// The widths of the parts of a row, in bits.
+    widths: Widths,
     /// One past the greatest live ordinal, 0 for none.
-    pub(crate) bound: u32,
+    bound: u32,
     /// The rows, by ordinal.
-    pub(crate) rows: BTreeMap<u32, Row>,
+    rows: BTreeMap<u32, Row>,
+}
+
+impl Model for Kept {
+    ghost use Rattle.type_state.specs.State.{Half, half_code, rows_of};
+    ghost use Rattle.type_state.specs.Entries.{IsKept};
+
+    ghost Value = { Half };
+
+    ghost coded = { half_code };
+
+    ghost view = { λ kept. record { layout = record { max = kept.max; widths = kept.widths }; rows = rows_of kept.rows.entries } };
+
+    ghost invariant = { λ kept. IsKept kept.bound kept.rows.entries };
 }
 
 impl Kept {
-    /// No rows, and no layout. It takes no memory.
-    pub(crate) fn empty(alloc: Global) -> Kept
-        ensures max { result.max ≡ None }
-        ensures widths { result.widths ≡ [] }
-        ensures bound { result.bound ≡ 0 }
-        ensures rows { result.rows.entries ≡ [] }
+    /// No rows at a layout. It takes no memory.
+    #[tactic(auto, using(crate::proofs::Entries::kept_none, crate::proofs::Entries::rows_of_none))]
+    pub(crate) fn new(alloc: Global, max: Option<u32>, widths: Widths) -> Kept
+        ensures { result ≡ record { layout = record { max = max; widths = widths }; rows = empty } }
     {
         Kept {
-            max: None,
-            widths: Widths::new(alloc),
+            max,
+            widths,
             bound: 0,
             rows: BTreeMap::new(alloc),
         }
     }
 
+    /// No rows, and no layout. It takes no memory.
+    pub(crate) fn empty(alloc: Global) -> Kept
+        ensures { result ≡ empty_half }
+    {
+        Kept::new(alloc, None, Widths::new(alloc))
+    }
+
+    /// Puts in a row under an ordinal that is above those of the other rows.
+    pub(crate) fn push(&mut self, ordinal: u32, row: Row) -> Result<(), AllocError>
+        requires above { bound_of (keys self.old.rows) ≤ ordinal }
+        requires below { ordinal + 1 < 2 ^ 32 }
+        ensures rows { OnOk result (entries self.new.rows ≡ entries self.old.rows ++ (ordinal, row) ∷ []) }
+        ensures layout { self.new.layout ≡ self.old.layout }
+    {
+        self.rows.insert(ordinal, row)?;
+        self.bound = ordinal + 1;
+        Ok(())
+    }
+
+    /// The greatest ordinal that has a place, none where there is no place.
+    pub(crate) fn max(&self) -> Option<u32>
+        ensures { result ≡ self.now.layout.max }
+    {
+        self.max
+    }
+
+    /// One past the greatest live ordinal, 0 for none.
+    pub(crate) fn bound(&self) -> u32
+        ensures { result ≡ bound_of (keys self.now.rows) }
+    {
+        self.bound
+    }
+
     /// Whether there is a row under the ordinal.
     #[tactic(auto, using(crate::proofs::Entries::get_same))]
-    pub(crate) fn is_live(&self, o: u32) -> bool
-        ensures { IsTrue result ↔ IsSome (get (rows_of self.now.rows.entries) o) }
+    pub(crate) fn is_live(&self, ordinal: u32) -> bool
+        ensures { IsTrue result ↔ IsSome (get self.now.rows ordinal) }
     {
-        self.rows.contains_key(&o)
+        self.rows.contains_key(&ordinal)
     }
 
     /// A copy of the row under the ordinal.
     #[tactic(auto, using(crate::proofs::Entries::get_same))]
-    pub(crate) fn row(&self, alloc: Global, o: u32) -> Result<Row, AllocError>
-        requires { IsSome (get (rows_of self.now.rows.entries) o) }
-        ensures { IfOk result (λ row. get (rows_of self.now.rows.entries) o ≡ Some row) }
+    pub(crate) fn row(&self, alloc: Global, ordinal: u32) -> Result<Row, AllocError>
+        requires { IsSome (get self.now.rows ordinal) }
+        ensures { IfOk result (λ row. get self.now.rows ordinal ≡ Some row) }
     {
-        match self.rows.get(&o) {
+        match self.rows.get(&ordinal) {
             Some(row) => row.copy(alloc),
             None => unreachable!(),
         }

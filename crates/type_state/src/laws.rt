@@ -3,10 +3,10 @@ ghost use Rattle.std.specs.Prelude.{◌≡◌, ℕ, Some};
 ghost use Rattle.std.specs.FinMap.{get};
 ghost use Rattle.schema_model.specs.declared.schema.Shape.{Shape};
 ghost use Rattle.schema_model.specs.declared.rows.row.Row.{Row};
-ghost use Rattle.schema_model.specs.Row.{FitsShape};
+ghost use Rattle.schema_model.specs.Row.{FitsShape, IsRowInRange};
 ghost use Rattle.schema_model.specs.Table.{RowMap};
-ghost use Rattle.object_codec.specs.ObjectPlace.{IsObject};
 ghost use Rattle.type_state.specs.declared.section.Section.{Section};
+ghost use Rattle.type_state.specs.WellFormed.{IsWellFormed};
 ghost use Rattle.type_state.specs.Loads.{SectionIs};
 
 /// A section is that of one set of rows at most.
@@ -14,7 +14,8 @@ pub fn one_state()
     ensures { (shape : Shape) (section : Section) (a b : RowMap) → SectionIs shape section a → SectionIs shape section b → a ≡ b }
 {}
 
-/// Each row of a section of an OBJECT type fits the type.
+/// Each row of a section fits the type, and those of a well-formed section are in range.
 pub fn rows_fit()
-    ensures { (shape : Shape) (section : Section) (rows : RowMap) (o : ℕ) (row : Row) → IsObject shape → SectionIs shape section rows → get rows o ≡ Some row → FitsShape shape row }
+    ensures fits { (shape : Shape) (section : Section) (rows : RowMap) (ordinal : ℕ) (row : Row) → SectionIs shape section rows → get rows ordinal ≡ Some row → FitsShape shape row }
+    ensures ranges { (shape : Shape) (section : Section) (rows : RowMap) (ordinal : ℕ) (row : Row) → IsWellFormed shape section → SectionIs shape section rows → get rows ordinal ≡ Some row → IsRowInRange row }
 {}

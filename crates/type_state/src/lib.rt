@@ -10,11 +10,15 @@ mod load;
 mod section;
 mod state;
 mod states;
+mod views;
+mod words;
 
 pub use fault::RowFault;
 pub use section::Section;
 pub use state::TypeState;
 pub use states::TypeStates;
+pub use views::NextRows;
+pub use words::words_needed;
 
 #[cfg(test)]
 mod tests;

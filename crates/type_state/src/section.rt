@@ -1,5 +1,6 @@
+//! One type's part of a snapshot, before its rows are read.
 use ordinal_set::OrdinalSet;
-use schema_model::{Areas, Parts, Widths, Words};
+use schema_model::{Areas, Parts, Widths, Words, area_byte, area_size};
 
 /// One type's part of a snapshot, as it stands in the blob.
 #[derive(Debug, Drop)]
@@ -36,15 +37,10 @@ impl Parts for Section {
     }
 
     fn area(&self, field: u32) -> u64 {
-        let field = field as usize;
-        if field < self.areas.len() {
-            self.areas.get(field).len() as u64
-        } else {
-            0
-        }
+        area_size(&self.areas, field)
     }
 
     fn byte(&self, field: u32, at: u64) -> u8 {
-        *self.areas.get(field as usize).get(at as usize)
+        area_byte(&self.areas, field, at)
     }
 }

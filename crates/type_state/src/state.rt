@@ -1,10 +1,12 @@
-ghost use Rattle.std.specs.Prelude.{◌≡◌, ◌↔◌, [], Some, IsSome, IfOk, IsTrue, OnOk, OnErr};
-ghost use Rattle.std.specs.FinMap.{get, keys, empty};
+//! The state of one type: its current rows, and those of the state before or of the next one.
+ghost use Rattle.std.specs.Prelude.{◌≡◌, ◌↔◌, Some, IsSome, IfErr, IfOk, IsTrue, OnOk};
+ghost use Rattle.std.specs.FinMap.{get, keys};
 ghost use Rattle.ordinal_set.specs.Ordinals.{bound_of};
 ghost use Rattle.hol_varint.specs.Yields.{Yields};
 ghost use Rattle.schema_model.specs.Table.{RowMap};
-ghost use Rattle.type_state.specs.State.{IsLaidOut};
-ghost use Rattle.type_state.specs.Loads.{IsReadable, IsFreeRow, Loads, TellsLoad, layout_of};
+ghost use Rattle.type_state.specs.State.{IsLaidOut, empty_half};
+ghost use Rattle.type_state.specs.WellFormed.{IsReadable};
+ghost use Rattle.type_state.specs.Loads.{IsLoadFault, IsFreeRow, Loads, TellsLoad, layout_of};
 
 use crate::kept::Kept;
 use crate::load::load;
@@ -26,32 +28,19 @@ pub struct TypeState {
 }
 
 impl Model for TypeState {
-    ghost use Rattle.std.specs.Prelude.{◌≡◌};
-    ghost use Rattle.std.specs.FinMap.{keys};
-    ghost use Rattle.ordinal_set.specs.Ordinals.{bound_of};
-    ghost use Rattle.type_state.specs.State.{State, state_code, rows_of};
+    ghost use Rattle.type_state.specs.State.{State, state_code};
 
     ghost Value = { State };
 
     ghost coded = { state_code };
 
-    ghost view = { λ s. record {
-      schema = s.schema;
-      current = record { layout = record { max = s.current.max; widths = s.current.widths }; rows = rows_of s.current.rows.entries };
-      other = record { layout = record { max = s.other.max; widths = s.other.widths }; rows = rows_of s.other.rows.entries };
-    } };
-
-    ghost invariant = { λ s.
-        (s.current.bound ≡ bound_of (keys (rows_of s.current.rows.entries))) × (s.other.bound ≡ bound_of (keys (rows_of s.other.rows.entries))) };
+    ghost view = { λ s. record { schema = s.schema; current = s.current; other = s.other } };
 }
 
 impl TypeState {
     /// A type without rows. It takes no memory.
-    #[tactic(auto, using(crate::proofs::Entries::bound_of_none))]
     pub fn new(alloc: Global, schema: Schema) -> TypeState
-        ensures schema { result.schema ≡ schema }
-        ensures now { result.current ≡ record { layout = record { max = None; widths = [] }; rows = empty } }
-        ensures other { result.other ≡ record { layout = record { max = None; widths = [] }; rows = empty } }
+        ensures { result ≡ record { schema = schema; current = empty_half; other = empty_half } }
     {
         TypeState {
             alloc,
@@ -61,8 +50,15 @@ impl TypeState {
         }
     }
 
-    /// Reads the live rows of a section of a snapshot into the next half, at the section's layout. The current half stays as it is, and where
-    /// the section is refused so does the other one.
+    /// The type's schema.
+    pub fn schema(&self) -> &Schema
+        ensures { result.now ≡ self.now.schema }
+    {
+        &self.schema
+    }
+
+    /// Reads the live rows of a section of a snapshot into the next half, at the section's layout. The current half stays as it is. What the
+    /// other one holds where the section is refused is not said.
     ///
     /// `At` names an ordinal: `BadOrdinals` one above the max ordinal, `BadPointers`, `BadText` and `BadValue` one whose place spells no row,
     /// `BadWidth` one whose row the widths cannot hold when the live rows are laid out with no place between them. `Limit` names the limit on
@@ -71,10 +67,11 @@ impl TypeState {
         requires { IsReadable self.old.schema.shape section.now }
         ensures exact { Yields IsFreeRow result (Ok tt) ((rows : RowMap) × Loads self.old.schema.shape section.now rows) }
         ensures tells { TellsLoad self.old.schema.shape section.now self.new.other.rows result }
+        ensures kind { IfErr result IsLoadFault }
         ensures layout { OnOk result (self.new.other.layout ≡ layout_of section.now) }
+        ensures laid { OnOk result (IsLaidOut self.new.schema self.new.other) }
         ensures schema { self.new.schema ≡ self.old.schema }
         ensures current { self.new.current ≡ self.old.current }
-        ensures err { OnErr result (self.new ≡ self.old) }
     {
         let next = load(self.alloc, &self.schema, section)?;
         self.other = next;
@@ -82,11 +79,8 @@ impl TypeState {
     }
 
     /// Leaves no rows in the next half. It takes no memory.
-    #[tactic(auto, using(crate::proofs::Entries::bound_of_none))]
     pub fn discard_next(&mut self)
-        ensures schema { self.new.schema ≡ self.old.schema }
-        ensures now { self.new.current ≡ self.old.current }
-        ensures other { self.new.other ≡ record { layout = record { max = None; widths = [] }; rows = empty } }
+        ensures { self.new ≡ record self.old { other = empty_half } }
     {
         self.other = Kept::empty(self.alloc);
     }
@@ -103,21 +97,21 @@ impl TypeState {
     pub fn max(&self) -> Option<u32>
         ensures { result ≡ self.now.current.layout.max }
     {
-        self.current.max
+        self.current.max()
     }
 
     /// One past the greatest live ordinal of the current state, 0 for none.
     pub fn bound(&self) -> u32
         ensures { result ≡ bound_of (keys self.now.current.rows) }
     {
-        self.current.bound
+        self.current.bound()
     }
 
     /// One past the greatest ordinal that was live in the state before, 0 for none.
     pub fn bound_before(&self) -> u32
         ensures { result ≡ bound_of (keys self.now.other.rows) }
     {
-        self.other.bound
+        self.other.bound()
     }
 
     /// One past the greatest ordinal that is live in the next half, 0 for none.
@@ -125,53 +119,53 @@ impl TypeState {
         requires { IsLaidOut self.now.schema self.now.other }
         ensures { result ≡ bound_of (keys self.now.other.rows) }
     {
-        self.other.bound
+        self.other.bound()
     }
 
     /// Whether the current state has a row under the ordinal.
-    pub fn is_live(&self, o: u32) -> bool
-        ensures { IsTrue result ↔ IsSome (get self.now.current.rows o) }
+    pub fn is_live(&self, ordinal: u32) -> bool
+        ensures { IsTrue result ↔ IsSome (get self.now.current.rows ordinal) }
     {
-        self.current.is_live(o)
+        self.current.is_live(ordinal)
     }
 
     /// Whether the state before had a row under the ordinal.
-    pub fn was_live(&self, o: u32) -> bool
-        ensures { IsTrue result ↔ IsSome (get self.now.other.rows o) }
+    pub fn was_live(&self, ordinal: u32) -> bool
+        ensures { IsTrue result ↔ IsSome (get self.now.other.rows ordinal) }
     {
-        self.other.is_live(o)
+        self.other.is_live(ordinal)
     }
 
     /// Whether the next half has a row under the ordinal.
-    pub fn next_is_live(&self, o: u32) -> bool
+    pub fn next_is_live(&self, ordinal: u32) -> bool
         requires { IsLaidOut self.now.schema self.now.other }
-        ensures { IsTrue result ↔ IsSome (get self.now.other.rows o) }
+        ensures { IsTrue result ↔ IsSome (get self.now.other.rows ordinal) }
     {
-        self.other.is_live(o)
+        self.other.is_live(ordinal)
     }
 
     /// A copy of the row of the current state under a live ordinal.
-    pub fn row(&self, alloc: Global, o: u32) -> Result<Row, AllocError>
-        requires { IsSome (get self.now.current.rows o) }
-        ensures { IfOk result (λ row. get self.now.current.rows o ≡ Some row) }
+    pub fn row(&self, alloc: Global, ordinal: u32) -> Result<Row, AllocError>
+        requires { IsSome (get self.now.current.rows ordinal) }
+        ensures { IfOk result (λ row. get self.now.current.rows ordinal ≡ Some row) }
     {
-        self.current.row(alloc, o)
+        self.current.row(alloc, ordinal)
     }
 
     /// A copy of the row of the state before under an ordinal that was live.
-    pub fn row_before(&self, alloc: Global, o: u32) -> Result<Row, AllocError>
-        requires { IsSome (get self.now.other.rows o) }
-        ensures { IfOk result (λ row. get self.now.other.rows o ≡ Some row) }
+    pub fn row_before(&self, alloc: Global, ordinal: u32) -> Result<Row, AllocError>
+        requires { IsSome (get self.now.other.rows ordinal) }
+        ensures { IfOk result (λ row. get self.now.other.rows ordinal ≡ Some row) }
     {
-        self.other.row(alloc, o)
+        self.other.row(alloc, ordinal)
     }
 
     /// A copy of the row of the next half under an ordinal that is live there.
-    pub fn next_row(&self, alloc: Global, o: u32) -> Result<Row, AllocError>
+    pub fn next_row(&self, alloc: Global, ordinal: u32) -> Result<Row, AllocError>
         requires laid { IsLaidOut self.now.schema self.now.other }
-        requires live { IsSome (get self.now.other.rows o) }
-        ensures { IfOk result (λ row. get self.now.other.rows o ≡ Some row) }
+        requires live { IsSome (get self.now.other.rows ordinal) }
+        ensures { IfOk result (λ row. get self.now.other.rows ordinal ≡ Some row) }
     {
-        self.other.row(alloc, o)
+        self.other.row(alloc, ordinal)
     }
 }

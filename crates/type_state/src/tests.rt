@@ -1,7 +1,9 @@
-ghost use Rattle.std.specs.Prelude.{◌≡◌, ◌<◌, ◌∷◌, [], IfOk, OnOk};
+//! Tests: a type through two loads, and sections that are refused.
+ghost use Rattle.std.specs.Prelude.{◌≡◌, ◌<◌, ◌∷◌, [], Some, length, IfOk, OnOk};
 ghost use Rattle.std.specs.List.{AllZip};
 ghost use Rattle.schema_model.specs.Parts.{shape_fields};
-ghost use Rattle.object_codec.specs.ObjectPlace.{IsObject, IsFieldWidth};
+ghost use Rattle.object_codec.specs.ObjectPlace.{IsFieldWidth};
+ghost use Rattle.type_state.specs.WellFormed.{IsBuilt};
 ghost use Rattle.type_state.specs.State.{IsLaidOut};
 
 use super::*;
@@ -15,7 +17,7 @@ use std::test::Fail;
 
 /// A type with an INT and a STRING.
 fn schema(alloc: Global) -> Result<Schema, AllocError>
-    ensures object { IfOk result (λ schema. IsObject schema.shape) }
+    ensures built { IfOk result (λ schema. IsBuilt schema.shape) }
     ensures wide { IfOk result (λ schema. AllZip IsFieldWidth (shape_fields schema.shape) (4 ∷ 4 ∷ [])) }
 {
     let items = vec![in alloc;
@@ -34,7 +36,27 @@ fn schema(alloc: Global) -> Result<Schema, AllocError>
     })
 }
 
-/// Loads a section whose records have 8 bits, and whose STRINGs have the bytes of "Hi" and "é".
+/// A section whose records have 8 bits, and whose STRINGs have the bytes of "Hi" and "é".
+fn section(alloc: Global, max: u32, live: u64, word: u64) -> Result<Section, AllocError>
+    ensures max { IfOk result (λ section. section.max ≡ Some max) }
+    ensures widths { IfOk result (λ section. section.widths ≡ 4 ∷ 4 ∷ []) }
+    ensures words { IfOk result (λ section. length section.first ≡ 1) }
+    ensures areas { IfOk result (λ section. length section.areas ≡ 2) }
+{
+    let text = vec![in alloc; 0x48, 0x69, 0x81, 0x69]?;
+    let areas = vec![in alloc; Octets::new(alloc), Octets::from_vec(text)]?;
+    Ok(Section {
+        max: Some(max),
+        widths: Widths::from_vec(vec![in alloc; 4, 4]?),
+        total: 0,
+        first: Words::from_vec(vec![in alloc; word]?),
+        second: Words::new(alloc),
+        areas: Areas::from_vec(areas),
+        live: OrdinalSet::from_words(vec![in alloc; live]?),
+    })
+}
+
+/// Loads such a section.
 fn load_word(
     alloc: Global,
     state: &mut TypeState,
@@ -43,50 +65,77 @@ fn load_word(
     word: u64,
 ) -> Result<Result<(), RowFault>, AllocError>
     requires place { max < 8 }
-    requires object { IsObject state.old.schema.shape }
+    requires built { IsBuilt state.old.schema.shape }
     requires wide { AllZip IsFieldWidth (shape_fields state.old.schema.shape) (4 ∷ 4 ∷ []) }
     ensures schema { state.new.schema ≡ state.old.schema }
     ensures laid { IfOk result (λ loaded. OnOk loaded (IsLaidOut state.new.schema state.new.other)) }
 {
-    let text = vec![in alloc; 0x48, 0x69, 0x81, 0x69]?;
-    let areas = vec![in alloc; Octets::new(alloc), Octets::from_vec(text)]?;
-    let section = Section {
-        max: Some(max),
-        widths: Widths::from_vec(vec![in alloc; 4, 4]?),
-        total: 0,
-        first: Words::from_vec(vec![in alloc; word]?),
-        second: Words::new(alloc),
-        areas: Areas::from_vec(areas),
-        live: OrdinalSet::from_words(vec![in alloc; live]?),
-    };
+    let section = section(alloc, max, live, word)?;
     Ok(state.load_next(&section))
 }
 
-/// Loads such a section, and makes its rows the current ones. Tells whether it was loaded.
+/// Loads such a section, and makes its rows the current ones where it is loaded.
 fn step(
     alloc: Global,
     state: &mut TypeState,
     max: u32,
     live: u64,
     word: u64,
-) -> Result<bool, AllocError>
+) -> Result<(), AllocError>
     requires place { max < 8 }
-    requires object { IsObject state.old.schema.shape }
+    requires built { IsBuilt state.old.schema.shape }
     requires wide { AllZip IsFieldWidth (shape_fields state.old.schema.shape) (4 ∷ 4 ∷ []) }
-    ensures { state.new.schema ≡ state.old.schema }
+    ensures built { IsBuilt state.new.schema.shape }
+    ensures wide { AllZip IsFieldWidth (shape_fields state.new.schema.shape) (4 ∷ 4 ∷ []) }
 {
-    match load_word(alloc, state, max, live, word)? {
-        Ok(()) => {
-            state.flip();
-            Ok(true)
-        }
-        Err(_) => Ok(false),
+    let loaded = load_word(alloc, state, max, live, word)?;
+    if loaded.is_ok() {
+        state.flip();
     }
+    Ok(())
 }
 
-/// The text of a row that was copied.
-fn shown(alloc: Global, row: Result<Row, AllocError>) -> Result<String, AllocError> {
-    let row = row?;
+/// A type of which two such sections were loaded, one after the other.
+fn twice(alloc: Global) -> Result<TypeState, AllocError> {
+    let mut state = TypeState::new(alloc, schema(alloc)?);
+    step(alloc, &mut state, 2, 0b101, 0x4F_20_2A)?;
+    step(alloc, &mut state, 1, 0b11, 0x2E_85)?;
+    Ok(state)
+}
+
+/// What is answered where such a section is loaded, as its text.
+fn answer(alloc: Global, live: u64, word: u64) -> Result<String, AllocError> {
+    let mut state = TypeState::new(alloc, schema(alloc)?);
+    let loaded = load_word(alloc, &mut state, 2, live, word)?;
+    format!(in alloc; "{loaded:?}")
+}
+
+/// The row of the next half under an ordinal, as its text.
+fn next_text(alloc: Global, state: &TypeState, ordinal: u32) -> Result<String, AllocError>
+    requires { IsLaidOut state.now.schema state.now.other }
+{
+    if !state.next_is_live(ordinal) {
+        return Ok(String::new(alloc));
+    }
+    let row = state.next_row(alloc, ordinal)?;
+    format!(in alloc; "{row:?}")
+}
+
+/// The row of the current state under an ordinal, as its text.
+fn text(alloc: Global, state: &TypeState, ordinal: u32) -> Result<String, AllocError> {
+    if !state.is_live(ordinal) {
+        return Ok(String::new(alloc));
+    }
+    let row = state.row(alloc, ordinal)?;
+    format!(in alloc; "{row:?}")
+}
+
+/// The row of the state before under an ordinal, as its text.
+fn text_before(alloc: Global, state: &TypeState, ordinal: u32) -> Result<String, AllocError> {
+    if !state.was_live(ordinal) {
+        return Ok(String::new(alloc));
+    }
+    let row = state.row_before(alloc, ordinal)?;
     format!(in alloc; "{row:?}")
 }
 
@@ -96,38 +145,24 @@ fn next_half(rt: HostRuntime) -> Result<(), Fail> {
     let mut state = TypeState::new(alloc, schema(alloc)?);
     let loaded = load_word(alloc, &mut state, 2, 0b101, 0x4F_20_2A)?;
     assert!(rt; loaded.is_ok());
-    assert_eq!(rt; state.next_bound(), 3);
-    assert!(rt; !state.next_is_live(1));
-    assert!(rt; state.next_is_live(0));
-    let text = shown(alloc, state.next_row(alloc, 0))?;
+    let row = next_text(alloc, &state, 0)?;
     assert_eq!(rt;
-        text.as_str(),
-        "Object(Values { items: [Int(5), Text(Units { items: [72, 105] })] })"
+        row.as_str(),
+        "Object(List { items: [Int(5), Text(List { items: [72, 105] })] })"
     );
-    assert!(rt; !state.is_live(0));
-    state.discard_next();
-    assert_eq!(rt; state.bound_before(), 0);
     Ok(())
 }
 
 #[test]
 fn two_states(rt: HostRuntime) -> Result<(), Fail> {
     let alloc = rt.alloc();
-    let mut state = TypeState::new(alloc, schema(alloc)?);
-    let first = step(alloc, &mut state, 2, 0b101, 0x4F_20_2A)?;
-    let second = step(alloc, &mut state, 1, 0b11, 0x2E_85)?;
-    assert!(rt; first && second);
-    assert_eq!(rt; state.max(), Some(1));
-    assert_eq!(rt; (state.bound(), state.bound_before()), (2, 3));
-    assert!(rt; !state.is_live(2));
-    assert!(rt; state.is_live(0));
-    let row = shown(alloc, state.row(alloc, 0))?;
-    assert_eq!(rt; row.as_str(), "Object(Values { items: [Int(-3), Null] })");
-    assert!(rt; state.was_live(2));
-    let before = shown(alloc, state.row_before(alloc, 2))?;
+    let state = twice(alloc)?;
+    let row = text(alloc, &state, 0)?;
+    assert_eq!(rt; row.as_str(), "Object(List { items: [Int(-3), Null] })");
+    let before = text_before(alloc, &state, 2)?;
     assert_eq!(rt;
         before.as_str(),
-        "Object(Values { items: [Null, Text(Units { items: [233] })] })"
+        "Object(List { items: [Null, Text(List { items: [233] })] })"
     );
     Ok(())
 }
@@ -135,31 +170,11 @@ fn two_states(rt: HostRuntime) -> Result<(), Fail> {
 #[test]
 fn refusals(rt: HostRuntime) -> Result<(), Fail> {
     let alloc = rt.alloc();
-    let cases = [
-        (0b1001, 0x4F_20_2A, RowFault::At(Reason::BadOrdinals, 3)),
-        (0b101, 0x5F_20_2A, RowFault::At(Reason::BadPointers, 2)),
-        (0b101, 0x3F_20_2A, RowFault::At(Reason::BadText, 2)),
-        (0b101, 0x4F_00_4A, RowFault::At(Reason::BadWidth, 2)),
-    ];
-    for (live, word, expected) in cases {
-        let mut state = TypeState::new(alloc, schema(alloc)?);
-        let loaded = load_word(alloc, &mut state, 2, live, word)?;
-        assert_eq!(rt; loaded, Err(expected));
-    }
-    Ok(())
-}
-
-#[test]
-fn states_by_place(rt: HostRuntime) -> Result<(), Fail> {
-    let alloc = rt.alloc();
-    let mut states = TypeStates::new(alloc);
-    assert!(rt; states.is_empty());
-    states.push(TypeState::new(alloc, schema(alloc)?))?;
-    let mut state = TypeState::new(alloc, schema(alloc)?);
-    let loaded = step(alloc, &mut state, 0, 1, 0x2A)?;
-    assert!(rt; loaded);
-    states.push(state)?;
-    assert_eq!(rt; states.len(), 2);
-    assert_eq!(rt; states.get(1).max(), Some(0));
+    let above = answer(alloc, 0b1001, 0x4F_20_2A)?;
+    assert_eq!(rt; above.as_str(), "Err(At(BadOrdinals, 3))");
+    let pointers = answer(alloc, 0b101, 0x5F_20_2A)?;
+    assert_eq!(rt; pointers.as_str(), "Err(At(BadPointers, 2))");
+    let width = answer(alloc, 0b101, 0x4F_00_4A)?;
+    assert_eq!(rt; width.as_str(), "Err(At(BadWidth, 2))");
     Ok(())
 }

@@ -23,11 +23,11 @@ fn first_mark(marks: &[bool]) -> Option<usize>
 }
 
 /// Marks the types that refer to a marked one.
-fn next_marks(alloc: Global, rows: &[Ordinals], marks: &[bool]) -> Result<Vec<bool>, AllocError>
-    ensures { IfOk result (λ next. next.items ≡ map (has_chained marks.now) rows.now) }
+fn next_marks(alloc: Global, graph: &[Ordinals], marks: &[bool]) -> Result<Vec<bool>, AllocError>
+    ensures { IfOk result (λ next. next.items ≡ map (has_chained marks.now) graph.now) }
 {
-    let mut next = Vec::with_capacity(alloc, rows.len())?;
-    for row in rows {
+    let mut next = Vec::with_capacity(alloc, graph.len())?;
+    for row in graph {
         next.push(has_marked(row.as_slice(), marks))?;
     }
     Ok(next)
@@ -35,24 +35,24 @@ fn next_marks(alloc: Global, rows: &[Ordinals], marks: &[bool]) -> Result<Vec<bo
 
 /// Marks the types from which a chain of this many references can be followed.
 #[tactic(auto, unfolding(crate::specs::Checked::chained))]
-fn marks_after(alloc: Global, rows: &[Ordinals], count: u32) -> Result<Vec<bool>, AllocError>
-    ensures { IfOk result (λ marks. marks.items ≡ chained rows.now count) }
+fn marks_after(alloc: Global, graph: &[Ordinals], count: u32) -> Result<Vec<bool>, AllocError>
+    ensures { IfOk result (λ marks. marks.items ≡ chained graph.now count) }
 {
-    let mut marks = vec![in alloc; true; rows.len()]?;
+    let mut marks = vec![in alloc; true; graph.len()]?;
     for round in 0..count {
-        marks = next_marks(alloc, rows, marks.as_slice())?;
+        marks = next_marks(alloc, graph, marks.as_slice())?;
     }
     Ok(marks)
 }
 
 /// Marks the types from which chains of every length can be followed.
 #[tactic(auto, unfolding(crate::specs::Checked::chained))]
-fn endless_marks(alloc: Global, rows: &[Ordinals]) -> Result<Vec<bool>, AllocError>
-    ensures { IfOk result (λ marks. (k : ℕ) × (marks.items ≡ chained rows.now k) × (chained rows.now (k + 1) ≡ chained rows.now k)) }
+fn endless_marks(alloc: Global, graph: &[Ordinals]) -> Result<Vec<bool>, AllocError>
+    ensures { IfOk result (λ marks. (k : ℕ) × (marks.items ≡ chained graph.now k) × (chained graph.now (k + 1) ≡ chained graph.now k)) }
 {
-    let mut marks = vec![in alloc; true; rows.len()]?;
+    let mut marks = vec![in alloc; true; graph.len()]?;
     loop {
-        let next = next_marks(alloc, rows, marks.as_slice())?;
+        let next = next_marks(alloc, graph, marks.as_slice())?;
         if next == marks {
             return Ok(marks);
         }
@@ -64,13 +64,13 @@ fn endless_marks(alloc: Global, rows: &[Ordinals]) -> Result<Vec<bool>, AllocErr
 pub(crate) fn check_cycles(
     alloc: Global,
     schemas: &Schemas,
-    rows: &[Ordinals],
+    graph: &[Ordinals],
 ) -> Result<(), ModelFault>
-    requires rows { rows.now ≡ type_graph schemas.now }
+    requires graph { graph.now ≡ type_graph schemas.now }
     requires short { length schemas.now ≤ 512 }
     ensures { TellsRule schemas.now Rule.CyclicModel result }
 {
-    let marks = endless_marks(alloc, rows)?;
+    let marks = endless_marks(alloc, graph)?;
     match first_mark(marks.as_slice()) {
         Some(type_index) => Err(ModelFault::Broken(Rule::CyclicModel, type_index as u32)),
         None => Ok(()),
@@ -81,13 +81,13 @@ pub(crate) fn check_cycles(
 pub(crate) fn check_depth(
     alloc: Global,
     schemas: &Schemas,
-    rows: &[Ordinals],
+    graph: &[Ordinals],
 ) -> Result<(), ModelFault>
-    requires rows { rows.now ≡ type_graph schemas.now }
+    requires graph { graph.now ≡ type_graph schemas.now }
     requires short { length schemas.now ≤ 512 }
     ensures { TellsRule schemas.now Rule.TooDeep result }
 {
-    let marks = marks_after(alloc, rows, MAX_DEPTH)?;
+    let marks = marks_after(alloc, graph, MAX_DEPTH)?;
     match first_mark(marks.as_slice()) {
         Some(type_index) => Err(ModelFault::Broken(Rule::TooDeep, type_index as u32)),
         None => Ok(()),

@@ -1,8 +1,6 @@
 //! Why schemas are no model, and why a path is not resolved.
-ghost use Rattle.std.specs.Prelude.{◌≡◌};
-
 use crate::Rule;
-use std::alloc::{AllocError, AllocFailed};
+use std::alloc::AllocError;
 
 /// Why schemas are not made a model.
 #[derive(Debug, Drop)]
@@ -20,17 +18,6 @@ impl From<AllocError> for ModelFault {
     ghost from_gives = { λ error fault. fault ≡ Memory };
 
     fn from(error: AllocError) -> ModelFault {
-        ModelFault::Memory
-    }
-}
-
-impl<T: Drop> From<AllocFailed<T>> for ModelFault {
-    ghost use Rattle.std.specs.Prelude.{◌≡◌};
-    ghost use Rattle.schema_model.specs.declared.model.faults.ModelFault.TheVariants.{Memory};
-
-    ghost from_gives = { λ error fault. fault ≡ Memory };
-
-    fn from(error: AllocFailed<T>) -> ModelFault {
         ModelFault::Memory
     }
 }

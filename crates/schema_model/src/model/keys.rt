@@ -1,8 +1,7 @@
 //! The rule of primary keys: each has a path, and its paths resolve.
 ghost use Rattle.std.specs.Prelude.{◌≡◌, ◌<◌, ◌≤◌, ◌↔◌, length, Any, IfOk, IsTrue};
-ghost use Rattle.schema_model.specs.Checked.{Indexes, TellsRule};
-ghost use Rattle.schema_model.specs.Model.{BreaksAt, IsBadPath, IsKept};
-ghost use Rattle.schema_model.specs.Parts.{type_names};
+ghost use Rattle.schema_model.specs.Checked.{CanBeWalked, TellsRule};
+ghost use Rattle.schema_model.specs.Model.{BreaksAt, IsBadPath};
 
 use crate::model::name_index::NameIndex;
 use crate::model::path_walk::way_of;
@@ -18,10 +17,7 @@ fn has_bad_path(
     paths: &Names,
 ) -> Result<bool, AllocError>
     requires inside { type_index < length schemas.now }
-    requires indexed { Indexes (type_names schemas.now) index.now }
-    requires few { IsKept schemas.now Rule.TooMany }
-    requires apart { IsKept schemas.now Rule.DuplicateName }
-    requires shallow { IsKept schemas.now Rule.TooDeep }
+    requires ready { CanBeWalked schemas.now index.now }
     ensures { IfOk result (λ bad. IsTrue bad ↔ Any (IsBadPath schemas.now type_index) paths.now) }
 {
     for path in paths.as_slice() {
@@ -42,10 +38,7 @@ fn has_bad_key(
     type_index: u32,
 ) -> Result<bool, AllocError>
     requires inside { type_index < length schemas.now }
-    requires indexed { Indexes (type_names schemas.now) index.now }
-    requires few { IsKept schemas.now Rule.TooMany }
-    requires apart { IsKept schemas.now Rule.DuplicateName }
-    requires shallow { IsKept schemas.now Rule.TooDeep }
+    requires ready { CanBeWalked schemas.now index.now }
     ensures { IfOk result (λ bad. IsTrue bad ↔ BreaksAt schemas.now Rule.BadPath type_index) }
 {
     match &schemas.get(type_index as usize).shape {
@@ -65,10 +58,7 @@ pub(crate) fn check_keys(
     schemas: &Schemas,
     index: &NameIndex,
 ) -> Result<(), ModelFault>
-    requires indexed { Indexes (type_names schemas.now) index.now }
-    requires few { IsKept schemas.now Rule.TooMany }
-    requires apart { IsKept schemas.now Rule.DuplicateName }
-    requires shallow { IsKept schemas.now Rule.TooDeep }
+    requires ready { CanBeWalked schemas.now index.now }
     requires short { length schemas.now ≤ 512 }
     ensures { TellsRule schemas.now Rule.BadPath result }
 {

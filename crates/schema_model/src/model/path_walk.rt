@@ -1,12 +1,12 @@
 //! The fields that a path goes through.
 ghost use Rattle.std.specs.Prelude.{◌≡◌, ◌<◌, ◌≤◌, ◌∷◌, [], ℕ, List, length, IfSome, MatchOption};
-ghost use Rattle.schema_model.specs.Checked.{Indexes, TellsField, TellsFields, TellsReferred, TellsWay};
-ghost use Rattle.schema_model.specs.Model.{HasChain, IsKept, type_graph};
+ghost use Rattle.schema_model.specs.Checked.{CanBeWalked, Indexes, TellsField, TellsFields, TellsReferred, TellsWay};
+ghost use Rattle.schema_model.specs.Model.{HasChain, type_graph};
 ghost use Rattle.schema_model.specs.Parts.{type_names};
 ghost use Rattle.schema_model.specs.Path.{GoesOn, Leads, RefersTo, path_names};
 
 use crate::model::name_index::{NameIndex, find_name};
-use crate::{Field, FieldKind, MAX_DEPTH, PathFault, Rule, Schemas};
+use crate::{Field, FieldKind, MAX_DEPTH, PathFault, Schemas};
 use hol_varint::Ordinals;
 use std::alloc::Global;
 
@@ -81,10 +81,7 @@ fn follow_names(
     fields: &mut Ordinals,
 ) -> Result<(), PathFault>
     requires inside { type_index < length schemas.now }
-    requires indexed { Indexes (type_names schemas.now) index.now }
-    requires few { IsKept schemas.now Rule.TooMany }
-    requires apart { IsKept schemas.now Rule.DuplicateName }
-    requires shallow { IsKept schemas.now Rule.TooDeep }
+    requires ready { CanBeWalked schemas.now index.now }
     ensures { TellsWay (Leads schemas.now type_index (path_names text.now)) fields.old fields.new result }
 {
     let own = schemas.get(type_index as usize).shape.fields();
@@ -113,10 +110,7 @@ pub(crate) fn way_of(
     text: &str,
 ) -> Result<Ordinals, PathFault>
     requires inside { type_index < length schemas.now }
-    requires indexed { Indexes (type_names schemas.now) index.now }
-    requires few { IsKept schemas.now Rule.TooMany }
-    requires apart { IsKept schemas.now Rule.DuplicateName }
-    requires shallow { IsKept schemas.now Rule.TooDeep }
+    requires ready { CanBeWalked schemas.now index.now }
     ensures { TellsFields (Leads schemas.now type_index (path_names text.now)) result }
 {
     let mut fields = Ordinals::new(alloc);

@@ -1,8 +1,8 @@
 //! Closedness: each ordinal that a row names is live.
-ghost use Rattle.std.specs.Prelude.{◌≡◌, ◌<◌, ◌↔◌, ◌∷◌, [], List, ℕ, All, IfOk, IsSomeAnd, IsTrue, length, map, flat_map, slice_get, zip};
-ghost use Rattle.schema_model.specs.Row.{references_of_value};
-ghost use Rattle.schema_model.specs.Table.{IsLiveByName};
-ghost use Rattle.schema_model.specs.Dangling.{AreLive, IsClosedAt, NamesLive, TellsDangling, TellsType};
+ghost use Rattle.std.specs.Prelude.{◌≡◌, ◌<◌, ◌↔◌, ◌&&◌, IfOk, IsSomeAnd, IsTrue, length, slice_get, zip};
+ghost use Rattle.std.specs.List.{list_all};
+ghost use Rattle.schema_model.specs.Row.{references_of_row, references_of_value};
+ghost use Rattle.schema_model.specs.Dangling.{IsClosedAt, TellsDangling, TellsType, are_live, is_live_reference};
 
 use crate::{Field, FieldKind, Name, Row, Rows, Shape, Value};
 use std::alloc::{AllocError, Global};
@@ -47,6 +47,7 @@ fn dangling_in<R: Rows>(alloc: Global, rows: &R, type_index: u32) -> Result<Opti
 }
 
 // Whether the row under an ordinal of a type of this shape names live ordinals alone, if there is such a row.
+#[tactic(auto, using(crate::proofs::Danglings::told_live))]
 fn is_closed_at<R: Rows>(
     alloc: Global,
     rows: &R,
@@ -66,7 +67,7 @@ fn is_closed_at<R: Rows>(
 
 // Whether each ordinal that a row of a type of this shape names is live.
 fn names_live<R: Rows>(rows: &R, shape: &Shape, row: &Row) -> bool
-    ensures { IsTrue result ↔ NamesLive (R.schemas rows.now) (R.table rows.now) shape.now row.now }
+    ensures { result ≡ are_live (R.schemas rows.now) (R.table rows.now) (references_of_row shape.now row.now) }
 {
     match (shape, row) {
         (Shape::Object(_, fields), Row::Object(values)) => {
@@ -87,7 +88,7 @@ fn names_live<R: Rows>(rows: &R, shape: &Shape, row: &Row) -> bool
 
 // Whether the type of this name has a row under the ordinal.
 fn is_named_live<R: Rows>(rows: &R, name: &Name, ordinal: u32) -> bool
-    ensures { IsTrue result ↔ IsLiveByName (R.schemas rows.now) (R.table rows.now) name.now ordinal }
+    ensures { result ≡ is_live_reference (R.schemas rows.now) (R.table rows.now) (name.now, ordinal) }
 {
     match rows.model().index_of(name.text()) {
         Some(type_index) => rows.is_live(type_index, ordinal),
@@ -97,7 +98,7 @@ fn is_named_live<R: Rows>(rows: &R, name: &Name, ordinal: u32) -> bool
 
 // Whether the row that a value of a field names is live, if it names one.
 fn value_live<R: Rows>(rows: &R, kind: &FieldKind, value: &Value) -> bool
-    ensures { IsTrue result ↔ AreLive (R.schemas rows.now) (R.table rows.now) (references_of_value kind.now value.now) }
+    ensures { result ≡ are_live (R.schemas rows.now) (R.table rows.now) (references_of_value kind.now value.now) }
 {
     match (kind, value) {
         (FieldKind::Reference(name), Value::Ref(ordinal)) => is_named_live(rows, name, *ordinal),
@@ -107,49 +108,26 @@ fn value_live<R: Rows>(rows: &R, kind: &FieldKind, value: &Value) -> bool
 
 // The same of each field that has a value.
 fn values_live<R: Rows>(rows: &R, fields: &[Field], values: &[Value]) -> bool
-    ensures { IsTrue result ↔ AreLive (R.schemas rows.now) (R.table rows.now)
-        (flat_map (λ part. references_of_value part.0.kind part.1) (zip fields.now values.now)) }
+    ensures { result ≡ list_all (λ part. are_live (R.schemas rows.now) (R.table rows.now) (references_of_value part.0.kind part.1)) (zip fields.now values.now) }
 {
-    for (place, field) in fields.iter().enumerate() {
-        if place >= values.len() {
-            return true;
-        }
-        if !value_live(rows, &field.kind, &values[place]) {
-            return false;
-        }
-    }
-    true
+    fields
+        .iter()
+        .zip(values)
+        .all(|(field, value)| value_live(rows, &field.kind, value))
 }
 
 // Whether the type of this name has a row under each ordinal.
 fn ordinals_live<R: Rows>(rows: &R, name: &Name, ordinals: &[u32]) -> bool
-    ensures { IsTrue result ↔ AreLive (R.schemas rows.now) (R.table rows.now)
-        (map (λ ordinal. (name.now, ordinal)) ordinals.now) }
+    ensures { result ≡ list_all (λ ordinal. is_live_reference (R.schemas rows.now) (R.table rows.now) (name.now, ordinal)) ordinals.now }
 {
-    for ordinal in ordinals {
-        if !is_named_live(rows, name, *ordinal) {
-            return false;
-        }
-    }
-    true
+    ordinals
+        .iter()
+        .all(|ordinal| is_named_live(rows, name, *ordinal))
 }
 
 // Whether the types of these names have a row under each key and under each value.
 fn pairs_live<R: Rows>(rows: &R, key: &Name, value: &Name, pairs: &[(u32, u32)]) -> bool
-    ensures { IsTrue result ↔ AreLive (R.schemas rows.now) (R.table rows.now)
-        (flat_map (λ pair. (key.now, pair.0) ∷ (value.now, pair.1) ∷ []) pairs.now) }
+    ensures { result ≡ list_all (λ pair. is_live_reference (R.schemas rows.now) (R.table rows.now) (key.now, pair.0) && is_live_reference (R.schemas rows.now) (R.table rows.now) (value.now, pair.1)) pairs.now }
 {
-    for pair in pairs {
-        if !pair_live(rows, key, value, *pair) {
-            return false;
-        }
-    }
-    true
-}
-
-// Whether the types of these names have a row under the key and under the value.
-fn pair_live<R: Rows>(rows: &R, key: &Name, value: &Name, pair: (u32, u32)) -> bool
-    ensures { IsTrue result ↔ AreLive (R.schemas rows.now) (R.table rows.now) ((key.now, pair.0) ∷ (value.now, pair.1) ∷ []) }
-{
-    is_named_live(rows, key, pair.0) && is_named_live(rows, value, pair.1)
+    pairs.iter().all(|pair| is_named_live(rows, key, pair.0) && is_named_live(rows, value, pair.1))
 }

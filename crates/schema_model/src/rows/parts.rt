@@ -37,11 +37,9 @@ pub trait Parts {
 pub fn area_size(areas: &Areas, field: u32) -> u64
     ensures { result ≡ length (area_of areas.now field) }
 {
-    let field = field as usize;
-    if field < areas.len() {
-        areas.get(field).len() as u64
-    } else {
-        0
+    match areas.as_slice().get(field as usize) {
+        Some(area) => area.len() as u64,
+        None => 0,
     }
 }
 
@@ -50,7 +48,8 @@ pub fn area_byte(areas: &Areas, field: u32, at: u64) -> u8
     requires { at < length (area_of areas.now field) }
     ensures { result ≡ slice_index (area_of areas.now field) at }
 {
-    *areas.get(field as usize).get(at as usize)
+    let area = areas.get(field as usize);
+    *area.get(at as usize)
 }
 
 impl Parts for Packed {

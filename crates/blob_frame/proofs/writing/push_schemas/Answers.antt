@@ -14,29 +14,29 @@ pub put_schema-requires : goal.put_schema-requires
 put_schema-requires c =
     let model = c.args.model.now in
     let s = c.schema.result.now in
-    let i = c.loop-t.t-index in
+    let i = c.loop-type_index.type_index-index in
     let there : slice_get model (get_or c.args.types.now i 0) ≡ Some s =
     subst (λ (ts : List ℕ). slice_get model (get_or ts i 0) ≡ Some s) c.as_slice-indexes.ensures c.schema.ensures.value in
     c.spellable_model.ensures model (get_or c.args.types.now i 0) s c.schema.ensures.model there
     (few_keys model c.args.types.now i s (omega (arith, ap (λ (ts : List ℕ). length ts) c.as_slice-indexes.ensures)) there c.requires.short)
 
-pub loop-t-preserved : goal.loop-t-preserved
-loop-t-preserved c =
+pub loop-type_index-preserved : goal.loop-type_index-preserved
+loop-type_index-preserved c =
     let model = c.args.model.now in
     let s = c.schema.result.now in
-    let i = c.loop-t.t-index in
+    let i = c.loop-type_index.type_index-index in
     let indexes = c.as_slice-indexes.result.now in
     let number = varint_bytes (length c.args.types.now) in
-    c.in_ok-put_schema.ensures.ok ∙ (ap (λ (xs : List ℕ). xs ++ schema_bytes s) c.loop-t.invariant
+    c.in_ok-put_schema.ensures.ok ∙ (ap (λ (xs : List ℕ). xs ++ schema_bytes s) c.loop-type_index.invariant
     ∙ (append_assoc number (flat_map schema_bytes (schemas_at model (take i indexes))) (schema_bytes s)
     ∙ ap (λ (xs : List ℕ). number ++ xs) (sym (listed_more model indexes i s (omega arith) c.schema.ensures.value))))
 
 pub returns : goal.returns
 returns c =
     let model = c.args.model.now in
-    let whole : take c.loop-t.t-index c.as_slice-indexes.result.now ≡ c.args.types.now =
-    take_all c.loop-t.t-index c.as_slice-indexes.result.now (omega arith) ∙ c.as_slice-indexes.ensures in
+    let whole : take c.loop-type_index.type_index-index c.as_slice-indexes.result.now ≡ c.args.types.now =
+    take_all c.loop-type_index.type_index-index c.as_slice-indexes.result.now (omega arith) ∙ c.as_slice-indexes.ensures in
     record {
-      ok = c.loop-t.invariant ∙ (ap (λ (ts : List ℕ). varint_bytes (length c.args.types.now) ++ flat_map schema_bytes (schemas_at model ts)) whole
+      ok = c.loop-type_index.invariant ∙ (ap (λ (ts : List ℕ). varint_bytes (length c.args.types.now) ++ flat_map schema_bytes (schemas_at model ts)) whole
           ∙ listed_whole model c.args.types.now c.requires.in_model);
     }

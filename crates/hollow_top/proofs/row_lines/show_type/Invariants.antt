@@ -2,7 +2,7 @@ use Rattle.std.proofs.Common.{◌≤◌}
 use Rattle.hollow_top.proofs.Walks.{AreShownBelow}
 use Rattle.hollow_top.proofs.row_lines.show_type.Given as goal
 
-abbrev pub invariant-loop-o : goal.invariant-loop-o
-invariant-loop-o g l =
-    AreShownBelow (g.R.Rows.schemas l.rows) (g.R.Rows.table l.rows) l.t (g.O.Sink.taken l.initial.out) l.o (g.O.Sink.taken l.out)
+abbrev pub invariant-loop-ordinal : goal.invariant-loop-ordinal
+invariant-loop-ordinal g l =
+    AreShownBelow (g.R.Rows.schemas l.rows) (g.R.Rows.table l.rows) l.type_index (g.O.Sink.taken l.initial.out) l.ordinal (g.O.Sink.taken l.out)
     × (g.O.Sink.faults l.initial.out ≤ g.O.Sink.faults l.out)

@@ -21,14 +21,14 @@ returns-in_err-check_names c =
     let passed2 : Passed schemas 2 = passed_more schemas LongName 1 refl passed1 c.in_ok-check_lengths.ensures in
     exit_told c.from_residual-in_err-check_names.result c.in_err-check_names.field-0.0 _ _ c.from_residual-in_err-check_names.ensures.1 (fault_told schemas DuplicateName c.in_err-check_names.field-0.0 passed2 c.in_err-check_names.ensures)
 
-pub returns-in_err-rows : goal.returns-in_err-rows
-returns-in_err-rows c =
+pub returns-in_err-graph : goal.returns-in_err-graph
+returns-in_err-graph c =
     let schemas = c.args.schemas.now in
     let passed1 : Passed schemas 1 = passed_more schemas TooMany 0 refl (passed_none schemas) c.in_ok-check_sizes.ensures.tells in
     let passed2 : Passed schemas 2 = passed_more schemas LongName 1 refl passed1 c.in_ok-check_lengths.ensures in
     let passed3 : Passed schemas 3 = passed_more schemas DuplicateName 2 refl passed2 c.in_ok-check_names.ensures in
     let passed4 : Passed schemas 4 = passed_more schemas FloatField 3 refl passed3 (λ t breaks. breaks.2) in
-    exit_told c.from_residual-in_err-rows.result c.in_err-rows.field-0.0 _ _ c.from_residual-in_err-rows.ensures.1 (fault_told schemas UnknownType c.in_err-rows.field-0.0 passed4 c.in_err-rows.ensures.tells)
+    exit_told c.from_residual-in_err-graph.result c.in_err-graph.field-0.0 _ _ c.from_residual-in_err-graph.ensures.1 (fault_told schemas UnknownType c.in_err-graph.field-0.0 passed4 c.in_err-graph.ensures.tells)
 
 pub returns-in_err-check_cycles : goal.returns-in_err-check_cycles
 returns-in_err-check_cycles c =
@@ -37,7 +37,7 @@ returns-in_err-check_cycles c =
     let passed2 : Passed schemas 2 = passed_more schemas LongName 1 refl passed1 c.in_ok-check_lengths.ensures in
     let passed3 : Passed schemas 3 = passed_more schemas DuplicateName 2 refl passed2 c.in_ok-check_names.ensures in
     let passed4 : Passed schemas 4 = passed_more schemas FloatField 3 refl passed3 (λ t breaks. breaks.2) in
-    let passed5 : Passed schemas 5 = passed_more schemas UnknownType 4 refl passed4 c.in_ok-rows.ensures.tells in
+    let passed5 : Passed schemas 5 = passed_more schemas UnknownType 4 refl passed4 c.in_ok-graph.ensures.tells in
     exit_told c.from_residual-in_err-check_cycles.result c.in_err-check_cycles.field-0.0 _ _ c.from_residual-in_err-check_cycles.ensures.1 (fault_told schemas CyclicModel c.in_err-check_cycles.field-0.0 passed5 c.in_err-check_cycles.ensures)
 
 pub returns-in_err-check_depth : goal.returns-in_err-check_depth
@@ -47,7 +47,7 @@ returns-in_err-check_depth c =
     let passed2 : Passed schemas 2 = passed_more schemas LongName 1 refl passed1 c.in_ok-check_lengths.ensures in
     let passed3 : Passed schemas 3 = passed_more schemas DuplicateName 2 refl passed2 c.in_ok-check_names.ensures in
     let passed4 : Passed schemas 4 = passed_more schemas FloatField 3 refl passed3 (λ t breaks. breaks.2) in
-    let passed5 : Passed schemas 5 = passed_more schemas UnknownType 4 refl passed4 c.in_ok-rows.ensures.tells in
+    let passed5 : Passed schemas 5 = passed_more schemas UnknownType 4 refl passed4 c.in_ok-graph.ensures.tells in
     let passed6 : Passed schemas 6 = passed_more schemas CyclicModel 5 refl passed5 c.in_ok-check_cycles.ensures in
     exit_told c.from_residual-in_err-check_depth.result c.in_err-check_depth.field-0.0 _ _ c.from_residual-in_err-check_depth.ensures.1 (fault_told schemas TooDeep c.in_err-check_depth.field-0.0 passed6 c.in_err-check_depth.ensures)
 
@@ -58,7 +58,7 @@ returns-in_err-check_keys c =
     let passed2 : Passed schemas 2 = passed_more schemas LongName 1 refl passed1 c.in_ok-check_lengths.ensures in
     let passed3 : Passed schemas 3 = passed_more schemas DuplicateName 2 refl passed2 c.in_ok-check_names.ensures in
     let passed4 : Passed schemas 4 = passed_more schemas FloatField 3 refl passed3 (λ t breaks. breaks.2) in
-    let passed5 : Passed schemas 5 = passed_more schemas UnknownType 4 refl passed4 c.in_ok-rows.ensures.tells in
+    let passed5 : Passed schemas 5 = passed_more schemas UnknownType 4 refl passed4 c.in_ok-graph.ensures.tells in
     let passed6 : Passed schemas 6 = passed_more schemas CyclicModel 5 refl passed5 c.in_ok-check_cycles.ensures in
     let passed7 : Passed schemas 7 = passed_more schemas TooDeep 6 refl passed6 c.in_ok-check_depth.ensures in
     exit_told c.from_residual-in_err-check_keys.result c.in_err-check_keys.field-0.0 _ _ c.from_residual-in_err-check_keys.ensures.1 (fault_told schemas BadPath c.in_err-check_keys.field-0.0 passed7 c.in_err-check_keys.ensures)
@@ -70,7 +70,7 @@ returns c =
     let passed2 : Passed schemas 2 = passed_more schemas LongName 1 refl passed1 c.in_ok-check_lengths.ensures in
     let passed3 : Passed schemas 3 = passed_more schemas DuplicateName 2 refl passed2 c.in_ok-check_names.ensures in
     let passed4 : Passed schemas 4 = passed_more schemas FloatField 3 refl passed3 (λ t breaks. breaks.2) in
-    let passed5 : Passed schemas 5 = passed_more schemas UnknownType 4 refl passed4 c.in_ok-rows.ensures.tells in
+    let passed5 : Passed schemas 5 = passed_more schemas UnknownType 4 refl passed4 c.in_ok-graph.ensures.tells in
     let passed6 : Passed schemas 6 = passed_more schemas CyclicModel 5 refl passed5 c.in_ok-check_cycles.ensures in
     let passed7 : Passed schemas 7 = passed_more schemas TooDeep 6 refl passed6 c.in_ok-check_depth.ensures in
     let passed8 : Passed schemas 8 = passed_more schemas BadPath 7 refl passed7 c.in_ok-check_keys.ensures in

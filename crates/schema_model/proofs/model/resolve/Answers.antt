@@ -7,14 +7,9 @@ use Rattle.schema_model.specs.declared.schema.Schema.{Schema}
 use Rattle.schema_model.proofs.Ways.{path_found, path_missing, path_exit}
 use Rattle.schema_model.proofs.model.resolve.Goals as goal
 
-pub way_of-requires-clause-few : goal.way_of-requires-clause-few
-way_of-requires-clause-few c = c.model.invariant.0 TooMany
-
-pub way_of-requires-clause-apart : goal.way_of-requires-clause-apart
-way_of-requires-clause-apart c = c.model.invariant.0 DuplicateName
-
-pub way_of-requires-clause-shallow : goal.way_of-requires-clause-shallow
-way_of-requires-clause-shallow c = c.model.invariant.0 TooDeep
+pub way_of-requires-clause-ready : goal.way_of-requires-clause-ready
+way_of-requires-clause-ready c =
+    record { indexed = c.model.invariant.1; few = c.model.invariant.0 TooMany; apart = c.model.invariant.0 DuplicateName; shallow = c.model.invariant.0 TooDeep }
 
 pub returns-in_err-fields : goal.returns-in_err-fields
 returns-in_err-fields c =

@@ -1,4 +1,4 @@
-use Rattle.snapshot_blob.specs.Body.{body, snapshot}
+use Rattle.snapshot_blob.specs.Parts.{body, snapshot}
 use Rattle.snapshot_blob.proofs.laws.one_body.Goals as goal
 
 pub returns : goal.returns

@@ -1,4 +1,4 @@
-use Rattle.snapshot_blob.proofs.Accepting.{one_snapshot}
+use Rattle.snapshot_blob.proofs.Whole.{one_snapshot}
 use Rattle.snapshot_blob.proofs.laws.one_snapshot.Goals as goal
 
 pub returns : goal.returns

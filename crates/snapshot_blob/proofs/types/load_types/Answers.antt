@@ -1,27 +1,41 @@
-use Rattle.std.proofs.Common.{rules, arith, List, subst}
-use Rattle.std.specs.List.{AllZip}
-use Rattle.std.proofs.lemmas.List.{take_all}
+use Rattle.std.proofs.Common.{◌≡◌, ◌∙◌, [], List, length, ap, sym, subst, refl, rules, arith}
+use Rattle.std.specs.List.{All, AllZip}
+use Rattle.std.specs.Vec.Iter.{into_iter_items}
 use Rattle.schema_model.specs.Table.{RowMap}
 use Rattle.type_state.specs.State.{State}
+use Rattle.type_state.specs.WellFormed.{IsReadable}
 use Rattle.snapshot_blob.specs.declared.part.TypePart.{TypePart}
-use Rattle.snapshot_blob.specs.Types.{IsLoadedFrom, LoadsPart}
-use Rattle.snapshot_blob.proofs.PartLists.{states_none, states_more}
-use Rattle.snapshot_blob.proofs.TypeRefusals.{part_loads, refused, refusal}
+use Rattle.snapshot_blob.specs.Stated.{IsLoadedFrom, LoadsPart}
+use Rattle.snapshot_blob.proofs.Loading.{parts_are, one_taken, states_more, all_taken}
+use Rattle.snapshot_blob.proofs.Refusals.{part_loads, refusal}
+use Rattle.snapshot_blob.proofs.Zipped.{all_middle}
 use Rattle.snapshot_blob.proofs.types.load_types.Goals as goal
 
 pub loop-part-init : goal.loop-part-init
-loop-part-init c = states_none c.args.parts.now c.new-states.result c.new-states.ensures
+loop-part-init c = record { parts = refl; long = search rules; loaded = subst (λ (states : List State). AllZip IsLoadedFrom [] states) (sym c.new-states.ensures) tt }
+
+pub load_type-requires : goal.load_type-requires
+load_type-requires c =
+    let are = parts_are c.loop-part.yielded c.in-Some.ensures.steps.0 c.loop-part.invariant.parts c.into_iter-part-iterator.ensures.into_iter_gives.0 c.into_vec-part-items.ensures in
+    let Readable : TypePart → Type 0 = λ part. IsReadable part.schema.shape part.section in
+    all_middle Readable c.loop-part.yielded c.in-Some.part (into_iter_items c.next.new.self) (subst (λ (parts : List TypePart). All Readable parts) (sym are) c.requires)
 
 pub returns-in_err-load_type : goal.returns-in_err-load_type
 returns-in_err-load_type c =
-    refusal (List State) ((rows : List RowMap) × AllZip LoadsPart c.args.parts.now rows) (λ states. AllZip IsLoadedFrom c.args.parts.now states) c.from_residual.result c.in_err-load_type.field-0.0 (search rules)
-    (refused ((rows : RowMap) × LoadsPart c.part-item.result rows) ((rows : List RowMap) × AllZip LoadsPart c.args.parts.now rows)
-    (part_loads c.args.parts.now c.loop-part.part-index c.part-item.result (omega arith) c.part-item.is) c.in_err-load_type.field-0.0 c.in_err-load_type.ensures)
+    let are = parts_are c.loop-part.yielded c.in-Some.ensures.steps.0 c.loop-part.invariant.parts c.into_iter-part-iterator.ensures.into_iter_gives.0 c.into_vec-part-items.ensures in
+    refusal (List State) ((rows : RowMap) × LoadsPart c.in-Some.part rows) ((rows : List RowMap) × AllZip LoadsPart c.args.parts rows) (λ states. AllZip IsLoadedFrom c.args.parts states)
+    (part_loads c.args.parts c.loop-part.yielded c.in-Some.part (into_iter_items c.next.new.self) are) c.from_residual.result c.in_err-load_type.field-0.0 (search rules) c.in_err-load_type.ensures
 
 pub loop-part-preserved : goal.loop-part-preserved
-loop-part-preserved c =
-    states_more c.args.parts.now c.loop-part.part-index c.part-item.result c.loop-part.states c.push.new.self c.in_ok-load_type.field-0 (omega arith) c.part-item.is
-    c.loop-part.invariant c.in_ok-load_type.ensures c.in_ok-push.ensures.ok
+loop-part-preserved c = record {
+  parts = one_taken c.loop-part.yielded (into_iter_items c.next.new.self) c.in-Some.ensures.steps.0 c.loop-part.invariant.parts;
+  long = let was = c.loop-part.invariant.long in let gone = c.in-Some.ensures.steps.1 in let short = ap length c.in-Some.ensures.steps.0 in omega arith;
+  loaded = states_more c.loop-part.yielded c.in-Some.part c.loop-part.states c.push.new.self c.in_ok-load_type.field-0 c.loop-part.invariant.loaded c.in_ok-load_type.ensures c.in_ok-push.ensures.ok;
+}
 
 pub returns : goal.returns
-returns c = subst (λ (parts : List TypePart). AllZip IsLoadedFrom parts c.loop-part.states) (take_all c.loop-part.part-index c.args.parts.now (omega arith)) c.loop-part.invariant
+returns c =
+    let done : c.loop-part.yielded ≡ c.args.parts =
+    all_taken c.loop-part.yielded (into_iter_items c.loop-part.part-iterator) c.args.parts
+    (c.loop-part.invariant.parts ∙ c.into_iter-part-iterator.ensures.into_iter_gives.0 ∙ c.into_vec-part-items.ensures) (sym c.loop-part.invariant.long ∙ c.in-None.ensures.steps.0) in
+    subst (λ (parts : List TypePart). AllZip IsLoadedFrom parts c.loop-part.states) done c.loop-part.invariant.loaded

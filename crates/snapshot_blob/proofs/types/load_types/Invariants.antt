@@ -1,7 +1,12 @@
-use Rattle.std.proofs.Common.{take}
+use Rattle.std.proofs.Common.{◌≡◌, ◌++◌, length}
 use Rattle.std.specs.List.{AllZip}
-use Rattle.snapshot_blob.specs.Types.{IsLoadedFrom}
+use Rattle.std.specs.Vec.Iter.{into_iter_items, into_iter_len}
+use Rattle.snapshot_blob.specs.Stated.{IsLoadedFrom}
 use Rattle.snapshot_blob.proofs.types.load_types.Given as goal
 
 abbrev pub invariant-loop-part : goal.invariant-loop-part
-invariant-loop-part l = AllZip IsLoadedFrom (take l.part-index l.parts) l.states
+invariant-loop-part l = record {
+  parts : l.yielded ++ into_iter_items l.part-iterator ≡ into_iter_items l.initial.part-iterator;
+  long : into_iter_len l.part-iterator ≡ length (into_iter_items l.part-iterator);
+  loaded : AllZip IsLoadedFrom l.yielded l.states;
+}

@@ -1,5 +1,5 @@
 use Rattle.std.proofs.Common.{◌≡◌, take}
-use Rattle.snapshot_blob.specs.Types.{schemas_of}
+use Rattle.snapshot_blob.specs.Stated.{schemas_of}
 use Rattle.snapshot_blob.proofs.types.model_of_parts.Given as goal
 
 abbrev pub invariant-loop-part : goal.invariant-loop-part

@@ -1,26 +1,61 @@
-use Rattle.std.proofs.Common.{rules, arith, refl}
-use Rattle.type_state.specs.Loads.{IsSpelledIn}
-use Rattle.type_state.proofs.Reading.{read_on}
+use Rattle.std.proofs.Common.{rules, arith, refl, ap, sym, subst, ◌∙◌, ◌≤◌, ℕ, List, length}
+use Rattle.std.specs.Prelude.{slice_index}
+use Rattle.std.specs.FinMap.{entries}
+use Rattle.type_state.specs.Layout.{Layout}
+use Rattle.type_state.specs.Loads.{IsSpelledIn, RefusesRows}
+use Rattle.type_state.proofs.Entries.{no_entry}
+use Rattle.type_state.proofs.Places.{widths_long, narrow}
+use Rattle.type_state.proofs.Reading.{begun, read_on, next_above}
 use Rattle.type_state.proofs.Loading.{row_refused, has_values, misfit_rows, heavy_rows}
 use Rattle.type_state.proofs.load.read_listed.Goals as goal
 
-pub returns-in-Err : goal.returns-in-Err
-returns-in-Err c = row_refused c.args.schema.now.shape c.args.section.now c.args.live.now c.loop-o.o-index c.in-Err.fault c.requires.live (omega arith) c.in-Err.ensures
+pub loop-ordinal-init : goal.loop-ordinal-init
+loop-ordinal-init c =
+    let laid : List ℕ → Layout = λ widths. record { max = c.args.section.now.max; widths = widths } in
+    record {
+      read =
+          begun (IsSpelledIn c.args.schema.now.shape c.args.section.now) c.fields-fields.result.now c.args.section.now.widths c.args.live.now (entries c.new-half.result.rows) c.args.ends.now
+          (ap (λ half. entries half.rows) c.new-half.ensures ∙ no_entry) c.requires.zero (c.requires.long ∙ ap length (sym c.fields-fields.ensures));
+      layout = ap (λ half. half.layout) c.new-half.ensures ∙ ap laid c.in_ok-copy.ensures;
+    }
+
+pub returns-in_err-row-clause-read : goal.returns-in_err-row-clause-read
+returns-in_err-row-clause-read c =
+    let told : RefusesRows c.args.schema.now.shape c.args.section.now c.in_err-row.field-0.0 =
+    row_refused c.args.schema.now.shape c.args.section.now c.args.live.now c.loop-ordinal.ordinal-index c.in_err-row.field-0.0 c.requires.live (omega arith) c.in_err-row.ensures.row in
+    search rules
+
+pub add_row-requires-clause-widths : goal.add_row-requires-clause-widths
+add_row-requires-clause-widths c =
+    ap length c.as_slice-widths.ensures ∙ widths_long c.args.schema.now.shape c.args.section.now c.requires.readable ∙ ap length (sym c.fields-fields.ensures)
+
+pub add_row-requires-clause-narrow : goal.add_row-requires-clause-narrow
+add_row-requires-clause-narrow c =
+    λ f. subst (λ widths. slice_index widths f ≤ 64) (sym c.as_slice-widths.ensures) (narrow c.args.schema.now.shape c.args.section.now c.requires.readable f)
 
 pub add_row-requires-clause-values : goal.add_row-requires-clause-values
-add_row-requires-clause-values c = has_values c.args.schema.now.shape c.args.section.now c.fields_of-fields.result.now _ c.in-Ok.row c.fields_of-fields.ensures c.in-Ok.ensures
+add_row-requires-clause-values c = has_values c.args.schema.now.shape c.args.section.now c.fields-fields.result.now _ c.in_ok-row.row c.fields-fields.ensures c.in_ok-row.ensures.row
 
-pub returns-then-not-add_row : goal.returns-then-not-add_row
-returns-then-not-add_row c =
-    misfit_rows c.args.schema.now.shape c.args.section.now c.fields_of-fields.result.now c.args.live.now c.loop-o.o-index c.loop-o.rows.entries c.loop-o.ends c.loop-o.bytes c.in-Ok.row
-    c.fields_of-fields.ensures c.requires.live c.loop-o.invariant (omega arith) c.in-Ok.ensures (search rules)
+pub returns-then-not-add_row-clause-read : goal.returns-then-not-add_row-clause-read
+returns-then-not-add_row-clause-read c =
+    misfit_rows c.args.schema.now.shape c.args.section.now c.fields-fields.result.now c.args.live.now c.loop-ordinal.ordinal-index (entries c.loop-ordinal.half.rows) c.loop-ordinal.ends c.loop-ordinal.bytes
+    c.in_ok-row.row c.fields-fields.ensures c.requires.live c.loop-ordinal.invariant.read (omega arith) c.in_ok-row.ensures.row (search rules)
 
-pub returns-then-bytes-gt33554432 : goal.returns-then-bytes-gt33554432
-returns-then-bytes-gt33554432 c =
-    heavy_rows c.args.schema.now.shape c.args.section.now c.fields_of-fields.result.now c.args.live.now c.loop-o.o-index c.loop-o.rows.entries c.loop-o.ends c.loop-o.bytes c.saturating_add-bytes.result c.in-Ok.row
-    c.requires.live c.loop-o.invariant (omega arith) c.in-Ok.ensures (omega arith) (omega (arith, c.row_len.ensures))
+pub returns-then-bytes-gt-MAX_BYTES-clause-read : goal.returns-then-bytes-gt-MAX_BYTES-clause-read
+returns-then-bytes-gt-MAX_BYTES-clause-read c =
+    heavy_rows c.args.schema.now.shape c.args.section.now c.fields-fields.result.now c.args.live.now c.loop-ordinal.ordinal-index (entries c.loop-ordinal.half.rows) c.loop-ordinal.ends c.loop-ordinal.bytes
+    c.saturating_add-bytes.result c.in_ok-row.row c.requires.live c.loop-ordinal.invariant.read (omega arith) c.in_ok-row.ensures.row (omega arith) (omega (arith, c.row_len.ensures))
 
-pub loop-o-preserved : goal.loop-o-preserved
-loop-o-preserved c =
-    read_on (IsSpelledIn c.args.schema.now.shape c.args.section.now) c.fields_of-fields.result.now c.args.section.now.widths c.args.live.now c.loop-o.o-index c.loop-o.rows.entries c.insert.new.self.entries c.loop-o.ends c.add_row.new.ends
-    c.loop-o.bytes c.saturating_add-bytes.result _ c.in-Ok.row c.loop-o.invariant (omega arith) refl c.in-Ok.ensures c.requires.rising (search rules) (search rules) (search rules) (omega (arith, c.row_len.ensures)) (omega arith) (search rules)
+pub push-requires-clause-above : goal.push-requires-clause-above
+push-requires-clause-above c =
+    next_above (IsSpelledIn c.args.schema.now.shape c.args.section.now) c.fields-fields.result.now c.args.section.now.widths c.args.live.now c.loop-ordinal.ordinal-index (entries c.loop-ordinal.half.rows)
+    c.loop-ordinal.ends c.loop-ordinal.bytes _ c.loop-ordinal.invariant.read (omega arith) refl c.requires.rising
+
+pub loop-ordinal-preserved : goal.loop-ordinal-preserved
+loop-ordinal-preserved c = record {
+  read =
+      read_on (IsSpelledIn c.args.schema.now.shape c.args.section.now) c.fields-fields.result.now c.args.section.now.widths c.args.live.now c.loop-ordinal.ordinal-index (entries c.loop-ordinal.half.rows)
+      (entries c.push.new.self.rows) c.loop-ordinal.ends c.add_row.new.ends c.loop-ordinal.bytes c.saturating_add-bytes.result _ c.in_ok-row.row c.loop-ordinal.invariant.read (omega arith) refl c.in_ok-row.ensures.row
+      (search rules) (search rules) (search rules) (omega (arith, c.row_len.ensures)) (omega arith) c.in_ok-push.ensures.rows;
+  layout = c.in_ok-push.ensures.layout ∙ c.loop-ordinal.invariant.layout;
+}

@@ -1,6 +1,11 @@
-use Rattle.type_state.specs.Loads.{IsSpelledIn}
+use Rattle.std.specs.FinMap.{entries}
 use Rattle.type_state.proofs.Reading.{Progress}
+use Rattle.type_state.specs.Loads.{IsSpelledIn, layout_of}
+use Rattle.std.proofs.Common.{◌≡◌}
 use Rattle.type_state.proofs.load.read_listed.Given as goal
 
-abbrev pub invariant-loop-o : goal.invariant-loop-o
-invariant-loop-o l = Progress (IsSpelledIn l.schema.shape l.section) l.fields l.section.widths l.live l.o-index l.rows.entries l.ends l.bytes
+abbrev pub invariant-loop-ordinal : goal.invariant-loop-ordinal
+invariant-loop-ordinal l = record {
+  read : Progress (IsSpelledIn l.schema.shape l.section) l.fields l.section.widths l.live l.ordinal-index (entries l.half.rows) l.ends l.bytes;
+  layout : l.half.layout ≡ layout_of l.section;
+}

@@ -1,10 +1,10 @@
 use Rattle.std.proofs.Common.{rules, sym, ap, ◌∙◌, ℕ, List, ◌∷◌, [], get_or}
 use Rattle.std.specs.Int.{w16, from_be_bytes}
-use Rattle.blob_frame.proofs.Fixed.{reads_fixed, reads_short, first_two}
+use Rattle.blob_frame.proofs.Fixed.{reads_fixed, reads_no_fixed, first_two}
 use Rattle.blob_frame.proofs.cursor.Cursor.be16.Goals as goal
 
 pub returns-in_err-need-clause-reads : goal.returns-in_err-need-clause-reads
-returns-in_err-need-clause-reads g c = reads_short w16 c.in_err-need.ensures.needs (search rules)
+returns-in_err-need-clause-reads g c = reads_no_fixed w16 c.in_err-need.ensures.needs (search rules)
 
 pub returns-clause-reads : goal.returns-clause-reads
 returns-clause-reads g c =

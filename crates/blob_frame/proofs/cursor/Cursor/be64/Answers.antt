@@ -1,10 +1,10 @@
 use Rattle.std.proofs.Common.{rules, sym, ap, ◌∙◌, ℕ, List, ◌∷◌, [], get_or}
 use Rattle.std.specs.Int.{w64, from_be_bytes}
-use Rattle.blob_frame.proofs.Fixed.{reads_fixed, reads_short, first_eight}
+use Rattle.blob_frame.proofs.Fixed.{reads_fixed, reads_no_fixed, first_eight}
 use Rattle.blob_frame.proofs.cursor.Cursor.be64.Goals as goal
 
 pub returns-in_err-need-clause-reads : goal.returns-in_err-need-clause-reads
-returns-in_err-need-clause-reads g c = reads_short w64 c.in_err-need.ensures.needs (search rules)
+returns-in_err-need-clause-reads g c = reads_no_fixed w64 c.in_err-need.ensures.needs (search rules)
 
 pub returns-clause-reads : goal.returns-clause-reads
 returns-clause-reads g c =

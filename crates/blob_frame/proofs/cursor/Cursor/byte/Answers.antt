@@ -1,10 +1,10 @@
 use Rattle.std.proofs.Common.{rules}
 use Rattle.std.specs.Int.{w8}
-use Rattle.blob_frame.proofs.Fixed.{reads_fixed, reads_short, value_one}
+use Rattle.blob_frame.proofs.Fixed.{reads_fixed, reads_no_fixed, value_one}
 use Rattle.blob_frame.proofs.cursor.Cursor.byte.Goals as goal
 
 pub returns-in_err-need-clause-reads : goal.returns-in_err-need-clause-reads
-returns-in_err-need-clause-reads g c = reads_short w8 c.in_err-need.ensures.needs (search rules)
+returns-in_err-need-clause-reads g c = reads_no_fixed w8 c.in_err-need.ensures.needs (search rules)
 
 pub returns-clause-reads : goal.returns-clause-reads
 returns-clause-reads g c =

@@ -1,6 +1,15 @@
+use Rattle.std.proofs.Common.{rules}
 use Rattle.blob_frame.specs.SchemaForm.{field_kind_of}
-use Rattle.blob_frame.proofs.Chain.{reads_nothing}
+use Rattle.blob_frame.proofs.Chain.{reads_made, reads_unmade, reads_nothing}
 use Rattle.blob_frame.proofs.cursor.Cursor.field_kind.Goals as goal
+
+pub returns-in_err-to-in-Reference : goal.returns-in_err-to-in-Reference
+unfolding field_kind_of
+returns-in_err-to-in-Reference g c = record { reads = rw c.in-Reference.is (reads_unmade _ c.in_err-to-in-Reference.ensures.reads (search rules)) }
+
+pub returns-in_ok-to-in-Reference : goal.returns-in_ok-to-in-Reference
+unfolding field_kind_of
+returns-in_ok-to-in-Reference g c = record { reads = rw c.in-Reference.is (reads_made _ c.in_ok-to-in-Reference.ensures.reads (search rules)) }
 
 pub returns-in-Int : goal.returns-in-Int
 unfolding field_kind_of

@@ -1,7 +1,7 @@
 use Rattle.std.proofs.Common.{rules, ap, sym, ◌∙◌, subst, Err, ℕ, List}
 use Rattle.blob_frame.specs.declared.fault.BlobFault.TheVariants.{Bad}
 use Rattle.blob_frame.specs.SchemaForm.{field_type}
-use Rattle.blob_frame.specs.Words.{IsRefusedType}
+use Rattle.blob_grammar.specs.Words.{IsRefusedType}
 use Rattle.blob_frame.proofs.Chain.{reads_judged, reads_unread, reads_refused}
 use Rattle.blob_frame.proofs.cursor.Cursor.field_type.Goals as goal
 

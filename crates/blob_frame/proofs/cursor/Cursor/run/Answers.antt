@@ -1,6 +1,8 @@
 use Rattle.std.proofs.Common.{arith, ap, ◌≤◌, ◌+◌, ℕ, List, length, Err}
 use Rattle.std.proofs.lemmas.Grind.{common_steps}
-use Rattle.blob_frame.proofs.Runs.{gathers_more, gathers_done, reads_cut}
+use Rattle.schema_model.specs.declared.reason.Reason.TheVariants.{Truncated}
+use Rattle.blob_frame.specs.declared.fault.BlobFault.TheVariants.{Bad}
+use Rattle.blob_frame.proofs.Runs.{gathers_start, gathers_more, gathers_done, gathers_gone, reads_cut}
 use Rattle.blob_frame.proofs.cursor.Cursor.run.Goals as goal
 
 pub returns-then-left-count : goal.returns-then-left-count
@@ -13,4 +15,13 @@ loop-self-preserved g c =
     gathers_more c.min-piece.result c.loop-self.invariant c.in_ok-want.ensures.fills here fits c.pass.ensures.moved (grind (arith, common_steps))
 
 pub returns : goal.returns
-returns g c = record { reads = gathers_done c.loop-self.invariant (omega arith) (omega (arith, c.left.ensures)) c.requires.over c.from_vec.ensures }
+returns g c = record { reads = gathers_done c.loop-self.invariant (omega arith) c.from_vec.ensures }
+
+pub loop-self-init : goal.loop-self-init
+loop-self-init g c = gathers_start c.args.count _ c.requires.over c.new-bytes.ensures.items
+
+pub returns-then-piece-eq0 : goal.returns-then-piece-eq0
+returns-then-piece-eq0 g c = record {
+  reads = gathers_gone c.loop-self.invariant c.in_ok-want.ensures.fills (omega (arith, ap (λ (xs : List ℕ). length xs) c.ahead.ensures.value)) (omega arith)
+      (omega (arith, c.left.ensures)) c.requires.over (ap (λ at. Err (Bad at Truncated)) c.at-start.ensures);
+}

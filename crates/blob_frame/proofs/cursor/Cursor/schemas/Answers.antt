@@ -1,12 +1,12 @@
 use Rattle.std.proofs.Common.{rules}
 use Rattle.blob_frame.specs.SchemaForm.{schemas}
-use Rattle.blob_frame.proofs.Chain.{reads_then, reads_stops}
+use Rattle.blob_frame.proofs.Counting.{reads_counted, reads_uncounted}
 use Rattle.blob_frame.proofs.cursor.Cursor.schemas.Goals as goal
 
 pub returns-in_err-count : goal.returns-in_err-count
 unfolding schemas
-returns-in_err-count g c = record { reads = reads_stops _ c.in_err-count.ensures.reads (search rules) }
+returns-in_err-count g c = record { reads = reads_uncounted _ c.in_err-count.ensures.reads (search rules) }
 
 pub returns : goal.returns
 unfolding schemas
-returns g c = record { reads = reads_then _ c.in_ok-count.ensures.reads (c.counted_schemas.ensures.reads) }
+returns g c = record { reads = reads_counted _ c.in_ok-count.ensures.reads c.from.ensures c.counted.ensures.reads }

@@ -5,7 +5,7 @@ use Rattle.schema_model.proofs.model.chains.endless_marks.Given as goal
 
 -- the marks after some rounds
 abbrev pub invariant-loop-marks : goal.invariant-loop-marks
-invariant-loop-marks l = (k : ℕ) × (l.marks.items ≡ chained l.rows k)
+invariant-loop-marks l = (k : ℕ) × (l.marks.items ≡ chained l.graph k)
 
 -- each round takes a mark away
 abbrev pub decreases-loop-marks : goal.decreases-loop-marks

@@ -1,12 +1,19 @@
-use Rattle.std.proofs.Common.{Ok, subst}
+use Rattle.std.proofs.Common.{Ok, subst, sym}
 use Rattle.hol_varint.specs.Yields.{Yields}
 use Rattle.schema_model.specs.Table.{RowMap}
-use Rattle.type_state.specs.State.{State, rows_of}
+use Rattle.type_state.specs.State.{State}
 use Rattle.type_state.specs.Loads.{IsFreeRow, Loads}
+use Rattle.type_state.specs.WellFormed.{IsReadable}
 use Rattle.type_state.proofs.Loading.{exact}
+use Rattle.type_state.proofs.Places.{laid_out}
 use Rattle.type_state.proofs.state.TypeState.load_next.Goals as goal
 
 pub returns-clause-exact : goal.returns-clause-exact
 returns-clause-exact c =
     let Goal : State → Type 0 = λ s. Yields IsFreeRow (Ok tt) (Ok tt) ((some : RowMap) × Loads s.schema.shape c.args.section.now some) in
-    subst Goal c.self.view_is (exact c.self.inside.schema.shape c.args.section.now (rows_of c.in_ok-next.next.rows.entries) (Ok tt) c.in_ok-next.ensures.tells)
+    subst Goal c.self.view_is (exact c.self.inside.schema.shape c.args.section.now c.in_ok-next.next.rows (Ok tt) c.in_ok-next.ensures.tells)
+
+pub returns-clause-laid : goal.returns-clause-laid
+returns-clause-laid c =
+    let readable : IsReadable c.self.inside.schema.shape c.args.section.now = subst (λ s. IsReadable s.schema.shape c.args.section.now) (sym c.self.view_is) c.requires in
+    laid_out c.self.inside.schema c.args.section.now c.in_ok-next.next readable c.in_ok-next.ensures.layout

@@ -1,8 +1,0 @@
-use Rattle.blob_frame.specs.Item.{name}
-use Rattle.blob_frame.specs.Scene.{scene}
-use Rattle.blob_frame.proofs.Counting.{Counts}
-use Rattle.blob_frame.proofs.cursor.Cursor.names.Given as goal
-
-abbrev pub invariant-loop-item : goal.invariant-loop-item
-invariant-loop-item g l = Counts name l.count l._item (scene (g.S.BlobStore.seen l.initial.store) l.initial.self)
-    (scene (g.S.BlobStore.seen l.store) l.self) l.list

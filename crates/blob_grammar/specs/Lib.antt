@@ -1,0 +1,4 @@
+pub mod Decided
+pub mod Deciding
+pub mod Form
+pub mod Words

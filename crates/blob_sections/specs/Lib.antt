@@ -1,0 +1,5 @@
+pub mod Envelope
+pub mod Head
+pub mod Population
+pub mod Section
+pub mod Width

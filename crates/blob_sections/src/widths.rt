@@ -1,0 +1,70 @@
+//! The widths of the parts of a type's rows.
+ghost use Rattle.std.specs.Prelude.{◌↔◌, IfOk, IsTrue};
+ghost use Rattle.std.specs.List.{AllZip};
+ghost use Rattle.object_codec.specs.ObjectPlace.{IsKindWidth};
+ghost use Rattle.type_state.specs.WellFormed.{IsWidth};
+ghost use Rattle.blob_grammar.specs.Form.{each_of};
+ghost use Rattle.blob_frame.specs.Scene.{IsAbove, Leads};
+ghost use Rattle.blob_sections.specs.Width.{field_width};
+
+use blob_frame::{BlobFault, Cursor};
+use hol_io::BlobStore;
+use schema_model::{Field, FieldKind, Reason, Widths};
+
+// Whether a field of a kind may have a width where there are places.
+fn is_kind_width(kind: &FieldKind, width: u32) -> bool
+    ensures { IsTrue result ↔ IsKindWidth kind.now width }
+{
+    match kind {
+        FieldKind::Boolean => width == 2,
+        FieldKind::Text | FieldKind::Bytes => width >= 1,
+        FieldKind::Reference(_) | FieldKind::Int | FieldKind::Long => true,
+    }
+}
+
+// Whether a field of a kind may have a width under this max ordinal.
+fn is_width(max: Option<u32>, kind: &FieldKind, width: u32) -> bool
+    ensures { IsTrue result ↔ IsWidth max kind.now width }
+{
+    match max {
+        Some(_) => width <= 64 && is_kind_width(kind, width),
+        None => width <= 64,
+    }
+}
+
+// The width of a field. `BadWidth` stands at one that the field's kind may not have.
+fn field_width<S: BlobStore>(
+    cursor: &mut Cursor,
+    store: &mut S,
+    max: Option<u32>,
+    kind: &FieldKind,
+) -> Result<u32, BlobFault>
+    requires over { IsAbove S.seen store.old cursor.old }
+    ensures reads { Leads S.seen (field_width max kind.now) store.old cursor.old store.new cursor.new result }
+    ensures whole { IfOk result (IsWidth max kind.now) }
+{
+    let at = cursor.at();
+    let width = cursor.vint(store)?;
+    if !is_width(max, kind, width) {
+        return Err(BlobFault::Bad(at, Reason::BadWidth));
+    }
+    Ok(width)
+}
+
+/// The width of each field.
+pub(crate) fn field_widths<S: BlobStore>(
+    cursor: &mut Cursor,
+    store: &mut S,
+    max: Option<u32>,
+    fields: &[Field],
+) -> Result<Widths, BlobFault>
+    requires over { IsAbove S.seen store.old cursor.old }
+    ensures reads { Leads S.seen (each_of (λ field. field_width max field.kind) fields.now) store.old cursor.old store.new cursor.new result }
+    ensures whole { IfOk result (AllZip (λ field width. IsWidth max field.kind width) fields.now) }
+{
+    let mut widths = Widths::new(cursor.allocator());
+    for field in fields {
+        widths.push(field_width(cursor, store, max, &field.kind)?)?;
+    }
+    Ok(widths)
+}

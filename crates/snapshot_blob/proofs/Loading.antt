@@ -1,0 +1,91 @@
+-- The states that a snapshot's types were loaded into, one after another.
+use Rattle.std.proofs.Common.{◌≡◌, ◌≤◌, ◌<◌, ◌+◌, ℕ, zero, suc, List, [], ◌∷◌, ◌++◌, Some, length, get_or, take, map, sym, ◌∙◌, ap, subst, append_assoc, append-nil, arith}
+use Rattle.std.specs.FinMap.{get}
+use Rattle.std.specs.List.{AllZip}
+use Rattle.std.proofs.lemmas.List.{take_more, take_all, map-append, length-map}
+use Rattle.std.proofs.lemmas.Slice.Zip.{all_zipped_more}
+use Rattle.schema_model.specs.declared.schema.Schema.{Schema}
+use Rattle.schema_model.specs.declared.rows.row.Row.{Row}
+use Rattle.schema_model.specs.Model.{IsModel}
+use Rattle.schema_model.specs.Row.{FitsShape, IsRowInRange}
+use Rattle.schema_model.specs.Table.{EachRow, IsClosed}
+use Rattle.type_state.specs.State.{State, IsLaidOut, empty_half}
+use Rattle.type_state.specs.Views.{AreNext, next_halves, table_of}
+use Rattle.type_state.proofs.SectionRows.{rows_fit, rows_range}
+use Rattle.snapshot_blob.specs.declared.part.TypePart.{TypePart}
+use Rattle.snapshot_blob.specs.Body.{IsWholeBody}
+use Rattle.snapshot_blob.specs.Stated.{AreAccepted, IsLoadedFrom, KeepsTypeLimits, TypeIs, schemas_of}
+use Rattle.snapshot_blob.proofs.Zipped.{zip_right, zip_second, zip_alike}
+
+-- a copy of its schema is one schema more
+pub schemas_more : (parts : List TypePart) (place : ℕ) (part : TypePart) (schemas all : List Schema) (copy : Schema) → place < length parts → part ≡ get_or parts place part
+    → schemas ≡ schemas_of (take place parts) → copy ≡ part.schema → all ≡ schemas ++ copy ∷ [] → all ≡ schemas_of (take (place + 1) parts)
+schemas_more parts place part schemas all copy inside is before same pushed =
+    let joined : schemas ++ copy ∷ [] ≡ schemas_of (take place parts) ++ part.schema ∷ [] = λ i. before i ++ same i ∷ [] in
+    let next : take (place + 1) parts ≡ take place parts ++ part ∷ [] = take_more parts place part inside ∙ ap (λ (p : TypePart). take place parts ++ p ∷ []) (sym is) in
+    pushed ∙ joined ∙ sym (ap schemas_of next ∙ map-append (λ (p : TypePart). p.schema) (take place parts) (part ∷ []))
+
+-- of all parts
+pub schemas_all : (parts : List TypePart) (place : ℕ) (schemas : List Schema) → length parts ≤ place → schemas ≡ schemas_of (take place parts) → schemas ≡ schemas_of parts
+schemas_all parts place schemas done are = are ∙ ap schemas_of (take_all place parts done)
+
+-- its state is one state more
+pub states_more : (parts : List TypePart) (part : TypePart) (states all : List State) (state : State) → AllZip IsLoadedFrom parts states → IsLoadedFrom part state → all ≡ states ++ state ∷ []
+    → AllZip IsLoadedFrom (parts ++ part ∷ []) all
+states_more parts part states all state before loaded pushed =
+    subst (λ (ss : List State). AllZip IsLoadedFrom (parts ++ part ∷ []) ss) (sym pushed) (all_zipped_more IsLoadedFrom parts states part state before loaded)
+
+-- what holds of each row of a loaded type
+each_row : (Q : Schema → Row → Type 0) → ((part : TypePart) (state : State) (ordinal : ℕ) (row : Row) → IsLoadedFrom part state → get state.other.rows ordinal ≡ Some row → Q part.schema row)
+    → (parts : List TypePart) (states : List State) → AllZip IsLoadedFrom parts states → EachRow (schemas_of parts) (table_of (next_halves states)) Q
+each_row Q each [] states loaded type_index ordinal schema row is at = absurd cc
+each_row Q each (part ∷ parts) [] loaded type_index ordinal schema row is at = absurd loaded
+each_row Q each (part ∷ parts) (state ∷ states) loaded zero ordinal schema row is at =
+    let of : part.schema ≡ schema = cc in subst (λ (s : Schema). Q s row) of (each part state ordinal row loaded.0 at)
+each_row Q each (part ∷ parts) (state ∷ states) loaded (suc type_index) ordinal schema row is at = each_row Q each parts states loaded.1 type_index ordinal schema row is at
+
+-- the next halves are those of the parts' types
+pub loaded_next : (parts : List TypePart) (states : List State) (schemas : List Schema) → schemas ≡ schemas_of parts → AllZip IsLoadedFrom parts states → AreNext schemas states
+loaded_next parts states schemas named loaded =
+    let alike : map (λ (state : State). state.schema) states ≡ schemas_of parts = zip_alike IsLoadedFrom (λ part. part.schema) (λ state. state.schema) (λ part state one. one.schema) parts states loaded in
+    subst (λ (schemas : List Schema). AreNext schemas states) (sym named) (record {
+      named = alike;
+      laid = zip_second IsLoadedFrom (λ state. IsLaidOut state.schema state.other) (λ part state one. one.laid) parts states loaded;
+      fits = record {
+        types = length-map (next_halves states) (λ half. half.rows) ∙ length-map states (λ (state : State). state.other) ∙ sym (length-map states (λ (state : State). state.schema)) ∙ ap length alike;
+        rows = each_row (λ schema row. FitsShape schema.shape row) (λ part state ordinal row one at. rows_fit part.schema.shape part.section state.other.rows ordinal row one.loads.is at) parts states loaded;
+        ranges = each_row (λ schema row. IsRowInRange row) (λ part state ordinal row one at. rows_range part.schema.shape part.section state.other.rows ordinal row one.readable.well one.loads.is at) parts states loaded;
+      };
+    })
+
+pub loaded_types : (parts : List TypePart) (states : List State) → AllZip IsLoadedFrom parts states → AllZip TypeIs parts (next_halves states)
+loaded_types parts states loaded = zip_right IsLoadedFrom IsLoadedFrom TypeIs (λ state. state.other) (λ part state one also. record { layout = one.layout; rows = one.loads.is; held = one.loads.held }) parts states loaded loaded
+
+-- the parts are those of the next halves, within the limits
+pub loaded_accepted : (parts : List TypePart) (states : List State) (schemas : List Schema) → schemas ≡ schemas_of parts → IsModel schemas → AllZip IsLoadedFrom parts states
+    → IsClosed schemas (table_of (next_halves states)) → AreAccepted parts schemas (next_halves states)
+loaded_accepted parts states schemas named model loaded closed = (
+  record { named = sym named; model = model; types = loaded_types parts states loaded; closed = closed },
+  zip_right IsLoadedFrom IsLoadedFrom KeepsTypeLimits (λ state. state.other) (λ part state one also. record { ordinals = one.readable.few; kept = one.loads.within }) parts states loaded loaded,
+)
+
+-- the whole of a body
+pub loaded_whole : (parts : List TypePart) (states : List State) (schemas : List Schema) → schemas ≡ schemas_of parts → AllZip IsLoadedFrom parts states
+    → IsClosed schemas (table_of (next_halves states)) → IsWholeBody (record { model = schemas; states = states })
+loaded_whole parts states schemas named loaded closed = record {
+  next = loaded_next parts states schemas named loaded;
+  closed = closed;
+  current = zip_second IsLoadedFrom (λ state. state.current ≡ empty_half) (λ part state one. one.current) parts states loaded;
+}
+
+-- nothing is left of a list without items
+pub all_taken : (done left all : List TypePart) → done ++ left ≡ all → length left ≡ 0 → done ≡ all
+all_taken done [] all are none = sym (append-nil done) ∙ are
+all_taken done (x ∷ left) all are none = absurd (omega arith)
+
+-- what was taken and what is left are the parts
+pub parts_are : (done : List TypePart) {left rest initial items parts : List TypePart} {part : TypePart} → left ≡ part ∷ rest → done ++ left ≡ initial → initial ≡ items → items ≡ parts → done ++ part ∷ rest ≡ parts
+parts_are done steps at from of = ap (λ (ls : List TypePart). done ++ ls) (sym steps) ∙ at ∙ from ∙ of
+
+pub one_taken : (done rest : List TypePart) {left initial : List TypePart} {part : TypePart} → left ≡ part ∷ rest → done ++ left ≡ initial → (done ++ part ∷ []) ++ rest ≡ initial
+one_taken done rest {part = part} steps at = append_assoc done (part ∷ []) rest ∙ (ap (λ (ls : List TypePart). done ++ ls) (sym steps) ∙ at)

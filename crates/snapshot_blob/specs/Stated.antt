@@ -1,0 +1,82 @@
+-- The state that the types of a snapshot stand for, and when it keeps the limits.
+use Rattle.std.specs.Prelude.{◌≡◌, ◌≤◌, List, map}
+use Rattle.std.specs.List.{AllZip}
+use Rattle.schema_model.specs.declared.limit.Limit.{Limit}
+use Rattle.schema_model.specs.declared.limit.Limit.TheVariants.{Ordinals, Words, Bytes}
+use Rattle.schema_model.specs.declared.schema.Schema.{Schema}
+use Rattle.schema_model.specs.Limit.{number_of_limit}
+use Rattle.schema_model.specs.Model.{IsModel}
+use Rattle.schema_model.specs.Table.{RowMap, IsClosed}
+use Rattle.type_state.specs.State.{Half, State, IsLaidOut, empty_half}
+use Rattle.type_state.specs.Layout.{places_of}
+use Rattle.type_state.specs.Loads.{SectionIs, Loads, layout_of}
+use Rattle.type_state.specs.Holds.{Holds, KeepsLimits}
+use Rattle.type_state.specs.Views.{table_of}
+use Rattle.type_state.specs.WellFormed.{IsReadable}
+use Rattle.blob_frame.specs.declared.fault.BlobFault.{BlobFault}
+use Rattle.blob_frame.specs.declared.fault.BlobFault.TheVariants as fault
+use Rattle.snapshot_blob.specs.declared.part.TypePart.{TypePart}
+
+-- the schemas of the types
+abbrev pub schemas_of : List TypePart → List Schema
+schemas_of parts = map (λ part. part.schema) parts
+
+-- A type's part of the blob is that of this layout and these rows, which the layout holds.
+pub record TypeIs (part : TypePart) (half : Half) : Type 0 where
+  pub layout : half.layout ≡ layout_of part.section
+  pub rows : SectionIs part.schema.shape part.section half.rows
+  pub held : Holds part.schema.shape (layout_of part.section) half.rows
+
+-- The parts are those of this state: their schemas are a model, each type's part is that of its rows, and each ordinal
+-- that a row names is live.
+pub record PartsAre (parts : List TypePart) (schemas : List Schema) (halves : List Half) : Type 0 where
+  pub named : schemas_of parts ≡ schemas
+  pub model : IsModel schemas
+  pub types : AllZip TypeIs parts halves
+  pub closed : IsClosed schemas (table_of halves)
+
+-- The limit on a type's ordinals is kept.
+abbrev pub KeepsOrdinals : TypePart → Type 0
+KeepsOrdinals part = places_of part.section.max ≤ number_of_limit Ordinals
+
+-- The limits on a type's ordinals, and on its words and bytes, are kept.
+pub record KeepsTypeLimits (part : TypePart) (half : Half) : Type 0 where
+  pub ordinals : KeepsOrdinals part
+  pub kept : KeepsLimits part.schema.shape (layout_of part.section) half.rows
+
+-- The parts are those of this state, and no limit of a type is passed.
+abbrev pub AreAccepted : List TypePart → List Schema → List Half → Type 0
+AreAccepted parts schemas halves = PartsAre parts schemas halves × AllZip KeepsTypeLimits parts halves
+
+-- Some state is that of the parts, within the limits.
+abbrev pub HasState : List TypePart → Type 0
+HasState parts = (schemas : List Schema) × (halves : List Half) × AreAccepted parts schemas halves
+
+-- The limits that a type of a snapshot may pass.
+abbrev pub IsTypeLimit : Limit → Type 0
+IsTypeLimit Ordinals = Unit {0}
+IsTypeLimit Words = Unit {0}
+IsTypeLimit Bytes = Unit {0}
+IsTypeLimit _ = ⊥
+
+-- What a refusal tells: that this does not hold. Want of memory tells nothing, and no other fault comes from the state
+-- of a blob.
+abbrev pub Refuses : Type 0 → BlobFault → Type 0
+Refuses Fact fault.Memory = Unit {0}
+Refuses Fact (fault.Large limit) = IsTypeLimit limit × (Fact → ⊥)
+Refuses Fact (fault.Bad at why) = Fact → ⊥
+Refuses Fact (fault.BadRow at why of ordinal) = Fact → ⊥
+Refuses Fact _ = ⊥
+
+-- A type's part has these rows, which load.
+abbrev pub LoadsPart : TypePart → RowMap → Type 0
+LoadsPart part rows = Loads part.schema.shape part.section rows
+
+-- A type was loaded from its part, which could be read, into the next half of a state whose current half is empty.
+pub record IsLoadedFrom (part : TypePart) (state : State) : Type 0 where
+  pub readable : IsReadable part.schema.shape part.section
+  pub schema : state.schema ≡ part.schema
+  pub current : state.current ≡ empty_half
+  pub layout : state.other.layout ≡ layout_of part.section
+  pub laid : IsLaidOut state.schema state.other
+  pub loads : LoadsPart part state.other.rows

@@ -1,0 +1,38 @@
+//! How many places and words the layout of a type has.
+ghost use Rattle.std.specs.Prelude.{◌≡◌, ◌^◌, ◌<◌};
+ghost use Rattle.type_state.specs.Layout.{places_of, place_bits, words_needed};
+
+use bit_array::total_width;
+use schema_model::Shape;
+
+/// How many places there are up to a max ordinal.
+pub(crate) fn places(max: Option<u32>) -> u64
+    ensures is { result ≡ places_of max }
+    ensures small { result < 2 ^ 33 }
+{
+    match max {
+        Some(max) => u64::from(max) + 1,
+        None => 0,
+    }
+}
+
+/// How many bits a place of a type of this shape takes.
+fn place_bits(shape: &Shape, widths: &[u32]) -> u128
+    ensures is { result ≡ place_bits shape.now widths.now }
+    ensures small { result < 2 ^ 96 }
+{
+    match (shape, widths) {
+        (Shape::Object(_, _), _) => total_width(widths),
+        (Shape::List(_), [pointer, ..]) => u128::from(*pointer),
+        (Shape::Set(_), [pointer, size, ..]) => u128::from(*pointer) + u128::from(*size),
+        (Shape::Map(_, _), [pointer, size, ..]) => u128::from(*pointer) + u128::from(*size),
+        _ => 0,
+    }
+}
+
+/// How many words the places of a type of this shape need, by the max ordinal and the widths of its layout, in bits.
+pub fn words_needed(shape: &Shape, max: Option<u32>, widths: &[u32]) -> u128
+    ensures { result ≡ words_needed shape.now (record { max = max; widths = widths.now }) }
+{
+    (u128::from(places(max)) * place_bits(shape, widths)).div_ceil(64)
+}
