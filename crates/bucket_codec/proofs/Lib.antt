@@ -1,0 +1,15 @@
+mod BucketCounts
+mod Places
+mod Members
+mod Buckets
+mod Sorted
+mod Streaks
+mod Found
+mod TakenPairs
+mod Spelled
+mod Filling
+mod Writing
+mod Fills
+mod Rows
+mod Placed
+mod PlaceRows

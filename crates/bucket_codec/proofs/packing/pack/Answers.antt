@@ -1,0 +1,20 @@
+use Rattle.std.proofs.Common.{◌∙◌, sym, subst, All, ◌<◌, ◌^◌}
+use Rattle.bucket_codec.specs.Packed.{bucket_total, IsWritable}
+use Rattle.bucket_codec.proofs.Placed.{all_writable, packs_all, total_small, written_over}
+use Rattle.bucket_codec.proofs.packing.pack.Goals as goal
+
+pub total_buckets-requires-clause-small : goal.total_buckets-requires-clause-small
+total_buckets-requires-clause-small c =
+    subst (λ r. bucket_total r < 2 ^ 64) (sym c.as_slice-rows.ensures) (total_small c.args.schema.now.shape c.args.widths.now c.args.rows.now c.requires)
+
+pub put_rows-requires-clause-each : goal.put_rows-requires-clause-each
+put_rows-requires-clause-each c =
+    subst (λ w. All (λ row. IsWritable w row) c.as_slice-rows.result.now) (sym c.as_slice-widths.ensures)
+    (subst (λ r. All (λ row. IsWritable c.args.widths.now row) r) (sym c.as_slice-rows.ensures) (all_writable c.args.schema.now.shape c.args.widths.now c.args.rows.now c.requires))
+
+pub returns-clause-packed : goal.returns-clause-packed
+returns-clause-packed c =
+    packs_all c.args.schema.now.shape c.args.widths.now c.as_slice-widths.result.now c.args.rows.now c.as_slice-rows.result.now c.from_vec.result c.put_rows.new.first c.from_vec-2.result
+    c.put_rows.new.second c.requires c.as_slice-rows.ensures c.as_slice-widths.ensures
+    (c.from_vec.ensures ∙ written_over c.put_rows.new.first _ _ (sym (c.put_rows.auto.first ∙ c.as_mut_slice.ensures.len)))
+    (c.from_vec-2.ensures ∙ written_over c.put_rows.new.second _ _ (sym (c.put_rows.auto.second ∙ c.as_mut_slice-2.ensures.len))) c.put_rows.ensures

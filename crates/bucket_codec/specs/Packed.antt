@@ -1,0 +1,82 @@
+-- SET and MAP rows of a blob, written: how many buckets they take, and which words spell them.
+use Rattle.std.specs.Prelude.{◌≡◌, ℕ, ◌+◌, ◌-◌, ◌*◌, ◌^◌, ◌<◌, ◌≤◌, List, [], length, map, All, Option, None, Some, slice_get}
+use Rattle.std.specs.List.{sum_by}
+use Rattle.schema_model.specs.Row.{FitsShape, Rises}
+use Rattle.schema_model.specs.declared.schema.Shape.{Shape}
+use Rattle.schema_model.specs.declared.rows.row.Row.{Row}
+use Rattle.bucket_codec.specs.BucketCount.{bucket_count}
+use Rattle.bucket_codec.specs.Run.{keys_of}
+use Rattle.bucket_codec.specs.BucketPlace.{pointer_width, size_width, key_width, value_width, bucket_width, start_at, end_at, size_at, IsWidthCount, SpellsBucketRow, SpellsPairs}
+
+-- An element of a set as a pair.
+abbrev pub set_pair : ℕ → ℕ × ℕ
+set_pair element = (element, 0)
+
+-- The pairs of a row, by rising key: of a set its elements, each with the value 0.
+abbrev pub pairs_of : Row → List (ℕ × ℕ)
+pairs_of (Row.Set ordinals) = map set_pair ordinals
+pairs_of (Row.Map pairs) = pairs
+pairs_of _ = []
+
+-- The row is one of a set or a map.
+abbrev pub IsBuckets : Row → Type 0
+IsBuckets (Row.Set ordinals) = Unit {0}
+IsBuckets (Row.Map pairs) = Unit {0}
+IsBuckets _ = ⊥
+
+-- How many buckets the row of a place takes, if it has one.
+abbrev pub buckets_of : Option Row → ℕ
+buckets_of None = 0
+buckets_of (Some row) = bucket_count (length (pairs_of row))
+
+-- How many buckets rows take.
+abbrev pub bucket_total : List (Option Row) → ℕ
+bucket_total rows = sum_by buckets_of rows
+
+-- The widths hold a row: a key below all ones, which is an empty bucket, and a value and the size below their powers.
+pub record HoldsRow (widths : List ℕ) (row : Row) : Type 0 where
+  pub keys : All (λ pair. pair.0 < 2 ^ key_width widths - 1) (pairs_of row)
+  pub values : All (λ pair. pair.1 < 2 ^ value_width widths) (pairs_of row)
+  pub size : length (pairs_of row) < 2 ^ size_width widths
+  pub few : length (pairs_of row) < 2 ^ 32
+
+-- The row of a place, if it has one, fits its type, and the widths hold it.
+abbrev pub IsPackableRow : Shape → List ℕ → Option Row → Type 0
+IsPackableRow shape widths None = Unit {0}
+IsPackableRow shape widths (Some row) = FitsShape shape row × HoldsRow widths row
+
+-- What can be packed: rows of sets or maps that the widths hold, pointers too, with so few bits that each has a number below 2^63.
+pub record IsPackable (shape : Shape) (widths : List ℕ) (rows : List (Option Row)) : Type 0 where
+  pub counted : IsWidthCount shape (length widths)
+  pub narrow : All (λ width. width ≤ 64) widths
+  pub each : All (IsPackableRow shape widths) rows
+  pub pointers : bucket_total rows < 2 ^ pointer_width widths
+  pub places : length rows < 2 ^ 32
+  pub buckets : bucket_total rows * bucket_width widths < 2 ^ 63
+
+-- A place without a row repeats the pointer before it, and has the size 0. A row takes its number of buckets, and the place spells it.
+abbrev pub PacksPlace : Shape → List ℕ → ℕ → List ℕ → List ℕ → ℕ → Option Row → Type 0
+PacksPlace shape widths total first second place None = (end_at widths first place ≡ start_at widths first place) × (size_at widths first place ≡ 0)
+PacksPlace shape widths total first second place (Some row) =
+    (end_at widths first place ≡ start_at widths first place + bucket_count (length (pairs_of row))) × SpellsBucketRow shape widths total first second place row
+
+-- Each place of the words has its row.
+abbrev pub PacksRows : Shape → List ℕ → List (Option Row) → List ℕ → List ℕ → Type 0
+PacksRows shape widths rows first second =
+    (place total : ℕ) (row : Option Row) → slice_get rows place ≡ Some row → bucket_total rows ≤ total → PacksPlace shape widths total first second place row
+
+-- The same by the pairs: what is known of a place once it is written, of which the run ends within so many buckets.
+abbrev pub PacksPairs : List ℕ → ℕ → List ℕ → List ℕ → ℕ → Option Row → Type 0
+PacksPairs widths total first second place None = (end_at widths first place ≡ start_at widths first place) × (size_at widths first place ≡ 0)
+PacksPairs widths total first second place (Some row) =
+    (end_at widths first place ≡ start_at widths first place + bucket_count (length (pairs_of row))) × SpellsPairs widths total first second place (pairs_of row)
+
+-- The row of a place, if it has one, has fewer than 2^32 elements or pairs.
+abbrev pub IsFew : Option Row → Type 0
+IsFew None = Unit {0}
+IsFew (Some row) = length (pairs_of row) < 2 ^ 32
+
+-- It is a set or a map, by rising key, that the widths hold.
+abbrev pub IsWritable : List ℕ → Option Row → Type 0
+IsWritable widths None = Unit {0}
+IsWritable widths (Some row) = IsBuckets row × Rises (keys_of (pairs_of row)) × HoldsRow widths row

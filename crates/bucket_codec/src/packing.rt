@@ -1,0 +1,151 @@
+//! Rows of sets and maps, packed.
+ghost use Rattle.std.specs.Prelude.{◌≡◌, ℕ, ◌+◌, ◌*◌, ◌^◌, ◌<◌, ◌≤◌, List, [], length, vec_len, All, Option, Some, None, slice_index_or, IfOk};
+ghost use Rattle.bit_array.specs.Element.{words_of};
+ghost use Rattle.schema_model.specs.declared.rows.row.Row.{Row as StoredRow};
+ghost use Rattle.bucket_codec.specs.Filled.{KeepsFront};
+ghost use Rattle.bucket_codec.specs.BucketPlace.{pointer_width, place_width, bucket_width, start_at, end_at, HoldsPointers};
+ghost use Rattle.bucket_codec.specs.Packed.{pairs_of, buckets_of, bucket_total, IsPackable, IsFew, IsWritable, PacksRows, PacksPairs};
+
+use crate::hash::buckets_for;
+use crate::place::{map_value_width, place_bits, put_pointers};
+use crate::run::Run;
+use bit_array::words_for;
+use schema_model::{Areas, Packed, Places, Row, Schema, Widths, Words};
+use std::alloc::{AllocError, Global};
+
+/// The words that spell these rows, place by place.
+///
+/// A row takes the number of buckets of its elements or pairs, which are put in by rising element or key, each into the first empty bucket from
+/// its home on. A place without a row has the pointer of the place before and the size 0.
+pub fn pack(
+    alloc: Global,
+    schema: &Schema,
+    widths: &Widths,
+    rows: &Places,
+) -> Result<Packed, AllocError>
+    requires { IsPackable schema.now.shape widths.now rows.now }
+    ensures packed { IfOk result (λ packed. PacksRows schema.now.shape widths.now rows.now packed.first packed.second) }
+    ensures first { IfOk result (λ packed. length packed.first ≡ words_of (length rows.now * place_width widths.now)) }
+    ensures second { IfOk result (λ packed. length packed.second ≡ words_of (bucket_total rows.now * bucket_width widths.now)) }
+    ensures areas { IfOk result (λ packed. packed.areas ≡ []) }
+{
+    let rows = rows.as_slice();
+    let widths = widths.as_slice();
+    let mut first = zeros(alloc, rows.len() as u64 * place_bits(widths))?;
+    let mut second = zeros(alloc, total_buckets(rows) * bucket_bits(widths))?;
+    put_rows(widths, rows, first.as_mut_slice(), second.as_mut_slice());
+    Ok(Packed {
+        first: Words::from_vec(first),
+        second: Words::from_vec(second),
+        areas: Areas::new(alloc),
+    })
+}
+
+/// As many words of zeros as so many bits take.
+fn zeros(alloc: Global, bits: u64) -> Result<Vec<u64>, AllocError>
+    ensures { IfOk result (λ words. length words.items ≡ words_of bits) }
+{
+    vec![in alloc; 0; words_for(bits) as usize]
+}
+
+/// The width of a bucket in bits.
+fn bucket_bits(widths: &[u32]) -> u64
+    requires { 3 ≤ length widths.now }
+    ensures { result ≡ bucket_width widths.now }
+{
+    u64::from(widths[2]) + u64::from(map_value_width(widths))
+}
+
+/// How many elements or pairs a row has.
+fn size_of(row: &Row) -> usize
+    ensures { result ≡ length (pairs_of row.now) }
+{
+    match row {
+        Row::Set(elements) => elements.len(),
+        Row::Map(pairs) => pairs.len(),
+        _ => 0,
+    }
+}
+
+/// How many buckets the row of a place takes.
+fn bucket_count(row: &Option<Row>) -> u64
+    requires { IsFew row.now }
+    ensures { result ≡ buckets_of row.now }
+{
+    match row {
+        None => 0,
+        Some(row) => buckets_for(size_of(row) as u32),
+    }
+}
+
+/// How many buckets rows take.
+fn total_buckets(rows: &[Option<Row>]) -> u64
+    requires few { All IsFew rows.now }
+    requires small { bucket_total rows.now < 2 ^ 64 }
+    ensures { result ≡ bucket_total rows.now }
+{
+    let mut total = 0;
+    for row in rows {
+        total += bucket_count(row);
+    }
+    total
+}
+
+/// Writes the rows of all places.
+fn put_rows(widths: &[u32], rows: &[Option<Row>], first: &mut [u64], second: &mut [u64])
+    requires three { 3 ≤ length widths.now }
+    requires narrow { All (λ width. width ≤ 64) widths.now }
+    requires each { All (IsWritable widths.now) rows.now }
+    requires few { length rows.now < 2 ^ 32 }
+    requires pointers { bucket_total rows.now < 2 ^ pointer_width widths.now }
+    requires places { length rows.now * place_width widths.now ≤ 64 * length first.old }
+    requires buckets { bucket_total rows.now * bucket_width widths.now ≤ 64 * length second.old }
+    requires bits { 64 * length second.old < 2 ^ 64 }
+    ensures { (place : ℕ) → place < length rows.now → PacksPairs widths.now (bucket_total rows.now) first.new second.new place (slice_index_or rows.now place None) }
+{
+    let mut end = 0;
+    for (place, row) in rows.iter().enumerate() {
+        end = put_row(widths, row, first, second, place as u64, end);
+    }
+}
+
+/// Writes the row of a place. Its run starts where that of the place before ends; where it ends itself is the answer.
+///
+/// Only the bits of this place and of this run change, and none before them. No memory is taken.
+pub fn put_row(
+    widths: &[u32],
+    row: &Option<Row>,
+    first: &mut [u64],
+    second: &mut [u64],
+    place: u64,
+    start: u64,
+) -> u64
+    requires three { 3 ≤ length widths.now }
+    requires holds { HoldsPointers widths.now first.old place }
+    requires row { IsWritable widths.now row.now }
+    requires start { start_at widths.now first.old place ≡ start }
+    requires pointer { start + buckets_of row.now < 2 ^ pointer_width widths.now }
+    requires inside { (start + buckets_of row.now) * bucket_width widths.now ≤ 64 * length second.old }
+    requires bits { 64 * length second.old < 2 ^ 64 }
+    ensures end { result ≡ start + buckets_of row.now }
+    ensures pointer { end_at widths.now first.new place ≡ result }
+    ensures packed { PacksPairs widths.now result first.new second.new place row.now }
+    ensures first { KeepsFront first.old first.new (place * place_width widths.now) }
+    ensures second { KeepsFront second.old second.new (start * bucket_width widths.now) }
+{
+    let Some(row) = row else {
+        put_pointers(widths, first, place, start, 0);
+        return start;
+    };
+    let size = size_of(row);
+    let run = Run {
+        key_width: widths[2],
+        value_width: map_value_width(widths),
+        start,
+        size: buckets_for(size as u32),
+    };
+    run.fill(second, row);
+    let end = start + run.size;
+    put_pointers(widths, first, place, end, size as u64);
+    end
+}
