@@ -34,11 +34,6 @@ places_from rows index d row inside is =
 
 -- ---- counting
 
-pub count_all : (rows : List Place) (index count : ℕ) → length rows ≤ index → count + length (elements_of_places (drop index rows)) ≡ length (elements_of_places rows) → count ≡ length (elements_of_places rows)
-count_all rows index count past so_far =
-    let none : length (elements_of_places (drop index rows)) ≡ 0 = ap (λ (rs : List Place). length (elements_of_places rs)) (drop_all index rows past) in
-    omega arith
-
 -- ---- places packed one after the other
 
 pub number_zeros : (count : ℕ) → number_of (replicate count 0) ≡ 0
