@@ -85,6 +85,14 @@ last_round run place below =
     let is : length run + (place + 1) - 1 - 0 ≡ length run + place = omega arith in
     ap (λ x. x % length run) is ∙ add-mod_left (length run) place ∙ mod-eq_of_lt below
 
+-- an empty bucket ends the streak
+streak_ends : (run : List Bucket) (place : ℕ) → place < length run → bucket_at run place ≡ None → IsStreak run (place + 1) 0
+streak_ends run place below none = record {
+  below = omega arith;
+  full = λ back less. absurd (omega arith);
+  empty = ap (bucket_at run) (last_round run place below) ∙ none;
+}
+
 -- a taken one adds to it
 streak_more : (run : List Bucket) (place streak : ℕ) → place < length run → IsStreak run place streak → IsSome (bucket_at run place) → IsStreak run (place + 1) (streak + 1)
 streak_more run place streak below streaks some = record {
