@@ -15,3 +15,5 @@ mod outside;
 mod shows;
 #[cfg(test)]
 mod usage;
+#[cfg(test)]
+mod writes;
