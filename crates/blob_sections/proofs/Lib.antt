@@ -1,3 +1,4 @@
 pub mod Each
+pub mod Formed
 pub mod Heads
 pub mod Items

@@ -1,5 +1,5 @@
 -- The widths of the parts of a type's rows.
-use Rattle.std.specs.Prelude.{◌≡◌, ◌≤◌, ◌⊎◌, ℕ, List, Option, Some, None}
+use Rattle.std.specs.Prelude.{◌≡◌, ◌≤◌, ◌<◌, ◌⊎◌, ℕ, List, Option, Some, None}
 use Rattle.std.proofs.lemmas.Bool.{cases_lt, cases_eq}
 use Rattle.std.proofs.Common.{inl, inr}
 use Rattle.schema_model.specs.declared.reason.Reason.TheVariants.{BadWidth}
@@ -7,9 +7,10 @@ use Rattle.schema_model.specs.declared.schema.FieldKind.{FieldKind}
 use Rattle.schema_model.specs.declared.schema.Shape.{Shape}
 use Rattle.schema_model.specs.Parts.{shape_fields}
 use Rattle.object_codec.specs.ObjectPlace.{IsKindWidth}
+use Rattle.type_state.specs.Layout.{width_count}
 use Rattle.type_state.specs.WellFormed.{IsWidth}
-use Rattle.blob_grammar.specs.Deciding.{judge_rule, not_below}
-use Rattle.blob_grammar.specs.Form.{Form, judged, each_of}
+use Rattle.blob_grammar.specs.Deciding.{judge_rule, not_below, below_or}
+use Rattle.blob_grammar.specs.Form.{Form, judged, repeated, each_of}
 use Rattle.blob_frame.specs.Item.{vint}
 
 -- whether a width is 64 at most
@@ -42,6 +43,15 @@ unfoldable pub field_width : Option ℕ → FieldKind → Form ℕ
 field_width max kind = judged vint (λ n width. (width ≡ n) × IsWidth max kind n) (λ n why. (IsWidth max kind n → ⊥) × (why ≡ BadWidth))
     (judge_rule (λ n. IsWidth max kind n) (λ n. IsWidth max kind n → ⊥) BadWidth (λ n p q. q p) (width_or max kind))
 
--- The widths of a type's parts: that of each field, in their order.
-unfoldable pub widths_of : Shape → Option ℕ → Form (List ℕ)
-widths_of shape max = each_of (λ field. field_width max field.kind) (shape_fields shape)
+-- The widths of the fields of an OBJECT, in their order.
+unfoldable pub field_widths : Shape → Option ℕ → Form (List ℕ)
+field_widths shape max = each_of (λ field. field_width max field.kind) (shape_fields shape)
+
+-- A width of a LIST, SET or MAP, which is 64 at most.
+unfoldable pub part_width : Form ℕ
+part_width = judged vint (λ n width. (width ≡ n) × (n ≤ 64)) (λ n why. (64 < n) × (why ≡ BadWidth))
+    (judge_rule (λ n. n ≤ 64) (λ n. 64 < n) BadWidth (λ n p q. not_below p q) (λ n. below_or n 64))
+
+-- The widths of a LIST, SET or MAP, as many as its kind has.
+unfoldable pub part_widths : Shape → Form (List ℕ)
+part_widths shape = repeated (width_count shape) part_width

@@ -1,15 +1,16 @@
 //! The widths of the parts of a type's rows.
-ghost use Rattle.std.specs.Prelude.{◌↔◌, IfOk, IsTrue};
+ghost use Rattle.std.specs.Prelude.{◌≡◌, ◌≤◌, ◌↔◌, All, IfOk, IsTrue, length};
 ghost use Rattle.std.specs.List.{AllZip};
 ghost use Rattle.object_codec.specs.ObjectPlace.{IsKindWidth};
 ghost use Rattle.type_state.specs.WellFormed.{IsWidth};
 ghost use Rattle.blob_grammar.specs.Form.{each_of};
 ghost use Rattle.blob_frame.specs.Scene.{IsAbove, Leads};
-ghost use Rattle.blob_sections.specs.Width.{field_width};
+ghost use Rattle.type_state.specs.Layout.{width_count};
+ghost use Rattle.blob_sections.specs.Width.{field_width, part_width, part_widths};
 
 use blob_frame::{BlobFault, Cursor};
 use hol_io::BlobStore;
-use schema_model::{Field, FieldKind, Reason, Widths};
+use schema_model::{Field, FieldKind, Reason, Shape, Widths};
 
 // Whether a field of a kind may have a width where there are places.
 fn is_kind_width(kind: &FieldKind, width: u32) -> bool
@@ -65,6 +66,51 @@ pub(crate) fn field_widths<S: BlobStore>(
     let mut widths = Widths::new(cursor.allocator());
     for field in fields {
         widths.push(field_width(cursor, store, max, &field.kind)?)?;
+    }
+    Ok(widths)
+}
+
+// A width of a LIST, SET or MAP. `BadWidth` stands at one over 64.
+fn part_width<S: BlobStore>(cursor: &mut Cursor, store: &mut S) -> Result<u32, BlobFault>
+    requires over { IsAbove S.seen store.old cursor.old }
+    ensures reads { Leads S.seen part_width store.old cursor.old store.new cursor.new result }
+    ensures whole { IfOk result (λ width. width ≤ 64) }
+{
+    let at = cursor.at();
+    let width = cursor.vint(store)?;
+    if width > 64 {
+        return Err(BlobFault::Bad(at, Reason::BadWidth));
+    }
+    Ok(width)
+}
+
+// How many widths a type of this shape has.
+fn width_count(shape: &Shape) -> usize
+    ensures { result ≡ width_count shape.now }
+{
+    match shape {
+        Shape::Object(_, fields) => fields.len(),
+        Shape::List(_) => 2,
+        Shape::Set(_) => 3,
+        Shape::Map(_, _) => 4,
+    }
+}
+
+/// The widths of a LIST, SET or MAP.
+pub(crate) fn part_widths<S: BlobStore>(
+    cursor: &mut Cursor,
+    store: &mut S,
+    shape: &Shape,
+) -> Result<Widths, BlobFault>
+    requires over { IsAbove S.seen store.old cursor.old }
+    ensures reads { Leads S.seen (part_widths shape.now) store.old cursor.old store.new cursor.new result }
+    ensures whole { IfOk result (All (λ width. width ≤ 64)) }
+    ensures long { IfOk result (λ widths. length widths ≡ width_count shape.now) }
+{
+    let count = width_count(shape);
+    let mut widths = Widths::new(cursor.allocator());
+    for _item in 0..count {
+        widths.push(part_width(cursor, store)?)?;
     }
     Ok(widths)
 }

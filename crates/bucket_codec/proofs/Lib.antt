@@ -12,4 +12,4 @@ mod Writing
 mod Fills
 mod Rows
 mod Placed
-mod PlaceRows
+pub mod PlaceRows

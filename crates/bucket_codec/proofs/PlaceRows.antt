@@ -1,6 +1,6 @@
 -- Lemmas on the row of a place: there is at most one, and not both a row and a reason.
-use Rattle.std.proofs.Common.{◌≡◌, ℕ, List, All, Result, Ok, Err, refl, sym, ap, subst, inl, inr, ◌∙◌}
-use Rattle.std.proofs.lemmas.List.Sorted.{All-permutation, IsPermutation-sym}
+use Rattle.std.proofs.Common.{◌≡◌, ℕ, ◌-◌, ◌≤◌, List, [], ◌∷◌, length, All, Some, None, Result, Ok, Err, arith, refl, sym, ap, subst, inl, inr, ◌∙◌}
+use Rattle.std.proofs.lemmas.List.Sorted.{All-permutation, IsPermutation-sym, length_permutation}
 use Rattle.hol_varint.specs.Yields.{Yields}
 use Rattle.schema_model.specs.declared.schema.Shape.{Shape}
 use Rattle.schema_model.specs.declared.rows.row.Row.{Row}
@@ -8,8 +8,9 @@ use Rattle.schema_model.specs.declared.reason.Reason.{Reason}
 use Rattle.schema_model.specs.declared.rows.packed.PlaceFault.{PlaceFault}
 use Rattle.bucket_codec.specs.Taken.{HasBadValue, TellsPairs}
 use Rattle.bucket_codec.specs.Run.{Bucket, taken_of, IsPairInRange, SpellsRun}
-use Rattle.bucket_codec.specs.BucketPlace.{run_at, IsSpan, SpellsPairs, IsRowOf, SpellsBucketRow, FailsBucketRow, TellsBucketRow, TellsPlace, size_at, IsFreePlace}
+use Rattle.bucket_codec.specs.BucketPlace.{run_at, start_at, end_at, key_width, value_width, IsSpan, SpellsPairs, IsRowOf, SpellsBucketRow, FailsBucketRow, TellsBucketRow, TellsPlace, size_at, IsFreePlace}
 use Rattle.bucket_codec.proofs.Sorted.{run_once}
+use Rattle.bucket_codec.proofs.Buckets.{length-run_in}
 
 -- pairs are those of one row of a shape
 row_of_once : (shape : Shape) (a b : Row) (pairs : List (ℕ × ℕ)) → IsRowOf shape a pairs → IsRowOf shape b pairs → a ≡ b
@@ -92,3 +93,17 @@ place_tells widths total first second place count run (Err (PlaceFault.Bad Reaso
 )
 place_tells widths total first second place count run (Err (PlaceFault.Bad _)) span is sized told = absurd told
 place_tells widths total first second place count run (Err PlaceFault.Memory) span is sized told = tt
+
+-- no more buckets are taken than there are
+taken_within : (run : List Bucket) → length (taken_of run) ≤ length run
+taken_within [] = omega arith
+taken_within (None ∷ run) = let rest = taken_within run in omega arith
+taken_within (Some p ∷ run) = let rest = taken_within run in omega arith
+
+-- a set or map has no more elements than the total
+pub pairs_within : (widths : List ℕ) (total : ℕ) (first second : List ℕ) (place : ℕ) (pairs : List (ℕ × ℕ)) → SpellsPairs widths total first second place pairs → length pairs ≤ total
+pairs_within widths total first second place pairs h =
+    let same = length_permutation (taken_of (run_at widths first second place)) pairs h.run.same in
+    let few = taken_within (run_at widths first second place) in
+    let long = length-run_in second (key_width widths) (value_width widths) (start_at widths first place) (end_at widths first place - start_at widths first place) in
+    omega (arith, h.span.counted)

@@ -16,6 +16,7 @@ mod taken;
 pub use hash::{buckets_for, hash_int};
 pub use lookup::{at, has};
 pub use packing::{pack, put_row};
+pub use place::run_length;
 pub use row::read;
 
 #[cfg(test)]

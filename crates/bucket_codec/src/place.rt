@@ -1,5 +1,5 @@
 //! The pointer and the size of a place, and the run that they bound.
-ghost use Rattle.std.specs.Prelude.{◌≡◌, ◌*◌, ◌^◌, ◌<◌, ◌≤◌, length, MatchOption};
+ghost use Rattle.std.specs.Prelude.{◌≡◌, ◌-◌, ◌*◌, ◌^◌, ◌<◌, ◌≤◌, length, MatchOption};
 ghost use Rattle.bucket_codec.specs.Run.{run_in, HoldsRun};
 ghost use Rattle.bucket_codec.specs.Filled.{KeepsFront};
 ghost use Rattle.bucket_codec.specs.BucketPlace.{pointer_width, size_width, place_width, value_width, start_at, end_at, size_at, run_at, IsSpan, HoldsPointers};
@@ -75,6 +75,15 @@ fn start(widths: &[u32], first: &[u64], place: u64) -> u64
         return 0;
     }
     end(widths, first, place - 1)
+}
+
+/// How many buckets the run of a place has by its pointers; 0 where they fall. So many are walked where the place is read.
+pub fn run_length(widths: &[u32], first: &[u64], place: u64) -> u64
+    requires three { 3 ≤ length widths.now }
+    requires holds { HoldsPointers widths.now first.now place }
+    ensures { result ≡ end_at widths.now first.now place - start_at widths.now first.now place }
+{
+    end(widths, first, place).saturating_sub(start(widths, first, place))
 }
 
 /// The number of elements or pairs at a place.

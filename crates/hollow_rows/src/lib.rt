@@ -8,6 +8,8 @@ mod case;
 #[cfg(test)]
 mod heads;
 #[cfg(test)]
+mod kinds;
+#[cfg(test)]
 mod limits;
 #[cfg(test)]
 mod outside;

@@ -66,7 +66,7 @@ pub loaded_accepted : (parts : List TypePart) (states : List State) (schemas : L
     → IsClosed schemas (table_of (next_halves states)) → AreAccepted parts schemas (next_halves states)
 loaded_accepted parts states schemas named model loaded closed = (
   record { named = sym named; model = model; types = loaded_types parts states loaded; closed = closed },
-  zip_right IsLoadedFrom IsLoadedFrom KeepsTypeLimits (λ state. state.other) (λ part state one also. record { ordinals = one.readable.few; kept = one.loads.within }) parts states loaded loaded,
+  zip_right IsLoadedFrom IsLoadedFrom KeepsTypeLimits (λ state. state.other) (λ part state one also. record { counts = record { ordinals = one.readable.few; items = one.readable.items }; kept = one.loads.within }) parts states loaded loaded,
 )
 
 -- the whole of a body

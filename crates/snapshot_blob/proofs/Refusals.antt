@@ -22,7 +22,7 @@ use Rattle.type_state.proofs.SectionRows.{one_state}
 use Rattle.blob_frame.specs.declared.fault.BlobFault.{BlobFault}
 use Rattle.blob_frame.specs.declared.fault.BlobFault.TheVariants as fault
 use Rattle.snapshot_blob.specs.declared.part.TypePart.{TypePart}
-use Rattle.snapshot_blob.specs.Stated.{TypeIs, KeepsTypeLimits, LoadsPart, KeepsOrdinals, HasState, Refuses, schemas_of}
+use Rattle.snapshot_blob.specs.Stated.{TypeIs, KeepsTypeLimits, LoadsPart, KeepsCounts, HasState, Refuses, schemas_of}
 use Rattle.snapshot_blob.proofs.Zipped.{zip_first, zip_right, zip_once, zip_middle}
 
 -- a fault that refuses one thing refuses what asks for it
@@ -61,9 +61,9 @@ of_lent Q lent parts is asks state = subst Q (sym is) (asks state)
 pub asks_model : (parts : List TypePart) → HasState parts → IsModel (schemas_of parts)
 asks_model parts state = subst IsModel (sym state.2.0.named) state.2.0.model
 
--- it asks that each part keeps the limit on ordinals
-pub asks_ordinals : (parts : List TypePart) → HasState parts → All KeepsOrdinals parts
-asks_ordinals parts state = zip_first KeepsTypeLimits KeepsOrdinals (λ part half keeps. keeps.ordinals) parts state.1 state.2.1
+-- it asks that each part keeps the limits on ordinals and items
+pub asks_counts : (parts : List TypePart) → HasState parts → All KeepsCounts parts
+asks_counts parts state = zip_first KeepsTypeLimits KeepsCounts (λ part half keeps. keeps.counts) parts state.1 state.2.1
 
 -- it asks that each part has rows that load
 pub asks_rows : (parts : List TypePart) → HasState parts → (rows : List RowMap) × AllZip LoadsPart parts rows
@@ -93,13 +93,14 @@ few_fields parts model place part inside =
     slice_get-map (λ (p : TypePart). p.schema) parts place ∙ ap (option_map (λ (p : TypePart). p.schema)) (slice_get-get_or parts place part inside) in
     elim (cases_lt 1024 (length (fields_of here.schema))) [ inl many ↦ absurd (model TooMany place (here.schema, at, inr many)) | inr few ↦ few ]
 
--- well-formed parts of a model that keep the limit on ordinals can be read
-pub parts_readable : (parts : List TypePart) (schemas : List Schema) → All (λ part. IsWellFormed part.schema.shape part.section) parts → schemas ≡ schemas_of parts → IsModel schemas → All KeepsOrdinals parts
+-- well-formed parts of a model that keep the limits on ordinals and items can be read
+pub parts_readable : (parts : List TypePart) (schemas : List Schema) → All (λ part. IsWellFormed part.schema.shape part.section) parts → schemas ≡ schemas_of parts → IsModel schemas → All KeepsCounts parts
     → All (λ part. IsReadable part.schema.shape part.section) parts
 parts_readable parts schemas well named model keeps place part inside = record {
   well = well place part inside;
   many = few_fields parts (subst IsModel named model) place part inside;
-  few = keeps place part inside;
+  few = (keeps place part inside).ordinals;
+  items = (keeps place part inside).items;
 }
 
 -- a part in the middle has rows that load, if all have

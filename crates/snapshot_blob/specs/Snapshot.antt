@@ -22,7 +22,7 @@ pub record SnapshotIs (blob : List ℕ) (head : Header) (parts : List TypePart) 
   pub items : snapshot.Stands blob 0 (head, parts) (length blob)
   pub state : PartsAre parts schemas halves
 
--- The limits on a blob's bytes, and on the ordinals, words and bytes of each type, are kept.
+-- The limits on a blob's bytes, and on the ordinals, items, words and bytes of each type, are kept.
 pub record KeepsAll (blob : List ℕ) (parts : List TypePart) (halves : List Half) : Type 0 where
   pub short : length blob ≤ number_of_limit Blob
   pub types : AllZip KeepsTypeLimits parts halves

@@ -2,7 +2,7 @@
 use Rattle.std.specs.Prelude.{◌≡◌, ◌≤◌, List, map}
 use Rattle.std.specs.List.{AllZip}
 use Rattle.schema_model.specs.declared.limit.Limit.{Limit}
-use Rattle.schema_model.specs.declared.limit.Limit.TheVariants.{Ordinals, Words, Bytes}
+use Rattle.schema_model.specs.declared.limit.Limit.TheVariants.{Ordinals, Items, Words, Bytes}
 use Rattle.schema_model.specs.declared.schema.Schema.{Schema}
 use Rattle.schema_model.specs.Limit.{number_of_limit}
 use Rattle.schema_model.specs.Model.{IsModel}
@@ -35,13 +35,14 @@ pub record PartsAre (parts : List TypePart) (schemas : List Schema) (halves : Li
   pub types : AllZip TypeIs parts halves
   pub closed : IsClosed schemas (table_of halves)
 
--- The limit on a type's ordinals is kept.
-abbrev pub KeepsOrdinals : TypePart → Type 0
-KeepsOrdinals part = places_of part.section.max ≤ number_of_limit Ordinals
+-- The limits on a type's ordinals, and on its elements or buckets, are kept.
+pub record KeepsCounts (part : TypePart) : Type 0 where
+  pub ordinals : places_of part.section.max ≤ number_of_limit Ordinals
+  pub items : part.section.total ≤ number_of_limit Items
 
--- The limits on a type's ordinals, and on its words and bytes, are kept.
+-- These limits are kept, and those on its words and bytes.
 pub record KeepsTypeLimits (part : TypePart) (half : Half) : Type 0 where
-  pub ordinals : KeepsOrdinals part
+  pub counts : KeepsCounts part
   pub kept : KeepsLimits part.schema.shape (layout_of part.section) half.rows
 
 -- The parts are those of this state, and no limit of a type is passed.
@@ -55,6 +56,7 @@ HasState parts = (schemas : List Schema) × (halves : List Half) × AreAccepted 
 -- The limits that a type of a snapshot may pass.
 abbrev pub IsTypeLimit : Limit → Type 0
 IsTypeLimit Ordinals = Unit {0}
+IsTypeLimit Items = Unit {0}
 IsTypeLimit Words = Unit {0}
 IsTypeLimit Bytes = Unit {0}
 IsTypeLimit _ = ⊥

@@ -38,11 +38,9 @@ impl Body {
 /// state: its model, and the rows of each type in the next half of a state. Nothing is kept of a body that is refused.
 ///
 /// `Bad` comes at the first item that cannot be read and at the first schema that breaks a rule of models, `Large` where
-/// an ordinal is 2^22 or more or a type has more words or bytes than a state may have, and `BadRow` at a row that is not
-/// spelled, that its widths cannot hold or that names an ordinal that is not live. `Store` comes only where the store's
-/// count of faults rose.
-///
-/// Types of another kind than OBJECT are refused.
+/// an ordinal is 2^22 or more, a total over 2^25, or a type has more words or bytes than a state may have, and `BadRow`
+/// at a row that is not spelled, that its widths cannot hold or that names an ordinal that is not live. `Store` comes
+/// only where the store's count of faults rose.
 pub fn read_body<S: BlobStore>(
     alloc: Global,
     cursor: &mut Cursor,

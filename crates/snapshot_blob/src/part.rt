@@ -1,6 +1,6 @@
 //! The types of a snapshot as they stand in the blob.
 ghost use Rattle.std.specs.Prelude.{All, IfOk};
-ghost use Rattle.type_state.specs.WellFormed.{IsBuilt, IsWellFormed};
+ghost use Rattle.type_state.specs.WellFormed.{IsWellFormed};
 ghost use Rattle.blob_grammar.specs.Form.{repeated};
 ghost use Rattle.blob_frame.specs.Scene.{IsAbove, Leads};
 ghost use Rattle.snapshot_blob.specs.Parts.{section_of, type_part, body};
@@ -27,14 +27,13 @@ pub struct TypePart {
 /// The types of a snapshot, in the order of the blob.
 pub type TypeParts = List<TypePart>;
 
-// The section of a type whose codec stands.
+// The section of a type of this shape.
 fn section<S: BlobStore>(
     cursor: &mut Cursor,
     store: &mut S,
     shape: &Shape,
 ) -> Result<Section, BlobFault>
     requires over { IsAbove S.seen store.old cursor.old }
-    requires built { IsBuilt shape.now }
     ensures reads { Leads S.seen (section_of shape.now) store.old cursor.old store.new cursor.new result }
     ensures whole { IfOk result (IsWellFormed shape.now) }
 {

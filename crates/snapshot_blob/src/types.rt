@@ -6,14 +6,14 @@ ghost use Rattle.schema_model.specs.Table.{RowMap, IsClosed};
 ghost use Rattle.type_state.specs.Views.{AreNext, next_halves, table_of};
 ghost use Rattle.type_state.specs.WellFormed.{IsReadable, IsWellFormed};
 ghost use Rattle.snapshot_blob.specs.Body.{IsWholeBody};
-ghost use Rattle.snapshot_blob.specs.Stated.{AreAccepted, HasState, IsLoadedFrom, KeepsOrdinals, LoadsPart, Refuses, schemas_of};
+ghost use Rattle.snapshot_blob.specs.Stated.{AreAccepted, HasState, IsLoadedFrom, KeepsCounts, LoadsPart, Refuses, schemas_of};
 
 use crate::body::Body;
 use crate::part::{TypePart, TypeParts};
 use blob_frame::BlobFault;
 use hol_varint::{Duplicate, GapList};
 use schema_model::{
-    Limit, MAX_ORDINALS, Model, ModelFault, Reason, Schemas, first_dangling, model_of,
+    Limit, MAX_ITEMS, MAX_ORDINALS, Model, ModelFault, Reason, Schemas, first_dangling, model_of,
 };
 use std::alloc::{AllocError, Global};
 use type_state::{NextRows, RowFault, TypeState, TypeStates};
@@ -29,7 +29,7 @@ pub(crate) fn state_of(alloc: Global, parts: TypeParts) -> Result<Body, BlobFaul
     ensures whole { IfOk result IsWholeBody }
 {
     let model = model_of_parts(alloc, parts.as_slice())?;
-    check_ordinals(parts.as_slice())?;
+    check_counts(parts.as_slice())?;
     let offsets = schema_offsets(alloc, parts.as_slice())?;
     let states = load_types(alloc, parts)?;
     check_closed(alloc, &model, &states, &offsets)?;
@@ -53,13 +53,16 @@ fn model_of_parts(alloc: Global, parts: &[TypePart]) -> Result<Model, BlobFault>
     }
 }
 
-// Tries the limit on ordinals in each type.
-fn check_ordinals(parts: &[TypePart]) -> Result<(), BlobFault>
-    ensures { MatchResult result (λ done. All KeepsOrdinals parts.now) (Refuses (All KeepsOrdinals parts.now)) }
+// Tries in each type the limit on ordinals, and then that on elements or buckets.
+fn check_counts(parts: &[TypePart]) -> Result<(), BlobFault>
+    ensures { MatchResult result (λ done. All KeepsCounts parts.now) (Refuses (All KeepsCounts parts.now)) }
 {
     for part in parts {
         if part.section.max.is_some_and(|max| max >= MAX_ORDINALS) {
             return Err(BlobFault::Large(Limit::Ordinals));
+        }
+        if part.section.total > MAX_ITEMS {
+            return Err(BlobFault::Large(Limit::Items));
         }
     }
     Ok(())

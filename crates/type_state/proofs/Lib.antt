@@ -1,4 +1,4 @@
-pub mod Ends
+pub mod Offsets
 pub mod Entries
 pub mod Loading
 pub mod NextStates

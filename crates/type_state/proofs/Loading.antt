@@ -1,39 +1,61 @@
 -- Which rows a section is that of.
-use Rattle.std.proofs.Common.{◌≡◌, ℕ, ◌+◌, ◌<◌, ◌≤◌, inl, inr, List, [], ◌∷◌, zero, suc, length, get_or, Some, None, Result, Ok, Err, refl, ap, sym, ◌∙◌, subst, arith}
+use Rattle.std.proofs.Common.{◌≡◌, ℕ, ◌+◌, ◌*◌, ◌^◌, ◌<◌, ◌≤◌, inl, inr, List, [], ◌∷◌, zero, suc, length, get_or, Some, None, Result, Ok, Err, refl, ap, sym, ◌∙◌, subst, arith}
 use Rattle.std.specs.Prelude.{All}
-use Rattle.std.specs.FinMap.{entries}
+use Rattle.std.specs.FinMap.{entries, values}
 use Rattle.std.specs.Map.{keys_of, values_of}
 use Rattle.std.proofs.lemmas.List.Elements.{All-contains, All-contains_itself}
 use Rattle.hol_varint.specs.Yields.{Yields}
 use Rattle.ordinal_set.specs.Ordinals.{TellsNext}
-use Rattle.schema_model.specs.declared.limit.Limit.TheVariants.{Bytes, Words}
+use Rattle.schema_model.specs.declared.limit.Limit.TheVariants.{Items, Bytes, Words}
 use Rattle.schema_model.specs.Limit.{number_of_limit}
-use Rattle.schema_model.specs.Parts.{shape_fields}
 use Rattle.schema_model.specs.Table.{RowMap}
 use Rattle.schema_model.specs.declared.schema.Shape.{Shape}
 use Rattle.schema_model.specs.declared.rows.row.Row.{Row}
+use Rattle.bit_array.specs.Element.{words_of}
 use Rattle.object_codec.proofs.Rows.{row_once}
+use Rattle.schema_model.specs.declared.rows.packed.PlaceFault.{PlaceFault}
+use Rattle.bucket_codec.specs.BucketPlace.{TellsBucketRow}
+use Rattle.bucket_codec.specs.Run.{keys_of as keys_of_pairs}
+use Rattle.bucket_codec.proofs.PlaceRows as buckets
 use Rattle.type_state.specs.declared.section.Section.{Section}
 use Rattle.type_state.specs.declared.fault.RowFault.{RowFault}
-use Rattle.type_state.specs.Layout.{places_of, fixed_words}
+use Rattle.type_state.specs.Layout.{places_of, words_needed, item_bits, item_count, fixed_words}
 use Rattle.type_state.specs.WordsHeld.{row_bytes}
-use Rattle.type_state.specs.Ends.{FitsRow, HasValues}
+use Rattle.type_state.specs.Ends.{FitsBehind, IsOfKind}
+use Rattle.type_state.specs.WellFormed.{IsReadable}
 use Rattle.std.proofs.lemmas.List.{length-map}
 use Rattle.schema_model.specs.declared.schema.Field.{Field}
 use Rattle.schema_model.specs.declared.rows.row.Value.{Value}
 use Rattle.object_codec.specs.Part.{FieldPart}
 use Rattle.object_codec.specs.ObjectPlace.{parts_of, SpellsFields}
-use Rattle.type_state.specs.Holds.{HoldsRows}
-use Rattle.type_state.specs.Loads.{IsSpelledIn, Loads, AreRead, TellsRow, RefusesRows, RefusesLoad, TellsLoad, IsFreeRow, layout_of}
-use Rattle.type_state.proofs.Reading.{IsFunction, Progress, misfit, heavy}
+use Rattle.type_state.specs.Loads.{Spells, IsSpelledIn, Loads, AreRead, TellsPlace, TellsRow, RefusesRows, RefusesLoad, TellsLoad, IsFreeRow, layout_of}
+use Rattle.type_state.proofs.Places.{IsBuckets}
+use Rattle.type_state.proofs.Reading.{IsFunction, Progress, same_entries, misfit, heavy}
 
 -- A place spells one row.
+list_once : (section : Section) (place : ℕ) (a b : Row) → Spells (Shape.List []) section place a → Spells (Shape.List []) section place b → a ≡ b
+list_once section place (Row.List a) (Row.List b) h k = ap Row.List (h.are ∙ sym k.are)
+list_once section place (Row.List a) _ h k = absurd k
+list_once section place _ b h k = absurd h
+
 pub one_row : (shape : Shape) (section : Section) → IsFunction (IsSpelledIn shape section)
 one_row (Shape.Object key fields) section = record { once = λ o a b. row_once (Shape.Object key fields) section.widths section.first section.areas o a b }
-one_row _ section = record { once = λ o a b h. absurd h }
+one_row (Shape.List element) section = record { once = λ o a b. list_once section o a b }
+one_row (Shape.Set element) section = record { once = λ o a b. buckets.row_once (Shape.Set element) section.widths section.total section.first section.second o a b }
+one_row (Shape.Map key value) section = record { once = λ o a b. buckets.row_once (Shape.Map key value) section.widths section.total section.first section.second o a b }
+
+-- What the codec of sets and maps tells.
+pub buckets_tell : (shape : Shape) (section : Section) (place : ℕ) (result : Result Row PlaceFault) → IsBuckets shape → TellsBucketRow shape section.widths section.total section.first section.second place result → TellsPlace shape section place result
+buckets_tell (Shape.Set element) section place (Ok row) kind told = told
+buckets_tell (Shape.Set element) section place (Err PlaceFault.Memory) kind told = tt
+buckets_tell (Shape.Set element) section place (Err (PlaceFault.Bad reason)) kind told = λ row h. buckets.row_or_reason (Shape.Set element) section.widths section.total section.first section.second place row reason h told
+buckets_tell (Shape.Map key value) section place (Ok row) kind told = told
+buckets_tell (Shape.Map key value) section place (Err PlaceFault.Memory) kind told = tt
+buckets_tell (Shape.Map key value) section place (Err (PlaceFault.Bad reason)) kind told = λ row h. buckets.row_or_reason (Shape.Map key value) section.widths section.total section.first section.second place row reason h told
+buckets_tell _ section place result kind told = absurd kind
 
 -- Rows that are read load, where they have places and the words keep the limit.
-pub loads : (shape : Shape) (section : Section) (rows : RowMap) → AreRead shape section (entries rows) → All (λ o. o < places_of section.max) section.live → fixed_words shape (layout_of section) ≤ number_of_limit Words
+pub loads : (shape : Shape) (section : Section) (rows : RowMap) → AreRead shape section (entries rows) → All (λ o. o < places_of section.max) section.live → fixed_words shape (layout_of section) (values rows) ≤ number_of_limit Words
     → Loads shape section rows
 loads shape section rows read places words = record {
   is = record { live = read.live; places = places; spelled = read.spelled };
@@ -95,19 +117,43 @@ fields_long [] [] [] h = refl
 fields_long (f ∷ fs) (p ∷ ps) (v ∷ vs) h = ap (λ n. suc n) (fields_long fs ps vs h.1)
 fields_long _ _ _ h = absurd h
 
-pub has_values : (shape : Shape) (section : Section) (fields : List Field) (o : ℕ) (row : Row) → fields ≡ shape_fields shape → IsSpelledIn shape section (o, row) → HasValues row (length fields)
-has_values (Shape.Object key names) section fields o (Row.Object values) is h = fields_long names (parts_of section.widths section.first section.areas o) values h ∙ ap length (sym is)
-has_values (Shape.Object key names) section fields o _ is h = absurd h
-has_values _ section fields o row is h = absurd h
+-- A set or map has no more elements than the total.
+few_keys : (total : ℕ) (keys : List ℕ) (pairs : List (ℕ × ℕ)) → total ≤ number_of_limit Items → length pairs ≤ total → keys ≡ keys_of_pairs pairs → length keys < 2 ^ 32
+few_keys total keys pairs few within is = let same = ap length is ∙ length-map pairs (λ pair. pair.0) in omega arith
+
+few_pairs : (total : ℕ) (entries pairs : List (ℕ × ℕ)) → total ≤ number_of_limit Items → length pairs ≤ total → entries ≡ pairs → length entries < 2 ^ 32
+few_pairs total entries pairs few within is = let same = ap length is in omega arith
+
+-- A row that is spelled is of the kind of its type.
+pub of_kind : (shape : Shape) (section : Section) (o : ℕ) (row : Row) → IsReadable shape section → IsSpelledIn shape section (o, row) → IsOfKind shape row
+of_kind (Shape.Object key fields) section o (Row.Object values) readable h = fields_long fields (parts_of section.widths section.first section.areas o) values h
+of_kind (Shape.Object key fields) section o _ readable h = absurd h
+of_kind (Shape.List element) section o (Row.List ordinals) readable h = tt
+of_kind (Shape.List element) section o _ readable h = absurd h
+of_kind (Shape.Set element) section o (Row.Set ordinals) readable h =
+    few_keys section.total ordinals h.0 readable.items (buckets.pairs_within section.widths section.total section.first section.second o h.0 h.2) h.1
+of_kind (Shape.Set element) section o _ readable h = absurd h.1
+of_kind (Shape.Map key value) section o (Row.Map pairs) readable h =
+    few_pairs section.total pairs h.0 readable.items (buckets.pairs_within section.widths section.total section.first section.second o h.0 h.2) h.1
+of_kind (Shape.Map key value) section o _ readable h = absurd h.1
 
 -- What the loop over the rows refuses, and how it goes on.
-pub misfit_rows : (shape : Shape) (section : Section) (fields : List Field) (live : List ℕ) (index : ℕ) (es : List (ℕ × Row)) (ends : List ℕ) (bytes : ℕ) (row : Row) → fields ≡ shape_fields shape → live ≡ section.live
-    → Progress (IsSpelledIn shape section) fields section.widths live index es ends bytes → index < length live → IsSpelledIn shape section (get_or live index 0, row) → (FitsRow fields section.widths ends row → ⊥) → (rows : List (ℕ × Row)) → AreRead shape section rows → ⊥
-misfit_rows shape section fields live index es ends bytes row is same p inside here wide rows read =
-    misfit (IsSpelledIn shape section) (one_row shape section) fields section.widths live index es ends bytes (get_or live index 0) row p inside refl here wide rows (read.live ∙ sym same) read.spelled
-    (subst (λ fs. HoldsRows fs section.widths [] (values_of rows)) (sym is) read.held)
+pub misfit_rows : (shape : Shape) (section : Section) (live : List ℕ) (index : ℕ) (es : List (ℕ × Row)) (ends : List ℕ) (items bytes : ℕ) (row : Row) → live ≡ section.live
+    → Progress (IsSpelledIn shape section) shape section.widths live index es ends items bytes → index < length live → IsSpelledIn shape section (get_or live index 0, row) → (FitsBehind shape section.widths ends items row → ⊥) → (rows : List (ℕ × Row)) → AreRead shape section rows → ⊥
+misfit_rows shape section live index es ends items bytes row same p inside here wide rows read =
+    misfit (IsSpelledIn shape section) (one_row shape section) shape section.widths live index es ends items bytes (get_or live index 0) row p inside refl here wide rows (read.live ∙ sym same) read.spelled read.held
 
-pub heavy_rows : (shape : Shape) (section : Section) (fields : List Field) (live : List ℕ) (index : ℕ) (es : List (ℕ × Row)) (ends : List ℕ) (bytes counted : ℕ) (row : Row) → live ≡ section.live
-    → Progress (IsSpelledIn shape section) fields section.widths live index es ends bytes → index < length live → IsSpelledIn shape section (get_or live index 0, row) → number_of_limit Bytes < counted → counted ≤ bytes + row_bytes row → (rows : List (ℕ × Row)) → AreRead shape section rows → ⊥
-heavy_rows shape section fields live index es ends bytes counted row same p inside here over most rows read =
-    heavy (IsSpelledIn shape section) (one_row shape section) fields section.widths live index es ends bytes (get_or live index 0) row p inside refl here (omega arith) rows (read.live ∙ sym same) read.spelled read.bytes
+pub heavy_rows : (shape : Shape) (section : Section) (live : List ℕ) (index : ℕ) (es : List (ℕ × Row)) (ends : List ℕ) (items bytes counted : ℕ) (row : Row) → live ≡ section.live
+    → Progress (IsSpelledIn shape section) shape section.widths live index es ends items bytes → index < length live → IsSpelledIn shape section (get_or live index 0, row) → number_of_limit Bytes < counted → counted ≤ bytes + row_bytes row → (rows : List (ℕ × Row)) → AreRead shape section rows → ⊥
+heavy_rows shape section live index es ends items bytes counted row same p inside here over most rows read =
+    heavy (IsSpelledIn shape section) (one_row shape section) shape section.widths live index es ends items bytes (get_or live index 0) row p inside refl here (omega arith) rows (read.live ∙ sym same) read.spelled read.bytes
+
+-- Rows of more words than the limit are those that are read, and none else.
+pub wordy : (shape : Shape) (section : Section) (half rows : RowMap) (items words : ℕ) → AreRead shape section (entries half) → items ≡ item_count (values half)
+    → words ≡ words_needed shape (layout_of section) + words_of (items * item_bits shape section.widths) → number_of_limit Words < words → Loads shape section rows → ⊥
+wordy shape section half rows items words read counted is over l =
+    let same = same_entries (IsSpelledIn shape section) (one_row shape section) (entries rows) (entries half) (l.is.live ∙ sym read.live) l.is.spelled read.spelled in
+    let count : item_count (values rows) ≡ items = ap (λ es. item_count (values_of es)) same ∙ sym counted in
+    let total : fixed_words shape (layout_of section) (values rows) ≡ words = ap (λ n. words_needed shape (layout_of section) + words_of (n * item_bits shape section.widths)) count ∙ sym is in
+    let few = l.within.words in
+    omega arith

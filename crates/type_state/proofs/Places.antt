@@ -1,19 +1,20 @@
 -- A section that can be read: what the codec of its kind needs at a place.
-use Rattle.std.proofs.Common.{◌≡◌, ◌+◌, ◌*◌, ◌/◌, ◌<◌, ◌≤◌, ℕ, zero, suc, List, [], ◌∷◌, Option, None, Some, length, refl, ap, sym, ◌∙◌, arith}
-use Rattle.std.specs.Prelude.{sum, slice_index}
+use Rattle.std.proofs.Common.{◌≡◌, ◌+◌, ◌*◌, ◌/◌, ◌<◌, ◌≤◌, ℕ, zero, suc, List, [], ◌∷◌, Option, None, Some, length, refl, ap, ◌∙◌, arith}
+use Rattle.std.specs.Prelude.{All, sum, slice_index}
 use Rattle.std.specs.List.{AllZip}
 use Rattle.std.proofs.Math.Nat.{mul-le-mul_right}
 use Rattle.std.proofs.lemmas.Slice.Zip.{AllZip-long}
+use Rattle.schema_model.specs.declared.schema.name.Name.{Name}
 use Rattle.schema_model.specs.declared.schema.Field.{Field}
 use Rattle.schema_model.specs.declared.schema.Schema.{Schema}
 use Rattle.schema_model.specs.declared.schema.Shape.{Shape}
 use Rattle.schema_model.specs.Parts.{shape_fields}
-use Rattle.object_codec.specs.ObjectPlace.{IsFieldWidth, HoldsPlace}
+use Rattle.object_codec.specs.ObjectPlace.{IsObject, IsFieldWidth, HoldsPlace}
 use Rattle.type_state.specs.declared.section.Section.{Section}
 use Rattle.type_state.specs.Layout.{places_of, width_count}
 use Rattle.type_state.specs.Loads.{layout_of}
 use Rattle.type_state.specs.State.{Half, IsLaidOut}
-use Rattle.type_state.specs.WellFormed.{IsBuilt, IsWidth, IsReadable}
+use Rattle.type_state.specs.WellFormed.{IsWidth, IsReadable}
 
 -- Where there is a place the widths are those of the fields.
 field_widths : (max : Option ℕ) (fields : List Field) (widths : List ℕ) → 0 < places_of max → AllZip (λ (field : Field) width. IsWidth max field.kind width) fields widths → AllZip IsFieldWidth fields widths
@@ -26,28 +27,38 @@ within places size words place enough inside =
     let below : (place + 1) * size ≤ places * size = mul-le-mul_right size (omega arith) in omega arith
 
 -- What the codec of OBJECTs needs at a place.
-pub holds_place : (shape : Shape) (section : Section) (place : ℕ) → IsReadable shape section → place < places_of section.max → HoldsPlace (shape_fields shape) section.widths section.first section.areas place
-holds_place (Shape.Object key fields) section place h inside = record {
+pub holds_object : (shape : Shape) (section : Section) (place : ℕ) → IsObject shape → IsReadable shape section → place < places_of section.max → HoldsPlace (shape_fields shape) section.widths section.first section.areas place
+holds_object (Shape.Object key fields) section place kind h inside = record {
   few = h.many;
   wide = field_widths section.max fields section.widths (omega arith) h.well.wide;
   filled = h.well.filled;
   within = within (places_of section.max) (sum section.widths) (length section.first) place h.well.enough inside;
   below = omega (arith, h.few);
 }
-holds_place _ section place h inside = absurd h.well.built
+holds_object _ section place kind h inside = absurd kind
 
--- There is a width for each field.
-pub widths_long : (shape : Shape) (section : Section) → IsReadable shape section → length section.widths ≡ length (shape_fields shape)
-widths_long shape section h = AllZip-long (λ (field : Field) width. IsWidth section.max field.kind width) (shape_fields shape) section.widths h.well.wide
+-- A type of sets or maps.
+abbrev pub IsBuckets : Shape → Type 0
+IsBuckets (Shape.Set element) = Unit {0}
+IsBuckets (Shape.Map key value) = Unit {0}
+IsBuckets _ = ⊥
 
--- Where the codec stands the kind has a width for each field.
-count_built : (shape : Shape) → IsBuilt shape → width_count shape ≡ length (shape_fields shape)
-count_built (Shape.Object key fields) built = refl
-count_built _ built = absurd built
+pub is_buckets : (shape : Shape) → ((key : Option (List Name)) (fields : List Field) → shape ≡ Shape.Object key fields → ⊥) → ((element : Name) → shape ≡ Shape.List element → ⊥) → IsBuckets shape
+is_buckets (Shape.Object key fields) object list = absurd (object key fields refl)
+is_buckets (Shape.List element) object list = absurd (list element refl)
+is_buckets (Shape.Set element) object list = tt
+is_buckets (Shape.Map key value) object list = tt
+
+-- There are as many widths as the kind has.
+pub widths_long : (shape : Shape) (section : Section) → IsReadable shape section → length section.widths ≡ width_count shape
+widths_long (Shape.Object key fields) section h = AllZip-long (λ (field : Field) width. IsWidth section.max field.kind width) fields section.widths h.well.wide
+widths_long (Shape.List element) section h = h.well.wide.0
+widths_long (Shape.Set element) section h = h.well.wide.0
+widths_long (Shape.Map key value) section h = h.well.wide.0
 
 -- A half at the layout of the section is laid out.
 pub laid_out : (schema : Schema) (section : Section) (half : Half) → IsReadable schema.shape section → half.layout ≡ layout_of section → IsLaidOut schema half
-laid_out schema section half h is = ap (λ l. length l.widths) is ∙ widths_long schema.shape section h ∙ sym (count_built schema.shape h.well.built)
+laid_out schema section half h is = ap (λ l. length l.widths) is ∙ widths_long schema.shape section h
 
 pub narrow_one : (max : Option ℕ) (field : Field) (width : ℕ) → IsWidth max field.kind width → width ≤ 64
 narrow_one None field width h = h
@@ -60,6 +71,14 @@ narrow_at max (field ∷ fields) [] f h = absurd h
 narrow_at max (field ∷ fields) (width ∷ widths) zero h = narrow_one max field width h.0
 narrow_at max (field ∷ fields) (width ∷ widths) (suc f) h = narrow_at max fields widths f h.1
 
+each_narrow : (widths : List ℕ) (f : ℕ) → All (λ width. width ≤ 64) widths → slice_index widths f ≤ 64
+each_narrow [] f h = omega arith
+each_narrow (width ∷ widths) zero h = h 0 0 (omega arith)
+each_narrow (width ∷ widths) (suc f) h = each_narrow widths f (λ k d l. h (suc k) d (omega arith))
+
 -- No width is above 64.
 pub narrow : (shape : Shape) (section : Section) → IsReadable shape section → (f : ℕ) → slice_index section.widths f ≤ 64
-narrow shape section h f = narrow_at section.max (shape_fields shape) section.widths f h.well.wide
+narrow (Shape.Object key fields) section h f = narrow_at section.max fields section.widths f h.well.wide
+narrow (Shape.List element) section h f = each_narrow section.widths f h.well.wide.1
+narrow (Shape.Set element) section h f = each_narrow section.widths f h.well.wide.1
+narrow (Shape.Map key value) section h f = each_narrow section.widths f h.well.wide.1

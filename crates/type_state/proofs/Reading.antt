@@ -9,13 +9,14 @@ use Rattle.std.proofs.lemmas.List.Sums.{sum_by-append}
 use Rattle.std.proofs.lemmas.Map.Keys.{sorted_from_strictly_increasing, below_from_sorted}
 use Rattle.schema_model.specs.declared.limit.Limit.TheVariants.{Bytes}
 use Rattle.schema_model.specs.Limit.{number_of_limit}
-use Rattle.schema_model.specs.declared.schema.Field.{Field}
-use Rattle.schema_model.specs.declared.rows.row.Value.{Value}
+use Rattle.schema_model.specs.Parts.{shape_fields}
+use Rattle.schema_model.specs.declared.schema.Shape.{Shape}
 use Rattle.schema_model.specs.declared.rows.row.Row.{Row}
 use Rattle.ordinal_set.specs.Ordinals.{bound_of}
 use Rattle.type_state.specs.WordsHeld.{row_bytes, part_bytes, field_bytes, bytes_held}
-use Rattle.type_state.specs.Holds.{FitsWidth, FitsWidths, HoldsRow, HoldsRows}
-use Rattle.type_state.specs.Ends.{end_after, FitsRow}
+use Rattle.type_state.specs.Layout.{items_of_row, item_count}
+use Rattle.type_state.specs.Holds.{FitsRow, HoldsRow, HoldsRows}
+use Rattle.type_state.specs.Ends.{FitsBehind}
 
 abbrev pub Entry : Type 0
 Entry = ℕ × Row
@@ -47,50 +48,60 @@ same_entries P one (e ∷ es) (f ∷ fs) keys a b =
     λ i. first i ∷ rest i
 
 -- Rows that fit, and one more behind them.
-pub held_more : (fields : List Field) (widths : List ℕ) (before rows : List Row) (row : Row) → HoldsRows fields widths before rows → HoldsRow fields widths (before ++ (rows ++ row ∷ [])) row → HoldsRows fields widths before (rows ++ row ∷ [])
-held_more fields widths before [] row h last = (last, tt)
-held_more fields widths before (r ∷ rows) row h last =
-    (h.0, held_more fields widths (before ++ r ∷ []) rows row h.1 (subst (λ all. HoldsRow fields widths all row) (sym (append_assoc before (r ∷ []) (rows ++ row ∷ []))) last))
+held_more : (shape : Shape) (widths : List ℕ) (before rows : List Row) (row : Row) → HoldsRows shape widths before rows → HoldsRow shape widths (before ++ (rows ++ row ∷ [])) row → HoldsRows shape widths before (rows ++ row ∷ [])
+held_more shape widths before [] row h last = (last, tt)
+held_more shape widths before (r ∷ rows) row h last =
+    (h.0, held_more shape widths (before ++ r ∷ []) rows row h.1 (subst (λ all. HoldsRow shape widths all row) (sym (append_assoc before (r ∷ []) (rows ++ row ∷ []))) last))
 
-pub held_at : (fields : List Field) (widths : List ℕ) (before rows : List Row) (row : Row) (after : List Row) → HoldsRows fields widths before (rows ++ row ∷ after) → HoldsRow fields widths (before ++ (rows ++ row ∷ [])) row
-held_at fields widths before [] row after h = h.0
-held_at fields widths before (r ∷ rows) row after h =
-    subst (λ all. HoldsRow fields widths all row) (append_assoc before (r ∷ []) (rows ++ row ∷ [])) (held_at fields widths (before ++ r ∷ []) rows row after h.1)
+held_at : (shape : Shape) (widths : List ℕ) (before rows : List Row) (row : Row) (after : List Row) → HoldsRows shape widths before (rows ++ row ∷ after) → HoldsRow shape widths (before ++ (rows ++ row ∷ [])) row
+held_at shape widths before [] row after h = h.0
+held_at shape widths before (r ∷ rows) row after h =
+    subst (λ all. HoldsRow shape widths all row) (append_assoc before (r ∷ []) (rows ++ row ∷ [])) (held_at shape widths (before ++ r ∷ []) rows row after h.1)
 
 -- The end offsets behind one more row.
-pub more_bytes : (f : ℕ) (rows : List Row) (row : Row) → field_bytes f (rows ++ row ∷ []) ≡ field_bytes f rows + part_bytes f row
+more_bytes : (f : ℕ) (rows : List Row) (row : Row) → field_bytes f (rows ++ row ∷ []) ≡ field_bytes f rows + part_bytes f row
 more_bytes f rows row = sum_by-append (part_bytes f) rows (row ∷ []) ∙ ap (λ n. field_bytes f rows + n) (zero-add (part_bytes f row))
 
-fits_same : (fields : List Field) (widths : List ℕ) (values : List Value) (one other : ℕ → ℕ) → ((f : ℕ) → one f ≡ other f) → FitsWidths fields widths one values → FitsWidths fields widths other values
-fits_same fields widths values one other same h f field value gf gv = subst (λ e. FitsWidth field.kind (slice_index widths f) e value) (same f) (h f field value gf gv)
+-- The items of one more row.
+more_items : (rows : List Row) (row : Row) → item_count (rows ++ row ∷ []) ≡ item_count rows + items_of_row row
+more_items rows row = sum_by-append items_of_row rows (row ∷ []) ∙ ap (λ n. item_count rows + n) (zero-add (items_of_row row))
 
-pub holds_row : (fields : List Field) (widths ends : List ℕ) (rows : List Row) (row : Row) → ((f : ℕ) → slice_index ends f ≡ field_bytes f rows) → FitsRow fields widths ends row → HoldsRow fields widths (rows ++ row ∷ []) row
-holds_row fields widths ends rows (Row.Object values) is h =
-    fits_same fields widths values (end_after ends values) (λ f. field_bytes f (rows ++ Row.Object values ∷ []))
-    (λ f. ap (λ n. n + part_bytes f (Row.Object values)) (is f) ∙ sym (more_bytes f rows (Row.Object values))) h
-holds_row fields widths ends rows _ is h = absurd h
+-- A row fits where it ends at equal offsets and behind as many items.
+fits_same : (shape : Shape) (widths : List ℕ) (row : Row) (one other : ℕ → ℕ) (few more : ℕ) → ((f : ℕ) → one f ≡ other f) → few ≡ more → FitsRow shape widths one few row → FitsRow shape widths other more row
+fits_same shape widths row one other few more same count h =
+    let ends : one ≡ other = λ i. λ f. same f i in
+    subst (λ e. FitsRow shape widths e more row) ends (subst (λ n. FitsRow shape widths one n row) count h)
 
-pub fits_row : (fields : List Field) (widths ends : List ℕ) (rows : List Row) (row : Row) → ((f : ℕ) → slice_index ends f ≡ field_bytes f rows) → HoldsRow fields widths (rows ++ row ∷ []) row → FitsRow fields widths ends row
-fits_row fields widths ends rows (Row.Object values) is h =
-    fits_same fields widths values (λ f. field_bytes f (rows ++ Row.Object values ∷ [])) (end_after ends values)
-    (λ f. more_bytes f rows (Row.Object values) ∙ sym (ap (λ n. n + part_bytes f (Row.Object values)) (is f))) h
-fits_row fields widths ends rows _ is h = absurd h
+-- What fits behind the ends of some rows is held behind the rows, and the other way round.
+holds_row : (shape : Shape) (widths ends : List ℕ) (items : ℕ) (rows : List Row) (row : Row) → ((f : ℕ) → slice_index ends f ≡ field_bytes f rows) → items ≡ item_count rows → FitsBehind shape widths ends items row
+    → HoldsRow shape widths (rows ++ row ∷ []) row
+holds_row shape widths ends items rows row is count h =
+    fits_same shape widths row (λ f. slice_index ends f + part_bytes f row) (λ f. field_bytes f (rows ++ row ∷ [])) (items + items_of_row row) (item_count (rows ++ row ∷ []))
+    (λ f. ap (λ n. n + part_bytes f row) (is f) ∙ sym (more_bytes f rows row)) (ap (λ n. n + items_of_row row) count ∙ sym (more_items rows row)) h
+
+fits_row : (shape : Shape) (widths ends : List ℕ) (items : ℕ) (rows : List Row) (row : Row) → ((f : ℕ) → slice_index ends f ≡ field_bytes f rows) → items ≡ item_count rows → HoldsRow shape widths (rows ++ row ∷ []) row
+    → FitsBehind shape widths ends items row
+fits_row shape widths ends items rows row is count h =
+    fits_same shape widths row (λ f. field_bytes f (rows ++ row ∷ [])) (λ f. slice_index ends f + part_bytes f row) (item_count (rows ++ row ∷ [])) (items + items_of_row row)
+    (λ f. more_bytes f rows row ∙ sym (ap (λ n. n + part_bytes f row) (is f))) (more_items rows row ∙ sym (ap (λ n. n + items_of_row row) count)) h
 
 -- The rows of the live ordinals below an index are read.
-pub record Progress (P : Entry → Type 0) (fields : List Field) (widths live : List ℕ) (index : ℕ) (es : List Entry) (ends : List ℕ) (bytes : ℕ) : Type 0 where
+pub record Progress (P : Entry → Type 0) (shape : Shape) (widths live : List ℕ) (index : ℕ) (es : List Entry) (ends : List ℕ) (items bytes : ℕ) : Type 0 where
   pub keys : keys_of es ≡ take index live
   pub spelled : All P es
-  pub held : HoldsRows fields widths [] (values_of es)
+  pub held : HoldsRows shape widths [] (values_of es)
   pub reached : (f : ℕ) → slice_index ends f ≡ field_bytes f (values_of es)
-  pub long : length ends ≡ length fields
+  pub counted : items ≡ item_count (values_of es)
+  pub long : length ends ≡ length (shape_fields shape)
   pub total : bytes ≡ bytes_held (values_of es)
   pub few : bytes ≤ number_of_limit Bytes
 
 -- At first none are read.
-pub begun : (P : Entry → Type 0) (fields : List Field) (widths live : List ℕ) (es : List Entry) (ends : List ℕ) → es ≡ [] → ((f : ℕ) → slice_index ends f ≡ 0) → length ends ≡ length fields → Progress P fields widths live 0 es ends 0
-begun P fields widths live es ends none zeros long =
-    subst (λ all. Progress P fields widths live 0 all ends 0) (sym none)
-    record { keys = refl; spelled = λ k d l. absurd (omega arith); held = tt; reached = zeros; long = long; total = refl; few = omega arith }
+pub begun : (P : Entry → Type 0) (shape : Shape) (widths live : List ℕ) (es : List Entry) (ends : List ℕ) (items : ℕ) → es ≡ [] → ((f : ℕ) → slice_index ends f ≡ 0) → items ≡ 0 → length ends ≡ length (shape_fields shape)
+    → Progress P shape widths live 0 es ends items 0
+begun P shape widths live es ends items none zeros zero long =
+    subst (λ all. Progress P shape widths live 0 all ends items 0) (sym none)
+    record { keys = refl; spelled = λ k d l. absurd (omega arith); held = tt; reached = zeros; counted = zero; long = long; total = refl; few = omega arith }
 
 values_more : (es : List Entry) (o : ℕ) (row : Row) → values_of (es ++ (o, row) ∷ []) ≡ values_of es ++ row ∷ []
 values_more es o row = map-append (λ e. e.1) es ((o, row) ∷ [])
@@ -119,17 +130,17 @@ front_values P one live index o es row fs keys spelled inside is here lived all 
     ∙ append_assoc (values_of es) (row ∷ []) (values_of (drop (index + 1) fs))
 
 -- A row that does not fit stands in no rows of the section.
-pub misfit : (P : Entry → Type 0) → IsFunction P → (fields : List Field) (widths live : List ℕ) (index : ℕ) (es : List Entry) (ends : List ℕ) (bytes o : ℕ) (row : Row) → Progress P fields widths live index es ends bytes → index < length live
-    → o ≡ get_or live index 0 → P (o, row) → (FitsRow fields widths ends row → ⊥) → (fs : List Entry) → keys_of fs ≡ live → All P fs → HoldsRows fields widths [] (values_of fs) → ⊥
-misfit P one fields widths live index es ends bytes o row p inside is here wide fs lived all held =
+pub misfit : (P : Entry → Type 0) → IsFunction P → (shape : Shape) (widths live : List ℕ) (index : ℕ) (es : List Entry) (ends : List ℕ) (items bytes o : ℕ) (row : Row) → Progress P shape widths live index es ends items bytes → index < length live
+    → o ≡ get_or live index 0 → P (o, row) → (FitsBehind shape widths ends items row → ⊥) → (fs : List Entry) → keys_of fs ≡ live → All P fs → HoldsRows shape widths [] (values_of fs) → ⊥
+misfit P one shape widths live index es ends items bytes o row p inside is here wide fs lived all held =
     let whole = front_values P one live index o es row fs p.keys p.spelled inside is here lived all in
-    let at = held_at fields widths [] (values_of es) row (values_of (drop (index + 1) fs)) (subst (HoldsRows fields widths []) whole held) in
-    wide (fits_row fields widths ends (values_of es) row p.reached at)
+    let at = held_at shape widths [] (values_of es) row (values_of (drop (index + 1) fs)) (subst (HoldsRows shape widths []) whole held) in
+    wide (fits_row shape widths ends items (values_of es) row p.reached p.counted at)
 
 -- Rows of more bytes than the limit are part of no fewer.
-pub heavy : (P : Entry → Type 0) → IsFunction P → (fields : List Field) (widths live : List ℕ) (index : ℕ) (es : List Entry) (ends : List ℕ) (bytes o : ℕ) (row : Row) → Progress P fields widths live index es ends bytes → index < length live
+pub heavy : (P : Entry → Type 0) → IsFunction P → (shape : Shape) (widths live : List ℕ) (index : ℕ) (es : List Entry) (ends : List ℕ) (items bytes o : ℕ) (row : Row) → Progress P shape widths live index es ends items bytes → index < length live
     → o ≡ get_or live index 0 → P (o, row) → number_of_limit Bytes < bytes + row_bytes row → (fs : List Entry) → keys_of fs ≡ live → All P fs → bytes_held (values_of fs) ≤ number_of_limit Bytes → ⊥
-heavy P one fields widths live index es ends bytes o row p inside is here over fs lived all few =
+heavy P one shape widths live index es ends items bytes o row p inside is here over fs lived all few =
     let whole = front_values P one live index o es row fs p.keys p.spelled inside is here lived all in
     let sum = ap bytes_held whole ∙ sum_by-append row_bytes (values_of es) (row ∷ values_of (drop (index + 1) fs)) in
     let next = sum_by-append row_bytes (row ∷ []) (values_of (drop (index + 1) fs)) in
@@ -141,27 +152,28 @@ unfolding bound_of
 low_bound [] o below = omega arith
 low_bound (k ∷ os) o below = let first = below 0 (omega arith) in let rest = low_bound os o (λ i h. below (suc i) (omega arith)) in omega arith
 
-pub next_above : (P : Entry → Type 0) (fields : List Field) (widths live : List ℕ) (index : ℕ) (es : List Entry) (ends : List ℕ) (bytes o : ℕ) → Progress P fields widths live index es ends bytes → index < length live
+pub next_above : (P : Entry → Type 0) (shape : Shape) (widths live : List ℕ) (index : ℕ) (es : List Entry) (ends : List ℕ) (items bytes o : ℕ) → Progress P shape widths live index es ends items bytes → index < length live
     → o ≡ get_or live index 0 → IsStrictlyIncreasing live → bound_of (keys_of es) ≤ o
-next_above P fields widths live index es ends bytes o p inside is rising =
+next_above P shape widths live index es ends items bytes o p inside is rising =
     let sorted = sorted_from_strictly_increasing live rising in
     let taken = length-take index live in
     subst (λ os. bound_of os ≤ o) (sym p.keys) (low_bound (take index live) o (λ i h.
     subst (λ n. n < o) (sym (get_or-take index live i 0 (omega arith))) (subst (λ n. get_or live i 0 < n) (sym is) (below_from_sorted live i index 0 sorted (omega arith) inside))))
 
 -- The next row is read.
-pub read_on : (P : Entry → Type 0) (fields : List Field) (widths live : List ℕ) (index : ℕ) (es new : List Entry) (ends after : List ℕ) (bytes counted o : ℕ) (row : Row) → Progress P fields widths live index es ends bytes → index < length live
-    → o ≡ get_or live index 0 → P (o, row) → FitsRow fields widths ends row → ((f : ℕ) → slice_index after f ≡ slice_index ends f + part_bytes f row) → length after ≡ length fields → counted ≡ bytes + row_bytes row → counted ≤ number_of_limit Bytes
-    → new ≡ es ++ (o, row) ∷ [] → Progress P fields widths live (index + 1) new after counted
-read_on P fields widths live index es new ends after bytes counted o row p inside is here fits grown long sum few last =
+pub read_on : (P : Entry → Type 0) (shape : Shape) (widths live : List ℕ) (index : ℕ) (es new : List Entry) (ends after : List ℕ) (items more bytes counted o : ℕ) (row : Row) → Progress P shape widths live index es ends items bytes
+    → index < length live → o ≡ get_or live index 0 → P (o, row) → FitsBehind shape widths ends items row → ((f : ℕ) → slice_index after f ≡ slice_index ends f + part_bytes f row) → more ≡ items + items_of_row row → length after ≡ length ends
+    → counted ≡ bytes + row_bytes row → counted ≤ number_of_limit Bytes → new ≡ es ++ (o, row) ∷ [] → Progress P shape widths live (index + 1) new after more counted
+read_on P shape widths live index es new ends after items more bytes counted o row p inside is here fits grown up long sum few last =
     let whole : values_of new ≡ values_of es ++ row ∷ [] = ap values_of last ∙ values_more es o row in
     let single : All P ((o, row) ∷ []) = All-from_recursion P ((o, row) ∷ []) (here, tt) in
     record {
       keys = ap keys_of last ∙ keys_more live index o es row p.keys inside is;
       spelled = subst (All P) (sym last) (All-append P es ((o, row) ∷ []) p.spelled single);
-      held = subst (HoldsRows fields widths []) (sym whole) (held_more fields widths [] (values_of es) row p.held (holds_row fields widths ends (values_of es) row p.reached fits));
+      held = subst (HoldsRows shape widths []) (sym whole) (held_more shape widths [] (values_of es) row p.held (holds_row shape widths ends items (values_of es) row p.reached p.counted fits));
       reached = λ f. grown f ∙ ap (λ n. n + part_bytes f row) (p.reached f) ∙ sym (more_bytes f (values_of es) row) ∙ ap (field_bytes f) (sym whole);
-      long = long;
+      counted = up ∙ ap (λ n. n + items_of_row row) p.counted ∙ sym (more_items (values_of es) row) ∙ ap item_count (sym whole);
+      long = long ∙ p.long;
       total = sum ∙ ap (λ n. n + row_bytes row) p.total ∙ sym (ap bytes_held whole ∙ sum_by-append row_bytes (values_of es) (row ∷ []) ∙ ap (λ n. bytes_held (values_of es) + n) (zero-add (row_bytes row)));
       few = few;
     }

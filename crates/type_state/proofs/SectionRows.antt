@@ -1,5 +1,5 @@
 -- The rows of a section: one set of rows at most, and each fits the type.
-use Rattle.std.proofs.Common.{◌≡◌, ℕ, ◌+◌, ◌*◌, ◌/◌, ◌%◌, ◌^◌, ◌<◌, ◌≤◌, ◌==◌, List, [], ◌∷◌, suc, cond, true, false, Option, Some, sym, ◌∙◌, subst, arith}
+use Rattle.std.proofs.Common.{◌≡◌, ℕ, ◌+◌, ◌*◌, ◌/◌, ◌%◌, ◌-◌, ◌^◌, ◌<◌, ◌≤◌, ◌==◌, List, [], ◌∷◌, zero, suc, cond, true, false, Option, Some, sym, ◌∙◌, subst, arith}
 use Rattle.std.specs.Prelude.{All, sum, pos, negsuc, FitsSigned}
 use mir.Syntax.{w32, w64}
 use Rattle.std.specs.List.{AllZip}
@@ -10,10 +10,11 @@ use Rattle.schema_model.specs.declared.schema.Field.{Field}
 use Rattle.schema_model.specs.declared.schema.Shape.{Shape}
 use Rattle.schema_model.specs.declared.rows.row.Value.{Value}
 use Rattle.schema_model.specs.declared.rows.row.Row.{Row}
-use Rattle.schema_model.specs.Row.{FitsKind, FitsShape, IsValueInRange, IsRowInRange}
+use Rattle.schema_model.specs.Row.{Rises, FitsKind, FitsShape, IsValueInRange, IsRowInRange}
 use Rattle.schema_model.specs.Table.{RowMap}
 use Rattle.object_codec.specs.Part.{FieldPart, SpellsValue}
 use Rattle.object_codec.specs.ObjectPlace.{SpellsFields, parts_of, parts_from, part_at, element_at}
+use Rattle.bucket_codec.specs.Run.{keys_of, IsPairInRange}
 use Rattle.std.proofs.Math.Pow.{pow_mono}
 use Rattle.std.proofs.lemmas.List.Elements.{All-cons}
 use Rattle.hol_varint.specs.Zigzag.{unzigzag}
@@ -53,7 +54,12 @@ fields_fit _ _ _ h = absurd h
 row_fits : (shape : Shape) (section : Section) (o : ℕ) (row : Row) → IsSpelledIn shape section (o, row) → FitsShape shape row
 row_fits (Shape.Object key fields) section o (Row.Object values) h = fields_fit fields (parts_of section.widths section.first section.areas o) values h
 row_fits (Shape.Object key fields) section o _ h = absurd h
-row_fits _ section o row h = absurd h
+row_fits (Shape.List element) section o (Row.List ordinals) h = tt
+row_fits (Shape.List element) section o _ h = absurd h
+row_fits (Shape.Set element) section o (Row.Set ordinals) h = subst Rises (sym h.1) h.2.run.rises
+row_fits (Shape.Set element) section o _ h = absurd h.1
+row_fits (Shape.Map key value) section o (Row.Map pairs) h = subst (λ es. Rises (keys_of es)) (sym h.1) h.2.run.rises
+row_fits (Shape.Map key value) section o _ h = absurd h.1
 
 -- Each number of 32 bits is the zigzag number of one in 32 bits, and so for 64.
 int_ranges : (number : ℕ) → number < 2 ^ 32 → FitsSigned w32 (unzigzag number)
@@ -93,10 +99,24 @@ values_range max [] (w ∷ ws) first size place before areas values wide h = abs
 values_range max [] [] first size place before areas (v ∷ vs) wide h = absurd h
 values_range max [] [] first size place before areas [] wide h = λ k d l. absurd (omega arith)
 
+-- So are the numbers of a list, and of a set or map.
+list_ranges : (ordinals : List ℕ) → All (λ ordinal. ordinal ≤ 2 ^ 32 - 1) ordinals → All (λ ordinal. ordinal < 2 ^ 32) ordinals
+list_ranges ordinals all k d l = let below = all k d l in omega arith
+
+key_ranges : (pairs : List (ℕ × ℕ)) → All IsPairInRange pairs → All (λ ordinal. ordinal < 2 ^ 32) (keys_of pairs)
+key_ranges [] all k d l = absurd (omega arith)
+key_ranges (pair ∷ pairs) all zero d l = (all 0 pair (omega arith)).0
+key_ranges (pair ∷ pairs) all (suc k) d l = key_ranges pairs (λ i e h. all (suc i) e (omega arith)) k d (omega arith)
+
 row_ranges : (shape : Shape) (section : Section) (o : ℕ) (row : Row) → IsWellFormed shape section → IsSpelledIn shape section (o, row) → IsRowInRange row
 row_ranges (Shape.Object key fields) section o (Row.Object values) well h = values_range section.max fields section.widths section.first (sum section.widths) o 0 section.areas values well.wide h
 row_ranges (Shape.Object key fields) section o _ well h = absurd h
-row_ranges _ section o row well h = absurd h
+row_ranges (Shape.List element) section o (Row.List ordinals) well h = list_ranges ordinals h.small
+row_ranges (Shape.List element) section o _ well h = absurd h
+row_ranges (Shape.Set element) section o (Row.Set ordinals) well h = subst (All (λ ordinal. ordinal < 2 ^ 32)) (sym h.1) (key_ranges h.0 h.2.run.ranges)
+row_ranges (Shape.Set element) section o _ well h = absurd h.1
+row_ranges (Shape.Map key value) section o (Row.Map pairs) well h = subst (All IsPairInRange) (sym h.1) h.2.run.ranges
+row_ranges (Shape.Map key value) section o _ well h = absurd h.1
 
 -- A row that is found under an ordinal stands in the entries.
 found : (P : ℕ × Row → Type 0) (o : ℕ) (es : List (ℕ × Row)) (row : Row) → find nat_cmp o es ≡ Some row → All P es → (key : ℕ) × P (key, row)

@@ -1,22 +1,26 @@
--- The end offsets of an OBJECT type's fields, as its rows are laid out one after another.
-use Rattle.std.specs.Prelude.{◌≡◌, ℕ, ◌+◌, List, length, slice_get, slice_index}
+-- Where the rows of a type end, as they are laid out one after another: the end offset of each field of an OBJECT, and the items of the others.
+use Rattle.std.specs.Prelude.{◌≡◌, ℕ, ◌+◌, ◌^◌, ◌<◌, List, length, slice_get, slice_index}
 use Rattle.std.specs.Option.{option_map_or}
-use Rattle.schema_model.specs.declared.schema.Field.{Field}
+use Rattle.schema_model.specs.declared.schema.Shape.{Shape}
 use Rattle.schema_model.specs.declared.rows.row.Value.{Value}
 use Rattle.schema_model.specs.declared.rows.row.Row.{Row}
-use Rattle.type_state.specs.WordsHeld.{value_bytes}
-use Rattle.type_state.specs.Holds.{FitsWidths}
+use Rattle.type_state.specs.Layout.{items_of_row}
+use Rattle.type_state.specs.WordsHeld.{value_bytes, part_bytes}
+use Rattle.type_state.specs.Holds.{FitsRow}
 
 -- The end offset of a field behind a record, by those before it.
 abbrev pub end_after : List ℕ → List Value → ℕ → ℕ
 end_after ends values f = slice_index ends f + option_map_or value_bytes (slice_get values f) 0
 
--- Each part of a row fits its width, behind the end offsets of the rows before it.
-abbrev pub FitsRow : List Field → List ℕ → List ℕ → Row → Type 0
-FitsRow fields widths ends (Row.Object values) = FitsWidths fields widths (end_after ends values) values
-FitsRow fields widths ends _ = ⊥
+-- Each part of a row fits its width, behind rows that end at these offsets and have so many items.
+abbrev pub FitsBehind : Shape → List ℕ → List ℕ → ℕ → Row → Type 0
+FitsBehind shape widths ends items row =
+    FitsRow shape widths (λ f. slice_index ends f + part_bytes f row) (items + items_of_row row) row
 
--- A row is a record of so many values.
-abbrev pub HasValues : Row → ℕ → Type 0
-HasValues (Row.Object values) count = length values ≡ count
-HasValues _ count = ⊥
+-- A row is of the kind of its type: a record has a value for each field, and a set or map has fewer than 2^32 elements.
+abbrev pub IsOfKind : Shape → Row → Type 0
+IsOfKind (Shape.Object key fields) (Row.Object values) = length values ≡ length fields
+IsOfKind (Shape.List element) (Row.List ordinals) = Unit {0}
+IsOfKind (Shape.Set element) (Row.Set ordinals) = length ordinals < 2 ^ 32
+IsOfKind (Shape.Map key value) (Row.Map pairs) = length pairs < 2 ^ 32
+IsOfKind _ _ = ⊥

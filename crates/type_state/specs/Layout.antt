@@ -1,7 +1,9 @@
 -- The layout of a type in a blob: the max ordinal, which is the greatest that has a place, and the widths of the parts of its rows in bits.
-use Rattle.std.specs.Prelude.{ℕ, ◌+◌, ◌*◌, List, ◌∷◌, Option, None, Some, length, sum}
+use Rattle.std.specs.Prelude.{ℕ, ◌+◌, ◌*◌, List, ◌∷◌, Option, None, Some, length, sum, sum_by}
 use Rattle.bit_array.specs.Element.{words_of}
 use Rattle.schema_model.specs.declared.schema.Shape.{Shape}
+use Rattle.schema_model.specs.declared.rows.row.Row.{Row}
+use Rattle.bucket_codec.specs.BucketCount.{bucket_count}
 
 pub record Layout : Type 0 where
   pub max : Option ℕ
@@ -33,7 +35,25 @@ place_bits _ _ = 0
 abbrev pub words_needed : Shape → Layout → ℕ
 words_needed shape layout = words_of (places_of layout.max * place_bits shape layout.widths)
 
--- The fixed words of a type in one state, which the limit on words counts: for an OBJECT those of its places. Of the other kinds what is
--- said here are the words of the places; those of their elements and buckets come with their codecs.
-abbrev pub fixed_words : Shape → Layout → ℕ
-fixed_words shape layout = words_needed shape layout
+-- How many bits an item takes: an element of a LIST, a bucket of a SET, which is an element, or one of a MAP, which is a key and a value. An
+-- OBJECT has no items.
+abbrev pub item_bits : Shape → List ℕ → ℕ
+item_bits (Shape.List element) (pointer ∷ width ∷ rest) = width
+item_bits (Shape.Set element) (pointer ∷ size ∷ width ∷ rest) = width
+item_bits (Shape.Map key value) (pointer ∷ size ∷ key_width ∷ value_width ∷ rest) = key_width + value_width
+item_bits _ _ = 0
+
+-- The items of a row: the elements of a list, and the buckets that a set or map of so many elements takes.
+abbrev pub items_of_row : Row → ℕ
+items_of_row (Row.Object values) = 0
+items_of_row (Row.List ordinals) = length ordinals
+items_of_row (Row.Set ordinals) = bucket_count (length ordinals)
+items_of_row (Row.Map pairs) = bucket_count (length pairs)
+
+-- The items of some rows.
+abbrev pub item_count : List Row → ℕ
+item_count rows = sum_by items_of_row rows
+
+-- The fixed words of a type in one state, which the limit on words counts: those of its places, and besides those of the items of its rows.
+abbrev pub fixed_words : Shape → Layout → List Row → ℕ
+fixed_words shape layout rows = words_needed shape layout + words_of (item_count rows * item_bits shape layout.widths)

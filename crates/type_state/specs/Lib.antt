@@ -3,6 +3,7 @@ pub mod Entries
 pub mod Holds
 pub mod Layout
 pub mod Loads
+pub mod Lookup
 pub mod State
 pub mod Views
 pub mod WellFormed

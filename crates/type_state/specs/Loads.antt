@@ -5,11 +5,13 @@ use Rattle.std.specs.Map.{keys_of, values_of}
 use Rattle.schema_model.specs.declared.limit.Limit.{Limit}
 use Rattle.schema_model.specs.declared.limit.Limit.TheVariants.{Words, Bytes}
 use Rattle.schema_model.specs.Limit.{number_of_limit}
-use Rattle.schema_model.specs.Parts.{shape_fields}
 use Rattle.schema_model.specs.Table.{RowMap}
 use Rattle.schema_model.specs.declared.schema.Shape.{Shape}
 use Rattle.schema_model.specs.declared.rows.row.Row.{Row}
+use Rattle.schema_model.specs.declared.rows.packed.PlaceFault.{PlaceFault}
 use Rattle.object_codec.specs.ObjectPlace.{SpellsObjectRow}
+use Rattle.list_codec.specs.ListPlace.{SpellsListRow}
+use Rattle.bucket_codec.specs.BucketPlace.{SpellsBucketRow}
 use Rattle.type_state.specs.declared.section.Section.{Section}
 use Rattle.type_state.specs.declared.fault.RowFault.{RowFault}
 use Rattle.type_state.specs.Layout.{Layout, places_of}
@@ -20,10 +22,12 @@ use Rattle.type_state.specs.Holds.{Holds, HoldsRows, KeepsLimits}
 abbrev pub layout_of : Section → Layout
 layout_of section = record { max = section.max; widths = section.widths }
 
--- The place of a section spells this row, by the codec of the kind. Of a kind whose codec is not built no place spells a row.
+-- The place of a section spells this row, by the codec of the kind.
 abbrev pub Spells : Shape → Section → ℕ → Row → Type 0
 Spells (Shape.Object key fields) section place row = SpellsObjectRow (Shape.Object key fields) section.widths section.first section.areas place row
-Spells _ section place row = ⊥
+Spells (Shape.List element) section place row = SpellsListRow section.widths section.total section.first section.second place row
+Spells (Shape.Set element) section place row = SpellsBucketRow (Shape.Set element) section.widths section.total section.first section.second place row
+Spells (Shape.Map key value) section place row = SpellsBucketRow (Shape.Map key value) section.widths section.total section.first section.second place row
 
 -- A row under an ordinal is spelled at its place.
 abbrev pub IsSpelledIn : Shape → Section → ℕ × Row → Type 0
@@ -67,6 +71,12 @@ abbrev pub TellsLoad : Shape → Section → RowMap → Result (Unit {0}) RowFau
 TellsLoad shape section rows (Ok done) = Loads shape section rows
 TellsLoad shape section rows (Err fault) = RefusesLoad shape section fault
 
+-- What each answer of the codec tells.
+abbrev pub TellsPlace : Shape → Section → ℕ → Result Row PlaceFault → Type 0
+TellsPlace shape section ordinal (Ok row) = IsSpelledIn shape section (ordinal, row)
+TellsPlace shape section ordinal (Err PlaceFault.Memory) = Unit {0}
+TellsPlace shape section ordinal (Err (PlaceFault.Bad reason)) = (row : Row) → IsSpelledIn shape section (ordinal, row) → ⊥
+
 -- What each answer to the reading of one row tells.
 abbrev pub TellsRow : Shape → Section → ℕ → Result Row RowFault → Type 0
 TellsRow shape section ordinal (Ok row) = IsSpelledIn shape section (ordinal, row)
@@ -77,7 +87,7 @@ TellsRow shape section ordinal (Err _) = (row : Row) → IsSpelledIn shape secti
 pub record AreRead (shape : Shape) (section : Section) (rows : List (ℕ × Row)) : Type 0 where
   pub live : keys_of rows ≡ section.live
   pub spelled : All (IsSpelledIn shape section) rows
-  pub held : HoldsRows (shape_fields shape) section.widths [] (values_of rows)
+  pub held : HoldsRows shape section.widths [] (values_of rows)
   pub bytes : bytes_held (values_of rows) ≤ number_of_limit Bytes
 
 -- What a refusal tells of them.

@@ -1,7 +1,9 @@
-//! How many variable bytes values and rows have.
-ghost use Rattle.std.specs.Prelude.{◌≡◌, ◌-◌, ◌^◌, min, sum_by};
+//! How many variable bytes and how many items values and rows have.
+ghost use Rattle.std.specs.Prelude.{◌≡◌, ◌-◌, ◌^◌, ◌<◌, min, sum_by};
+ghost use Rattle.bucket_codec.specs.BucketCount.{bucket_count};
 ghost use Rattle.type_state.specs.WordsHeld.{value_bytes, row_bytes};
 
+use bucket_codec::buckets_for;
 use hol_varint::units_len;
 use schema_model::{Row, Value};
 
@@ -35,4 +37,12 @@ pub(crate) fn row_len(row: &Row) -> u64
         Row::Object(values) => values_len(values.as_slice()),
         _ => 0,
     }
+}
+
+/// How many buckets a set or map of so many elements takes.
+pub(crate) fn buckets(elements: usize) -> u64
+    requires { elements < 2 ^ 32 }
+    ensures { result ≡ bucket_count elements }
+{
+    buckets_for(elements as u32)
 }

@@ -1,13 +1,12 @@
-//! Which rows the widths of a layout can hold.
+//! Which records the widths of an OBJECT's fields can hold.
 ghost use Rattle.std.specs.Prelude.{◌≡◌, ◌↔◌, ◌+◌, ◌-◌, ◌^◌, ◌≤◌, ℕ, length, slice_index, IsTrue};
 ghost use Rattle.type_state.specs.Holds.{FitsWidth, FitsWidths};
-ghost use Rattle.type_state.specs.WordsHeld.{part_bytes};
-ghost use Rattle.type_state.specs.Ends.{end_after, FitsRow, HasValues};
+ghost use Rattle.type_state.specs.Ends.{end_after};
 
 use crate::count::value_len;
 use bit_array::all_ones;
 use hol_varint::{zigzag32, zigzag64};
-use schema_model::{Field, FieldKind, Row, Value};
+use schema_model::{Field, FieldKind, Value};
 
 /// The top bit of a width, 1 for none.
 fn null_bit(width: u32) -> u64
@@ -41,7 +40,12 @@ fn fits_width(kind: &FieldKind, width: u32, end: u64, value: &Value) -> bool
 }
 
 /// Adds the bytes of each value to the end offset of its field, and tells whether each value fits the width of its field.
-fn add_values(fields: &[Field], widths: &[u32], values: &[Value], ends: &mut [u64]) -> bool
+pub(crate) fn add_values(
+    fields: &[Field],
+    widths: &[u32],
+    values: &[Value],
+    ends: &mut [u64],
+) -> bool
     requires widths { length widths.now ≡ length fields.now }
     requires values { length values.now ≡ length fields.now }
     requires ends { length ends.old ≡ length fields.now }
@@ -58,19 +62,4 @@ fn add_values(fields: &[Field], widths: &[u32], values: &[Value], ends: &mut [u6
         ends[index] = end;
     }
     true
-}
-
-/// Adds the bytes of each value of a row to the end offset of its field, and tells whether each part fits the width of its field.
-pub(crate) fn add_row(fields: &[Field], widths: &[u32], row: &Row, ends: &mut [u64]) -> bool
-    requires widths { length widths.now ≡ length fields.now }
-    requires values { HasValues row.now (length fields.now) }
-    requires ends { length ends.old ≡ length fields.now }
-    requires narrow { (f : ℕ) → slice_index widths.now f ≤ 64 }
-    ensures fits { IsTrue result ↔ FitsRow fields.now widths.now ends.old row.now }
-    ensures ends { IsTrue result → (f : ℕ) → slice_index ends.new f ≡ slice_index ends.old f + part_bytes f row.now }
-{
-    match row {
-        Row::Object(values) => add_values(fields, widths, values.as_slice(), ends),
-        _ => false,
-    }
 }

@@ -1,9 +1,13 @@
 //! One half of a type's state: the rows of the type in one state, and their layout.
 ghost use Rattle.std.specs.Prelude.{◌≡◌, ◌↔◌, ◌+◌, ◌^◌, ◌<◌, ◌≤◌, ◌∷◌, ◌++◌, [], Some, IsSome, IfOk, IsTrue, OnOk};
+ghost use Rattle.std.specs.List.{Contains};
 ghost use Rattle.std.specs.FinMap.{get, keys, entries, empty};
 ghost use Rattle.ordinal_set.specs.Ordinals.{bound_of};
+ghost use Rattle.bucket_codec.specs.Run.{FindsIn};
+ghost use Rattle.type_state.specs.Lookup.{elements_of, pairs_of};
 ghost use Rattle.type_state.specs.State.{empty_half};
 
+use crate::lookup::{at, has};
 use hol_varint::Duplicate;
 use schema_model::{Row, Widths};
 use std::alloc::{AllocError, Global};
@@ -100,6 +104,28 @@ impl Kept {
         match self.rows.get(&ordinal) {
             Some(row) => row.copy(alloc),
             None => unreachable!(),
+        }
+    }
+
+    /// Whether the set under the ordinal has the element.
+    #[tactic(auto, using(crate::proofs::Entries::get_same))]
+    pub(crate) fn has(&self, ordinal: u32, element: u32) -> bool
+        ensures { IsTrue result ↔ Contains (elements_of (get self.now.rows ordinal)) element }
+    {
+        match self.rows.get(&ordinal) {
+            Some(row) => has(row, element),
+            None => false,
+        }
+    }
+
+    /// The value that the map under the ordinal has beside the key.
+    #[tactic(auto, using(crate::proofs::Entries::get_same))]
+    pub(crate) fn at(&self, ordinal: u32, key: u32) -> Option<u32>
+        ensures { FindsIn (pairs_of (get self.now.rows ordinal)) key result }
+    {
+        match self.rows.get(&ordinal) {
+            Some(row) => at(row, key),
+            None => None,
         }
     }
 }

@@ -2,11 +2,15 @@
 #![tactic(auto)]
 
 mod count;
+mod ends;
 mod fault;
 mod fits;
+mod items;
 mod kept;
 pub mod laws;
 mod load;
+mod lookup;
+mod place;
 mod section;
 mod state;
 mod states;

@@ -1,21 +1,27 @@
 //! From a section of a snapshot to the rows that its places spell.
 ghost use Rattle.std.specs.Prelude.{ℕ, ◌≡◌, ◌<◌, All, IfErr, IfOk, MatchResult, length, slice_index};
-ghost use Rattle.std.specs.FinMap.{entries};
+ghost use Rattle.std.specs.FinMap.{entries, values};
 ghost use Rattle.std.specs.List.Sorted.{IsStrictlyIncreasing};
 ghost use Rattle.schema_model.specs.Parts.{shape_fields};
-ghost use Rattle.type_state.specs.Layout.{places_of};
+ghost use Rattle.type_state.specs.Layout.{places_of, item_count};
 ghost use Rattle.type_state.specs.WellFormed.{IsReadable};
 ghost use Rattle.type_state.specs.Loads.{IsLoadFault, Loads, RefusesLoad, TellsRow, AreRead, RefusesRows, layout_of};
 
 use crate::count::row_len;
-use crate::fits::add_row;
+use crate::ends::Ends;
 use crate::kept::Kept;
-use crate::words::{places, words_needed};
+use crate::place::{buckets_at, read_place};
+use crate::words::{fixed_words, places};
 use crate::{RowFault, Section};
 use hol_varint::Duplicate;
-use object_codec::read;
 use schema_model::{Limit, MAX_BYTES, MAX_WORDS, PlaceFault, Reason, Row, Schema};
 use std::alloc::Global;
+
+/// The most elements that the rows of a type may have to be kept, and the most buckets that are walked to read them: as many as the limit on
+/// words lets a type have of one bit each.
+///
+/// Elements of no bits take no words, and a run may stand at many places, so a short blob can have any number of both.
+const MOST_ITEMS: u64 = 64 * MAX_WORDS;
 
 /// The row at the place of an ordinal.
 fn read_row(
@@ -30,61 +36,48 @@ fn read_row(
     ensures kind { IfErr result IsLoadFault }
 {
     let place = u64::from(ordinal);
-    let row = read(
-        alloc,
-        schema,
-        &section.widths,
-        section.total,
-        section,
-        place,
-    );
-    match row {
+    match read_place(alloc, schema, section, place) {
         Ok(row) => Ok(row),
         Err(PlaceFault::Bad(reason)) => Err(RowFault::At(reason, place)),
         Err(PlaceFault::Memory) => Err(RowFault::Memory),
     }
 }
 
-/// The rows at the places of the live ordinals, each read once, with their bytes counted as they come.
-fn read_rows(alloc: Global, schema: &Schema, section: &Section) -> Result<Kept, RowFault>
-    requires readable { IsReadable schema.now.shape section.now }
-    requires places { All (λ ordinal. ordinal < places_of section.now.max) section.now.live }
-    ensures read { MatchResult result (λ half. AreRead schema.now.shape section.now (entries half.rows)) (RefusesRows schema.now.shape section.now) }
-    ensures layout { IfOk result (λ half. half.layout ≡ layout_of section.now) }
-    ensures kind { IfErr result IsLoadFault }
-{
-    let ordinals = section.live.ordinals(alloc)?;
-    let fields = schema.shape.fields();
-    let mut ends = vec![in alloc; 0u64; fields.len()]?;
-    read_listed(alloc, schema, section, ordinals.as_slice(), &mut ends)
-}
-
-/// The same for the listed ordinals, with the end offset of each field at 0.
+/// The rows at the places of the listed ordinals, each read once, with their bytes counted as they come; the ends are at 0.
 fn read_listed(
     alloc: Global,
     schema: &Schema,
     section: &Section,
     live: &[u32],
-    ends: &mut [u64],
+    ends: &mut Ends,
 ) -> Result<Kept, RowFault>
     requires readable { IsReadable schema.now.shape section.now }
     requires places { All (λ ordinal. ordinal < places_of section.now.max) section.now.live }
     requires live { live.now ≡ section.now.live }
     requires rising { IsStrictlyIncreasing live.now }
-    requires zero { (f : ℕ) → slice_index ends.old f ≡ 0 }
-    requires long { length ends.old ≡ length (shape_fields schema.now.shape) }
+    requires zero { (f : ℕ) → slice_index ends.old.offsets.items f ≡ 0 }
+    requires long { length ends.old.offsets.items ≡ length (shape_fields schema.now.shape) }
+    requires none { ends.old.items ≡ 0 }
     ensures read { MatchResult result (λ half. AreRead schema.now.shape section.now (entries half.rows)) (RefusesRows schema.now.shape section.now) }
+    ensures items { IfOk result (λ half. ends.new.items ≡ item_count (values half.rows)) }
     ensures layout { IfOk result (λ half. half.layout ≡ layout_of section.now) }
     ensures kind { IfErr result IsLoadFault }
 {
-    let fields = schema.shape.fields();
     let widths = section.widths.as_slice();
     let mut half = Kept::new(alloc, section.max, section.widths.copy(alloc)?);
     let mut bytes: u64 = 0;
+    let mut walked: u64 = 0;
     for ordinal in live {
+        walked = walked.saturating_add(buckets_at(&schema.shape, section, u64::from(*ordinal)));
+        if walked > MOST_ITEMS {
+            return Err(RowFault::Memory);
+        }
         let row = read_row(alloc, schema, section, *ordinal)?;
-        if !add_row(fields, widths, &row, ends) {
+        if !ends.add(&schema.shape, widths, &row) {
             return Err(RowFault::At(Reason::BadWidth, u64::from(*ordinal)));
+        }
+        if ends.items > MOST_ITEMS {
+            return Err(RowFault::Memory);
         }
         bytes = bytes.saturating_add(row_len(&row));
         if bytes > MAX_BYTES {
@@ -110,7 +103,6 @@ pub(crate) fn load(alloc: Global, schema: &Schema, section: &Section) -> Result<
 }
 
 /// The same, where no live ordinal is above the max ordinal.
-#[tactic(auto, using(crate::proofs::Loading::refuses, crate::proofs::Loading::loads))]
 fn load_live(alloc: Global, schema: &Schema, section: &Section) -> Result<Kept, RowFault>
     requires readable { IsReadable schema.now.shape section.now }
     requires places { All (λ ordinal. ordinal < places_of section.now.max) section.now.live }
@@ -118,8 +110,11 @@ fn load_live(alloc: Global, schema: &Schema, section: &Section) -> Result<Kept, 
     ensures layout { IfOk result (λ half. half.layout ≡ layout_of section.now) }
     ensures kind { IfErr result IsLoadFault }
 {
-    let half = read_rows(alloc, schema, section)?;
-    let words = words_needed(&schema.shape, section.max, section.widths.as_slice());
+    let ordinals = section.live.ordinals(alloc)?;
+    let mut ends = Ends::new(alloc, &schema.shape)?;
+    let half = read_listed(alloc, schema, section, ordinals.as_slice(), &mut ends)?;
+    let widths = section.widths.as_slice();
+    let words = fixed_words(&schema.shape, section.max, widths, ends.items);
     if words > u128::from(MAX_WORDS) {
         return Err(RowFault::Limit(Limit::Words));
     }

@@ -1,9 +1,12 @@
 //! The state of one type: its current rows, and those of the state before or of the next one.
 ghost use Rattle.std.specs.Prelude.{◌≡◌, ◌↔◌, Some, IsSome, IfErr, IfOk, IsTrue, OnOk};
+ghost use Rattle.std.specs.List.{Contains};
 ghost use Rattle.std.specs.FinMap.{get, keys};
 ghost use Rattle.ordinal_set.specs.Ordinals.{bound_of};
 ghost use Rattle.hol_varint.specs.Yields.{Yields};
 ghost use Rattle.schema_model.specs.Table.{RowMap};
+ghost use Rattle.bucket_codec.specs.Run.{FindsIn};
+ghost use Rattle.type_state.specs.Lookup.{elements_of, pairs_of};
 ghost use Rattle.type_state.specs.State.{IsLaidOut, empty_half};
 ghost use Rattle.type_state.specs.WellFormed.{IsReadable};
 ghost use Rattle.type_state.specs.Loads.{IsLoadFault, IsFreeRow, Loads, TellsLoad, layout_of};
@@ -60,9 +63,11 @@ impl TypeState {
     /// Reads the live rows of a section of a snapshot into the next half, at the section's layout. The current half stays as it is. What the
     /// other one holds where the section is refused is not said.
     ///
-    /// `At` names an ordinal: `BadOrdinals` one above the max ordinal, `BadPointers`, `BadText` and `BadValue` one whose place spells no row,
-    /// `BadWidth` one whose row the widths cannot hold when the live rows are laid out with no place between them. `Limit` names the limit on
-    /// words or bytes that the rows pass.
+    /// `At` names an ordinal: `BadOrdinals` one above the max ordinal, `BadPointers`, `BadText`, `BadValue` and `BadBuckets` one whose place
+    /// spells no row, `BadWidth` one whose row the widths cannot hold when the live rows are laid out with no place between them. `Limit`
+    /// names the limit on words or bytes that the rows pass. `Memory` comes also where the lists have more than 2^28 elements together, which
+    /// within the limit on words only elements of no bits can, and where the runs of the sets or maps have more than 2^28 buckets, which
+    /// only runs that stand at many places can.
     pub fn load_next(&mut self, section: &Section) -> Result<(), RowFault>
         requires { IsReadable self.old.schema.shape section.now }
         ensures exact { Yields IsFreeRow result (Ok tt) ((rows : RowMap) × Loads self.old.schema.shape section.now rows) }
@@ -150,6 +155,21 @@ impl TypeState {
         ensures { IfOk result (λ row. get self.now.current.rows ordinal ≡ Some row) }
     {
         self.current.row(alloc, ordinal)
+    }
+
+    /// Whether the current state has a set with the element under the ordinal. It takes no memory.
+    pub fn has(&self, ordinal: u32, element: u32) -> bool
+        ensures { IsTrue result ↔ Contains (elements_of (get self.now.current.rows ordinal)) element }
+    {
+        self.current.has(ordinal, element)
+    }
+
+    /// The value beside the key in the map that the current state has under the ordinal; none where it has no map there, or one without the
+    /// key. It takes no memory.
+    pub fn at(&self, ordinal: u32, key: u32) -> Option<u32>
+        ensures { FindsIn (pairs_of (get self.now.current.rows ordinal)) key result }
+    {
+        self.current.at(ordinal, key)
     }
 
     /// A copy of the row of the state before under an ordinal that was live.

@@ -1,10 +1,11 @@
-//! Tests: a type through two loads, and sections that are refused.
+//! Tests: a type of records through two loads, and sections of it that are refused.
 ghost use Rattle.std.specs.Prelude.{◌≡◌, ◌<◌, ◌∷◌, [], Some, length, IfOk, OnOk};
 ghost use Rattle.std.specs.List.{AllZip};
 ghost use Rattle.schema_model.specs.Parts.{shape_fields};
-ghost use Rattle.object_codec.specs.ObjectPlace.{IsFieldWidth};
-ghost use Rattle.type_state.specs.WellFormed.{IsBuilt};
+ghost use Rattle.object_codec.specs.ObjectPlace.{IsObject, IsFieldWidth};
 ghost use Rattle.type_state.specs.State.{IsLaidOut};
+
+mod runs;
 
 use super::*;
 use hol_varint::Octets;
@@ -17,7 +18,7 @@ use std::test::Fail;
 
 /// A type with an INT and a STRING.
 fn schema(alloc: Global) -> Result<Schema, AllocError>
-    ensures built { IfOk result (λ schema. IsBuilt schema.shape) }
+    ensures object { IfOk result (λ schema. IsObject schema.shape) }
     ensures wide { IfOk result (λ schema. AllZip IsFieldWidth (shape_fields schema.shape) (4 ∷ 4 ∷ [])) }
 {
     let items = vec![in alloc;
@@ -42,6 +43,8 @@ fn section(alloc: Global, max: u32, live: u64, word: u64) -> Result<Section, All
     ensures widths { IfOk result (λ section. section.widths ≡ 4 ∷ 4 ∷ []) }
     ensures words { IfOk result (λ section. length section.first ≡ 1) }
     ensures areas { IfOk result (λ section. length section.areas ≡ 2) }
+    ensures total { IfOk result (λ section. section.total ≡ 0) }
+    ensures items { IfOk result (λ section. section.second ≡ []) }
 {
     let text = vec![in alloc; 0x48, 0x69, 0x81, 0x69]?;
     let areas = vec![in alloc; Octets::new(alloc), Octets::from_vec(text)]?;
@@ -65,7 +68,7 @@ fn load_word(
     word: u64,
 ) -> Result<Result<(), RowFault>, AllocError>
     requires place { max < 8 }
-    requires built { IsBuilt state.old.schema.shape }
+    requires object { IsObject state.old.schema.shape }
     requires wide { AllZip IsFieldWidth (shape_fields state.old.schema.shape) (4 ∷ 4 ∷ []) }
     ensures schema { state.new.schema ≡ state.old.schema }
     ensures laid { IfOk result (λ loaded. OnOk loaded (IsLaidOut state.new.schema state.new.other)) }
@@ -83,9 +86,9 @@ fn step(
     word: u64,
 ) -> Result<(), AllocError>
     requires place { max < 8 }
-    requires built { IsBuilt state.old.schema.shape }
+    requires object { IsObject state.old.schema.shape }
     requires wide { AllZip IsFieldWidth (shape_fields state.old.schema.shape) (4 ∷ 4 ∷ []) }
-    ensures built { IsBuilt state.new.schema.shape }
+    ensures object { IsObject state.new.schema.shape }
     ensures wide { AllZip IsFieldWidth (shape_fields state.new.schema.shape) (4 ∷ 4 ∷ []) }
 {
     let loaded = load_word(alloc, state, max, live, word)?;

@@ -1,30 +1,9 @@
-use Rattle.std.proofs.Common.{rules, refl}
-use Rattle.blob_frame.proofs.Chain.{reads_then, reads_stops, reads_value}
-use Rattle.blob_sections.specs.Section.{packed_rows}
-use Rattle.blob_sections.proofs.Items.{words_as_needed, reads_widths, reads_areas}
+use Rattle.std.proofs.Common.{rules}
+use Rattle.blob_sections.proofs.Items.{reads_records, reads_runs}
 use Rattle.blob_sections.proofs.section.packed_rows.Goals as goal
 
-pub returns-in_err-widths-clause-reads : goal.returns-in_err-widths-clause-reads
-unfolding packed_rows
-returns-in_err-widths-clause-reads g c = reads_stops _ (reads_widths c.args.shape.now c.args.max _ c.fields-fields.ensures c.in_err-widths.ensures.reads) (search rules)
+pub returns-in-Object-clause-reads : goal.returns-in-Object-clause-reads
+returns-in-Object-clause-reads g c = reads_records c.args.shape.now c.args.max (search rules) c.packed_records.ensures.reads
 
-pub returns-in_err-first-clause-reads : goal.returns-in_err-first-clause-reads
-unfolding packed_rows
-returns-in_err-first-clause-reads g c =
-    let widths = reads_widths c.args.shape.now c.args.max _ c.fields-fields.ensures c.in_ok-widths.ensures.reads in
-    reads_then _ widths (reads_stops _ (words_as_needed c.args.shape.now c.args.max c.words_needed-least.ensures c.as_slice.ensures c.in_err-first.ensures.reads) (search rules))
-
-pub returns-in_err-areas-clause-reads : goal.returns-in_err-areas-clause-reads
-unfolding packed_rows
-returns-in_err-areas-clause-reads g c =
-    let widths = reads_widths c.args.shape.now c.args.max _ c.fields-fields.ensures c.in_ok-widths.ensures.reads in
-    let words = words_as_needed c.args.shape.now c.args.max c.words_needed-least.ensures c.as_slice.ensures c.in_ok-first.ensures.reads in
-    reads_then _ widths (reads_then _ words (reads_stops _ (reads_areas c.args.shape.now _ c.fields-fields.ensures c.in_err-areas.ensures.reads) (search rules)))
-
-pub returns-clause-reads : goal.returns-clause-reads
-unfolding packed_rows
-returns-clause-reads g c =
-    let widths = reads_widths c.args.shape.now c.args.max _ c.fields-fields.ensures c.in_ok-widths.ensures.reads in
-    let words = words_as_needed c.args.shape.now c.args.max c.words_needed-least.ensures c.as_slice.ensures c.in_ok-first.ensures.reads in
-    let areas = reads_areas c.args.shape.now _ c.fields-fields.ensures c.in_ok-areas.ensures.reads in
-    reads_then _ widths (reads_then _ words (reads_then _ areas (reads_value c.in_ok-areas.ensures.reads.over (rw c.new-second.ensures refl))))
+pub returns-in-List-clause-reads : goal.returns-in-List-clause-reads
+returns-in-List-clause-reads g c = reads_runs c.args.shape.now c.args.max (search rules) c.packed_runs.ensures.reads

@@ -5,8 +5,8 @@ use Rattle.schema_model.specs.Table.{RowMap, IsClosed}
 use Rattle.type_state.specs.Views.{next_halves, table_of}
 use Rattle.snapshot_blob.specs.declared.body.Body.{Body}
 use Rattle.snapshot_blob.specs.declared.part.TypePart.{TypePart}
-use Rattle.snapshot_blob.specs.Stated.{AreAccepted, HasState, KeepsOrdinals, LoadsPart, schemas_of}
-use Rattle.snapshot_blob.proofs.Refusals.{asks_model, asks_ordinals, asks_rows, asks_closed, of_lent, parts_readable, refusal}
+use Rattle.snapshot_blob.specs.Stated.{AreAccepted, HasState, KeepsCounts, LoadsPart, schemas_of}
+use Rattle.snapshot_blob.proofs.Refusals.{asks_model, asks_counts, asks_rows, asks_closed, of_lent, parts_readable, refusal}
 use Rattle.snapshot_blob.proofs.Loading.{loaded_types, loaded_next, loaded_accepted, loaded_whole}
 use Rattle.snapshot_blob.proofs.types.state_of.Goals as goal
 
@@ -20,16 +20,16 @@ returns-in_err-model-clause-tells c =
     refusal Body (Modelled c.as_slice.result.now) (HasState c.args.parts) (Accepts c.args.parts) (of_lent Modelled c.as_slice.result.now c.args.parts c.as_slice.ensures (asks_model c.args.parts))
     c.from_residual.result c.in_err-model.field-0.0 (search rules) c.in_err-model.ensures
 
-pub returns-in_err-check_ordinals-clause-tells : goal.returns-in_err-check_ordinals-clause-tells
-returns-in_err-check_ordinals-clause-tells c =
-    refusal Body (All KeepsOrdinals c.as_slice-2.result.now) (HasState c.args.parts) (Accepts c.args.parts)
-    (of_lent (λ parts. All KeepsOrdinals parts) c.as_slice-2.result.now c.args.parts c.as_slice-2.ensures (asks_ordinals c.args.parts)) c.from_residual-in_err-check_ordinals.result c.in_err-check_ordinals.field-0.0
-    (search rules) c.in_err-check_ordinals.ensures
+pub returns-in_err-check_counts-clause-tells : goal.returns-in_err-check_counts-clause-tells
+returns-in_err-check_counts-clause-tells c =
+    refusal Body (All KeepsCounts c.as_slice-2.result.now) (HasState c.args.parts) (Accepts c.args.parts)
+    (of_lent (λ parts. All KeepsCounts parts) c.as_slice-2.result.now c.args.parts c.as_slice-2.ensures (asks_counts c.args.parts)) c.from_residual-in_err-check_counts.result c.in_err-check_counts.field-0.0
+    (search rules) c.in_err-check_counts.ensures
 
 pub load_types-requires : goal.load_types-requires
 load_types-requires c =
     parts_readable c.args.parts c.in_ok-model.model c.requires (c.in_ok-model.ensures.0 ∙ ap schemas_of c.as_slice.ensures) c.in_ok-model.ensures.1
-    (subst (λ (parts : List TypePart). All KeepsOrdinals parts) c.as_slice-2.ensures c.in_ok-check_ordinals.ensures)
+    (subst (λ (parts : List TypePart). All KeepsCounts parts) c.as_slice-2.ensures c.in_ok-check_counts.ensures)
 
 pub returns-in_err-states-clause-tells : goal.returns-in_err-states-clause-tells
 returns-in_err-states-clause-tells c =

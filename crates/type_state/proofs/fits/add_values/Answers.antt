@@ -1,6 +1,6 @@
 use Rattle.std.proofs.Common.{rules, arith, refl}
 use Rattle.std.proofs.lemmas.Bool.{false≢true}
-use Rattle.type_state.proofs.Ends.{stepped, refused, finished, all_ends}
+use Rattle.type_state.proofs.Offsets.{stepped, refused, finished, all_ends}
 use Rattle.type_state.proofs.fits.add_values.Goals as goal
 
 pub returns-then-not-fits_width-clause-fits : goal.returns-then-not-fits_width-clause-fits

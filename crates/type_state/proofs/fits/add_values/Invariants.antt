@@ -1,4 +1,4 @@
-use Rattle.type_state.proofs.Ends.{Progress}
+use Rattle.type_state.proofs.Offsets.{Progress}
 use Rattle.type_state.proofs.fits.add_values.Given as goal
 
 abbrev pub invariant-loop-index : goal.invariant-loop-index

@@ -6,7 +6,7 @@ use Rattle.type_state.specs.Loads.{IsSpelledIn, RefusesRows}
 use Rattle.type_state.proofs.Entries.{no_entry}
 use Rattle.type_state.proofs.Places.{widths_long, narrow}
 use Rattle.type_state.proofs.Reading.{begun, read_on, next_above}
-use Rattle.type_state.proofs.Loading.{row_refused, has_values, misfit_rows, heavy_rows}
+use Rattle.type_state.proofs.Loading.{row_refused, of_kind, misfit_rows, heavy_rows}
 use Rattle.type_state.proofs.load.read_listed.Goals as goal
 
 pub loop-ordinal-init : goal.loop-ordinal-init
@@ -14,8 +14,8 @@ loop-ordinal-init c =
     let laid : List ℕ → Layout = λ widths. record { max = c.args.section.now.max; widths = widths } in
     record {
       read =
-          begun (IsSpelledIn c.args.schema.now.shape c.args.section.now) c.fields-fields.result.now c.args.section.now.widths c.args.live.now (entries c.new-half.result.rows) c.args.ends.now
-          (ap (λ half. entries half.rows) c.new-half.ensures ∙ no_entry) c.requires.zero (c.requires.long ∙ ap length (sym c.fields-fields.ensures));
+          begun (IsSpelledIn c.args.schema.now.shape c.args.section.now) c.args.schema.now.shape c.args.section.now.widths c.args.live.now (entries c.new-half.result.rows) c.args.ends.now.offsets.items c.args.ends.now.items
+          (ap (λ half. entries half.rows) c.new-half.ensures ∙ no_entry) c.requires.zero c.requires.none c.requires.long;
       layout = ap (λ half. half.layout) c.new-half.ensures ∙ ap laid c.in_ok-copy.ensures;
     }
 
@@ -25,37 +25,39 @@ returns-in_err-row-clause-read c =
     row_refused c.args.schema.now.shape c.args.section.now c.args.live.now c.loop-ordinal.ordinal-index c.in_err-row.field-0.0 c.requires.live (omega arith) c.in_err-row.ensures.row in
     search rules
 
-pub add_row-requires-clause-widths : goal.add_row-requires-clause-widths
-add_row-requires-clause-widths c =
-    ap length c.as_slice-widths.ensures ∙ widths_long c.args.schema.now.shape c.args.section.now c.requires.readable ∙ ap length (sym c.fields-fields.ensures)
+pub add-requires-clause-widths : goal.add-requires-clause-widths
+add-requires-clause-widths c = ap length c.as_slice-widths.ensures ∙ widths_long c.args.schema.now.shape c.args.section.now c.requires.readable
 
-pub add_row-requires-clause-narrow : goal.add_row-requires-clause-narrow
-add_row-requires-clause-narrow c =
+pub add-requires-clause-narrow : goal.add-requires-clause-narrow
+add-requires-clause-narrow c =
     λ f. subst (λ widths. slice_index widths f ≤ 64) (sym c.as_slice-widths.ensures) (narrow c.args.schema.now.shape c.args.section.now c.requires.readable f)
 
-pub add_row-requires-clause-values : goal.add_row-requires-clause-values
-add_row-requires-clause-values c = has_values c.args.schema.now.shape c.args.section.now c.fields-fields.result.now _ c.in_ok-row.row c.fields-fields.ensures c.in_ok-row.ensures.row
+pub add-requires-clause-kind : goal.add-requires-clause-kind
+add-requires-clause-kind c = of_kind c.args.schema.now.shape c.args.section.now _ c.in_ok-row.row c.requires.readable c.in_ok-row.ensures.row
 
-pub returns-then-not-add_row-clause-read : goal.returns-then-not-add_row-clause-read
-returns-then-not-add_row-clause-read c =
-    misfit_rows c.args.schema.now.shape c.args.section.now c.fields-fields.result.now c.args.live.now c.loop-ordinal.ordinal-index (entries c.loop-ordinal.half.rows) c.loop-ordinal.ends c.loop-ordinal.bytes
-    c.in_ok-row.row c.fields-fields.ensures c.requires.live c.loop-ordinal.invariant.read (omega arith) c.in_ok-row.ensures.row (search rules)
+pub returns-then-not-add-clause-read : goal.returns-then-not-add-clause-read
+returns-then-not-add-clause-read c =
+    misfit_rows c.args.schema.now.shape c.args.section.now c.args.live.now c.loop-ordinal.ordinal-index (entries c.loop-ordinal.half.rows) c.loop-ordinal.ends.offsets.items c.loop-ordinal.ends.items c.loop-ordinal.bytes
+    c.in_ok-row.row c.requires.live c.loop-ordinal.invariant.read (omega arith) c.in_ok-row.ensures.row (search rules)
 
 pub returns-then-bytes-gt-MAX_BYTES-clause-read : goal.returns-then-bytes-gt-MAX_BYTES-clause-read
 returns-then-bytes-gt-MAX_BYTES-clause-read c =
-    heavy_rows c.args.schema.now.shape c.args.section.now c.fields-fields.result.now c.args.live.now c.loop-ordinal.ordinal-index (entries c.loop-ordinal.half.rows) c.loop-ordinal.ends c.loop-ordinal.bytes
+    heavy_rows c.args.schema.now.shape c.args.section.now c.args.live.now c.loop-ordinal.ordinal-index (entries c.loop-ordinal.half.rows) c.loop-ordinal.ends.offsets.items c.loop-ordinal.ends.items c.loop-ordinal.bytes
     c.saturating_add-bytes.result c.in_ok-row.row c.requires.live c.loop-ordinal.invariant.read (omega arith) c.in_ok-row.ensures.row (omega arith) (omega (arith, c.row_len.ensures))
 
 pub push-requires-clause-above : goal.push-requires-clause-above
 push-requires-clause-above c =
-    next_above (IsSpelledIn c.args.schema.now.shape c.args.section.now) c.fields-fields.result.now c.args.section.now.widths c.args.live.now c.loop-ordinal.ordinal-index (entries c.loop-ordinal.half.rows)
-    c.loop-ordinal.ends c.loop-ordinal.bytes _ c.loop-ordinal.invariant.read (omega arith) refl c.requires.rising
+    next_above (IsSpelledIn c.args.schema.now.shape c.args.section.now) c.args.schema.now.shape c.args.section.now.widths c.args.live.now c.loop-ordinal.ordinal-index (entries c.loop-ordinal.half.rows)
+    c.loop-ordinal.ends.offsets.items c.loop-ordinal.ends.items c.loop-ordinal.bytes _ c.loop-ordinal.invariant.read (omega arith) refl c.requires.rising
 
 pub loop-ordinal-preserved : goal.loop-ordinal-preserved
-loop-ordinal-preserved c = record {
-  read =
-      read_on (IsSpelledIn c.args.schema.now.shape c.args.section.now) c.fields-fields.result.now c.args.section.now.widths c.args.live.now c.loop-ordinal.ordinal-index (entries c.loop-ordinal.half.rows)
-      (entries c.push.new.self.rows) c.loop-ordinal.ends c.add_row.new.ends c.loop-ordinal.bytes c.saturating_add-bytes.result _ c.in_ok-row.row c.loop-ordinal.invariant.read (omega arith) refl c.in_ok-row.ensures.row
-      (search rules) (search rules) (search rules) (omega (arith, c.row_len.ensures)) (omega arith) c.in_ok-push.ensures.rows;
-  layout = c.in_ok-push.ensures.layout ∙ c.loop-ordinal.invariant.layout;
-}
+loop-ordinal-preserved c =
+    let fits = c.if-not-add.ensures.fits in
+    record {
+      read =
+          read_on (IsSpelledIn c.args.schema.now.shape c.args.section.now) c.args.schema.now.shape c.args.section.now.widths c.args.live.now c.loop-ordinal.ordinal-index (entries c.loop-ordinal.half.rows)
+          (entries c.push.new.self.rows) c.loop-ordinal.ends.offsets.items c.add.new.self.offsets.items c.loop-ordinal.ends.items c.add.new.self.items c.loop-ordinal.bytes c.saturating_add-bytes.result _ c.in_ok-row.row
+          c.loop-ordinal.invariant.read (omega arith) refl c.in_ok-row.ensures.row
+          (search rules) (search rules) (search rules) (search rules) (omega (arith, c.row_len.ensures)) (omega arith) c.in_ok-push.ensures.rows;
+      layout = c.in_ok-push.ensures.layout ∙ c.loop-ordinal.invariant.layout;
+    }

@@ -1,17 +1,20 @@
 -- End offsets that grow value by value.
 use Rattle.std.proofs.Common.{◌≡◌, ◌≢◌, inl, inr, set, add-zero, get_or-set_other, get_or-set_same, below_more, ℕ, ◌+◌, ◌-◌, ◌^◌, ◌<◌, ◌≤◌, min, List, length, get_or, Some, refl, ap, sym, ◌∙◌, subst, arith}
-use Rattle.std.specs.Prelude.{slice_get, slice_index}
+use Rattle.std.specs.Prelude.{◌↔◌, Bool, IsTrue, Option, slice_get, slice_index}
 use Rattle.std.specs.Option.{option_map_or}
 use Rattle.std.proofs.lemmas.List.{length-set}
 use Rattle.std.proofs.lemmas.Option.{slice_get_read, get_or_from_slice_get, slice_get_past}
 use Rattle.std.proofs.lemmas.Bool.{cases_lt}
 use Rattle.std.proofs.Math.Pow.{pow_mono}
 use Rattle.schema_model.specs.declared.schema.FieldKind.{FieldKind}
+use Rattle.schema_model.specs.declared.schema.name.Name.{Name}
 use Rattle.schema_model.specs.declared.schema.Field.{Field}
+use Rattle.schema_model.specs.declared.schema.Shape.{Shape}
+use Rattle.schema_model.specs.declared.rows.row.Row.{Row}
 use Rattle.schema_model.specs.declared.rows.row.Value.{Value}
 use Rattle.type_state.specs.WordsHeld.{value_bytes}
 use Rattle.type_state.specs.Holds.{FitsWidth, FitsWidths}
-use Rattle.type_state.specs.Ends.{end_after}
+use Rattle.type_state.specs.Ends.{end_after, FitsBehind}
 
 -- Below a null bit no number is cut off.
 below : (width end exact : ℕ) → width ≤ 64 → end ≡ min exact (2 ^ 64 - 1) → end < 2 ^ (width - 1) → end ≡ exact
@@ -124,3 +127,13 @@ all_ends fields widths values ends now index p over f =
       | inl lt ↦ p.done f lt
       | inr le ↦ p.rest f le ∙ sym (ap (λ o. get_or ends f 0 + option_map_or value_bytes o 0) (slice_get_past values f (omega arith)) ∙ add-zero (get_or ends f 0))
     ]
+
+-- A record fits behind the ends of others where each of its values does.
+pub fits_object : (shape : Shape) (row : Row) (key : Option (List Name)) (fields shown : List Field) (values listed : List Value) (widths ends lent : List ℕ) (items : ℕ) (fits : Bool) → shape ≡ Shape.Object key fields → row ≡ Row.Object values
+    → shown ≡ fields → listed ≡ values → lent ≡ ends → IsTrue fits ↔ FitsWidths shown widths (end_after lent listed) listed → IsTrue fits ↔ FitsBehind shape widths ends items row
+fits_object shape row key fields shown values listed widths ends lent items fits is_shape is_row f v e h =
+    subst (λ s. IsTrue fits ↔ FitsBehind s widths ends items row) (sym is_shape)
+    (subst (λ r. IsTrue fits ↔ FitsBehind (Shape.Object key fields) widths ends items r) (sym is_row)
+    (subst (λ fs. IsTrue fits ↔ FitsWidths fs widths (end_after ends values) values) f
+    (subst (λ vs. IsTrue fits ↔ FitsWidths shown widths (end_after ends vs) vs) v
+    (subst (λ es. IsTrue fits ↔ FitsWidths shown widths (end_after es listed) listed) e h))))
