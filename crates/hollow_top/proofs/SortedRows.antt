@@ -1,64 +1,12 @@
 -- Walking a map of rows by ordinal: the entries below an ordinal, and those from it on.
-use Rattle.std.proofs.Common.{◌≡◌, ◌<◌, ◌≤◌, ◌+◌, inl, inr, ℕ, List, [], ◌∷◌, ◌++◌, true, Option, Some, None, refl, sym, ap, ◌∙◌, subst, arith, append_assoc, append-nil}
-use Rattle.std.specs.Prelude.{IsSome, cond}
+use Rattle.std.proofs.Common.{◌≡◌, ◌<◌, ◌≤◌, ◌+◌, inl, inr, ℕ, List, [], ◌∷◌, ◌++◌, true, Option, Some, None, refl, sym, ◌∙◌, subst, arith, append_assoc, append-nil}
+use Rattle.std.specs.Prelude.{IsSome}
 use Rattle.std.specs.List.{AllByRecursion}
-use Rattle.std.specs.Ordering.{nat_cmp, is_eq, is_lt}
-use Rattle.std.specs.declared.cmp.Ordering.{Ordering}
-use Rattle.std.specs.declared.cmp.Ordering.TheVariants.{Less, Equal, Greater}
-use Rattle.std.specs.Cmp.{ranked, nat_cmp_is}
+use Rattle.std.specs.Ordering.{nat_cmp}
 use Rattle.std.specs.FinMap.{find, is_sorted}
-use Rattle.std.specs.FinMap.Entries.{below_all}
 use Rattle.std.proofs.lemmas.Bool.{and_parts, cases_order}
 use Rattle.schema_model.specs.declared.rows.row.Row.{Row}
-
-abbrev Entry : Type 0
-Entry = ℕ × Row
-
--- no entry is below the ordinal
-abbrev pub AreFrom : ℕ → List Entry → Type 0
-AreFrom ordinal [] = Unit {0}
-AreFrom ordinal (e ∷ es) = (ordinal ≤ e.0) × AreFrom ordinal es
-
-from_lower : (low high : ℕ) (es : List Entry) → low ≤ high → AreFrom high es → AreFrom low es
-from_lower low high [] le from = tt
-from_lower low high (e ∷ es) le from = (omega arith, from_lower low high es le from.1)
-
-from_none : (es : List Entry) → AreFrom 0 es
-from_none [] = tt
-from_none (e ∷ es) = (omega arith, from_none es)
-
-less_is : (o : Ordering) → is_lt o ≡ true → o ≡ Less
-less_is Less e = refl
-less_is Equal e = absurd cc
-less_is Greater e = absurd cc
-
-lower : (x y : ℕ) (o : Ordering) → o ≡ nat_cmp x y → o ≡ Less → x < y
-lower x y Less is e = ranked x y Less is
-lower x y Equal is e = absurd cc
-lower x y Greater is e = absurd cc
-
-from_below : (x : ℕ) (es : List Entry) → below_all nat_cmp x es ≡ true → AreFrom (x + 1) es
-from_below x [] all = tt
-from_below x (e ∷ es) all =
-    let parts = and_parts _ _ all in
-    let first : x < e.0 = lower x e.0 (nat_cmp x e.0) refl (less_is (nat_cmp x e.0) parts.0) in
-    (omega arith, from_below x es parts.1)
-
--- a search skips a greater key, and finds an equal one
-skips : (q : ℕ) (e : Entry) (es : List Entry) → (q ≡ e.0 → ⊥) → find nat_cmp q (e ∷ es) ≡ find nat_cmp q es
-skips q e es other = skipped (nat_cmp q e.0) refl
-  where
-    skipped : (o : Ordering) → o ≡ nat_cmp q e.0 → cond (is_eq (nat_cmp q e.0)) (Some e.1) (find nat_cmp q es) ≡ find nat_cmp q es
-    skipped Less is = ap (λ o. cond (is_eq o) (Some e.1) (find nat_cmp q es)) (sym is)
-    skipped Equal is = absurd (other (ranked q e.0 Equal is))
-    skipped Greater is = ap (λ o. cond (is_eq o) (Some e.1) (find nat_cmp q es)) (sym is)
-
-finds : (e : Entry) (es : List Entry) → find nat_cmp e.0 (e ∷ es) ≡ Some e.1
-finds e es = ap (λ o. cond (is_eq o) (Some e.1) (find nat_cmp e.0 es)) (sym (nat_cmp_is e.0 e.0 Equal refl))
-
-finds_none : (q : ℕ) (es : List Entry) → AreFrom (q + 1) es → find nat_cmp q es ≡ None
-finds_none q [] from = refl
-finds_none q (e ∷ es) from = skips q e es (λ same. omega (arith, same, from.0)) ∙ finds_none q es from.1
+use Rattle.schema_model.proofs.RowEntries.{Entry, AreFrom, from_lower, from_none, from_below, skips, finds, finds_none}
 
 -- The entries that are walked, and those that are left: none of these is below the ordinal, and each row from it on is
 -- found among them.
@@ -100,7 +48,7 @@ walk_takes all ordinal row walked (e ∷ es) w some =
     let behind = from_below e.0 es sorted.0 in
     elim (cases_order ordinal e.0) [
       | inr (inl below) ↦ (let gone = sym (w.found ordinal (omega arith)) ∙ some in
-          let none = finds_none ordinal (e ∷ es) (omega arith, from_lower (ordinal + 1) (e.0 + 1) es (omega arith) behind) in
+          let none = finds_none ordinal (ordinal + 1) (e ∷ es) (omega arith) (omega arith, from_lower (ordinal + 1) (e.0 + 1) es (omega arith) behind) in
           absurd cc)
       | inl same ↦ (
           let here : find nat_cmp ordinal (e ∷ es) ≡ Some e.1 = subst (λ q. find nat_cmp q (e ∷ es) ≡ Some e.1) (sym same) (finds e es) in

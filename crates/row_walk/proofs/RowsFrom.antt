@@ -2,33 +2,17 @@
 use Rattle.std.proofs.Common.{◌≡◌, ◌<◌, ◌≤◌, ◌+◌, inl, inr, ℕ, List, [], ◌∷◌, Bool, true, false, T, Option, Some, None, refl, sym, ap, ◌∙◌, arith, leb}
 use Rattle.std.specs.Prelude.{IsSome, cond, map, filter, nat_le, not, is_some, slice_get, unwrap_or}
 use Rattle.std.specs.Option.{option_and_then}
-use Rattle.std.specs.Ordering.{nat_cmp, is_eq, is_lt}
-use Rattle.std.specs.declared.cmp.Ordering.{Ordering}
-use Rattle.std.specs.declared.cmp.Ordering.TheVariants.{Less, Equal, Greater}
-use Rattle.std.specs.Cmp.{ranked, nat_cmp_is}
+use Rattle.std.specs.Ordering.{nat_cmp}
+use Rattle.std.specs.declared.cmp.Ordering.TheVariants.{Equal}
+use Rattle.std.specs.Cmp.{ranked}
 use Rattle.std.specs.FinMap.{find, is_sorted, entries, entries_sorted, get, get-entries, get-empty, get-retain_keys, empty}
-use Rattle.std.specs.FinMap.Entries.{below_all}
 use Rattle.std.proofs.lemmas.Bool.{and_parts, cases_lt, cases_order, cond-true, cond-false, le-leb, lt-leb}
 use Rattle.schema_model.specs.declared.rows.row.Row.{Row}
+use Rattle.schema_model.proofs.RowEntries.{Entry, skips, finds, from_below, finds_none}
 use Rattle.schema_model.specs.Table.{RowMap, Table, row_at}
 use Rattle.row_walk.specs.BothStates.{rows_in, rows_added, rows_from}
 
-abbrev Entry : Type 0
-Entry = ℕ × Row
-
 -- ---- a look-up in entries
-
--- a search skips another key, and finds an equal one
-skips : (q : ℕ) (e : Entry) (es : List Entry) → (q ≡ e.0 → ⊥) → find nat_cmp q (e ∷ es) ≡ find nat_cmp q es
-skips q e es other = skipped (nat_cmp q e.0) refl
-  where
-    skipped : (o : Ordering) → o ≡ nat_cmp q e.0 → cond (is_eq (nat_cmp q e.0)) (Some e.1) (find nat_cmp q es) ≡ find nat_cmp q es
-    skipped Less is = ap (λ o. cond (is_eq o) (Some e.1) (find nat_cmp q es)) (sym is)
-    skipped Equal is = absurd (other (ranked q e.0 Equal is))
-    skipped Greater is = ap (λ o. cond (is_eq o) (Some e.1) (find nat_cmp q es)) (sym is)
-
-finds : (e : Entry) (es : List Entry) → find nat_cmp e.0 (e ∷ es) ≡ Some e.1
-finds e es = ap (λ o. cond (is_eq o) (Some e.1) (find nat_cmp e.0 es)) (sym (nat_cmp_is e.0 e.0 Equal refl))
 
 -- where nothing is found, the first entry has another key
 other_key : (q : ℕ) (e : Entry) (es : List Entry) → find nat_cmp q (e ∷ es) ≡ None → q ≡ e.0 → ⊥
@@ -38,32 +22,6 @@ other_key q e es none same =
 
 not_behind : (q : ℕ) (e : Entry) (es : List Entry) → find nat_cmp q (e ∷ es) ≡ None → find nat_cmp q es ≡ None
 not_behind q e es none = sym (skips q e es (other_key q e es none)) ∙ none
-
--- no key is below a number
-abbrev AreFrom : ℕ → List Entry → Type 0
-AreFrom ordinal [] = Unit {0}
-AreFrom ordinal (e ∷ es) = (ordinal ≤ e.0) × AreFrom ordinal es
-
-less_is : (o : Ordering) → is_lt o ≡ true → o ≡ Less
-less_is Less e = refl
-less_is Equal e = absurd cc
-less_is Greater e = absurd cc
-
-lower : (x y : ℕ) (o : Ordering) → o ≡ nat_cmp x y → o ≡ Less → x < y
-lower x y Less is e = ranked x y Less is
-lower x y Equal is e = absurd cc
-lower x y Greater is e = absurd cc
-
-from_below : (x : ℕ) (es : List Entry) → below_all nat_cmp x es ≡ true → AreFrom (x + 1) es
-from_below x [] all = tt
-from_below x (e ∷ es) all =
-    let parts = and_parts _ _ all in
-    let first : x < e.0 = lower x e.0 (nat_cmp x e.0) refl (less_is (nat_cmp x e.0) parts.0) in
-    (omega arith, from_below x es parts.1)
-
-finds_none : (q low : ℕ) (es : List Entry) → q < low → AreFrom low es → find nat_cmp q es ≡ None
-finds_none q low [] below from = refl
-finds_none q low (e ∷ es) below from = skips q e es (λ same. omega (arith, same, below, from.0)) ∙ finds_none q low es below from.1
 
 -- ---- the rows from an ordinal on, in entries
 

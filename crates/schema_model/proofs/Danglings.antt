@@ -1,5 +1,5 @@
 -- Whether the rows under the ordinals of a type name live ordinals alone, one after another.
-use Rattle.std.proofs.Common.{◌≡◌, ℕ, ◌+◌, ◌<◌, ◌≤◌, ◌↔◌, inl, inr, List, [], ◌∷◌, length, map, flat_map, zip, Bool, true, false, Option, Some, None, refl, sym, ◌∙◌, ap, arith, below_more}
+use Rattle.std.proofs.Common.{◌≡◌, ℕ, ◌+◌, ◌<◌, ◌≤◌, ◌↔◌, inl, inr, List, [], ◌∷◌, length, map, flat_map, zip, Bool, true, false, Option, Some, None, refl, sym, ◌∙◌, ap, subst, arith, below_more, ◌++◌, slice_get}
 use Rattle.std.specs.Prelude.{All, IsSome, IsSomeAnd, is_some, option_and_then, ◌&&◌}
 use Rattle.std.specs.List.{list_all}
 use Rattle.std.proofs.lemmas.Bool.{cases_lt, false≢true}
@@ -9,13 +9,14 @@ use Rattle.std.proofs.lemmas.Option.{slice_get_past}
 use Rattle.schema_model.specs.declared.schema.name.Name.{Name}
 use Rattle.schema_model.specs.declared.schema.Schema.{Schema}
 use Rattle.schema_model.specs.declared.schema.Shape.{Shape}
+use Rattle.schema_model.specs.declared.schema.FieldKind.{FieldKind}
 use Rattle.schema_model.specs.declared.schema.Field.{Field}
 use Rattle.schema_model.specs.declared.rows.row.Value.{Value}
 use Rattle.schema_model.specs.declared.rows.row.Row.{Row}
 use Rattle.schema_model.specs.Row.{references_of_row, references_of_value}
 use Rattle.schema_model.specs.Parts.{index_of_type}
 use Rattle.schema_model.specs.Table.{Table, row_at, IsLive, IsLiveByName, IsBound, IsClosed}
-use Rattle.schema_model.specs.Dangling.{AreLive, IsClosedAt, TellsType, is_live_reference, are_live}
+use Rattle.schema_model.specs.Dangling.{AreLive, IsClosedAt, IsPlain, IsPlainType, TellsType, is_live_reference, are_live}
 
 -- both of two tests
 and_parts : (a b : Bool) → (a && b) ≡ true → (a ≡ true) × (b ≡ true)
@@ -105,3 +106,33 @@ types_done schemas table reached past done t o schema row gs gr =
 -- one type more
 pub types_more : (schemas : List Schema) (table : Table) (reached : ℕ) → ((t o : ℕ) → t < reached → IsClosedAt schemas table t o) → TellsType schemas table reached None → (t o : ℕ) → t < reached + 1 → IsClosedAt schemas table t o
 types_more schemas table reached done here t o lt = below_more (λ u. IsClosedAt schemas table u o) reached (λ u h. done u o h) (here o) t lt
+
+-- the rows of a plain type name nothing
+plain_value : (kind : FieldKind) (value : Value) → IsPlain kind → references_of_value kind value ≡ []
+plain_value (FieldKind.Reference name) value plain = absurd plain
+plain_value FieldKind.Int value plain = refl
+plain_value FieldKind.Long value plain = refl
+plain_value FieldKind.Boolean value plain = refl
+plain_value FieldKind.Text value plain = refl
+plain_value FieldKind.Bytes value plain = refl
+
+plain_values : (fields : List Field) (values : List Value) → All (λ field. IsPlain field.kind) fields → flat_map (λ part. references_of_value part.0.kind part.1) (zip fields values) ≡ []
+plain_values [] values plain = refl
+plain_values (field ∷ fields) [] plain = refl
+plain_values (field ∷ fields) (value ∷ values) plain =
+    ap (λ first. first ++ flat_map (λ part. references_of_value part.0.kind part.1) (zip fields values)) (plain_value field.kind value (All-head (λ f. IsPlain f.kind) field fields plain))
+    ∙ plain_values fields values (All-tail (λ f. IsPlain f.kind) field fields plain)
+
+pub plain_row : (shape : Shape) (row : Row) → IsPlainType shape → references_of_row shape row ≡ []
+plain_row (Shape.Object key fields) (Row.Object values) plain = plain_values fields values plain
+plain_row (Shape.Object key fields) (Row.List ordinals) plain = refl
+plain_row (Shape.Object key fields) (Row.Set ordinals) plain = refl
+plain_row (Shape.Object key fields) (Row.Map pairs) plain = refl
+plain_row (Shape.List element) row plain = absurd plain
+plain_row (Shape.Set element) row plain = absurd plain
+plain_row (Shape.Map key value) row plain = absurd plain
+
+pub plain_closed : (schemas : List Schema) (table : Table) (type_index : ℕ) (of_type : Schema) → slice_get schemas type_index ≡ Some of_type → IsPlainType of_type.shape → TellsType schemas table type_index None
+plain_closed schemas table type_index of_type is plain ordinal schema row there at =
+    let same : of_type ≡ schema = cc in
+    subst (λ s. AreLive schemas table (references_of_row s.shape row)) same (rw (plain_row of_type.shape row plain) (All-nil (λ named. IsLiveByName schemas table named.0 named.1)))

@@ -7,6 +7,7 @@ pub mod KindNames
 pub mod ModelFacts
 pub mod NamedTypes
 pub mod ReferenceChains
+pub mod RowEntries
 pub mod RuleTests
 pub mod Spellable
 pub mod Spellings

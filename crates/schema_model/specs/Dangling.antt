@@ -2,6 +2,7 @@
 use Rattle.std.specs.Prelude.{◌≡◌, ◌<◌, ℕ, List, Option, Some, None, Bool, slice_get, All, is_some, option_and_then}
 use Rattle.std.specs.List.{list_all}
 use Rattle.schema_model.specs.declared.schema.name.Name.{Name}
+use Rattle.schema_model.specs.declared.schema.FieldKind.{FieldKind}
 use Rattle.schema_model.specs.declared.schema.Schema.{Schema}
 use Rattle.schema_model.specs.declared.schema.Shape.{Shape}
 use Rattle.schema_model.specs.declared.rows.row.Row.{Row}
@@ -17,6 +18,16 @@ is_live_reference schemas table named = is_some (option_and_then (λ type_index.
 -- whether each of these rows is live
 abbrev pub are_live : List Schema → Table → List (Name × ℕ) → Bool
 are_live schemas table references = list_all (is_live_reference schemas table) references
+
+-- A value of this kind names no row.
+abbrev pub IsPlain : FieldKind → Type 0
+IsPlain (FieldKind.Reference name) = ⊥
+IsPlain _ = Unit {0}
+
+-- The rows of a type of this shape name no others: they are records without a REFERENCE.
+abbrev pub IsPlainType : Shape → Type 0
+IsPlainType (Shape.Object key fields) = All (λ field. IsPlain field.kind) fields
+IsPlainType _ = ⊥
 
 -- These rows, each by its type's name and its ordinal, are live.
 abbrev pub AreLive : List Schema → Table → List (Name × ℕ) → Type 0

@@ -2,7 +2,7 @@
 ghost use Rattle.std.specs.Prelude.{◌≡◌, ◌<◌, ◌↔◌, ◌&&◌, IfOk, IsSomeAnd, IsTrue, length, slice_get, zip};
 ghost use Rattle.std.specs.List.{list_all};
 ghost use Rattle.schema_model.specs.Row.{references_of_row, references_of_value};
-ghost use Rattle.schema_model.specs.Dangling.{IsClosedAt, TellsDangling, TellsType, are_live, is_live_reference};
+ghost use Rattle.schema_model.specs.Dangling.{IsClosedAt, IsPlain, IsPlainType, TellsDangling, TellsType, are_live, is_live_reference};
 
 use crate::{Field, FieldKind, Name, Row, Rows, Shape, Value};
 use std::alloc::{AllocError, Global};
@@ -38,12 +38,32 @@ fn dangling_in<R: Rows>(alloc: Global, rows: &R, type_index: u32) -> Result<Opti
     ensures { IfOk result (TellsType (R.schemas rows.now) (R.table rows.now) type_index) }
 {
     let schema = rows.model().schema(type_index);
+    if is_plain_type(&schema.shape) {
+        return Ok(None);
+    }
     for ordinal in 0..rows.bound(type_index) {
         if !is_closed_at(alloc, rows, &schema.shape, type_index, ordinal)? {
             return Ok(Some(ordinal));
         }
     }
     Ok(None)
+}
+
+// Whether a value of this kind names no row.
+fn is_plain(kind: &FieldKind) -> bool
+    ensures { IsTrue result ↔ IsPlain kind.now }
+{
+    !matches!(kind, FieldKind::Reference(_))
+}
+
+// Whether the rows of a type of this shape name no others: they are records without a REFERENCE.
+fn is_plain_type(shape: &Shape) -> bool
+    ensures { IsTrue result ↔ IsPlainType shape.now }
+{
+    match shape {
+        Shape::Object(_, fields) => fields.as_slice().iter().all(|field| is_plain(&field.kind)),
+        _ => false,
+    }
 }
 
 // Whether the row under an ordinal of a type of this shape names live ordinals alone, if there is such a row.
