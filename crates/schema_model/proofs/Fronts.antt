@@ -12,6 +12,10 @@ kept_on a b c first second =
 pub kept_append : (a b x : List ℕ) → b ≡ a ++ x → take (length a) b ≡ a
 kept_append a b x e = rw e (take-append_seam a x)
 
+-- what grew twice
+pub kept_twice : (a b now x parts : List ℕ) → b ≡ a ++ x → now ≡ b ++ parts → take (length a) now ≡ a
+kept_twice a b now x parts begun grown = kept_on a b now (kept_append a b x begun) (kept_append b now parts grown)
+
+-- and what a front of it stays in
 pub kept_behind : (a b now after x parts : List ℕ) → b ≡ a ++ x → now ≡ b ++ parts → take (length now) after ≡ now → take (length a) after ≡ a
-kept_behind a b now after x parts begun grown kept =
-    kept_on a now after (kept_on a b now (kept_append a b x begun) (kept_append b now parts grown)) kept
+kept_behind a b now after x parts begun grown kept = kept_on a now after (kept_twice a b now x parts begun grown) kept

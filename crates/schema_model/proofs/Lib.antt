@@ -1,6 +1,7 @@
 pub mod Danglings
 pub mod FirstBroken
 pub mod Fronts
+pub mod Images
 pub mod Indexing
 pub mod JavaSizes
 pub mod KindNames

@@ -67,7 +67,6 @@ fn push_shape(out: &mut Vec<u8>, shape: &Shape) -> Result<(), AllocError>
     }
 }
 
-#[tactic(auto, using(crate::proofs::Fronts::kept_behind))]
 fn push_paths(out: &mut Vec<u8>, paths: &Names) -> Result<(), AllocError>
     requires few { length paths.now < 2 ^ 32 }
     requires short { All IsShortName paths.now }
@@ -81,7 +80,6 @@ fn push_paths(out: &mut Vec<u8>, paths: &Names) -> Result<(), AllocError>
     Ok(())
 }
 
-#[tactic(auto, using(crate::proofs::Fronts::kept_behind))]
 fn push_fields(out: &mut Vec<u8>, fields: &Fields) -> Result<(), AllocError>
     requires few { length fields.now ≤ 1024 }
     requires short { All (EachNameOfField IsShortName) fields.now }
