@@ -13,4 +13,3 @@ pub mod RuleTests
 pub mod Spellable
 pub mod Spellings
 pub mod Ways
-pub mod Worked

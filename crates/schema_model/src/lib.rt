@@ -30,6 +30,3 @@ pub use rows::tree::{Tree, TreePairs, Trees};
 pub use schema::name::Name;
 pub use schema::put::put_schema;
 pub use schema::{Field, FieldKind, Schema, Shape};
-
-#[cfg(test)]
-mod tests;
