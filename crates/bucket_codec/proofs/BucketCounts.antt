@@ -94,27 +94,29 @@ unfolding bucket_count
 count_2 n is = subst (λ m. 4 ≡ bucket_count m) (sym is) refl
 
 -- the power as the code shifts it
-shifted : (d : ℕ) → d ≤ 33 → 1 * 2 ^ d % 2 ^ 64 ≡ 2 ^ d
+shifted : (d : ℕ) → d ≤ 64 → 1 * 2 ^ d % 2 ^ 128 ≡ 2 ^ d
 shifted d small =
-    let up : 2 ^ d ≤ 2 ^ 33 = pow_mono small in
+    let up : 2 ^ d ≤ 2 ^ 64 = pow_mono small in
     let one : 1 * 2 ^ d ≡ 2 ^ d = omega arith in
-    ap (λ x. x % 2 ^ 64) one ∙ mod-eq_of_lt (let l : 2 ^ d < 2 ^ 64 = omega arith in l)
+    ap (λ x. x % 2 ^ 128) one ∙ mod-eq_of_lt (let l : 2 ^ d < 2 ^ 128 = omega arith in l)
 
 pub record IsWritten (n count : ℕ) : Type 0 where
   pub is : count ≡ bucket_count n
   pub meant : IsBucketCount n count
-  pub few : count ≤ 2 ^ 33
+  pub few : n < 2 ^ 32 → count ≤ 2 ^ 33
+  pub small : count ≤ 2 ^ 64
 
 -- the number that the code computes for three elements or more
-pub shifted_digits : (n m d : ℕ) → m ≡ n → 3 ≤ n → n < 2 ^ 32 → d ≡ digit_count (10 * m / 7 - 1) → 10 * m / 7 - 1 < 2 ^ d → (0 < 10 * m / 7 - 1 → 2 ^ (d - 1) ≤ 10 * m / 7 - 1)
-    → IsWritten n (1 * 2 ^ d % 2 ^ 64)
-shifted_digits n m d same some small is holds half =
+pub shifted_digits : (n m d : ℕ) → m ≡ n → 3 ≤ n → d ≡ digit_count (10 * m / 7 - 1) → 10 * m / 7 - 1 < 2 ^ d → (0 < 10 * m / 7 - 1 → 2 ^ (d - 1) ≤ 10 * m / 7 - 1) → d ≤ 64
+    → IsWritten n (1 * 2 ^ d % 2 ^ 128)
+shifted_digits n m d same some is holds half fits =
     let half_n : 0 < 10 * n / 7 - 1 → 2 ^ (d - 1) ≤ 10 * n / 7 - 1 = subst (λ x. 0 < 10 * x / 7 - 1 → 2 ^ (d - 1) ≤ 10 * x / 7 - 1) same half in
-    let few : d ≤ 33 = bucket_count_small n d small half_n some in
     let counts = bucket_count_is n d some (is ∙ ap (λ x. digit_count (10 * x / 7 - 1)) same) (subst (λ x. 10 * x / 7 - 1 < 2 ^ d) same holds) half_n in
-    let up : 2 ^ d ≤ 2 ^ 33 = pow_mono few in
+    let whole = shifted d fits in
+    let most : 2 ^ d ≤ 2 ^ 64 = pow_mono fits in
     record {
-      is = shifted d few ∙ counts.0;
-      meant = subst (λ x. IsBucketCount n x) (sym (shifted d few)) counts.1;
-      few = omega (arith, shifted d few, up);
+      is = whole ∙ counts.0;
+      meant = subst (λ x. IsBucketCount n x) (sym whole) counts.1;
+      few = λ few. let up : 2 ^ d ≤ 2 ^ 33 = pow_mono (bucket_count_small n d few half_n some) in omega (arith, whole, up);
+      small = omega (arith, whole, most);
     }

@@ -1,27 +1,30 @@
 -- Lemmas on the run of a row as its pairs are put in one by one.
-use Rattle.std.proofs.Common.{◌≡◌, ℕ, ◌+◌, ◌<◌, List, [], ◌∷◌, ◌++◌, length, map, take, get_or, All, arith, sym, ap, subst, ◌∙◌}
+use Rattle.std.proofs.Common.{◌≡◌, ℕ, ◌+◌, ◌<◌, List, [], ◌∷◌, ◌++◌, ◌*◌, length, map, take, get_or, All, arith, sym, ap, subst, ◌∙◌}
 use Rattle.std.proofs.lemmas.List.{get_or-map, length-map, length-take, map-append, take_more}
 use Rattle.std.proofs.lemmas.List.Elements.{All-get_or, All-push}
 use Rattle.std.proofs.lemmas.List.Sorted.{length_permutation}
-use Rattle.bucket_codec.specs.Run.{Bucket, run_in, taken_of, IsPairInRange}
-use Rattle.bucket_codec.specs.Filled.{KeepsFront, IsFilled}
+use Rattle.bucket_codec.specs.Run.{Bucket, run_in, taken_of, IsPairInRange, IsZeroIfEmpty}
+use Rattle.bucket_codec.specs.Filled.{KeepsFront, KeepsBack, IsFilled, FillsRun}
 use Rattle.bucket_codec.specs.Packed.{set_pair}
 use Rattle.bucket_codec.proofs.Writing.{kept_both}
+use Rattle.bucket_codec.proofs.Behind.{back_both}
 
 -- there is room where the pairs put in are fewer than the buckets
 pub has_room : (run : List Bucket) (pairs : List (ℕ × ℕ)) (size : ℕ) → IsFilled run pairs → length pairs < size → length (taken_of run) < size
 has_room run pairs size filled few = omega (arith, length_permutation (taken_of run) pairs filled.same)
 
 -- one more pair
-pub fill_more : (old mid new : List ℕ) (k v start size limit : ℕ) (before after : List (ℕ × ℕ)) (key value : ℕ) → after ≡ before ++ (key, value) ∷ [] → IsPairInRange (key, value)
-    → KeepsFront old mid limit × IsFilled (run_in mid k v start size) before × All IsPairInRange before
-    → ((pairs : List (ℕ × ℕ)) → IsFilled (run_in mid k v start size) pairs → IsFilled (run_in new k v start size) (pairs ++ (key, value) ∷ []))
-    → KeepsFront mid new limit → KeepsFront old new limit × IsFilled (run_in new k v start size) after × All IsPairInRange after
-fill_more old mid new k v start size limit before after key value is fits inv filled kept = (
-  kept_both old mid new limit limit limit inv.0 kept (omega arith) (omega arith),
-  subst (λ l. IsFilled (run_in new k v start size) l) (sym is) (filled before inv.1),
-  subst (λ l. All IsPairInRange l) (sym is) (All-push IsPairInRange before (key, value) inv.2 fits),
-)
+pub fill_more : (old mid new : List ℕ) (k v start size : ℕ) (before after : List (ℕ × ℕ)) (key value : ℕ) → after ≡ before ++ (key, value) ∷ [] → IsPairInRange (key, value)
+    → FillsRun old mid k v start size before → ((pairs : List (ℕ × ℕ)) → IsFilled (run_in mid k v start size) pairs → IsFilled (run_in new k v start size) (pairs ++ (key, value) ∷ []))
+    → ((index : ℕ) → IsZeroIfEmpty mid k v index → IsZeroIfEmpty new k v index) → KeepsFront mid new (start * (k + v)) → KeepsBack mid new ((start + size) * (k + v))
+    → FillsRun old new k v start size after
+fill_more old mid new k v start size before after key value is fits done filled zeros front back = record {
+  filled = subst (λ l. IsFilled (run_in new k v start size) l) (sym is) (filled before done.filled);
+  ranges = subst (λ l. All IsPairInRange l) (sym is) (All-push IsPairInRange before (key, value) done.ranges fits);
+  zeros = λ index above below. zeros index (done.zeros index above below);
+  front = kept_both old mid new (start * (k + v)) (start * (k + v)) (start * (k + v)) done.front front (omega arith) (omega arith);
+  back = back_both old mid new ((start + size) * (k + v)) ((start + size) * (k + v)) ((start + size) * (k + v)) done.back back (omega arith) (omega arith);
+}
 
 -- the elements of a set as pairs
 pub elements_more : (elements : List ℕ) (index : ℕ) → index < length elements

@@ -1,4 +1,5 @@
 mod BucketCounts
+mod Spreads
 mod Places
 mod Members
 mod Buckets
@@ -9,6 +10,8 @@ mod TakenPairs
 mod Spelled
 mod Filling
 mod Writing
+mod Behind
+mod Clearing
 mod Fills
 mod Rows
 mod Placed

@@ -7,16 +7,17 @@ use Rattle.std.proofs.lemmas.Bool.{cases_lt}
 use Rattle.std.proofs.lemmas.List.Elements.{All-get_or, All-weaker}
 use Rattle.std.proofs.lemmas.List.Sums.{sum_by_more, sum_by-take-le}
 use Rattle.std.proofs.lemmas.Option.{get_or_from_slice_get, slice_get_within}
-use Rattle.std.proofs.lemmas.List.{get_or_past, get_or_default}
+use Rattle.std.proofs.lemmas.List.{get_or_past, get_or_default, take_all}
 use Rattle.schema_model.specs.Row.{Rises, FitsShape}
 use Rattle.schema_model.specs.declared.schema.Shape.{Shape}
 use Rattle.schema_model.specs.declared.rows.row.Row.{Row}
 use Rattle.bucket_codec.specs.BucketCount.{IsBucketCount, bucket_count}
-use Rattle.bucket_codec.specs.Run.{run_in, keys_of, HoldsRun, IsPairInRange}
-use Rattle.bucket_codec.specs.Filled.{KeepsFront, IsFilled}
+use Rattle.bucket_codec.specs.Run.{run_in, keys_of, HoldsRun, IsPairInRange, IsZeroIfEmpty}
+use Rattle.bucket_codec.specs.Filled.{KeepsFront, KeepsBack, IsFilled}
 use Rattle.bucket_codec.specs.BucketPlace.{pointer_width, key_width, value_width, place_width, bucket_width, start_at, end_at, size_at, SpellsPairs, IsRowOf, IsWidthCount}
 use Rattle.bucket_codec.specs.Packed.{set_pair, pairs_of, buckets_of, bucket_total, IsWritable, IsPackableRow, IsPackable, PacksPairs, PacksPlace, PacksRows}
-use Rattle.bucket_codec.proofs.Rows.{count_power, pairs_spelled, start_stays, packs_stay}
+use Rattle.bucket_codec.proofs.Rows.{count_power, pairs_spelled, start_stays, packs_stay, zero_kept}
+use Rattle.bucket_codec.proofs.Behind.{back_both}
 
 -- a place without a row
 pub packs_none : (widths first0 first1 second : List ℕ) (place start total : ℕ) (row : Option Row) → row ≡ None → start_at widths first0 place ≡ start
@@ -78,12 +79,16 @@ pub record IsBegun (widths : List ℕ) (rows : List (Option Row)) (first0 second
   pub long : length first ≡ length first0
   pub wide : length second ≡ length second0
   pub packs : (place : ℕ) → place < index → PacksPairs widths end first second place (get_or rows place None)
+  pub zeros : (bucket : ℕ) → bucket < end → IsZeroIfEmpty second (key_width widths) (value_width widths) bucket
+  pub back : KeepsBack first0 first (index * place_width widths)
+  pub wide_back : KeepsBack second0 second (end * bucket_width widths)
 
 pub begun_more : (widths : List ℕ) (rows : List (Option Row)) (first0 second0 first1 second1 first2 second2 : List ℕ) (index end next : ℕ) (row : Option Row) → index < length rows
     → row ≡ get_or rows index None → IsBegun widths rows first0 second0 first1 second1 index end → next ≡ end + buckets_of row → end_at widths first2 index ≡ next
     → PacksPairs widths next first2 second2 index row → KeepsFront first1 first2 (index * place_width widths) → KeepsFront second1 second2 (end * bucket_width widths)
-    → IsBegun widths rows first0 second0 first2 second2 (index + 1) next
-begun_more widths rows first0 second0 first1 second1 first2 second2 index end next row below is begun next_is pointer packs kept kept' = record {
+    → ((bucket : ℕ) → end ≤ bucket → bucket < next → IsZeroIfEmpty second2 (key_width widths) (value_width widths) bucket) → KeepsBack first1 first2 ((index + 1) * place_width widths)
+    → KeepsBack second1 second2 (next * bucket_width widths) → IsBegun widths rows first0 second0 first2 second2 (index + 1) next
+begun_more widths rows first0 second0 first1 second1 first2 second2 index end next row below is begun next_is pointer packs kept kept' zeros back back' = record {
   ends =
       let more = sum_by_more buckets_of rows index None below in
       let here : buckets_of row ≡ buckets_of (get_or rows index None) = ap buckets_of is in
@@ -99,7 +104,24 @@ begun_more widths rows first0 second0 first1 second1 first2 second2 index end ne
       let same : index ≡ place = omega arith in
       subst (λ p. PacksPairs widths next first2 second2 p (get_or rows p None)) same (subst (λ r. PacksPairs widths next first2 second2 index r) is packs))
       (cases_lt place index);
+  zeros = λ bucket less. ⊎_elim
+      (λ (earlier : bucket < end).
+      zero_kept second1 second2 (key_width widths) (value_width widths) (end * bucket_width widths) bucket kept'
+      (mul-le-mul_right (bucket_width widths) (let l : bucket + 1 ≤ end = omega arith in l)) (begun.zeros bucket earlier))
+      (λ (later : end ≤ bucket). zeros bucket later less)
+      (cases_lt bucket end);
+  back =
+      let up : index * place_width widths ≤ (index + 1) * place_width widths = mul-le-mul_right (place_width widths) (let l : index ≤ index + 1 = omega arith in l) in
+      back_both first0 first1 first2 (index * place_width widths) ((index + 1) * place_width widths) ((index + 1) * place_width widths) begun.back back up (omega arith);
+  wide_back =
+      let up : end * bucket_width widths ≤ next * bucket_width widths = mul-le-mul_right (bucket_width widths) (let l : end ≤ next = omega (arith, next_is) in l) in
+      back_both second0 second1 second2 (end * bucket_width widths) (next * bucket_width widths) (next * bucket_width widths) begun.wide_back back' up (omega arith);
 }
+
+-- all rows are written
+pub begun_all : (widths : List ℕ) (rows : List (Option Row)) (first0 second0 first second : List ℕ) (index end : ℕ) → length rows ≤ index → IsBegun widths rows first0 second0 first second index end
+    → end ≡ bucket_total rows
+begun_all widths rows first0 second0 first second index end all begun = begun.ends ∙ ap bucket_total (take_all index rows all)
 
 -- the next run ends within all buckets
 pub within_total : (rows : List (Option Row)) (index end : ℕ) (row : Option Row) → index < length rows → row ≡ get_or rows index None → end ≡ bucket_total (take index rows)
@@ -113,7 +135,7 @@ pub buckets_held : (all here width long : ℕ) → here ≤ all → all * width 
 buckets_held all here width long below inside = let up : here * width ≤ all * width = mul-le-mul_right width below in omega arith
 
 -- the keys of a set are its elements
-set_keys : (elements : List ℕ) → keys_of (map set_pair elements) ≡ elements
+pub set_keys : (elements : List ℕ) → keys_of (map set_pair elements) ≡ elements
 set_keys [] = refl
 set_keys (e ∷ elements) = ap (λ l. e ∷ l) (set_keys elements)
 

@@ -7,12 +7,13 @@ use Rattle.bit_array.specs.Element.{element_of}
 use Rattle.schema_model.specs.Row.{Rises}
 use Rattle.schema_model.specs.declared.rows.row.Row.{Row}
 use Rattle.bucket_codec.specs.BucketCount.{IsBucketCount, bucket_count}
-use Rattle.bucket_codec.specs.Run.{Bucket, bucket_at, bucket_in, run_in, taken_of, keys_of, IsPairInRange, SpellsRun}
+use Rattle.bucket_codec.specs.Run.{Bucket, bucket_at, bucket_in, value_in, run_in, taken_of, keys_of, IsPairInRange, IsZeroIfEmpty, SpellsRun}
 use Rattle.bucket_codec.specs.Filled.{KeepsFront, IsFilled}
 use Rattle.bucket_codec.specs.BucketPlace.{pointer_width, size_width, key_width, value_width, place_width, bucket_width, start_at, end_at, size_at, run_at, SpellsPairs}
 use Rattle.bucket_codec.specs.Packed.{pairs_of, PacksPairs}
 use Rattle.bucket_codec.proofs.Buckets.{length-run_in}
 use Rattle.bucket_codec.proofs.Filling.{same_run}
+use Rattle.bucket_codec.proofs.Behind.{zero_stays}
 
 -- the number of buckets is a power of two
 pub count_power : (n count : ℕ) → IsBucketCount n count → IsPowerOfTwo count
@@ -77,6 +78,12 @@ bucket_stays old new k v limit index kept inside =
     let value_is : element_of new (index * (k + v) + k) v ≡ element_of old (index * (k + v) + k) v = kept.front (index * (k + v) + k) v (omega (arith, inside)) in
     ap (λ x. cond (eqb x (2 ^ k - 1)) None (Some (x, element_of new (index * (k + v) + k) v))) key_is
     ∙ ap (λ y. cond (eqb (element_of old (index * (k + v)) k) (2 ^ k - 1)) None (Some (element_of old (index * (k + v)) k, y))) value_is
+
+-- and has the value 0 if it is empty and had it
+pub zero_kept : (old new : List ℕ) (k v limit index : ℕ) → KeepsFront old new limit → (index + 1) * (k + v) ≤ limit → IsZeroIfEmpty old k v index → IsZeroIfEmpty new k v index
+zero_kept old new k v limit index kept inside known =
+    let value : value_in new k v index ≡ value_in old k v index = kept.front (index * (k + v) + k) v (omega (arith, inside)) in
+    zero_stays old new k v index (bucket_stays old new k v limit index kept inside) value known
 
 -- a run before the limit stays
 run_stays : (old new : List ℕ) (k v limit start size : ℕ) → KeepsFront old new limit → (start + size) * (k + v) ≤ limit → run_in new k v start size ≡ run_in old k v start size

@@ -4,7 +4,7 @@ use Rattle.std.proofs.Math.Nat.{mul-le-mul_right, mod-lt}
 use Rattle.std.proofs.lemmas.Bool.{cases_lt, cases_order, eq-eqb, ne_eqb}
 use Rattle.bit_array.specs.Element.{element_of}
 use Rattle.bucket_codec.specs.Hash.{hash_of}
-use Rattle.bucket_codec.specs.Run.{Bucket, bucket_in, bucket_at, run_in, taken_of, place_from, HoldsRun}
+use Rattle.bucket_codec.specs.Run.{Bucket, bucket_in, value_in, bucket_at, run_in, taken_of, place_from, HoldsRun}
 use Rattle.bucket_codec.specs.Filled.{KeepsFront, IsFilled, IsFree}
 use Rattle.bucket_codec.proofs.Buckets.{length-run_in, bucket_of_run, if_true, if_false}
 use Rattle.bucket_codec.proofs.Filling.{set_run, filled_more, filled_none, all_taken}
@@ -38,7 +38,7 @@ both_written w0 w1 w2 at k v one two i u apart =
 
 -- and the others, which stay
 pub buckets_stay : (w0 w2 : List ℕ) (at k v index other : ℕ) → at ≡ index * (k + v) → ((i u : ℕ) → (i + u ≤ at) ⊎ (at + (k + v) ≤ i) → element_of w2 i u ≡ element_of w0 i u)
-    → other ≢ index → bucket_in w2 k v other ≡ bucket_in w0 k v other
+    → other ≢ index → (bucket_in w2 k v other ≡ bucket_in w0 k v other) × (value_in w2 k v other ≡ value_in w0 k v other)
 buckets_stay w0 w2 at k v index other is others apart =
     let away : (other * (k + v) + (k + v) ≤ at) ⊎ (at + (k + v) ≤ other * (k + v)) =
     ⊎_elim
@@ -49,9 +49,11 @@ buckets_stay w0 w2 at k v index other is others apart =
     let key_is : element_of w2 (other * (k + v)) k ≡ element_of w0 (other * (k + v)) k =
     others (other * (k + v)) k (⊎_elim (λ (l : other * (k + v) + (k + v) ≤ at). inl (omega (arith, l))) (λ (m : at + (k + v) ≤ other * (k + v)). inr m) away) in
     let value_is : element_of w2 (other * (k + v) + k) v ≡ element_of w0 (other * (k + v) + k) v =
-    others (other * (k + v) + k) v (⊎_elim (λ (l : other * (k + v) + (k + v) ≤ at). inl (omega (arith, l))) (λ (m : at + (k + v) ≤ other * (k + v)). inr (omega (arith, m))) away) in
-    ap (λ x. cond (eqb x (2 ^ k - 1)) None (Some (x, element_of w2 (other * (k + v) + k) v))) key_is
-    ∙ ap (λ y. cond (eqb (element_of w0 (other * (k + v)) k) (2 ^ k - 1)) None (Some (element_of w0 (other * (k + v)) k, y))) value_is
+    others (other * (k + v) + k) v (⊎_elim (λ (l : other * (k + v) + (k + v) ≤ at). inl (omega (arith, l))) (λ (m : at + (k + v) ≤ other * (k + v)). inr (omega (arith, m))) away) in (
+      ap (λ x. cond (eqb x (2 ^ k - 1)) None (Some (x, element_of w2 (other * (k + v) + k) v))) key_is
+          ∙ ap (λ y. cond (eqb (element_of w0 (other * (k + v)) k) (2 ^ k - 1)) None (Some (element_of w0 (other * (k + v)) k, y))) value_is,
+      value_is,
+    )
 
 -- a bucket whose key is all ones is empty, and another is not
 pub put_empty : (k key : ℕ) (pair : ℕ × ℕ) (b : Bucket) → b ≡ (if key == 2 ^ k - 1 then None else Some pair) → key ≡ 2 ^ k - 1 → b ≡ None

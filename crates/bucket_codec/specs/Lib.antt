@@ -6,3 +6,4 @@ pub mod Streak
 pub mod Taken
 pub mod Filled
 pub mod Packed
+pub mod Widths

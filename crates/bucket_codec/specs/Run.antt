@@ -54,6 +54,14 @@ bucket_in words key_width value_width index =
     let key = element_of words at key_width in
     (if key == 2 ^ key_width - 1 then None else Some (key, element_of words (at + key_width) value_width))
 
+-- The value that stands behind the key of the bucket at an index, also where the bucket is empty.
+abbrev pub value_in : List ℕ → ℕ → ℕ → ℕ → ℕ
+value_in words key_width value_width index = element_of words (index * (key_width + value_width) + key_width) value_width
+
+-- The bucket at an index has the value 0 if it is empty, as the writer has it.
+abbrev pub IsZeroIfEmpty : List ℕ → ℕ → ℕ → ℕ → Type 0
+IsZeroIfEmpty words key_width value_width index = bucket_in words key_width value_width index ≡ None → value_in words key_width value_width index ≡ 0
+
 -- The run of so many buckets from an index on.
 abbrev pub run_in : List ℕ → ℕ → ℕ → ℕ → ℕ → List Bucket
 run_in words key_width value_width start size = map (bucket_in words key_width value_width) (range_with_len start size)

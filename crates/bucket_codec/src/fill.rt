@@ -1,9 +1,9 @@
 //! Runs of buckets, written.
 ghost use Rattle.std.specs.Prelude.{◌≡◌, ◌≢◌, ◌+◌, ◌-◌, ◌*◌, ◌^◌, ◌<◌, ◌≤◌, ◌==◌, if◌then◌else◌, ℕ, List, [], ◌∷◌, ◌++◌, length, map, All, None, Some};
-ghost use Rattle.bucket_codec.specs.Run.{bucket_in, run_in, taken_of, HoldsRun, IsPairInRange};
+ghost use Rattle.bucket_codec.specs.Run.{bucket_in, value_in, run_in, taken_of, HoldsRun, IsPairInRange, IsZeroIfEmpty};
 ghost use Rattle.schema_model.specs.declared.rows.row.Row.TheVariants.{Set};
 ghost use Rattle.bucket_codec.specs.Packed.{pairs_of, IsBuckets};
-ghost use Rattle.bucket_codec.specs.Filled.{KeepsFront, IsFilled, IsFree};
+ghost use Rattle.bucket_codec.specs.Filled.{KeepsFront, KeepsBack, FillsRun, IsFilled, IsFree};
 
 use crate::hash::hash_int;
 use crate::run::{Run, round};
@@ -14,8 +14,7 @@ impl Run {
     /// Empties each bucket: its key is then all ones, and its value 0.
     pub fn clear(self, words: &mut [u64])
         requires { HoldsRun words.old self.key_width self.value_width self.start self.size }
-        ensures filled { IsFilled (run_in words.new self.key_width self.value_width self.start self.size) [] }
-        ensures front { KeepsFront words.old words.new (self.start * (self.key_width + self.value_width)) }
+        ensures { FillsRun words.old words.new self.key_width self.value_width self.start self.size [] }
     {
         let empty = all_ones(self.key_width);
         for place in 0..self.size {
@@ -30,9 +29,7 @@ impl Run {
         requires room { length (pairs_of row.now) < self.size }
         requires keys { All (λ pair. pair.0 < 2 ^ self.key_width - 1) (pairs_of row.now) }
         requires values { All (λ pair. pair.1 < 2 ^ self.value_width) (pairs_of row.now) }
-        ensures filled { IsFilled (run_in words.new self.key_width self.value_width self.start self.size) (pairs_of row.now) }
-        ensures ranges { All IsPairInRange (pairs_of row.now) }
-        ensures front { KeepsFront words.old words.new (self.start * (self.key_width + self.value_width)) }
+        ensures { FillsRun words.old words.new self.key_width self.value_width self.start self.size (pairs_of row.now) }
     {
         match row {
             Row::Set(elements) => self.fill_set(words, elements.as_slice()),
@@ -46,9 +43,7 @@ impl Run {
         requires held { HoldsRun words.old self.key_width self.value_width self.start self.size }
         requires room { length elements.now < self.size }
         requires keys { All (λ pair. pair.0 < 2 ^ self.key_width - 1) (pairs_of (Set elements.now)) }
-        ensures filled { IsFilled (run_in words.new self.key_width self.value_width self.start self.size) (pairs_of (Set elements.now)) }
-        ensures ranges { All IsPairInRange (pairs_of (Set elements.now)) }
-        ensures front { KeepsFront words.old words.new (self.start * (self.key_width + self.value_width)) }
+        ensures { FillsRun words.old words.new self.key_width self.value_width self.start self.size (pairs_of (Set elements.now)) }
     {
         self.clear(words);
         for element in elements {
@@ -62,9 +57,7 @@ impl Run {
         requires room { length pairs.now < self.size }
         requires keys { All (λ pair. pair.0 < 2 ^ self.key_width - 1) pairs.now }
         requires values { All (λ pair. pair.1 < 2 ^ self.value_width) pairs.now }
-        ensures filled { IsFilled (run_in words.new self.key_width self.value_width self.start self.size) pairs.now }
-        ensures ranges { All IsPairInRange pairs.now }
-        ensures front { KeepsFront words.old words.new (self.start * (self.key_width + self.value_width)) }
+        ensures { FillsRun words.old words.new self.key_width self.value_width self.start self.size pairs.now }
     {
         self.clear(words);
         for (key, value) in pairs {
@@ -80,7 +73,9 @@ impl Run {
         requires value { value < 2 ^ self.value_width }
         ensures filled { (pairs : List (ℕ × ℕ)) → IsFilled (run_in words.old self.key_width self.value_width self.start self.size) pairs → IsFilled (run_in words.new self.key_width self.value_width self.start self.size) (pairs ++ (key, value) ∷ []) }
         ensures range { IsPairInRange (key, value) }
+        ensures zeros { (index : ℕ) → IsZeroIfEmpty words.old self.key_width self.value_width index → IsZeroIfEmpty words.new self.key_width self.value_width index }
         ensures front { KeepsFront words.old words.new (self.start * (self.key_width + self.value_width)) }
+        ensures back { KeepsBack words.old words.new ((self.start + self.size) * (self.key_width + self.value_width)) }
     {
         let place = self.free_place(words, key);
         self.put(words, place, u64::from(key), u64::from(value));
@@ -109,8 +104,10 @@ impl Run {
         requires key { key < 2 ^ self.key_width }
         requires value { value < 2 ^ self.value_width }
         ensures is { bucket_in words.new self.key_width self.value_width (self.start + place) ≡ (if key == 2 ^ self.key_width - 1 then None else Some (key, value)) }
-        ensures others { (index : ℕ) → index ≢ self.start + place → bucket_in words.new self.key_width self.value_width index ≡ bucket_in words.old self.key_width self.value_width index }
+        ensures value { value_in words.new self.key_width self.value_width (self.start + place) ≡ value }
+        ensures others { (index : ℕ) → index ≢ self.start + place → (bucket_in words.new self.key_width self.value_width index ≡ bucket_in words.old self.key_width self.value_width index) × (value_in words.new self.key_width self.value_width index ≡ value_in words.old self.key_width self.value_width index) }
         ensures front { KeepsFront words.old words.new ((self.start + place) * (self.key_width + self.value_width)) }
+        ensures back { KeepsBack words.old words.new ((self.start + place + 1) * (self.key_width + self.value_width)) }
     {
         let at = (self.start + place) * u64::from(self.key_width + self.value_width);
         set_element(words, at, self.key_width, key);

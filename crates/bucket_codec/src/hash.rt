@@ -27,10 +27,21 @@ pub fn buckets_for(elements: u32) -> u64
     ensures room { elements + 1 ≤ result }
     ensures few { result ≤ 2 ^ 33 }
 {
+    buckets_for_any(u64::from(elements)) as u64
+}
+
+/// The same of any number of elements that memory holds.
+pub(crate) fn buckets_for_any(elements: u64) -> u128
+    requires { elements < 2 ^ 63 }
+    ensures is { result ≡ bucket_count elements }
+    ensures count { IsBucketCount elements result }
+    ensures few { elements < 2 ^ 32 → result ≤ 2 ^ 33 }
+    ensures small { result ≤ 2 ^ 64 }
+{
     match elements {
         0 => 1,
         1 => 2,
         2 => 4,
-        _ => 1 << digits(10 * u64::from(elements) / 7 - 1),
+        _ => 1 << digits((10 * u128::from(elements) / 7 - 1) as u64),
     }
 }

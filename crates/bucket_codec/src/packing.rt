@@ -1,9 +1,10 @@
 //! Rows of sets and maps, packed.
-ghost use Rattle.std.specs.Prelude.{◌≡◌, ℕ, ◌+◌, ◌*◌, ◌^◌, ◌<◌, ◌≤◌, List, [], length, vec_len, All, Option, Some, None, slice_index_or, IfOk};
-ghost use Rattle.bit_array.specs.Element.{words_of};
+ghost use Rattle.std.specs.Prelude.{◌≡◌, ℕ, ◌+◌, ◌*◌, ◌^◌, ◌<◌, ◌≤◌, List, [], length, replicate, vec_len, All, Option, Some, None, slice_index_or, IfOk};
+ghost use Rattle.bit_array.specs.Element.{number_of, words_of};
 ghost use Rattle.schema_model.specs.declared.rows.row.Row.{Row as StoredRow};
-ghost use Rattle.bucket_codec.specs.Filled.{KeepsFront};
-ghost use Rattle.bucket_codec.specs.BucketPlace.{pointer_width, place_width, bucket_width, start_at, end_at, HoldsPointers};
+ghost use Rattle.bucket_codec.specs.Filled.{KeepsFront, KeepsBack};
+ghost use Rattle.bucket_codec.specs.Run.{IsZeroIfEmpty};
+ghost use Rattle.bucket_codec.specs.BucketPlace.{pointer_width, key_width, value_width, place_width, bucket_width, start_at, end_at, HoldsPointers};
 ghost use Rattle.bucket_codec.specs.Packed.{pairs_of, buckets_of, bucket_total, IsPackable, IsFew, IsWritable, PacksRows, PacksPairs};
 
 use crate::hash::buckets_for;
@@ -16,7 +17,8 @@ use std::alloc::{AllocError, Global};
 /// The words that spell these rows, place by place.
 ///
 /// A row takes the number of buckets of its elements or pairs, which are put in by rising element or key, each into the first empty bucket from
-/// its home on. A place without a row has the pointer of the place before and the size 0.
+/// its home on. An empty bucket is all ones in the element or key, and has the value 0. A place without a row has the pointer of the place before
+/// and the size 0. No bit stands behind the places and the buckets.
 pub fn pack(
     alloc: Global,
     schema: &Schema,
@@ -27,6 +29,9 @@ pub fn pack(
     ensures packed { IfOk result (λ packed. PacksRows schema.now.shape widths.now rows.now packed.first packed.second) }
     ensures first { IfOk result (λ packed. length packed.first ≡ words_of (length rows.now * place_width widths.now)) }
     ensures second { IfOk result (λ packed. length packed.second ≡ words_of (bucket_total rows.now * bucket_width widths.now)) }
+    ensures zeros { IfOk result (λ packed. (index : ℕ) → index < bucket_total rows.now → IsZeroIfEmpty packed.second (key_width widths.now) (value_width widths.now) index) }
+    ensures first_bits { IfOk result (λ packed. number_of packed.first < 2 ^ (length rows.now * place_width widths.now)) }
+    ensures second_bits { IfOk result (λ packed. number_of packed.second < 2 ^ (bucket_total rows.now * bucket_width widths.now)) }
     ensures areas { IfOk result (λ packed. packed.areas ≡ []) }
 {
     let rows = rows.as_slice();
@@ -43,7 +48,8 @@ pub fn pack(
 
 /// As many words of zeros as so many bits take.
 fn zeros(alloc: Global, bits: u64) -> Result<Vec<u64>, AllocError>
-    ensures { IfOk result (λ words. length words.items ≡ words_of bits) }
+    ensures long { IfOk result (λ words. length words.items ≡ words_of bits) }
+    ensures zero { IfOk result (λ words. words.items ≡ replicate (length words.items) 0) }
 {
     vec![in alloc; 0; words_for(bits) as usize]
 }
@@ -57,12 +63,13 @@ fn bucket_bits(widths: &[u32]) -> u64
 }
 
 /// How many elements or pairs a row has.
-fn size_of(row: &Row) -> usize
-    ensures { result ≡ length (pairs_of row.now) }
+pub(crate) fn size_of(row: &Row) -> usize
+    ensures is { result ≡ length (pairs_of row.now) }
+    ensures small { result < 2 ^ 63 }
 {
     match row {
-        Row::Set(elements) => elements.len(),
-        Row::Map(pairs) => pairs.len(),
+        Row::Set(elements) => elements.as_slice().len(),
+        Row::Map(pairs) => pairs.as_slice().len(),
         _ => 0,
     }
 }
@@ -101,7 +108,10 @@ fn put_rows(widths: &[u32], rows: &[Option<Row>], first: &mut [u64], second: &mu
     requires places { length rows.now * place_width widths.now ≤ 64 * length first.old }
     requires buckets { bucket_total rows.now * bucket_width widths.now ≤ 64 * length second.old }
     requires bits { 64 * length second.old < 2 ^ 64 }
-    ensures { (place : ℕ) → place < length rows.now → PacksPairs widths.now (bucket_total rows.now) first.new second.new place (slice_index_or rows.now place None) }
+    ensures packed { (place : ℕ) → place < length rows.now → PacksPairs widths.now (bucket_total rows.now) first.new second.new place (slice_index_or rows.now place None) }
+    ensures zeros { (index : ℕ) → index < bucket_total rows.now → IsZeroIfEmpty second.new (key_width widths.now) (value_width widths.now) index }
+    ensures first { KeepsBack first.old first.new (length rows.now * place_width widths.now) }
+    ensures second { KeepsBack second.old second.new (bucket_total rows.now * bucket_width widths.now) }
 {
     let mut end = 0;
     for (place, row) in rows.iter().enumerate() {
@@ -111,7 +121,7 @@ fn put_rows(widths: &[u32], rows: &[Option<Row>], first: &mut [u64], second: &mu
 
 /// Writes the row of a place. Its run starts where that of the place before ends; where it ends itself is the answer.
 ///
-/// Only the bits of this place and of this run change, and none before them. No memory is taken.
+/// Only the bits of this place and of this run change. No memory is taken.
 pub fn put_row(
     widths: &[u32],
     row: &Option<Row>,
@@ -132,6 +142,9 @@ pub fn put_row(
     ensures packed { PacksPairs widths.now result first.new second.new place row.now }
     ensures first { KeepsFront first.old first.new (place * place_width widths.now) }
     ensures second { KeepsFront second.old second.new (start * bucket_width widths.now) }
+    ensures zeros { (index : ℕ) → start ≤ index → index < result → IsZeroIfEmpty second.new (key_width widths.now) (value_width widths.now) index }
+    ensures first_back { KeepsBack first.old first.new ((place + 1) * place_width widths.now) }
+    ensures second_back { KeepsBack second.old second.new (result * bucket_width widths.now) }
 {
     let Some(row) = row else {
         put_pointers(widths, first, place, start, 0);

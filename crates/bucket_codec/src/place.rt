@@ -1,7 +1,7 @@
 //! The pointer and the size of a place, and the run that they bound.
-ghost use Rattle.std.specs.Prelude.{◌≡◌, ◌-◌, ◌*◌, ◌^◌, ◌<◌, ◌≤◌, length, MatchOption};
+ghost use Rattle.std.specs.Prelude.{◌≡◌, ◌+◌, ◌-◌, ◌*◌, ◌^◌, ◌<◌, ◌≤◌, length, MatchOption};
 ghost use Rattle.bucket_codec.specs.Run.{run_in, HoldsRun};
-ghost use Rattle.bucket_codec.specs.Filled.{KeepsFront};
+ghost use Rattle.bucket_codec.specs.Filled.{KeepsFront, KeepsBack};
 ghost use Rattle.bucket_codec.specs.BucketPlace.{pointer_width, size_width, place_width, value_width, start_at, end_at, size_at, run_at, IsSpan, HoldsPointers};
 
 use crate::run::Run;
@@ -108,6 +108,7 @@ pub fn put_pointers(widths: &[u32], first: &mut [u64], place: u64, end: u64, siz
     ensures end { end_at widths.now first.new place ≡ end }
     ensures size { size_at widths.now first.new place ≡ size }
     ensures front { KeepsFront first.old first.new (place * place_width widths.now) }
+    ensures back { KeepsBack first.old first.new ((place + 1) * place_width widths.now) }
 {
     let at = place * place_bits(widths);
     set_element(first, at, widths[0], end);

@@ -1,6 +1,8 @@
-use Rattle.std.proofs.Common.{◌∙◌, sym, subst, All, ◌<◌, ◌^◌}
+use Rattle.std.proofs.Common.{length, ◌∙◌, sym, ap, subst, All, ◌<◌, ◌^◌}
+use Rattle.bucket_codec.specs.BucketPlace.{place_width, bucket_width}
 use Rattle.bucket_codec.specs.Packed.{bucket_total, IsWritable}
 use Rattle.bucket_codec.proofs.Placed.{all_writable, packs_all, total_small, written_over}
+use Rattle.bucket_codec.proofs.Behind.{none_behind_zeros}
 use Rattle.bucket_codec.proofs.packing.pack.Goals as goal
 
 pub total_buckets-requires-clause-small : goal.total_buckets-requires-clause-small
@@ -17,4 +19,17 @@ returns-clause-packed c =
     packs_all c.args.schema.now.shape c.args.widths.now c.as_slice-widths.result.now c.args.rows.now c.as_slice-rows.result.now c.from_vec.result c.put_rows.new.first c.from_vec-2.result
     c.put_rows.new.second c.requires c.as_slice-rows.ensures c.as_slice-widths.ensures
     (c.from_vec.ensures ∙ written_over c.put_rows.new.first _ _ (sym (c.put_rows.auto.first ∙ c.as_mut_slice.ensures.len)))
-    (c.from_vec-2.ensures ∙ written_over c.put_rows.new.second _ _ (sym (c.put_rows.auto.second ∙ c.as_mut_slice-2.ensures.len))) c.put_rows.ensures
+    (c.from_vec-2.ensures ∙ written_over c.put_rows.new.second _ _ (sym (c.put_rows.auto.second ∙ c.as_mut_slice-2.ensures.len))) c.put_rows.ensures.packed
+
+pub returns-clause-first_bits : goal.returns-clause-first_bits
+returns-clause-first_bits c =
+    none_behind_zeros c.in_ok-first.first.items c.as_mut_slice.result.now c.put_rows.new.first c.from_vec.result (length c.args.rows.now) (place_width c.args.widths.now) _ _
+    c.in_ok-first.ensures.zero c.as_mut_slice.ensures.value (c.from_vec.ensures ∙ written_over c.put_rows.new.first _ _ (sym (c.put_rows.auto.first ∙ c.as_mut_slice.ensures.len)))
+    (ap (λ rows. length rows) c.as_slice-rows.ensures) (ap place_width c.as_slice-widths.ensures) c.put_rows.ensures.first
+
+pub returns-clause-second_bits : goal.returns-clause-second_bits
+returns-clause-second_bits c =
+    none_behind_zeros c.in_ok-second.second.items c.as_mut_slice-2.result.now c.put_rows.new.second c.from_vec-2.result (bucket_total c.args.rows.now) (bucket_width c.args.widths.now) _ _
+    c.in_ok-second.ensures.zero c.as_mut_slice-2.ensures.value
+    (c.from_vec-2.ensures ∙ written_over c.put_rows.new.second _ _ (sym (c.put_rows.auto.second ∙ c.as_mut_slice-2.ensures.len)))
+    (ap bucket_total c.as_slice-rows.ensures) (ap bucket_width c.as_slice-widths.ensures) c.put_rows.ensures.second

@@ -10,17 +10,17 @@ returns-in_default-clause-packed c =
 pub fill-requires-clause-held : goal.fill-requires-clause-held
 fill-requires-clause-held c =
     row_held c.args.widths.now c.args.second.now c.args.start c.buckets_for.result c.size_of-size.result _ _ c.args.row.now c.in-Some.row c.in-Some.is c.requires.holds.narrow c.requires.pointer c.requires.inside
-    c.requires.bits c.size_of-size.ensures c.buckets_for.ensures.is refl c.map_value_width.ensures
+    c.requires.bits c.size_of-size.ensures.is c.buckets_for.ensures.is refl c.map_value_width.ensures
 
 pub overflow_add-end : goal.overflow_add-end
 overflow_add-end c =
     let held = row_held c.args.widths.now c.args.second.now c.args.start c.buckets_for.result c.size_of-size.result _ _ c.args.row.now c.in-Some.row c.in-Some.is c.requires.holds.narrow c.requires.pointer c.requires.inside
-    c.requires.bits c.size_of-size.ensures c.buckets_for.ensures.is refl c.map_value_width.ensures in
+    c.requires.bits c.size_of-size.ensures.is c.buckets_for.ensures.is refl c.map_value_width.ensures in
     omega (arith, held.ends)
 
 pub returns-clause-packed : goal.returns-clause-packed
 returns-clause-packed c =
     packs_some c.args.widths.now c.args.first.now c.put_pointers-2.new.first c.fill.new.words c.args.place c.args.start c.buckets_for.result c.size_of-size.result c.map_value_width.result c.args.row.now
-    c.in-Some.row c.in-Some.is c.requires.row c.requires.start c.put_pointers-2.ensures.front c.put_pointers-2.ensures.end c.put_pointers-2.ensures.size c.size_of-size.ensures c.buckets_for.ensures.is
+    c.in-Some.row c.in-Some.is c.requires.row c.requires.start c.put_pointers-2.ensures.front c.put_pointers-2.ensures.end c.put_pointers-2.ensures.size c.size_of-size.ensures.is c.buckets_for.ensures.is
     c.buckets_for.ensures.count c.buckets_for.ensures.room
     (omega (arith, c.requires.inside, c.fill.ensures.front.long)) c.map_value_width.ensures c.fill.ensures.filled c.fill.ensures.ranges

@@ -1,11 +1,7 @@
-use Rattle.std.proofs.Common.{◌+◌, ◌*◌, map, take, All}
-use Rattle.bucket_codec.specs.Run.{run_in, IsPairInRange}
+use Rattle.std.proofs.Common.{map, take}
 use Rattle.bucket_codec.specs.Packed.{set_pair}
-use Rattle.bucket_codec.specs.Filled.{KeepsFront, IsFilled}
+use Rattle.bucket_codec.specs.Filled.{FillsRun}
 use Rattle.bucket_codec.proofs.run.Run.fill_set.Given as goal
 
 abbrev pub invariant-loop-element : goal.invariant-loop-element
-invariant-loop-element l =
-    let pairs = map set_pair (take l.element-index l.elements) in
-    KeepsFront l.fn.words l.words (l.self.start * (l.self.key_width + l.self.value_width))
-    × IsFilled (run_in l.words l.self.key_width l.self.value_width l.self.start l.self.size) pairs × All IsPairInRange pairs
+invariant-loop-element l = FillsRun l.fn.words l.words l.self.key_width l.self.value_width l.self.start l.self.size (map set_pair (take l.element-index l.elements))
