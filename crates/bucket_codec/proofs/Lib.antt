@@ -15,4 +15,5 @@ mod Clearing
 mod Fills
 mod Rows
 mod Placed
+mod Generated
 pub mod PlaceRows

@@ -1,0 +1,7 @@
+use Rattle.std.proofs.Common.{◌∷◌, ◌++◌, [], ap, sym, ◌∙◌}
+use Rattle.bucket_codec.proofs.Generated.{range_more}
+use Rattle.bucket_codec.proofs.tests.ordinals_below.Goals as goal
+
+pub loop-ordinal-preserved : goal.loop-ordinal-preserved
+loop-ordinal-preserved c =
+    c.in_ok-push.ensures.ok ∙ ap (λ ordinals. ordinals ++ c.loop-ordinal.ordinal ∷ []) c.loop-ordinal.invariant ∙ sym (range_more c.loop-ordinal.ordinal)
