@@ -1,8 +1,8 @@
 -- Lemmas on the bits behind what is written, which stay, and on the values of empty buckets, which are 0.
 use Rattle.std.proofs.Common.{◌≡◌, ◌≢◌, ℕ, zero, suc, ◌+◌, ◌*◌, ◌/◌, ◌%◌, ◌^◌, ◌<◌, ◌≤◌, ◌⊎◌, inr, List, length, None, Some, arith, refl, sym, ap, ⊎_elim, ◌∙◌}
 use Rattle.std.specs.Prelude.{replicate}
-use Rattle.std.proofs.Math.Nat.{mod-eq_of_lt, div-lt_iff_lt-mul, mul-le-mul_right}
-use Rattle.std.proofs.lemmas.Bool.{cases_lt, cases_order}
+use Rattle.std.proofs.Math.Nat.{mod-eq_of_lt, div-lt_iff_lt-mul}
+use Rattle.std.proofs.lemmas.Bool.{cases_order}
 use Rattle.std.proofs.lemmas.Nat.{pow_pos}
 use Rattle.bit_array.specs.Digits.{digit_count}
 use Rattle.bit_array.specs.Element.{element_of, number_of}

@@ -1,5 +1,5 @@
 -- Lemmas on the run whose buckets are emptied one by one.
-use Rattle.std.proofs.Common.{◌≡◌, ◌≢◌, ℕ, ◌+◌, ◌*◌, ◌<◌, ◌≤◌, List, [], length, All, None, arith, ap}
+use Rattle.std.proofs.Common.{◌≡◌, ◌≢◌, ℕ, ◌+◌, ◌*◌, ◌<◌, ◌≤◌, List, [], None, arith}
 use Rattle.std.proofs.Math.Nat.{mul-le-mul_right}
 use Rattle.std.proofs.lemmas.List.Elements.{All-nil}
 use Rattle.bucket_codec.specs.Run.{bucket_in, value_in, IsPairInRange, IsZeroIfEmpty}

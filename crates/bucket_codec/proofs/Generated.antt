@@ -1,12 +1,12 @@
 -- Lemmas on the rows that the tests pack: the ordinals below a number, and pairs of each and itself.
-use Rattle.std.proofs.Common.{◌≡◌, ℕ, suc, ◌+◌, ◌-◌, ◌*◌, ◌^◌, ◌<◌, ◌≤◌, List, [], ◌∷◌, ◌++◌, length, map, get_or, All, Option, Some, arith, rules, refl, sym, ap, subst, lit<, ◌∙◌}
+use Rattle.std.proofs.Common.{◌≡◌, ℕ, ◌+◌, ◌-◌, ◌*◌, ◌^◌, ◌<◌, ◌≤◌, List, [], ◌∷◌, ◌++◌, length, map, get_or, All, Some, arith, rules, refl, sym, ap, subst, lit<, ◌∙◌}
 use Rattle.std.specs.List.{range_with_len}
 use Rattle.std.proofs.Math.Nat.{mul-le-mul_left}
 use Rattle.std.proofs.lemmas.List.{map-id}
 use Rattle.std.proofs.lemmas.List.FromFn.{length-range_with_len, get_or-range_with_len, length-map-range_with_len, get_or-map-range_with_len, map-range_with_len_more}
 use Rattle.std.proofs.lemmas.List.Kept.{AllPairs-from_increasing}
 use Rattle.std.proofs.lemmas.List.Elements.{All-cons, All-nil}
-use Rattle.schema_model.specs.Row.{Rises, FitsShape}
+use Rattle.schema_model.specs.Row.{Rises, FitsShape, IsRowInRange}
 use Rattle.schema_model.specs.declared.schema.Shape.{Shape}
 use Rattle.schema_model.specs.declared.rows.row.Row.{Row}
 use Rattle.bucket_codec.specs.BucketCount.{bucket_count}
@@ -46,6 +46,33 @@ all_below P pair count each = λ index default below.
     let inside : index < count = omega (arith, below, length-map-range_with_len pair 0 count) in
     subst P (sym (get_or-map-range_with_len pair 0 count index index default inside (omega arith))) (each index inside)
 
+-- the pairs of ordinals and themselves, which rise as the ordinals do
+abbrev twice : ℕ → ℕ × ℕ
+twice ordinal = (ordinal, ordinal)
+
+firsts : (ordinals : List ℕ) → map (λ (pair : ℕ × ℕ). pair.0) (map twice ordinals) ≡ ordinals
+firsts [] = refl
+firsts (ordinal ∷ rest) = ap (λ os. ordinal ∷ os) (firsts rest)
+
+rises_twice : (count : ℕ) → Rises (map (λ (pair : ℕ × ℕ). pair.0) (map twice (range_with_len 0 count)))
+rises_twice count = subst (λ (ordinals : List ℕ). Rises ordinals) (sym (firsts (range_with_len 0 count))) (rises_below count)
+
+-- they are rows of a SET and a MAP
+pub set_fits : (shape : Shape) (ordinals : List ℕ) (count : ℕ) → IsWidthCount shape 3 → ordinals ≡ range_with_len 0 count → count < 2 ^ 32 → FitsShape shape (Row.Set ordinals) × IsRowInRange (Row.Set ordinals)
+set_fits (Shape.Set element) ordinals count counted are few =
+    subst (λ (os : List ℕ). Rises os × All (λ ordinal. ordinal < 2 ^ 32) os) (sym are) (
+      rises_below count,
+      λ index default below. let is = get_or-range_with_len 0 count index default (omega (arith, below, length-range_with_len 0 count)) in omega (arith, is, below, length-range_with_len 0 count),
+    )
+set_fits _ ordinals count counted are few = absurd (search rules)
+
+pub map_fits : (shape : Shape) (pairs : List (ℕ × ℕ)) (count : ℕ) → IsWidthCount shape 4 → pairs ≡ map (λ ordinal. (ordinal, ordinal)) (range_with_len 0 count) → count < 2 ^ 32
+    → FitsShape shape (Row.Map pairs) × IsRowInRange (Row.Map pairs)
+map_fits (Shape.Map key value) pairs count counted are few =
+    subst (λ (ps : List (ℕ × ℕ)). Rises (map (λ pair. pair.0) ps) × All (λ pair. (pair.0 < 2 ^ 32) × (pair.1 < 2 ^ 32)) ps) (sym are)
+    (rises_twice count, all_below (λ pair. (pair.0 < 2 ^ 32) × (pair.1 < 2 ^ 32)) twice count (λ ordinal below. (omega arith, omega arith)))
+map_fits _ pairs count counted are few = absurd (search rules)
+
 -- the set of the ordinals below a number
 pub set_packable : (shape : Shape) (widths ordinals : List ℕ) (count : ℕ) → IsWidthCount shape 3 → widths ≡ 34 ∷ 32 ∷ 33 ∷ [] → ordinals ≡ range_with_len 0 count → count < 2 ^ 32
     → IsPackable shape widths (Some (Row.Set ordinals) ∷ [])
@@ -61,20 +88,14 @@ set_packable (Shape.Set element) widths ordinals count counted is are few =
     } refl (omega arith)))
 set_packable _ widths ordinals count counted is are few = absurd (search rules)
 
-firsts : (ordinals : List ℕ) → map (λ (pair : ℕ × ℕ). pair.0) (map (λ ordinal. (ordinal, ordinal)) ordinals) ≡ ordinals
-firsts [] = refl
-firsts (ordinal ∷ rest) = ap (λ os. ordinal ∷ os) (firsts rest)
-
 -- and the map of each of them and itself
 pub map_packable : (shape : Shape) (widths : List ℕ) (pairs : List (ℕ × ℕ)) (count : ℕ) → IsWidthCount shape 4 → widths ≡ 34 ∷ 32 ∷ 33 ∷ 32 ∷ []
     → pairs ≡ map (λ ordinal. (ordinal, ordinal)) (range_with_len 0 count) → count < 2 ^ 32 → IsPackable shape widths (Some (Row.Map pairs) ∷ [])
 map_packable (Shape.Map key value) widths pairs count counted is are few =
-    let twice : ℕ → ℕ × ℕ = λ ordinal. (ordinal, ordinal) in
     let long = length-map-range_with_len twice 0 count in
-    let rises : Rises (map (λ (pair : ℕ × ℕ). pair.0) (map twice (range_with_len 0 count))) = subst (λ (ns : List ℕ). Rises ns) (sym (firsts (range_with_len 0 count))) (rises_below count) in
     subst (λ (w : List ℕ). IsPackable (Shape.Map key value) w (Some (Row.Map pairs) ∷ [])) (sym is)
     (subst (λ (ps : List (ℕ × ℕ)). IsPackable (Shape.Map key value) (34 ∷ 32 ∷ 33 ∷ 32 ∷ []) (Some (Row.Map ps) ∷ [])) (sym are)
-    (one_packable (Shape.Map key value) (34 ∷ 32 ∷ 33 ∷ 32 ∷ []) (Row.Map (map twice (range_with_len 0 count))) refl (search rules) rises record {
+    (one_packable (Shape.Map key value) (34 ∷ 32 ∷ 33 ∷ 32 ∷ []) (Row.Map (map twice (range_with_len 0 count))) refl (search rules) (rises_twice count) record {
       keys = all_below (λ pair. pair.0 < 2 ^ 33 - 1) twice count (λ ordinal below. omega arith);
       values = all_below (λ pair. pair.1 < 2 ^ 32) twice count (λ ordinal below. omega arith);
       size = omega (arith, long);

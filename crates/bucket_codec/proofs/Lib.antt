@@ -16,4 +16,5 @@ mod Fills
 mod Rows
 mod Placed
 mod Generated
+mod Samples
 pub mod PlaceRows

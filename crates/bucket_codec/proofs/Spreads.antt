@@ -1,5 +1,5 @@
 -- Lemmas on the buckets, the sizes, the keys and the values of rows as they are gathered.
-use Rattle.std.proofs.Common.{◌≡◌, ℕ, ◌+◌, ◌-◌, ◌^◌, ◌<◌, ◌≤◌, List, [], ◌∷◌, ◌++◌, length, Option, Some, None, max, min, arith, refl, sym, ap, subst, ◌∙◌}
+use Rattle.std.proofs.Common.{◌≡◌, ℕ, ◌+◌, ◌-◌, ◌^◌, ◌≤◌, List, [], ◌∷◌, ◌++◌, length, Option, Some, None, max, min, arith, refl, sym, ap, subst, ◌∙◌}
 use Rattle.std.specs.Prelude.{fold, map, option_map, unwrap_or}
 use Rattle.std.specs.List.{reduce}
 use Rattle.std.proofs.lemmas.List.Sums.{fold-append, sum_by-cons}

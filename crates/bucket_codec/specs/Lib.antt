@@ -7,3 +7,4 @@ pub mod Taken
 pub mod Filled
 pub mod Packed
 pub mod Widths
+pub mod Sample

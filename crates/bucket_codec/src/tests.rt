@@ -1,13 +1,15 @@
 //! Tests: worked hashes, counts of buckets, sets and maps, and why there is none.
-ghost use Rattle.std.specs.Prelude.{◌≡◌, ◌≤◌, ◌∷◌, [], length, map, All, Some, IfOk};
+ghost use Rattle.std.specs.Prelude.{◌≡◌, ◌<◌, ◌≤◌, ◌∷◌, [], length, map, All, Some, IfOk, IfSome};
 ghost use Rattle.std.specs.List.{range_with_len};
+ghost use Rattle.schema_model.specs.Row.{FitsShape, IsRowInRange};
 ghost use Rattle.bucket_codec.specs.BucketPlace.{IsWidthCount};
 ghost use Rattle.bucket_codec.specs.Packed.{IsPackable};
 
 use super::*;
-use hol_varint::Ordinals;
+use hol_varint::{Duplicate, Ordinals};
 use schema_model::{
-    Areas, Name, Packed, Pairs, PlaceFault, Places, Row, Schema, Shape, Widths, Words,
+    Areas, Fields, MAX_ITEMS, Model, Name, Packed, Pairs, PlaceFault, Places, Row, Rows, Schema,
+    Schemas, Shape, Widths, Words, model_of,
 };
 use std::alloc::{AllocError, Global};
 use std::test::Fail;
@@ -45,7 +47,7 @@ fn map_type(alloc: Global) -> Result<Schema, AllocError>
 {
     Ok(Schema {
         name: Name::from_text(alloc, "M")?,
-        shape: Shape::Map(Name::from_text(alloc, "K")?, Name::from_text(alloc, "V")?),
+        shape: Shape::Map(Name::from_text(alloc, "E")?, Name::from_text(alloc, "E")?),
     })
 }
 
@@ -215,5 +217,132 @@ fn rows_read_back(rt: HostRuntime) -> Result<(), Fail> {
             format!(in alloc; "Ok(Map({pairs:?}))")?
         );
     }
+    Ok(())
+}
+
+/// A state with one row at most: under ordinal 0 of the first type.
+#[derive(Drop)]
+struct Sample {
+    model: Model,
+    row: Option<Row>,
+}
+
+impl std::marker::Model for Sample {
+    ghost use Rattle.std.specs.Prelude.{List, Option};
+    ghost use Rattle.schema_model.specs.declared.schema.Schema.{Schema};
+    ghost use Rattle.schema_model.specs.declared.rows.row.Row.{Row};
+    ghost use Rattle.bucket_codec.specs.Sample.{IsSample};
+
+    ghost Value = { List Schema × Option Row };
+
+    ghost view = { λ sample. (sample.model, sample.row) };
+
+    ghost invariant = { λ sample. IsSample sample.model sample.row };
+}
+
+impl Rows for Sample {
+    ghost use Rattle.bucket_codec.specs.Sample.{sample_table};
+
+    ghost schemas = { λ sample. sample.0 };
+
+    ghost table = { λ sample. sample_table sample.0 sample.1 };
+
+    fn model(&self) -> &Model {
+        &self.model
+    }
+
+    fn bound(&self, type_index: u32) -> u32 {
+        u32::from(self.is_live(type_index, 0))
+    }
+
+    fn is_live(&self, type_index: u32, ordinal: u32) -> bool {
+        if type_index > 0 || ordinal > 0 {
+            return false;
+        }
+        self.row.is_some()
+    }
+
+    fn row(&self, alloc: Global, _type_index: u32, _ordinal: u32) -> Result<Row, AllocError> {
+        match &self.row {
+            Some(row) => row.copy(alloc),
+            None => Err(AllocError),
+        }
+    }
+}
+
+/// A state of this type, and of an OBJECT that it is of, with one row at most.
+fn sample_of(alloc: Global, schema: Schema, row: Option<Row>) -> Result<Sample, AllocError>
+    requires { IfSome row (λ row. FitsShape schema.shape row × IsRowInRange row) }
+    ensures { IfOk result (λ sample. 0 < length sample.0) }
+{
+    let element = Schema {
+        name: Name::from_text(alloc, "E")?,
+        shape: Shape::Object(None, Fields::new(alloc)),
+    };
+    let schemas = Schemas::from_vec(vec![in alloc; schema, element]?);
+    match model_of(alloc, schemas) {
+        Ok(model) => Ok(Sample { model, row }),
+        Err(_) => Err(AllocError),
+    }
+}
+
+/// A state with the set of the ordinals below a number.
+fn set_sample(alloc: Global, count: u32) -> Result<Sample, AllocError>
+    ensures { IfOk result (λ sample. 0 < length sample.0) }
+{
+    let row = Row::Set(ordinals_below(alloc, count)?);
+    sample_of(alloc, set_type(alloc)?, Some(row))
+}
+
+/// A state with the map of each ordinal below a number to itself.
+fn map_sample(alloc: Global, count: u32) -> Result<Sample, AllocError>
+    ensures { IfOk result (λ sample. 0 < length sample.0) }
+{
+    let row = Row::Map(pairs_below(alloc, count)?);
+    sample_of(alloc, map_type(alloc)?, Some(row))
+}
+
+/// The widths of the first type over two states.
+fn widths_of(alloc: Global, old: &Sample, new: &Sample) -> Result<Widths, AllocError>
+    requires { 0 < length old.now.0 }
+{
+    if total(alloc, old, new, 0)? > MAX_ITEMS {
+        return Err(AllocError);
+    }
+    widths(alloc, old, new, 0)
+}
+
+#[test]
+fn chosen_for_sets(rt: HostRuntime) -> Result<(), Fail> {
+    let alloc = rt.alloc();
+    let none = sample_of(alloc, set_type(alloc)?, None)?;
+    assert_eq!(rt; total(alloc, &none, &none, 0)?, 0);
+    assert_eq!(rt;
+        widths_of(alloc, &none, &none)?.as_slice(),
+        [1, 1, 1].as_slice()
+    );
+    let set = set_sample(alloc, 4)?;
+    assert_eq!(rt; total(alloc, &set, &set, 0)?, 8);
+    assert_eq!(rt;
+        widths_of(alloc, &none, &set)?.as_slice(),
+        [4, 3, 3].as_slice()
+    );
+    Ok(())
+}
+
+#[test]
+fn chosen_for_maps(rt: HostRuntime) -> Result<(), Fail> {
+    let alloc = rt.alloc();
+    let none = sample_of(alloc, map_type(alloc)?, None)?;
+    assert_eq!(rt;
+        widths_of(alloc, &none, &none)?.as_slice(),
+        [1, 1, 1, 1].as_slice()
+    );
+    let map = map_sample(alloc, 9)?;
+    assert_eq!(rt; total(alloc, &none, &map, 0)?, 16);
+    assert_eq!(rt;
+        widths_of(alloc, &map, &map)?.as_slice(),
+        [5, 4, 4, 4].as_slice()
+    );
     Ok(())
 }

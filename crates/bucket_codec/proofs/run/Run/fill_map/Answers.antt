@@ -1,4 +1,4 @@
-use Rattle.std.proofs.Common.{arith, ◌+◌, ◌*◌, get_or}
+use Rattle.std.proofs.Common.{arith, get_or}
 use Rattle.std.proofs.lemmas.List.{take_more}
 use Rattle.bucket_codec.proofs.Fills.{has_room, fill_more, pairs_few}
 use Rattle.bucket_codec.proofs.run.Run.fill_map.Goals as goal

@@ -1,4 +1,4 @@
-use Rattle.std.proofs.Common.{arith, ◌+◌, ◌*◌, get_or}
+use Rattle.std.proofs.Common.{arith, get_or}
 use Rattle.bucket_codec.proofs.Fills.{has_room, fill_more, elements_more, element_at, elements_few}
 use Rattle.bucket_codec.proofs.run.Run.fill_set.Goals as goal
 

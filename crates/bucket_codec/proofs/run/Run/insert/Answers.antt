@@ -1,4 +1,4 @@
-use Rattle.std.proofs.Common.{arith, ◌≡◌, ◌+◌, ◌*◌, ◌<◌, ◌≤◌, ◌∙◌, ap, Some}
+use Rattle.std.proofs.Common.{arith, ◌≡◌, ◌+◌, ◌*◌, ◌≤◌, ◌∙◌, ap, Some}
 use Rattle.std.proofs.Math.Nat.{mul-le-mul_right}
 use Rattle.bucket_codec.specs.Run.{bucket_in}
 use Rattle.bucket_codec.proofs.Buckets.{length-run_in}
