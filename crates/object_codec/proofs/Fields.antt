@@ -12,7 +12,7 @@ use Rattle.schema_model.specs.declared.reason.Reason.{Reason}
 use Rattle.schema_model.specs.declared.rows.packed.PlaceFault.{PlaceFault}
 use Rattle.object_codec.specs.Part.{SpellsValue, FailsValue, TellsValue}
 use Rattle.object_codec.specs.ObjectPlace.{part_at, parts_from, SpellsFields, FirstFails, SpellsObject, FailsObject, HoldsPlace, TellsObject}
-use Rattle.object_codec.proofs.Widths.{widths_long}
+use Rattle.object_codec.proofs.FieldWidths.{widths_long}
 
 -- the values of the fields below an index are read, and the rest decides
 pub record Progress (fields : List Field) (widths first : List ℕ) (areas : List (List ℕ)) (place index before : ℕ) (values : List Value) : Type 0 where

@@ -22,7 +22,7 @@ pub struct Cell {
 
 impl Cell {
     /// The element.
-    #[tactic(auto, using(crate::proofs::Widths::element_below))]
+    #[tactic(auto, using(crate::proofs::FieldWidths::element_below))]
     pub fn element(self, words: &[u64]) -> u64
         requires { IsWithin words.now self.size self.place self.before self.width }
         ensures is { result ≡ element_at words.now self.size self.before self.width self.place }

@@ -2,12 +2,15 @@
 #![tactic(auto)]
 
 mod cell;
+mod chosen;
 mod fixed;
 pub mod laws;
 mod record;
 mod span;
+mod stored;
 mod value;
 
+pub use chosen::{bytes, widths};
 pub use record::read;
 
 #[cfg(test)]

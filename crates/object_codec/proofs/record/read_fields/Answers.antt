@@ -1,7 +1,7 @@
 use Rattle.std.proofs.Common.{rules, Err, arith, sym, subst, get_or}
 use Rattle.object_codec.specs.Cell.{IsWithin}
 use Rattle.object_codec.specs.ObjectPlace.{SpellsObject, TellsObject}
-use Rattle.object_codec.proofs.Widths.{record_fits, widths_long, within, wide_at}
+use Rattle.object_codec.proofs.FieldWidths.{record_fits, widths_long, within, wide_at}
 use Rattle.object_codec.proofs.Fields.{stepped, failed, finished}
 use Rattle.object_codec.proofs.record.read_fields.Goals as goal
 

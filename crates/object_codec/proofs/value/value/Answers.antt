@@ -1,4 +1,4 @@
-use Rattle.object_codec.proofs.Widths.{boolean_below}
+use Rattle.object_codec.proofs.FieldWidths.{boolean_below}
 use Rattle.object_codec.proofs.value.value.Goals as goal
 
 pub boolean_value-requires : goal.boolean_value-requires

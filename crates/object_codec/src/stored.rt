@@ -1,0 +1,64 @@
+//! The values of a record as they are written.
+ghost use Rattle.std.specs.Prelude.{◌≡◌, ◌<◌, ◌-◌, ◌^◌, length, min, IfSome};
+ghost use Rattle.schema_model.specs.declared.rows.row.Value.{Value as StoredValue};
+ghost use Rattle.object_codec.specs.Stored.{values_of_row, stored_number as number_of_stored, value_bytes as bytes_of_value};
+
+use hol_varint::{units_len, zigzag32, zigzag64};
+use schema_model::{Row, Value};
+
+/// The values of a record, none of a row of another kind.
+pub(crate) fn values_of(row: &Row) -> &[Value]
+    ensures { result.now ≡ values_of_row row.now }
+{
+    match row {
+        Row::Object(values) => values.as_slice(),
+        _ => &[],
+    }
+}
+
+/// The number that an element holds for a value; none for null, which the least INT and the least LONG are too, and for a value with bytes.
+pub(crate) fn stored_number(value: &Value) -> Option<u64>
+    ensures is { result ≡ number_of_stored value.now }
+    ensures below { IfSome result (λ number. number < 2 ^ 64 - 1) }
+{
+    match value {
+        Value::Int(number) => int_number(*number),
+        Value::Long(number) => long_number(*number),
+        Value::Bool(flag) => Some(u64::from(*flag)),
+        Value::Ref(ordinal) => Some(u64::from(*ordinal)),
+        _ => None,
+    }
+}
+
+/// The number that an element holds for an INT, none for the least one.
+fn int_number(number: i32) -> Option<u64>
+    ensures is { result ≡ number_of_stored (StoredValue.Int number) }
+    ensures below { IfSome result (λ number. number < 2 ^ 64 - 1) }
+{
+    if number == i32::MIN {
+        return None;
+    }
+    Some(u64::from(zigzag32(number)))
+}
+
+/// The number that an element holds for a LONG, none for the least one.
+fn long_number(number: i64) -> Option<u64>
+    ensures is { result ≡ number_of_stored (StoredValue.Long number) }
+    ensures below { IfSome result (λ number. number < 2 ^ 64 - 1) }
+{
+    if number == i64::MIN {
+        return None;
+    }
+    Some(zigzag64(number))
+}
+
+/// How many variable bytes a value has, up to the greatest number.
+pub(crate) fn value_bytes(value: &Value) -> u64
+    ensures { result ≡ min (length (bytes_of_value value.now)) (2 ^ 64 - 1) }
+{
+    match value {
+        Value::Text(units) => units_len(units.as_slice()),
+        Value::Bytes(bytes) => bytes.len() as u64,
+        _ => 0,
+    }
+}
