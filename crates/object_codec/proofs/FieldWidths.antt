@@ -74,3 +74,10 @@ wide_at fields widths first areas place index field holds inside is =
 -- an element is below 2 to the power of its width
 pub element_below : (first : List ℕ) (at width element : ℕ) → element ≡ element_of first at width → element < 2 ^ width
 element_below first at width element is = subst (λ n. n < 2 ^ width) (sym is) (element_of-lt first at width)
+
+-- the first bit of a place has a number
+pub place_fits : (fields : List Field) (widths first : List ℕ) (areas : List (List ℕ)) (place : ℕ) → HoldsPlace fields widths first areas place → place * sum widths < 2 ^ 64
+place_fits fields widths first areas place holds =
+    let below : place ≤ 2 ^ 32 = omega (arith, holds.below) in
+    let product : place * sum widths ≤ 2 ^ 32 * 65536 = mul-le-mul below (record_small fields widths first areas place holds) in
+    omega arith

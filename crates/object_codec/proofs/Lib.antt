@@ -1,7 +1,10 @@
 pub mod FieldWidths
+pub mod FieldParts
 pub mod Fields
 pub mod LiveBytes
 pub mod Places
+pub mod RowPuts
 pub mod Rows
 pub mod Spreads
+pub mod ValueElements
 pub mod Values

@@ -1,5 +1,7 @@
 pub mod Cell
+pub mod Encoded
 pub mod ObjectPlace
+pub mod Packing
 pub mod Part
 pub mod Spread
 pub mod Stored

@@ -1,5 +1,5 @@
 -- OBJECT rows as they are written: the values of a record, the number that an element holds for a value, and the bytes of a value.
-use Rattle.std.specs.Prelude.{ℕ, List, [], flat_map, if◌then◌else◌, slice_get, Option, Some, None}
+use Rattle.std.specs.Prelude.{ℕ, ◌-◌, ◌^◌, List, [], flat_map, if◌then◌else◌, slice_get, Option, Some, None}
 use Rattle.std.specs.Option.{option_to_list}
 use Rattle.hol_varint.specs.Zigzag.{zigzag}
 use Rattle.hol_varint.specs.TextUnits.{units_bytes}
@@ -32,6 +32,12 @@ element_number _ = None
 -- The same for any value: the least INT and the least LONG count as null.
 abbrev pub stored_number : Value → Option ℕ
 stored_number value = element_number (stored_value value)
+
+-- The greatest number that an element holds for a value of this kind.
+abbrev pub greatest_number : Value → ℕ
+greatest_number (Value.Int number) = 2 ^ 32 - 2
+greatest_number (Value.Ref ordinal) = 2 ^ 32 - 1
+greatest_number _ = 2 ^ 64 - 2
 
 -- The variable bytes of a value: those of the units of a STRING, and those of a BYTES.
 abbrev pub value_bytes : Value → List ℕ

@@ -3,14 +3,17 @@
 
 mod cell;
 mod chosen;
+mod encoded;
 mod fixed;
 pub mod laws;
+mod packing;
 mod record;
 mod span;
 mod stored;
 mod value;
 
 pub use chosen::{bytes, widths};
+pub use packing::put_row;
 pub use record::read;
 
 #[cfg(test)]

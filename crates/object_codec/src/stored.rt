@@ -1,7 +1,7 @@
 //! The values of a record as they are written.
-ghost use Rattle.std.specs.Prelude.{◌≡◌, ◌<◌, ◌-◌, ◌^◌, length, min, IfSome};
+ghost use Rattle.std.specs.Prelude.{◌≡◌, ◌≤◌, ◌-◌, ◌^◌, length, min, IfSome};
 ghost use Rattle.schema_model.specs.declared.rows.row.Value.{Value as StoredValue};
-ghost use Rattle.object_codec.specs.Stored.{values_of_row, stored_number as number_of_stored, value_bytes as bytes_of_value};
+ghost use Rattle.object_codec.specs.Stored.{values_of_row, stored_number as number_of_stored, greatest_number, value_bytes as bytes_of_value};
 
 use hol_varint::{units_len, zigzag32, zigzag64};
 use schema_model::{Row, Value};
@@ -19,7 +19,7 @@ pub(crate) fn values_of(row: &Row) -> &[Value]
 /// The number that an element holds for a value; none for null, which the least INT and the least LONG are too, and for a value with bytes.
 pub(crate) fn stored_number(value: &Value) -> Option<u64>
     ensures is { result ≡ number_of_stored value.now }
-    ensures below { IfSome result (λ number. number < 2 ^ 64 - 1) }
+    ensures below { IfSome result (λ number. number ≤ greatest_number value.now) }
 {
     match value {
         Value::Int(number) => int_number(*number),
@@ -33,7 +33,7 @@ pub(crate) fn stored_number(value: &Value) -> Option<u64>
 /// The number that an element holds for an INT, none for the least one.
 fn int_number(number: i32) -> Option<u64>
     ensures is { result ≡ number_of_stored (StoredValue.Int number) }
-    ensures below { IfSome result (λ number. number < 2 ^ 64 - 1) }
+    ensures below { IfSome result (λ number. number ≤ 2 ^ 32 - 2) }
 {
     if number == i32::MIN {
         return None;
@@ -44,7 +44,7 @@ fn int_number(number: i32) -> Option<u64>
 /// The number that an element holds for a LONG, none for the least one.
 fn long_number(number: i64) -> Option<u64>
     ensures is { result ≡ number_of_stored (StoredValue.Long number) }
-    ensures below { IfSome result (λ number. number < 2 ^ 64 - 1) }
+    ensures below { IfSome result (λ number. number ≤ 2 ^ 64 - 2) }
 {
     if number == i64::MIN {
         return None;

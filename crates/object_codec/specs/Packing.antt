@@ -1,0 +1,72 @@
+-- OBJECT rows as they are written: where there is room for a row, and what its place and the fields' bytes are then.
+use Rattle.std.specs.Prelude.{◌≡◌, ℕ, ◌+◌, ◌-◌, ◌*◌, ◌^◌, ◌<◌, ◌≤◌, List, [], ◌∷◌, ◌++◌, length, map, sum, slice_get, slice_index, Option, Some, None, IfSome, unwrap_or}
+use Rattle.std.specs.List.{AllZip, enumerate_from}
+use Rattle.bit_array.specs.Element.{number_of}
+use Rattle.schema_model.specs.Parts.{shape_fields}
+use Rattle.schema_model.specs.Row.{FitsKind, FitsShape, stored_value, stored_row}
+use Rattle.schema_model.specs.declared.schema.FieldKind.{FieldKind}
+use Rattle.schema_model.specs.declared.schema.Field.{Field}
+use Rattle.schema_model.specs.declared.schema.Shape.{Shape}
+use Rattle.schema_model.specs.declared.rows.row.Row.{Row}
+use Rattle.schema_model.specs.declared.rows.row.Value.{Value}
+use Rattle.object_codec.specs.ObjectPlace.{parts_of, IsObject, HoldsPlace, SpellsObjectRow}
+use Rattle.object_codec.specs.Part.{FieldPart, SpellsValue}
+use Rattle.object_codec.specs.Stored.{values_of_row, value_at, stored_number, values_bytes}
+
+-- The values of a field of this kind have bytes.
+abbrev pub HasBytes : FieldKind → Type 0
+HasBytes FieldKind.Text = Unit {0}
+HasBytes FieldKind.Bytes = Unit {0}
+HasBytes _ = ⊥
+
+-- What a field has where a place has no row: no bit, but a STRING or BYTES has the offset of the place before.
+abbrev pub IsGap : FieldKind → FieldPart → Type 0
+IsGap FieldKind.Text part = part.element ≡ part.start
+IsGap FieldKind.Bytes part = part.element ≡ part.start
+IsGap _ part = part.element ≡ 0
+
+-- The part of a field gives this value, the least INT and LONG as null; or it is that of a place without a row.
+abbrev pub PacksPart : FieldKind → FieldPart → Option Value → Type 0
+PacksPart kind part None = IsGap kind part
+PacksPart kind part (Some value) = SpellsValue kind part (stored_value value)
+
+-- The place spells its row, the least INT and LONG as null; or each field is as where there is no row.
+abbrev pub PacksPlace : Shape → List ℕ → List ℕ → List (List ℕ) → ℕ → Option Row → Type 0
+PacksPlace shape widths first areas place None = AllZip (λ field part. IsGap field.kind part) (shape_fields shape) (parts_of widths first areas place)
+PacksPlace shape widths first areas place (Some row) = SpellsObjectRow shape widths first areas place (stored_row row)
+
+-- The values that a place takes: those of its record, none where it has no row.
+abbrev pub values_of_place : Option Row → List Value
+values_of_place None = []
+values_of_place (Some row) = values_of_row row
+
+-- The bytes of fields with those of one record behind them.
+abbrev pub areas_with : List (List ℕ) → List Value → List (List ℕ)
+areas_with areas values = map (λ part. part.1 ++ values_bytes (value_at part.0 values)) (enumerate_from 0 areas)
+
+-- The bytes of each STRING and BYTES go on at the place where those end that are there.
+abbrev pub StartsAtEnds : List Field → List ℕ → List ℕ → List (List ℕ) → ℕ → Type 0
+StartsAtEnds fields widths first areas place = AllZip (λ field part. HasBytes field.kind → part.start ≡ length part.area) fields (parts_of widths first areas place)
+
+-- A width holds a value: the number of one that is not null is not all ones.
+abbrev pub HoldsValue : ℕ → Value → Type 0
+HoldsValue width value = IfSome (stored_number value) (λ number. number < 2 ^ width - 1)
+
+-- There is room for the row of a place: the words hold the place, the bytes go on where they end, the row is one of the type, the widths
+-- hold its numbers, and the end of its bytes below the null bits.
+pub record HasRoom (shape : Shape) (widths first : List ℕ) (areas : List (List ℕ)) (place : ℕ) (row : Option Row) : Type 0 where
+  pub object : IsObject shape
+  pub holds : HoldsPlace (shape_fields shape) widths first areas place
+  pub follows : StartsAtEnds (shape_fields shape) widths first areas place
+  pub fits : IfSome row (FitsShape shape)
+  pub numbers : (index : ℕ) → IfSome (slice_get (values_of_place row) index) (HoldsValue (slice_index widths index))
+  pub ends : AllZip (λ field part. HasBytes field.kind → length part.area < 2 ^ (part.width - 1)) (shape_fields shape) (parts_of widths first (areas_with areas (values_of_place row)) place)
+
+-- The row of a place is written: the place spells it, and those before spell what they spelled; its bytes are behind those of its fields, where
+-- the next place goes on; and no bit is behind the place.
+pub record IsRowPut (shape : Shape) (widths old_first : List ℕ) (old_areas : List (List ℕ)) (first : List ℕ) (areas : List (List ℕ)) (place : ℕ) (row : Option Row) : Type 0 where
+  pub packed : PacksPlace shape widths first areas place row
+  pub earlier : (before : ℕ) (old : Option Row) → before < place → PacksPlace shape widths old_first old_areas before old → PacksPlace shape widths first areas before old
+  pub grown : areas ≡ areas_with old_areas (values_of_place row)
+  pub follows : StartsAtEnds (shape_fields shape) widths first areas (place + 1)
+  pub bits : number_of old_first < 2 ^ (place * sum widths) → number_of first < 2 ^ ((place + 1) * sum widths)
