@@ -1,6 +1,6 @@
 -- Lemmas on the parts of a record: what holds of each by its index holds of all, and what keeps them.
-use Rattle.std.proofs.Common.{◌≡◌, ℕ, zero, suc, ◌+◌, ◌-◌, ◌*◌, ◌^◌, ◌<◌, ◌≤◌, List, [], ◌∷◌, ◌++◌, length, get_or, take, drop, refl, sym, ap, ◌∙◌, subst, arith}
-use Rattle.std.specs.Prelude.{sum, map, slice_get, Option, Some, None}
+use Rattle.std.proofs.Common.{◌≡◌, ℕ, zero, suc, ◌+◌, ◌-◌, ◌*◌, ◌<◌, ◌≤◌, List, [], ◌∷◌, ◌++◌, length, get_or, take, drop, refl, sym, ap, ◌∙◌, subst, arith}
+use Rattle.std.specs.Prelude.{sum, map, slice_get}
 use Rattle.std.specs.List.{AllZip, enumerate_from}
 use Rattle.std.proofs.lemmas.List.{length-append, take-append-le, drop-append-le, length-drop}
 use Rattle.std.proofs.lemmas.List.Sums.{sum_by-cons}
@@ -11,7 +11,7 @@ use Rattle.schema_model.specs.declared.schema.FieldKind.{FieldKind}
 use Rattle.schema_model.specs.declared.schema.Field.{Field}
 use Rattle.schema_model.specs.declared.rows.row.Value.{Value}
 use Rattle.object_codec.specs.ObjectPlace.{element_at, start_at, part_at, parts_from, SpellsFields}
-use Rattle.object_codec.specs.Part.{FieldPart, IsSpan, span_of, end_of, offset_in, SpellsValue, SpellsText, SpellsBytes}
+use Rattle.object_codec.specs.Part.{FieldPart, IsSpan, span_of, offset_in, SpellsValue, SpellsText, SpellsBytes}
 use Rattle.object_codec.specs.Packing.{IsGap, PacksPart}
 use Rattle.object_codec.specs.Stored.{value_at, values_bytes}
 
@@ -30,13 +30,12 @@ zip_all R [] (width ∷ widths) first areas size place before wide filled each =
 zip_all R (field ∷ fields) [] first areas size place before wide filled each = absurd (omega arith)
 zip_all R (field ∷ fields) (width ∷ widths) first [] size place before wide filled each = absurd (omega arith)
 zip_all R (field ∷ fields) (width ∷ widths) first (area ∷ areas) size place before wide filled each =
-    let none : before + 0 ≡ before = omega arith in
-    (
+    let none : before + 0 ≡ before = omega arith in (
       subst (λ (b : ℕ). R field (part_at first size place b width area)) none (each 0 field (omega arith) refl),
       zip_all R fields widths first areas size place (before + width) (omega arith) (omega arith)
-      (λ k next inside is.
-      let e : before + sum (width ∷ take k widths) ≡ before + width + sum (take k widths) = omega (arith, sum-cons width (take k widths)) in
-      subst (λ (b : ℕ). R next (part_at first size place b (get_or widths k 0) (area_of areas k))) e (each (suc k) next (omega arith) is)),
+          (λ k next inside is.
+          let e : before + sum (width ∷ take k widths) ≡ before + width + sum (take k widths) = omega (arith, sum-cons width (take k widths)) in
+          subst (λ (b : ℕ). R next (part_at first size place b (get_or widths k 0) (area_of areas k))) e (each (suc k) next (omega arith) is)),
     )
 
 -- what holds of all parts holds of each
@@ -68,13 +67,12 @@ spells_all (field ∷ fields) [] first areas size place before values wide fille
 spells_all (field ∷ fields) (width ∷ widths) first [] size place before values wide filled whole each = absurd (omega arith)
 spells_all (field ∷ fields) (width ∷ widths) first (area ∷ areas) size place before [] wide filled whole each = absurd (omega arith)
 spells_all (field ∷ fields) (width ∷ widths) first (area ∷ areas) size place before (value ∷ values) wide filled whole each =
-    let none : before + 0 ≡ before = omega arith in
-    (
+    let none : before + 0 ≡ before = omega arith in (
       subst (λ (b : ℕ). SpellsValue field.kind (part_at first size place b width area) (stored_value value)) none (each 0 field (omega arith) refl),
       spells_all fields widths first areas size place (before + width) values (omega arith) (omega arith) (omega arith)
-      (λ k next inside is.
-      let e : before + sum (width ∷ take k widths) ≡ before + width + sum (take k widths) = omega (arith, sum-cons width (take k widths)) in
-      subst (λ (b : ℕ). PacksPart next.kind (part_at first size place b (get_or widths k 0) (area_of areas k)) (slice_get values k)) e (each (suc k) next (omega arith) is)),
+          (λ k next inside is.
+          let e : before + sum (width ∷ take k widths) ≡ before + width + sum (take k widths) = omega (arith, sum-cons width (take k widths)) in
+          subst (λ (b : ℕ). PacksPart next.kind (part_at first size place b (get_or widths k 0) (area_of areas k)) (slice_get values k)) e (each (suc k) next (omega arith) is)),
     )
 
 -- ---- bits before a limit are as they were
@@ -149,8 +147,7 @@ span_grown width element start area more span =
     let long = length-append area more in
     let inside = span.inside in
     let rises = span.rises in
-    let rest = length-drop start area in
-    (
+    let rest = length-drop start area in (
       record { rises = rises; inside = omega arith; empty = span.empty },
       ap (take (end - start)) (drop-append-le start area more (omega arith)) ∙ take-append-le (end - start) (drop start area) more (omega arith),
     )
@@ -183,11 +180,10 @@ fields_grown n fields [] first areas size place before more values h = h
 fields_grown n fields (width ∷ widths) first [] size place before more values h = h
 fields_grown n [] (width ∷ widths) first (area ∷ areas) size place before more values h = absurd h
 fields_grown n (field ∷ fields) (width ∷ widths) first (area ∷ areas) size place before more [] h = absurd h
-fields_grown n (field ∷ fields) (width ∷ widths) first (area ∷ areas) size place before more (value ∷ values) h =
-    (
-      value_grown field.kind width (element_at first size before width place) (start_at first size before width place) area (values_bytes (value_at n more)) value h.0,
-      fields_grown (n + 1) fields widths first areas size place (before + width) more values h.1,
-    )
+fields_grown n (field ∷ fields) (width ∷ widths) first (area ∷ areas) size place before more (value ∷ values) h = (
+  value_grown field.kind width (element_at first size before width place) (start_at first size before width place) area (values_bytes (value_at n more)) value h.0,
+  fields_grown (n + 1) fields widths first areas size place (before + width) more values h.1,
+)
 
 gap_grown : (kind : FieldKind) (width element start : ℕ) (area more : List ℕ) → IsGap kind (record { width = width; element = element; start = start; area = area })
     → IsGap kind (record { width = width; element = element; start = start; area = area ++ more })
@@ -201,8 +197,7 @@ pub gaps_grown : (n : ℕ) (fields : List Field) (widths first : List ℕ) (area
 gaps_grown n fields [] first areas size place before more h = h
 gaps_grown n fields (width ∷ widths) first [] size place before more h = h
 gaps_grown n [] (width ∷ widths) first (area ∷ areas) size place before more h = absurd h
-gaps_grown n (field ∷ fields) (width ∷ widths) first (area ∷ areas) size place before more h =
-    (
-      gap_grown field.kind width (element_at first size before width place) (start_at first size before width place) area (values_bytes (value_at n more)) h.0,
-      gaps_grown (n + 1) fields widths first areas size place (before + width) more h.1,
-    )
+gaps_grown n (field ∷ fields) (width ∷ widths) first (area ∷ areas) size place before more h = (
+  gap_grown field.kind width (element_at first size before width place) (start_at first size before width place) area (values_bytes (value_at n more)) h.0,
+  gaps_grown (n + 1) fields widths first areas size place (before + width) more h.1,
+)

@@ -33,13 +33,16 @@ narrow [] (width ∷ widths) h = absurd h
 narrow (field ∷ fields) [] h = absurd h
 narrow (field ∷ fields) (width ∷ widths) h = (h.0.0, narrow fields widths h.1)
 
--- a record of so many fields has 64 bits for each at most
-record_small : (fields : List Field) (widths first : List ℕ) (areas : List (List ℕ)) (place : ℕ) → HoldsPlace fields widths first areas place → sum widths ≤ 65536
-record_small fields widths first areas place holds =
-    let each = All-from_recursion (λ width. width ≤ 64) widths (narrow fields widths holds.wide) in
+-- so many fields have 64 bits each at most
+pub fields_small : (fields : List Field) (widths : List ℕ) → length fields ≤ 1024 → AllZip IsFieldWidth fields widths → sum widths ≤ 65536
+fields_small fields widths few wide =
+    let each = All-from_recursion (λ width. width ≤ 64) widths (narrow fields widths wide) in
     let below : sum widths ≤ length widths * 64 = sum_by-le (λ width. width) 64 widths each in
-    let long : length widths ≡ length fields = AllZip-long IsFieldWidth fields widths holds.wide in
-    omega (arith, holds.few)
+    let long : length widths ≡ length fields = AllZip-long IsFieldWidth fields widths wide in
+    omega arith
+
+record_small : (fields : List Field) (widths first : List ℕ) (areas : List (List ℕ)) (place : ℕ) → HoldsPlace fields widths first areas place → sum widths ≤ 65536
+record_small fields widths first areas place holds = fields_small fields widths holds.few holds.wide
 
 pub record_fits : (fields : List Field) (widths first : List ℕ) (areas : List (List ℕ)) (place : ℕ) → HoldsPlace fields widths first areas place → sum widths < 2 ^ 64
 record_fits fields widths first areas place holds = omega (arith, record_small fields widths first areas place holds)

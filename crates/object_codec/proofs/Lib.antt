@@ -3,6 +3,7 @@ pub mod FieldParts
 pub mod Fields
 pub mod LiveBytes
 pub mod Places
+pub mod PlacesPacked
 pub mod RowPuts
 pub mod Rows
 pub mod Spreads

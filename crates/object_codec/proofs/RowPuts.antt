@@ -5,7 +5,7 @@ use Rattle.std.specs.List.{AllZip}
 use Rattle.std.proofs.Math.Nat.{mul-le-mul_right}
 use Rattle.std.proofs.lemmas.Bool.{cases_lt}
 use Rattle.std.proofs.lemmas.List.{length-append, length-set, get_or-set_same, get_or-set_other, take_all, get_or_default}
-use Rattle.std.proofs.lemmas.List.Sums.{sum_by_more, sum_by_more_le}
+use Rattle.std.proofs.lemmas.List.Sums.{sum_by_more}
 use Rattle.std.proofs.lemmas.Option.{unwrap_or-slice_get}
 use Rattle.std.proofs.lemmas.Slice.Zip.{AllZip-long}
 use Rattle.bit_array.specs.Element.{element_of, number_of, SetsBlock}
@@ -19,12 +19,12 @@ use Rattle.schema_model.specs.declared.schema.Shape.{Shape}
 use Rattle.schema_model.specs.declared.rows.row.Row.{Row}
 use Rattle.schema_model.specs.declared.rows.row.Value.{Value}
 use Rattle.object_codec.specs.Encoded.{IsTaken}
-use Rattle.object_codec.specs.ObjectPlace.{element_at, start_at, part_at, parts_of, IsObject, IsKindWidth, IsFieldWidth, HoldsPlace, SpellsFields}
+use Rattle.object_codec.specs.ObjectPlace.{element_at, start_at, part_at, parts_of, IsObject, HoldsPlace, SpellsFields}
 use Rattle.object_codec.specs.Packing.{HasBytes, IsGap, PacksPart, PacksPlace, HoldsValue, HasRoom, IsRowPut, StartsAtEnds, values_of_place, areas_with}
 use Rattle.object_codec.specs.Part.{FieldPart, offset_in}
 use Rattle.object_codec.specs.Stored.{value_at, values_bytes}
 use Rattle.object_codec.proofs.FieldParts.{SameBefore, zip_all, zip_part, spells_all, same_start, same_parts, ends_before, area_at, areas_are, length-areas_from, fields_grown, gaps_grown}
-use Rattle.object_codec.proofs.FieldWidths.{all_zip_at, widths_long, record_fits, within}
+use Rattle.object_codec.proofs.FieldWidths.{widths_long, within}
 
 -- ---- what there is room for
 
@@ -193,14 +193,14 @@ put_more fields widths old_first old_areas values first first' areas place index
         let before = sum (take index widths) in
         let same_field : field ≡ g = is ∙ get_or_default fields index field g inside ∙ sym g_is in
         let read : element ≡ element_at first' (sum widths) before w place =
-            sym there ∙ ap (λ n. element_of first' n width) here ∙ ap (element_of first' (place * sum widths + before)) wide in
+        sym there ∙ ap (λ n. element_of first' n width) here ∙ ap (element_of first' (place * sum widths + before)) wide in
         let start : HasBytes field.kind → length (area_of areas index) ≡ start_at first' (sum widths) before w place =
-            λ has.
-            let from = zip_part (λ f part. HasBytes f.kind → part.start ≡ length part.area) fields widths old_first old_areas (sum widths) place 0 index field (widths_long fields widths old_first old_areas place holds) holds.filled follows inside is in
-            let none : 0 + before ≡ before = omega arith in
-            let began = subst (λ (b : ℕ). start_at old_first (sum widths) b w place ≡ length (area_of old_areas index)) none (from has) in
-            ap (λ (a : List ℕ). length a) (done.left index (omega arith)) ∙ sym began
-            ∙ sym (same_start old_first first' (sum widths) before w place (place * sum widths) old_same (omega arith) (field_within fields widths old_first old_areas place index holds inside)) in
+        λ has.
+        let from = zip_part (λ f part. HasBytes f.kind → part.start ≡ length part.area) fields widths old_first old_areas (sum widths) place 0 index field (widths_long fields widths old_first old_areas place holds) holds.filled follows inside is in
+        let none : 0 + before ≡ before = omega arith in
+        let began = subst (λ (b : ℕ). start_at old_first (sum widths) b w place ≡ length (area_of old_areas index)) none (from has) in
+        ap (λ (a : List ℕ). length a) (done.left index (omega arith)) ∙ sym began
+        ∙ sym (same_start old_first first' (sum widths) before w place (place * sum widths) old_same (omega arith) (field_within fields widths old_first old_areas place index holds inside)) in
         subst (λ (f : Field). IsPut f.kind (field_part widths first' (set areas index area) place index) (slice_get values index)) same_field
         (moved field.kind w (element_at first' (sum widths) before w place) (length (area_of areas index)) (start_at first' (sum widths) before w place) area (area_of (set areas index area) index) (slice_get values index)
         (subst (λ (e : ℕ). IsPut field.kind (record { width = w; element = e; start = length (area_of areas index); area = area }) (slice_get values index)) read
@@ -250,11 +250,11 @@ row_put shape fields widths old_first old_areas values first areas place index a
     let wide = widths_long fields widths old_first old_areas place r.holds in
     let filled : length areas ≡ length fields = done.filled ∙ r.holds.filled in
     let part = λ (k : ℕ) (field : Field) (inside : k < length fields) (there : field ≡ get_or fields k field).
-        subst (λ (b : ℕ). IsPut field.kind (part_at first (sum widths) place b (get_or widths k 0) (area_of areas k)) (slice_get values k)) (let e : sum (take k widths) ≡ 0 + sum (take k widths) = omega arith in e)
-        (done.done k field (omega arith) there) in
+    subst (λ (b : ℕ). IsPut field.kind (part_at first (sum widths) place b (get_or widths k 0) (area_of areas k)) (slice_get values k)) (let e : sum (take k widths) ≡ 0 + sum (take k widths) = omega arith in e)
+    (done.done k field (omega arith) there) in
     let grown : areas ≡ areas_with old_areas values =
-        areas_are 0 old_areas areas values done.filled
-        (λ k inside. done.put k (omega (arith, r.holds.filled)) ∙ ap (λ (i : ℕ). area_of old_areas k ++ values_bytes (value_at i values)) (let e : k ≡ 0 + k = omega arith in e)) in
+    areas_are 0 old_areas areas values done.filled
+    (λ k inside. done.put k (omega (arith, r.holds.filled)) ∙ ap (λ (i : ℕ). area_of old_areas k ++ values_bytes (value_at i values)) (let e : k ≡ 0 + k = omega arith in e)) in
     record {
       packed = place_packed shape fields widths first areas place row has.object are has.fits wide filled
           (λ k field inside there. subst (λ (vs : List Value). PacksPart field.kind (part_at first (sum widths) place (0 + sum (take k widths)) (get_or widths k 0) (area_of areas k)) (slice_get vs k)) is (part k field inside there).0);

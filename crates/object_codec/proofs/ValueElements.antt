@@ -92,8 +92,7 @@ some_span : (width element : ℕ) (before bytes : List ℕ) → element ≡ leng
 some_span width element before bytes is below =
     let offset : offset_in width element ≡ length (before ++ bytes) = ap (offset_in width) is ∙ offset_of_end width (length (before ++ bytes)) below in
     let long = length-append before bytes in
-    let size : offset_in width element - length before ≡ length bytes = omega arith in
-    (
+    let size : offset_in width element - length before ≡ length bytes = omega arith in (
       record { rises = omega arith; inside = omega arith; empty = λ null. absurd (omega (arith, null)) },
       λ null. omega (arith, null),
       ap (λ n. take n (drop (length before) (before ++ bytes))) size ∙ ap (take (length bytes)) (drop_at before bytes (length before) refl) ∙ take_all (length bytes) bytes (omega arith),

@@ -1,17 +1,17 @@
 -- OBJECT rows as they are written: where there is room for a row, and what its place and the fields' bytes are then.
-use Rattle.std.specs.Prelude.{◌≡◌, ℕ, ◌+◌, ◌-◌, ◌*◌, ◌^◌, ◌<◌, ◌≤◌, List, [], ◌∷◌, ◌++◌, length, map, sum, slice_get, slice_index, Option, Some, None, IfSome, unwrap_or}
+use Rattle.std.specs.Prelude.{◌≡◌, ℕ, ◌+◌, ◌-◌, ◌*◌, ◌^◌, ◌<◌, ◌≤◌, List, [], ◌++◌, length, map, sum, slice_get, slice_index, Option, Some, None, IfSome}
 use Rattle.std.specs.List.{AllZip, enumerate_from}
-use Rattle.bit_array.specs.Element.{number_of}
+use Rattle.bit_array.specs.Element.{number_of, words_of}
 use Rattle.schema_model.specs.Parts.{shape_fields}
-use Rattle.schema_model.specs.Row.{FitsKind, FitsShape, stored_value, stored_row}
+use Rattle.schema_model.specs.Row.{FitsShape, stored_value, stored_row}
 use Rattle.schema_model.specs.declared.schema.FieldKind.{FieldKind}
 use Rattle.schema_model.specs.declared.schema.Field.{Field}
 use Rattle.schema_model.specs.declared.schema.Shape.{Shape}
 use Rattle.schema_model.specs.declared.rows.row.Row.{Row}
 use Rattle.schema_model.specs.declared.rows.row.Value.{Value}
-use Rattle.object_codec.specs.ObjectPlace.{parts_of, IsObject, HoldsPlace, SpellsObjectRow}
+use Rattle.object_codec.specs.ObjectPlace.{parts_of, IsObject, IsFieldWidth, HoldsPlace, SpellsObjectRow}
 use Rattle.object_codec.specs.Part.{FieldPart, SpellsValue}
-use Rattle.object_codec.specs.Stored.{values_of_row, value_at, stored_number, values_bytes}
+use Rattle.object_codec.specs.Stored.{values_of_row, value_at, column, stored_number, values_bytes}
 
 -- The values of a field of this kind have bytes.
 abbrev pub HasBytes : FieldKind → Type 0
@@ -70,3 +70,26 @@ pub record IsRowPut (shape : Shape) (widths old_first : List ℕ) (old_areas : L
   pub grown : areas ≡ areas_with old_areas (values_of_place row)
   pub follows : StartsAtEnds (shape_fields shape) widths first areas (place + 1)
   pub bits : number_of old_first < 2 ^ (place * sum widths) → number_of first < 2 ^ ((place + 1) * sum widths)
+
+-- The bytes of each field at some places, in their order: none where its values have none.
+abbrev pub areas_for : List Field → List (Option Row) → List (List ℕ)
+areas_for fields rows = map (λ part. values_bytes (column part.0 (map values_of_place rows))) (enumerate_from 0 fields)
+
+-- What can be packed: rows of the type, whose numbers the widths hold, and below the null bit the number of all bytes of each field.
+pub record CanPack (shape : Shape) (widths : List ℕ) (rows : List (Option Row)) : Type 0 where
+  pub object : IsObject shape
+  pub few : length (shape_fields shape) ≤ 1024
+  pub wide : AllZip IsFieldWidth (shape_fields shape) widths
+  pub places : length rows ≤ 2 ^ 32
+  pub fit : (place : ℕ) (row : Row) → slice_get rows place ≡ Some (Some row) → FitsShape shape row
+  pub numbers : (place index : ℕ) (row : Option Row) → slice_get rows place ≡ Some row → IfSome (slice_get (values_of_place row) index) (HoldsValue (slice_index widths index))
+  pub ends : (index : ℕ) (field : Field) → slice_get (shape_fields shape) index ≡ Some field → HasBytes field.kind
+      → length (values_bytes (column index (map values_of_place rows))) < 2 ^ (slice_index widths index - 1)
+
+-- The words and bytes are those of these places: each spells its row, the bytes of each field are those of its values, and the words are as many
+-- as the places need, with no bit behind.
+pub record IsPacked (shape : Shape) (widths : List ℕ) (rows : List (Option Row)) (first : List ℕ) (areas : List (List ℕ)) : Type 0 where
+  pub spelled : (place : ℕ) (row : Option Row) → slice_get rows place ≡ Some row → PacksPlace shape widths first areas place row
+  pub bytes : areas ≡ areas_for (shape_fields shape) rows
+  pub words : length first ≡ words_of (length rows * sum widths)
+  pub bits : number_of first < 2 ^ (length rows * sum widths)

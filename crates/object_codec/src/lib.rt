@@ -13,7 +13,7 @@ mod stored;
 mod value;
 
 pub use chosen::{bytes, widths};
-pub use packing::put_row;
+pub use packing::{pack, put_row};
 pub use record::read;
 
 #[cfg(test)]

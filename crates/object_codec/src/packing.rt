@@ -1,13 +1,86 @@
 //! Records written at their places.
-ghost use Rattle.std.specs.Prelude.{◌≡◌, OnOk};
-ghost use Rattle.object_codec.specs.Packing.{HasRoom, IsRowPut, values_of_place};
+ghost use Rattle.std.specs.Prelude.{◌≡◌, ◌*◌, [], length, replicate, sum, IfOk, OnOk};
+ghost use Rattle.bit_array.specs.Element.{words_of};
+ghost use Rattle.schema_model.specs.Parts.{shape_fields};
+ghost use Rattle.object_codec.specs.Packing.{HasRoom, IsRowPut, CanPack, IsPacked, values_of_place};
 
 use crate::encoded::take_value;
 use crate::stored::values_of;
-use bit_array::{set_element, total_width};
+use bit_array::{set_element, total_width, words_for};
 use hol_varint::Octets;
-use schema_model::{Row, Schema, Value};
+use schema_model::{Areas, Packed, Places, Row, Schema, Value, Widths, Words};
 use std::alloc::{AllocError, Global};
+
+/// The packed words and bytes of the records of an OBJECT type, place by place; the least INT and LONG are packed as null. At a place without a
+/// row each offset of a STRING or BYTES is that of the place before, and all other bits are zero.
+///
+/// The widths hold the numbers of all records and the bytes of each field.
+pub fn pack(
+    alloc: Global,
+    schema: &Schema,
+    widths: &Widths,
+    rows: &Places,
+) -> Result<Packed, AllocError>
+    requires { CanPack schema.now.shape widths.now rows.now }
+    ensures packed { IfOk result (λ packed. IsPacked schema.now.shape widths.now rows.now packed.first packed.areas) }
+    ensures second { IfOk result (λ packed. packed.second ≡ []) }
+{
+    let widths = widths.as_slice();
+    let rows = rows.as_slice();
+    let mut first = zeros(alloc, rows.len() as u64 * total_width(widths) as u64)?;
+    let mut areas = no_bytes(alloc, schema.shape.fields().len())?;
+    put_rows(
+        alloc,
+        schema,
+        widths,
+        rows,
+        first.as_mut_slice(),
+        areas.as_mut_slice(),
+    )?;
+    Ok(Packed {
+        first: Words::from_vec(first),
+        second: Words::new(alloc),
+        areas: Areas::from_vec(areas),
+    })
+}
+
+/// As many words of zeros as so many bits take.
+fn zeros(alloc: Global, bits: u64) -> Result<Vec<u64>, AllocError>
+    ensures { IfOk result (λ words. words.items ≡ replicate (words_of bits) 0) }
+{
+    vec![in alloc; 0; words_for(bits) as usize]
+}
+
+/// The bytes of so many fields before any is written.
+fn no_bytes(alloc: Global, fields: usize) -> Result<Vec<Octets>, AllocError>
+    ensures { IfOk result (λ areas. areas.items ≡ replicate fields []) }
+{
+    let mut areas = Vec::with_capacity(alloc, fields)?;
+    for _ in 0..fields {
+        areas.push(Octets::new(alloc))?;
+    }
+    Ok(areas)
+}
+
+/// Writes the records of all places into words of zeros.
+fn put_rows(
+    alloc: Global,
+    schema: &Schema,
+    widths: &[u32],
+    rows: &[Option<Row>],
+    first: &mut [u64],
+    areas: &mut [Octets],
+) -> Result<(), AllocError>
+    requires can { CanPack schema.now.shape widths.now rows.now }
+    requires zeros { first.old ≡ replicate (words_of (length rows.now * sum widths.now)) 0 }
+    requires none { areas.old ≡ replicate (length (shape_fields schema.now.shape)) [] }
+    ensures { OnOk result (IsPacked schema.now.shape widths.now rows.now first.new areas.new) }
+{
+    for (place, row) in rows.iter().enumerate() {
+        put_row(alloc, schema, widths, first, areas, place as u64, row)?;
+    }
+    Ok(())
+}
 
 /// Writes the record of a place into words and behind the bytes of the fields; where there is no row, each offset is that of the place before,
 /// and all other bits are zero.

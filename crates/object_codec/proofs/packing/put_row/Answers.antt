@@ -1,4 +1,4 @@
-use Rattle.std.proofs.Common.{◌≡◌, ◌+◌, ◌*◌, ◌^◌, ◌<◌, ◌-◌, ℕ, List, get_or, length, subst, sym, ap, ◌∙◌, arith, refl, Fits, w64, set}
+use Rattle.std.proofs.Common.{◌≡◌, ◌+◌, ◌*◌, ◌^◌, ◌<◌, ◌-◌, ℕ, List, get_or, length, subst, sym, ◌∙◌, arith, refl, Fits, w64, set}
 use Rattle.std.specs.Prelude.{slice_get}
 use Rattle.schema_model.specs.Areas.{area_of}
 use Rattle.object_codec.specs.Encoded.{IsTaken}
