@@ -1,5 +1,5 @@
 -- What opening a blob and reading its header say of the answer.
-use Rattle.std.proofs.Common.{◌≡◌, ◌≤◌, inl, inr, ℕ, List, length, Option, Some, None, Result, Ok, Err, IfSome, OnSome, refl, sym, ap, ◌∙◌, subst}
+use Rattle.std.proofs.Common.{◌≡◌, ◌≤◌, inl, inr, ℕ, List, length, Option, Some, None, Result, Ok, Err, IfSome, OnSome, refl, sym, subst}
 use Rattle.std.proofs.lemmas.Bool.{cases_lt}
 use Rattle.hol_io.specs.declared.name.BlobName.{BlobName}
 use Rattle.hol_io.specs.Store.{Store, told}
@@ -8,12 +8,11 @@ use Rattle.schema_model.specs.Limit.{number_of_limit}
 use Rattle.blob_frame.specs.declared.fault.BlobFault.{BlobFault}
 use Rattle.blob_frame.specs.declared.fault.BlobFault.TheVariants as fault
 use Rattle.blob_frame.specs.declared.header.Header.{Header}
-use Rattle.blob_frame.specs.Header.{header}
-use Rattle.blob_frame.specs.Scene.{Place, Scene, IsFree, Tells, Reads}
-use Rattle.blob_frame.specs.Starting.{Starts, IsStart}
+use Rattle.blob_frame.specs.Scene.{Place, IsFree}
+use Rattle.blob_frame.specs.Starting.{Starts}
 use Rattle.hollow_top.specs.declared.refusal.Refusal.{Refusal}
 use Rattle.hollow_top.specs.declared.refusal.Refusal.TheVariants.{NoBlob, BadBlob, TooLarge}
-use Rattle.hollow_top.specs.Head.{HasHeader, HeadRefusal, TellsHeader, refusal_of}
+use Rattle.hollow_top.specs.Head.{HeadRefusal, TellsHeader, refusal_of}
 
 free_tells : (name : BlobName) (content : Option (List ℕ)) (found : BlobFault) → IsFree found → TellsHeader name content (Err found)
 free_tells name content fault.Store free = tt

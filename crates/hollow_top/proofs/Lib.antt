@@ -4,7 +4,6 @@ mod Orders
 mod Heads
 mod Fronts
 mod SortedRows
-mod TextKinds
 mod Printed
 mod Writes
 mod Walks

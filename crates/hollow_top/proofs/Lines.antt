@@ -1,26 +1,14 @@
 -- Answer lines have no number with a fraction, so that their text is the one that they are stated by.
-use Rattle.std.proofs.Common.{◌≡◌, ℕ, ℤ, pos, negsuc, List, [], ◌∷◌, ◌++◌, map, false, None, Some, refl, ap, ◌∙◌}
-use Rattle.serde_json.specs.Data.{Data, number}
-use Rattle.serde_json.specs.Find.{of_integer}
-use Rattle.serde_json.specs.View.{items_of}
-use Rattle.serde_json.specs.Written.{has_float, items_have_float, compact_text}
+use Rattle.std.proofs.Common.{◌≡◌, ℕ, List, [], ◌∷◌, ◌++◌, false, None, Some, refl, ap, ◌∙◌}
+use Rattle.serde_json.specs.Data.{Data}
+use Rattle.serde_json.specs.Written.{has_float, compact_text}
+use Rattle.json_rows.proofs.Printed.{items_have_float-items_of, integer_has_none}
 use Rattle.hollow_top.specs.declared.reply.Reply.{Reply}
 use Rattle.hollow_top.specs.declared.reply.Reply.TheVariants.{Head, Refused}
 use Rattle.hollow_top.specs.declared.refusal.Refusal.{Refusal}
 use Rattle.hollow_top.specs.declared.refusal.Refusal.TheVariants.{NoBlob, BadBlob, TooLarge, NotYet, BadBody}
 use Rattle.hollow_top.specs.Refusal.{refusal_data}
 use Rattle.hollow_top.specs.Reply.{reply_data, names_data, tags_data, line_of}
-
--- a list has none where none of its items has one
-pub items_have_float-items_of : {A : Type 0} (data_of : A → Data) → ((x : A) → has_float (data_of x) ≡ false) → (xs : List A) →
-    items_have_float (items_of (map data_of xs)) ≡ false
-items_have_float-items_of data_of none [] = refl
-items_have_float-items_of data_of none (x ∷ xs) = rw (none x) (items_have_float-items_of data_of none xs)
-
--- an integer has none
-pub integer_has_none : (z : ℤ) → has_float (number (of_integer z)) ≡ false
-integer_has_none (pos n) = refl
-integer_has_none (negsuc n) = refl
 
 -- a refusal has none, and so has an answer
 has_float-refusal_data : (refusal : Refusal) → has_float (refusal_data refusal) ≡ false

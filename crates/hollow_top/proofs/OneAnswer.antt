@@ -31,7 +31,8 @@ use Rattle.hollow_top.specs.Command.{IsLineOf, Writes}
 use Rattle.hollow_top.specs.Head.{HasHeader, HeadIs, HeadRefusal}
 use Rattle.hollow_top.specs.Refusal.{refusal_line}
 use Rattle.hollow_top.specs.Reply.{is_refusal, line_of}
-use Rattle.hollow_top.specs.RowLines.{Listed, IsRowLine, AreLinesOf, row_data, rows_in_order}
+use Rattle.json_rows.specs.RowLine.{row_data}
+use Rattle.hollow_top.specs.RowLines.{Listed, IsRowLine, AreLinesOf, rows_in_order}
 use Rattle.hollow_top.specs.Show.{HasBadBody, ShowsRows, ShowRefusal, ShowsContent}
 use Rattle.hollow_top.specs.Words.{Asks, TellsCommand}
 

@@ -25,7 +25,7 @@ use Rattle.hollow_top.specs.declared.reply.Reply.TheVariants.{Refused}
 use Rattle.hollow_top.specs.declared.stop.Stop.{Stop}
 use Rattle.hollow_top.specs.declared.stop.Stop.TheVariants.{Memory, Sink, Store as StoreFailed}
 use Rattle.hollow_top.specs.Command.{IsLineOf}
-use Rattle.hollow_top.specs.Head.{HeadRefusal, TellsHeader, refusal_of}
+use Rattle.hollow_top.specs.Head.{HeadRefusal, TellsHeader}
 use Rattle.hollow_top.specs.Reply.{is_refusal, line_of}
 use Rattle.hollow_top.specs.RowLines.{AreLinesOf, Listed, LeavesLines, rows_in_order}
 use Rattle.hollow_top.specs.Show.{ShowRefusal, ShowsContent, ShowsRows, Shows, body_refusal_of}

@@ -14,8 +14,11 @@ use Rattle.schema_model.specs.declared.rows.row.Row.{Row}
 use Rattle.schema_model.specs.declared.schema.Schema.{Schema}
 use Rattle.schema_model.specs.Row.{FitsShape}
 use Rattle.schema_model.specs.Table.{RowMap, Table, IsTableOf, IsBound, IsLive, row_at}
+use Rattle.std.proofs.KnownBytes.{Appends-nil}
 use Rattle.hollow_top.specs.declared.stop.Stop.{Stop}
-use Rattle.hollow_top.specs.RowLines.{Listed, AreLinesOf, LeavesLines, rows_of_type, rows_in_order}
+use Rattle.hollow_top.specs.declared.stop.Stop.TheVariants.{Memory}
+use Rattle.hollow_top.specs.HeldLines.{Held, HoldsLines}
+use Rattle.hollow_top.specs.RowLines.{Listed, AreLinesOf, rows_of_type, rows_in_order}
 use Rattle.hollow_top.proofs.Fronts.{no_lines, one_line, lines_append, none_written, then_written, cut_before}
 use Rattle.hollow_top.proofs.Printed.{row_has_line}
 use Rattle.hollow_top.proofs.SortedRows.{AreWalked, walk_starts, walk_passes, walk_takes, walk_ends, each_found}
@@ -97,26 +100,32 @@ there_is None some = absurd cc
 there_is (Some row) some = (row, refl)
 
 -- The lines of the rows of a type below an ordinal were written, and no others.
-pub record ShownBelow (typed : Schema × RowMap) (ordinal : ℕ) (before now : Option (List ℕ)) : Type 0 where
+pub record ShownBelow (typed : Schema × RowMap) (ordinal : ℕ) (before now : Held) : Type 0 where
   pub walked : List (ℕ × Row)
   pub left : List (ℕ × Row)
   pub walk : AreWalked (entries typed.1) ordinal walked left
-  pub lines : LeavesLines (map (λ entry. (typed.0, entry)) walked) before now (Ok tt)
+  pub lines : HoldsLines (map (λ entry. (typed.0, entry)) walked) before now (Ok tt)
 
-module _ (schemas : List Schema) (table : Table) (t : ℕ) (before : Option (List ℕ)) where
+module _ (schemas : List Schema) (table : Table) (t : ℕ) (before : Held) where
   -- the same of the type at an index
-  abbrev pub AreShownBelow : ℕ → Option (List ℕ) → Type 0
+  abbrev pub AreShownBelow : ℕ → Held → Type 0
   AreShownBelow ordinal now = IfSome (slice_get (zip schemas table) t) (λ typed. ShownBelow typed ordinal before now)
 
   -- what writing the lines of its rows leaves
-  abbrev pub LeavesType : Option (List ℕ) → Result Unit Stop → Type 0
-  LeavesType after r = IfSome (slice_get (zip schemas table) t) (λ typed. LeavesLines (rows_of_type typed) before after r)
+  abbrev pub LeavesType : Held → Result Unit Stop → Type 0
+  LeavesType after r = IfSome (slice_get (zip schemas table) t) (λ typed. HoldsLines (rows_of_type typed) before after r)
 
   pub type_starts : AreShownBelow 0 before
   type_starts = if_found (slice_get (zip schemas table) t) _ (λ typed is.
       record { walked = []; left = entries typed.1; walk = walk_starts (entries typed.1) (sorted_entries typed.1); lines = none_written before })
 
-  pub type_passes : (ordinal : ℕ) (now : Option (List ℕ)) → (IsLive table t ordinal → ⊥) → AreShownBelow ordinal now → AreShownBelow (ordinal + 1) now
+  -- where memory is refused before the first line is made
+  pub type_not_made : (r : Result Unit Stop) → IsErrAnd r (λ e. e ≡ Memory) → IsTableOf schemas table → LeavesType before r
+  type_not_made r failed_so fits = failed r Memory (LeavesType before) failed_so (if_found (slice_get (zip schemas table) t) _ (λ typed is.
+      (let all = entries_have_lines typed.0 (entries typed.1) (type_fits schemas table t typed fits is) in
+      (all.0, all.1, (0, omega arith, Appends-nil before.0)))))
+
+  pub type_passes : (ordinal : ℕ) (now : Held) → (IsLive table t ordinal → ⊥) → AreShownBelow ordinal now → AreShownBelow (ordinal + 1) now
   type_passes ordinal now none shown = if_found (slice_get (zip schemas table) t) _ (λ typed is.
       (let s = found_if (slice_get (zip schemas table) t) _ typed shown is in
       let there = row_there table t ordinal typed.1 (zip_at schemas table t typed is).1 in
@@ -126,7 +135,7 @@ module _ (schemas : List Schema) (table : Table) (t : ℕ) (before : Option (Lis
       is_none None h = refl
       is_none (Some row) h = absurd (h refl)
 
-  pub type_takes : (ordinal : ℕ) (mid after : Option (List ℕ)) → IsLive table t ordinal → AreShownBelow ordinal mid → LeavesRow schemas table t ordinal mid after (Ok tt) → AreShownBelow (ordinal + 1) after
+  pub type_takes : (ordinal : ℕ) (mid after : Held) → IsLive table t ordinal → AreShownBelow ordinal mid → LeavesRow schemas table t ordinal mid after (Ok tt) → AreShownBelow (ordinal + 1) after
   type_takes ordinal mid after live shown one = if_found (slice_get (zip schemas table) t) _ (λ typed is.
       (let s = found_if (slice_get (zip schemas table) t) _ typed shown is in
       let at = zip_at schemas table t typed is in
@@ -138,10 +147,10 @@ module _ (schemas : List Schema) (table : Table) (t : ℕ) (before : Option (Lis
         walked = s.walked ++ (ordinal, some.0) ∷ [];
         left = taken.0;
         walk = taken.2;
-        lines = subst (λ (rows : List Listed). LeavesLines rows before after (Ok tt)) (sym (map_push (λ entry. (typed.0, entry)) s.walked (ordinal, some.0))) both;
+        lines = subst (λ (rows : List Listed). HoldsLines rows before after (Ok tt)) (sym (map_push (λ entry. (typed.0, entry)) s.walked (ordinal, some.0))) both;
       }))
 
-  pub type_stops : (ordinal : ℕ) (mid after : Option (List ℕ)) (r : Result Unit Stop) (stop : Stop) → IsErrAnd r (λ e. e ≡ stop) → IsTableOf schemas table → IsLive table t ordinal →
+  pub type_stops : (ordinal : ℕ) (mid after : Held) (r : Result Unit Stop) (stop : Stop) → IsErrAnd r (λ e. e ≡ stop) → IsTableOf schemas table → IsLive table t ordinal →
       AreShownBelow ordinal mid → LeavesRow schemas table t ordinal mid after (Err stop) → LeavesType after r
   type_stops ordinal mid after r stop failed_so fits live shown one = failed r stop (LeavesType after) failed_so (if_found (slice_get (zip schemas table) t) _ (λ typed is.
       (let s = found_if (slice_get (zip schemas table) t) _ typed shown is in
@@ -156,20 +165,20 @@ module _ (schemas : List Schema) (table : Table) (t : ℕ) (before : Option (Lis
       let f : ℕ × Row → Listed = λ entry. (typed.0, entry) in
       let cut = cut_before ((typed.0, (ordinal, some.0)) ∷ []) (map f taken.0) mid after stop rest.0 rest.1 here in
       let all = then_written (map f s.walked) ((typed.0, (ordinal, some.0)) ∷ map f taken.0) before mid after (Err stop) s.lines cut in
-      subst (λ (rows : List Listed). LeavesLines rows before after (Err stop)) (sym (ap (map f) whole ∙ map_both f s.walked ((ordinal, some.0) ∷ taken.0))) all)))
+      subst (λ (rows : List Listed). HoldsLines rows before after (Err stop)) (sym (ap (map f) whole ∙ map_both f s.walked ((ordinal, some.0) ∷ taken.0))) all)))
 
-  pub type_ends : (ordinal bound : ℕ) (now : Option (List ℕ)) → bound ≤ ordinal → IsBound table t bound → AreShownBelow ordinal now → LeavesType now (Ok tt)
+  pub type_ends : (ordinal bound : ℕ) (now : Held) → bound ≤ ordinal → IsBound table t bound → AreShownBelow ordinal now → LeavesType now (Ok tt)
   type_ends ordinal bound now past bounds shown = if_found (slice_get (zip schemas table) t) _ (λ typed is.
       (let s = found_if (slice_get (zip schemas table) t) _ typed shown is in
       let at = zip_at schemas table t typed is in
       let all = walk_ends (entries typed.1) ordinal s.walked s.left s.walk (λ q some.
       (let below = bounds.above q (subst (λ (o : Option Row). IsSome o) (sym (row_there table t q typed.1 at.1)) some) in omega arith)) in
-      subst (λ (es : List (ℕ × Row)). LeavesLines (map (λ entry. (typed.0, entry)) es) before now (Ok tt)) (sym all) s.lines))
+      subst (λ (es : List (ℕ × Row)). HoldsLines (map (λ entry. (typed.0, entry)) es) before now (Ok tt)) (sym all) s.lines))
 
-module _ (schemas : List Schema) (table : Table) (before : Option (List ℕ)) where
+module _ (schemas : List Schema) (table : Table) (before : Held) where
   -- the lines of the rows of the types before an index were written
-  abbrev pub AreShownBefore : ℕ → Option (List ℕ) → Type 0
-  AreShownBefore t now = LeavesLines (flat_map rows_of_type (take t (zip schemas table))) before now (Ok tt)
+  abbrev pub AreShownBefore : ℕ → Held → Type 0
+  AreShownBefore t now = HoldsLines (flat_map rows_of_type (take t (zip schemas table))) before now (Ok tt)
 
   pub types_start : AreShownBefore 0 before
   types_start = none_written before
@@ -181,7 +190,7 @@ module _ (schemas : List Schema) (table : Table) (before : Option (List ℕ)) wh
         | inr past ↦ absurd (let long = length-zip schemas table in let same = fits.types in let over = past.0 in omega arith)
       ]
 
-  pub types_next : (t : ℕ) (mid after : Option (List ℕ)) → IsTableOf schemas table → t < length schemas → AreShownBefore t mid → LeavesType schemas table t mid after (Ok tt) → AreShownBefore (t + 1) after
+  pub types_next : (t : ℕ) (mid after : Held) → IsTableOf schemas table → t < length schemas → AreShownBefore t mid → LeavesType schemas table t mid after (Ok tt) → AreShownBefore (t + 1) after
   types_next t mid after fits known shown one =
       let typed = there_is_type t fits known in
       let types = zip schemas table in
@@ -190,11 +199,11 @@ module _ (schemas : List Schema) (table : Table) (before : Option (List ℕ)) wh
       let rows_are : flat_map rows_of_type (take (t + 1) types) ≡ flat_map rows_of_type (take t types) ++ rows_of_type typed.0 =
       ap (λ n. flat_map rows_of_type (take n types)) (add-one t) ∙ ap (flat_map rows_of_type) (take_next types t typed.0 typed.1)
       ∙ flat_map-append rows_of_type (take t types) (typed.0 ∷ []) ∙ ap (λ rows. flat_map rows_of_type (take t types) ++ rows) (append-nil (rows_of_type typed.0)) in
-      subst (λ (rows : List Listed). LeavesLines rows before after (Ok tt)) (sym rows_are) both
+      subst (λ (rows : List Listed). HoldsLines rows before after (Ok tt)) (sym rows_are) both
 
-  pub types_stop : (t : ℕ) (mid after : Option (List ℕ)) (r : Result Unit Stop) (stop : Stop) → IsErrAnd r (λ e. e ≡ stop) → IsTableOf schemas table → t < length schemas →
-      AreShownBefore t mid → LeavesType schemas table t mid after (Err stop) → LeavesLines (rows_in_order schemas table) before after r
-  types_stop t mid after r stop failed_so fits known shown one = failed r stop (LeavesLines (rows_in_order schemas table) before after) failed_so
+  pub types_stop : (t : ℕ) (mid after : Held) (r : Result Unit Stop) (stop : Stop) → IsErrAnd r (λ e. e ≡ stop) → IsTableOf schemas table → t < length schemas →
+      AreShownBefore t mid → LeavesType schemas table t mid after (Err stop) → HoldsLines (rows_in_order schemas table) before after r
+  types_stop t mid after r stop failed_so fits known shown one = failed r stop (HoldsLines (rows_in_order schemas table) before after) failed_so
       (let typed = there_is_type t fits known in
       let types = zip schemas table in
       let here = found_if (slice_get types t) _ typed.0 one typed.1 in
@@ -205,10 +214,10 @@ module _ (schemas : List Schema) (table : Table) (before : Option (List ℕ)) wh
       let all = then_written (flat_map rows_of_type (take t types)) (rows_of_type typed.0 ++ flat_map rows_of_type (drop (suc t) types)) before mid after (Err stop) shown cut in
       let rows_are : rows_in_order schemas table ≡ flat_map rows_of_type (take t types) ++ (rows_of_type typed.0 ++ flat_map rows_of_type (drop (suc t) types)) =
       ap (flat_map rows_of_type) whole ∙ flat_map-append rows_of_type (take t types) (typed.0 ∷ drop (suc t) types) in
-      subst (λ (rows : List Listed). LeavesLines rows before after (Err stop)) (sym rows_are) all)
+      subst (λ (rows : List Listed). HoldsLines rows before after (Err stop)) (sym rows_are) all)
 
-  pub types_end : (t : ℕ) (now : Option (List ℕ)) → length schemas ≤ t → AreShownBefore t now → LeavesLines (rows_in_order schemas table) before now (Ok tt)
+  pub types_end : (t : ℕ) (now : Held) → length schemas ≤ t → AreShownBefore t now → HoldsLines (rows_in_order schemas table) before now (Ok tt)
   types_end t now past shown =
       let long = length-zip schemas table in
       let all = take_all t (zip schemas table) (omega arith) in
-      subst (λ (types : Types). LeavesLines (flat_map rows_of_type types) before now (Ok tt)) all shown
+      subst (λ (types : Types). HoldsLines (flat_map rows_of_type types) before now (Ok tt)) all shown

@@ -1,14 +1,15 @@
 -- What writing the line of one row of a table leaves of the sink.
-use Rattle.std.proofs.Common.{◌≡◌, ◌<◌, ℕ, List, [], ◌∷◌, length, take, Option, Some, None, Result, Ok, Err, IfSome, refl, sym, ◌∙◌, subst, arith}
+use Rattle.std.proofs.Common.{◌≡◌, ℕ, List, [], ◌∷◌, Option, Some, None, Result, Ok, Err, IfSome, refl, sym, ◌∙◌, subst, arith}
 use Rattle.std.specs.List.{slice_get}
 use Rattle.std.specs.Prelude.{IsErrAnd}
 use Rattle.std.specs.Io.KnownBytes.{Appends}
 use Rattle.schema_model.specs.declared.schema.Schema.{Schema}
 use Rattle.schema_model.specs.Table.{Table, IsTableOf, row_at}
 use Rattle.hollow_top.specs.declared.stop.Stop.{Stop}
-use Rattle.hollow_top.specs.declared.stop.Stop.TheVariants.{Memory, Sink}
-use Rattle.hollow_top.specs.RowLines.{IsRowLine, LeavesLines}
-use Rattle.hollow_top.proofs.Fronts.{one_line, one_written, one_cut}
+use Rattle.hollow_top.specs.declared.stop.Stop.TheVariants.{Memory}
+use Rattle.hollow_top.specs.HeldLines.{Held, HoldsLines, LeavesText}
+use Rattle.hollow_top.specs.RowLines.{IsRowLine}
+use Rattle.hollow_top.proofs.Fronts.{one_line}
 use Rattle.hollow_top.proofs.Printed.{row_has_line}
 
 -- what holds where there is a value, shown or used at that value
@@ -30,26 +31,23 @@ pub failed : {T E : Type 0} (r : Result T E) (stop : E) (P : Result T E → Type
 failed (Ok x) stop P is holds = absurd is
 failed (Err e) stop P is holds = subst (λ s. P (Err s)) (sym is) holds
 
-module _ (schemas : List Schema) (table : Table) (t ordinal : ℕ) (before after : Option (List ℕ)) where
+module _ (schemas : List Schema) (table : Table) (t ordinal : ℕ) (before after : Held) where
   -- the lines of the one row of a table that stands there
   abbrev pub LeavesRow : Result Unit Stop → Type 0
-  LeavesRow r = IfSome (slice_get schemas t) (λ schema. IfSome (row_at table t ordinal) (λ row. LeavesLines ((schema, (ordinal, row)) ∷ []) before after r))
+  LeavesRow r = IfSome (slice_get schemas t) (λ schema. IfSome (row_at table t ordinal) (λ row. HoldsLines ((schema, (ordinal, row)) ∷ []) before after r))
 
   abbrev pub IsLineThere : List ℕ → Type 0
   IsLineThere line = IfSome (slice_get schemas t) (λ schema. IfSome (row_at table t ordinal) (λ row. IsRowLine (schema, (ordinal, row)) line))
 
-  pub row_written : (line : List ℕ) → IsLineThere line → Appends before after line → LeavesRow (Ok tt)
-  row_written line there gained =
+  -- its line was put
+  pub row_put : (line : List ℕ) (r : Result Unit Stop) → IsLineThere line → LeavesText line before after r → LeavesRow r
+  row_put line r there left =
       if_found (slice_get schemas t) _ (λ schema at. if_found (row_at table t ordinal) _ (λ row live.
-      one_written (schema, (ordinal, row)) before after line (found_if (row_at table t ordinal) _ row (found_if (slice_get schemas t) _ schema there at) live) gained))
+      (line, one_line (schema, (ordinal, row)) line (found_if (row_at table t ordinal) _ row (found_if (slice_get schemas t) _ schema there at) live), left)))
 
-  pub row_cut : (line : List ℕ) (r : Result Unit Stop) → IsErrAnd r (λ e. e ≡ Sink) → IsLineThere line → ((count : ℕ) × (count < length line) × Appends before after (take count line)) → LeavesRow r
-  row_cut line r is there part =
-      failed r Sink LeavesRow is (if_found (slice_get schemas t) _ (λ schema at. if_found (row_at table t ordinal) _ (λ row live.
-      one_cut (schema, (ordinal, row)) before after line (found_if (row_at table t ordinal) _ row (found_if (slice_get schemas t) _ schema there at) live) part)))
-
-  pub row_not_made : (r : Result Unit Stop) → IsErrAnd r (λ e. e ≡ Memory) → IsTableOf schemas table → Appends before after [] → LeavesRow r
-  row_not_made r is fits same =
-      failed r Memory LeavesRow is (if_found (slice_get schemas t) _ (λ schema at. if_found (row_at table t ordinal) _ (λ row live.
+  -- its line was not made
+  pub row_not_made : IsTableOf schemas table → Appends before.0 after.0 [] → LeavesRow (Err Memory)
+  row_not_made fits same =
+      if_found (slice_get schemas t) _ (λ schema at. if_found (row_at table t ordinal) _ (λ row live.
       (let line = row_has_line schema ordinal row (fits.rows t ordinal schema row at live) in
-      (line.0, 0, one_line (schema, (ordinal, row)) line.0 line.1, omega arith, same)))))
+      (line.0, one_line (schema, (ordinal, row)) line.0 line.1, (0, omega arith, same)))))

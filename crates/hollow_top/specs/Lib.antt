@@ -1,5 +1,6 @@
 pub mod Command
 pub mod Head
+pub mod HeldLines
 pub mod Refusal
 pub mod Reply
 pub mod RowLines

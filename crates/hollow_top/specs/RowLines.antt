@@ -1,13 +1,14 @@
 -- The lines of rows: each row as a JSON object, its line, and the lines of all rows of a table.
-use Rattle.std.specs.Prelude.{◌≡◌, ◌<◌, ◌≤◌, ℕ, List, [], ◌∷◌, ◌++◌, length, take, map, codes, Option, Result, Ok, Err}
+use Rattle.std.specs.Prelude.{◌≡◌, ◌<◌, ◌≤◌, ℕ, List, [], ◌∷◌, ◌++◌, length, take, map, Option, Result, Ok, Err}
 use Rattle.std.specs.List.{AllZip, concat, flat_map, zip}
 use Rattle.std.specs.FinMap.{entries}
 use Rattle.std.specs.Io.KnownBytes.{Appends}
-use Rattle.serde_json.specs.Data.{Data, number, unsigned, string, object, no_members, member}
+use Rattle.serde_json.specs.Data.{Data}
 use Rattle.serde_json.specs.Written.{compact_text}
 use Rattle.schema_model.specs.declared.rows.row.Row.{Row}
 use Rattle.schema_model.specs.declared.schema.Schema.{Schema}
 use Rattle.schema_model.specs.Table.{RowMap, Table}
+use Rattle.json_rows.specs.RowLine.{row_data}
 use Rattle.json_rows.specs.StoredRow.{IsRowData}
 use Rattle.hollow_top.specs.declared.stop.Stop.{Stop}
 use Rattle.hollow_top.specs.declared.stop.Stop.TheVariants.{Memory, Sink, Store as StoreFailed}
@@ -15,13 +16,6 @@ use Rattle.hollow_top.specs.declared.stop.Stop.TheVariants.{Memory, Sink, Store 
 -- A row under its ordinal, with the schema of its type.
 abbrev pub Listed : Type 0
 Listed = Schema × (ℕ × Row)
-
--- the JSON object of a row: its ordinal, the row as it prints, and the name of its type
-abbrev pub row_data : List ℕ → ℕ → Data → Data
-row_data name ordinal printed = object
-    (member (codes "ordinal") (number (unsigned ordinal))
-    (member (codes "row") printed
-    (member (codes "type") (string name) no_members)))
 
 -- The line is that of this row: its JSON text without spaces, and a newline.
 abbrev pub IsRowLine : Listed → List ℕ → Type 0

@@ -15,7 +15,7 @@ use Rattle.serde_json.specs.Data.{Data, Members, put}
 use Rattle.json_rows.specs.StoredRow.{IsValueData, AreRecordMembers}
 
 -- one more field is put last
-put_last : (fields : List Field) (printed : List Data) (field : Field) (last : Data) (so_far : Members) → length fields ≡ length printed
+pub put_last : (fields : List Field) (printed : List Data) (field : Field) (last : Data) (so_far : Members) → length fields ≡ length printed
     → fold (λ members part. put part.0 part.1 members) so_far (zip (field_names (fields ++ field ∷ [])) (printed ++ last ∷ []))
     ≡ put field.name last (fold (λ members part. put part.0 part.1 members) so_far (zip (field_names fields) printed))
 put_last [] [] field last so_far long = refl

@@ -1,1 +1,3 @@
 pub mod StoredRow
+pub mod FieldOrder
+pub mod RowLine

@@ -2,8 +2,13 @@
 #![tactic(auto)]
 
 pub mod laws;
+mod line;
+mod order;
 mod stored;
+mod view;
 
+pub use line::row_line;
+pub use order::field_order;
 pub use stored::row_value;
 
 #[cfg(test)]
