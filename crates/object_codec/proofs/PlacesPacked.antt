@@ -1,6 +1,7 @@
 -- Lemmas on the places that are packed one after the other.
 use Rattle.std.proofs.Common.{◌≡◌, ℕ, zero, suc, ◌+◌, ◌-◌, ◌*◌, ◌^◌, ◌<◌, ◌≤◌, List, [], ◌∷◌, ◌++◌, length, get_or, take, refl, sym, ap, ◌∙◌, subst, arith, append-nil, append_assoc, inl, inr}
 use Rattle.std.specs.Prelude.{sum, map, replicate, slice_get, IfSome, Option, Some, None}
+use Rattle.std.specs.Option.{option_to_list}
 use Rattle.std.specs.List.{enumerate_from}
 use Rattle.std.proofs.Math.Nat.{mul-le-mul, mul-le-mul_right}
 use Rattle.std.proofs.lemmas.Bool.{cases_lt}
@@ -12,7 +13,8 @@ use Rattle.std.proofs.lemmas.Slice.Zip.{AllZip-long}
 use Rattle.bit_array.specs.Element.{number_of, words_of}
 use Rattle.schema_model.specs.Areas.{area_of}
 use Rattle.schema_model.specs.Parts.{shape_fields}
-use Rattle.schema_model.specs.Row.{FitsShape}
+use Rattle.schema_model.specs.Row.{FitsKind, FitsShape}
+use Rattle.schema_model.specs.declared.schema.FieldKind.{FieldKind}
 use Rattle.schema_model.specs.declared.schema.Field.{Field}
 use Rattle.schema_model.specs.declared.schema.Shape.{Shape}
 use Rattle.schema_model.specs.declared.rows.row.Row.{Row}
@@ -22,6 +24,7 @@ use Rattle.object_codec.specs.Packing.{HasBytes, PacksPlace, HasRoom, IsRowPut, 
 use Rattle.object_codec.specs.Stored.{value_at, value_bytes, values_bytes, column}
 use Rattle.object_codec.proofs.FieldParts.{zip_all, areas_from}
 use Rattle.object_codec.proofs.FieldWidths.{fields_small}
+use Rattle.object_codec.proofs.RowPuts.{fits_at}
 use Rattle.object_codec.proofs.Spreads.{byte_count-append}
 
 abbrev pub Place : Type 0
@@ -68,6 +71,27 @@ column_le index (suc count) [] = omega arith
 column_le index (suc count) (row ∷ rows) =
     let here = value_at index (values_of_place row) in
     omega (arith, byte_count-append here (column index (map values_of_place (take count rows))), byte_count-append here (column index (map values_of_place rows)), column_le index count rows)
+
+-- ---- fields without bytes
+
+no_value_bytes : (kind : FieldKind) (value : Value) → FitsKind kind value → (HasBytes kind → ⊥) → value_bytes value ≡ []
+no_value_bytes FieldKind.Text value fits none = absurd (none tt)
+no_value_bytes FieldKind.Bytes value fits none = absurd (none tt)
+no_value_bytes _ (Value.Text units) fits none = absurd fits
+no_value_bytes _ (Value.Bytes bytes) fits none = absurd fits
+no_value_bytes _ _ fits none = refl
+
+no_bytes_found : (kind : FieldKind) (found : Option Value) → IfSome found (FitsKind kind) → (HasBytes kind → ⊥) → values_bytes (option_to_list found) ≡ []
+no_bytes_found kind None fits none = refl
+no_bytes_found kind (Some value) fits none = append-nil (value_bytes value) ∙ no_value_bytes kind value fits none
+
+no_column_bytes : (index : ℕ) (kind : FieldKind) (rows : List Place) → ((place : ℕ) (row : Place) → slice_get rows place ≡ Some row → IfSome (slice_get (values_of_place row) index) (FitsKind kind))
+    → (HasBytes kind → ⊥) → values_bytes (column index (map values_of_place rows)) ≡ []
+no_column_bytes index kind [] fit none = refl
+no_column_bytes index kind (row ∷ rows) fit none =
+    flat_map-append value_bytes (value_at index (values_of_place row)) (column index (map values_of_place rows))
+    ∙ ap (λ (bytes : List ℕ). bytes ++ values_bytes (column index (map values_of_place rows))) (no_bytes_found kind (slice_get (values_of_place row) index) (fit 0 row refl) none)
+    ∙ no_column_bytes index kind rows (λ place found there. fit (suc place) found there) none
 
 -- ---- the places
 
@@ -167,12 +191,23 @@ packed_more shape widths rows first first' areas areas' place row done inside is
       bits = put.bits done.bits;
     }
 
-pub packed_all : (shape : Shape) (widths : List ℕ) (rows : List Place) (first : List ℕ) (areas : List (List ℕ)) (place : ℕ) → PackedSoFar shape widths rows first areas place → place ≡ length rows
+pub packed_all : (shape : Shape) (widths : List ℕ) (rows : List Place) (first : List ℕ) (areas : List (List ℕ)) (place : ℕ) → CanPack shape widths rows → PackedSoFar shape widths rows first areas place → place ≡ length rows
     → IsPacked shape widths rows first areas
-packed_all shape widths rows first areas place done all =
+packed_all shape widths rows first areas place can done all =
+    let bytes = done.bytes ∙ ap (λ (rs : List Place). areas_for (shape_fields shape) rs) (take_all place rows (omega arith)) in
     record {
       spelled = λ at row there. done.spelled at row (let inside = slice_get_within rows at row there in omega arith) there;
-      bytes = done.bytes ∙ ap (λ (rs : List Place). areas_for (shape_fields shape) rs) (take_all place rows (omega arith));
+      bytes = bytes;
+      fixed = λ index field there none.
+          let inside = slice_get_within (shape_fields shape) index field there in
+          let is = sym (get_or_from_slice_get (shape_fields shape) index field field there) in
+          ap (λ (a : List (List ℕ)). area_of a index) bytes
+          ∙ bytes_at 0 (shape_fields shape) rows index inside
+          ∙ no_column_bytes (0 + index) field.kind rows
+          (let same : index ≡ 0 + index = omega arith in
+          λ at row found. subst (λ (i : ℕ). IfSome (slice_get (values_of_place row) i) (FitsKind field.kind)) same
+          (fits_at shape row index field (fits_place shape rows at row (can.fit at) found) inside is))
+          none;
       words = done.words;
       bits = subst (λ (n : ℕ). number_of first < 2 ^ (n * sum widths)) all done.bits;
     }

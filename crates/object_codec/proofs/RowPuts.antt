@@ -44,7 +44,7 @@ fits_value (f ∷ fields) [] k field all inside is = absurd all
 fits_value (f ∷ fields) (value ∷ values) zero field all inside is = subst (λ (g : Field). FitsKind g.kind value) (sym is) all.0
 fits_value (f ∷ fields) (value ∷ values) (suc k) field all inside is = fits_value fields values k field all.1 (omega arith) is
 
-fits_at : (shape : Shape) (row : Option Row) (k : ℕ) (field : Field) → IfSome row (FitsShape shape) → k < length (shape_fields shape) → field ≡ get_or (shape_fields shape) k field
+pub fits_at : (shape : Shape) (row : Option Row) (k : ℕ) (field : Field) → IfSome row (FitsShape shape) → k < length (shape_fields shape) → field ≡ get_or (shape_fields shape) k field
     → IfSome (slice_get (values_of_place row) k) (FitsKind field.kind)
 fits_at shape None k field fits inside is = tt
 fits_at (Shape.Object key fields) (Some (Row.Object values)) k field fits inside is = fits_value fields values k field fits inside is

@@ -2,6 +2,7 @@
 use Rattle.std.specs.Prelude.{◌≡◌, ℕ, ◌+◌, ◌-◌, ◌*◌, ◌^◌, ◌<◌, ◌≤◌, List, [], ◌++◌, length, map, sum, slice_get, slice_index, Option, Some, None, IfSome}
 use Rattle.std.specs.List.{AllZip, enumerate_from}
 use Rattle.bit_array.specs.Element.{number_of, words_of}
+use Rattle.schema_model.specs.Areas.{area_of}
 use Rattle.schema_model.specs.Parts.{shape_fields}
 use Rattle.schema_model.specs.Row.{FitsShape, stored_value, stored_row}
 use Rattle.schema_model.specs.declared.schema.FieldKind.{FieldKind}
@@ -86,10 +87,11 @@ pub record CanPack (shape : Shape) (widths : List ℕ) (rows : List (Option Row)
   pub ends : (index : ℕ) (field : Field) → slice_get (shape_fields shape) index ≡ Some field → HasBytes field.kind
       → length (values_bytes (column index (map values_of_place rows))) < 2 ^ (slice_index widths index - 1)
 
--- The words and bytes are those of these places: each spells its row, the bytes of each field are those of its values, and the words are as many
--- as the places need, with no bit behind.
+-- The words and bytes are those of these places: each spells its row, the bytes of each field are those of its values, of a STRING or BYTES alone,
+-- and the words are as many as the places need, with no bit behind.
 pub record IsPacked (shape : Shape) (widths : List ℕ) (rows : List (Option Row)) (first : List ℕ) (areas : List (List ℕ)) : Type 0 where
   pub spelled : (place : ℕ) (row : Option Row) → slice_get rows place ≡ Some row → PacksPlace shape widths first areas place row
   pub bytes : areas ≡ areas_for (shape_fields shape) rows
+  pub fixed : (index : ℕ) (field : Field) → slice_get (shape_fields shape) index ≡ Some field → (HasBytes field.kind → ⊥) → area_of areas index ≡ []
   pub words : length first ≡ words_of (length rows * sum widths)
   pub bits : number_of first < 2 ^ (length rows * sum widths)

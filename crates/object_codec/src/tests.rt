@@ -1,12 +1,20 @@
-//! Tests: records of each kind of field, and why there is none.
-ghost use Rattle.std.specs.Prelude.{◌≡◌, ◌<◌, ◌∷◌, [], length, IfOk};
+//! Tests: records of each kind of field, and why there is none; fields packed, and what is chosen where there are no rows.
+ghost use Rattle.std.specs.Prelude.{◌≡◌, ◌<◌, ◌≤◌, ◌-◌, ◌^◌, ◌∷◌, [], length, map, Some, None, IfOk};
 ghost use Rattle.std.specs.List.{AllZip};
-ghost use Rattle.object_codec.specs.ObjectPlace.{IsFieldWidth};
+ghost use Rattle.schema_model.specs.Parts.{shape_fields};
+ghost use Rattle.schema_model.specs.Row.{FitsKind};
+ghost use Rattle.schema_model.specs.declared.schema.FieldKind.TheVariants.{Text};
+ghost use Rattle.schema_model.specs.declared.rows.row.Row.{Row as StoredRow};
+ghost use Rattle.schema_model.specs.declared.rows.row.Value.{Value as StoredValue};
+ghost use Rattle.object_codec.specs.ObjectPlace.{IsObject, IsKindWidth, IsFieldWidth};
+ghost use Rattle.object_codec.specs.Packing.{HasBytes, HoldsValue};
+ghost use Rattle.object_codec.specs.Stored.{value_bytes};
 
 use super::*;
-use hol_varint::Octets;
+use hol_varint::{Octets, Units};
 use schema_model::{
-    Areas, Field, FieldKind, Fields, Name, Packed, PlaceFault, Row, Schema, Shape, Widths, Words,
+    Areas, Field, FieldKind, Fields, Model, Name, Packed, PlaceFault, Places, Row, Rows, Schema,
+    Shape, Value, Values, Widths, Words,
 };
 use std::alloc::{AllocError, Global};
 use std::test::Fail;
@@ -116,5 +124,118 @@ fn refusals(rt: HostRuntime) -> Result<(), Fail> {
         "Err(Bad(BadPointers))"
     );
     assert_eq!(rt; read_at(alloc, 0x26BEA, 0)?.as_str(), "Err(Bad(BadText))");
+    Ok(())
+}
+
+/// An OBJECT type with one field.
+fn one_field(alloc: Global, kind: FieldKind) -> Result<Schema, AllocError>
+    ensures object { IfOk result (λ schema. IsObject schema.shape) }
+    ensures field { IfOk result (λ schema. map (λ field. field.kind) (shape_fields schema.shape) ≡ kind ∷ []) }
+{
+    let field = Field {
+        name: Name::from_text(alloc, "f")?,
+        kind,
+    };
+    Ok(Schema {
+        name: Name::from_text(alloc, "A")?,
+        shape: Shape::Object(None, Fields::from_vec(vec![in alloc; field]?)),
+    })
+}
+
+/// The places of a record with one value, of no row, and of a record with null.
+fn three_places(alloc: Global, value: Value) -> Result<Places, AllocError>
+    ensures { IfOk result (λ places. places ≡ Some (StoredRow.Object (value ∷ [])) ∷ None ∷ Some (StoredRow.Object (StoredValue.Null ∷ [])) ∷ []) }
+{
+    let record = Row::Object(Values::from_vec(vec![in alloc; value]?));
+    let null = Row::Object(Values::from_vec(vec![in alloc; Value::Null]?));
+    Ok(Places::from_vec(vec![in alloc; Some(record), None, Some(null)]?))
+}
+
+/// The words of these places for a type with one field of a width, and the bytes of the field, as text.
+fn packed_field(
+    alloc: Global,
+    kind: FieldKind,
+    width: u32,
+    value: Value,
+) -> Result<String, AllocError>
+    requires wide { IsKindWidth kind width }
+    requires narrow { width ≤ 64 }
+    requires fits { FitsKind kind value }
+    requires number { HoldsValue width value }
+    requires bytes { HasBytes kind → length (value_bytes value) < 2 ^ (width - 1) }
+{
+    let schema = one_field(alloc, kind)?;
+    let widths = Widths::from_vec(vec![in alloc; width]?);
+    let rows = three_places(alloc, value)?;
+    let packed = pack(alloc, &schema, &widths, &rows)?;
+    format!(in alloc;
+        "{:?} {:?}",
+        packed.first.as_slice(),
+        packed.areas.as_slice()
+    )
+}
+
+/// The text "Hi".
+fn text(alloc: Global) -> Result<Value, AllocError>
+    ensures fits { IfOk result (FitsKind Text) }
+    ensures number { IfOk result (HoldsValue 3) }
+    ensures bytes { IfOk result (λ value. length (value_bytes value) < 4) }
+{
+    let units = Units::from_vec(vec![in alloc; 0x48, 0x69]?);
+    Ok(Value::Text(units))
+}
+
+#[test]
+fn fields_packed(rt: HostRuntime) -> Result<(), Fail> {
+    let alloc = rt.alloc();
+    let number = packed_field(alloc, FieldKind::Int, 4, Value::Int(5))?;
+    assert_eq!(rt; number.as_str(), "[3850] [List { items: [] }]");
+    let least = packed_field(alloc, FieldKind::Int, 4, Value::Int(i32::MIN))?;
+    assert_eq!(rt; least.as_str(), "[3855] [List { items: [] }]");
+    let text = packed_field(alloc, FieldKind::Text, 3, text(alloc)?)?;
+    assert_eq!(rt; text.as_str(), "[402] [List { items: [72, 105] }]");
+    Ok(())
+}
+
+/// A state without rows.
+#[derive(Drop)]
+struct NoRows {
+    model: Model,
+}
+
+impl Rows for NoRows {
+    ghost use Rattle.std.specs.Prelude.{map};
+    ghost use Rattle.std.specs.Ordering.{nat_cmp};
+    ghost use Rattle.std.specs.FinMap.{empty};
+
+    ghost schemas = { λ rows. rows.model };
+
+    ghost table = { λ rows. map (λ schema. empty {R = nat_cmp}) rows.model };
+
+    fn model(&self) -> &Model {
+        &self.model
+    }
+
+    fn bound(&self, _type_index: u32) -> u32 {
+        0
+    }
+
+    fn is_live(&self, _type_index: u32, _ordinal: u32) -> bool {
+        false
+    }
+
+    fn row(&self, _alloc: Global, _type_index: u32, _ordinal: u32) -> Result<Row, AllocError> {
+        Err(AllocError)
+    }
+}
+
+#[test]
+fn chosen_for_no_rows(rt: HostRuntime) -> Result<(), Fail> {
+    let alloc = rt.alloc();
+    let rows = NoRows {
+        model: Model::none(alloc),
+    };
+    assert_eq!(rt; widths(alloc, &rows, &rows, 0)?.len(), 0);
+    assert_eq!(rt; bytes(alloc, &rows, 0)?, 0);
     Ok(())
 }

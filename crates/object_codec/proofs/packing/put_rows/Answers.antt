@@ -20,4 +20,4 @@ pub returns : goal.returns
 returns c =
     let past = c.loop-place-test.false in
     let within = c.loop-place.auto.place-end in
-    packed_all c.args.schema.now.shape c.args.widths.now c.args.rows.now c.loop-place.first c.loop-place.areas c.loop-place.place c.loop-place.invariant (omega arith)
+    packed_all c.args.schema.now.shape c.args.widths.now c.args.rows.now c.loop-place.first c.loop-place.areas c.loop-place.place c.requires.can c.loop-place.invariant (omega arith)
