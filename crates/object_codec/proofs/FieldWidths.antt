@@ -27,22 +27,24 @@ all_zip_at R (x ∷ xs) [] i d e h within = absurd h
 all_zip_at R (x ∷ xs) (y ∷ ys) zero d e h within = h.0
 all_zip_at R (x ∷ xs) (y ∷ ys) (suc i) d e h within = all_zip_at R xs ys i d e h.1 (omega arith)
 
-narrow : (fields : List Field) (widths : List ℕ) → AllZip IsFieldWidth fields widths → AllByRecursion (λ width. width ≤ 64) widths
-narrow [] [] h = tt
-narrow [] (width ∷ widths) h = absurd h
-narrow (field ∷ fields) [] h = absurd h
-narrow (field ∷ fields) (width ∷ widths) h = (h.0.0, narrow fields widths h.1)
+narrow : (R : Field → ℕ → Type 0) → ((field : Field) (width : ℕ) → R field width → width ≤ 64) → (fields : List Field) (widths : List ℕ) → AllZip R fields widths
+    → AllByRecursion (λ width. width ≤ 64) widths
+narrow R each [] [] h = tt
+narrow R each [] (width ∷ widths) h = absurd h
+narrow R each (field ∷ fields) [] h = absurd h
+narrow R each (field ∷ fields) (width ∷ widths) h = (each field width h.0, narrow R each fields widths h.1)
 
 -- so many fields have 64 bits each at most
-pub fields_small : (fields : List Field) (widths : List ℕ) → length fields ≤ 1024 → AllZip IsFieldWidth fields widths → sum widths ≤ 65536
-fields_small fields widths few wide =
-    let each = All-from_recursion (λ width. width ≤ 64) widths (narrow fields widths wide) in
+pub fields_small : (R : Field → ℕ → Type 0) → ((field : Field) (width : ℕ) → R field width → width ≤ 64) → (fields : List Field) (widths : List ℕ) → length fields ≤ 1024 → AllZip R fields widths
+    → sum widths ≤ 65536
+fields_small R small fields widths few wide =
+    let each = All-from_recursion (λ width. width ≤ 64) widths (narrow R small fields widths wide) in
     let below : sum widths ≤ length widths * 64 = sum_by-le (λ width. width) 64 widths each in
-    let long : length widths ≡ length fields = AllZip-long IsFieldWidth fields widths wide in
+    let long : length widths ≡ length fields = AllZip-long R fields widths wide in
     omega arith
 
 record_small : (fields : List Field) (widths first : List ℕ) (areas : List (List ℕ)) (place : ℕ) → HoldsPlace fields widths first areas place → sum widths ≤ 65536
-record_small fields widths first areas place holds = fields_small fields widths holds.few holds.wide
+record_small fields widths first areas place holds = fields_small IsFieldWidth (λ field width is. is.0) fields widths holds.few holds.wide
 
 pub record_fits : (fields : List Field) (widths first : List ℕ) (areas : List (List ℕ)) (place : ℕ) → HoldsPlace fields widths first areas place → sum widths < 2 ^ 64
 record_fits fields widths first areas place holds = omega (arith, record_small fields widths first areas place holds)
@@ -57,7 +59,7 @@ within fields widths first areas place index before holds inside summed =
     let long = widths_long fields widths first areas place holds in
     let there : index < length widths = omega (arith, long) in
     let more : sum (take index widths) + get_or widths index 0 ≤ sum widths = sum_by_more_le (λ width. width) widths index 0 there in
-    let each = All-from_recursion (λ width. width ≤ 64) widths (narrow fields widths holds.wide) in
+    let each = All-from_recursion (λ width. width ≤ 64) widths (narrow IsFieldWidth (λ field width is. is.0) fields widths holds.wide) in
     let small : sum widths ≤ 65536 = record_small fields widths first areas place holds in
     let next : place + 1 ≤ 2 ^ 32 = omega (arith, holds.below) in
     let product : (place + 1) * sum widths ≤ 2 ^ 32 * 65536 = mul-le-mul next small in

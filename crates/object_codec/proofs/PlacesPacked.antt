@@ -2,7 +2,7 @@
 use Rattle.std.proofs.Common.{◌≡◌, ℕ, zero, suc, ◌+◌, ◌-◌, ◌*◌, ◌^◌, ◌<◌, ◌≤◌, List, [], ◌∷◌, ◌++◌, length, get_or, take, refl, sym, ap, ◌∙◌, subst, arith, append-nil, append_assoc, inl, inr}
 use Rattle.std.specs.Prelude.{sum, map, replicate, slice_get, IfSome, Option, Some, None}
 use Rattle.std.specs.Option.{option_to_list}
-use Rattle.std.specs.List.{enumerate_from}
+use Rattle.std.specs.List.{AllZip, enumerate_from}
 use Rattle.std.proofs.Math.Nat.{mul-le-mul, mul-le-mul_right}
 use Rattle.std.proofs.lemmas.Bool.{cases_lt}
 use Rattle.std.proofs.lemmas.Grind.{flat_map-append}
@@ -20,7 +20,7 @@ use Rattle.schema_model.specs.declared.schema.Shape.{Shape}
 use Rattle.schema_model.specs.declared.rows.row.Row.{Row}
 use Rattle.schema_model.specs.declared.rows.row.Value.{Value}
 use Rattle.object_codec.specs.ObjectPlace.{IsFieldWidth}
-use Rattle.object_codec.specs.Packing.{HasBytes, PacksPlace, HasRoom, IsRowPut, StartsAtEnds, CanPack, IsPacked, values_of_place, areas_with, areas_for}
+use Rattle.object_codec.specs.Packing.{HasBytes, PacksPlace, HasRoom, IsRowPut, StartsAtEnds, CanPack, IsPacked, values_of_place, areas_with, areas_for, IsWidthFor}
 use Rattle.object_codec.specs.Stored.{value_at, value_bytes, values_bytes, column}
 use Rattle.object_codec.proofs.FieldParts.{zip_all, areas_from}
 use Rattle.object_codec.proofs.FieldWidths.{fields_small}
@@ -104,6 +104,15 @@ length-zeros : (count : ℕ) → length {A = ℕ} (replicate count 0) ≡ count
 length-zeros zero = refl
 length-zeros (suc count) = ap suc (length-zeros count)
 
+-- where there is a place, the widths are those of the kinds
+wide_where : (rows : List Place) (place : ℕ) (fields : List Field) (widths : List ℕ) → place < length rows → AllZip (IsWidthFor rows) fields widths → AllZip IsFieldWidth fields widths
+wide_where [] place fields widths inside wide = absurd (omega arith)
+wide_where (row ∷ rows) place fields widths inside wide = wide
+
+narrow_for : (rows : List Place) (field : Field) (width : ℕ) → IsWidthFor rows field width → width ≤ 64
+narrow_for [] field width is = is
+narrow_for (row ∷ rows) field width is = is.0
+
 -- the places before this one are packed
 pub record PackedSoFar (shape : Shape) (widths : List ℕ) (rows : List Place) (first : List ℕ) (areas : List (List ℕ)) (place : ℕ) : Type 0 where
   pub spelled : (before : ℕ) (row : Place) → before < place → slice_get rows before ≡ Some row → PacksPlace shape widths first areas before row
@@ -122,7 +131,7 @@ packed_none shape widths rows first areas can zeros none =
       spelled = λ before row earlier. absurd (omega arith);
       bytes = bytes;
       words = ap (λ (ws : List ℕ). length ws) zeros ∙ length-zeros (words_of (length rows * sum widths));
-      follows = zip_all (λ field part. HasBytes field.kind → part.start ≡ length part.area) fields widths first areas (sum widths) 0 0 (AllZip-long IsFieldWidth fields widths can.wide)
+      follows = zip_all (λ field part. HasBytes field.kind → part.start ≡ length part.area) fields widths first areas (sum widths) 0 0 (AllZip-long (IsWidthFor rows) fields widths can.wide)
           (ap (λ (a : List (List ℕ)). length a) bytes ∙ length-bytes_from 0 fields [])
           (λ k field inside is has. sym (ap (λ (a : List (List ℕ)). length (area_of a k)) bytes ∙ ap (λ (bs : List ℕ). length bs) (bytes_at 0 fields [] k inside)));
       bits = subst (λ n. n < 2 ^ (0 * sum widths)) (sym nothing) (pow_pos (0 * sum widths));
@@ -146,7 +155,7 @@ pub place_room : (shape : Shape) (widths : List ℕ) (rows : List Place) (first 
 place_room shape widths rows first areas place row can done inside is =
     let fields = shape_fields shape in
     let there = slice_get_read rows (length rows) place row refl inside is in
-    let wide = AllZip-long IsFieldWidth fields widths can.wide in
+    let wide = AllZip-long (IsWidthFor rows) fields widths can.wide in
     let next : (place + 1) * sum widths ≤ length rows * sum widths = mul-le-mul_right (sum widths) (let h : place + 1 ≤ length rows = omega arith in h) in
     let grown = bytes_more fields rows place row areas done.bytes inside is in
     let filled = ap (λ (a : List (List ℕ)). length a) grown ∙ length-bytes_from 0 fields (take (place + 1) rows) in
@@ -154,7 +163,7 @@ place_room shape widths rows first areas place row can done inside is =
       object = can.object;
       holds = record {
         few = can.few;
-        wide = can.wide;
+        wide = wide_where rows place fields widths inside can.wide;
         filled = ap (λ (a : List (List ℕ)). length a) done.bytes ∙ length-bytes_from 0 fields (take place rows);
         within = omega (arith, next, done.words);
         below = omega (arith, can.places);
@@ -215,6 +224,6 @@ packed_all shape widths rows first areas place can done all =
 -- all places have so many bits that each has a number
 pub bits_small : (shape : Shape) (widths : List ℕ) (rows : List Place) → CanPack shape widths rows → (sum widths < 2 ^ 64) × (length rows * sum widths < 2 ^ 64)
 bits_small shape widths rows can =
-    let small = fields_small (shape_fields shape) widths can.few can.wide in
+    let small = fields_small (IsWidthFor rows) (narrow_for rows) (shape_fields shape) widths can.few can.wide in
     let product : length rows * sum widths ≤ 2 ^ 32 * 65536 = mul-le-mul can.places small in
     (omega arith, omega arith)

@@ -1,5 +1,5 @@
 -- OBJECT rows as they are written: where there is room for a row, and what its place and the fields' bytes are then.
-use Rattle.std.specs.Prelude.{◌≡◌, ℕ, ◌+◌, ◌-◌, ◌*◌, ◌^◌, ◌<◌, ◌≤◌, List, [], ◌++◌, length, map, sum, slice_get, slice_index, Option, Some, None, IfSome}
+use Rattle.std.specs.Prelude.{◌∷◌, ◌≡◌, ℕ, ◌+◌, ◌-◌, ◌*◌, ◌^◌, ◌<◌, ◌≤◌, List, [], ◌++◌, length, map, sum, slice_get, slice_index, Option, Some, None, IfSome}
 use Rattle.std.specs.List.{AllZip, enumerate_from}
 use Rattle.bit_array.specs.Element.{number_of, words_of}
 use Rattle.schema_model.specs.Areas.{area_of}
@@ -76,11 +76,16 @@ pub record IsRowPut (shape : Shape) (widths old_first : List ℕ) (old_areas : L
 abbrev pub areas_for : List Field → List (Option Row) → List (List ℕ)
 areas_for fields rows = map (λ part. values_bytes (column part.0 (map values_of_place rows))) (enumerate_from 0 fields)
 
+-- A field may have this width: 64 at most, and where there are places one that its kind may have.
+abbrev pub IsWidthFor : List (Option Row) → Field → ℕ → Type 0
+IsWidthFor [] = λ field width. width ≤ 64
+IsWidthFor (row ∷ rows) = IsFieldWidth
+
 -- What can be packed: rows of the type, whose numbers the widths hold, and below the null bit the number of all bytes of each field.
 pub record CanPack (shape : Shape) (widths : List ℕ) (rows : List (Option Row)) : Type 0 where
   pub object : IsObject shape
   pub few : length (shape_fields shape) ≤ 1024
-  pub wide : AllZip IsFieldWidth (shape_fields shape) widths
+  pub wide : AllZip (IsWidthFor rows) (shape_fields shape) widths
   pub places : length rows ≤ 2 ^ 32
   pub fit : (place : ℕ) (row : Row) → slice_get rows place ≡ Some (Some row) → FitsShape shape row
   pub numbers : (place index : ℕ) (row : Option Row) → slice_get rows place ≡ Some row → IfSome (slice_get (values_of_place row) index) (HoldsValue (slice_index widths index))
