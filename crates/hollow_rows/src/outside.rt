@@ -20,7 +20,8 @@ part {"destinat
 writes 2
 run 4 head snapshot-1
 part {"desti
-# The same of rows: nothing is written of a blob that cannot be read, and else the front of the lines.
+# The same of rows: nothing is written of a blob that cannot be read, and else the front of the lines, which are
+# written together.
 run 0 show snapshot-1
 out {"ordinal":0,"row":{"n":5},"type":"A"}
 out {"ordinal":1,"row":{"n":null},"type":"A"}
@@ -30,13 +31,13 @@ reads 2
 run 5 show snapshot-1
 writes 1
 run 4 show snapshot-1
-writes 7
+writes 6
 run 4 show snapshot-1
-out {"ordinal":0,"row":{"n":5},"type":"A"}
+part {"ordinal":0,"row":{"n":5},"type":"
 writes 8
 run 4 show snapshot-1
 out {"ordinal":0,"row":{"n":5},"type":"A"}
-part {"ordin
+part {"ordinal"
 room 50
 run 4 show snapshot-1
 out {"ordinal":0,"row":{"n":5},"type":"A"}
