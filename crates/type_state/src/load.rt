@@ -68,11 +68,11 @@ fn read_listed(
     let mut bytes: u64 = 0;
     let mut walked: u64 = 0;
     for ordinal in live {
+        let row = read_row(alloc, schema, section, *ordinal)?;
         walked = walked.saturating_add(buckets_at(&schema.shape, section, u64::from(*ordinal)));
         if walked > MOST_ITEMS {
             return Err(RowFault::Memory);
         }
-        let row = read_row(alloc, schema, section, *ordinal)?;
         if !ends.add(&schema.shape, widths, &row) {
             return Err(RowFault::At(Reason::BadWidth, u64::from(*ordinal)));
         }
