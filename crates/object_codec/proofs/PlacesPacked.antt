@@ -13,7 +13,7 @@ use Rattle.std.proofs.lemmas.Slice.Zip.{AllZip-long}
 use Rattle.bit_array.specs.Element.{number_of, words_of}
 use Rattle.schema_model.specs.Areas.{area_of}
 use Rattle.schema_model.specs.Parts.{shape_fields}
-use Rattle.schema_model.specs.Row.{FitsKind, FitsShape}
+use Rattle.schema_model.specs.Row.{FitsKind, FitsShape, stored_row}
 use Rattle.schema_model.specs.declared.schema.FieldKind.{FieldKind}
 use Rattle.schema_model.specs.declared.schema.Field.{Field}
 use Rattle.schema_model.specs.declared.schema.Shape.{Shape}
@@ -181,6 +181,12 @@ place_room shape widths rows first areas place row can done inside is =
           omega arith);
     }
 
+-- an earlier place packs what it packed
+kept_place : (shape : Shape) (widths first first' : List ℕ) (areas areas' : List (List ℕ)) (place : ℕ) (row : Place) → IsRowPut shape widths first areas first' areas' place row
+    → (before : ℕ) (old : Place) → before < place → PacksPlace shape widths first areas before old → PacksPlace shape widths first' areas' before old
+kept_place shape widths first first' areas areas' place row put before None earlier packed = put.gaps before earlier packed
+kept_place shape widths first first' areas areas' place row put before (Some old) earlier packed = put.earlier before (stored_row old) earlier packed
+
 pub packed_more : (shape : Shape) (widths : List ℕ) (rows : List Place) (first first' : List ℕ) (areas areas' : List (List ℕ)) (place : ℕ) (row : Place) → PackedSoFar shape widths rows first areas place
     → place < length rows → row ≡ get_or rows place row → IsRowPut shape widths first areas first' areas' place row → length first' ≡ length first
     → PackedSoFar shape widths rows first' areas' (place + 1)
@@ -188,7 +194,7 @@ packed_more shape widths rows first first' areas areas' place row done inside is
     record {
       spelled = λ before found earlier there.
           elim (cases_lt before place) [
-            | inl less ↦ put.earlier before found less (done.spelled before found less there)
+            | inl less ↦ kept_place shape widths first first' areas areas' place row put before found less (done.spelled before found less there)
             | inr late ↦
                 let at : place ≡ before = omega arith in
                 let same : row ≡ found = is ∙ get_or_from_slice_get rows place found row (subst (λ (n : ℕ). slice_get rows n ≡ Some found) (sym at) there) in

@@ -19,7 +19,7 @@ use Rattle.schema_model.specs.declared.schema.Shape.{Shape}
 use Rattle.schema_model.specs.declared.rows.row.Row.{Row}
 use Rattle.schema_model.specs.declared.rows.row.Value.{Value}
 use Rattle.object_codec.specs.Encoded.{IsTaken}
-use Rattle.object_codec.specs.ObjectPlace.{element_at, start_at, part_at, parts_of, IsObject, HoldsPlace, SpellsFields}
+use Rattle.object_codec.specs.ObjectPlace.{element_at, start_at, part_at, parts_of, IsObject, HoldsPlace, SpellsFields, SpellsObjectRow}
 use Rattle.object_codec.specs.Packing.{HasBytes, IsGap, PacksPart, PacksPlace, HoldsValue, HasRoom, IsRowPut, StartsAtEnds, values_of_place, areas_with}
 use Rattle.object_codec.specs.Part.{FieldPart, offset_in}
 use Rattle.object_codec.specs.Stored.{value_at, values_bytes}
@@ -224,23 +224,25 @@ place_packed (Shape.Object key own) fields widths first areas place (Some (Row.O
 place_packed (Shape.Object key own) fields widths first areas place (Some _) object are fits wide filled each = absurd fits
 place_packed _ fields widths first areas place row object are fits wide filled each = absurd object
 
-row_kept : (shape : Shape) (widths old_first first : List ℕ) (old_areas : List (List ℕ)) (more : List Value) (before place : ℕ) (old : Option Row) → SameBefore old_first first (place * sum widths) → before < place
-    → PacksPlace shape widths old_first old_areas before old → PacksPlace shape widths first (areas_with old_areas more) before old
-row_kept shape widths old_first first old_areas more before place old same earlier packed =
-    let size = sum widths in
-    let within : (before + 1) * size ≤ place * size = mul-le-mul_right size (let h : before + 1 ≤ place = omega arith in h) in
-    let parts = same_parts old_first first widths (areas_with old_areas more) size before 0 (place * size) same within (omega arith) in
-    kept old packed parts
-  where
-    kept : (old : Option Row) → PacksPlace shape widths old_first old_areas before old → parts_of widths first (areas_with old_areas more) before ≡ parts_of widths old_first (areas_with old_areas more) before
-        → PacksPlace shape widths first (areas_with old_areas more) before old
-    kept None packed parts =
-        subst (λ (ps : List FieldPart). AllZip (λ field part. IsGap field.kind part) (shape_fields shape) ps) (sym parts)
-        (gaps_grown 0 (shape_fields shape) widths old_first old_areas (sum widths) before 0 more packed)
-    kept (Some (Row.Object values)) packed parts =
-        subst (λ (ps : List FieldPart). SpellsFields (shape_fields shape) ps (map stored_value values)) (sym parts)
-        (fields_grown 0 (shape_fields shape) widths old_first old_areas (sum widths) before 0 more (map stored_value values) packed)
-    kept (Some _) packed parts = absurd packed
+-- the parts of an earlier place are as they were, but for the bytes behind
+parts_kept : (widths old_first first : List ℕ) (areas : List (List ℕ)) (before place : ℕ) → SameBefore old_first first (place * sum widths) → before < place
+    → parts_of widths first areas before ≡ parts_of widths old_first areas before
+parts_kept widths old_first first areas before place same earlier =
+    let within : (before + 1) * sum widths ≤ place * sum widths = mul-le-mul_right (sum widths) (let h : before + 1 ≤ place = omega arith in h) in
+    same_parts old_first first widths areas (sum widths) before 0 (place * sum widths) same within (omega arith)
+
+gap_kept : (shape : Shape) (widths old_first first : List ℕ) (old_areas : List (List ℕ)) (more : List Value) (before place : ℕ) → SameBefore old_first first (place * sum widths) → before < place
+    → PacksPlace shape widths old_first old_areas before None → PacksPlace shape widths first (areas_with old_areas more) before None
+gap_kept shape widths old_first first old_areas more before place same earlier gap =
+    subst (λ (parts : List FieldPart). AllZip (λ field part. IsGap field.kind part) (shape_fields shape) parts) (sym (parts_kept widths old_first first (areas_with old_areas more) before place same earlier))
+    (gaps_grown 0 (shape_fields shape) widths old_first old_areas (sum widths) before 0 more gap)
+
+row_kept : (shape : Shape) (widths old_first first : List ℕ) (old_areas : List (List ℕ)) (more : List Value) (before place : ℕ) (old : Row) → SameBefore old_first first (place * sum widths) → before < place
+    → SpellsObjectRow shape widths old_first old_areas before old → SpellsObjectRow shape widths first (areas_with old_areas more) before old
+row_kept shape widths old_first first old_areas more before place (Row.Object values) same earlier spelled =
+    subst (λ (parts : List FieldPart). SpellsFields (shape_fields shape) parts values) (sym (parts_kept widths old_first first (areas_with old_areas more) before place same earlier))
+    (fields_grown 0 (shape_fields shape) widths old_first old_areas (sum widths) before 0 more values spelled)
+row_kept shape widths old_first first old_areas more before place _ same earlier spelled = absurd spelled
 
 pub row_put : (shape : Shape) (fields : List Field) (widths old_first : List ℕ) (old_areas : List (List ℕ)) (values : List Value) (first : List ℕ) (areas : List (List ℕ)) (place index at : ℕ) (row : Option Row)
     → HasRoom shape widths old_first old_areas place row → fields ≡ shape_fields shape → values ≡ values_of_place row → length fields ≤ index
@@ -258,8 +260,10 @@ row_put shape fields widths old_first old_areas values first areas place index a
     record {
       packed = place_packed shape fields widths first areas place row has.object are has.fits wide filled
           (λ k field inside there. subst (λ (vs : List Value). PacksPart field.kind (part_at first (sum widths) place (0 + sum (take k widths)) (get_or widths k 0) (area_of areas k)) (slice_get vs k)) is (part k field inside there).0);
-      earlier = λ before old earlier packed.
-          subst (λ (a : List (List ℕ)). PacksPlace shape widths first a before old) (sym grown) (row_kept shape widths old_first first old_areas values before place old done.same earlier packed);
+      earlier = λ before old earlier spelled.
+          subst (λ (a : List (List ℕ)). SpellsObjectRow shape widths first a before old) (sym grown) (row_kept shape widths old_first first old_areas values before place old done.same earlier spelled);
+      gaps = λ before earlier gap.
+          subst (λ (a : List (List ℕ)). PacksPlace shape widths first a before None) (sym grown) (gap_kept shape widths old_first first old_areas values before place done.same earlier gap);
       grown = grown ∙ ap (areas_with old_areas) is;
       follows = subst (λ (fs : List Field). StartsAtEnds fs widths first areas (place + 1)) are
           (zip_all (λ field part. HasBytes field.kind → part.start ≡ length part.area) fields widths first areas (sum widths) (place + 1) 0 wide filled

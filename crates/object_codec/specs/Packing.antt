@@ -63,11 +63,12 @@ pub record HasRoom (shape : Shape) (widths first : List ℕ) (areas : List (List
   pub numbers : (index : ℕ) → IfSome (slice_get (values_of_place row) index) (HoldsValue (slice_index widths index))
   pub ends : AllZip (λ field part. HasBytes field.kind → length part.area < 2 ^ (part.width - 1)) (shape_fields shape) (parts_of widths first (areas_with areas (values_of_place row)) place)
 
--- The row of a place is written: the place spells it, and those before spell what they spelled; its bytes are behind those of its fields, where
--- the next place goes on; and no bit is behind the place.
+-- The row of a place is written: the place spells it, and those before spell what they spelled, or still have no row; its bytes are behind those
+-- of its fields, where the next place goes on; and no bit is behind the place.
 pub record IsRowPut (shape : Shape) (widths old_first : List ℕ) (old_areas : List (List ℕ)) (first : List ℕ) (areas : List (List ℕ)) (place : ℕ) (row : Option Row) : Type 0 where
   pub packed : PacksPlace shape widths first areas place row
-  pub earlier : (before : ℕ) (old : Option Row) → before < place → PacksPlace shape widths old_first old_areas before old → PacksPlace shape widths first areas before old
+  pub earlier : (before : ℕ) (old : Row) → before < place → SpellsObjectRow shape widths old_first old_areas before old → SpellsObjectRow shape widths first areas before old
+  pub gaps : (before : ℕ) → before < place → PacksPlace shape widths old_first old_areas before None → PacksPlace shape widths first areas before None
   pub grown : areas ≡ areas_with old_areas (values_of_place row)
   pub follows : StartsAtEnds (shape_fields shape) widths first areas (place + 1)
   pub bits : number_of old_first < 2 ^ (place * sum widths) → number_of first < 2 ^ ((place + 1) * sum widths)
