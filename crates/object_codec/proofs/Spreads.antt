@@ -6,7 +6,7 @@ use Rattle.std.specs.Option.{option_map_or}
 use Rattle.std.proofs.Math.Seq.{drop-cons}
 use Rattle.std.proofs.lemmas.Bool.{cases_lt}
 use Rattle.std.proofs.lemmas.Grind.{flat_map-append}
-use Rattle.std.proofs.lemmas.List.{length-append, get_or-set_same, get_or-set_other, length-set, drop_all, get_or_default}
+use Rattle.std.proofs.lemmas.List.{length-append, get_or-set_same, get_or-set_other, length-set, get_or_default}
 use Rattle.bit_array.specs.Digits.{digit_count}
 use Rattle.bit_array.proofs.DigitCounts.{digit_count-holds}
 use Rattle.schema_model.specs.declared.schema.Field.{Field}
@@ -214,8 +214,3 @@ widths_more fields rows index field widths width so_far inside is here =
     ∙ ap (λ (w : ℕ). widths ++ w ∷ widths_from (index + 1) (drop (index + 1) fields) rows) here
     ∙ ap (λ (fs : List Field). widths ++ widths_from index fs rows) (sym split)
     ∙ so_far
-
-pub widths_all : (fields : List Field) (rows : List Row) (index : ℕ) (widths : List ℕ) → widths ++ widths_from index (drop index fields) rows ≡ widths_for fields rows → length fields ≤ index
-    → widths ≡ widths_for fields rows
-widths_all fields rows index widths so_far past =
-    sym (append-nil widths) ∙ ap (λ (fs : List Field). widths ++ widths_from index fs rows) (sym (drop_all index fields past)) ∙ so_far
