@@ -81,6 +81,6 @@ each_found P (e ∷ es) sorted each =
     let parts = and_parts _ _ sorted in (
       each e.0 e.1 (finds e es),
       each_found P es parts.1 (λ q row found. each q row (skips q e es (λ same.
-          let none = finds_none q es (subst (λ n. AreFrom (n + 1) es) (sym same) (from_below e.0 es parts.0)) in
+          let none = finds_none q (e.0 + 1) es (omega (arith, same)) (from_below e.0 es parts.0) in
           absurd cc) ∙ found)),
     )
