@@ -1,0 +1,7 @@
+//! Worked cases of single crates, called with ample memory. Nothing stands on this crate.
+#![tactic(auto)]
+
+#[cfg(test)]
+mod copies;
+#[cfg(test)]
+mod models;
