@@ -23,6 +23,3 @@ pub use state::TypeState;
 pub use states::TypeStates;
 pub use views::NextRows;
 pub use words::words_needed;
-
-#[cfg(test)]
-mod tests;

@@ -5,3 +5,7 @@
 mod copies;
 #[cfg(test)]
 mod models;
+#[cfg(test)]
+mod runs;
+#[cfg(test)]
+mod two_states;

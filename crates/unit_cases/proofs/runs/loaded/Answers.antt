@@ -6,7 +6,7 @@ use Rattle.type_state.specs.declared.section.Section.{Section}
 use Rattle.type_state.specs.State.{State}
 use Rattle.type_state.specs.Layout.{places_of, place_bits, width_count}
 use Rattle.type_state.specs.WellFormed.{AreWidths, IsReadable}
-use Rattle.type_state.proofs.tests.runs.loaded.Goals as goal
+use Rattle.unit_cases.proofs.runs.loaded.Goals as goal
 
 -- A type of sets or maps has no fields.
 no_fields : (shape : Shape) → IsWidthCount shape (width_count shape) → shape_fields shape ≡ []

@@ -1,20 +1,16 @@
-//! Tests: a type of records through two loads, and sections of it that are refused.
+//! A type of records through two loads, and sections of it that are refused.
 ghost use Rattle.std.specs.Prelude.{◌≡◌, ◌<◌, ◌∷◌, [], Some, length, IfOk, OnOk};
 ghost use Rattle.std.specs.List.{AllZip};
 ghost use Rattle.schema_model.specs.Parts.{shape_fields};
 ghost use Rattle.object_codec.specs.ObjectPlace.{IsObject, IsFieldWidth};
 ghost use Rattle.type_state.specs.State.{IsLaidOut};
 
-mod runs;
-
-use super::*;
 use hol_varint::Octets;
 use ordinal_set::OrdinalSet;
-use schema_model::{
-    Areas, Field, FieldKind, Fields, Name, Reason, Row, Schema, Shape, Widths, Words,
-};
+use schema_model::{Areas, Field, FieldKind, Fields, Name, Schema, Shape, Widths, Words};
 use std::alloc::{AllocError, Global};
 use std::test::Fail;
+use type_state::{RowFault, Section, TypeState};
 
 /// A type with an INT and a STRING.
 fn schema(alloc: Global) -> Result<Schema, AllocError>

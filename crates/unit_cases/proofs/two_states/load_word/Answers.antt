@@ -9,7 +9,7 @@ use Rattle.object_codec.specs.ObjectPlace.{IsObject, IsFieldWidth}
 use Rattle.type_state.specs.declared.section.Section.{Section}
 use Rattle.type_state.specs.Layout.{places_of}
 use Rattle.type_state.specs.WellFormed.{IsWidth, IsReadable}
-use Rattle.type_state.proofs.tests.load_word.Goals as goal
+use Rattle.unit_cases.proofs.two_states.load_word.Goals as goal
 
 -- A section with two fields of 4 bits and one word has words for each of 8 places.
 readable : (shape : Shape) (section : Section) (max : ℕ) → IsObject shape → AllZip IsFieldWidth (shape_fields shape) (4 ∷ 4 ∷ []) → section.max ≡ Some max → max < 8

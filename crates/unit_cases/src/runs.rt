@@ -1,15 +1,15 @@
-//! Tests: sets and maps of some sizes are loaded and looked up, and a run that is full is refused.
+//! Sets and maps of some sizes are loaded and looked up, and a run that is full is refused.
 ghost use Rattle.std.specs.Prelude.{◌≡◌, [], Some, length, IfOk};
 ghost use Rattle.type_state.specs.Layout.{place_bits, width_count};
 ghost use Rattle.type_state.specs.WellFormed.{AreWidths};
 ghost use Rattle.bucket_codec.specs.BucketPlace.{IsWidthCount};
 
-use crate::{RowFault, Section, TypeState};
 use bucket_codec::hash_int;
 use ordinal_set::OrdinalSet;
 use schema_model::{Areas, Name, Reason, Schema, Shape, Widths, Words};
 use std::alloc::{AllocError, Global};
 use std::test::Fail;
+use type_state::{RowFault, Section, TypeState};
 
 /// A bucket of 16 bits: an element, or a key of 8 bits and behind it a value, which differs from it in one bit.
 fn bucket(shape: &Shape, element: u16) -> u16 {
