@@ -18,6 +18,3 @@ pub use fault::BlobFault;
 pub use header::Header;
 pub use readable::{Readable, counted};
 pub use writing::put_header;
-
-#[cfg(test)]
-mod tests;

@@ -2,6 +2,8 @@
 #![tactic(auto)]
 
 #[cfg(test)]
+mod blobs;
+#[cfg(test)]
 mod copies;
 #[cfg(test)]
 mod models;
