@@ -8,7 +8,6 @@ use Rattle.std.proofs.lemmas.Bool.{cases_lt}
 use Rattle.std.proofs.lemmas.Nat.{pow_pos}
 use Rattle.bucket_codec.specs.BucketCount.{IsBucketCount, bucket_count}
 use Rattle.bit_array.specs.Digits.{digit_count}
-use Rattle.bit_array.proofs.DigitCounts.{digit_count-least}
 
 -- a power of two whose half is below the number is at most each power that is not
 none_less : (least count k e : ℕ) → count ≡ 2 ^ k → count / 2 < max 1 least → least ≤ 2 ^ e → count ≤ 2 ^ e
@@ -54,8 +53,8 @@ bucket_count_is (suc (suc (suc n))) d some is holds half =
       },
     )
 
--- the number is at most 2 ^ 33, and more than the elements
-bucket_count_small : (n d : ℕ) → n < 2 ^ 32 → (0 < 10 * n / 7 - 1 → 2 ^ (d - 1) ≤ 10 * n / 7 - 1) → 3 ≤ n → d ≤ 33
+-- the digits of the number for fewer than 2 ^ 32 elements are 33 at most
+pub bucket_count_small : (n d : ℕ) → n < 2 ^ 32 → (0 < 10 * n / 7 - 1 → 2 ^ (d - 1) ≤ 10 * n / 7 - 1) → 3 ≤ n → d ≤ 33
 bucket_count_small n d small half some =
     ⊎_elim
     (λ (more : 33 < d).
@@ -63,14 +62,6 @@ bucket_count_small n d small half some =
     absurd (omega (arith, up, half (omega arith))))
     (λ (less : d ≤ 33). less)
     (cases_lt 33 d)
-
-pub bucket_count_few : (n : ℕ) → n < 2 ^ 32 → bucket_count n ≤ 2 ^ 33
-unfolding bucket_count
-bucket_count_few zero small = omega arith
-bucket_count_few (suc zero) small = omega arith
-bucket_count_few (suc (suc zero)) small = omega arith
-bucket_count_few (suc (suc (suc n))) small =
-    pow_mono (bucket_count_small (suc (suc (suc n))) (digit_count (10 * suc (suc (suc n)) / 7 - 1)) small (digit_count-least (10 * suc (suc (suc n)) / 7 - 1)) (omega arith))
 
 -- a number is a power of two exactly where the next one is it
 pub power_by_next : (n next k : ℕ) → next ≡ 2 ^ k → n ≤ next → next / 2 < max 1 n → MatchBool (nat_eq next n) (IsPowerOfTwo n) (IsPowerOfTwo n → ⊥)

@@ -1,4 +1,4 @@
-mod BucketCounts
+pub mod BucketCounts
 mod Spreads
 mod Places
 mod Members
@@ -15,6 +15,4 @@ mod Clearing
 mod Fills
 mod Rows
 mod Placed
-mod Generated
-mod Samples
 pub mod PlaceRows

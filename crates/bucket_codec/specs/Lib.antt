@@ -7,4 +7,3 @@ pub mod Taken
 pub mod Filled
 pub mod Packed
 pub mod Widths
-pub mod Sample

@@ -20,6 +20,3 @@ pub use lookup::{at, has};
 pub use packing::{pack, put_row};
 pub use place::run_length;
 pub use row::read;
-
-#[cfg(test)]
-mod tests;

@@ -4,6 +4,8 @@
 #[cfg(test)]
 mod blobs;
 #[cfg(test)]
+mod buckets;
+#[cfg(test)]
 mod copies;
 #[cfg(test)]
 mod models;

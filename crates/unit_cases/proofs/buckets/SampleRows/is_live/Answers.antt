@@ -2,9 +2,9 @@ use Rattle.std.proofs.Common.{List, Option, ◌↔◌, IsTrue, subst, arith}
 use Rattle.schema_model.specs.declared.schema.Schema.{Schema}
 use Rattle.schema_model.specs.declared.rows.row.Row.{Row}
 use Rattle.schema_model.specs.Table.{IsLive}
-use Rattle.bucket_codec.specs.Sample.{sample_table}
-use Rattle.bucket_codec.proofs.Samples.{sample_told, no_sample}
-use Rattle.bucket_codec.proofs.tests.SampleRows.is_live.Goals as goal
+use Rattle.unit_cases.specs.Sample.{sample_table}
+use Rattle.unit_cases.proofs.Samples.{sample_told, no_sample}
+use Rattle.unit_cases.proofs.buckets.SampleRows.is_live.Goals as goal
 
 pub returns-then-type_index-gt0 : goal.returns-then-type_index-gt0
 returns-then-type_index-gt0 c = no_sample c.args.self.now.0 c.args.self.now.1 c.args.type_index c.args.ordinal (omega arith)

@@ -1,6 +1,6 @@
 use Rattle.std.proofs.Common.{◌∙◌}
-use Rattle.bucket_codec.proofs.Generated.{map_packable}
-use Rattle.bucket_codec.proofs.tests.map_back.Goals as goal
+use Rattle.unit_cases.proofs.BucketRows.{map_packable}
+use Rattle.unit_cases.proofs.buckets.map_back.Goals as goal
 
 pub read_back-requires : goal.read_back-requires
 read_back-requires c =

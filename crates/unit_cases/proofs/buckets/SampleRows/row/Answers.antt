@@ -1,8 +1,8 @@
 use Rattle.std.proofs.Common.{◌≡◌, ◌∙◌, List, Option, Some, ap, sym, rules}
 use Rattle.schema_model.specs.declared.schema.Schema.{Schema}
 use Rattle.schema_model.specs.declared.rows.row.Row.{Row}
-use Rattle.bucket_codec.proofs.Samples.{sample_row_is}
-use Rattle.bucket_codec.proofs.tests.SampleRows.row.Goals as goal
+use Rattle.unit_cases.proofs.Samples.{sample_row_is}
+use Rattle.unit_cases.proofs.buckets.SampleRows.row.Goals as goal
 
 pub returns-in-Some : goal.returns-in-Some
 returns-in-Some c =

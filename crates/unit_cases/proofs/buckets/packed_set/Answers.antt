@@ -6,7 +6,7 @@ use Rattle.schema_model.specs.declared.schema.Shape.{Shape}
 use Rattle.schema_model.specs.declared.rows.row.Row.{Row}
 use Rattle.bucket_codec.specs.BucketCount.{bucket_count}
 use Rattle.bucket_codec.specs.Packed.{IsPackable, IsPackableRow}
-use Rattle.bucket_codec.proofs.tests.packed_set.Goals as goal
+use Rattle.unit_cases.proofs.buckets.packed_set.Goals as goal
 
 rises_two : Rises (0 ∷ 1 ∷ [])
 rises_two = AllPairs-from_increasing (0 ∷ 1 ∷ []) (λ k below. let first : k ≡ 0 = omega arith in subst (λ i. get_or (0 ∷ 1 ∷ []) i 0 < get_or (0 ∷ 1 ∷ []) (i + 1) 0) (sym first) (lit< tt))

@@ -1,5 +1,5 @@
--- Lemmas on the states with one row at most that the tests choose widths for.
-use Rattle.std.proofs.Common.{◌≡◌, ℕ, zero, suc, ◌+◌, ◌<◌, inl, inr, List, [], ◌∷◌, map, Option, Some, None, IsSome, Bool, true, false, IsTrue, ◌↔◌, arith, refl, sym, subst, ◌∙◌}
+-- Lemmas on the states with one row at most that widths are chosen for.
+use Rattle.std.proofs.Common.{◌≡◌, ℕ, zero, suc, ◌+◌, ◌<◌, inl, inr, List, [], ◌∷◌, map, Option, Some, None, IsSome, Bool, true, false, IsTrue, ◌↔◌, cond, arith, refl, sym, ap, subst, ◌∙◌}
 use Rattle.std.specs.Prelude.{slice_get, is_some}
 use Rattle.std.specs.Cmp.{nat_cmp_total, unsigned_tied}
 use mir.Val.{bool_byte}
@@ -11,8 +11,7 @@ use Rattle.schema_model.specs.declared.schema.Schema.{Schema}
 use Rattle.schema_model.specs.declared.rows.row.Row.{Row}
 use Rattle.schema_model.specs.Row.{FitsShape, IsRowInRange}
 use Rattle.schema_model.specs.Table.{IsLive, IsTableOf, IsBound, row_at}
-use Rattle.bucket_codec.specs.Sample.{sample_rows, sample_table, IsSample}
-use Rattle.bucket_codec.proofs.Buckets.{if_true, if_false}
+use Rattle.unit_cases.specs.Sample.{sample_rows, sample_table, IsSample}
 
 -- the other types have no row
 no_other : (schemas : List Schema) (type_index ordinal : ℕ) → row_at (map (λ schema. empty {R = nat_cmp}) schemas) type_index ordinal ≡ None
@@ -22,14 +21,14 @@ no_other (schema ∷ schemas) (suc type_index) ordinal = no_other schemas type_i
 
 -- the row under ordinal 0
 row_there : (found : Row) → get (sample_rows (Some found)) 0 ≡ Some found
-row_there found = get-insert nat_cmp_total (empty {R = nat_cmp}) 0 found 0 ∙ if_true (eq_by_cmp nat_cmp 0 0) (Some found) (get (empty {R = nat_cmp}) 0) (unsigned_tied 0 0)
+row_there found = get-insert nat_cmp_total (empty {R = nat_cmp}) 0 found 0 ∙ ap (λ same. cond same (Some found) (get (empty {R = nat_cmp}) 0)) (unsigned_tied 0 0)
 
 -- and none under another
 no_more : (row : Option Row) (ordinal : ℕ) → get (sample_rows row) (suc ordinal) ≡ None
 no_more None ordinal = get-empty nat_cmp (suc ordinal)
 no_more (Some found) ordinal =
     get-insert nat_cmp_total (empty {R = nat_cmp}) 0 found (suc ordinal)
-    ∙ if_false (eq_by_cmp nat_cmp (suc ordinal) 0) (Some found) (get (empty {R = nat_cmp}) (suc ordinal)) (unsigned_tied (suc ordinal) 0 ∙ ne_eqb (suc ordinal) 0 (λ same. omega arith))
+    ∙ ap (λ same. cond same (Some found) (get (empty {R = nat_cmp}) (suc ordinal))) (unsigned_tied (suc ordinal) 0 ∙ ne_eqb (suc ordinal) 0 (λ same. omega arith))
     ∙ get-empty nat_cmp (suc ordinal)
 
 -- a row of the table is that of the sample

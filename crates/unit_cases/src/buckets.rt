@@ -1,11 +1,11 @@
-//! Tests: worked hashes, counts of buckets, sets and maps, and why there is none.
+//! Sets and maps as buckets: worked hashes and counts, rows that are packed and read, why there is none, and the widths of states.
 ghost use Rattle.std.specs.Prelude.{◌≡◌, ◌<◌, ◌≤◌, ◌∷◌, [], length, map, All, Some, IfOk, IfSome};
 ghost use Rattle.std.specs.List.{range_with_len};
 ghost use Rattle.schema_model.specs.Row.{FitsShape, IsRowInRange};
 ghost use Rattle.bucket_codec.specs.BucketPlace.{IsWidthCount};
 ghost use Rattle.bucket_codec.specs.Packed.{IsPackable};
 
-use super::*;
+use bucket_codec::{at, buckets_for, has, hash_int, pack, read, total, widths};
 use hol_varint::{Duplicate, Ordinals};
 use schema_model::{
     Areas, Fields, MAX_ITEMS, Model, Name, Packed, Pairs, PlaceFault, Places, Row, Rows, Schema,
@@ -231,7 +231,7 @@ impl std::marker::Model for Sample {
     ghost use Rattle.std.specs.Prelude.{List, Option};
     ghost use Rattle.schema_model.specs.declared.schema.Schema.{Schema};
     ghost use Rattle.schema_model.specs.declared.rows.row.Row.{Row};
-    ghost use Rattle.bucket_codec.specs.Sample.{IsSample};
+    ghost use Rattle.unit_cases.specs.Sample.{IsSample};
 
     ghost Value = { List Schema × Option Row };
 
@@ -241,7 +241,7 @@ impl std::marker::Model for Sample {
 }
 
 impl Rows for Sample {
-    ghost use Rattle.bucket_codec.specs.Sample.{sample_table};
+    ghost use Rattle.unit_cases.specs.Sample.{sample_table};
 
     ghost schemas = { λ sample. sample.0 };
 

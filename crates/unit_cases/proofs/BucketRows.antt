@@ -1,7 +1,8 @@
--- Lemmas on the rows that the tests pack: the ordinals below a number, and pairs of each and itself.
-use Rattle.std.proofs.Common.{◌≡◌, ℕ, ◌+◌, ◌-◌, ◌*◌, ◌^◌, ◌<◌, ◌≤◌, List, [], ◌∷◌, ◌++◌, length, map, get_or, All, Some, arith, rules, refl, sym, ap, subst, lit<, ◌∙◌}
+-- Lemmas on the rows of SET and MAP types that are packed: the ordinals below a number, and pairs of each and itself.
+use Rattle.std.proofs.Common.{◌≡◌, ℕ, zero, suc, ◌+◌, ◌-◌, ◌*◌, ◌/◌, ◌^◌, ◌<◌, ◌≤◌, List, [], ◌∷◌, ◌++◌, length, map, get_or, All, Some, arith, rules, refl, sym, ap, subst, lit<, ◌∙◌}
 use Rattle.std.specs.List.{range_with_len}
 use Rattle.std.proofs.Math.Nat.{mul-le-mul_left}
+use Rattle.std.proofs.Math.Pow.{pow_mono}
 use Rattle.std.proofs.lemmas.List.{map-id}
 use Rattle.std.proofs.lemmas.List.FromFn.{length-range_with_len, get_or-range_with_len, length-map-range_with_len, get_or-map-range_with_len, map-range_with_len_more}
 use Rattle.std.proofs.lemmas.List.Kept.{AllPairs-from_increasing}
@@ -12,7 +13,9 @@ use Rattle.schema_model.specs.declared.rows.row.Row.{Row}
 use Rattle.bucket_codec.specs.BucketCount.{bucket_count}
 use Rattle.bucket_codec.specs.BucketPlace.{IsWidthCount}
 use Rattle.bucket_codec.specs.Packed.{set_pair, pairs_of, HoldsRow, IsPackable, IsPackableRow}
-use Rattle.bucket_codec.proofs.BucketCounts.{bucket_count_few}
+use Rattle.bucket_codec.proofs.BucketCounts.{bucket_count_small}
+use Rattle.bit_array.specs.Digits.{digit_count}
+use Rattle.bit_array.proofs.DigitCounts.{digit_count-least}
 
 rises_below : (count : ℕ) → Rises (range_with_len 0 count)
 rises_below count = AllPairs-from_increasing (range_with_len 0 count) (λ k below.
@@ -24,6 +27,15 @@ rises_below count = AllPairs-from_increasing (range_with_len 0 count) (λ k belo
 -- one ordinal more
 pub range_more : (count : ℕ) → range_with_len 0 (count + 1) ≡ range_with_len 0 count ++ count ∷ []
 range_more count = sym (map-id (range_with_len 0 (count + 1))) ∙ map-range_with_len_more (λ ordinal. ordinal) 0 count count (omega arith) ∙ ap (λ ordinals. ordinals ++ count ∷ []) (map-id (range_with_len 0 count))
+
+-- so many elements take 2 ^ 33 buckets at most
+bucket_count_few : (n : ℕ) → n < 2 ^ 32 → bucket_count n ≤ 2 ^ 33
+unfolding bucket_count
+bucket_count_few zero small = omega arith
+bucket_count_few (suc zero) small = omega arith
+bucket_count_few (suc (suc zero)) small = omega arith
+bucket_count_few (suc (suc (suc n))) small =
+    pow_mono (bucket_count_small (suc (suc (suc n))) (digit_count (10 * suc (suc (suc n)) / 7 - 1)) small (digit_count-least (10 * suc (suc (suc n)) / 7 - 1)) (omega arith))
 
 -- one row alone can be packed where the widths hold it
 one_packable : (shape : Shape) (widths : List ℕ) (row : Row) → IsWidthCount shape (length widths) → All (λ width. width ≤ 64) widths → FitsShape shape row → HoldsRow widths row

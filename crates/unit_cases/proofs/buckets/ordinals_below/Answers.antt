@@ -1,6 +1,6 @@
 use Rattle.std.proofs.Common.{◌∷◌, ◌++◌, [], ap, sym, ◌∙◌}
-use Rattle.bucket_codec.proofs.Generated.{range_more}
-use Rattle.bucket_codec.proofs.tests.ordinals_below.Goals as goal
+use Rattle.unit_cases.proofs.BucketRows.{range_more}
+use Rattle.unit_cases.proofs.buckets.ordinals_below.Goals as goal
 
 pub loop-ordinal-preserved : goal.loop-ordinal-preserved
 loop-ordinal-preserved c =

@@ -1,6 +1,6 @@
 use Rattle.std.proofs.Common.{◌∙◌}
-use Rattle.bucket_codec.proofs.Generated.{set_packable}
-use Rattle.bucket_codec.proofs.tests.set_back.Goals as goal
+use Rattle.unit_cases.proofs.BucketRows.{set_packable}
+use Rattle.unit_cases.proofs.buckets.set_back.Goals as goal
 
 pub read_back-requires : goal.read_back-requires
 read_back-requires c =

@@ -1,6 +1,6 @@
 use Rattle.std.proofs.Common.{◌∷◌, ◌++◌, [], ap, sym, arith, ◌∙◌}
 use Rattle.std.proofs.lemmas.List.FromFn.{map-range_with_len_more}
-use Rattle.bucket_codec.proofs.tests.pairs_below.Goals as goal
+use Rattle.unit_cases.proofs.buckets.pairs_below.Goals as goal
 
 pub loop-ordinal-preserved : goal.loop-ordinal-preserved
 loop-ordinal-preserved c =

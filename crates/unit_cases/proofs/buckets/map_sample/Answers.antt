@@ -1,5 +1,5 @@
-use Rattle.bucket_codec.proofs.Generated.{map_fits}
-use Rattle.bucket_codec.proofs.tests.map_sample.Goals as goal
+use Rattle.unit_cases.proofs.BucketRows.{map_fits}
+use Rattle.unit_cases.proofs.buckets.map_sample.Goals as goal
 
 pub sample_of-requires : goal.sample_of-requires
 sample_of-requires c = map_fits _ _ c.args.count c.in_ok-map_type.ensures c.in_ok-pairs_below.ensures c.ranges.count.fits

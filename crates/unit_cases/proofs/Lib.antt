@@ -1,0 +1,2 @@
+mod BucketRows
+mod Samples
