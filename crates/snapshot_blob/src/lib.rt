@@ -10,6 +10,3 @@ mod types;
 pub use body::{Body, read_body};
 pub use loaded::{Loaded, read_snapshot};
 pub use part::{TypePart, TypeParts};
-
-#[cfg(test)]
-mod tests;

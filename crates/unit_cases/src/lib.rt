@@ -12,4 +12,6 @@ mod models;
 #[cfg(test)]
 mod runs;
 #[cfg(test)]
+mod snapshots;
+#[cfg(test)]
 mod two_states;

@@ -1,8 +1,8 @@
-//! A test of the reader, over a snapshot of two rows.
-use super::read_snapshot;
+//! A snapshot of two rows that is read, and one that is not there.
 use blob_frame::BlobFault;
 use hol_io::{BlobName, BlobStore, SureStore};
 use schema_model::Rows;
+use snapshot_blob::read_snapshot;
 use std::test::Fail;
 
 /// A header, and a type with the one field `n`, an INT of 4 bits, and its rows under the ordinals 0 and 1.
