@@ -16,6 +16,3 @@ pub use program::{Keep, run};
 pub use refusal::{Refusal, RowPlace};
 pub use reply::{Reply, reply_line};
 pub use words::{Command, command_of};
-
-#[cfg(test)]
-mod tests;

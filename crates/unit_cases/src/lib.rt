@@ -10,6 +10,8 @@ mod copies;
 #[cfg(test)]
 mod models;
 #[cfg(test)]
+mod replies;
+#[cfg(test)]
 mod runs;
 #[cfg(test)]
 mod snapshots;

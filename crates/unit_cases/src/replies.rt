@@ -1,6 +1,6 @@
-//! What no clause says: that a command is answered where there is memory, and the texts of refusals.
-use crate::{Keep, Refusal, Reply, RowPlace, reply_line, run};
+//! A command that is answered, and the lines of refusals.
 use hol_io::{BlobName, MemSink, MemSource, MemStore};
+use hollow_top::{Keep, Refusal, Reply, RowPlace, reply_line, run};
 use schema_model::{Limit, Name, Reason};
 use std::alloc::Global;
 use std::test::Fail;
