@@ -8,6 +8,3 @@ mod set;
 
 pub use gaps::{GapFault, put_gaps, read_gaps};
 pub use set::OrdinalSet;
-
-#[cfg(test)]
-mod tests;

@@ -14,6 +14,8 @@ mod replies;
 #[cfg(test)]
 mod runs;
 #[cfg(test)]
+mod sets;
+#[cfg(test)]
 mod snapshots;
 #[cfg(test)]
 mod two_states;

@@ -2,7 +2,7 @@ use Rattle.std.proofs.Common.{◌≤◌, [], subst, sym, ap, ◌∙◌, arith}
 use Rattle.std.specs.Prelude.{All}
 use Rattle.std.proofs.lemmas.List.Elements.{All-nil, All-push}
 use Rattle.ordinal_set.specs.Ordinals.{with_ordinal, members_below}
-use Rattle.ordinal_set.proofs.tests.populations_written.Goals as goal
+use Rattle.unit_cases.proofs.sets.populations_written.Goals as goal
 
 pub put_population-requires-2 : goal.put_population-requires-2
 unfolding with_ordinal members_below

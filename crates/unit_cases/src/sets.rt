@@ -1,6 +1,6 @@
-//! Worked sets.
-use super::*;
+//! Sets of ordinals: their members, runs of gaps and populations.
 use hol_varint::Ordinals;
+use ordinal_set::{OrdinalSet, put_gaps, read_gaps};
 use std::test::Fail;
 
 #[test]
