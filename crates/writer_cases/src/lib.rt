@@ -4,4 +4,6 @@
 #[cfg(test)]
 mod chosen;
 #[cfg(test)]
+mod empty;
+#[cfg(test)]
 mod packed;
