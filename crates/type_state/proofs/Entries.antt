@@ -1,29 +1,25 @@
--- A map in memory and the rows that it stands for.
-use Rattle.std.proofs.Common.{◌≡◌, ℕ, ◌+◌, ◌<◌, ◌≤◌, List, [], ◌∷◌, ◌++◌, cond, Some, refl, ap, sym, subst, ◌∙◌, arith}
+-- Entries in memory and the rows that they stand for.
+use Rattle.std.proofs.Common.{◌≡◌, ℕ, zero, suc, ◌+◌, ◌<◌, ◌≤◌, List, [], ◌∷◌, ◌++◌, length, get_or, Some, None, Ok, Err, inl, inr, refl, ap, sym, subst, ◌∙◌, arith}
 use Rattle.std.specs.List.{AllByRecursion}
 use Rattle.std.specs.declared.cmp.Ordering.TheVariants.{Less, Greater}
 use Rattle.std.proofs.lemmas.List.{map-append}
-use Rattle.std.specs.Ordering.{is_eq, nat_cmp, match_ordering}
+use Rattle.std.specs.Ordering.{nat_cmp, ordering_index}
 use Rattle.std.specs.Cmp.{nat_cmp_total}
-use Rattle.std.specs.BTreeMap as tree
-use Rattle.std.specs.Map.{lookup}
 use Rattle.std.specs.FinMap as rows
 use Rattle.std.specs.FinMap.Entries.{put, by_order}
 use Rattle.std.specs.Map.{keys_of}
-use Rattle.std.specs.List.Sorted.{IsStrictlySortedBy}
-use Rattle.std.proofs.lemmas.List.{nil_from_length}
+use Rattle.std.specs.List.Sorted.{IsStrictlySortedBy, IsBinarySearchResult, IsNonDecreasingBy}
+use Rattle.std.proofs.lemmas.Cmp.{ranked}
+use Rattle.std.proofs.lemmas.Bool.{cases_lt}
+use Rattle.std.proofs.lemmas.Bool.Decides.{nat_tests}
+use Rattle.std.proofs.lemmas.List.Sorted.{IsNonDecreasingBy-from_default}
+use Rattle.std.proofs.lemmas.Map.Keys.{below_from_sorted}
+use Rattle.std.proofs.lemmas.List.{nil_from_length, get_or-map, length-map}
 use Rattle.schema_model.specs.declared.rows.row.Row.{Row}
+use Rattle.schema_model.proofs.RowEntries.{skips, finds}
 use Rattle.ordinal_set.specs.Ordinals.{bound_of}
 use Rattle.type_state.specs.State.{rows_of}
 use Rattle.type_state.specs.Entries.{IsKept}
-
-find_same : (o : ℕ) (entries : List (ℕ × Row)) → rows.find nat_cmp o entries ≡ lookup (tree.is_at (nat_cmp o)) entries
-find_same o [] = refl
-find_same o (e ∷ es) = ap (λ rest. cond (is_eq (nat_cmp o e.0)) (Some e.1) rest) (find_same o es)
-
--- The row under an ordinal is what the map has there.
-pub get_same : (o : ℕ) (entries : List (ℕ × Row)) → rows.get (rows_of entries) o ≡ lookup (tree.is_at (nat_cmp o)) entries
-get_same o entries = rows.get-from_entries nat_cmp_total entries o ∙ find_same o entries
 
 pub no_entry : rows.entries (rows.empty {X = Row} {R = nat_cmp}) ≡ []
 no_entry = nil_from_length _ (sym (rows.len-entries rows.empty) ∙ rows.len-empty nat_cmp Row)
@@ -45,7 +41,7 @@ rows_of_none entries none = ap rows_of none
 
 pub kept_none : (bound : ℕ) (entries : List (ℕ × Row)) → bound ≡ 0 → entries ≡ [] → IsKept bound entries
 unfolding bound_of IsStrictlySortedBy
-kept_none bound entries zero none = subst (λ es. IsKept bound es) (sym none) record { rising = tt; bounded = zero }
+kept_none bound entries least none = subst (λ es. IsKept bound es) (sym none) record { rising = tt; bounded = least }
 
 -- The ordinals of the entries are those of the rows.
 pub kept_keys : (bound : ℕ) (es : List (ℕ × Row)) → IsKept bound es → rows.keys (rows_of es) ≡ keys_of es
@@ -75,29 +71,78 @@ unfolding bound_of IsStrictlySortedBy
 rising_last [] o rising above = (tt, tt)
 rising_last (k ∷ os) o rising above = (all_last k os o rising.0 (omega arith), rising_last os o rising.1 (omega arith))
 
-insert_last : (es : List (ℕ × Row)) (o : ℕ) (row : Row) → bound_of (keys_of es) ≤ o → tree.insert_entry nat_cmp es o row ≡ es ++ (o, row) ∷ []
-unfolding bound_of
-insert_last [] o row above = refl
-insert_last (e ∷ es) o row above =
-    ap (λ r. match_ordering r ((o, row) ∷ e ∷ es) ((e.0, row) ∷ es) (e ∷ tree.insert_entry nat_cmp es o row)) (greater o e.0 (omega arith))
-    ∙ ap (λ rest. e ∷ rest) (insert_last es o row (omega arith))
-
--- The entries with one more row, under an ordinal above the others.
-put_last : (bound after o : ℕ) (es new : List (ℕ × Row)) (row : Row) → IsKept bound es → bound_of (rows.keys (rows_of es)) ≤ o → new ≡ tree.insert_entry nat_cmp es o row → new ≡ es ++ (o, row) ∷ []
-put_last bound after o es new row kept above is =
-    is ∙ insert_last es o row (subst (λ os. bound_of os ≤ o) (kept_keys bound es kept) above)
-
-pub kept_push : (bound after o : ℕ) (es new : List (ℕ × Row)) (row : Row) → IsKept bound es → bound_of (rows.keys (rows_of es)) ≤ o → new ≡ tree.insert_entry nat_cmp es o row → after ≡ o + 1 → IsKept after new
+pub kept_push : (bound after o : ℕ) (es new : List (ℕ × Row)) (row : Row) → IsKept bound es → bound_of (rows.keys (rows_of es)) ≤ o → new ≡ es ++ (o, row) ∷ [] → after ≡ o + 1 → IsKept after new
 kept_push bound after o es new row kept above is next =
     let low : bound_of (keys_of es) ≤ o = subst (λ os. bound_of os ≤ o) (kept_keys bound es kept) above in
-    let more : keys_of new ≡ keys_of es ++ o ∷ [] = ap keys_of (put_last bound after o es new row kept above is) ∙ map-append (λ e. e.0) es ((o, row) ∷ []) in
+    let more : keys_of new ≡ keys_of es ++ o ∷ [] = ap keys_of is ∙ map-append (λ e. e.0) es ((o, row) ∷ []) in
     record {
       rising = subst (IsStrictlySortedBy nat_cmp) (sym more) (rising_last (keys_of es) o kept.rising low);
       bounded = next ∙ sym (ap bound_of more ∙ bound_last (keys_of es) o low);
     }
 
-pub entries_push : (bound after o : ℕ) (es new : List (ℕ × Row)) (row : Row) → IsKept bound es → bound_of (rows.keys (rows_of es)) ≤ o → new ≡ tree.insert_entry nat_cmp es o row → after ≡ o + 1
+pub entries_push : (bound after o : ℕ) (es new : List (ℕ × Row)) (row : Row) → IsKept bound es → bound_of (rows.keys (rows_of es)) ≤ o → new ≡ es ++ (o, row) ∷ [] → after ≡ o + 1
     → rows.entries (rows_of new) ≡ rows.entries (rows_of es) ++ (o, row) ∷ []
 entries_push bound after o es new row kept above is next =
-    kept_entries new (kept_push bound after o es new row kept above is next).rising ∙ put_last bound after o es new row kept above is
+    kept_entries new (kept_push bound after o es new row kept above is next).rising ∙ is
     ∙ ap (λ all. all ++ (o, row) ∷ []) (sym (kept_entries es kept.rising))
+
+-- ---- looking up an ordinal
+
+lower : (k m : ℕ) → nat_cmp k m ≡ Less → k < m
+lower k m less = ranked k m Less (sym less)
+
+above_first : (k : ℕ) (es : List (ℕ × Row)) (at : ℕ) (d : ℕ × Row) → AllByRecursion (λ m. nat_cmp k m ≡ Less) (keys_of es) → at < length es → k < (get_or es at d).0
+above_first k [] at d all inside = absurd (omega arith)
+above_first k (e ∷ es) zero d all inside = lower k e.0 all.0
+above_first k (e ∷ es) (suc at) d all inside = above_first k es at d all.1 (omega arith)
+
+-- what an entry has under its ordinal is what the rows have there
+found_at : (es : List (ℕ × Row)) (o at : ℕ) (d : ℕ × Row) → IsStrictlySortedBy nat_cmp (keys_of es) → at < length es → (get_or es at d).0 ≡ o → rows.find nat_cmp o es ≡ Some (get_or es at d).1
+unfolding IsStrictlySortedBy
+found_at [] o at d sorted inside is = absurd (omega arith)
+found_at (e ∷ es) o zero d sorted inside is = subst (λ q. rows.find nat_cmp q (e ∷ es) ≡ Some e.1) is (finds e es)
+found_at (e ∷ es) o (suc at) d sorted inside is =
+    let above : e.0 < (get_or es at d).0 = above_first e.0 es at d sorted.0 (omega arith) in
+    skips o e es (λ same. omega (arith, same, is, above)) ∙ found_at es o at d sorted.1 (omega arith) is
+
+-- where no entry has the ordinal, no row is under it
+absent : (es : List (ℕ × Row)) (o : ℕ) (d : ℕ × Row) → ((at : ℕ) → at < length es → (get_or es at d).0 ≡ o → ⊥) → rows.find nat_cmp o es ≡ None
+absent [] o d none = refl
+absent (e ∷ es) o d none = skips o e es (λ same. none 0 (omega arith) (sym same)) ∙ absent es o d (λ at inside. none (suc at) (omega arith))
+
+keys_rise : (es : List (ℕ × Row)) (i j : ℕ) (d : ℕ × Row) → IsStrictlySortedBy nat_cmp (keys_of es) → i < j → j < length es → (get_or es i d).0 < (get_or es j d).0
+keys_rise es i j d sorted before inside =
+    let low = get_or-map (λ (e : ℕ × Row). e.0) es i d 0 (omega arith) in
+    let high = get_or-map (λ (e : ℕ × Row). e.0) es j d 0 inside in
+    let long = length-map es (λ (e : ℕ × Row). e.0) in
+    let rise = below_from_sorted (keys_of es) i j 0 sorted before (omega (arith, long, inside)) in
+    omega (arith, rise, low, high)
+
+-- the comparisons with an ordinal rise along the entries, as a binary search asks
+comparisons_rise : (es : List (ℕ × Row)) (o : ℕ) (d : ℕ × Row) → IsStrictlySortedBy nat_cmp (keys_of es) → IsNonDecreasingBy (λ e. ordering_index (nat_cmp e.0 o)) es
+comparisons_rise es o d sorted = IsNonDecreasingBy-from_default (λ e. ordering_index (nat_cmp e.0 o)) es d (λ i j le inside.
+    let rise : (get_or es i d).0 ≤ (get_or es j d).0 = grind (arith, keys_rise es i j d sorted, λ (same : i ≡ j). ap (λ k. (get_or es k d).0) same) in
+    grind (arith, nat_tests))
+
+-- What a binary search of the entries tells of the rows, where it finds a place, and where it finds none.
+pub found_in : (es seen : List (ℕ × Row)) (o at : ℕ) (d : ℕ × Row) → seen ≡ es → IsStrictlySortedBy nat_cmp (keys_of es) → at < length seen → IsBinarySearchResult (λ e. nat_cmp e.0 o) seen (Ok at)
+    → rows.get (rows_of es) o ≡ Some (get_or seen at d).1
+found_in es seen o at d same sorted inside equal =
+    let sorted_seen = subst (λ (all : List (ℕ × Row)). IsStrictlySortedBy nat_cmp (keys_of all)) (sym same) sorted in
+    ap (λ (all : List (ℕ × Row)). rows.get (rows_of all) o) (sym same)
+    ∙ rows.get-from_entries nat_cmp_total seen o
+    ∙ found_at seen o at d sorted_seen inside (ranked _ o _ (sym (equal d)))
+
+pub missed_in : (es seen : List (ℕ × Row)) (o gap : ℕ) → seen ≡ es → IsStrictlySortedBy nat_cmp (keys_of es) → gap ≤ length seen → IsBinarySearchResult (λ e. nat_cmp e.0 o) seen (Err gap)
+    → rows.get (rows_of es) o ≡ None
+missed_in es seen o gap same sorted inside parted =
+    let d : ℕ × Row = (0, Row.List []) in
+    let sorted_seen = subst (λ (all : List (ℕ × Row)). IsStrictlySortedBy nat_cmp (keys_of all)) (sym same) sorted in
+    let parts = parted (comparisons_rise seen o d sorted_seen) in
+    ap (λ (all : List (ℕ × Row)). rows.get (rows_of all) o) (sym same)
+    ∙ rows.get-from_entries nat_cmp_total seen o
+    ∙ absent seen o d (λ at within is.
+    elim (cases_lt at gap) [
+      | inl before ↦ (let below : (get_or seen at d).0 < o = ranked _ o _ (sym (parts.0 at d (omega arith) before)) in omega (arith, below, is))
+      | inr after ↦ (let above : o < (get_or seen at d).0 = ranked _ o _ (sym (parts.1 at d after within)) in omega (arith, above, is))
+    ])

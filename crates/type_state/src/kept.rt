@@ -1,5 +1,5 @@
 //! One half of a type's state: the rows of the type in one state, and their layout.
-ghost use Rattle.std.specs.Prelude.{◌≡◌, ◌↔◌, ◌+◌, ◌^◌, ◌<◌, ◌≤◌, ◌∷◌, ◌++◌, [], Some, IsSome, IfOk, IsTrue, OnOk};
+ghost use Rattle.std.specs.Prelude.{◌≡◌, ◌↔◌, ◌+◌, ◌^◌, ◌<◌, ◌≤◌, ◌∷◌, ◌++◌, [], Some, None, IsSome, IfOk, IsTrue, MatchOption, OnOk};
 ghost use Rattle.std.specs.List.{Contains};
 ghost use Rattle.std.specs.FinMap.{get, keys, entries, empty};
 ghost use Rattle.ordinal_set.specs.Ordinals.{bound_of};
@@ -11,7 +11,6 @@ use crate::lookup::{at, has};
 use hol_varint::Duplicate;
 use schema_model::{Row, Widths};
 use std::alloc::{AllocError, Global};
-use std::collections::BTreeMap;
 use std::marker::Model;
 
 /// The rows of a type in one state, with their layout.
@@ -23,8 +22,8 @@ pub(crate) struct Kept {
     widths: Widths,
     /// One past the greatest live ordinal, 0 for none.
     bound: u32,
-    /// The rows, by ordinal.
-    rows: BTreeMap<u32, Row>,
+    /// The rows, each with its ordinal, by rising ordinal.
+    entries: Vec<(u32, Row)>,
 }
 
 impl Model for Kept {
@@ -35,14 +34,14 @@ impl Model for Kept {
 
     ghost coded = { half_code };
 
-    ghost view = { λ kept. record { layout = record { max = kept.max; widths = kept.widths }; rows = rows_of kept.rows.entries } };
+    ghost view = { λ kept. record { layout = record { max = kept.max; widths = kept.widths }; rows = rows_of kept.entries.items } };
 
-    ghost invariant = { λ kept. IsKept kept.bound kept.rows.entries };
+    ghost invariant = { λ kept. IsKept kept.bound kept.entries.items };
 }
 
 impl Kept {
     /// No rows at a layout. It takes no memory.
-    #[tactic(auto, using(crate::proofs::Entries::kept_none, crate::proofs::Entries::rows_of_none))]
+    #[tactic(auto, using(crate::proofs::Entries::rows_of_none))]
     pub(crate) fn new(alloc: Global, max: Option<u32>, widths: Widths) -> Kept
         ensures { result ≡ record { layout = record { max = max; widths = widths }; rows = empty } }
     {
@@ -50,7 +49,7 @@ impl Kept {
             max,
             widths,
             bound: 0,
-            rows: BTreeMap::new(alloc),
+            entries: Vec::new(alloc),
         }
     }
 
@@ -68,7 +67,7 @@ impl Kept {
         ensures rows { OnOk result (entries self.new.rows ≡ entries self.old.rows ++ (ordinal, row) ∷ []) }
         ensures layout { self.new.layout ≡ self.old.layout }
     {
-        self.rows.insert(ordinal, row)?;
+        self.entries.push((ordinal, row))?;
         self.bound = ordinal + 1;
         Ok(())
     }
@@ -87,43 +86,50 @@ impl Kept {
         self.bound
     }
 
+    /// The row under the ordinal, if there is one.
+    fn find(&self, ordinal: u32) -> Option<&Row>
+        ensures { MatchOption result (get self.now.rows ordinal ≡ None) (λ row. get self.now.rows ordinal ≡ Some row.now) }
+    {
+        let entries = self.entries.as_slice();
+        match entries.binary_search_by_key(&ordinal, |entry| entry.0) {
+            Ok(at) => Some(&entries[at].1),
+            Err(_) => None,
+        }
+    }
+
     /// Whether there is a row under the ordinal.
-    #[tactic(auto, using(crate::proofs::Entries::get_same))]
     pub(crate) fn is_live(&self, ordinal: u32) -> bool
         ensures { IsTrue result ↔ IsSome (get self.now.rows ordinal) }
     {
-        self.rows.contains_key(&ordinal)
+        self.find(ordinal).is_some()
     }
 
     /// A copy of the row under the ordinal.
-    #[tactic(auto, using(crate::proofs::Entries::get_same))]
     pub(crate) fn row(&self, alloc: Global, ordinal: u32) -> Result<Row, AllocError>
         requires { IsSome (get self.now.rows ordinal) }
         ensures { IfOk result (λ row. get self.now.rows ordinal ≡ Some row) }
     {
-        match self.rows.get(&ordinal) {
+        match self.find(ordinal) {
             Some(row) => row.copy(alloc),
             None => unreachable!(),
         }
     }
 
     /// Whether the set under the ordinal has the element.
-    #[tactic(auto, using(crate::proofs::Entries::get_same))]
     pub(crate) fn has(&self, ordinal: u32, element: u32) -> bool
         ensures { IsTrue result ↔ Contains (elements_of (get self.now.rows ordinal)) element }
     {
-        match self.rows.get(&ordinal) {
+        match self.find(ordinal) {
             Some(row) => has(row, element),
             None => false,
         }
     }
 
     /// The value that the map under the ordinal has beside the key.
-    #[tactic(auto, using(crate::proofs::Entries::get_same))]
     pub(crate) fn at(&self, ordinal: u32, key: u32) -> Option<u32>
         ensures { FindsIn (pairs_of (get self.now.rows ordinal)) key result }
     {
-        match self.rows.get(&ordinal) {
+        match self.find(ordinal) {
             Some(row) => at(row, key),
             None => None,
         }

@@ -5,4 +5,4 @@ use Rattle.type_state.proofs.Entries.{kept_bound}
 use Rattle.type_state.proofs.kept.Kept.bound.Goals as goal
 
 pub returns : goal.returns
-returns c = kept_bound c.self.inside.bound c.self.inside.rows.entries c.self.invariant ∙ ap (λ half. bound_of (keys half.rows)) c.self.view_is
+returns c = kept_bound c.self.inside.bound c.self.inside.entries.items c.self.invariant ∙ ap (λ half. bound_of (keys half.rows)) c.self.view_is
