@@ -4,8 +4,6 @@
 #[cfg(test)]
 mod blobs;
 #[cfg(test)]
-mod buckets;
-#[cfg(test)]
 mod copies;
 #[cfg(test)]
 mod models;

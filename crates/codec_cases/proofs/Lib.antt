@@ -1,0 +1,5 @@
+mod BucketRows
+pub mod Columns
+pub mod EmptyRows
+pub mod OneState
+mod Samples

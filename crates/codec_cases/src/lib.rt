@@ -1,0 +1,11 @@
+//! Worked cases of the codecs: what they read, what they choose for the rows of states, and what they pack. Nothing stands on this crate.
+#![tactic(auto)]
+
+#[cfg(test)]
+mod buckets;
+#[cfg(test)]
+mod chosen;
+#[cfg(test)]
+mod empty;
+#[cfg(test)]
+mod packed;

@@ -1,2 +1,0 @@
-mod BucketRows
-mod Samples
