@@ -17,7 +17,7 @@ usage: hollow FOLDER run | head NAME | show NAME | make SEED ROWS CYCLES
 FOLDER holds blobs under the names snapshot-V, delta-U-V, reversedelta-V-U and announced.version.
 
   head NAME    the header of a snapshot, a delta or a reverse delta, as one line of JSON
-  show NAME    the rows of a snapshot whose types are records, one line of JSON each
+  show NAME    the rows of a snapshot, one line of JSON each
 
 not built yet:
 
