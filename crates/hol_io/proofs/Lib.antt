@@ -1,6 +1,11 @@
+mod Ahead
+mod Cutting
 mod EntryLemmas
+mod Finding
 mod Fronts
 mod NameKinds
 mod NameOrder
 mod Pieces
 mod Texts
+mod Told
+mod Windows

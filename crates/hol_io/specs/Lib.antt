@@ -2,6 +2,9 @@ pub mod Buffer
 pub mod Calls
 pub mod Causes
 pub mod Entries
+pub mod Lines
 pub mod Memory
 pub mod Name
 pub mod Store
+pub mod Turn
+pub mod Window

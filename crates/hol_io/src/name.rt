@@ -50,7 +50,7 @@ fn read_name(text: &str) -> Option<BlobName>
         return Some(BlobName::Announced);
     }
     if let Some(rest) = text_after(text, "snapshot-") {
-        return Some(BlobName::Snapshot(version(rest)?));
+        return Some(BlobName::Snapshot(parse_version(rest)?));
     }
     if let Some(rest) = text_after(text, "delta-") {
         let (from, to) = step(rest)?;
@@ -89,9 +89,10 @@ fn first_byte(text: &str) -> u8
     }
 }
 
-// A version in decimal, without leading zeros.
+/// The version that a text is, in decimal without leading zeros, or `None` exactly where it is that of no version: a
+/// version is a number from 1 to 2^63 - 1.
 #[tactic(auto, using(crate::proofs::Texts::version_first))]
-fn version(text: &str) -> Option<u64>
+pub fn parse_version(text: &str) -> Option<u64>
     ensures { TellsVersion text.now result }
 {
     if first_byte(text) < b'1' {
@@ -110,7 +111,7 @@ fn step(text: &str) -> Option<(u64, u64)>
     ensures { TellsStep text.now result }
 {
     let (from, to) = text.split_once('-')?;
-    let from = version(from)?;
-    let to = version(to)?;
+    let from = parse_version(from)?;
+    let to = parse_version(to)?;
     Some((from, to))
 }

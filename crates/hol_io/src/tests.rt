@@ -1,8 +1,13 @@
 //! What no clause says: names from outside, and that each call can succeed.
+ghost use Rattle.std.specs.Prelude.{◌≡◌, ◌<◌};
+
 use crate::{
-    BlobName, BlobStore, MemSink, MemSource, MemStore, PutFault, ReadFailed, Sink, Source,
-    SureStore, WriteFailed, name_text, parse_name, write_all,
+    BlobName, BlobStore, LineFault, Lines, MemSink, MemSource, MemStore, PutFault, ReadFailed,
+    Sink, Source, Steps, SureStore, Turn, WriteFailed, name_text, parse_name, write_all,
 };
+use std::alloc::{AllocError, Global};
+use std::marker::Brand;
+use std::sync::ledger::{Blank, Ledger};
 
 #[test]
 fn reads_and_writes_names(rt: HostRuntime) {
@@ -87,4 +92,70 @@ fn moves_bytes(rt: HostRuntime) {
     let mut sink = MemSink::new(rt.alloc(), 4, 3, fails).expect(&rt, "memory");
     assert!(rt; write_all(&mut sink, b"hello") == Err(WriteFailed));
     assert!(rt; sink.bytes() == b"hell".as_slice());
+}
+
+// Reads an input in lines, until its end or past its budget, and writes each line and a `;`, `+` for
+// one that is too long, `!` for a failed read, and at last `.` or `>`.
+fn lines_of(alloc: Global, input: &str, fails: &[u64], budget: u64) -> Result<String, AllocError> {
+    let bytes = Vec::from_slice(alloc, input.as_bytes())?;
+    let mut source = MemSource::new(bytes, 3, Vec::from_slice(alloc, fails)?);
+    let mut lines = Lines::new(alloc, 4, budget)?;
+    let mut told = String::new(alloc);
+    for _ in 0..100 {
+        match lines.next(&mut source) {
+            Ok(Turn::Line) => {
+                for byte in lines.line() {
+                    told.push(*byte as char)?;
+                }
+                told.push(';')?;
+            }
+            Ok(Turn::Long) => told.push('+')?,
+            Ok(Turn::End) => {
+                told.push('.')?;
+                break;
+            }
+            Ok(Turn::Over) => {
+                told.push('>')?;
+                break;
+            }
+            Err(LineFault::Read) => told.push('!')?,
+            Err(LineFault::Memory) => return Err(AllocError),
+        }
+    }
+    Ok(told)
+}
+
+#[test]
+fn cuts_lines(rt: HostRuntime) {
+    for (input, budget, told) in [
+        ("ab\n\nabcde\n", 8, "ab;>"),
+        ("ab\n\nabcde\n", 10, "ab;+."),
+        ("ab\n\nabcde\n", 9, "ab;>"),
+        ("ab\n\nabcde", 9, "ab;+."),
+        ("abcd\nabcd", 9, "abcd;abcd;."),
+        ("\n\n\nx", 4, "x;."),
+        ("x\n", 1, ">"),
+        ("", 0, "."),
+        ("\n", 0, ">"),
+    ] {
+        let found = lines_of(rt.alloc(), input, &[], budget).expect(&rt, "memory");
+        assert!(rt; found.as_str() == told, "{input} {budget}");
+    }
+    let found = lines_of(rt.alloc(), "ab\nabcdefgh\nc", &[2, 4], 100).expect(&rt, "memory");
+    assert!(rt; found.as_str() == "ab;!!+c;.");
+}
+
+// Counts one step, which nothing reads.
+fn counts<L: Ledger>(blank: Blank)
+    requires name { blank.name ≡ L.name }
+    requires parts { blank.parts ≡ L.parts }
+    requires some { 0 < blank.parts }
+{
+    let mut steps = Steps::<L>::new(blank);
+    steps.tick();
+}
+
+#[test]
+fn counts_steps(_rt: HostRuntime) {
+    counts::<Brand>(Blank::new(1));
 }

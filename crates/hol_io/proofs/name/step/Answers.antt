@@ -10,12 +10,12 @@ returns-in_err-from c =
 pub returns-in_err-from-2 : goal.returns-in_err-from-2
 returns-in_err-from-2 c =
     subst (TellsStep c.args.text.now) (sym c.from_residual-in_err-from-2.ensures)
-    (no_first c.args.text.now c.split_once.result c.in_ok-from.from c.in_ok-from.to c.version.result c.split_once.ensures.cases c.in_ok-from.was c.version.ensures c.in_err-from-2.was)
+    (no_first c.args.text.now c.split_once.result c.in_ok-from.from c.in_ok-from.to c.parse_version.result c.split_once.ensures.cases c.in_ok-from.was c.parse_version.ensures c.in_err-from-2.was)
 
 pub returns-in_err-to : goal.returns-in_err-to
 returns-in_err-to c =
     subst (TellsStep c.args.text.now) (sym c.from_residual-in_err-to.ensures)
-    (no_second c.args.text.now c.split_once.result c.in_ok-from.from c.in_ok-from.to c.version-2.result c.split_once.ensures.cases c.in_ok-from.was c.version-2.ensures c.in_err-to.was)
+    (no_second c.args.text.now c.split_once.result c.in_ok-from.from c.in_ok-from.to c.parse_version-2.result c.split_once.ensures.cases c.in_ok-from.was c.parse_version-2.ensures c.in_err-to.was)
 
 pub returns : goal.returns
 returns c =

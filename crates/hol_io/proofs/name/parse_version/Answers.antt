@@ -1,7 +1,7 @@
 use Rattle.std.proofs.Common.{None, Some, sym, ◌∙◌, subst, arith}
 use Rattle.hol_io.specs.Name.{TellsVersion}
 use Rattle.hol_io.proofs.Texts.{number_told}
-use Rattle.hol_io.proofs.name.version.Goals as goal
+use Rattle.hol_io.proofs.name.parse_version.Goals as goal
 
 pub returns-in_err-version : goal.returns-in_err-version
 returns-in_err-version c =
