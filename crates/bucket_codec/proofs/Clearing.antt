@@ -6,6 +6,7 @@ use Rattle.bucket_codec.specs.Run.{bucket_in, value_in, IsPairInRange, IsZeroIfE
 use Rattle.bucket_codec.specs.Filled.{KeepsFront, KeepsBack, FillsRun}
 use Rattle.bucket_codec.proofs.Writing.{kept_both, empty_more, all_empty}
 use Rattle.bucket_codec.proofs.Behind.{back_both, zeros_more}
+use Rattle.bucket_codec.proofs.Inserts.{inserted_none}
 
 -- the first so many buckets are empty, with the value 0, and no bit outside the run has changed
 pub record IsCleared (old new : List ℕ) (k v start size place : ℕ) : Type 0 where
@@ -30,6 +31,7 @@ cleared_more old mid new k v start size place inside done none zero others front
 pub cleared_all : (old new : List ℕ) (k v start size place : ℕ) → size ≤ place → IsCleared old new k v start size place → FillsRun old new k v start size []
 cleared_all old new k v start size place all done = record {
   filled = all_empty new k v start size place all done.empty;
+  laid = inserted_none (bucket_in new k v) start size (λ index above below. done.empty index above (omega arith));
   ranges = All-nil IsPairInRange;
   zeros = λ index above below. done.zeros index above (omega arith);
   front = done.front;

@@ -5,9 +5,11 @@ use Rattle.std.proofs.lemmas.List.Elements.{All-get_or, All-push}
 use Rattle.std.proofs.lemmas.List.Sorted.{length_permutation}
 use Rattle.bucket_codec.specs.Run.{Bucket, run_in, taken_of, IsPairInRange, IsZeroIfEmpty}
 use Rattle.bucket_codec.specs.Filled.{KeepsFront, KeepsBack, IsFilled, FillsRun}
+use Rattle.bucket_codec.specs.Inserted.{with_pair}
 use Rattle.bucket_codec.specs.Packed.{set_pair}
 use Rattle.bucket_codec.proofs.Writing.{kept_both}
 use Rattle.bucket_codec.proofs.Behind.{back_both}
+use Rattle.bucket_codec.proofs.Inserts.{inserted_more}
 
 -- there is room where the pairs put in are fewer than the buckets
 pub has_room : (run : List Bucket) (pairs : List (ℕ × ℕ)) (size : ℕ) → IsFilled run pairs → length pairs < size → length (taken_of run) < size
@@ -16,10 +18,12 @@ has_room run pairs size filled few = omega (arith, length_permutation (taken_of 
 -- one more pair
 pub fill_more : (old mid new : List ℕ) (k v start size : ℕ) (before after : List (ℕ × ℕ)) (key value : ℕ) → after ≡ before ++ (key, value) ∷ [] → IsPairInRange (key, value)
     → FillsRun old mid k v start size before → ((pairs : List (ℕ × ℕ)) → IsFilled (run_in mid k v start size) pairs → IsFilled (run_in new k v start size) (pairs ++ (key, value) ∷ []))
+    → run_in new k v start size ≡ with_pair (run_in mid k v start size) (key, value)
     → ((index : ℕ) → IsZeroIfEmpty mid k v index → IsZeroIfEmpty new k v index) → KeepsFront mid new (start * (k + v)) → KeepsBack mid new ((start + size) * (k + v))
     → FillsRun old new k v start size after
-fill_more old mid new k v start size before after key value is fits done filled zeros front back = record {
+fill_more old mid new k v start size before after key value is fits done filled laid zeros front back = record {
   filled = subst (λ l. IsFilled (run_in new k v start size) l) (sym is) (filled before done.filled);
+  laid = inserted_more size before after (key, value) (run_in mid k v start size) (run_in new k v start size) is done.laid laid;
   ranges = subst (λ l. All IsPairInRange l) (sym is) (All-push IsPairInRange before (key, value) done.ranges fits);
   zeros = λ index above below. zeros index (done.zeros index above below);
   front = kept_both old mid new (start * (k + v)) (start * (k + v)) (start * (k + v)) done.front front (omega arith) (omega arith);

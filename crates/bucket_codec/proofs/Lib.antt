@@ -9,6 +9,7 @@ mod Found
 mod TakenPairs
 mod Spelled
 mod Filling
+mod Inserts
 mod Writing
 mod Behind
 mod Clearing
@@ -16,3 +17,5 @@ mod Fills
 mod Rows
 mod Placed
 pub mod PlaceRows
+pub mod SameWords
+mod OnePacking

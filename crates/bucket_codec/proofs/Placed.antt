@@ -8,6 +8,7 @@ use Rattle.std.proofs.lemmas.List.Elements.{All-get_or, All-weaker}
 use Rattle.std.proofs.lemmas.List.Sums.{sum_by_more, sum_by-take-le}
 use Rattle.std.proofs.lemmas.Option.{get_or_from_slice_get, slice_get_within}
 use Rattle.std.proofs.lemmas.List.{get_or_past, get_or_default, take_all}
+use Rattle.bit_array.specs.Element.{words_of}
 use Rattle.schema_model.specs.Row.{Rises, FitsShape}
 use Rattle.schema_model.specs.declared.schema.Shape.{Shape}
 use Rattle.schema_model.specs.declared.rows.row.Row.{Row}
@@ -15,8 +16,9 @@ use Rattle.bucket_codec.specs.BucketCount.{IsBucketCount, bucket_count}
 use Rattle.bucket_codec.specs.Run.{run_in, keys_of, HoldsRun, IsPairInRange, IsZeroIfEmpty}
 use Rattle.bucket_codec.specs.Filled.{KeepsFront, KeepsBack, IsFilled}
 use Rattle.bucket_codec.specs.BucketPlace.{pointer_width, key_width, value_width, place_width, bucket_width, start_at, end_at, size_at, SpellsPairs, IsRowOf, IsWidthCount}
-use Rattle.bucket_codec.specs.Packed.{set_pair, pairs_of, buckets_of, bucket_total, IsWritable, IsPackableRow, IsPackable, PacksPairs, PacksPlace, PacksRows}
-use Rattle.bucket_codec.proofs.Rows.{count_power, pairs_spelled, start_stays, packs_stay, zero_kept}
+use Rattle.bucket_codec.specs.Packed.{set_pair, pairs_of, buckets_of, bucket_total, IsWritable, IsPackableRow, IsPackable, PacksPairs, PacksPlace, PacksRows, LaysRun, LaysRuns, HasZeros}
+use Rattle.bucket_codec.specs.Inserted.{inserted}
+use Rattle.bucket_codec.proofs.Rows.{count_power, run_at_is, pairs_spelled, start_stays, packs_stay, lays_stay, zero_kept}
 use Rattle.bucket_codec.proofs.Behind.{back_both}
 
 -- a place without a row
@@ -45,6 +47,25 @@ packs_some widths first0 first1 second place start size count vw (Some q) r is w
       pairs_spelled widths first1 second place start size (pairs_of q) stays ends (sized ∙ sym number) held (count_power count size counted) (omega (arith, number)) full
           (subst (λ (x : Row). All IsPairInRange (pairs_of x)) same ranges) writable.1,
     )
+
+-- where its run is
+pub lays_none : (widths first second : List ℕ) (place : ℕ) (row : Option Row) → row ≡ None → LaysRun widths first second place row
+lays_none widths first second place None is = tt
+lays_none widths first second place (Some row) is = absurd cc
+
+pub lays_some : (widths first0 first1 second : List ℕ) (place start size count vw : ℕ) (row : Option Row) (r : Row) → row ≡ Some r → start_at widths first0 place ≡ start
+    → KeepsFront first0 first1 (place * place_width widths) → end_at widths first1 place ≡ start + size → count ≡ length (pairs_of r) → size ≡ bucket_count count → vw ≡ value_width widths
+    → run_in second (key_width widths) vw start size ≡ inserted size (pairs_of r) → LaysRun widths first1 second place row
+lays_some widths first0 first1 second place start size count vw None r is starts kept ends long count_is value laid = absurd cc
+lays_some widths first0 first1 second place start size count vw (Some q) r is starts kept ends long count_is value laid =
+    let same : r ≡ q = let e : q ≡ r = cc in sym e in
+    let buckets : size ≡ bucket_count (length (pairs_of q)) = count_is ∙ ap bucket_count (long ∙ ap (λ (x : Row). length (pairs_of x)) same) in
+    let stays : start_at widths first1 place ≡ start = start_stays widths first0 first1 (place * place_width widths) place kept (omega arith) ∙ starts in
+    run_at_is widths first1 second place start size stays ends
+    ∙ ap (λ v. run_in second (key_width widths) v start size) (sym value)
+    ∙ laid
+    ∙ ap (λ n. inserted n (pairs_of r)) buckets
+    ∙ ap (λ (x : Row). inserted (bucket_count (length (pairs_of q))) (pairs_of x)) same
 
 -- each width has at most 64 bits, one that is not there 0
 narrow_any : (widths : List ℕ) (index : ℕ) → All (λ width. width ≤ 64) widths → get_or widths index 0 ≤ 64
@@ -79,16 +100,17 @@ pub record IsBegun (widths : List ℕ) (rows : List (Option Row)) (first0 second
   pub long : length first ≡ length first0
   pub wide : length second ≡ length second0
   pub packs : (place : ℕ) → place < index → PacksPairs widths end first second place (get_or rows place None)
+  pub laid : (place : ℕ) → place < index → LaysRun widths first second place (get_or rows place None)
   pub zeros : (bucket : ℕ) → bucket < end → IsZeroIfEmpty second (key_width widths) (value_width widths) bucket
   pub back : KeepsBack first0 first (index * place_width widths)
   pub wide_back : KeepsBack second0 second (end * bucket_width widths)
 
 pub begun_more : (widths : List ℕ) (rows : List (Option Row)) (first0 second0 first1 second1 first2 second2 : List ℕ) (index end next : ℕ) (row : Option Row) → index < length rows
     → row ≡ get_or rows index None → IsBegun widths rows first0 second0 first1 second1 index end → next ≡ end + buckets_of row → end_at widths first2 index ≡ next
-    → PacksPairs widths next first2 second2 index row → KeepsFront first1 first2 (index * place_width widths) → KeepsFront second1 second2 (end * bucket_width widths)
+    → PacksPairs widths next first2 second2 index row → LaysRun widths first2 second2 index row → KeepsFront first1 first2 (index * place_width widths) → KeepsFront second1 second2 (end * bucket_width widths)
     → ((bucket : ℕ) → end ≤ bucket → bucket < next → IsZeroIfEmpty second2 (key_width widths) (value_width widths) bucket) → KeepsBack first1 first2 ((index + 1) * place_width widths)
     → KeepsBack second1 second2 (next * bucket_width widths) → IsBegun widths rows first0 second0 first2 second2 (index + 1) next
-begun_more widths rows first0 second0 first1 second1 first2 second2 index end next row below is begun next_is pointer packs kept kept' zeros back back' = record {
+begun_more widths rows first0 second0 first1 second1 first2 second2 index end next row below is begun next_is pointer packs laid kept kept' zeros back back' = record {
   ends =
       let more = sum_by_more buckets_of rows index None below in
       let here : buckets_of row ≡ buckets_of (get_or rows index None) = ap buckets_of is in
@@ -103,6 +125,14 @@ begun_more widths rows first0 second0 first1 second1 first2 second2 index end ne
       (λ (later : index ≤ place).
       let same : index ≡ place = omega arith in
       subst (λ p. PacksPairs widths next first2 second2 p (get_or rows p None)) same (subst (λ r. PacksPairs widths next first2 second2 index r) is packs))
+      (cases_lt place index);
+  laid = λ place less. ⊎_elim
+      (λ (earlier : place < index).
+      lays_stay widths first1 second1 first2 second2 (index * place_width widths) (end * bucket_width widths) place end (get_or rows place None) kept kept'
+      (mul-le-mul_right (place_width widths) (let l : place + 1 ≤ index = omega arith in l)) (omega arith) (begun.packs place earlier) (begun.laid place earlier))
+      (λ (later : index ≤ place).
+      let same : index ≡ place = omega arith in
+      subst (λ p. LaysRun widths first2 second2 p (get_or rows p None)) same (subst (λ r. LaysRun widths first2 second2 index r) is laid))
       (cases_lt place index);
   zeros = λ bucket less. ⊎_elim
       (λ (earlier : bucket < end).
@@ -194,6 +224,26 @@ packs_all shape widths widths' rows rows' first first' second second' packable s
     (subst (λ r. Packs widths' r first second) same_rows
     (subst (λ f. Packs widths' rows' f second) (sym same_first)
     (subst (λ s. Packs widths' rows' first' s) (sym same_second) packs))))
+
+pub lays_all : (widths widths' : List ℕ) (rows rows' : List (Option Row)) (first first' second second' : List ℕ) → rows' ≡ rows → widths' ≡ widths → first ≡ first' → second ≡ second'
+    → ((place : ℕ) → place < length rows' → LaysRun widths' first' second' place (get_or rows' place None)) → LaysRuns widths rows first second
+lays_all widths widths' rows rows' first first' second second' same_rows same_widths same_first same_second laid =
+    let Lays : List ℕ → List (Option Row) → List ℕ → List ℕ → Type 0 = λ w r f s. (place : ℕ) → place < length r → LaysRun w f s place (get_or r place None) in
+    let all : Lays widths rows first second =
+    subst (λ w. Lays w rows first second) same_widths
+    (subst (λ r. Lays widths' r first second) same_rows
+    (subst (λ f. Lays widths' rows' f second) (sym same_first)
+    (subst (λ s. Lays widths' rows' first' s) (sym same_second) laid))) in
+    λ place row at.
+    subst (λ r. LaysRun widths first second place r) (get_or_from_slice_get rows place row None at) (all place (slice_get_within rows place row at))
+
+pub zeros_all : (widths widths' : List ℕ) (rows rows' : List (Option Row)) (second second' : List ℕ) → rows' ≡ rows → widths' ≡ widths → second ≡ second' → HasZeros widths' rows' second'
+    → HasZeros widths rows second
+zeros_all widths widths' rows rows' second second' same_rows same_widths same_second zeros =
+    subst (λ w. HasZeros w rows second) same_widths (subst (λ r. HasZeros widths' r second) same_rows (subst (λ s. HasZeros widths' rows' s) (sym same_second) zeros))
+
+pub words_long : (made old new words : List ℕ) (bits bits' : ℕ) → length made ≡ words_of bits' → old ≡ made → length new ≡ length old → words ≡ new → bits' ≡ bits → length words ≡ words_of bits
+words_long made old new words bits bits' long is_old same is bits_are = ap length is ∙ same ∙ ap length is_old ∙ long ∙ ap words_of bits_are
 
 pub total_small : (shape : Shape) (widths : List ℕ) (rows : List (Option Row)) → IsPackable shape widths rows → bucket_total rows < 2 ^ 64
 total_small shape widths rows h = let small : 2 ^ pointer_width widths ≤ 2 ^ 64 = pow_mono (narrow_any widths 0 h.narrow) in omega (arith, h.pointers, small)

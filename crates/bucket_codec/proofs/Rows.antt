@@ -9,8 +9,8 @@ use Rattle.schema_model.specs.declared.rows.row.Row.{Row}
 use Rattle.bucket_codec.specs.BucketCount.{IsBucketCount, bucket_count}
 use Rattle.bucket_codec.specs.Run.{Bucket, bucket_at, bucket_in, value_in, run_in, taken_of, keys_of, IsPairInRange, IsZeroIfEmpty, SpellsRun}
 use Rattle.bucket_codec.specs.Filled.{KeepsFront, IsFilled}
-use Rattle.bucket_codec.specs.BucketPlace.{pointer_width, size_width, key_width, value_width, place_width, bucket_width, start_at, end_at, size_at, run_at, SpellsPairs}
-use Rattle.bucket_codec.specs.Packed.{pairs_of, PacksPairs}
+use Rattle.bucket_codec.specs.BucketPlace.{pointer_width, size_width, key_width, value_width, place_width, bucket_width, start_at, end_at, size_at, run_at, IsSpan, SpellsPairs}
+use Rattle.bucket_codec.specs.Packed.{pairs_of, PacksPairs, LaysRun}
 use Rattle.bucket_codec.proofs.Buckets.{length-run_in}
 use Rattle.bucket_codec.proofs.Filling.{same_run}
 use Rattle.bucket_codec.proofs.Behind.{zero_stays}
@@ -40,16 +40,21 @@ run_spelled run size pairs long power room filled ranges rises = record {
   ranges = ranges;
 }
 
+-- the run that a place has, by its start and its end
+pub run_at_is : (widths first second : List ℕ) (place start size : ℕ) → start_at widths first place ≡ start → end_at widths first place ≡ start + size
+    → run_at widths first second place ≡ run_in second (key_width widths) (value_width widths) start size
+run_at_is widths first second place start size starts ends =
+    let long : end_at widths first place - start_at widths first place ≡ size = omega (arith, starts, ends) in
+    ap (λ s. run_in second (key_width widths) (value_width widths) s (end_at widths first place - start_at widths first place)) starts
+    ∙ ap (λ n. run_in second (key_width widths) (value_width widths) start n) long
+
 -- a place whose pointer, size and run are written spells the pairs
 pub pairs_spelled : (widths first second : List ℕ) (place start size : ℕ) (pairs : List (ℕ × ℕ)) → start_at widths first place ≡ start → end_at widths first place ≡ start + size
     → size_at widths first place ≡ length pairs → (start + size) * bucket_width widths ≤ 64 * length second → IsPowerOfTwo size → length pairs < size
     → IsFilled (run_in second (key_width widths) (value_width widths) start size) pairs → All IsPairInRange pairs → Rises (keys_of pairs) → SpellsPairs widths (start + size) first second place pairs
 pairs_spelled widths first second place start size pairs starts ends sized inside power room filled ranges rises =
     let spelled = run_spelled (run_in second (key_width widths) (value_width widths) start size) size pairs (length-run_in second (key_width widths) (value_width widths) start size) power room filled ranges rises in
-    let long : end_at widths first place - start_at widths first place ≡ size = omega (arith, starts, ends) in
-    let same : run_at widths first second place ≡ run_in second (key_width widths) (value_width widths) start size =
-    ap (λ s. run_in second (key_width widths) (value_width widths) s (end_at widths first place - start_at widths first place)) starts
-    ∙ ap (λ n. run_in second (key_width widths) (value_width widths) start n) long in
+    let same = run_at_is widths first second place start size starts ends in
     record {
       span = record {
         rises = omega (arith, starts, ends);
@@ -91,6 +96,28 @@ run_stays old new k v limit start size kept inside = same_run (bucket_in old k v
     let up : (index + 1) * (k + v) ≤ (start + size) * (k + v) = mul-le-mul_right (k + v) (let l : index + 1 ≤ start + size = omega arith in l) in
     bucket_stays old new k v limit index kept (omega (arith, up, inside)))
 
+-- and that of a place
+run_at_stays : (widths first second first' second' : List ℕ) (limit bound place total : ℕ) → KeepsFront first first' limit → KeepsFront second second' bound
+    → (place + 1) * place_width widths ≤ limit → total * bucket_width widths ≤ bound → IsSpan widths total first second place → run_at widths first' second' place ≡ run_at widths first second place
+run_at_stays widths first second first' second' limit bound place total kept kept' inside within span =
+    let before : place * place_width widths ≤ limit = omega (arith, inside) in
+    let ends = end_stays widths first first' limit place kept inside in
+    let starts = start_stays widths first first' limit place kept before in
+    let under : end_at widths first place * bucket_width widths ≤ total * bucket_width widths = mul-le-mul_right (bucket_width widths) span.counted in
+    let reach : start_at widths first place + (end_at widths first place - start_at widths first place) ≡ end_at widths first place = omega (arith, span.rises) in
+    ap (λ s. run_in second' (key_width widths) (value_width widths) s (end_at widths first' place - s)) starts
+    ∙ ap (λ e. run_in second' (key_width widths) (value_width widths) (start_at widths first place) (e - start_at widths first place)) ends
+    ∙ run_stays second second' (key_width widths) (value_width widths) bound (start_at widths first place) (end_at widths first place - start_at widths first place) kept'
+    (subst (λ e. e * bucket_width widths ≤ bound) (sym reach) (omega (arith, under, within)))
+
+-- so its pairs stay where they were put
+pub lays_stay : (widths first second first' second' : List ℕ) (limit bound place total : ℕ) (row : Option Row) → KeepsFront first first' limit → KeepsFront second second' bound
+    → (place + 1) * place_width widths ≤ limit → total * bucket_width widths ≤ bound → PacksPairs widths total first second place row → LaysRun widths first second place row
+    → LaysRun widths first' second' place row
+lays_stay widths first second first' second' limit bound place total None kept kept' inside within packs laid = tt
+lays_stay widths first second first' second' limit bound place total (Some row) kept kept' inside within packs laid =
+    run_at_stays widths first second first' second' limit bound place total kept kept' inside within packs.1.span ∙ laid
+
 -- what a place has stays where the bits before stay, and within more buckets
 pub packs_stay : (widths first second first' second' : List ℕ) (limit bound place total total' : ℕ) (row : Option Row) → KeepsFront first first' limit → KeepsFront second second' bound
     → (place + 1) * place_width widths ≤ limit → total * bucket_width widths ≤ bound → total ≤ total' → PacksPairs widths total first second place row → PacksPairs widths total' first' second' place row
@@ -105,13 +132,7 @@ packs_stay widths first second first' second' limit bound place total total' (So
     let starts = start_stays widths first first' limit place kept before in
     let sizes = size_stays widths first first' limit place kept inside in
     let span = packs.1.span in
-    let under : end_at widths first place * bucket_width widths ≤ total * bucket_width widths = mul-le-mul_right (bucket_width widths) span.counted in
-    let reach : start_at widths first place + (end_at widths first place - start_at widths first place) ≡ end_at widths first place = omega (arith, span.rises) in
-    let run : run_at widths first' second' place ≡ run_at widths first second place =
-    ap (λ s. run_in second' (key_width widths) (value_width widths) s (end_at widths first' place - s)) starts
-    ∙ ap (λ e. run_in second' (key_width widths) (value_width widths) (start_at widths first place) (e - start_at widths first place)) ends
-    ∙ run_stays second second' (key_width widths) (value_width widths) bound (start_at widths first place) (end_at widths first place - start_at widths first place) kept'
-    (subst (λ e. e * bucket_width widths ≤ bound) (sym reach) (omega (arith, under, within))) in (
+    let run = run_at_stays widths first second first' second' limit bound place total kept kept' inside within span in (
       ends ∙ packs.0 ∙ ap (λ s. s + bucket_count (length (pairs_of row))) (sym starts),
       record {
         span = record {

@@ -4,6 +4,7 @@ use Rattle.std.specs.List.Sorted.{IsPermutation}
 use Rattle.bit_array.specs.Element.{element_of}
 use Rattle.bucket_codec.specs.Run.{Bucket, bucket_at, run_in, taken_of, IsReached, IsPairInRange, IsZeroIfEmpty}
 use Rattle.bucket_codec.specs.Streak.{IsReachedAt}
+use Rattle.bucket_codec.specs.Inserted.{inserted}
 
 -- As many words as before, of which no bit before the limit has changed.
 pub record KeepsFront (old new : List ℕ) (limit : ℕ) : Type 0 where
@@ -25,9 +26,10 @@ pub record IsFree (run : List Bucket) (key place : ℕ) : Type 0 where
   pub empty : bucket_at run place ≡ None
   pub reached : IsReached run key place
 
--- The run of so many buckets from a start on is filled with these pairs: they are in range, an empty bucket has the value 0, and no bit outside has changed.
+-- The run of so many buckets from a start on is filled with these pairs, one after another: they are in range, an empty bucket has the value 0, and no bit outside has changed.
 pub record FillsRun (old new : List ℕ) (key_width value_width start size : ℕ) (pairs : List (ℕ × ℕ)) : Type 0 where
   pub filled : IsFilled (run_in new key_width value_width start size) pairs
+  pub laid : run_in new key_width value_width start size ≡ inserted size pairs
   pub ranges : All IsPairInRange pairs
   pub zeros : (index : ℕ) → start ≤ index → index < start + size → IsZeroIfEmpty new key_width value_width index
   pub front : KeepsFront old new (start * (key_width + value_width))

@@ -4,6 +4,7 @@ pub mod Run
 pub mod BucketPlace
 pub mod Streak
 pub mod Taken
+pub mod Inserted
 pub mod Filled
 pub mod Packed
 pub mod Widths

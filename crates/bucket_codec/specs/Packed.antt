@@ -1,12 +1,14 @@
 -- SET and MAP rows of a blob, written: how many buckets they take, and which words spell them.
 use Rattle.std.specs.Prelude.{◌≡◌, ℕ, ◌+◌, ◌-◌, ◌*◌, ◌^◌, ◌<◌, ◌≤◌, List, [], length, map, All, Option, None, Some, slice_get}
 use Rattle.std.specs.List.{sum_by}
+use Rattle.bit_array.specs.Element.{number_of, words_of}
 use Rattle.schema_model.specs.Row.{FitsShape, Rises}
 use Rattle.schema_model.specs.declared.schema.Shape.{Shape}
 use Rattle.schema_model.specs.declared.rows.row.Row.{Row}
 use Rattle.bucket_codec.specs.BucketCount.{bucket_count}
-use Rattle.bucket_codec.specs.Run.{keys_of}
-use Rattle.bucket_codec.specs.BucketPlace.{pointer_width, size_width, key_width, value_width, bucket_width, start_at, end_at, size_at, IsWidthCount, SpellsBucketRow, SpellsPairs}
+use Rattle.bucket_codec.specs.Run.{keys_of, IsZeroIfEmpty}
+use Rattle.bucket_codec.specs.BucketPlace.{pointer_width, size_width, key_width, value_width, place_width, bucket_width, start_at, end_at, size_at, run_at, IsWidthCount, SpellsBucketRow, SpellsPairs}
+use Rattle.bucket_codec.specs.Inserted.{inserted}
 
 -- An element of a set as a pair.
 abbrev pub set_pair : ℕ → ℕ × ℕ
@@ -64,6 +66,37 @@ PacksPlace shape widths total first second place (Some row) =
 abbrev pub PacksRows : Shape → List ℕ → List (Option Row) → List ℕ → List ℕ → Type 0
 PacksRows shape widths rows first second =
     (place total : ℕ) (row : Option Row) → slice_get rows place ≡ Some row → bucket_total rows ≤ total → PacksPlace shape widths total first second place row
+
+-- The run of a place with a row is that into which its pairs are put by rising key.
+abbrev pub LaysRun : List ℕ → List ℕ → List ℕ → ℕ → Option Row → Type 0
+LaysRun widths first second place None = Unit {0}
+LaysRun widths first second place (Some row) = run_at widths first second place ≡ inserted (bucket_count (length (pairs_of row))) (pairs_of row)
+
+-- The run of each place is.
+abbrev pub LaysRuns : List ℕ → List (Option Row) → List ℕ → List ℕ → Type 0
+LaysRuns widths rows first second = (place : ℕ) (row : Option Row) → slice_get rows place ≡ Some row → LaysRun widths first second place row
+
+-- Each empty bucket of the rows has the value 0.
+abbrev pub HasZeros : List ℕ → List (Option Row) → List ℕ → Type 0
+HasZeros widths rows second = (index : ℕ) → index < bucket_total rows → IsZeroIfEmpty second (key_width widths) (value_width widths) index
+
+-- As many words as so many bits take, with no bit behind these.
+pub record HoldsBits (words : List ℕ) (bits : ℕ) : Type 0 where
+  pub long : length words ≡ words_of bits
+  pub below : number_of words < 2 ^ bits
+
+-- The words are those of these rows, to the last bit: each place has its row, whose pairs are put in by rising key, an empty bucket has the
+-- value 0, and there are as many words as the places and the buckets take.
+pub record IsPacked (shape : Shape) (widths : List ℕ) (rows : List (Option Row)) (first second : List ℕ) : Type 0 where
+  pub packs : PacksRows shape widths rows first second
+  pub laid : LaysRuns widths rows first second
+  pub zeros : HasZeros widths rows second
+  pub first_bits : HoldsBits first (length rows * place_width widths)
+  pub second_bits : HoldsBits second (bucket_total rows * bucket_width widths)
+
+-- Each number is one of 64 bits, as a word is.
+abbrev pub AreWords : List ℕ → Type 0
+AreWords words = All (λ word. word < 2 ^ 64) words
 
 -- The same by the pairs: what is known of a place once it is written, of which the run ends within so many buckets.
 abbrev pub PacksPairs : List ℕ → ℕ → List ℕ → List ℕ → ℕ → Option Row → Type 0

@@ -4,6 +4,7 @@ ghost use Rattle.bucket_codec.specs.Run.{bucket_in, value_in, run_in, taken_of, 
 ghost use Rattle.schema_model.specs.declared.rows.row.Row.TheVariants.{Set};
 ghost use Rattle.bucket_codec.specs.Packed.{pairs_of, IsBuckets};
 ghost use Rattle.bucket_codec.specs.Filled.{KeepsFront, KeepsBack, FillsRun, IsFilled, IsFree};
+ghost use Rattle.bucket_codec.specs.Inserted.{with_pair};
 
 use crate::hash::hash_int;
 use crate::run::{Run, round};
@@ -46,8 +47,8 @@ impl Run {
         ensures { FillsRun words.old words.new self.key_width self.value_width self.start self.size (pairs_of (Set elements.now)) }
     {
         self.clear(words);
-        for element in elements {
-            self.insert(words, *element, 0);
+        for index in 0..elements.len() {
+            self.insert(words, elements[index], 0);
         }
     }
 
@@ -72,6 +73,7 @@ impl Run {
         requires key { key < 2 ^ self.key_width - 1 }
         requires value { value < 2 ^ self.value_width }
         ensures filled { (pairs : List (ℕ × ℕ)) → IsFilled (run_in words.old self.key_width self.value_width self.start self.size) pairs → IsFilled (run_in words.new self.key_width self.value_width self.start self.size) (pairs ++ (key, value) ∷ []) }
+        ensures laid { run_in words.new self.key_width self.value_width self.start self.size ≡ with_pair (run_in words.old self.key_width self.value_width self.start self.size) (key, value) }
         ensures range { IsPairInRange (key, value) }
         ensures zeros { (index : ℕ) → IsZeroIfEmpty words.old self.key_width self.value_width index → IsZeroIfEmpty words.new self.key_width self.value_width index }
         ensures front { KeepsFront words.old words.new (self.start * (self.key_width + self.value_width)) }

@@ -5,7 +5,7 @@ ghost use Rattle.schema_model.specs.declared.rows.row.Row.{Row as StoredRow};
 ghost use Rattle.bucket_codec.specs.Filled.{KeepsFront, KeepsBack};
 ghost use Rattle.bucket_codec.specs.Run.{IsZeroIfEmpty};
 ghost use Rattle.bucket_codec.specs.BucketPlace.{pointer_width, key_width, value_width, place_width, bucket_width, start_at, end_at, HoldsPointers};
-ghost use Rattle.bucket_codec.specs.Packed.{pairs_of, buckets_of, bucket_total, IsPackable, IsFew, IsWritable, PacksRows, PacksPairs};
+ghost use Rattle.bucket_codec.specs.Packed.{pairs_of, buckets_of, bucket_total, IsPackable, IsFew, IsWritable, PacksRows, PacksPairs, LaysRun, LaysRuns, IsPacked};
 
 use crate::hash::buckets_for;
 use crate::place::{map_value_width, place_bits, put_pointers};
@@ -32,6 +32,8 @@ pub fn pack(
     ensures zeros { IfOk result (λ packed. (index : ℕ) → index < bucket_total rows.now → IsZeroIfEmpty packed.second (key_width widths.now) (value_width widths.now) index) }
     ensures first_bits { IfOk result (λ packed. number_of packed.first < 2 ^ (length rows.now * place_width widths.now)) }
     ensures second_bits { IfOk result (λ packed. number_of packed.second < 2 ^ (bucket_total rows.now * bucket_width widths.now)) }
+    ensures laid { IfOk result (λ packed. LaysRuns widths.now rows.now packed.first packed.second) }
+    ensures whole { IfOk result (λ packed. IsPacked schema.now.shape widths.now rows.now packed.first packed.second) }
     ensures areas { IfOk result (λ packed. packed.areas ≡ []) }
 {
     let rows = rows.as_slice();
@@ -109,6 +111,7 @@ fn put_rows(widths: &[u32], rows: &[Option<Row>], first: &mut [u64], second: &mu
     requires buckets { bucket_total rows.now * bucket_width widths.now ≤ 64 * length second.old }
     requires bits { 64 * length second.old < 2 ^ 64 }
     ensures packed { (place : ℕ) → place < length rows.now → PacksPairs widths.now (bucket_total rows.now) first.new second.new place (slice_index_or rows.now place None) }
+    ensures laid { (place : ℕ) → place < length rows.now → LaysRun widths.now first.new second.new place (slice_index_or rows.now place None) }
     ensures zeros { (index : ℕ) → index < bucket_total rows.now → IsZeroIfEmpty second.new (key_width widths.now) (value_width widths.now) index }
     ensures first { KeepsBack first.old first.new (length rows.now * place_width widths.now) }
     ensures second { KeepsBack second.old second.new (bucket_total rows.now * bucket_width widths.now) }
@@ -140,6 +143,7 @@ pub fn put_row(
     ensures end { result ≡ start + buckets_of row.now }
     ensures pointer { end_at widths.now first.new place ≡ result }
     ensures packed { PacksPairs widths.now result first.new second.new place row.now }
+    ensures laid { LaysRun widths.now first.new second.new place row.now }
     ensures first { KeepsFront first.old first.new (place * place_width widths.now) }
     ensures second { KeepsFront second.old second.new (start * bucket_width widths.now) }
     ensures zeros { (index : ℕ) → start ≤ index → index < result → IsZeroIfEmpty second.new (key_width widths.now) (value_width widths.now) index }

@@ -1,5 +1,5 @@
 use Rattle.std.proofs.Common.{arith, refl}
-use Rattle.bucket_codec.proofs.Placed.{packs_none, packs_some, row_held}
+use Rattle.bucket_codec.proofs.Placed.{packs_none, packs_some, lays_none, lays_some, row_held}
 use Rattle.bucket_codec.proofs.packing.put_row.Goals as goal
 
 pub returns-in_default-clause-packed : goal.returns-in_default-clause-packed
@@ -24,3 +24,11 @@ returns-clause-packed c =
     c.in-Some.row c.in-Some.is c.requires.row c.requires.start c.put_pointers-2.ensures.front c.put_pointers-2.ensures.end c.put_pointers-2.ensures.size c.size_of-size.ensures.is c.buckets_for.ensures.is
     c.buckets_for.ensures.count c.buckets_for.ensures.room
     (omega (arith, c.requires.inside, c.fill.ensures.front.long)) c.map_value_width.ensures c.fill.ensures.filled c.fill.ensures.ranges
+
+pub returns-in_default-clause-laid : goal.returns-in_default-clause-laid
+returns-in_default-clause-laid c = lays_none c.args.widths.now c.put_pointers.new.first c.args.second.now c.args.place c.args.row.now c.in_default.is
+
+pub returns-clause-laid : goal.returns-clause-laid
+returns-clause-laid c =
+    lays_some c.args.widths.now c.args.first.now c.put_pointers-2.new.first c.fill.new.words c.args.place c.args.start c.buckets_for.result c.size_of-size.result c.map_value_width.result c.args.row.now
+    c.in-Some.row c.in-Some.is c.requires.start c.put_pointers-2.ensures.front c.put_pointers-2.ensures.end c.size_of-size.ensures.is c.buckets_for.ensures.is c.map_value_width.ensures c.fill.ensures.laid

@@ -22,7 +22,7 @@ loop-place-preserved c =
     let is = item_is c.args.rows.now c.loop-place.place c.index-rows-place.result (omega arith) c.index-rows-place.is in
     begun_more c.args.widths.now c.args.rows.now c.args.first.now c.args.second.now c.loop-place.first c.loop-place.second c.put_row-end.new.first c.put_row-end.new.second c.loop-place.place
     c.loop-place.end c.put_row-end.result c.index-rows-place.result (omega arith) is c.loop-place.invariant c.put_row-end.ensures.end c.put_row-end.ensures.pointer c.put_row-end.ensures.packed
-    c.put_row-end.ensures.first c.put_row-end.ensures.second c.put_row-end.ensures.zeros c.put_row-end.ensures.first_back c.put_row-end.ensures.second_back
+    c.put_row-end.ensures.laid c.put_row-end.ensures.first c.put_row-end.ensures.second c.put_row-end.ensures.zeros c.put_row-end.ensures.first_back c.put_row-end.ensures.second_back
 
 pub returns-clause-zeros : goal.returns-clause-zeros
 returns-clause-zeros c = λ bucket below.

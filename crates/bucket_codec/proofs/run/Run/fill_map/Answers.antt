@@ -10,4 +10,4 @@ insert-requires-clause-room c =
 pub loop-key-preserved : goal.loop-key-preserved
 loop-key-preserved c =
     fill_more c.args.words.now c.loop-key.words c.insert.new.words c.args.self.key_width c.args.self.value_width c.args.self.start c.args.self.size _ _ (get_or c.args.pairs.now c.loop-key.key-index (0, 0)).0 (get_or c.args.pairs.now c.loop-key.key-index (0, 0)).1
-    (take_more c.args.pairs.now c.loop-key.key-index (0, 0) (omega arith)) c.insert.ensures.range c.loop-key.invariant c.insert.ensures.filled c.insert.ensures.zeros c.insert.ensures.front c.insert.ensures.back
+    (take_more c.args.pairs.now c.loop-key.key-index (0, 0) (omega arith)) c.insert.ensures.range c.loop-key.invariant c.insert.ensures.filled c.insert.ensures.laid c.insert.ensures.zeros c.insert.ensures.front c.insert.ensures.back
