@@ -1,0 +1,5 @@
+pub mod KeyedEntries
+pub mod Keeping
+pub mod Puts
+pub mod OneKey
+pub mod SlotRows

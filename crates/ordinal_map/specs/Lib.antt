@@ -1,0 +1,4 @@
+pub mod Assign
+pub mod RowKey
+pub mod Slots
+pub mod States

@@ -1,0 +1,14 @@
+//! Which ordinal a row of a type gets: rows are found again, and each new one gets the least free number.
+#![tactic(auto)]
+
+mod fault;
+mod key;
+mod map;
+mod row_index;
+mod slot;
+
+pub use fault::PutRowFault;
+pub use map::OrdinalMap;
+
+#[cfg(test)]
+mod tests;
