@@ -1,0 +1,14 @@
+pub mod BucketPlaces
+pub mod EitherWay
+pub mod FitsBoth
+pub mod Fitting
+pub mod Greatest
+pub mod ListPlaces
+pub mod LiveRows
+pub mod ObjectPlaces
+pub mod PackedOnce
+pub mod RowBytes
+pub mod RowsUnder
+pub mod Suiting
+pub mod TypeLimits
+pub mod WrittenSections

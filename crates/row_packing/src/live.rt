@@ -1,0 +1,25 @@
+//! The live ordinals of a type.
+ghost use Rattle.std.specs.Prelude.{◌≡◌, IfOk};
+ghost use Rattle.std.specs.FinMap.{keys};
+ghost use Rattle.row_walk.specs.BothStates.{rows_in};
+
+use ordinal_set::OrdinalSet;
+use schema_model::Rows;
+use std::alloc::{AllocError, Global};
+
+/// The ordinals under which a type of a state has rows.
+pub fn live_ordinals<R: Rows>(
+    alloc: Global,
+    rows: &R,
+    type_index: u32,
+) -> Result<OrdinalSet, AllocError>
+    ensures { IfOk result (λ set. set ≡ keys (rows_in (R.table rows.now) type_index)) }
+{
+    let mut set = OrdinalSet::new(alloc);
+    for ordinal in 0..rows.bound(type_index) {
+        if rows.is_live(type_index, ordinal) {
+            set.insert(ordinal)?;
+        }
+    }
+    Ok(set)
+}
