@@ -1,0 +1,5 @@
+pub mod ClosedStates
+pub mod Members
+pub mod NextStates
+pub mod OneState
+pub mod RisingLists

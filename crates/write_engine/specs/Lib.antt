@@ -1,0 +1,5 @@
+pub mod Agreement
+pub mod Cycle
+pub mod FitsTree
+pub mod Soundness
+pub mod Types

@@ -1,0 +1,40 @@
+//! Laws of the definitions.
+ghost use Rattle.std.specs.Prelude.{ℕ, List, ◌≡◌, ◌++◌, ◌∷◌, [], Some, length};
+ghost use Rattle.std.specs.FinMap.{get};
+ghost use Rattle.schema_model.specs.declared.rows.row.Row.{Row};
+ghost use Rattle.schema_model.specs.declared.schema.Schema.{Schema};
+ghost use Rattle.schema_model.specs.PlainTree.{PlainTree};
+ghost use Rattle.schema_model.specs.Table.{Table};
+ghost use Rattle.write_engine.specs.Agreement.{HoldsOnce, TablesAgree};
+ghost use Rattle.write_engine.specs.Soundness.{IsClosedTableOf};
+ghost use Rattle.write_engine.specs.Cycle.{Adds, AddsRecords, Next, no_rows, rows_in};
+
+/// A record more is added to what the records before it have made.
+pub fn one_record_more()
+    ensures { (schemas : List Schema) (previous : Table) (records : List (ℕ × PlainTree)) (before middle after : Table) (t : ℕ) (tree : PlainTree) (ordinal : ℕ) → AddsRecords schemas previous records before middle → Adds schemas previous t tree middle ordinal after → AddsRecords schemas previous (records ++ (t, tree) ∷ []) before after }
+{}
+
+/// Each step of a cycle keeps the two tables in agreement.
+pub fn added_in_agreement()
+    ensures tree { (schemas : List Schema) (previous before after : Table) (t : ℕ) (tree : PlainTree) (ordinal : ℕ) → Adds schemas previous t tree before ordinal after → TablesAgree previous before → TablesAgree previous after }
+    ensures start { (previous : Table) (count : ℕ) → HoldsOnce previous → TablesAgree previous (no_rows count) }
+{}
+
+/// Where the previous state holds no row twice, neither does the next one; a row that is added again keeps its ordinal; and no ordinal of the
+/// previous state has another row in the next one.
+pub fn next_state()
+    ensures once { (schemas : List Schema) (previous next : Table) (records : List (ℕ × PlainTree)) → HoldsOnce previous → Next schemas previous records next → HoldsOnce next }
+    ensures kept { (schemas : List Schema) (previous next : Table) (records : List (ℕ × PlainTree)) (t a b : ℕ) (row : Row) → HoldsOnce previous → Next schemas previous records next → get (rows_in previous t) a ≡ Some row → get (rows_in next t) b ≡ Some row → a ≡ b }
+    ensures same { (schemas : List Schema) (previous next : Table) (records : List (ℕ × PlainTree)) (t ordinal : ℕ) (a b : Row) → HoldsOnce previous → Next schemas previous records next → get (rows_in previous t) ordinal ≡ Some a → get (rows_in next t) ordinal ≡ Some b → a ≡ b }
+{}
+
+/// The next state is closed, and its rows fit the types and are in range.
+pub fn next_is_closed()
+    ensures { (schemas : List Schema) (previous next : Table) (records : List (ℕ × PlainTree)) → Next schemas previous records next → IsClosedTableOf schemas next }
+{}
+
+/// A tree is added in one way, and records make one next state.
+pub fn one_next_state()
+    ensures tree { (schemas : List Schema) (previous before after other : Table) (t : ℕ) (tree : PlainTree) (ordinal another : ℕ) → TablesAgree previous before → Adds schemas previous t tree before ordinal after → Adds schemas previous t tree before another other → (ordinal ≡ another) × (after ≡ other) }
+    ensures state { (schemas : List Schema) (previous next other : Table) (records : List (ℕ × PlainTree)) → HoldsOnce previous → Next schemas previous records next → Next schemas previous records other → next ≡ other }
+{}
