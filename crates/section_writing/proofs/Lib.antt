@@ -1,0 +1,10 @@
+pub mod Bodies
+pub mod GapJudge
+pub mod ListLength
+pub mod Once
+pub mod Placing
+pub mod Progress
+pub mod Refusing
+pub mod SpelledItems
+pub mod SpelledTypes
+pub mod WrittenGaps
