@@ -2,3 +2,4 @@ pub mod Body
 pub mod Parts
 pub mod Snapshot
 pub mod Stated
+pub mod Written
