@@ -1,0 +1,3 @@
+pub mod ChangedTypes
+pub mod SpelledDeltas
+pub mod WrittenOnce

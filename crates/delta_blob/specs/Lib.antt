@@ -1,0 +1,5 @@
+pub mod Added
+pub mod Changes
+pub mod Ordinals
+pub mod Parts
+pub mod Written
