@@ -1,3 +1,6 @@
 pub mod StoredRow
 pub mod FieldOrder
 pub mod RowLine
+pub mod SchemaJson
+pub mod SchemasFrom
+pub mod ReadValue

@@ -1,9 +1,11 @@
 //! What no clause says: that rows print where there is memory, and their texts.
+ghost use Rattle.schema_model.specs.Dangling.{IsPlain};
 ghost use Rattle.schema_model.specs.Row.{FitsShape};
 
-use super::{field_order, row_line, row_value};
+use super::{are_schemas, field_order, row_line, row_value, schemas_from, value_from};
 use hol_varint::Ordinals;
-use schema_model::{Fields, Name, Pairs, Row, Schema, Schemas, Shape, Values, model_of};
+use schema_model::{FieldKind, Fields, Name, Pairs, Row, Schema, Schemas, Shape, Values, model_of};
+use serde_json::Value;
 use std::alloc::{AllocError, Global};
 use std::test::Fail;
 
@@ -81,6 +83,89 @@ fn a_line(rt: HostRuntime) -> Result<(), Fail> {
     let line = line(alloc, shape, &row)?;
     assert!(rt;
         line.as_slice() == b"{\"ordinal\":4,\"row\":[[0,9],[3,9]],\"type\":\"A\"}\n".as_slice()
+    );
+    Ok(())
+}
+
+/// What is read of a list of schemas, as the debug text of the schemas or of the fault.
+fn read(alloc: Global, text: &str) -> Result<String, Fail> {
+    let value = Value::from_str(alloc, text)?;
+    match schemas_from(alloc, &value) {
+        Ok(schemas) => Ok(format!(in alloc; "{schemas:?}")?),
+        Err(fault) => Ok(format!(in alloc; "{fault:?}")?),
+    }
+}
+
+/// What is read of a value of a field, as the debug text of the value or of the fault.
+fn read_value(alloc: Global, kind: FieldKind, text: &str) -> Result<String, Fail>
+    requires { IsPlain kind }
+{
+    let value = Value::from_str(alloc, text)?;
+    match value_from(alloc, &kind, &value) {
+        Ok(value) => Ok(format!(in alloc; "{value:?}")?),
+        Err(fault) => Ok(format!(in alloc; "{fault:?}")?),
+    }
+}
+
+#[test]
+fn a_list_of_schemas(rt: HostRuntime) -> Result<(), Fail> {
+    let alloc = rt.alloc();
+    let text = "[{\"kind\":\"MAP\",\"name\":\"M\",\"key\":\"A\",\"value\":\"B\"}]";
+    assert!(rt; are_schemas(&Value::from_str(alloc, text)?));
+    assert_eq!(rt;
+        read(alloc, text)?.as_str(),
+        "List { items: [Schema { name: Name { text: \"M\" }, shape: Map(Name { text: \"A\" }, Name { text: \"B\" }) }] }"
+    );
+    Ok(())
+}
+
+#[test]
+fn a_schema_with_a_key(rt: HostRuntime) -> Result<(), Fail> {
+    let alloc = rt.alloc();
+    let text =
+        "[{\"key\":[\"n\"],\"kind\":\"OBJECT\",\"name\":\"A\",\"fields\":[{\"name\":\"n\",\"type\":\"INT\"}]}]";
+    assert_eq!(rt;
+        read(alloc, text)?.as_str(),
+        "List { items: [Schema { name: Name { text: \"A\" }, shape: Object(Some(List { items: [Name { text: \"n\" }] }), List { items: [Field { name: Name { text: \"n\" }, kind: Int }] }) }] }"
+    );
+    Ok(())
+}
+
+#[test]
+fn faults_of_schemas(rt: HostRuntime) -> Result<(), Fail> {
+    let alloc = rt.alloc();
+    let float =
+        "[{\"kind\":\"OBJECT\",\"name\":\"A\",\"fields\":[{\"name\":\"n\",\"type\":\"FLOAT\"}]}]";
+    assert_eq!(rt;
+        read(alloc, "[{\"kind\":\"LIST\",\"name\":\"L\"}]")?.as_str(),
+        "Shape"
+    );
+    assert_eq!(rt; read(alloc, float)?.as_str(), "Rule(FloatField, 0)");
+    Ok(())
+}
+
+#[test]
+fn values_of_fields(rt: HostRuntime) -> Result<(), Fail> {
+    let alloc = rt.alloc();
+    assert_eq!(rt;
+        read_value(alloc, FieldKind::Int, "-2147483648")?.as_str(),
+        "Int(-2147483648)"
+    );
+    assert_eq!(rt;
+        read_value(alloc, FieldKind::Int, "2147483648")?.as_str(),
+        "Field(NumberOutOfRange)"
+    );
+    assert_eq!(rt;
+        read_value(alloc, FieldKind::Text, "[55296,65]")?.as_str(),
+        "Text(List { items: [55296, 65] })"
+    );
+    assert_eq!(rt;
+        read_value(alloc, FieldKind::Bytes, "\"0Af\"")?.as_str(),
+        "Field(NotHexadecimal)"
+    );
+    assert_eq!(rt;
+        read_value(alloc, FieldKind::Bytes, "\"0Aff\"")?.as_str(),
+        "Bytes(List { items: [10, 255] })"
     );
     Ok(())
 }
