@@ -10,8 +10,8 @@ use Rattle.blob_frame.specs.declared.fault.BlobFault.TheVariants as fault
 use Rattle.blob_frame.specs.declared.header.Header.{Header}
 use Rattle.blob_frame.specs.Scene.{Place, IsFree}
 use Rattle.blob_frame.specs.Starting.{Starts}
-use Rattle.hollow_top.specs.declared.refusal.Refusal.{Refusal}
-use Rattle.hollow_top.specs.declared.refusal.Refusal.TheVariants.{NoBlob, BadBlob, TooLarge}
+use Rattle.hol_orders.specs.declared.refusal.Refusal.{Refusal}
+use Rattle.hol_orders.specs.declared.refusal.Refusal.TheVariants.{NoBlob, BadBlob, TooLarge}
 use Rattle.hollow_top.specs.Head.{HeadRefusal, TellsHeader, refusal_of}
 
 free_tells : (name : BlobName) (content : Option (List ℕ)) (found : BlobFault) → IsFree found → TellsHeader name content (Err found)

@@ -1,4 +1,3 @@
-mod Lines
 mod Numbers
 mod Orders
 mod Heads

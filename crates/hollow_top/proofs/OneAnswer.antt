@@ -21,16 +21,16 @@ use Rattle.blob_frame.specs.Header.{header, HeaderIs}
 use Rattle.snapshot_blob.specs.declared.part.TypePart.{TypePart}
 use Rattle.snapshot_blob.specs.Snapshot.{SnapshotIs, IsAccepted}
 use Rattle.json_rows.specs.StoredRow.{IsRowData}
-use Rattle.hollow_top.specs.declared.reply.Reply.{Reply}
-use Rattle.hollow_top.specs.declared.reply.Reply.TheVariants.{Head, Refused}
-use Rattle.hollow_top.specs.declared.refusal.Refusal.{Refusal}
-use Rattle.hollow_top.specs.declared.refusal.Refusal.TheVariants.{NoBlob, BadBlob, TooLarge, NotYet, BadBody}
+use Rattle.hol_orders.specs.declared.reply.Reply.{Reply}
+use Rattle.hol_orders.specs.declared.reply.Reply.TheVariants.{Head, Refused}
+use Rattle.hol_orders.specs.declared.refusal.Refusal.{Refusal}
+use Rattle.hol_orders.specs.declared.refusal.Refusal.TheVariants.{NoBlob, BadBlob, TooLarge, NotYet, BadBody}
 use Rattle.hollow_top.specs.declared.words.Command.{Command}
 use Rattle.hollow_top.specs.declared.words.Command.TheVariants as command
 use Rattle.hollow_top.specs.Command.{IsLineOf, Writes}
 use Rattle.hollow_top.specs.Head.{HasHeader, HeadIs, HeadRefusal}
-use Rattle.hollow_top.specs.Refusal.{refusal_line}
-use Rattle.hollow_top.specs.Reply.{is_refusal, line_of}
+use Rattle.hol_orders.specs.Refusal.{refusal_line}
+use Rattle.hol_orders.specs.Reply.{is_refusal, line_of}
 use Rattle.json_rows.specs.RowLine.{row_data}
 use Rattle.hollow_top.specs.RowLines.{Listed, IsRowLine, AreLinesOf, rows_in_order}
 use Rattle.hollow_top.specs.Show.{HasBadBody, ShowsRows, ShowRefusal, ShowsContent}
@@ -108,6 +108,9 @@ module _ (decided : IsDecided header.Stands header.Stuck) (name : BlobName) wher
   one_head content (Head h) (Refused refusal) a b = absurd (header_apart content h refusal a b)
   one_head content (Refused refusal) (Head k) a b = absurd (header_apart content k refusal b a)
   one_head content (Refused one) (Refused other) a b = ap Refused (one_refused content one other a b)
+  one_head content (Head h) _ a b = absurd b
+  one_head content (Refused one) _ a b = absurd b
+  one_head content _ _ a b = absurd a
 
 -- the line of one answer is one
 one_line : (Answers : Reply → Type 0) → ((a b : Reply) → Answers a → Answers b → a ≡ b) → (one other : List ℕ) (refused also : Bool) →

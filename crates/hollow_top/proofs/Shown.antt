@@ -18,15 +18,15 @@ use Rattle.type_state.specs.Views.{table_of, next_halves}
 use Rattle.snapshot_blob.specs.declared.body.Body.{Body}
 use Rattle.snapshot_blob.specs.Body.{TellsBody}
 use Rattle.snapshot_blob.specs.Snapshot.{IsAccepted, IsRefused}
-use Rattle.hollow_top.specs.declared.refusal.Refusal.{Refusal}
-use Rattle.hollow_top.specs.declared.refusal.Refusal.TheVariants.{BadBody}
-use Rattle.hollow_top.specs.declared.reply.Reply.{Reply}
-use Rattle.hollow_top.specs.declared.reply.Reply.TheVariants.{Refused}
+use Rattle.hol_orders.specs.declared.refusal.Refusal.{Refusal}
+use Rattle.hol_orders.specs.declared.refusal.Refusal.TheVariants.{BadBody}
+use Rattle.hol_orders.specs.declared.reply.Reply.{Reply}
+use Rattle.hol_orders.specs.declared.reply.Reply.TheVariants.{Refused}
 use Rattle.hollow_top.specs.declared.stop.Stop.{Stop}
 use Rattle.hollow_top.specs.declared.stop.Stop.TheVariants.{Memory, Sink, Store as StoreFailed}
 use Rattle.hollow_top.specs.Command.{IsLineOf}
-use Rattle.hollow_top.specs.Head.{HeadRefusal, TellsHeader}
-use Rattle.hollow_top.specs.Reply.{is_refusal, line_of}
+use Rattle.hollow_top.specs.Head.{HeadRefusal, TellsHeader, refusal_of}
+use Rattle.hol_orders.specs.Reply.{is_refusal, line_of}
 use Rattle.hollow_top.specs.RowLines.{AreLinesOf, Listed, LeavesLines, rows_in_order}
 use Rattle.hollow_top.specs.Show.{ShowRefusal, ShowsContent, ShowsRows, Shows, body_refusal_of}
 use Rattle.hollow_top.specs.Stopping.{GainsFront, Leaves}
@@ -104,6 +104,16 @@ module _ (version : ℕ) (before after : Option (List ℕ)) where
   body_served law (Some store) opened found refusal given r read is was left =
       let content = told (Some store) (Snapshot version) in
       let refuses = body_refuses law (Snapshot version) content opened refusal found read (sym was ∙ is) in
+      leaves_as (IsLineOf (λ answer. answer ≡ Refused refusal)) (Shows store version) before after r (refusal_shown (Snapshot version) content refusal refuses) left
+
+  -- where the header cannot be read, its refusal is what is shown
+  pub header_served : (held : Option Store) (found : BlobFault) (refusal : Refusal) (given : Result Refusal Stop) (r : Result Bool Stop) →
+      IfSome held (λ store. TellsHeader (Snapshot version) (told held (Snapshot version)) (Err found)) → given ≡ refusal_of (Snapshot version) found → given ≡ Ok refusal →
+      Leaves (IsLineOf (λ answer. answer ≡ Refused refusal)) before after r → ServesShow held r
+  header_served None found refusal given r tells is was left = tt
+  header_served (Some store) found refusal given r tells is was left =
+      let content = told (Some store) (Snapshot version) in
+      let refuses = head_shown (Snapshot version) content refusal (refused (Snapshot version) content found refusal tells (sym was ∙ is)) in
       leaves_as (IsLineOf (λ answer. answer ≡ Refused refusal)) (Shows store version) before after r (refusal_shown (Snapshot version) content refusal refuses) left
 
   module _ (law : AcceptsBody) (opened : Header × Place) (found : Body) where

@@ -23,15 +23,15 @@ use Rattle.blob_frame.specs.Header.{header}
 use Rattle.snapshot_blob.specs.declared.part.TypePart.{TypePart}
 use Rattle.snapshot_blob.specs.Snapshot.{IsAccepted, IsRefused}
 use Rattle.snapshot_blob.specs.Stated.{TypeIs, schemas_of}
-use Rattle.hollow_top.specs.declared.refusal.Refusal.TheVariants.{NoBlob, BadBlob, TooLarge, NotYet, BadBody}
-use Rattle.hollow_top.specs.declared.reply.Reply.{Reply}
-use Rattle.hollow_top.specs.declared.reply.Reply.TheVariants.{Head, Refused}
+use Rattle.hol_orders.specs.declared.refusal.Refusal.TheVariants.{NoBlob, BadBlob, TooLarge, NotYet, BadBody}
+use Rattle.hol_orders.specs.declared.reply.Reply.{Reply}
+use Rattle.hol_orders.specs.declared.reply.Reply.TheVariants.{Head, Refused}
 use Rattle.hollow_top.specs.declared.words.Command.{Command}
 use Rattle.hollow_top.specs.declared.words.Command.TheVariants as command
 use Rattle.hollow_top.specs.Command.{HoldsBytes, IsUnbuilt, WritesSome}
 use Rattle.hollow_top.specs.Head.{HeadIs}
-use Rattle.hollow_top.specs.Refusal.{refusal_line}
-use Rattle.hollow_top.specs.Reply.{is_refusal, line_of}
+use Rattle.hol_orders.specs.Refusal.{refusal_line}
+use Rattle.hol_orders.specs.Reply.{is_refusal, line_of}
 use Rattle.hollow_top.specs.RowLines.{AreLinesOf, AreRowLines, rows_in_order}
 use Rattle.hollow_top.specs.Show.{ShowsContent}
 use Rattle.hollow_top.proofs.Shown.{head_shown}
@@ -82,6 +82,7 @@ shown_some decided fits name content bytes none = let some = head_some decided n
         let never : IsRefused is.0 = λ head schemas halves accepted.
         (let lines = accepted_lines fits is.0 head schemas halves accepted in none lines.0 false (is.0, head, schemas, halves, is.2, accepted, lines.1)) in
         none (refusal_line (BadBody name)) true (BadBody name, (refl, (h, is.0, is, is.2, never)), refl)
+    with_reply _ is = absurd is
 
 pub some_head : IsDecided header.Stands header.Stuck → (input : Option (List ℕ)) (store : Store) (blob : BlobName) → HoldsBytes store → WritesSome input store (command.Head blob)
 some_head decided input store blob bytes =

@@ -1,72 +1,56 @@
 -- Lines of refusals are told from all other lines by their third byte.
-use Rattle.std.proofs.Common.{◌≡◌, ◌↔◌, ◌⊎◌, inl, inr, ℕ, List, [], ◌∷◌, ◌++◌, get_or, Bool, true, false, Option, Some, None, Ok, Err, OnSome, refl, sym, ap, ◌∙◌, subst, arith}
+use Rattle.std.proofs.Common.{◌≡◌, ◌↔◌, ℕ, List, [], ◌∷◌, ◌++◌, slice_index, Bool, true, false, Option, Some, None, Ok, Err, OnSome, refl, sym, ap, ◌∙◌, subst, arith}
 use Rattle.std.proofs.lemmas.List.{append_cancel_left}
 use Rattle.std.specs.List.{concat}
 use Rattle.serde_json.proofs.OnLiterals.{serde_json_on_literals}
-use Rattle.hollow_top.specs.declared.refusal.Refusal.{Refusal}
-use Rattle.hollow_top.specs.declared.refusal.Refusal.TheVariants.{NoBlob, BadBlob, TooLarge, NotYet, BadBody}
-use Rattle.hollow_top.specs.declared.reply.Reply.{Reply}
-use Rattle.hollow_top.specs.declared.reply.Reply.TheVariants.{Head, Refused}
+use Rattle.hol_orders.specs.declared.refusal.Refusal.{Refusal}
+use Rattle.hol_orders.specs.declared.reply.Reply.{Reply}
+use Rattle.hol_orders.specs.declared.reply.Reply.TheVariants.{Refused}
 use Rattle.hollow_top.specs.declared.stop.Stop.{Stop}
 use Rattle.hollow_top.specs.declared.stop.Stop.TheVariants.{Memory, Sink, Store as StoreFailed}
 use Rattle.hollow_top.specs.Command.{IsLineOf}
-use Rattle.hollow_top.specs.Refusal.{refusal_line}
-use Rattle.hollow_top.specs.Reply.{is_refusal, line_of}
+use Rattle.hol_orders.specs.Refusal.{refusal_line}
+use Rattle.hol_orders.specs.Reply.{is_refusal, line_of}
 use Rattle.hollow_top.specs.RowLines.{Listed, IsRowLine, AreLinesOf, LeavesLines}
 use Rattle.hollow_top.specs.Run.{status_of}
+use Rattle.hol_orders.specs.Marks.{IsMarked}
+use Rattle.hol_orders.proofs.ThirdBytes.{marked, unmarked, apart}
 use Rattle.hollow_top.specs.Stopping.{GainsRefusal, IsVerdict, Leaves}
 
-abbrev third : List ℕ → ℕ
-third text = get_or text 2 0
+-- a text that is not marked is no refusal's line
+unmarked_none : (text : List ℕ) → (IsMarked text → ⊥) → IsVerdict text false
+unmarked_none text other refusal same = other (subst IsMarked (sym same) (marked refusal))
 
--- an `a`, a `b` or an `e`
-abbrev IsMark : ℕ → Type 0
-IsMark n = (n ≡ 97) ⊎ ((n ≡ 98) ⊎ (n ≡ 101))
-
-marked : (refusal : Refusal) → IsMark (third (refusal_line refusal))
-unfolding serde_json_on_literals
-marked (NoBlob blob) = inr (inl refl)
-marked (BadBlob blob at reason None) = inl refl
-marked (BadBlob blob at reason (Some row)) = inl refl
-marked (TooLarge limit) = inr (inr refl)
-marked NotYet = inr (inr refl)
-marked (BadBody blob) = inr (inl refl)
-
--- a text with another third byte is no refusal's line
-unmarked : (text : List ℕ) → (IsMark (third text) → ⊥) → IsVerdict text false
-unmarked text other refusal same = other (subst IsMark (sym (ap third same)) (marked refusal))
-
-no_mark : (n : ℕ) → (n ≡ 97 → ⊥) → (n ≡ 98 → ⊥) → (n ≡ 101 → ⊥) → IsMark n → ⊥
-no_mark n a b e (inl is) = a is
-no_mark n a b e (inr (inl is)) = b is
-no_mark n a b e (inr (inr is)) = e is
-
--- the line of a header begins with its destination
+-- the line of an answer is that of a refusal exactly where the answer is one
 line_verdict : (reply : Reply) → IsVerdict (line_of reply) (is_refusal reply)
-unfolding serde_json_on_literals
-line_verdict (Head header) =
-    let is : third (line_of (Head header)) ≡ 100 = refl in
-    unmarked (line_of (Head header)) (no_mark _ (λ e. omega (arith, e, is)) (λ e. omega (arith, e, is)) (λ e. omega (arith, e, is)))
-line_verdict (Refused refusal) = (refusal, refl)
+line_verdict reply = by_flag (is_refusal reply) refl
+  where
+    refused : (reply : Reply) → is_refusal reply ≡ true → IsVerdict (line_of reply) true
+    refused (Refused refusal) is = (refusal, refl)
+    refused _ is = absurd cc
+
+    by_flag : (flag : Bool) → is_refusal reply ≡ flag → IsVerdict (line_of reply) flag
+    by_flag true is = refused reply is
+    by_flag false is = λ refusal. apart refusal reply is
 
 pub line_of_verdict : (reply : Reply) (text : List ℕ) (refused : Bool) → IsLineOf (λ answer. answer ≡ reply) text refused → IsVerdict text refused
 line_of_verdict reply text refused (answer, same, text_is, verdict) =
     subst (λ v. IsVerdict text v) (sym verdict) (subst (λ t. IsVerdict t (is_refusal answer)) (sym text_is) (line_verdict answer))
 
 -- the line of a row begins with its ordinal, and the text of no rows is empty
-row_third : (row : Listed) (line rest : List ℕ) → IsRowLine row line → third (line ++ rest) ≡ 111
+row_third : (row : Listed) (line rest : List ℕ) → IsRowLine row line → slice_index (line ++ rest) 2 ≡ 111
 unfolding serde_json_on_literals
-row_third row line rest (printed, prints, is) = ap (λ t. third (t ++ rest)) is
+row_third row line rest (printed, prints, is) = ap (λ t. slice_index (t ++ rest) 2) is
 
 lines_verdict : (rows : List Listed) (text : List ℕ) → AreLinesOf rows text → IsVerdict text false
 lines_verdict [] text ([], are, is) =
-    let none : third text ≡ 0 = ap third is in
-    unmarked text (no_mark _ (λ e. omega (arith, e, none)) (λ e. omega (arith, e, none)) (λ e. omega (arith, e, none)))
+    let none : slice_index text 2 ≡ 0 = ap (λ t. slice_index t 2) is in
+    unmarked_none text (unmarked text 0 none (λ e. omega (arith, e)) (λ e. omega (arith, e)) (λ e. omega (arith, e)))
 lines_verdict [] text (line ∷ lines, are, is) = absurd are
 lines_verdict (row ∷ rows) text ([], are, is) = absurd are
 lines_verdict (row ∷ rows) text (line ∷ lines, are, is) =
-    let first : third text ≡ 111 = ap third is ∙ row_third row line (concat lines) are.0 in
-    unmarked text (no_mark _ (λ e. omega (arith, e, first)) (λ e. omega (arith, e, first)) (λ e. omega (arith, e, first)))
+    let first : slice_index text 2 ≡ 111 = ap (λ t. slice_index t 2) is ∙ row_third row line (concat lines) are.0 in
+    unmarked_none text (unmarked text 111 first (λ e. omega (arith, e)) (λ e. omega (arith, e)) (λ e. omega (arith, e)))
 
 -- what writing the lines of rows leaves is no refusal
 pub written_rows : (rows : List Listed) (before after : Option (List ℕ)) → LeavesLines rows before after (Ok tt) → Leaves IsVerdict before after (Ok false)

@@ -4,15 +4,15 @@ use Rattle.std.specs.Io.KnownBytes.{Appends}
 use Rattle.hol_io.specs.declared.name.BlobName.{BlobName}
 use Rattle.hol_io.specs.Store.{Store, told}
 use Rattle.blob_grammar.specs.Decided.{AreBytes}
-use Rattle.hollow_top.specs.declared.refusal.Refusal.TheVariants.{NotYet}
-use Rattle.hollow_top.specs.declared.reply.Reply.{Reply}
-use Rattle.hollow_top.specs.declared.reply.Reply.TheVariants.{Refused}
+use Rattle.hol_orders.specs.declared.refusal.Refusal.TheVariants.{NotYet}
+use Rattle.hol_orders.specs.declared.reply.Reply.{Reply}
+use Rattle.hol_orders.specs.declared.reply.Reply.TheVariants.{Refused}
 use Rattle.hollow_top.specs.declared.stop.Stop.{Stop}
 use Rattle.hollow_top.specs.declared.stop.Stop.TheVariants.{Memory, Sink, Store as StoreFailed}
 use Rattle.hollow_top.specs.declared.words.Command.{Command}
 use Rattle.hollow_top.specs.declared.words.Command.TheVariants.{Run, Head, Show, Make}
 use Rattle.hollow_top.specs.Head.{HeadReply}
-use Rattle.hollow_top.specs.Reply.{is_refusal, line_of}
+use Rattle.hol_orders.specs.Reply.{is_refusal, line_of}
 use Rattle.hollow_top.specs.Show.{Shows}
 use Rattle.hollow_top.specs.Stopping.{GainsPart}
 

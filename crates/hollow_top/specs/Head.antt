@@ -9,10 +9,10 @@ use Rattle.blob_frame.specs.declared.fault.BlobFault.TheVariants as fault
 use Rattle.blob_frame.specs.declared.header.Header.{Header}
 use Rattle.blob_frame.specs.Header.{HeaderIs, StuckInHeader}
 use Rattle.blob_frame.specs.Scene.{Place}
-use Rattle.hollow_top.specs.declared.refusal.Refusal.{Refusal}
-use Rattle.hollow_top.specs.declared.refusal.Refusal.TheVariants.{NoBlob, BadBlob, TooLarge}
-use Rattle.hollow_top.specs.declared.reply.Reply.{Reply}
-use Rattle.hollow_top.specs.declared.reply.Reply.TheVariants.{Head, Refused}
+use Rattle.hol_orders.specs.declared.refusal.Refusal.{Refusal}
+use Rattle.hol_orders.specs.declared.refusal.Refusal.TheVariants.{NoBlob, BadBlob, TooLarge}
+use Rattle.hol_orders.specs.declared.reply.Reply.{Reply}
+use Rattle.hol_orders.specs.declared.reply.Reply.TheVariants.{Head, Refused}
 use Rattle.hollow_top.specs.declared.stop.Stop.{Stop}
 use Rattle.hollow_top.specs.declared.stop.Stop.TheVariants as stop
 
@@ -33,6 +33,7 @@ HeadRefusal name content _ = ⊥
 abbrev pub HeadIs : BlobName → Option (List ℕ) → Reply → Type 0
 HeadIs name content (Head header) = HasHeader content header
 HeadIs name content (Refused refusal) = HeadRefusal name content refusal
+HeadIs name content _ = ⊥
 
 -- The answer for the blob of a name in a store.
 abbrev pub HeadReply : Store → BlobName → Reply → Type 0

@@ -1,8 +1,6 @@
 pub mod Command
 pub mod Head
 pub mod HeldLines
-pub mod Refusal
-pub mod Reply
 pub mod RowLines
 pub mod Run
 pub mod Show

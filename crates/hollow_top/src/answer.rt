@@ -4,9 +4,9 @@ ghost use Rattle.hol_io.specs.Causes.{Rose};
 ghost use Rattle.hollow_top.specs.Command.{IsLineOf};
 ghost use Rattle.hollow_top.specs.Stopping.{IsVerdict, Leaves};
 
-use crate::reply::{Reply, reply_line};
 use crate::stop::Stop;
 use hol_io::{Sink, write_all};
+use hol_orders::{Reply, reply_line};
 use std::alloc::Global;
 
 /// Writes the line of an answer, and tells whether it is a refusal.

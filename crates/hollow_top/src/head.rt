@@ -6,11 +6,10 @@ ghost use Rattle.blob_frame.specs.Scene.{IsAbove};
 ghost use Rattle.hollow_top.specs.Head.{HeadReply, TellsHeader, refusal_of};
 ghost use Rattle.hollow_top.specs.Stopping.{StopsBefore};
 
-use crate::refusal::Refusal;
-use crate::reply::Reply;
 use crate::stop::Stop;
 use blob_frame::{BlobFault, Cursor, Header};
 use hol_io::{BlobName, BlobStore};
+use hol_orders::{Refusal, Reply};
 use std::alloc::Global;
 
 /// The header of a blob of the store, or the refusal of it: `NoBlob` where the store has no such

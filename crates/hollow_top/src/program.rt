@@ -9,12 +9,11 @@ ghost use Rattle.hollow_top.specs.Words.{Asks};
 
 use crate::answer::write_reply;
 use crate::head::head;
-use crate::refusal::Refusal;
-use crate::reply::Reply;
 use crate::show::show;
 use crate::stop::Stop;
 use crate::words::{Command, command_of};
 use hol_io::{BlobStore, Sink, Source};
+use hol_orders::{Refusal, Reply};
 use std::alloc::Global;
 
 /// What a run keeps from one order to the next.

@@ -6,12 +6,11 @@ ghost use Rattle.hollow_top.specs.Stopping.{GainsFront, IsVerdict, Leaves};
 
 use crate::answer::write_reply;
 use crate::head::{opened, refusal};
-use crate::refusal::Refusal;
-use crate::reply::Reply;
 use crate::row_lines::show_rows;
 use crate::stop::Stop;
 use blob_frame::BlobFault;
 use hol_io::{BlobName, BlobStore, Sink};
+use hol_orders::{Refusal, Reply};
 use snapshot_blob::laws::header_and_body;
 use snapshot_blob::read_body;
 use std::alloc::Global;

@@ -1,7 +1,7 @@
 use Rattle.std.proofs.Common.{inr, Ok, Err}
 use Rattle.hol_io.specs.declared.name.BlobName.TheVariants.{Snapshot}
 use Rattle.hollow_top.specs.Stopping.{IsVerdict, Leaves}
-use Rattle.hollow_top.proofs.Shown.{is_read, body_served, rows_written, rows_cut, rows_front}
+use Rattle.hollow_top.proofs.Shown.{is_read, header_served, body_served, rows_written, rows_cut, rows_front}
 use Rattle.hollow_top.proofs.Verdicts.{written_rows, stopped_rows}
 use Rattle.hollow_top.proofs.Writes.{failed}
 use Rattle.hollow_top.proofs.show.show.Goals as goal
@@ -50,3 +50,8 @@ returns-clause-served g c =
     (is_read (g.S.BlobStore.seen c.args.store.now).held (g.S.BlobStore.seen c.opened.new.store).held (Snapshot c.args.version) c.in-Ok.opened (Err c.in-Err-read_body.fault)
     c.in-Ok.ensures.kept c.in-Ok.ensures.named c.in-Ok.ensures.tells c.in-Err-read_body.ensures.tells)
     c.body_refusal.ensures c.in_ok-body_refusal-in-Err-read_body.was c.write_reply-in-Err-read_body.ensures.written
+
+pub returns-in-Err-clause-served : goal.returns-in-Err-clause-served
+returns-in-Err-clause-served g c =
+    header_served c.args.version (g.O.Sink.taken c.args.out.now) (g.O.Sink.taken c.write_reply.new.out) (g.S.BlobStore.seen c.args.store.now).held c.in-Err.fault
+    c.in_ok-refusal-in-Err.field-0 c.refusal.result c.write_reply.result c.in-Err.ensures.tells c.refusal.ensures c.in_ok-refusal-in-Err.was c.write_reply.ensures.written

@@ -1,0 +1,10 @@
+mod Wholes
+mod Missing
+mod Parts
+mod Lists
+mod OfKind
+mod Words
+mod Told
+mod Walks
+mod Floats
+pub mod ThirdBytes

@@ -1,0 +1,6 @@
+use Rattle.serde_json.specs.View.{view}
+use Rattle.hol_orders.proofs.Floats.{is_line}
+use Rattle.hol_orders.proofs.reply.reply_line.Goals as goal
+
+pub returns : goal.returns
+returns c = is_line c.args.reply.now (view c.in_ok-value.value) c.line_text.result c.in_ok-value.ensures c.line_text.ensures

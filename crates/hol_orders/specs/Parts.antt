@@ -1,0 +1,32 @@
+-- The parts of orders as JSON.
+use Rattle.std.specs.Prelude.{ℕ, ℤ, List, map, codes}
+use Rattle.serde_json.specs.Data.{Data, number, unsigned, array, object, no_items, item, no_members, member}
+use Rattle.serde_json.specs.Find.{of_integer}
+use Rattle.serde_json.specs.View.{items_of}
+
+-- a whole number
+abbrev pub whole : ℕ → Data
+whole n = number (unsigned n)
+
+-- an array of two
+abbrev pub pair : Data → Data → Data
+pair first second = array (item first (item second no_items))
+
+-- an array of three
+abbrev pub triple : Data → Data → Data → Data
+triple first second third = array (item first (item second (item third no_items)))
+
+-- an array of whole numbers
+abbrev pub versions_data : List ℕ → Data
+versions_data versions = array (items_of (map whole versions))
+
+-- an object that has members `add`, `tag` and `version` alone
+abbrev pub state_data : Data → Data → Data → Data
+state_data add tag version = object
+    (member (codes "add") add
+    (member (codes "tag") tag
+    (member (codes "version") version no_members)))
+
+-- what a cycle asks for
+abbrev pub cycle_data : ℕ → ℤ → Data → Data
+cycle_data version tag add = state_data add (number (of_integer tag)) (whole version)

@@ -1,0 +1,58 @@
+-- The parts of orders that stay JSON, and the numbers in them: which there are.
+use Rattle.std.specs.Prelude.{◌≡◌, ◌≢◌, ℕ, ◌+◌, ◌<◌, List, [], ◌∷◌, length, slice_index, Result, Ok, Err}
+use Rattle.serde_json.specs.Data.{Data, null, boolean, number, string, array, object, Items, no_items, item, Members, no_members, member}
+use Rattle.hol_io.specs.Name.{IsVersion}
+use Rattle.hol_orders.specs.declared.order.OrderFault.{OrderFault}
+use Rattle.hol_orders.specs.declared.order.OrderFault.TheVariants.{BadOrder, Memory}
+
+-- a text
+abbrev pub IsText : Data → Type 0
+IsText (string text) = Unit {0}
+IsText _ = ⊥
+
+-- texts alone
+abbrev pub AreTexts : Items → Type 0
+AreTexts no_items = Unit {0}
+AreTexts (item json rest) = IsText json × AreTexts rest
+
+-- key paths: an array of texts
+abbrev pub ArePaths : Data → Type 0
+ArePaths (array paths) = AreTexts paths
+ArePaths _ = ⊥
+
+-- an array, whatever stands in it
+abbrev pub IsArray : Data → Type 0
+IsArray (array items) = Unit {0}
+IsArray _ = ⊥
+
+-- members whose values are arrays
+abbrev pub AreArrays : Members → Type 0
+AreArrays no_members = Unit {0}
+AreArrays (member name json rest) = IsArray json × AreArrays rest
+
+-- records to be added: an object that has an array under each name
+abbrev pub AreRecords : Data → Type 0
+AreRecords (object types) = AreArrays types
+AreRecords _ = ⊥
+
+-- Each is a version.
+abbrev pub AreVersions : List ℕ → Type 0
+AreVersions [] = Unit {0}
+AreVersions (version ∷ rest) = IsVersion version × AreVersions rest
+
+-- No two neighbours are the same.
+abbrev pub DoNeighboursDiffer : List ℕ → Type 0
+DoNeighboursDiffer versions = (place : ℕ) → place + 1 < length versions → slice_index versions place ≢ slice_index versions (place + 1)
+
+-- versions to be walked: one or more, of which neighbours differ
+pub record IsWalk (versions : List ℕ) : Type 0 where
+  pub each : AreVersions versions
+  pub some : 0 < length versions
+  pub apart : DoNeighboursDiffer versions
+
+-- What looking for a thing in JSON answers: the one that the JSON spells, or `BadOrder` exactly where it spells none,
+-- unless memory is refused.
+abbrev pub Finds : {T : Type 0} → (T → Type 0) → (T → Data) → Data → Result T OrderFault → Type 0
+Finds Fits spelled json (Ok thing) = Fits thing × (spelled thing ≡ json)
+Finds {T = T} Fits spelled json (Err BadOrder) = (thing : T) → Fits thing → spelled thing ≢ json
+Finds Fits spelled json (Err Memory) = Unit {0}

@@ -1,0 +1,22 @@
+//! The shapes of orders, and the lines of answers and refusals.
+#![tactic(auto)]
+
+mod json;
+mod kind;
+pub mod laws;
+mod line;
+mod order;
+mod refusal;
+mod refusal_json;
+mod reply;
+mod shapes;
+
+pub use kind::Kind;
+pub use line::put_line;
+pub use order::{Order, OrderFault, Versions, order_of};
+pub use refusal::{MAX_LINE_BYTES, Refusal, RowPlace};
+pub use refusal_json::refusal_value;
+pub use reply::{Reply, put_reply, reply_line};
+
+#[cfg(test)]
+mod tests;

@@ -1,0 +1,159 @@
+//! The orders, and the reading of one from a line.
+ghost use Rattle.std.specs.Prelude.{◌≡◌, ◌⊎◌, Ok, Err, IsErrAnd};
+ghost use Rattle.hol_varint.specs.Yields.{Yields};
+ghost use Rattle.hol_orders.specs.Order.{Orders, TellsOrder, IsFreeOrder, order_data};
+
+use crate::json::only_member;
+use crate::kind::Kind;
+use crate::shapes::order_with;
+use hol_varint::List;
+use schema_model::Name;
+use serde_json::Value;
+use std::alloc::{AllocError, AllocFailed, Global};
+
+/// Versions that are walked, in their order.
+pub type Versions = List<u64>;
+
+/// What one line of a script asks for. Versions are numbers from 1 to 2^63 - 1.
+#[derive(Debug, Drop)]
+pub enum Order {
+    /// `{"model":[S1,S2]}`: makes a new producer of these schemas, which are still JSON.
+    Model(Value),
+    /// `{"cycle":{"version":V,"tag":T,"add":{type:[records]}}}`: publishes the next state.
+    Cycle {
+        /// The version that it is to have.
+        version: u64,
+        /// The tag that it is to have.
+        tag: i64,
+        /// Its records by type, still JSON: an object of arrays.
+        add: Value,
+    },
+    /// `{"restore":V}`: takes a producer up again at a version.
+    Restore(u64),
+    /// `{"load":V}`: loads the snapshot of a version into the consumer.
+    Load(u64),
+    /// `{"step":[U,V]}`: moves the consumer from one version to another one.
+    Step {
+        /// The version from which it leads.
+        from: u64,
+        /// The version to which it leads.
+        to: u64,
+    },
+    /// `{"index":[type,[paths]]}`: keeps an index.
+    Index {
+        /// The name of the type.
+        type_name: Name,
+        /// The paths, still JSON: an array of texts. None is the primary key.
+        paths: Value,
+    },
+    /// `{"get":[type,[values]]}`: shows the row that has this primary key.
+    Get {
+        /// The name of the type.
+        type_name: Name,
+        /// The values of the key, still JSON: an array.
+        values: Value,
+    },
+    /// `{"find":[type,[paths],[values]]}`: lists the rows that have a key.
+    Find {
+        /// The name of the type.
+        type_name: Name,
+        /// The paths, still JSON: an array of texts. None is the primary key.
+        paths: Value,
+        /// The values of the key, still JSON: an array.
+        values: Value,
+    },
+    /// `{"live":type}`: lists the live ordinals of a type.
+    Live(Name),
+    /// `{"row":[type,o]}`: shows a row.
+    Row {
+        /// The name of the type.
+        type_name: Name,
+        /// The ordinal of the row.
+        ordinal: u32,
+    },
+    /// `{"has":[type,o,e]}`: tells whether a set has an element.
+    Has {
+        /// The name of the type.
+        type_name: Name,
+        /// The ordinal of the set's row.
+        ordinal: u32,
+        /// The ordinal of the element.
+        element: u32,
+    },
+    /// `{"at":[type,o,k]}`: looks up a key in a map.
+    At {
+        /// The name of the type.
+        type_name: Name,
+        /// The ordinal of the map's row.
+        ordinal: u32,
+        /// The ordinal of the key.
+        key: u32,
+    },
+    /// `{"past":type}`: shows the rows of a type that the last step removed.
+    Past(Name),
+    /// `{"check":[v1,v2]}`: walks along one or more versions, of which neighbours differ.
+    Check(Versions),
+    /// `{"stat":true}`: counts what the consumer keeps.
+    Stat,
+}
+
+/// Why a line is not read.
+#[derive(Clone, Copy, Debug, PartialEq, Eq)]
+pub enum OrderFault {
+    /// The line is no order.
+    BadOrder,
+    /// Memory was refused.
+    Memory,
+}
+
+impl From<AllocError> for OrderFault {
+    ghost use Rattle.std.specs.Prelude.{◌≡◌};
+    ghost use Rattle.hol_orders.specs.declared.order.OrderFault.TheVariants.{Memory};
+
+    ghost from_gives = { λ _ fault. fault ≡ Memory };
+
+    fn from(_error: AllocError) -> OrderFault {
+        OrderFault::Memory
+    }
+}
+
+impl<T: Drop> From<AllocFailed<T>> for OrderFault {
+    ghost use Rattle.std.specs.Prelude.{◌≡◌};
+    ghost use Rattle.hol_orders.specs.declared.order.OrderFault.TheVariants.{Memory};
+
+    ghost from_gives = { λ _ fault. fault ≡ Memory };
+
+    fn from(_failed: AllocFailed<T>) -> OrderFault {
+        OrderFault::Memory
+    }
+}
+
+/// The order that a line is, without the newline. `BadOrder` comes exactly where the line is not one JSON value in UTF-8,
+/// nested at most 127 deep, or has the shape of no order. Of a member that is given twice the last one counts.
+#[tactic(auto, using(crate::proofs::Told::found_told, crate::proofs::Told::bad_told))]
+pub fn order_of(alloc: Global, line: &[u8]) -> Result<Order, OrderFault>
+    ensures tells { TellsOrder line.now result }
+    ensures found { (order : Order) → Orders line.now order
+        → ((same : Order) × (result ≡ Ok same) × (order_data same ≡ order_data order)) ⊎ IsErrAnd result IsFreeOrder }
+    ensures bad { Yields IsFreeOrder result (Err OrderFault.BadOrder) ((order : Order) → ¬ Orders line.now order) }
+{
+    read_order(alloc, line)
+}
+
+// The same, step by step.
+fn read_order(alloc: Global, line: &[u8]) -> Result<Order, OrderFault>
+    ensures { TellsOrder line.now result }
+{
+    let value = match Value::from_slice(alloc, line) {
+        Ok(value) => value,
+        Err(error) if error.is_memory() => return Err(OrderFault::Memory),
+        Err(_) => return Err(OrderFault::BadOrder),
+    };
+    let Some((word, content)) = only_member(value) else {
+        return Err(OrderFault::BadOrder);
+    };
+    match Kind::of_word(word.as_str()) {
+        Some(kind) => order_with(alloc, kind, content),
+        None => Err(OrderFault::BadOrder),
+    }
+}

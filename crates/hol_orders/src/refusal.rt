@@ -1,0 +1,127 @@
+//! The refusals of commands and orders.
+use hol_io::BlobName;
+use schema_model::{Limit, Name, Reason, Rule};
+
+/// How many bytes a line of orders has at most, without its newline.
+pub const MAX_LINE_BYTES: u64 = 0x400_0000;
+
+/// A row, by the name of its type and its ordinal.
+#[derive(Debug, Drop)]
+pub struct RowPlace {
+    /// The name of the row's type.
+    pub type_name: Name,
+    /// The row's ordinal.
+    pub ordinal: u64,
+}
+
+/// Why a command or an order is refused. Each refusal has a number of its own, which its line tells beside its name and
+/// its members.
+#[derive(Debug, Drop)]
+pub enum Refusal {
+    /// 10: the line is not one JSON value in UTF-8, or has the shape of no order.
+    BadOrder,
+    /// 11: the line has more than `MAX_LINE_BYTES` bytes; it is passed over.
+    LineTooLong,
+    /// 12: the schemas are no model.
+    BadModel {
+        /// The first rule that is broken.
+        rule: Rule,
+        /// The name of the first type that breaks it.
+        type_name: Name,
+    },
+    /// 13: there is no producer.
+    NoModel,
+    /// 14: there is a producer.
+    ModelFixed,
+    /// 15: a record does not fit its type.
+    BadRecord {
+        /// The name of the type.
+        type_name: Name,
+        /// The place of the record among those of its type, from 0.
+        index: u64,
+        /// Why it does not fit.
+        reason: Reason,
+    },
+    /// 16: the version is not above this one, the greatest in any name of the store, 0 where there is none.
+    BadVersion(u64),
+    /// 17: the tag is 0, or a blob of the store has it.
+    TagUsed(i64),
+    /// 18: the store has no blob of this name.
+    NoBlob(BlobName),
+    /// 19: an item of the blob cannot be read, or breaks a rule.
+    BadBlob {
+        /// The blob's name.
+        blob: BlobName,
+        /// The offset of the item, and for a row that of its type's schema.
+        at: u64,
+        /// Why it is refused.
+        reason: Reason,
+        /// The row, where it is a row that breaks the rule.
+        row: Option<RowPlace>,
+    },
+    /// 20: the blob does not start from the consumer's state.
+    OtherOrigin {
+        /// The blob's name.
+        blob: BlobName,
+        /// The tag that it starts from.
+        found: i64,
+        /// The tag of the consumer.
+        current: i64,
+    },
+    /// 21: the consumer has no state.
+    NoState,
+    /// 22: the model has no type of this name.
+    NoType(Name),
+    /// 23: the ordinal is not live.
+    NoRow(RowPlace),
+    /// 24: this path does not resolve; it is empty where the type has no primary key and it is asked for.
+    BadPath(Name),
+    /// 25: no live row has the key.
+    NoMatch,
+    /// 26: two or more live rows have the key.
+    Ambiguous {
+        /// The ordinal of the first one.
+        first: u32,
+        /// The ordinal of the second one.
+        second: u32,
+    },
+    /// 27: the state that was walked to differs from the snapshot.
+    Mismatch {
+        /// The version of both.
+        version: u64,
+        /// The name of the type in which they differ, where their tags are the same.
+        type_name: Option<Name>,
+        /// The ordinal in which they differ, where the type has one schema in both.
+        ordinal: Option<u32>,
+    },
+    /// 28: a counted number passes this limit.
+    TooLarge(Limit),
+    /// 29: two rows of a type are equal in the snapshot that is to be taken up.
+    DuplicateRow {
+        /// The name of the type.
+        type_name: Name,
+        /// The ordinal of the first one.
+        first: u32,
+        /// The ordinal of the second one.
+        second: u32,
+    },
+    /// 30: a schema of the blob is not the consumer's.
+    OtherModel {
+        /// The blob's name.
+        blob: BlobName,
+        /// The name of the type.
+        type_name: Name,
+    },
+    /// 31: the version is not this one, the announced version, 0 where there is none.
+    NotLast(u64),
+    /// 32: no index is kept for the paths.
+    NoIndex,
+    /// 33: the type of this name is of another kind.
+    WrongKind(Name),
+    /// 34: the values are no key.
+    BadKey,
+    /// 90: the command or the order is not built.
+    NotYet,
+    /// 92: the blob's header can be read, but the rest of the blob is refused.
+    BadBody(BlobName),
+}

@@ -1,0 +1,146 @@
+//! What a command or an order answers in one line, and the line of each answer.
+ghost use Rattle.std.specs.Prelude.{◌≡◌, ◌++◌, IfOk, OnOk, OnErr, string_bytes};
+ghost use Rattle.serde_json.specs.View.{view};
+ghost use Rattle.hol_orders.specs.Reply.{reply_data, head_data, model_data, cycle_data, texts_data, names_data, tags_data, is_refusal, line_of};
+
+use crate::line::{line_text, put_line};
+use crate::refusal::Refusal;
+use crate::refusal_json::refusal_value;
+use blob_frame::Header;
+use schema_model::{NamePairs, Names, Schemas};
+use serde_json::{Value, json};
+use std::alloc::{AllocError, Global};
+
+/// What a command or an order answers in one line.
+#[derive(Debug, Drop)]
+pub enum Reply {
+    /// The header of a blob.
+    Head(Header),
+    /// A new producer, of so many types.
+    Model(u32),
+    /// The next state of the producer.
+    Cycle {
+        /// The names of the types that changed, in model order.
+        changed: Names,
+        /// Whether blobs were put.
+        published: bool,
+        /// The version that was asked for.
+        version: u64,
+    },
+    /// Why the command or the order is refused.
+    Refused(Refusal),
+}
+
+impl Reply {
+    /// Whether the command or the order is refused.
+    pub fn is_refusal(&self) -> bool
+        ensures { result ≡ is_refusal self.now }
+    {
+        matches!(self, Reply::Refused(_))
+    }
+}
+
+/// The line of an answer: one JSON object without spaces, its members in byte order of their names,
+/// and a newline.
+pub fn reply_line(alloc: Global, reply: &Reply) -> Result<String, AllocError>
+    ensures { IfOk result (λ line. string_bytes line ≡ line_of reply.now) }
+{
+    let value = reply_value(alloc, reply)?;
+    line_text(alloc, &value)
+}
+
+/// Appends the line of an answer. Where memory is refused `out` stays as it was.
+pub fn put_reply(alloc: Global, out: &mut Vec<u8>, reply: &Reply) -> Result<(), AllocError>
+    ensures put { OnOk result (out.new.items ≡ out.old.items ++ line_of reply.now) }
+    ensures err { OnErr result (out.new.items ≡ out.old.items) }
+{
+    let value = reply_value(alloc, reply)?;
+    put_line(alloc, out, &value)
+}
+
+// The JSON object of an answer, which has no number with a fraction or an exponent.
+fn reply_value(alloc: Global, reply: &Reply) -> Result<Value, AllocError>
+    ensures { IfOk result (λ value. view value ≡ reply_data reply.now) }
+{
+    match reply {
+        Reply::Head(header) => head_value(alloc, header),
+        Reply::Model(types) => model_value(alloc, *types),
+        Reply::Cycle {
+            changed,
+            published,
+            version,
+        } => cycle_value(alloc, changed, *published, *version),
+        Reply::Refused(refusal) => refusal_value(alloc, refusal),
+    }
+}
+
+fn head_value(alloc: Global, header: &Header) -> Result<Value, AllocError>
+    ensures { IfOk result (λ value. view value ≡ head_data header.now) }
+{
+    let schemas = names_value(alloc, &header.schemas)?;
+    let tags = tags_value(alloc, &header.tags)?;
+    json!(in alloc; {
+        "destination": (header.destination),
+        "format": 1030u64,
+        "ok": "head",
+        "origin": (header.origin),
+        "schemas": schemas,
+        "tags": tags
+    })
+}
+
+fn model_value(alloc: Global, types: u32) -> Result<Value, AllocError>
+    ensures { IfOk result (λ value. view value ≡ model_data types) }
+{
+    json!(in alloc; {"ok": "model", "types": types})
+}
+
+fn cycle_value(
+    alloc: Global,
+    changed: &Names,
+    published: bool,
+    version: u64,
+) -> Result<Value, AllocError>
+    ensures { IfOk result (λ value. view value ≡ cycle_data changed.now published version) }
+{
+    let changed = texts_value(alloc, changed)?;
+    json!(in alloc; {
+        "changed": changed,
+        "ok": "cycle",
+        "published": published,
+        "version": version
+    })
+}
+
+// Names, in their order.
+fn texts_value(alloc: Global, names: &Names) -> Result<Value, AllocError>
+    ensures { IfOk result (λ value. view value ≡ texts_data names.now) }
+{
+    let mut texts = Vec::new(alloc);
+    for name in names.as_slice() {
+        texts.push(Value::try_from_str(alloc, name.text())?)?;
+    }
+    Ok(Value::Array(texts))
+}
+
+// The names of schemas, in their order.
+fn names_value(alloc: Global, schemas: &Schemas) -> Result<Value, AllocError>
+    ensures { IfOk result (λ value. view value ≡ names_data schemas.now) }
+{
+    let mut names = Vec::new(alloc);
+    for schema in schemas.as_slice() {
+        names.push(Value::try_from_str(alloc, schema.name.text())?)?;
+    }
+    Ok(Value::Array(names))
+}
+
+// The pairs of a header, in their order.
+fn tags_value(alloc: Global, tags: &NamePairs) -> Result<Value, AllocError>
+    ensures { IfOk result (λ value. view value ≡ tags_data tags.now) }
+{
+    let mut pairs = Vec::new(alloc);
+    for tag in tags.as_slice() {
+        pairs.push(json!(in alloc; [(tag.0.text()), (tag.1.text())])?)?;
+    }
+    Ok(Value::Array(pairs))
+}
