@@ -1,5 +1,7 @@
 mod BucketRows
+mod Samples
 pub mod Columns
 pub mod EmptyRows
 pub mod OneState
-mod Samples
+pub mod SmallTypes
+pub mod TwoStates

@@ -9,3 +9,7 @@ mod chosen;
 mod empty;
 #[cfg(test)]
 mod packed;
+#[cfg(test)]
+mod two_states;
+#[cfg(test)]
+mod written;

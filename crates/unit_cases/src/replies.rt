@@ -1,6 +1,7 @@
 //! A command that is answered, and the lines of refusals.
 use hol_io::{BlobName, MemSink, MemSource, MemStore};
-use hollow_top::{Keep, Refusal, Reply, RowPlace, reply_line, run};
+use hol_orders::{Refusal, Reply, RowPlace, reply_line};
+use hollow_top::{Keep, run};
 use schema_model::{Limit, Name, Reason};
 use std::alloc::Global;
 use std::test::Fail;
