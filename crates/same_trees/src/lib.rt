@@ -1,0 +1,7 @@
+//! When two trees are the same record.
+#![tactic(auto)]
+
+mod same;
+mod values;
+
+pub use same::same_tree;
