@@ -388,18 +388,32 @@ none_at zero t ordinal = refl
 none_at (suc count) zero ordinal = get-empty nat_cmp ordinal
 none_at (suc count) (suc t) ordinal = none_at count t ordinal
 
+of_sound : (schemas : List Schema) (table : Table) → IsSound schemas table → IsClosedTableOf schemas table
+of_sound schemas table sound = record {
+  fits = record {
+    types = sound.types;
+    rows = λ t o schema row here is. (sound.each t o schema row here is).fits;
+    ranges = λ t o schema row here is. (sound.each t o schema row here is).range;
+  };
+  closed = λ t o schema row here is. (sound.each t o schema row here is).live;
+}
+
+none_sound : (schemas : List Schema) → IsSound schemas (no_rows (length schemas))
+none_sound schemas = record {
+  types = length-replicate (length schemas) empty;
+  each = λ t o schema row here is. absurd (let e = sym (none_at (length schemas) t o) ∙ is in cc);
+}
+
+-- the table without rows
+pub none_closed : (schemas : List Schema) → IsClosedTableOf schemas (no_rows (length schemas))
+none_closed schemas = of_sound schemas (no_rows (length schemas)) (none_sound schemas)
+
+pub added_closed : (schemas : List Schema) (previous before after : Table) (t ordinal : ℕ) (tree : PlainTree) → Adds schemas previous t tree before ordinal after → IsClosedTableOf schemas before → IsClosedTableOf schemas after
+added_closed schemas previous before after t ordinal tree adds closed =
+    of_sound schemas after (adds_sound schemas previous tree t before after ordinal adds record {
+      types = closed.fits.types;
+      each = λ t o schema row here is. record { fits = closed.fits.rows t o schema row here is; range = closed.fits.ranges t o schema row here is; live = closed.closed t o schema row here is };
+    }).0.sound
+
 pub next_closed : (schemas : List Schema) (previous next : Table) (records : List (ℕ × PlainTree)) → Next schemas previous records next → IsClosedTableOf schemas next
-next_closed schemas previous next records made =
-    let start : IsSound schemas (no_rows (length schemas)) = record {
-      types = length-replicate (length schemas) empty;
-      each = λ t o schema row here is. absurd (let e = sym (none_at (length schemas) t o) ∙ is in cc);
-    } in
-    let sound = records_sound schemas previous records (no_rows (length schemas)) next made start in
-    record {
-      fits = record {
-        types = sound.types;
-        rows = λ t o schema row here is. (sound.each t o schema row here is).fits;
-        ranges = λ t o schema row here is. (sound.each t o schema row here is).range;
-      };
-      closed = λ t o schema row here is. (sound.each t o schema row here is).live;
-    }
+next_closed schemas previous next records made = of_sound schemas next (records_sound schemas previous records (no_rows (length schemas)) next made (none_sound schemas))

@@ -1,5 +1,12 @@
+pub mod Changes
 pub mod ClosedStates
+pub mod Gathering
 pub mod Members
 pub mod NextStates
+pub mod Numbers
 pub mod OneState
+pub mod Parts
+pub mod Puts
+pub mod Producing
 pub mod RisingLists
+pub mod StateRows

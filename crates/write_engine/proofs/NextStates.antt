@@ -101,7 +101,7 @@ module _ (schemas : List Schema) (previous : Table) where
 
 -- ---- the start of a cycle
 
-none_there : (count t : ℕ) → rows_in (no_rows count) t ≡ empty
+pub none_there : (count t : ℕ) → rows_in (no_rows count) t ≡ empty
 none_there zero t = refl
 none_there (suc count) zero = refl
 none_there (suc count) (suc t) = none_there count t

@@ -1,4 +1,16 @@
-//! How the records of a cycle make the next state of a producer: the definitions, and their laws.
+//! How the records of a cycle make the next state of a producer: the definitions, their laws, and the producer itself.
 #![tactic(auto)]
 
+mod adding;
+mod gather;
 pub mod laws;
+mod leaf;
+mod producer;
+mod states;
+mod views;
+
+pub use producer::{Closed, Producer};
+pub use views::{Current, Previous};
+
+#[cfg(test)]
+mod tests;

@@ -1,0 +1,8 @@
+use Rattle.write_engine.proofs.Puts.{puts_row, same_previous}
+use Rattle.write_engine.proofs.adding.put_row.Goals as goal
+
+pub returns-clause-put : goal.returns-clause-put
+returns-clause-put c = puts_row c.args.maps.now c.args.type_index c.args.row c.put.new.self c.index-maps-type_index.result c.put.result c.requires c.put.ensures.tells
+
+pub returns-clause-previous : goal.returns-clause-previous
+returns-clause-previous c = same_previous c.args.maps.now c.args.type_index c.args.row c.put.new.self c.index-maps-type_index.result c.put.result c.requires c.put.ensures.tells

@@ -1,0 +1,194 @@
+//! A producer: the previous state, and the cycle that makes the next one.
+ghost use Rattle.std.specs.Prelude.{◌≡◌, ◌↔◌, IfOk, IsTrue, OnErr, OnOk, true, false, length};
+ghost use Rattle.schema_model.specs.Tree.{plain};
+ghost use Rattle.write_engine.specs.Agreement.{TablesAgree};
+ghost use Rattle.write_engine.specs.Cycle.{Adds, no_rows};
+ghost use Rattle.write_engine.specs.FitsTree.{FitsTree};
+ghost use Rattle.write_engine.specs.Production.{AreChanged, IsProducing, IsStart, advanced_to, current_of, previous_of, without_rows};
+ghost use Rattle.write_engine.specs.Soundness.{IsClosedTableOf};
+
+use crate::adding::add_tree;
+use crate::states::{advance_all, changed_types, make_states, undo_all};
+use crate::views::{Current, Previous};
+use hol_varint::Ordinals;
+use ordinal_map::{OrdinalMap, PutRowFault};
+use schema_model::{Model, Tree};
+use std::alloc::{AllocError, Global};
+
+/// What a closed cycle has changed.
+#[derive(Drop)]
+pub struct Closed {
+    /// The indexes of the types whose ordinals and rows differ from the previous state's, rising.
+    pub changed: Ordinals,
+    /// Whether the producer's version is 0.
+    pub first: bool,
+}
+
+/// The previous state with its tag and version, and the rows of the cycle that makes the next one.
+#[derive(Drop)]
+pub struct Producer {
+    alloc: Global,
+    model: Model,
+    /// The rows of each type, in model order.
+    maps: Vec<OrdinalMap>,
+    tag: i64,
+    version: u64,
+    closed: bool,
+}
+
+impl std::marker::Model for Producer {
+    ghost use Rattle.write_engine.specs.Production.{IsProducing, Production, current_of, previous_of, production_code};
+
+    ghost Value = { Production };
+
+    ghost coded = { production_code };
+
+    ghost view = { λ p. record { schemas = p.model; previous = previous_of p.maps.items; current = current_of p.maps.items; tag = p.tag; version = p.version; closed = p.closed } };
+
+    ghost invariant = { λ p. IsProducing p.model p.maps.items };
+}
+
+// Adds a tree to the rows of its type, with all that it refers to.
+fn add_rows(
+    alloc: Global,
+    model: &Model,
+    maps: &mut Vec<OrdinalMap>,
+    type_index: u32,
+    tree: &Tree,
+) -> Result<u32, PutRowFault>
+    requires types { length maps.old.items ≡ length model.now }
+    requires fits { FitsTree model.now type_index (plain tree.now) }
+    ensures previous { previous_of maps.new.items ≡ previous_of maps.old.items }
+    ensures added { IfOk result (λ ordinal. Adds model.now (previous_of maps.old.items) type_index (plain tree.now) (current_of maps.old.items) ordinal (current_of maps.new.items)) }
+{
+    add_tree(alloc, model, maps.as_mut_slice(), type_index, tree)
+}
+
+// Adds a tree; where it is refused, drops the cycle's rows.
+fn add_or_undo(
+    alloc: Global,
+    model: &Model,
+    maps: &mut Vec<OrdinalMap>,
+    type_index: u32,
+    tree: &Tree,
+) -> Result<u32, PutRowFault>
+    requires producing { IsProducing model.now maps.old.items }
+    requires fits { FitsTree model.now type_index (plain tree.now) }
+    ensures producing { IsProducing model.now maps.new.items }
+    ensures previous { previous_of maps.new.items ≡ previous_of maps.old.items }
+    ensures added { IfOk result (λ ordinal. Adds model.now (previous_of maps.old.items) type_index (plain tree.now) (current_of maps.old.items) ordinal (current_of maps.new.items)) }
+    ensures undone { OnErr result (current_of maps.new.items ≡ no_rows (length model.now)) }
+{
+    match add_rows(alloc, model, maps, type_index, tree) {
+        Ok(ordinal) => Ok(ordinal),
+        Err(fault) => {
+            undo_all(maps);
+            Err(fault)
+        }
+    }
+}
+
+impl Producer {
+    /// A producer at version 0, whose previous state has no rows.
+    pub fn new(alloc: Global, model: Model) -> Result<Producer, AllocError>
+        ensures { IfOk result (IsStart model) }
+    {
+        let maps = make_states(alloc, model.len())?;
+        Ok(Producer {
+            alloc,
+            model,
+            maps,
+            tag: 0,
+            version: 0,
+            closed: false,
+        })
+    }
+
+    /// The model of the rows.
+    pub fn model(&self) -> &Model
+        ensures { result.now ≡ self.now.schemas }
+    {
+        &self.model
+    }
+
+    /// The tag of the previous state.
+    pub fn tag(&self) -> i64
+        ensures { result ≡ self.now.tag }
+    {
+        self.tag
+    }
+
+    /// The version of the previous state, 0 for none.
+    pub fn version(&self) -> u64
+        ensures { result ≡ self.now.version }
+    {
+        self.version
+    }
+
+    /// The rows of the previous state.
+    pub fn previous(&self) -> Previous<'_>
+        ensures schemas { result.schemas ≡ self.now.schemas }
+        ensures table { result.table ≡ self.now.previous }
+        ensures closed { IsClosedTableOf self.now.schemas self.now.previous }
+    {
+        Previous::new(&self.model, self.maps.as_slice())
+    }
+
+    /// The rows of the cycle so far.
+    pub fn current(&self) -> Current<'_>
+        ensures schemas { result.schemas ≡ self.now.schemas }
+        ensures table { result.table ≡ self.now.current }
+        ensures closed { IsClosedTableOf self.now.schemas self.now.current }
+        ensures agree { TablesAgree self.now.previous self.now.current }
+    {
+        Current::new(&self.model, self.maps.as_slice())
+    }
+
+    /// Adds a record to the cycle, with all that it refers to, and gives the ordinal of its top row.
+    ///
+    /// After a refusal the cycle has no rows: all that it added is dropped.
+    pub fn add(&mut self, type_index: u32, tree: &Tree) -> Result<u32, PutRowFault>
+        requires fits { FitsTree self.old.schemas type_index (plain tree.now) }
+        requires open { self.old.closed ≡ false }
+        ensures added { IfOk result (λ ordinal. Adds self.old.schemas self.old.previous type_index (plain tree.now) self.old.current ordinal self.new.current) }
+        ensures kept { self.new ≡ record self.old { current = self.new.current } }
+        ensures undone { OnErr result (self.new.current ≡ no_rows (length self.old.schemas)) }
+    {
+        add_or_undo(self.alloc, &self.model, &mut self.maps, type_index, tree)
+    }
+
+    /// Closes the cycle, and tells which types it has changed. After a refusal the cycle is open, with its rows.
+    pub fn close(&mut self) -> Result<Closed, AllocError>
+        requires open { self.old.closed ≡ false }
+        ensures changed { IfOk result (λ closed. AreChanged self.old.previous self.old.current closed.changed) }
+        ensures first { IfOk result (λ closed. IsTrue closed.first ↔ (self.old.version ≡ 0)) }
+        ensures ok { OnOk result (self.new ≡ record self.old { closed = true }) }
+        ensures err { OnErr result (self.new ≡ self.old) }
+    {
+        let changed = changed_types(self.alloc, self.maps.as_slice(), self.model.len())?;
+        self.closed = true;
+        Ok(Closed {
+            changed,
+            first: self.version == 0,
+        })
+    }
+
+    /// Drops the cycle: its rows leave, and it is open. It takes no memory.
+    pub fn undo(&mut self)
+        ensures { self.new ≡ without_rows self.old }
+    {
+        undo_all(&mut self.maps);
+        self.closed = false;
+    }
+
+    /// Makes the closed cycle the previous state, with its tag and version. The next cycle has no rows. It takes no memory.
+    pub fn advance(&mut self, tag: i64, version: u64)
+        requires closed { self.old.closed ≡ true }
+        ensures { self.new ≡ advanced_to tag version self.old }
+    {
+        advance_all(&mut self.maps);
+        self.tag = tag;
+        self.version = version;
+        self.closed = false;
+    }
+}
