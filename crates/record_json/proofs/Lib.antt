@@ -1,0 +1,2 @@
+pub mod ReadingTrees
+pub mod TreeParts

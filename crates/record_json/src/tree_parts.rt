@@ -1,0 +1,64 @@
+//! Trees made of parts that were read.
+ghost use Rattle.std.specs.Prelude.{List, Ok, Result};
+ghost use Rattle.schema_model.specs.PlainTree.{PlainTree, list, map as map_tree, object, pairs_of_list, set, trees_of_list};
+ghost use Rattle.schema_model.specs.Tree.{plain, plain_pair, plain_pairs, plain_trees};
+ghost use Rattle.schema_model.specs.declared.reason.Reason.{Reason};
+ghost use Rattle.record_json.specs.ReadTree.{TellsAs, key_then, made};
+
+use json_rows::JsonFault;
+use schema_model::{Tree, TreePairs, Trees};
+
+/// The record with these parts.
+#[tactic(auto, using(crate::proofs::TreeParts::object_made, crate::proofs::TreeParts::made_not))]
+pub(crate) fn object_of(parts: Result<Trees, JsonFault>) -> Result<Tree, JsonFault>
+    ensures { (read : Result (List PlainTree) Reason) → TellsAs plain_trees read parts → TellsAs plain (made (λ trees. object (trees_of_list trees)) read) result }
+{
+    match parts {
+        Ok(parts) => Ok(Tree::Object(parts)),
+        Err(fault) => Err(fault),
+    }
+}
+
+/// The list with these elements.
+#[tactic(auto, using(crate::proofs::TreeParts::list_made, crate::proofs::TreeParts::made_not))]
+pub(crate) fn list_of(parts: Result<Trees, JsonFault>) -> Result<Tree, JsonFault>
+    ensures { (read : Result (List PlainTree) Reason) → TellsAs plain_trees read parts → TellsAs plain (made (λ trees. list (trees_of_list trees)) read) result }
+{
+    match parts {
+        Ok(parts) => Ok(Tree::List(parts)),
+        Err(fault) => Err(fault),
+    }
+}
+
+/// The set with these elements.
+#[tactic(auto, using(crate::proofs::TreeParts::set_made, crate::proofs::TreeParts::made_not))]
+pub(crate) fn set_of(parts: Result<Trees, JsonFault>) -> Result<Tree, JsonFault>
+    ensures { (read : Result (List PlainTree) Reason) → TellsAs plain_trees read parts → TellsAs plain (made (λ trees. set (trees_of_list trees)) read) result }
+{
+    match parts {
+        Ok(parts) => Ok(Tree::Set(parts)),
+        Err(fault) => Err(fault),
+    }
+}
+
+/// The map with these pairs.
+#[tactic(auto, using(crate::proofs::TreeParts::map_made, crate::proofs::TreeParts::made_not))]
+pub(crate) fn map_of(pairs: Result<TreePairs, JsonFault>) -> Result<Tree, JsonFault>
+    ensures { (read : Result (List (PlainTree × PlainTree)) Reason) → TellsAs plain_pairs read pairs → TellsAs plain (made (λ pairs. map_tree (pairs_of_list pairs)) read) result }
+{
+    match pairs {
+        Ok(pairs) => Ok(Tree::Map(pairs)),
+        Err(fault) => Err(fault),
+    }
+}
+
+/// The pair of a key and its value.
+#[tactic(auto, using(crate::proofs::TreeParts::pair_made, crate::proofs::TreeParts::pair_not))]
+pub(crate) fn pair_of(key: Tree, value: Result<Tree, JsonFault>) -> Result<(Tree, Tree), JsonFault>
+    ensures { (read : Result PlainTree Reason) → TellsAs plain read value → TellsAs plain_pair (key_then (Ok (plain key)) read) result }
+{
+    match value {
+        Ok(value) => Ok((key, value)),
+        Err(fault) => Err(fault),
+    }
+}
