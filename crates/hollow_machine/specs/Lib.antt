@@ -1,0 +1,4 @@
+pub mod ModelOrder
+pub mod Script
+pub mod State
+pub mod Step

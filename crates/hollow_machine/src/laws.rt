@@ -1,0 +1,19 @@
+//! Laws of the machine.
+ghost use Rattle.std.specs.Prelude.{◌≡◌, ◌++◌, ℕ, List, Bool, if◌then◌else◌, true};
+ghost use Rattle.hol_orders.specs.declared.refusal.Refusal.{Refusal};
+ghost use Rattle.hol_orders.specs.declared.reply.Reply.TheVariants.{Refused};
+ghost use Rattle.hollow_machine.specs.Script.{LineStep, Script};
+ghost use Rattle.hollow_machine.specs.State.{Machine};
+
+/// A line that is refused changes nothing.
+pub fn refused_unchanged()
+    ensures { (machine next : Machine) (line : List ℕ) (refusal : Refusal)
+        → LineStep machine line (Refused refusal) next → next ≡ machine }
+{}
+
+/// What lines answer, and what others answer behind them, they answer together.
+pub fn scripts_join()
+    ensures { (machine between next : Machine) (lines others : List (List ℕ)) (text rest : List ℕ) (refused also : Bool)
+        → Script machine lines text refused between → Script between others rest also next
+        → Script machine (lines ++ others) (text ++ rest) (if refused then true else also) next }
+{}
