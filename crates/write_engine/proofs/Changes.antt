@@ -25,7 +25,7 @@ rows_past read [] t past = refl
 rows_past read (s ∷ maps) zero past = absurd (omega arith)
 rows_past read (s ∷ maps) (suc t) past = rows_past read maps t (omega arith)
 
-below_or : (t k : ℕ) → t < k + 1 → (t < k) ⊎ (k ≡ t)
+pub below_or : (t k : ℕ) → t < k + 1 → (t < k) ⊎ (k ≡ t)
 below_or zero zero h = inr refl
 below_or zero (suc k) h = inl (omega arith)
 below_or (suc t) zero h = absurd (omega (arith, h))

@@ -3,10 +3,13 @@ pub mod ClosedStates
 pub mod Gathering
 pub mod Members
 pub mod NextStates
+pub mod NoRoom
 pub mod Numbers
 pub mod OneState
 pub mod Parts
 pub mod Puts
 pub mod Producing
 pub mod RisingLists
+pub mod SameTables
 pub mod StateRows
+pub mod TypesKept

@@ -1,13 +1,13 @@
 -- Records of one INT fit the types that take them.
-use Rattle.std.proofs.Common.{◌≡◌, ℤ, List, [], ◌∷◌, Option, Some, None, refl, sym, subst}
+use Rattle.std.proofs.Common.{ℤ, List, [], ◌∷◌, Option, Some, None, refl, sym, subst}
 use Rattle.std.specs.Prelude.{slice_get, option_map, option_and_then, IsSomeAnd}
 use Rattle.schema_model.specs.declared.schema.Field.{Field}
 use Rattle.schema_model.specs.declared.schema.Schema.{Schema}
 use Rattle.schema_model.specs.declared.rows.row.Value.{Value}
 use Rattle.schema_model.specs.PlainTree.{leaf, no_trees, tree_then}
-use Rattle.write_engine.specs.FitsTree.{FitFields, FitsLeaf, FitsTree}
+use Rattle.typed_trees.specs.FitsTree.{FitFields, FitsLeaf, FitsTree}
 use Rattle.write_engine.specs.Numbers.{AreNumbers, IsOneInt, TakesNumbers, number_tree}
-use Rattle.write_engine.specs.Types.{object_fields}
+use Rattle.typed_trees.specs.Types.{object_fields}
 
 pub number_fits : (schemas : List Schema) (value : ℤ) → AreNumbers schemas → FitsTree schemas 0 (number_tree value)
 number_fits schemas value takes = of_first (slice_get schemas 0) takes

@@ -10,12 +10,13 @@ use Rattle.ordinal_map.specs.Assign.{IsPut}
 use Rattle.ordinal_map.proofs.Puts.{put_once}
 use Rattle.write_engine.specs.Agreement.{HoldsOnce, TablesAgree}
 use Rattle.write_engine.specs.Cycle.{Adds, AddsFields, AddsAll, AddsPairs, AddsRecords, IsMapOf, IsSetOf, Next, PutsRow, no_rows, rows_in, with_row}
-use Rattle.write_engine.specs.FitsTree.{IsLeafOr}
-use Rattle.write_engine.specs.Types.{referred}
+use Rattle.typed_trees.specs.FitsTree.{IsLeafOr}
+use Rattle.typed_trees.specs.Types.{referred}
 use Rattle.write_engine.proofs.NextStates.{adds_agree, fields_agree, all_agree, pairs_agree, start_agree}
+use Rattle.write_engine.proofs.Parts.{AddsField}
 use Rattle.write_engine.proofs.RisingLists.{one_set, one_map}
 
-same_some : {A : Type 0} (a b : A) (o : Option A) → o ≡ Some a → o ≡ Some b → a ≡ b
+pub same_some : {A : Type 0} (a b : A) (o : Option A) → o ≡ Some a → o ≡ Some b → a ≡ b
 same_some a b o is is' = let e : Some a ≡ Some b = sym is ∙ is' in cc
 
 puts_once : (previous before before' after after' : Table) (t o o' : ℕ) (row row' : Row) → TablesAgree previous before → before ≡ before' → row ≡ row' → PutsRow previous t row before o after → PutsRow previous t row' before' o' after' → (o ≡ o') × (after ≡ after')
@@ -32,6 +33,18 @@ leaf_both (set trees) P P' Q Q' R f g h h' = g h h'
 leaf_both (map pairs) P P' Q Q' R f g h h' = g h h'
 
 module _ (schemas : List Schema) (previous : Table) where
+  -- a field is added in one way where its tree is
+  pub field_once : (tree : PlainTree) (field field' : Field) (before middle middle' : Table) (value value' : Value) → field ≡ field' → TablesAgree previous before
+      → ((t o o' : ℕ) → Adds schemas previous t tree before o middle → Adds schemas previous t tree before o' middle' → (o ≡ o') × (middle ≡ middle'))
+      → AddsField schemas previous field tree before value middle → AddsField schemas previous field' tree before value' middle' → (value ≡ value') × (middle ≡ middle') × TablesAgree previous middle
+  field_once tree field field' before middle middle' value value' same agree once adds adds' =
+      leaf_both tree _ _ _ _ ((value ≡ value') × (middle ≡ middle') × TablesAgree previous middle)
+      (λ found is is'. (is.2 ∙ sym is'.2, is.3 ∙ sym is'.3, subst (λ (table : Table). TablesAgree previous table) (sym is.3) agree))
+      (λ row row'.
+      (let type = same_some row.0 row'.0 (referred schemas field.kind) row.2 (ap (λ (f : Field). referred schemas f.kind) same ∙ row'.2) in
+      let one = once row.0 row.1 row'.1 row.3 (subst (λ u. Adds schemas previous u tree before row'.1 middle') (sym type) row'.3) in
+      (row.4 ∙ ap Value.Ref one.0 ∙ sym row'.4, one.1, adds_agree schemas previous tree row.0 before middle row.1 row.3 agree))) adds adds'
+
   mutual
     pub adds_once : (tree : PlainTree) (t : ℕ) (before after after' : Table) (o o' : ℕ) → TablesAgree previous before → Adds schemas previous t tree before o after → Adds schemas previous t tree before o' after' → (o ≡ o') × (after ≡ after')
     adds_once (leaf value) t before after after' o o' agree adds adds' = absurd adds
@@ -54,24 +67,19 @@ module _ (schemas : List Schema) (previous : Table) where
         let members = one_map adds.1 adds.5.0 adds'.5.0 adds.5.1 (subst (λ ps. IsMapOf ps adds'.5.0) (sym parts.0) adds'.5.1) in
         puts_once previous adds.2 adds'.2 after after' t o o' (Row.Map adds.5.0) (Row.Map adds'.5.0) (pairs_agree schemas previous pairs adds.0 before adds.2 adds.1 adds.4 agree) parts.1 (ap Row.Map members) adds.5.2 adds'.5.2
 
-    fields_once : (trees : PlainTrees) (fields : List Field) (before after after' : Table) (values values' : List Value) → TablesAgree previous before → AddsFields schemas previous fields trees before values after → AddsFields schemas previous fields trees before values' after'
+    pub fields_once : (trees : PlainTrees) (fields : List Field) (before after after' : Table) (values values' : List Value) → TablesAgree previous before → AddsFields schemas previous fields trees before values after → AddsFields schemas previous fields trees before values' after'
         → (values ≡ values') × (after ≡ after')
     fields_once no_trees fields before after after' values values' agree adds adds' = (adds.1 ∙ sym adds'.1, adds.2 ∙ sym adds'.2)
     fields_once (tree_then tree trees) fields before after after' values values' agree adds adds' =
         let both : adds.0 ∷ adds.1 ≡ adds'.0 ∷ adds'.1 = sym adds.5 ∙ adds'.5 in
         let field : adds.0 ≡ adds'.0 = cc in
         let others : adds.1 ≡ adds'.1 = cc in
-        let first = leaf_both tree _ _ _ _ ((adds.2 ≡ adds'.2) × (adds.4 ≡ adds'.4) × TablesAgree previous adds.4)
-        (λ found is is'. (is.2 ∙ sym is'.2, is.3 ∙ sym is'.3, subst (λ (table : Table). TablesAgree previous table) (sym is.3) agree))
-        (λ row row'.
-        (let type = same_some row.0 row'.0 (referred schemas adds.0.kind) row.2 (ap (λ (f : Field). referred schemas f.kind) field ∙ row'.2) in
-        let one = adds_once tree row.0 before adds.4 adds'.4 row.1 row'.1 agree row.3 (subst (λ u. Adds schemas previous u tree before row'.1 adds'.4) (sym type) row'.3) in
-        (row.4 ∙ ap Value.Ref one.0 ∙ sym row'.4, one.1, adds_agree schemas previous tree row.0 before adds.4 row.1 row.3 agree))) adds.7 adds'.7 in
+        let first = field_once tree adds.0 adds'.0 before adds.4 adds'.4 adds.2 adds'.2 field agree (λ t o o' one one'. adds_once tree t before adds.4 adds'.4 o o' agree one one') adds.7 adds'.7 in
         let rest = fields_once trees adds.1 adds.4 after after' adds.3 adds'.3 first.2 adds.8
         (subst (λ fs. AddsFields schemas previous fs trees adds.4 adds'.3 after') (sym others) (subst (λ (table : Table). AddsFields schemas previous adds'.1 trees table adds'.3 after') (sym first.1) adds'.8)) in
         (adds.6 ∙ (λ i. first.0 i ∷ rest.0 i) ∙ sym adds'.6, rest.1)
 
-    all_once : (trees : PlainTrees) (t : ℕ) (before after after' : Table) (os os' : List ℕ) → TablesAgree previous before → AddsAll schemas previous t trees before os after → AddsAll schemas previous t trees before os' after' → (os ≡ os') × (after ≡ after')
+    pub all_once : (trees : PlainTrees) (t : ℕ) (before after after' : Table) (os os' : List ℕ) → TablesAgree previous before → AddsAll schemas previous t trees before os after → AddsAll schemas previous t trees before os' after' → (os ≡ os') × (after ≡ after')
     all_once no_trees t before after after' os os' agree adds adds' = (adds.0 ∙ sym adds'.0, adds.1 ∙ sym adds'.1)
     all_once (tree_then tree trees) t before after after' os os' agree adds adds' =
         let first = adds_once tree t before adds.2 adds'.2 adds.0 adds'.0 agree adds.4 adds'.4 in
@@ -79,7 +87,7 @@ module _ (schemas : List Schema) (previous : Table) where
         (subst (λ (table : Table). AddsAll schemas previous t trees table adds'.1 after') (sym first.1) adds'.5) in
         (adds.3 ∙ (λ i. first.0 i ∷ rest.0 i) ∙ sym adds'.3, rest.1)
 
-    pairs_once : (pairs : PlainPairs) (types : ℕ × ℕ) (before after after' : Table) (ps ps' : List (ℕ × ℕ)) → TablesAgree previous before → AddsPairs schemas previous types pairs before ps after → AddsPairs schemas previous types pairs before ps' after'
+    pub pairs_once : (pairs : PlainPairs) (types : ℕ × ℕ) (before after after' : Table) (ps ps' : List (ℕ × ℕ)) → TablesAgree previous before → AddsPairs schemas previous types pairs before ps after → AddsPairs schemas previous types pairs before ps' after'
         → (ps ≡ ps') × (after ≡ after')
     pairs_once no_pairs types before after after' ps ps' agree adds adds' = (adds.0 ∙ sym adds'.0, adds.1 ∙ sym adds'.1)
     pairs_once (pair_then key value pairs) types before after after' ps ps' agree adds adds' =

@@ -13,8 +13,8 @@ use Rattle.write_engine.specs.Cycle.{Adds, AddsFields, AddsAll, AddsPairs, IsMap
 use Rattle.ordinal_map.specs.declared.fault.PutRowFault.{PutRowFault}
 use Rattle.schema_model.specs.Row.{IsValueInRange, stored_value}
 use Rattle.write_engine.specs.Leaf.{TellsLeaf}
-use Rattle.write_engine.specs.FitsTree.{FitsTree, FitFields, FitAll, FitPairs, IsConsAnd, IsLeafOr, FitsLeaf}
-use Rattle.write_engine.specs.Types.{object_fields, list_element, set_element, map_types, referred, shape_at}
+use Rattle.typed_trees.specs.FitsTree.{FitsTree, FitFields, FitAll, FitPairs, IsConsAnd, IsLeafOr, FitsLeaf}
+use Rattle.typed_trees.specs.Types.{object_fields, list_element, set_element, map_types, referred, shape_at}
 use Rattle.schema_model.specs.declared.schema.Shape.{Shape}
 use Rattle.schema_model.specs.declared.schema.name.Name.{Name}
 use Rattle.schema_model.specs.declared.rows.row.Row.{Row}
@@ -111,14 +111,16 @@ module _ (schemas : List Schema) (previous now : Table) (same : now ≡ previous
         (so_far ((a, b) ∷ rest) after (subst (λ trees. AddsPairs schemas previous types (pairs_of_list trees) before ((a, b) ∷ rest) after) (sym (drop_at xs k x here))
         (a, b, rest, keyed, middle, refl, subst (λ p. Adds schemas p types.0 x.0 before a keyed) same added, subst (λ p. Adds schemas p types.1 x.1 keyed b middle) (same' ∙ same) added', h)))
 
+pub map_types_are : (schemas : List Schema) (key value : Name) (k v : ℕ) → index_of_type schemas key ≡ Some k → index_of_type schemas value ≡ Some v → map_types schemas (Shape.Map key value) ≡ Some (k, v)
+map_types_are schemas key value k v is_key is_value = ap (λ i. option_and_then (λ a. option_map (λ b. (a, b)) (index_of_type schemas value)) i) is_key ∙ ap (option_map (λ b. (k, b))) is_value
+
 -- a map's row is put
 pub map_added : (schemas : List Schema) (previous previous' : Table) (t : ℕ) (schema : Schema) (key value : Name) (k v : ℕ) (pairs : PlainPairs) (before middle after : Table) (added members : List (ℕ × ℕ)) (ordinal : ℕ)
     → slice_get schemas t ≡ Some schema → schema.shape ≡ Shape.Map key value → index_of_type schemas key ≡ Some k → index_of_type schemas value ≡ Some v → previous' ≡ previous
     → AddsPairs schemas previous (k, v) pairs before added middle → IsMapOf added members → PutsRow previous' t (Row.Map members) middle ordinal after → Adds schemas previous t (of_map pairs) before ordinal after
 map_added schemas previous previous' t schema key value k v pairs before middle after added members ordinal type shape is_key is_value same adds is puts =
     let at : shape_at schemas t ≡ Some (Shape.Map key value) = ap (option_map (λ s. s.shape)) type ∙ ap Some shape in
-    let types : option_and_then (map_types schemas) (shape_at schemas t) ≡ Some (k, v) =
-    ap (option_and_then (map_types schemas)) at ∙ ap (λ i. option_and_then (λ a. option_map (λ b. (a, b)) (index_of_type schemas value)) i) is_key ∙ ap (option_map (λ b. (k, b))) is_value in
+    let types : option_and_then (map_types schemas) (shape_at schemas t) ≡ Some (k, v) = ap (option_and_then (map_types schemas)) at ∙ map_types_are schemas key value k v is_key is_value in
     ((k, v), added, middle, types, adds, (members, is, subst (λ p. PutsRow p t (Row.Map members) middle ordinal after) same puts))
 
 -- the same of what the put answers

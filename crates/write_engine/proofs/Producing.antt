@@ -1,8 +1,9 @@
 -- What the calls of a producer keep.
 use Rattle.std.proofs.Common.{◌≡◌, ℕ, zero, suc, List, [], ◌∷◌, length, map, inl, inr, refl, sym, ap, subst, ◌∙◌}
-use Rattle.std.specs.Prelude.{replicate, is_some, ℤ, Bool, false}
+use Rattle.std.specs.Prelude.{replicate, is_some, ℤ, Bool, false, Option, None}
 use Rattle.std.specs.Ordering.{nat_cmp}
 use Rattle.std.specs.FinMap.{get, empty, get-empty}
+use Rattle.schema_model.specs.declared.limit.Limit.{Limit}
 use Rattle.schema_model.specs.declared.schema.Schema.{Schema}
 use Rattle.schema_model.specs.PlainTree.{PlainTree}
 use Rattle.schema_model.specs.Table.{Table}
@@ -52,8 +53,8 @@ advanced_current [] = refl
 advanced_current (s ∷ maps) = ap (λ (rest : Table). empty ∷ rest) (advanced_current maps)
 
 -- what is seen of a producer
-abbrev made : List Schema → List States → ℤ → ℕ → Bool → Production
-made schemas maps tag version closed = record { schemas = schemas; previous = previous_of maps; current = current_of maps; tag = tag; version = version; closed = closed }
+abbrev made : List Schema → List States → ℤ → ℕ → Bool → Option Limit → Production
+made schemas maps tag version closed over = record { schemas = schemas; previous = previous_of maps; current = current_of maps; tag = tag; version = version; closed = closed; over = over }
 
 pub length_tables : (maps : List States) → length (current_of maps) ≡ length maps
 length_tables [] = refl
@@ -110,16 +111,16 @@ pub failed_current : (schemas : List Schema) (maps after : List States) → IsPr
 failed_current schemas maps after producing same =
     undone_current after ∙ ap no_rows (sym (length_previous after) ∙ ap (λ (table : Table). length table) same ∙ producing.previous.fits.types)
 
-pub undone_view : (schemas : List Schema) (maps after : List States) (tag : ℤ) (version : ℕ) (closed : Bool) → after ≡ map undone maps → IsProducing schemas maps
-    → made schemas after tag version false ≡ without_rows (made schemas maps tag version closed)
-undone_view schemas maps after tag version closed is producing =
+pub undone_view : (schemas : List Schema) (maps after : List States) (tag : ℤ) (version : ℕ) (closed : Bool) (over : Option Limit) → after ≡ map undone maps → IsProducing schemas maps
+    → made schemas after tag version false None ≡ without_rows (made schemas maps tag version closed over)
+undone_view schemas maps after tag version closed over is producing =
     let before : previous_of after ≡ previous_of maps = ap previous_of is ∙ undone_previous maps in
     let now : current_of after ≡ no_rows (length schemas) = ap current_of is ∙ undone_current maps ∙ ap no_rows (count_types schemas maps producing) in
-    λ i. record { schemas = schemas; previous = before i; current = now i; tag = tag; version = version; closed = false }
+    λ i. record { schemas = schemas; previous = before i; current = now i; tag = tag; version = version; closed = false; over = None }
 
-pub advanced_view : (schemas : List Schema) (maps after : List States) (old tag given : ℤ) (was version : ℕ) (closed : Bool) → given ≡ tag → after ≡ map advanced maps → IsProducing schemas maps
-    → made schemas after given version false ≡ advanced_to tag version (made schemas maps old was closed)
-advanced_view schemas maps after old tag given was version closed same is producing =
+pub advanced_view : (schemas : List Schema) (maps after : List States) (old tag given : ℤ) (was version : ℕ) (closed : Bool) (over : Option Limit) → given ≡ tag → after ≡ map advanced maps → IsProducing schemas maps
+    → made schemas after given version false None ≡ advanced_to tag version (made schemas maps old was closed over)
+advanced_view schemas maps after old tag given was version closed over same is producing =
     let before : previous_of after ≡ current_of maps = ap previous_of is ∙ advanced_previous maps in
     let now : current_of after ≡ no_rows (length schemas) = ap current_of is ∙ advanced_current maps ∙ ap no_rows (count_types schemas maps producing) in
-    λ i. record { schemas = schemas; previous = before i; current = now i; tag = same i; version = version; closed = false }
+    λ i. record { schemas = schemas; previous = before i; current = now i; tag = same i; version = version; closed = false; over = None }

@@ -1,13 +1,15 @@
 -- A put among the rows of all types.
-use Rattle.std.proofs.Common.{◌≡◌, ℕ, zero, suc, ◌<◌, List, [], ◌∷◌, length, get_or, map, refl, sym, ap, subst, ◌∙◌, arith, slice_set}
+use Rattle.std.proofs.Common.{◌≡◌, ℕ, zero, suc, ◌<◌, ◌^◌, List, [], ◌∷◌, length, get_or, map, refl, sym, ap, subst, ◌∙◌, arith, slice_set}
 use Rattle.std.specs.Prelude.{Result, Ok, Err, IfOk, slice_index_or}
 use Rattle.std.specs.FinMap.{insert}
 use Rattle.schema_model.specs.declared.rows.row.Row.{Row}
 use Rattle.schema_model.specs.Table.{Table, RowMap}
 use Rattle.ordinal_map.specs.Assign.{IsPut, TellsPut}
+use Rattle.ordinal_map.proofs.Puts.{put_once}
 use Rattle.ordinal_map.specs.States.{States}
 use Rattle.ordinal_map.specs.declared.fault.PutRowFault.{PutRowFault}
 use Rattle.ordinal_map.specs.declared.fault.PutRowFault.TheVariants.{TooMany, Memory}
+use Rattle.write_engine.specs.Agreement.{TablesAgree}
 use Rattle.write_engine.specs.Cycle.{PutsRow, rows_in}
 use Rattle.write_engine.specs.Production.{previous_of, current_of}
 
@@ -52,3 +54,15 @@ module _ (maps : List States) (t : ℕ) (row : Row) (after d : States) where
         after_is = map_set (λ s. s.current) maps t after
             ∙ ap (λ rows. slice_set (map (λ s. s.current) maps) t rows) (ap (λ s. s.current) tells.2 ∙ ap (λ rows. insert rows ordinal row) (sym of_current));
       }
+
+  -- the row's ordinal would be 2^22
+  pub puts_refused : (result : Result ℕ PutRowFault) → t < length maps → TablesAgree (previous_of maps) (current_of maps) → TellsPut there row after result → result ≡ Err TooMany
+      → (ordinal : ℕ) (last : Table) → ¬ PutsRow (previous_of maps) t row (current_of maps) ordinal last
+  puts_refused (Ok o) inside agree tells is ordinal last puts = absurd cc
+  puts_refused (Err TooMany) inside agree tells is ordinal last puts =
+      let of_previous = rows_at (λ s. s.previous) maps t d inside in
+      let of_current = rows_at (λ s. s.current) maps t d inside in
+      let would = subst (λ rows. IsPut rows (rows_in (current_of maps) t) row (2 ^ 22)) (sym of_previous) (subst (λ rows. IsPut there.previous rows row (2 ^ 22)) (sym of_current) tells.0) in
+      let same = put_once (rows_in (previous_of maps) t) (rows_in (current_of maps) t) row (2 ^ 22) ordinal (agree t) would puts.put in
+      omega (arith, same, puts.low)
+  puts_refused (Err Memory) inside agree tells is ordinal last puts = absurd cc

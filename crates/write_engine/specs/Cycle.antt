@@ -12,8 +12,8 @@ use Rattle.schema_model.specs.Row.{IsValueInRange, Rises, stored_value}
 use Rattle.schema_model.specs.Table.{Table, RowMap}
 use Rattle.schema_model.specs.PlainTree.{PlainTree, PlainTrees, PlainPairs, leaf, object, list, set, map, no_trees, tree_then, no_pairs, pair_then}
 use Rattle.ordinal_map.specs.Assign.{IsPut}
-use Rattle.write_engine.specs.FitsTree.{FitsLeaf, IsLeafOr}
-use Rattle.write_engine.specs.Types.{object_fields, list_element, set_element, map_types, referred, shape_at}
+use Rattle.typed_trees.specs.FitsTree.{FitsLeaf, IsLeafOr}
+use Rattle.typed_trees.specs.Types.{object_fields, list_element, set_element, map_types, referred, shape_at}
 
 -- the rows of a type
 abbrev pub rows_in : Table → ℕ → RowMap

@@ -1,8 +1,7 @@
 pub mod Agreement
 pub mod Cycle
-pub mod FitsTree
+pub mod CycleLimit
 pub mod Leaf
 pub mod Numbers
 pub mod Production
 pub mod Soundness
-pub mod Types

@@ -5,7 +5,7 @@ use Rattle.schema_model.specs.declared.schema.FieldKind.{FieldKind}
 use Rattle.schema_model.specs.declared.schema.Schema.{Schema}
 use Rattle.schema_model.specs.declared.rows.row.Value.{Value}
 use Rattle.schema_model.specs.PlainTree.{PlainTree, leaf, object, no_trees, tree_then}
-use Rattle.write_engine.specs.Types.{object_fields}
+use Rattle.typed_trees.specs.Types.{object_fields}
 
 -- a record of one number
 abbrev pub number_tree : ℤ → PlainTree

@@ -1,8 +1,10 @@
 -- What a producer holds, and what its calls make of it.
-use Rattle.std.specs.Prelude.{List, ℕ, ℤ, pos, ◌≡◌, ◌↔◌, Bool, false, Contains, length, map, refl}
-use Rattle.std.specs.Coded.{Coded, code_by, coded×, coded_ℕ, coded_ℤ, coded_bool, coded_list}
+use Rattle.std.specs.Prelude.{List, ℕ, ℤ, pos, ◌≡◌, ◌↔◌, Bool, false, Contains, Option, None, length, map, refl}
+use Rattle.std.specs.Coded.{Coded, code_by, coded×, coded_ℕ, coded_ℤ, coded_bool, coded_list, coded_option}
 use Rattle.std.specs.FinMap.{code, empty}
+use Rattle.schema_model.specs.declared.limit.Limit.{Limit}
 use Rattle.schema_model.specs.declared.schema.Schema.{Schema}
+use Rattle.schema_model.specs.contracts.limit.Limit as limit_contract
 use Rattle.schema_model.specs.contracts.schema.Schema as schema_contract
 use Rattle.schema_model.specs.contracts.rows.row.Row as row_contract
 use Rattle.schema_model.specs.Row.{Rises}
@@ -43,7 +45,8 @@ pub record AreChanged (previous current : Table) (changed : List ℕ) : Type 0 w
   pub rising : Rises changed
   pub same : (t : ℕ) → Contains changed t ↔ (¬ (rows_in current t ≡ rows_in previous t))
 
--- The rows of the previous state and those of the cycle so far, by type; the previous state's tag and version; whether the cycle is closed.
+-- The rows of the previous state and those of the cycle so far, by type; the previous state's tag and version; whether the cycle is closed, and the
+-- limit that it passes where it is.
 pub record Production : Type 0 where
   pub schemas : List Schema
   pub previous : Table
@@ -51,24 +54,25 @@ pub record Production : Type 0 where
   pub tag : ℤ
   pub version : ℕ
   pub closed : Bool
+  pub over : Option Limit
 
 abbrev pub table_code : Coded Table
 table_code = coded_list (code coded_ℕ (row_contract.the_row).coded)
 
 abbrev pub production_code : Coded Production
 production_code =
-    code_by (List Schema × (Table × (Table × (ℤ × (ℕ × Bool)))))
-    (coded× (coded_list (schema_contract.the_row).coded) (coded× table_code (coded× table_code (coded× coded_ℤ (coded× coded_ℕ coded_bool)))))
-    (λ p. (p.schemas, (p.previous, (p.current, (p.tag, (p.version, p.closed))))))
-    (λ q. record { schemas = q.0; previous = q.1.0; current = q.1.1.0; tag = q.1.1.1.0; version = q.1.1.1.1.0; closed = q.1.1.1.1.1 }) (λ _. refl)
+    code_by (List Schema × (Table × (Table × (ℤ × (ℕ × (Bool × Option Limit))))))
+    (coded× (coded_list (schema_contract.the_row).coded) (coded× table_code (coded× table_code (coded× coded_ℤ (coded× coded_ℕ (coded× coded_bool (coded_option (limit_contract.the_row).coded)))))))
+    (λ p. (p.schemas, (p.previous, (p.current, (p.tag, (p.version, (p.closed, p.over)))))))
+    (λ q. record { schemas = q.0; previous = q.1.0; current = q.1.1.0; tag = q.1.1.1.0; version = q.1.1.1.1.0; closed = q.1.1.1.1.1.0; over = q.1.1.1.1.1.1 }) (λ _. refl)
 
 -- The cycle's rows are dropped, and all else stays.
 abbrev pub without_rows : Production → Production
-without_rows old = record old { current = no_rows (length old.schemas); closed = false }
+without_rows old = record old { current = no_rows (length old.schemas); closed = false; over = None }
 
 -- The cycle is the previous state, under this tag and version, and the next one has no rows.
 abbrev pub advanced_to : ℤ → ℕ → Production → Production
-advanced_to tag version old = record { schemas = old.schemas; previous = old.current; current = no_rows (length old.schemas); tag = tag; version = version; closed = false }
+advanced_to tag version old = record { schemas = old.schemas; previous = old.current; current = no_rows (length old.schemas); tag = tag; version = version; closed = false; over = None }
 
 -- One of the two states seen alone: the schemas, and the rows of each type.
 pub record Content : Type 0 where
@@ -86,3 +90,4 @@ pub record IsStart (schemas : List Schema) (producer : Production) : Type 0 wher
   pub tag_is : producer.tag ≡ pos 0
   pub version_is : producer.version ≡ 0
   pub is_open : producer.closed ≡ false
+  pub over_is : producer.over ≡ None

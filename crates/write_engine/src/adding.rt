@@ -1,11 +1,14 @@
 //! Trees are added to the rows of their types, children first.
-ghost use Rattle.std.specs.Prelude.{◌≡◌, ◌<◌, length, map, IfOk, Some, IsSome};
+ghost use Rattle.std.specs.Prelude.{◌≡◌, ◌<◌, ℕ, List, length, map, Err, IfOk, Some, IsSome};
 ghost use Rattle.schema_model.specs.Parts.{index_of_type};
 ghost use Rattle.schema_model.specs.PlainTree.{trees_of_list, pairs_of_list};
 ghost use Rattle.schema_model.specs.Tree.{plain, plain_pair};
+ghost use Rattle.schema_model.specs.declared.rows.row.Value.{Value as RowValue};
+ghost use Rattle.schema_model.specs.Table.{Table};
+ghost use Rattle.write_engine.specs.Agreement.{TablesAgree};
 ghost use Rattle.write_engine.specs.Cycle.{PutsRow, Adds, AddsFields, AddsAll, AddsPairs};
-ghost use Rattle.write_engine.specs.FitsTree.{FitsTree, FitFields, FitAll, FitPairs};
-ghost use Rattle.write_engine.specs.Types.{referred};
+ghost use Rattle.typed_trees.specs.FitsTree.{FitsTree, FitFields, FitAll, FitPairs};
+ghost use Rattle.typed_trees.specs.Types.{referred};
 ghost use Rattle.write_engine.specs.Production.{previous_of, current_of};
 
 use crate::gather::{map_of, set_of};
@@ -25,8 +28,10 @@ pub(crate) fn add_tree(
     tree: &Tree,
 ) -> Result<u32, PutRowFault>
     requires types { length maps.old ≡ length model.now }
+    requires agree { TablesAgree (previous_of maps.old) (current_of maps.old) }
     requires fits { FitsTree model.now type_index (plain tree.now) }
     ensures added { IfOk result (λ ordinal. Adds model.now (previous_of maps.old) type_index (plain tree.now) (current_of maps.old) ordinal (current_of maps.new)) }
+    ensures too_many { result ≡ Err PutRowFault.TooMany → (ordinal : ℕ) (after : Table) → ¬ Adds model.now (previous_of maps.old) type_index (plain tree.now) (current_of maps.old) ordinal after }
     ensures previous { previous_of maps.new ≡ previous_of maps.old }
 {
     match (&model.schema(type_index).shape, tree) {
@@ -74,8 +79,10 @@ pub(crate) fn add_tree(
 
 // Puts a row of a type.
 fn put_row(maps: &mut [OrdinalMap], type_index: u32, row: Row) -> Result<u32, PutRowFault>
-    requires { type_index < length maps.old }
+    requires known { type_index < length maps.old }
+    requires agree { TablesAgree (previous_of maps.old) (current_of maps.old) }
     ensures put { IfOk result (λ ordinal. PutsRow (previous_of maps.old) type_index row (current_of maps.old) ordinal (current_of maps.new)) }
+    ensures too_many { result ≡ Err PutRowFault.TooMany → (ordinal : ℕ) (after : Table) → ¬ PutsRow (previous_of maps.old) type_index row (current_of maps.old) ordinal after }
     ensures previous { previous_of maps.new ≡ previous_of maps.old }
 {
     maps[type_index as usize].put(row)
@@ -91,8 +98,10 @@ fn add_fields(
     parts: &[Tree],
 ) -> Result<Values, PutRowFault>
     requires types { length maps.old ≡ length model.now }
+    requires agree { TablesAgree (previous_of maps.old) (current_of maps.old) }
     requires fits { FitFields model.now fields.now (trees_of_list (map plain parts.now)) }
     ensures added { IfOk result (λ values. AddsFields model.now (previous_of maps.old) fields.now (trees_of_list (map plain parts.now)) (current_of maps.old) values (current_of maps.new)) }
+    ensures too_many { result ≡ Err PutRowFault.TooMany → (values : List RowValue) (after : Table) → ¬ AddsFields model.now (previous_of maps.old) fields.now (trees_of_list (map plain parts.now)) (current_of maps.old) values after }
     ensures previous { previous_of maps.new ≡ previous_of maps.old }
 {
     let mut values = Values::new(alloc);
@@ -119,8 +128,10 @@ fn add_all(
     parts: &[Tree],
 ) -> Result<Ordinals, PutRowFault>
     requires types { length maps.old ≡ length model.now }
+    requires agree { TablesAgree (previous_of maps.old) (current_of maps.old) }
     requires fits { FitAll model.now type_index (trees_of_list (map plain parts.now)) }
     ensures added { IfOk result (λ ordinals. AddsAll model.now (previous_of maps.old) type_index (trees_of_list (map plain parts.now)) (current_of maps.old) ordinals (current_of maps.new)) }
+    ensures too_many { result ≡ Err PutRowFault.TooMany → (ordinals : List ℕ) (after : Table) → ¬ AddsAll model.now (previous_of maps.old) type_index (trees_of_list (map plain parts.now)) (current_of maps.old) ordinals after }
     ensures previous { previous_of maps.new ≡ previous_of maps.old }
 {
     let mut ordinals = Ordinals::new(alloc);
@@ -141,8 +152,10 @@ fn add_pairs(
     parts: &[(Tree, Tree)],
 ) -> Result<Pairs, PutRowFault>
     requires types { length maps.old ≡ length model.now }
+    requires agree { TablesAgree (previous_of maps.old) (current_of maps.old) }
     requires fits { FitPairs model.now (key_type, value_type) (pairs_of_list (map plain_pair parts.now)) }
     ensures added { IfOk result (λ pairs. AddsPairs model.now (previous_of maps.old) (key_type, value_type) (pairs_of_list (map plain_pair parts.now)) (current_of maps.old) pairs (current_of maps.new)) }
+    ensures too_many { result ≡ Err PutRowFault.TooMany → (pairs : List (ℕ × ℕ)) (after : Table) → ¬ AddsPairs model.now (previous_of maps.old) (key_type, value_type) (pairs_of_list (map plain_pair parts.now)) (current_of maps.old) pairs after }
     ensures previous { previous_of maps.new ≡ previous_of maps.old }
 {
     let mut pairs = Pairs::new(alloc);

@@ -1,13 +1,16 @@
 //! Laws of the definitions.
-ghost use Rattle.std.specs.Prelude.{ℕ, List, ◌≡◌, ◌++◌, ◌∷◌, [], Some, length};
+ghost use Rattle.std.specs.Prelude.{ℕ, List, ◌≡◌, ◌++◌, ◌∷◌, [], Some, None, length};
 ghost use Rattle.std.specs.FinMap.{get};
 ghost use Rattle.schema_model.specs.declared.rows.row.Row.{Row};
 ghost use Rattle.schema_model.specs.declared.schema.Schema.{Schema};
 ghost use Rattle.schema_model.specs.PlainTree.{PlainTree};
 ghost use Rattle.schema_model.specs.Table.{Table};
+ghost use Rattle.row_packing.specs.States.{AreWritable};
 ghost use Rattle.write_engine.specs.Agreement.{HoldsOnce, TablesAgree};
 ghost use Rattle.write_engine.specs.Soundness.{IsClosedTableOf};
 ghost use Rattle.write_engine.specs.Cycle.{Adds, AddsRecords, Next, no_rows, rows_in};
+ghost use Rattle.write_engine.specs.CycleLimit.{TellsTypes};
+ghost use Rattle.write_engine.specs.Production.{AreChanged};
 
 /// A record more is added to what the records before it have made.
 pub fn one_record_more()
@@ -37,4 +40,15 @@ pub fn next_is_closed()
 pub fn one_next_state()
     ensures tree { (schemas : List Schema) (previous before after other : Table) (t : ℕ) (tree : PlainTree) (ordinal another : ℕ) → TablesAgree previous before → Adds schemas previous t tree before ordinal after → Adds schemas previous t tree before another other → (ordinal ≡ another) × (after ≡ other) }
     ensures state { (schemas : List Schema) (previous next other : Table) (records : List (ℕ × PlainTree)) → HoldsOnce previous → Next schemas previous records next → Next schemas previous records other → next ≡ other }
+{}
+
+/// Two states that agree, and of which each type keeps its limits, can be written, in either direction.
+pub fn can_be_written()
+    ensures forth { (schemas : List Schema) (previous current : Table) → TablesAgree previous current → TellsTypes schemas previous current None → AreWritable schemas previous current }
+    ensures back { (schemas : List Schema) (previous current : Table) → TablesAgree previous current → TellsTypes schemas previous current None → AreWritable schemas current previous }
+{}
+
+/// A cycle that changes no type makes the previous state again.
+pub fn unchanged_is_the_same()
+    ensures { (schemas : List Schema) (previous current : Table) → length previous ≡ length schemas → length current ≡ length schemas → AreChanged previous current [] → current ≡ previous }
 {}

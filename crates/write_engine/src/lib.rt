@@ -5,6 +5,7 @@ mod adding;
 mod gather;
 pub mod laws;
 mod leaf;
+mod limits;
 mod producer;
 mod states;
 mod views;

@@ -1,18 +1,21 @@
 //! A producer: the previous state, and the cycle that makes the next one.
-ghost use Rattle.std.specs.Prelude.{◌≡◌, ◌↔◌, IfOk, IsTrue, OnErr, OnOk, true, false, length};
+ghost use Rattle.std.specs.Prelude.{◌≡◌, ◌↔◌, ℕ, Err, IfOk, IsTrue, OnErr, OnOk, true, false, length};
+ghost use Rattle.schema_model.specs.Table.{Table};
 ghost use Rattle.schema_model.specs.Tree.{plain};
 ghost use Rattle.write_engine.specs.Agreement.{TablesAgree};
 ghost use Rattle.write_engine.specs.Cycle.{Adds, no_rows};
-ghost use Rattle.write_engine.specs.FitsTree.{FitsTree};
+ghost use Rattle.write_engine.specs.CycleLimit.{TellsCycle};
+ghost use Rattle.typed_trees.specs.FitsTree.{FitsTree};
 ghost use Rattle.write_engine.specs.Production.{AreChanged, IsProducing, IsStart, advanced_to, current_of, previous_of, without_rows};
 ghost use Rattle.write_engine.specs.Soundness.{IsClosedTableOf};
 
 use crate::adding::add_tree;
+use crate::limits::cycle_limit;
 use crate::states::{advance_all, changed_types, make_states, undo_all};
 use crate::views::{Current, Previous};
 use hol_varint::Ordinals;
 use ordinal_map::{OrdinalMap, PutRowFault};
-use schema_model::{Model, Tree};
+use schema_model::{Limit, Model, Tree};
 use std::alloc::{AllocError, Global};
 
 /// What a closed cycle has changed.
@@ -34,6 +37,8 @@ pub struct Producer {
     tag: i64,
     version: u64,
     closed: bool,
+    /// The limit that the closed cycle passes.
+    over: Option<Limit>,
 }
 
 impl std::marker::Model for Producer {
@@ -43,7 +48,7 @@ impl std::marker::Model for Producer {
 
     ghost coded = { production_code };
 
-    ghost view = { λ p. record { schemas = p.model; previous = previous_of p.maps.items; current = current_of p.maps.items; tag = p.tag; version = p.version; closed = p.closed } };
+    ghost view = { λ p. record { schemas = p.model; previous = previous_of p.maps.items; current = current_of p.maps.items; tag = p.tag; version = p.version; closed = p.closed; over = p.over } };
 
     ghost invariant = { λ p. IsProducing p.model p.maps.items };
 }
@@ -57,9 +62,11 @@ fn add_rows(
     tree: &Tree,
 ) -> Result<u32, PutRowFault>
     requires types { length maps.old.items ≡ length model.now }
+    requires agree { TablesAgree (previous_of maps.old.items) (current_of maps.old.items) }
     requires fits { FitsTree model.now type_index (plain tree.now) }
     ensures previous { previous_of maps.new.items ≡ previous_of maps.old.items }
     ensures added { IfOk result (λ ordinal. Adds model.now (previous_of maps.old.items) type_index (plain tree.now) (current_of maps.old.items) ordinal (current_of maps.new.items)) }
+    ensures too_many { result ≡ Err PutRowFault.TooMany → (ordinal : ℕ) (after : Table) → ¬ Adds model.now (previous_of maps.old.items) type_index (plain tree.now) (current_of maps.old.items) ordinal after }
 {
     add_tree(alloc, model, maps.as_mut_slice(), type_index, tree)
 }
@@ -77,6 +84,7 @@ fn add_or_undo(
     ensures producing { IsProducing model.now maps.new.items }
     ensures previous { previous_of maps.new.items ≡ previous_of maps.old.items }
     ensures added { IfOk result (λ ordinal. Adds model.now (previous_of maps.old.items) type_index (plain tree.now) (current_of maps.old.items) ordinal (current_of maps.new.items)) }
+    ensures too_many { result ≡ Err PutRowFault.TooMany → (ordinal : ℕ) (after : Table) → ¬ Adds model.now (previous_of maps.old.items) type_index (plain tree.now) (current_of maps.old.items) ordinal after }
     ensures undone { OnErr result (current_of maps.new.items ≡ no_rows (length model.now)) }
 {
     match add_rows(alloc, model, maps, type_index, tree) {
@@ -101,6 +109,7 @@ impl Producer {
             tag: 0,
             version: 0,
             closed: false,
+            over: None,
         })
     }
 
@@ -146,31 +155,44 @@ impl Producer {
 
     /// Adds a record to the cycle, with all that it refers to, and gives the ordinal of its top row.
     ///
-    /// After a refusal the cycle has no rows: all that it added is dropped.
+    /// `TooMany` comes where a row of the record would get the ordinal 2^22. After a refusal the cycle has no rows: all that it added is dropped.
     pub fn add(&mut self, type_index: u32, tree: &Tree) -> Result<u32, PutRowFault>
         requires fits { FitsTree self.old.schemas type_index (plain tree.now) }
         requires open { self.old.closed ≡ false }
         ensures added { IfOk result (λ ordinal. Adds self.old.schemas self.old.previous type_index (plain tree.now) self.old.current ordinal self.new.current) }
+        ensures too_many { result ≡ Err PutRowFault.TooMany → (ordinal : ℕ) (after : Table) → ¬ Adds self.old.schemas self.old.previous type_index (plain tree.now) self.old.current ordinal after }
         ensures kept { self.new ≡ record self.old { current = self.new.current } }
         ensures undone { OnErr result (self.new.current ≡ no_rows (length self.old.schemas)) }
     {
         add_or_undo(self.alloc, &self.model, &mut self.maps, type_index, tree)
     }
 
-    /// Closes the cycle, and tells which types it has changed. After a refusal the cycle is open, with its rows.
+    /// Closes the cycle, tells which types it has changed, and finds the limit that it passes. After a refusal the cycle is open, with its rows.
     pub fn close(&mut self) -> Result<Closed, AllocError>
         requires open { self.old.closed ≡ false }
         ensures changed { IfOk result (λ closed. AreChanged self.old.previous self.old.current closed.changed) }
         ensures first { IfOk result (λ closed. IsTrue closed.first ↔ (self.old.version ≡ 0)) }
-        ensures ok { OnOk result (self.new ≡ record self.old { closed = true }) }
+        ensures over { IfOk result (λ closed. TellsCycle self.old.schemas self.old.previous self.old.current self.old.version closed.changed self.new.over) }
+        ensures ok { OnOk result (self.new ≡ record self.old { closed = true; over = self.new.over }) }
         ensures err { OnErr result (self.new ≡ self.old) }
     {
-        let changed = changed_types(self.alloc, self.maps.as_slice(), self.model.len())?;
+        let maps = self.maps.as_slice();
+        let changed = changed_types(self.alloc, maps, self.model.len())?;
+        let over = cycle_limit(self.alloc, &self.model, maps, self.version, &changed)?;
+        self.over = over;
         self.closed = true;
         Ok(Closed {
             changed,
             first: self.version == 0,
         })
+    }
+
+    /// The limit that the closed cycle passes, none where it keeps all. It takes no memory.
+    pub fn over_limit(&self) -> Option<Limit>
+        requires { self.now.closed ≡ true }
+        ensures { result ≡ self.now.over }
+    {
+        self.over
     }
 
     /// Drops the cycle: its rows leave, and it is open. It takes no memory.
@@ -179,6 +201,7 @@ impl Producer {
     {
         undo_all(&mut self.maps);
         self.closed = false;
+        self.over = None;
     }
 
     /// Makes the closed cycle the previous state, with its tag and version. The next cycle has no rows. It takes no memory.
@@ -190,5 +213,6 @@ impl Producer {
         self.tag = tag;
         self.version = version;
         self.closed = false;
+        self.over = None;
     }
 }

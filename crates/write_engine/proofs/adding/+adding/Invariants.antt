@@ -4,8 +4,10 @@ use Rattle.schema_model.specs.Table.{Table}
 use Rattle.schema_model.specs.Tree.{plain, plain_pair}
 use Rattle.schema_model.specs.declared.rows.row.Value.{Value}
 use Rattle.write_engine.specs.Cycle.{AddsFields, AddsAll, AddsPairs}
-use Rattle.write_engine.specs.FitsTree.{FitFields, FitAll, FitPairs}
+use Rattle.typed_trees.specs.FitsTree.{FitFields, FitAll, FitPairs}
+use Rattle.write_engine.specs.Agreement.{TablesAgree}
 use Rattle.write_engine.specs.Production.{previous_of, current_of}
+use Rattle.write_engine.proofs.NoRoom.{CanAddAll, CanAddFields, CanAddPairs}
 use Rattle.write_engine.proofs.adding.+adding.Given as goal
 
 abbrev pub decreases-add_all : goal.decreases-add_all
@@ -23,6 +25,8 @@ decreases-add_tree l = 2 * goal.size-add_tree l
 abbrev pub invariant-add_all-loop-part : goal.invariant-add_all-loop-part
 invariant-add_all-loop-part l = record {
   previous : previous_of l.maps ≡ previous_of l.initial.maps;
+  agree : TablesAgree (previous_of l.initial.maps) (current_of l.maps);
+  left : CanAddAll l.model (previous_of l.initial.maps) l.type_index (trees_of_list (map plain l.parts)) (current_of l.initial.maps) → CanAddAll l.model (previous_of l.initial.maps) l.type_index (trees_of_list (drop l.part-index (map plain l.parts))) (current_of l.maps);
   fits : FitAll l.model l.type_index (trees_of_list (drop l.part-index (map plain l.parts)));
   so_far : (rest : List ℕ) (after : Table) → AddsAll l.model (previous_of l.initial.maps) l.type_index (trees_of_list (drop l.part-index (map plain l.parts))) (current_of l.maps) rest after
       → AddsAll l.model (previous_of l.initial.maps) l.type_index (trees_of_list (map plain l.parts)) (current_of l.initial.maps) (l.ordinals ++ rest) after;
@@ -31,6 +35,9 @@ invariant-add_all-loop-part l = record {
 abbrev pub invariant-add_fields-loop-place : goal.invariant-add_fields-loop-place
 invariant-add_fields-loop-place l = record {
   previous : previous_of l.maps ≡ previous_of l.initial.maps;
+  agree : TablesAgree (previous_of l.initial.maps) (current_of l.maps);
+  left : CanAddFields l.model (previous_of l.initial.maps) l.fields (trees_of_list (map plain l.parts)) (current_of l.initial.maps)
+      → CanAddFields l.model (previous_of l.initial.maps) (drop l.place l.fields) (trees_of_list (drop l.place (map plain l.parts))) (current_of l.maps);
   fits : FitFields l.model (drop l.place l.fields) (trees_of_list (drop l.place (map plain l.parts)));
   so_far : (rest : List Value) (after : Table) → AddsFields l.model (previous_of l.initial.maps) (drop l.place l.fields) (trees_of_list (drop l.place (map plain l.parts))) (current_of l.maps) rest after
       → AddsFields l.model (previous_of l.initial.maps) l.fields (trees_of_list (map plain l.parts)) (current_of l.initial.maps) (l.values ++ rest) after;
@@ -39,6 +46,9 @@ invariant-add_fields-loop-place l = record {
 abbrev pub invariant-add_pairs-loop-part : goal.invariant-add_pairs-loop-part
 invariant-add_pairs-loop-part l = record {
   previous : previous_of l.maps ≡ previous_of l.initial.maps;
+  agree : TablesAgree (previous_of l.initial.maps) (current_of l.maps);
+  left : CanAddPairs l.model (previous_of l.initial.maps) (l.key_type, l.value_type) (pairs_of_list (map plain_pair l.parts)) (current_of l.initial.maps)
+      → CanAddPairs l.model (previous_of l.initial.maps) (l.key_type, l.value_type) (pairs_of_list (drop l.part-index (map plain_pair l.parts))) (current_of l.maps);
   fits : FitPairs l.model (l.key_type, l.value_type) (pairs_of_list (drop l.part-index (map plain_pair l.parts)));
   so_far : (rest : List (ℕ × ℕ)) (after : Table) → AddsPairs l.model (previous_of l.initial.maps) (l.key_type, l.value_type) (pairs_of_list (drop l.part-index (map plain_pair l.parts))) (current_of l.maps) rest after
       → AddsPairs l.model (previous_of l.initial.maps) (l.key_type, l.value_type) (pairs_of_list (map plain_pair l.parts)) (current_of l.initial.maps) (l.pairs ++ rest) after;

@@ -9,6 +9,6 @@ invariant_of-self c = subst (IsProducing c.self.inside.model) (sym c.advance_all
 pub returns : goal.returns
 returns c =
     let same : to_z w64 (of_z w64 c.args.tag) ≡ c.args.tag = search rules in
-    advanced_view c.self.inside.model c.self.inside.maps.items c.advance_all.new.maps.items c.self.inside.tag c.args.tag (to_z w64 (of_z w64 c.args.tag)) c.self.inside.version c.args.version c.self.inside.closed
+    advanced_view c.self.inside.model c.self.inside.maps.items c.advance_all.new.maps.items c.self.inside.tag c.args.tag (to_z w64 (of_z w64 c.args.tag)) c.self.inside.version c.args.version c.self.inside.closed c.self.inside.over
     same c.advance_all.ensures c.self.invariant
     ∙ ap (advanced_to c.args.tag c.args.version) c.self.view_is

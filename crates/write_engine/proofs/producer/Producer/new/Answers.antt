@@ -16,4 +16,5 @@ returns c = record {
   tag_is = refl;
   version_is = refl;
   is_open = refl;
+  over_is = refl;
 }

@@ -8,5 +8,5 @@ invariant_of-self c = subst (IsProducing c.self.inside.model) (sym c.undo_all.en
 
 pub returns : goal.returns
 returns c =
-    undone_view c.self.inside.model c.self.inside.maps.items c.undo_all.new.maps.items c.self.inside.tag c.self.inside.version c.self.inside.closed c.undo_all.ensures c.self.invariant
+    undone_view c.self.inside.model c.self.inside.maps.items c.undo_all.new.maps.items c.self.inside.tag c.self.inside.version c.self.inside.closed c.self.inside.over c.undo_all.ensures c.self.invariant
     ∙ ap without_rows c.self.view_is

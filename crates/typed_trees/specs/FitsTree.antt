@@ -6,7 +6,7 @@ use Rattle.schema_model.specs.declared.schema.Schema.{Schema}
 use Rattle.schema_model.specs.declared.rows.row.Value.{Value}
 use Rattle.schema_model.specs.Row.{FitsKind}
 use Rattle.schema_model.specs.PlainTree.{PlainTree, PlainTrees, PlainPairs, leaf, object, list, set, map, no_trees, tree_then, no_pairs, pair_then, SameTree, list_of_pairs}
-use Rattle.write_engine.specs.Types.{object_fields, list_element, set_element, map_types, referred, shape_at}
+use Rattle.typed_trees.specs.Types.{object_fields, list_element, set_element, map_types, referred, shape_at}
 
 -- a value may stand in the tree of a record's field: of the field's kind, and for a REFERENCE only null
 abbrev pub FitsLeaf : FieldKind → Value → Type 0

@@ -1,0 +1,2 @@
+pub mod FitsTree
+pub mod Types

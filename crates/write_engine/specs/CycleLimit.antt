@@ -1,0 +1,20 @@
+-- The limit that a closed cycle passes: that of the first type that passes one, over the previous state and the next.
+use Rattle.std.specs.Prelude.{List, [], ℕ, ◌<◌, ◌≡◌, ◌≢◌, ◌⊎◌, Option, Some, None, length}
+use Rattle.schema_model.specs.declared.limit.Limit.{Limit}
+use Rattle.schema_model.specs.declared.schema.Schema.{Schema}
+use Rattle.schema_model.specs.Table.{Table}
+use Rattle.row_packing.specs.Chosen.{shape_at}
+use Rattle.row_packing.specs.TypeLimit.{TellsLimit}
+
+-- The first limit that a type passes, in model order; none where each type keeps all.
+abbrev pub TellsTypes : List Schema → Table → Table → Option Limit → Type 0
+TellsTypes schemas previous current None = (t : ℕ) → t < length schemas → TellsLimit (shape_at schemas t) previous current t None
+TellsTypes schemas previous current (Some limit) =
+    (t : ℕ) × (t < length schemas) × ((earlier : ℕ) → earlier < t → TellsLimit (shape_at schemas earlier) previous current earlier None)
+    × TellsLimit (shape_at schemas t) previous current t (Some limit)
+
+-- What a closed cycle passes: no limit where it is not the first and changes nothing, and else the first limit that a type passes.
+-- (schemas, previous, current, version, the changed types, the limit)
+abbrev pub TellsCycle : List Schema → Table → Table → ℕ → List ℕ → Option Limit → Type 0
+TellsCycle schemas previous current version changed limit =
+    ((version ≢ 0) × (changed ≡ []) × (limit ≡ None)) ⊎ (((version ≡ 0) ⊎ (changed ≢ [])) × TellsTypes schemas previous current limit)
