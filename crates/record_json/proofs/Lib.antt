@@ -1,2 +1,4 @@
+pub mod ApartKeys
+pub mod Fitting
 pub mod ReadingTrees
 pub mod TreeParts

@@ -1,11 +1,11 @@
 -- Trees made of parts that were read, and the steps into a type's shape.
-use Rattle.std.proofs.Common.{◌≡◌, ℕ, zero, suc, ◌-◌, List, [], ◌∷◌, length, true, Option, Some, Result, Ok, Err, refl, sym, ◌∙◌, ap, subst, arith}
+use Rattle.std.proofs.Common.{◌≡◌, ◌↔◌, ℕ, zero, suc, ◌-◌, List, [], ◌∷◌, length, Bool, IsTrue, true, false, Option, Some, Result, Ok, Err, refl, sym, ◌∙◌, ap, subst, arith}
 use Rattle.std.specs.Prelude.{slice_get, slice_index_or}
 use Rattle.std.proofs.lemmas.Bool.{cond-true}
 use Rattle.serde_json.specs.Data.{Data, object as object_data, Members, item, no_items}
 use Rattle.serde_json.specs.View.{view, items_view}
 use Rattle.serde_json.specs.declared.value.Value.{Value}
-use Rattle.schema_model.specs.declared.reason.Reason.TheVariants.{OtherKind}
+use Rattle.schema_model.specs.declared.reason.Reason.TheVariants.{OtherKind, SameKeys}
 use Rattle.schema_model.specs.declared.schema.name.Name.{Name}
 use Rattle.schema_model.specs.declared.schema.Field.{Field}
 use Rattle.schema_model.specs.declared.reason.Reason.{Reason}
@@ -15,17 +15,28 @@ use Rattle.schema_model.specs.declared.rows.tree.Tree
 use Rattle.schema_model.specs.declared.rows.tree.Tree.{Tree}
 use Rattle.schema_model.specs.declared.rows.tree.Trees.{Trees}
 use Rattle.schema_model.specs.declared.rows.tree.TreePairs.{TreePairs}
-use Rattle.schema_model.specs.PlainTree.{PlainTree, object, list, set, map as map_tree, trees_of_list, pairs_of_list}
+use Rattle.schema_model.specs.PlainTree.{PlainTree, PlainPairs, object, list, set, map as map_tree, trees_of_list, pairs_of_list}
 use Rattle.schema_model.specs.Tree.{plain, plain_pair, plain_trees, plain_pairs}
 use Rattle.same_trees.proofs.Arms.{object_plain, list_plain, set_plain, map_plain}
+use Rattle.same_trees.proofs.Deciding.{keys_apart_or_not}
+use Rattle.same_trees.proofs.Passing.{refuted}
+use Rattle.typed_trees.specs.FitsTree.{AreKeysApart}
 use Rattle.json_rows.specs.declared.fault.JsonFault.{JsonFault}
-use Rattle.record_json.specs.ReadTree.{TellsAs, made, key_then, are_fields, read_both, read_fields, read_members, read_named, read_shape, read_within}
+use Rattle.record_json.specs.ReadTree.{TellsAs, made, map_apart, key_then, are_fields, read_both, read_fields, read_map, read_members, read_named, read_shape, read_within}
 
 pub made_not : {A B S U : Type 0} (seen : A → B) (seen' : S → U) (make : B → U) (read : Result B Reason) (fault : JsonFault) → TellsAs {A = A} seen read (Err fault) → TellsAs {A = S} seen' (made make read) (Err fault)
 made_not seen seen' make read JsonFault.Shape told = told
 made_not seen seen' make read (JsonFault.Rule rule t) told = told
 made_not seen seen' make read (JsonFault.Field reason) told = ap (made make) told
 made_not seen seen' make read JsonFault.Memory told = told
+
+keys_apart : (pairs : PlainPairs) (decided : Dec (AreKeysApart pairs)) → AreKeysApart pairs → map_apart pairs decided ≡ Ok (map_tree pairs)
+keys_apart pairs (yes apart) holds = refl
+keys_apart pairs (no same) holds = absurd (same holds)
+
+keys_same : (pairs : PlainPairs) (decided : Dec (AreKeysApart pairs)) → ¬ AreKeysApart pairs → map_apart pairs decided ≡ Err SameKeys
+keys_same pairs (yes apart) fails = absurd (fails apart)
+keys_same pairs (no same) fails = refl
 
 pub object_made : (read : Result (List PlainTree) Reason) (parts : Trees) → read ≡ Ok (plain_trees parts) → made (λ trees. object (trees_of_list trees)) read ≡ Ok (plain (Tree.Object parts))
 object_made read parts told = ap (made (λ trees. object (trees_of_list trees))) told ∙ ap Ok (object_plain parts)
@@ -36,8 +47,22 @@ list_made read parts told = ap (made (λ trees. list (trees_of_list trees))) tol
 pub set_made : (read : Result (List PlainTree) Reason) (parts : Trees) → read ≡ Ok (plain_trees parts) → made (λ trees. set (trees_of_list trees)) read ≡ Ok (plain (Tree.Set parts))
 set_made read parts told = ap (made (λ trees. set (trees_of_list trees))) told ∙ ap Ok (set_plain parts)
 
-pub map_made : (read : Result (List (PlainTree × PlainTree)) Reason) (pairs : TreePairs) → read ≡ Ok (plain_pairs pairs) → made (λ ps. map_tree (pairs_of_list ps)) read ≡ Ok (plain (Tree.Map pairs))
-map_made read pairs told = ap (made (λ ps. map_tree (pairs_of_list ps))) told ∙ ap Ok (map_plain pairs)
+-- a map whose keys are apart, or not
+pub map_made : (read : Result (List (PlainTree × PlainTree)) Reason) (pairs : TreePairs) (apart : Bool) → IsTrue apart ↔ AreKeysApart (pairs_of_list (plain_pairs pairs)) → IsTrue apart
+    → read ≡ Ok (plain_pairs pairs) → read_map read ≡ Ok (plain (Tree.Map pairs))
+map_made read pairs apart decides is told =
+    ap read_map told ∙ keys_apart (pairs_of_list (plain_pairs pairs)) (keys_apart_or_not (pairs_of_list (plain_pairs pairs))) (decides.0 is) ∙ ap Ok (map_plain pairs)
+
+pub same_keys : (read : Result (List (PlainTree × PlainTree)) Reason) (pairs : TreePairs) (apart : Bool) → IsTrue apart ↔ AreKeysApart (pairs_of_list (plain_pairs pairs)) → apart ≡ false
+    → read ≡ Ok (plain_pairs pairs) → read_map read ≡ Err SameKeys
+same_keys read pairs apart decides is told =
+    ap read_map told ∙ keys_same (pairs_of_list (plain_pairs pairs)) (keys_apart_or_not (pairs_of_list (plain_pairs pairs))) (refuted apart is decides)
+
+pub map_not : (read : Result (List (PlainTree × PlainTree)) Reason) (fault : JsonFault) → TellsAs plain_pairs read (Err fault) → TellsAs plain (read_map read) (Err fault)
+map_not read JsonFault.Shape told = told
+map_not read (JsonFault.Rule rule t) told = told
+map_not read (JsonFault.Field reason) told = ap read_map told
+map_not read JsonFault.Memory told = told
 
 pub pair_made : (key value : Tree) (read : Result PlainTree Reason) → read ≡ Ok (plain value) → key_then (Ok (plain key)) read ≡ Ok (plain_pair (key, value))
 pair_made key value read told = ap (key_then (Ok (plain key))) told

@@ -1,4 +1,4 @@
--- The record with all that it refers to from its JSON: which tree it gives, or for which reason it gives none. Keys of a map are not compared here.
+-- The record with all that it refers to from its JSON: which tree it gives, or for which reason it gives none.
 use Rattle.std.specs.Prelude.{List, [], ◌∷◌, ℕ, zero, suc, Bool, true, Option, None, Some, Result, Ok, Err, ◌≡◌, ◌&&◌, slice_get, if◌then◌else◌}
 use Rattle.std.specs.List.{list_any}
 use Rattle.std.specs.Str.{bytes_eq}
@@ -11,9 +11,11 @@ use Rattle.schema_model.specs.declared.schema.Schema.{Schema}
 use Rattle.schema_model.specs.declared.schema.Shape.{Shape}
 use Rattle.schema_model.specs.declared.rows.row.Value.{Value}
 use Rattle.schema_model.specs.declared.reason.Reason.{Reason}
-use Rattle.schema_model.specs.declared.reason.Reason.TheVariants.{OtherKind, UnknownField, NullRecord}
+use Rattle.schema_model.specs.declared.reason.Reason.TheVariants.{OtherKind, UnknownField, NullRecord, SameKeys}
 use Rattle.schema_model.specs.Parts.{index_of_type}
-use Rattle.schema_model.specs.PlainTree.{PlainTree, leaf, object, list, set, map, trees_of_list, pairs_of_list}
+use Rattle.schema_model.specs.PlainTree.{PlainTree, PlainPairs, leaf, object, list, set, map, trees_of_list, pairs_of_list}
+use Rattle.same_trees.proofs.Deciding.{keys_apart_or_not}
+use Rattle.typed_trees.specs.FitsTree.{AreKeysApart}
 use Rattle.json_rows.specs.ReadValue.{before, read_each, read_value}
 use Rattle.json_rows.specs.declared.fault.JsonFault.{JsonFault}
 
@@ -72,13 +74,23 @@ abbrev pub read_members : (Name → Data → Result PlainTree Reason) → List F
 read_members follow fields members =
     if are_fields fields members then made (λ trees. object (trees_of_list trees)) (read_fields follow fields (object_data members)) else Err UnknownField
 
+-- the map of these pairs, where no two keys are the same record
+abbrev pub map_apart : (pairs : PlainPairs) → Dec (AreKeysApart pairs) → Result PlainTree Reason
+map_apart pairs (yes apart) = Ok (map pairs)
+map_apart pairs (no same) = Err SameKeys
+
+-- the map of the pairs that were read; its keys are compared once all of them are
+abbrev pub read_map : Result (List (PlainTree × PlainTree)) Reason → Result PlainTree Reason
+read_map (Ok pairs) = map_apart (pairs_of_list pairs) (keys_apart_or_not (pairs_of_list pairs))
+read_map (Err reason) = Err reason
+
 -- the record of a type of this shape, given the tree of each record that it names
 abbrev pub read_shape : (Name → Data → Result PlainTree Reason) → Shape → Data → Result PlainTree Reason
 read_shape follow shape null = Err NullRecord
 read_shape follow (Shape.Object key fields) (object_data members) = read_members follow fields members
 read_shape follow (Shape.List element) (array items) = made (λ trees. list (trees_of_list trees)) (read_each (follow element) items)
 read_shape follow (Shape.Set element) (array items) = made (λ trees. set (trees_of_list trees)) (read_each (follow element) items)
-read_shape follow (Shape.Map key value) (array items) = made (λ pairs. map (pairs_of_list pairs)) (read_each (read_pair (follow key) (follow value)) items)
+read_shape follow (Shape.Map key value) (array items) = read_map (read_each (read_pair (follow key) (follow value)) items)
 read_shape follow _ _ = Err OtherKind
 
 -- the record of a type, where there is the type

@@ -1,12 +1,13 @@
 //! Trees made of parts that were read.
 ghost use Rattle.std.specs.Prelude.{List, Ok, Result};
-ghost use Rattle.schema_model.specs.PlainTree.{PlainTree, list, map as map_tree, object, pairs_of_list, set, trees_of_list};
+ghost use Rattle.schema_model.specs.PlainTree.{PlainTree, list, object, set, trees_of_list};
 ghost use Rattle.schema_model.specs.Tree.{plain, plain_pair, plain_pairs, plain_trees};
 ghost use Rattle.schema_model.specs.declared.reason.Reason.{Reason};
-ghost use Rattle.record_json.specs.ReadTree.{TellsAs, key_then, made};
+ghost use Rattle.record_json.specs.ReadTree.{TellsAs, key_then, made, read_map};
 
+use crate::keys::are_keys_apart;
 use json_rows::JsonFault;
-use schema_model::{Tree, TreePairs, Trees};
+use schema_model::{Reason, Tree, TreePairs, Trees};
 
 /// The record with these parts.
 #[tactic(auto, using(crate::proofs::TreeParts::object_made, crate::proofs::TreeParts::made_not))]
@@ -41,13 +42,14 @@ pub(crate) fn set_of(parts: Result<Trees, JsonFault>) -> Result<Tree, JsonFault>
     }
 }
 
-/// The map with these pairs.
-#[tactic(auto, using(crate::proofs::TreeParts::map_made, crate::proofs::TreeParts::made_not))]
+/// The map with these pairs, or `SameKeys` where two keys are the same record.
+#[tactic(auto, using(crate::proofs::TreeParts::map_made, crate::proofs::TreeParts::same_keys, crate::proofs::TreeParts::map_not))]
 pub(crate) fn map_of(pairs: Result<TreePairs, JsonFault>) -> Result<Tree, JsonFault>
-    ensures { (read : Result (List (PlainTree × PlainTree)) Reason) → TellsAs plain_pairs read pairs → TellsAs plain (made (λ pairs. map_tree (pairs_of_list pairs)) read) result }
+    ensures { (read : Result (List (PlainTree × PlainTree)) Reason) → TellsAs plain_pairs read pairs → TellsAs plain (read_map read) result }
 {
     match pairs {
-        Ok(pairs) => Ok(Tree::Map(pairs)),
+        Ok(pairs) if are_keys_apart(pairs.as_slice()) => Ok(Tree::Map(pairs)),
+        Ok(_) => Err(JsonFault::Field(Reason::SameKeys)),
         Err(fault) => Err(fault),
     }
 }

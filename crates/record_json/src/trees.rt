@@ -16,9 +16,10 @@ use std::alloc::Global;
 /// The record of a type with all that it refers to. `Field` where the JSON value gives none, with the first reason:
 /// `OtherKind` where a part is of another kind of JSON than its type asks for, or a pair of a map has not two items;
 /// `UnknownField` where an object has a member that is no field, which is tried before its fields; `NullRecord` where the
-/// record itself, an element, a key or a value of a map is null; and those of `value_from` for a field that is a value.
-/// Fields are read in the order of the schema, a missing one as null, elements and pairs in their order, a key before its
-/// value. Two keys of a map that are the same record are not refused. `Shape` and `Rule` never come.
+/// record itself, an element, a key or a value of a map is null; `SameKeys` where two keys of a map are the same record,
+/// which is tried once all its pairs are read; and those of `value_from` for a field that is a value. Fields are read in
+/// the order of the schema, a missing one as null, elements and pairs in their order, a key before its value. `Shape` and
+/// `Rule` never come.
 pub fn tree_from(
     alloc: Global,
     model: &Model,

@@ -52,7 +52,7 @@ of_trees : (ts : List PlainTree) → list_of_trees (trees_of_list ts) ≡ ts
 of_trees [] = refl
 of_trees (t ∷ ts) = ap (λ us. t ∷ us) (of_trees ts)
 
-of_pairs : (ts : List (PlainTree × PlainTree)) → list_of_pairs (pairs_of_list ts) ≡ ts
+pub of_pairs : (ts : List (PlainTree × PlainTree)) → list_of_pairs (pairs_of_list ts) ≡ ts
 of_pairs [] = refl
 of_pairs (t ∷ ts) = ap (λ us. t ∷ us) (of_pairs ts)
 
