@@ -1,0 +1,147 @@
+-- A delta that is written is read back as one of a patch that leads from the old state to the new one.
+use Rattle.std.proofs.Common.{◌≡◌, ◌≤◌, ◌<◌, ◌+◌, ◌^◌, ℕ, ℤ, List, ◌++◌, length, map, Some, refl, ap, ◌∙◌, sym, subst, arith, length-append}
+use Rattle.std.specs.Prelude.{All, FitsSigned, flat_map, slice_get, zip}
+use Rattle.std.specs.Int.{w64}
+use Rattle.std.specs.List.{AllZip}
+use Rattle.std.proofs.lemmas.List.Elements.{All-map}
+use Rattle.std.proofs.lemmas.Slice.Zip.{AllZip-long}
+use Rattle.hol_varint.specs.Varint.{varint_bytes}
+use Rattle.schema_model.specs.declared.model.rule.Rule.TheVariants.{DuplicateName}
+use Rattle.schema_model.specs.declared.schema.Schema.{Schema}
+use Rattle.schema_model.specs.Model.{IsKept}
+use Rattle.schema_model.specs.Table.{Table, row_at}
+use Rattle.row_packing.proofs.Greatest.{all_gives, all_images}
+use Rattle.blob_frame.specs.Written.{header_bytes}
+use Rattle.section_writing.specs.Placed.{placed}
+use Rattle.section_writing.proofs.ListLength.{header_long}
+use Rattle.snapshot_blob.proofs.Zipped.{zip_right, zip_second}
+use Rattle.delta_blob.specs.declared.part.PatchPart.{PatchPart}
+use Rattle.delta_blob.specs.Changes.{IsChangeOf, IsDeltaBetween}
+use Rattle.delta_blob.specs.Written.{TypeChange, IsCarried, IsWrittenDelta, change_bytes, header_of, part_of, schemas_of}
+use Rattle.delta_blob.proofs.ChangedTypes.{all_below}
+use Rattle.delta_blob.proofs.SpelledDeltas.{delta_stands}
+use Rattle.written_laws.specs.Delta.{LeadsTo}
+use Rattle.written_laws.specs.Fits.{FitsOrdinals, HoldsTable}
+use Rattle.written_laws.specs.Moved.{EachNamed, IsAt, IsUnnamed, Moved, MovesType}
+use Rattle.written_laws.specs.Patch.{TypePatch, PartIs}
+use Rattle.written_laws.specs.States.{AreStates}
+use Rattle.written_laws.specs.Within.{IsTypeWithin}
+use Rattle.written_laws.proofs.Beside.{at_index, each_pair, each_short, placed_alike, placed_all, placed_beside, placed_seconds}
+use Rattle.written_laws.proofs.Carrying.{few_schemas}
+use Rattle.written_laws.proofs.DeltaTypes.{patch_of, change_carried, few_items, new_held, new_within, ordinals_fit, part_is, rows_move}
+use Rattle.written_laws.proofs.Gone.{unchanged_row}
+use Rattle.written_laws.proofs.NamedOnce.{few_rising, named_once}
+
+module _ (schemas : List Schema) (old new : Table) (are : AreStates schemas old new) (origin destination : ℤ) (blob : List ℕ) (from : FitsSigned w64 origin) (to : FitsSigned w64 destination)
+    (short : length blob ≤ 2 ^ 28) (is : IsDeltaBetween schemas old new origin destination blob) where
+  abbrev types : List ℕ
+  types = is.are.types
+
+  abbrev Changes : ℕ × TypeChange → Type 0
+  Changes entry = IsChangeOf schemas old new entry.0 entry.1
+
+  -- each type's index, and what is changed of it
+  abbrev entries : List (ℕ × TypeChange)
+  entries = zip types is.changes
+
+  abbrev front : List ℕ
+  front = header_bytes origin destination (schemas_of is.changes)
+
+  abbrev start : ℕ
+  start = length front + length (varint_bytes (length is.changes))
+
+  abbrev parts : List PatchPart
+  parts = placed change_bytes part_of is.changes start
+
+  abbrev patch : List TypePatch
+  patch = map (patch_of new) entries
+
+  change : All Changes entries
+  change = each_pair (IsChangeOf schemas old new) types is.changes is.are.carried
+
+  -- ---- the bytes
+
+  whole_long : length blob ≡ length front + (length (varint_bytes (length is.changes)) + length (flat_map change_bytes is.changes))
+  whole_long =
+      let here = ap (λ (xs : List ℕ). length xs) is.is in
+      omega (arith, here, length-append front (varint_bytes (length is.changes) ++ flat_map change_bytes is.changes), length-append (varint_bytes (length is.changes)) (flat_map change_bytes is.changes))
+
+  few_changes : length is.changes ≤ 512
+  few_changes =
+      let below = all_below (length schemas) (length schemas) old new types refl is.are.changed in
+      omega (arith, AllZip-long (IsChangeOf schemas old new) types is.changes is.are.carried, few_rising (length schemas) types is.are.changed.rising below, few_schemas schemas are.model)
+
+  carried : All IsCarried is.changes
+  carried k d within =
+      zip_second (IsChangeOf schemas old new) (λ c. length (change_bytes c) ≤ 2 ^ 28 → IsCarried c) (λ index c of. change_carried schemas old new are (index, c) of) types is.changes is.are.carried k d within
+      (each_short (2 ^ 28) change_bytes is.changes (omega (arith, short, whole_long)) k d within)
+
+  written : IsWrittenDelta blob origin destination is.changes
+  written = record {
+    is = is.is;
+    from_tag = from;
+    to_tag = to;
+    few = few_changes;
+    short = omega (arith, short, whole_long, header_long origin destination (schemas_of is.changes));
+    carried = carried;
+  }
+
+  -- ---- the patch
+
+  once : IsKept (map (λ part. part.schema) parts) DuplicateName
+  once =
+      let at = zip_right (IsChangeOf schemas old new) (IsChangeOf schemas old new) (λ index schema. slice_get schemas index ≡ Some schema) (λ c. c.schema) (λ index c of also. of.schema) types is.changes
+      is.are.carried is.are.carried in
+      subst (λ (listed : List Schema). IsKept listed DuplicateName) (sym (placed_alike change_bytes part_of (λ part. part.schema) (λ c. c.schema) (λ c at. refl) is.changes start))
+      (named_once schemas (are.model.model DuplicateName) types is.are.changed.rising (schemas_of is.changes) at)
+
+  parts_are : AllZip PartIs parts patch
+  parts_are =
+      subst (λ (ps : List PatchPart). AllZip PartIs ps patch) (placed_seconds (IsChangeOf schemas old new) change_bytes part_of types is.changes is.are.carried start)
+      (placed_beside Changes PartIs (λ entry. change_bytes entry.1) (λ entry at. part_of entry.1 at) (patch_of new) (λ entry at of. part_is schemas old new are entry of at) entries change start)
+
+  each_named : (P : ℕ → TypePatch → Type 0) → ((entry : ℕ × TypeChange) → Changes entry → P entry.0 (patch_of new entry)) → EachNamed schemas patch P
+  each_named P each =
+      let Of = λ (named : TypePatch). (type_index : ℕ) × IsAt schemas type_index named × P type_index named in
+      All-map Of (patch_of new) entries (all_gives Changes (λ entry. Of (patch_of new entry)) entries (λ entry of. (entry.0, of.schema, each entry of)) change)
+
+  stays : (type_index ordinal : ℕ) → type_index < length schemas → IsUnnamed schemas patch type_index → row_at new type_index ordinal ≡ row_at old type_index ordinal
+  stays type_index ordinal inside unnamed =
+      unchanged_row old new type_index ordinal (are.together.agree type_index inside)
+      (λ changed.
+      let none = all_images (λ named. IsAt schemas type_index named → ⊥) (patch_of new) entries unnamed in
+      let (c, of, not) = at_index (IsChangeOf schemas old new) (λ entry. IsAt schemas type_index (patch_of new entry) → ⊥) types is.changes is.are.carried none type_index
+      ((is.are.changed.are type_index).1 (inside, changed)) in
+      not of.schema)
+
+  moved : Moved schemas patch old new
+  moved = record {
+    types = are.after.rows.types ∙ sym are.before.rows.types;
+    named = each_named (MovesType old new) (rows_move schemas old new are);
+    others = stays;
+  }
+
+  pub delta_read : LeadsTo schemas old new origin destination blob
+  delta_read = record {
+    patch = patch;
+    is = record {
+      head = header_of origin destination is.changes;
+      parts = parts;
+      items = record { items = delta_stands blob origin destination is.changes written; once = once };
+      from_tag = refl;
+      to_tag = refl;
+      types = parts_are;
+    };
+    fits = record {
+      ordinals = each_named (FitsOrdinals old) (ordinals_fit schemas old new are);
+      moved = new;
+      moves = moved;
+      closed = are.after.closed;
+      held = each_named (HoldsTable new) (new_held schemas old new are);
+    };
+    moved = moved;
+    within = each_named (IsTypeWithin new) (new_within schemas old new are);
+    items = placed_all (λ c. c.rows.total ≤ 2 ^ 25) (λ part. part.section.total ≤ 2 ^ 25) change_bytes part_of (λ c at few. few) is.changes
+        (zip_second (IsChangeOf schemas old new) (λ c. c.rows.total ≤ 2 ^ 25) (λ index c of. few_items schemas old new are (index, c) of) types is.changes is.are.carried) start;
+    short = short;
+  }

@@ -1,0 +1,184 @@
+-- Lemmas on a type of a delta that is written: it can be carried, it is read as its part, and the patch of that part leads from the old rows to the new ones.
+use Rattle.std.proofs.Common.{◌≡◌, ◌≤◌, ◌<◌, ◌*◌, ◌^◌, ℕ, List, ◌++◌, length, refl, ap, ◌∙◌, sym, subst, inl, inr, arith, length-append}
+use Rattle.std.specs.Prelude.{All, Contains}
+use Rattle.std.proofs.lemmas.List.{length-map}
+use Rattle.bit_array.specs.Element.{words_of}
+use Rattle.ordinal_set.specs.Gaps.{gap_bytes}
+use Rattle.hol_varint.specs.Varint.{varint_bytes}
+use Rattle.schema_model.specs.declared.schema.Schema.{Schema}
+use Rattle.schema_model.specs.declared.schema.Shape.{Shape}
+use Rattle.schema_model.specs.Table.{Table, IsLive, row_at}
+use Rattle.row_walk.specs.BothStates.{rows_in, rows_of_both}
+use Rattle.type_state.specs.Holds.{Holds}
+use Rattle.type_state.specs.Layout.{place_bits, places_of}
+use Rattle.type_state.specs.WellFormed.{AreWidths}
+use Rattle.row_packing.specs.declared.chosen.Chosen.{Chosen}
+use Rattle.row_packing.specs.Chosen.{shape_at, chosen_total, chosen_widths}
+use Rattle.row_packing.specs.Packs.{PacksPlaces}
+use Rattle.row_packing.specs.Places.{AreAdded, places_under}
+use Rattle.row_packing.specs.Written.{CanBeWritten, ArePacked, IsStored}
+use Rattle.row_packing.proofs.Greatest.{all_gives}
+use Rattle.row_packing.proofs.Suiting.{places_few}
+use Rattle.row_packing.proofs.WrittenSections as law
+use Rattle.row_packing.proofs.WrittenSections.{AreBoth}
+use Rattle.section_writing.specs.Carried.{AreCarried}
+use Rattle.section_writing.specs.Written.{max_bytes, packed_bytes, type_head_bytes}
+use Rattle.delta_blob.specs.Changes.{IsChangeOf, gone}
+use Rattle.delta_blob.specs.Written.{TypeChange, AreGaps, IsCarried, change_bytes, part_of}
+use Rattle.delta_blob.proofs.WrittenOnce.{all_of, gone_live}
+use Rattle.written_laws.specs.Fits.{FitsOrdinals, HoldsTable}
+use Rattle.written_laws.specs.Moved.{MovesType}
+use Rattle.written_laws.specs.Patch.{TypePatch, PartIs, places_in}
+use Rattle.written_laws.specs.States.{AreStates}
+use Rattle.written_laws.specs.Within.{IsTypeWithin}
+use Rattle.written_laws.proofs.Carrying.{both_are, both_stored, can_write, has_parts, limits_kept, shape_here, small_max, spellable_at, texts_at}
+use Rattle.written_laws.proofs.ChosenLayout.{chosen_holds, chosen_wide, has_place, packed_enough}
+use Rattle.written_laws.proofs.Gone.{as_many_rows, dead_row, gone_dead, kept_row, ordinal_there, row_there, rows_under}
+
+-- ---- its ordinals
+
+-- the bytes of the gaps are no more than those of the whole
+gaps_inside : (head most few removed many added packed : List ℕ) → (length removed ≤ length (head ++ (most ++ (((few ++ removed) ++ (many ++ added)) ++ packed))))
+    × (length added ≤ length (head ++ (most ++ (((few ++ removed) ++ (many ++ added)) ++ packed))))
+gaps_inside head most few removed many added packed =
+    let one = length-append head (most ++ (((few ++ removed) ++ (many ++ added)) ++ packed)) in
+    let two = length-append most (((few ++ removed) ++ (many ++ added)) ++ packed) in
+    let three = length-append ((few ++ removed) ++ (many ++ added)) packed in
+    let four = length-append (few ++ removed) (many ++ added) in
+    let five = length-append few removed in
+    let six = length-append many added in
+    (omega (arith, one, two, three, four, five, six), omega (arith, one, two, three, four, five, six))
+
+-- ordinals that are live in one of the states can be carried
+are_gaps : (table : Table) (index : ℕ) (ordinals : List ℕ) → AreAdded table index ordinals → ((ordinal : ℕ) → IsLive table index ordinal → ordinal < 2 ^ 22) → length (gap_bytes ordinals) ≤ 2 ^ 28 → AreGaps ordinals
+are_gaps table index ordinals are below short = record {
+  rising = are.rising;
+  small = all_gives (IsLive table index) (λ ordinal. ordinal < 2 ^ 32) ordinals (λ ordinal live. let low = below ordinal live in omega (arith, low)) are.live;
+  few = omega (arith, short);
+}
+
+-- ---- its patch
+
+-- what is changed of a type
+abbrev pub patch_of : Table → ℕ × TypeChange → TypePatch
+patch_of new entry = record {
+  schema = entry.1.schema;
+  layout = record { max = entry.1.max; widths = entry.1.rows.widths };
+  removed = entry.1.removed;
+  added = entry.1.added;
+  rows = rows_under new entry.0 entry.1.added;
+}
+
+module _ (schemas : List Schema) (old new : Table) (are : AreStates schemas old new) (entry : ℕ × TypeChange) (is : IsChangeOf schemas old new entry.0 entry.1) where
+  abbrev shape : Shape
+  shape = entry.1.schema.shape
+
+  abbrev chosen : Chosen
+  chosen = record { max = entry.1.max; widths = entry.1.rows.widths; total = entry.1.rows.total }
+
+  same : shape_at schemas entry.0 ≡ shape
+  same = shape_here schemas old new are entry.0 entry.1.schema is.schema
+
+  can : CanBeWritten shape new entry.0 chosen
+  can = can_write schemas old new are entry.0 entry.1.schema is.schema chosen is.chosen
+
+  both : AreBoth shape old new entry.0
+  both = both_are schemas old new are entry.0 entry.1.schema is.schema chosen is.chosen
+
+  stored : All IsStored (rows_of_both old new entry.0)
+  stored = both_stored schemas old new are entry.0 entry.1.schema is.schema
+
+  packs : PacksPlaces shape entry.1.rows.widths (places_under new entry.0 entry.1.added) entry.1.rows.packed.first entry.1.rows.packed.second entry.1.rows.packed.areas
+  packs =
+      subst (λ (s : Shape). PacksPlaces s entry.1.rows.widths (places_under new entry.0 entry.1.added) entry.1.rows.packed.first entry.1.rows.packed.second entry.1.rows.packed.areas) same is.packed
+
+  come : AreAdded new entry.0 entry.1.added
+  come = subst (AreAdded new entry.0) (sym is.added) (gone_live new old entry.0)
+
+  go : AreAdded old entry.0 entry.1.removed
+  go = subst (AreAdded old entry.0) (sym is.removed) (gone_live old new entry.0)
+
+  pub few_places : places_of entry.1.max ≤ 2 ^ 22
+  few_places = places_few shape new entry.0 chosen can.suits
+
+  widths : entry.1.rows.widths ≡ chosen_widths shape (rows_of_both old new entry.0)
+  widths = is.chosen.widths ∙ ap (λ (s : Shape). chosen_widths s (rows_of_both old new entry.0)) same
+
+  total : entry.1.rows.total ≡ chosen_total shape (rows_of_both old new entry.0)
+  total = is.chosen.total ∙ ap (λ (s : Shape). chosen_total s (rows_of_both old new entry.0)) same
+
+  wide : AreWidths shape entry.1.max entry.1.rows.widths
+  wide = subst (AreWidths shape entry.1.max) (sym widths) (chosen_wide old new entry.0 shape entry.1.max both is.chosen.max)
+
+  enough : words_of (length entry.1.added * place_bits shape entry.1.rows.widths) ≤ length entry.1.rows.packed.first
+  enough =
+      let places = places_under new entry.0 entry.1.added in
+      let by_chosen = packed_enough shape (rows_of_both old new entry.0) places entry.1.rows.packed.first entry.1.rows.packed.second entry.1.rows.packed.areas
+      (subst (λ (ws : List ℕ). PacksPlaces shape ws places entry.1.rows.packed.first entry.1.rows.packed.second entry.1.rows.packed.areas) widths packs) in
+      let by_widths = subst (λ (ws : List ℕ). words_of (length places * place_bits shape ws) ≡ length entry.1.rows.packed.first) (sym widths) by_chosen in
+      let by_added = subst (λ (n : ℕ). words_of (n * place_bits shape entry.1.rows.widths) ≡ length entry.1.rows.packed.first) (length-map entry.1.added (row_at new entry.0)) by_widths in
+      omega (arith, by_added)
+
+  carried : AreCarried shape entry.1.max (length entry.1.added) entry.1.rows
+  carried = record {
+    wide = wide;
+    parts = has_parts shape (rows_of_both old new entry.0) (places_under new entry.0 entry.1.added) entry.1.rows packs total;
+    fits = is.fits;
+    enough = enough;
+  }
+
+  -- a delta of few bytes can carry it
+  pub change_carried : length (change_bytes entry.1) ≤ 2 ^ 28 → IsCarried entry.1
+  change_carried short =
+      let inside = gaps_inside (type_head_bytes entry.1.schema) (max_bytes entry.1.max) (varint_bytes (length (gap_bytes entry.1.removed))) (gap_bytes entry.1.removed)
+      (varint_bytes (length (gap_bytes entry.1.added))) (gap_bytes entry.1.added) (packed_bytes shape entry.1.rows) in
+      record {
+        spellable = spellable_at schemas are.model entry.0 entry.1.schema is.schema;
+        texts = texts_at schemas are.model entry.0 entry.1.schema is.schema;
+        max = small_max entry.1.max few_places;
+        removed = are_gaps old entry.0 entry.1.removed go (λ ordinal live. both.keeps.ordinals ordinal (inl live)) (omega (arith, short, inside.0));
+        added = are_gaps new entry.0 entry.1.added come (λ ordinal live. both.keeps.ordinals ordinal (inr live)) (omega (arith, short, inside.1));
+        rows = carried;
+      }
+
+  pub part_is : (at : ℕ) → PartIs (part_of entry.1 at) (patch_of new entry)
+  part_is at = record {
+    schema = refl;
+    layout = refl;
+    removed = refl;
+    added = refl;
+    each = as_many_rows new entry.0 entry.1.added come.live;
+    spelled = λ place row there.
+        let (ordinal, listed, found) = ordinal_there new entry.0 entry.1.added come.live place row there in
+        let packed : ArePacked shape new entry.0 chosen entry.1.added (places_in (part_of entry.1 at)) = record { widths = refl; total = refl; packed = packs } in
+        law.places_spell shape new entry.0 chosen entry.1.added (places_in (part_of entry.1 at)) place ordinal row can come packed listed found;
+  }
+
+  pub ordinals_fit : FitsOrdinals old entry.0 (patch_of new entry)
+  ordinals_fit = record {
+    removed_rise = go.rising;
+    removed_live = go.live;
+    added_rise = come.rising;
+    added_placed = all_gives (IsLive new entry.0) (λ ordinal. ordinal < places_of entry.1.max) entry.1.added (has_place old new entry.0 entry.1.max is.chosen.max) come.live;
+    added_free = subst (All (λ ordinal. IsLive old entry.0 ordinal → ⊥)) (sym is.added) (all_of (λ ordinal. IsLive old entry.0 ordinal → ⊥) (gone new old entry.0) (gone_dead new old entry.0));
+  }
+
+  pub rows_move : MovesType old new entry.0 (patch_of new entry)
+  rows_move = record {
+    removed = λ ordinal goes. dead_row (row_at new entry.0 ordinal) (gone_dead old new entry.0 ordinal (subst (λ (os : List ℕ). Contains os ordinal) is.removed goes));
+    added = row_there new entry.0 entry.1.added come.live;
+    kept = λ ordinal stays old_one.
+        kept_row old new entry.0 ordinal both.agree (λ goes. stays (subst (λ (os : List ℕ). Contains os ordinal) (sym is.removed) goes))
+        (λ comes. old_one (subst (λ (os : List ℕ). Contains os ordinal) (sym is.added) comes));
+  }
+
+  pub new_held : HoldsTable new entry.0 (patch_of new entry)
+  new_held =
+      subst (λ (ws : List ℕ). Holds shape (record { max = entry.1.max; widths = ws }) (rows_in new entry.0)) (sym widths)
+      (chosen_holds old new entry.0 shape entry.1.max both stored is.chosen.max)
+
+  pub new_within : IsTypeWithin new entry.0 (patch_of new entry)
+  new_within = record { ordinals = few_places; kept = limits_kept schemas old new are entry.0 entry.1.schema is.schema chosen is.chosen }
+
+  pub few_items : entry.1.rows.total ≤ 2 ^ 25
+  few_items = let few = both.keeps.items in omega (arith, total, few)

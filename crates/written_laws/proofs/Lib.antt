@@ -1,0 +1,14 @@
+pub mod Beside
+pub mod Carrying
+pub mod ChainSteps
+pub mod ChosenLayout
+pub mod DeltaRead
+pub mod DeltaTypes
+pub mod EmptyChain
+pub mod Gone
+pub mod MovedOnce
+pub mod NamedOnce
+pub mod PatchOnce
+pub mod SnapshotRead
+pub mod SnapshotTypes
+pub mod StatesBack

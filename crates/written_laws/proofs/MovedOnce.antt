@@ -1,0 +1,74 @@
+-- A patch moves a table to one table.
+use Rattle.std.proofs.Common.{◌≡◌, ◌<◌, ◌⊎◌, ℕ, suc, List, [], ◌∷◌, length, Some, inl, inr, refl, sym, ap, ◌∙◌, subst, arith}
+use Rattle.std.specs.Cmp.{nat_cmp_total}
+use Rattle.std.specs.FinMap.{nat_cmp-IsAntisymmetric, same_map}
+use Rattle.std.proofs.lemmas.Bool.{cases_eq}
+use Rattle.std.proofs.lemmas.List.Elements.{All-cons, All-head, All-nil, All-tail}
+use Rattle.std.proofs.lemmas.Option.{slice_get-get_or}
+use Rattle.schema_model.specs.declared.model.rule.Rule.TheVariants.{DuplicateName}
+use Rattle.schema_model.specs.declared.schema.Schema.{Schema}
+use Rattle.schema_model.specs.Model.{IsKept}
+use Rattle.schema_model.specs.Table.{Table, row_at}
+use Rattle.row_walk.specs.BothStates.{rows_in}
+use Rattle.row_walk.proofs.RowsFrom.{get_in}
+use Rattle.written_laws.specs.Moved.{EachNamed, IsAt, IsUnnamed, Moved, MovesType}
+use Rattle.written_laws.specs.Patch.{TypePatch}
+use Rattle.written_laws.proofs.Gone.{contained_or}
+use Rattle.written_laws.proofs.NamedOnce.{one_index}
+
+-- the rows of a type that a patch names
+named_row : (old a b : Table) (index ordinal : ℕ) (patch : TypePatch) → MovesType old a index patch → MovesType old b index patch → row_at a index ordinal ≡ row_at b index ordinal
+named_row old a b index ordinal patch one other =
+    elim (contained_or patch.removed ordinal) [
+      | inl goes ↦ one.removed ordinal goes ∙ sym (other.removed ordinal goes)
+      | inr stays ↦
+          elim (contained_or patch.added ordinal) [
+            | inl comes ↦
+                let (k, within, same) = comes in
+                let at = slice_get-get_or patch.added k ordinal within ∙ ap Some same in
+                one.added k ordinal at ∙ sym (other.added k ordinal at)
+            | inr old_one ↦ one.kept ordinal stays old_one ∙ sym (other.kept ordinal stays old_one)
+          ]
+    ]
+
+module _ (schemas : List Schema) (apart : IsKept schemas DuplicateName) (P Q : ℕ → TypePatch → Type 0) where
+  -- what a patch names a type by, or that it does not
+  named_or : (patch : List TypePatch) → EachNamed schemas patch P → EachNamed schemas patch Q → (index : ℕ) → ((named : TypePatch) × P index named × Q index named) ⊎ IsUnnamed schemas patch index
+  named_or [] one other index = inr (All-nil (λ named. IsAt schemas index named → ⊥))
+  named_or (named ∷ patch) one other index =
+      let (i, at_i, p) = All-head (λ n. (t : ℕ) × IsAt schemas t n × P t n) named patch one in
+      let (j, at_j, q) = All-head (λ n. (t : ℕ) × IsAt schemas t n × Q t n) named patch other in
+      let same = one_index schemas apart j i named.schema named.schema at_j at_i refl in
+      elim (cases_eq i index) [
+        | inl here ↦ inl (named, subst (λ t. P t named) here p, subst (λ t. Q t named) (same ∙ here) q)
+        | inr apart_here ↦
+            elim (named_or patch (All-tail (λ n. (t : ℕ) × IsAt schemas t n × P t n) named patch one) (All-tail (λ n. (t : ℕ) × IsAt schemas t n × Q t n) named patch other) index) [
+              | inl found ↦ inl found
+              | inr none ↦
+                  inr (All-cons (λ n. IsAt schemas index n → ⊥) named patch (λ at. apart_here (one_index schemas apart i index named.schema named.schema at_i at refl)) none)
+            ]
+      ]
+
+-- tables with the same rows of each type
+same_tables : (a b : Table) → length a ≡ length b → ((index : ℕ) → index < length a → rows_in a index ≡ rows_in b index) → a ≡ b
+same_tables [] [] long each = refl
+same_tables [] (y ∷ ys) long each = absurd (omega (arith, long))
+same_tables (x ∷ xs) [] long each = absurd (omega (arith, long))
+same_tables (x ∷ xs) (y ∷ ys) long each =
+    let one : x ≡ y = each 0 (omega arith) in
+    let rest = same_tables xs ys (omega (arith, long)) (λ index inside. each (suc index) (omega (arith, inside))) in
+    λ i. one i ∷ rest i
+
+pub moved_once : (schemas : List Schema) (patch : List TypePatch) (old a b : Table) → IsKept schemas DuplicateName → length old ≡ length schemas → Moved schemas patch old a → Moved schemas patch old b → a ≡ b
+moved_once schemas patch old a b apart long one other =
+    same_tables a b (one.types ∙ sym other.types)
+    (λ index inside.
+    same_map nat_cmp_total nat_cmp-IsAntisymmetric (rows_in a index) (rows_in b index)
+    (λ ordinal. get_in a index ordinal ∙ row index ordinal (omega (arith, inside, one.types, long)) ∙ sym (get_in b index ordinal)))
+  where
+    row : (index ordinal : ℕ) → index < length schemas → row_at a index ordinal ≡ row_at b index ordinal
+    row index ordinal inside =
+        elim (named_or schemas apart (MovesType old a) (MovesType old b) patch one.named other.named index) [
+          | inl named ↦ named_row old a b index ordinal named.0 named.1 named.2
+          | inr unnamed ↦ one.others index ordinal inside unnamed ∙ sym (other.others index ordinal inside unnamed)
+        ]

@@ -1,0 +1,46 @@
+-- The bytes of a delta are of one patch, between two tags.
+use Rattle.std.proofs.Common.{◌≡◌, ℕ, ℤ, suc, List, [], ◌∷◌, length, Some, refl, sym, ap, ◌∙◌, subst, arith}
+use Rattle.std.specs.Prelude.{slice_get}
+use Rattle.std.specs.List.{AllZip}
+use Rattle.schema_model.specs.declared.rows.row.Row.{Row}
+use Rattle.type_state.proofs.Loading.{one_row}
+use Rattle.blob_frame.specs.declared.header.Header.{Header}
+use Rattle.snapshot_blob.proofs.Zipped.{zip_once}
+use Rattle.delta_blob.specs.declared.part.PatchPart.{PatchPart}
+use Rattle.delta_blob.specs.Parts.{delta}
+use Rattle.written_laws.specs.Patch.{TypePatch, DeltaIs, PartIs, places_in}
+
+-- lists of rows that are the same at each place
+same_rows : (xs ys : List Row) → length xs ≡ length ys → ((k : ℕ) (x y : Row) → slice_get xs k ≡ Some x → slice_get ys k ≡ Some y → x ≡ y) → xs ≡ ys
+same_rows [] [] long each = refl
+same_rows [] (y ∷ ys) long each = absurd (omega (arith, long))
+same_rows (x ∷ xs) [] long each = absurd (omega (arith, long))
+same_rows (x ∷ xs) (y ∷ ys) long each =
+    let one = each 0 x y refl refl in
+    let rest = same_rows xs ys (omega (arith, long)) (λ k. each (suc k)) in
+    λ i. one i ∷ rest i
+
+part_once : (part : PatchPart) (p q : TypePatch) → PartIs part p → PartIs part q → p ≡ q
+part_once part p q one other =
+    let schema = one.schema ∙ sym other.schema in
+    let layout = one.layout ∙ sym other.layout in
+    let removed = one.removed ∙ sym other.removed in
+    let added = one.added ∙ sym other.added in
+    let long = one.each ∙ ap (λ (os : List ℕ). length os) added ∙ sym other.each in
+    let rows = same_rows p.rows q.rows long (λ k x y at_x at_y. (one_row part.schema.shape (places_in part)).once k x y (one.spelled k x at_x) (other.spelled k y at_y)) in
+    λ i. record { schema = schema i; layout = layout i; removed = removed i; added = added i; rows = rows i }
+
+module _ (blob : List ℕ) (a b c d : ℤ) (p q : List TypePatch) (one : DeltaIs blob a b p) (other : DeltaIs blob c d q) where
+  same_items : ◌≡◌ {A = Header × List PatchPart} (one.head, one.parts) (other.head, other.parts)
+  same_items = (delta.decided.one blob 0 (one.head, one.parts) (other.head, other.parts) (length blob) (length blob) one.items.items other.items.items).0
+
+  pub parts_once : one.parts ≡ other.parts
+  parts_once = ap (λ (v : Header × List PatchPart). v.1) same_items
+
+  pub patch_once : (a ≡ c) × (b ≡ d) × (p ≡ q)
+  patch_once =
+      let head : one.head ≡ other.head = ap (λ (v : Header × List PatchPart). v.0) same_items in (
+        sym one.from_tag ∙ ap (λ (h : Header). h.origin) head ∙ other.from_tag,
+        sym one.to_tag ∙ ap (λ (h : Header). h.destination) head ∙ other.to_tag,
+        zip_once PartIs part_once one.parts p q one.types (subst (λ (ps : List PatchPart). AllZip PartIs ps q) (sym parts_once) other.types),
+      )

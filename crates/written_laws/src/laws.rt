@@ -1,0 +1,59 @@
+//! Laws of written blobs.
+ghost use Rattle.std.specs.Prelude.{◌≡◌, ◌≤◌, ◌^◌, ℕ, ℤ, List, Some, FitsSigned, length};
+ghost use Rattle.std.specs.FinMap.{empty, get};
+ghost use Rattle.std.specs.Int.{w64};
+ghost use Rattle.hol_io.specs.declared.name.BlobName.{BlobName};
+ghost use Rattle.hol_io.specs.Store.{Store};
+ghost use Rattle.schema_model.specs.declared.model.rule.Rule.TheVariants.{DuplicateName};
+ghost use Rattle.schema_model.specs.declared.schema.Schema.{Schema};
+ghost use Rattle.schema_model.specs.Model.{IsKept};
+ghost use Rattle.schema_model.specs.Table.{Table};
+ghost use Rattle.snapshot_blob.specs.Written.{IsWrittenSnapshot};
+ghost use Rattle.delta_blob.specs.Changes.{IsDeltaBetween};
+ghost use Rattle.written_laws.specs.States.{AreStates};
+ghost use Rattle.written_laws.specs.Chain.{Chain, ChainState, HasVersion};
+ghost use Rattle.written_laws.specs.Delta.{LeadsTo};
+ghost use Rattle.written_laws.specs.HoldsChain.{HoldsChain, IsStep, LeadsOn};
+ghost use Rattle.written_laws.specs.Moved.{Moved};
+ghost use Rattle.written_laws.specs.Patch.{DeltaIs, TypePatch};
+ghost use Rattle.written_laws.specs.Snapshot.{IsSnapshotOf};
+
+/// A snapshot that is written of a new state, which follows an old one, is read back as the new state, within the limits.
+pub fn written_snapshot()
+    ensures { (schemas : List Schema) (old new : Table) (origin destination : ℤ) (blob : List ℕ) → AreStates schemas old new → FitsSigned w64 origin → FitsSigned w64 destination
+        → length blob ≤ 2 ^ 28 → IsWrittenSnapshot schemas old new origin destination blob → IsSnapshotOf schemas new origin destination blob }
+{}
+
+/// Two states between which a producer writes are such either way.
+pub fn either_way()
+    ensures { (schemas : List Schema) (old new : Table) → AreStates schemas old new → AreStates schemas new old }
+{}
+
+/// A delta that is written between an old and a new state is read back as one of a patch that fits the old state and moves it to the new
+/// one, within the limits. The reverse delta, which is written with the states and the tags exchanged, leads back.
+pub fn written_delta()
+    ensures moves { (schemas : List Schema) (old new : Table) (origin destination : ℤ) (blob : List ℕ) → AreStates schemas old new → FitsSigned w64 origin → FitsSigned w64 destination
+        → length blob ≤ 2 ^ 28 → IsDeltaBetween schemas old new origin destination blob → LeadsTo schemas old new origin destination blob }
+    ensures back { (schemas : List Schema) (old new : Table) (origin destination : ℤ) (blob : List ℕ) → AreStates schemas old new → FitsSigned w64 origin → FitsSigned w64 destination
+        → length blob ≤ 2 ^ 28 → IsDeltaBetween schemas new old destination origin blob → LeadsTo schemas new old destination origin blob }
+{}
+
+/// A blob is a delta of one patch at most, between two tags, and a patch moves a table of a model to one table at most.
+pub fn one_patch()
+    ensures patch { (blob : List ℕ) (a b c d : ℤ) (p q : List TypePatch) → DeltaIs blob a b p → DeltaIs blob c d q → (a ≡ c) × (b ≡ d) × (p ≡ q) }
+    ensures table { (schemas : List Schema) (patch : List TypePatch) (old a b : Table) → IsKept schemas DuplicateName → length old ≡ length schemas
+        → Moved schemas patch old a → Moved schemas patch old b → a ≡ b }
+{}
+
+/// A store without blobs holds the chain without states.
+pub fn empty_chain()
+    ensures { HoldsChain empty empty }
+{}
+
+/// A delta of a chain that a store holds, and that begins at the tag of a state, fits this state, moves it to another one of the chain, and
+/// passes no limit.
+pub fn chain_step()
+    ensures { (store : Store) (chain : Chain) (name : BlobName) (blob : List ℕ) (origin destination : ℤ) (patch : List TypePatch) (version : ℕ) (state : ChainState)
+        → HoldsChain store chain → IsStep name → get store name ≡ Some blob → (is : DeltaIs blob origin destination patch) → HasVersion chain version state → state.tag ≡ origin
+        → LeadsOn chain state blob origin destination patch is }
+{}
