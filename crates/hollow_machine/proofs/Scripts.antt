@@ -1,7 +1,7 @@
 -- Scripts one behind the other, and what a refusal leaves.
 use Rattle.std.proofs.Common.{◌≡◌, inl, inr, ℕ, List, [], ◌∷◌, ◌++◌, Bool, true, false, if◌then◌else◌, refl, sym, ap, ◌∙◌, append_assoc, subst}
 use Rattle.hol_orders.specs.declared.order.Order.{Order}
-use Rattle.hol_orders.specs.declared.order.Order.TheVariants.{Model}
+use Rattle.hol_orders.specs.declared.order.Order.TheVariants.{Model, Cycle}
 use Rattle.hol_orders.specs.declared.refusal.Refusal.{Refusal}
 use Rattle.hol_orders.specs.declared.reply.Reply.TheVariants.{Refused}
 use Rattle.hol_orders.specs.Reply.{is_refusal, line_of}
@@ -12,6 +12,7 @@ use Rattle.hollow_machine.specs.Step.{Step}
 -- an order that is refused changes nothing
 order_unchanged : (machine next : Machine) (order : Order) (refusal : Refusal) → Step machine order (Refused refusal) next → next ≡ machine
 order_unchanged machine next (Model schemas) refusal step = step.1
+order_unchanged machine next (Cycle version tag add) refusal step = step.1
 order_unchanged machine next _ refusal step = step.1
 
 pub unchanged : (machine next : Machine) (line : List ℕ) (refusal : Refusal) → LineStep machine line (Refused refusal) next → next ≡ machine

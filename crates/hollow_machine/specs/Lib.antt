@@ -1,4 +1,9 @@
+pub mod CycleOrder
+pub mod Follow
+pub mod Kept
 pub mod ModelOrder
+pub mod Puts
+pub mod Records
 pub mod Script
 pub mod State
 pub mod Step

@@ -1,10 +1,9 @@
 -- The state of the machine that orders move: what the store holds, and the producer.
-use Rattle.std.specs.Prelude.{ℕ, ℤ, pos, List, Option, None, map}
-use Rattle.std.specs.Ordering.{nat_cmp}
-use Rattle.std.specs.FinMap.{empty}
+use Rattle.std.specs.Prelude.{ℕ, ℤ, pos, List, length, Option, None}
 use Rattle.hol_io.specs.Store.{Store}
 use Rattle.schema_model.specs.declared.schema.Schema.{Schema}
 use Rattle.schema_model.specs.Table.{Table}
+use Rattle.write_engine.specs.Cycle.{no_rows}
 
 -- A producer: its model, the rows of the last published state, and the tag and the version of that state, which are 0 before the first.
 pub record Published : Type 0 where
@@ -22,10 +21,6 @@ pub record Machine : Type 0 where
 abbrev pub started : Store → Machine
 started store = record { store = store; producer = None }
 
--- No rows of the types of a model.
-abbrev pub no_rows : List Schema → Table
-no_rows schemas = map (λ schema. empty {R = nat_cmp}) schemas
-
 -- The producer of a model that has published nothing.
 abbrev pub new_producer : List Schema → Published
-new_producer schemas = record { model = schemas; rows = no_rows schemas; tag = pos 0; version = 0 }
+new_producer schemas = record { model = schemas; rows = no_rows (length schemas); tag = pos 0; version = 0 }

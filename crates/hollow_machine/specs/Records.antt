@@ -1,0 +1,80 @@
+-- The records of a cycle: those under the name of each type of the model, types in model order, and which trees they give.
+use Rattle.std.specs.Prelude.{◌≡◌, ℕ, List, [], ◌∷◌, ◌++◌, All, IsOk, IsSome, IsSomeAnd, None, Ok, Err, length, map, flat_map, slice_get}
+use Rattle.std.specs.List.{AllZip, range_with_len, zip}
+use Rattle.std.specs.Option.{option_map_or, option_and_then}
+use Rattle.serde_json.specs.Data.{Data, Items, no_items, item, Members, no_members, member}
+use Rattle.serde_json.specs.Find.{as_array, as_object, get}
+use Rattle.schema_model.specs.declared.reason.Reason.{Reason}
+use Rattle.schema_model.specs.declared.schema.Schema.{Schema}
+use Rattle.schema_model.specs.Parts.{index_of_type}
+use Rattle.schema_model.specs.PlainTree.{PlainTree}
+use Rattle.record_json.specs.ReadTree.{read_tree}
+
+-- A record of a cycle: the index of its type, its place among the records of the type, from 0, and its JSON.
+pub record Entry : Type 0 where
+  pub type_index : ℕ
+  pub place : ℕ
+  pub value : Data
+
+-- the items of an array, as a list
+abbrev pub listed : Items → List Data
+listed no_items = []
+listed (item value items) = value ∷ listed items
+
+-- the records under a name, none where there is no such member
+abbrev pub values_under : Data → List ℕ → List Data
+values_under add name = option_map_or listed (option_and_then as_array (get name add)) []
+
+-- each item beside its place, from 0
+abbrev pub placed : {A : Type 0} → List A → List (ℕ × A)
+placed xs = zip (range_with_len 0 (length xs)) xs
+
+-- the records of the type of this index, at their places
+abbrev pub entries_at : ℕ → List Data → List Entry
+entries_at type_index values = map (λ at. record { type_index = type_index; place = at.0; value = at.1 }) (placed values)
+
+-- the records of a type: its index and schema
+abbrev pub entries_of_type : Data → ℕ × Schema → List Entry
+entries_of_type add typed = entries_at typed.0 (values_under add typed.1.name)
+
+-- the records of all types
+abbrev pub entries : List Schema → Data → List Entry
+entries schemas add = flat_map (entries_of_type add) (placed schemas)
+
+-- the record gives this tree, and has its type
+abbrev pub GivesTree : List Schema → Entry → ℕ × PlainTree → Type 0
+GivesTree schemas entry typed = (typed.0 ≡ entry.type_index) × (read_tree schemas entry.type_index entry.value ≡ Ok typed.1)
+
+-- Each record gives a tree, and these are the trees, each with its type.
+abbrev pub AreRead : List Schema → List Entry → List (ℕ × PlainTree) → Type 0
+AreRead schemas recorded trees = AllZip (GivesTree schemas) recorded trees
+
+-- The first record that gives no tree has this type and place, and this is the reason.
+pub record IsFirstUnread (schemas : List Schema) (recorded : List Entry) (type_index place : ℕ) (reason : Reason) : Type 0 where
+  pub before : List Entry
+  pub value : Data
+  pub rest : List Entry
+  pub split : recorded ≡ before ++ record { type_index = type_index; place = place; value = value } ∷ rest
+  pub read : All (λ entry. IsOk (read_tree schemas entry.type_index entry.value)) before
+  pub unread : read_tree schemas type_index value ≡ Err reason
+
+-- the names of members, in their order
+abbrev pub names_in : Members → List (List ℕ)
+names_in no_members = []
+names_in (member name value members) = name ∷ names_in members
+
+-- the names under which records stand, in the order of the object, which is that of their bytes
+abbrev pub names_of : Data → List (List ℕ)
+names_of add = option_map_or names_in (as_object add) []
+
+-- Each name is that of a type.
+abbrev pub AreTypes : List Schema → Data → Type 0
+AreTypes schemas add = All (λ name. IsSome (index_of_type schemas name)) (names_of add)
+
+-- The first name that is that of no type.
+pub record IsFirstUnknown (schemas : List Schema) (add : Data) (name : List ℕ) : Type 0 where
+  pub before : List (List ℕ)
+  pub rest : List (List ℕ)
+  pub split : names_of add ≡ before ++ name ∷ rest
+  pub known : All (λ earlier. IsSome (index_of_type schemas earlier)) before
+  pub unknown : index_of_type schemas name ≡ None
