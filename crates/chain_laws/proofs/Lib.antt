@@ -1,0 +1,11 @@
+mod Inserting
+mod LastState
+mod Lines
+mod LongerChain
+mod NameOrder
+mod NewState
+mod PublishedState
+mod Putting
+mod StoreNames
+mod StoredRows
+mod WrittenTags

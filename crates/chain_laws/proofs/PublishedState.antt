@@ -1,0 +1,234 @@
+-- A cycle that publishes: the store holds the chain with the state more, at which the producer is then.
+use Rattle.std.proofs.Common.{◌≡◌, ◌≢◌, ◌≤◌, ◌<◌, ◌^◌, ◌⊎◌, ℕ, ℤ, List, [], ◌∷◌, length, Some, None, inl, inr, refl, sym, ap, subst, ◌∙◌, arith}
+use Rattle.std.specs.Prelude.{All, FitsSigned, IsSome, is_some, true, Option}
+use Rattle.std.specs.Fmt.{decimal}
+use Rattle.std.specs.Int.{w64, cast_unsigned}
+use Rattle.std.specs.FinMap.{get, insert, nat_cmp-IsAntisymmetric}
+use Rattle.std.specs.Cmp.{nat_cmp_total}
+use Rattle.std.proofs.lemmas.Int.{ints}
+use Rattle.hol_io.specs.declared.name.BlobName.{BlobName}
+use Rattle.hol_io.specs.declared.name.BlobName.TheVariants.{Snapshot, Delta, Reverse, Announced}
+use Rattle.hol_io.specs.Name.{IsVersion}
+use Rattle.hol_io.specs.Store.{Store}
+use Rattle.schema_model.specs.PlainTree.{PlainTree}
+use Rattle.schema_model.specs.Table.{Table}
+use Rattle.write_engine.specs.Cycle.{Next}
+use Rattle.write_engine.specs.CycleLimit.{TellsTypes}
+use Rattle.chain_store.specs.Announced.{Announces, IsAnnounced}
+use Rattle.chain_store.specs.Tags.{IsBlob, IsTagTaken}
+use Rattle.chain_store.specs.Versions.{newest}
+use Rattle.delta_blob.specs.Changes.{IsDeltaBetween}
+use Rattle.snapshot_blob.specs.Written.{IsWrittenSnapshot}
+use Rattle.hollow_machine.specs.Follow.{MayFollow}
+use Rattle.hollow_machine.specs.Puts.{Put, AreBlobs, AreFirst, AreLater, IsShort, puts_of, put_all}
+use Rattle.hollow_machine.specs.State.{Published}
+use Rattle.written_laws.specs.Chain.{Chain, ChainState, HasVersion, Follows, IsSound}
+use Rattle.written_laws.specs.HoldsChain.{IsOfChain, IsSnapshotOfState, LeadsBetween, OfStep}
+use Rattle.written_laws.specs.Snapshot.{header_between}
+use Rattle.written_laws.specs.States.{AreStates}
+use Rattle.written_laws.proofs.DeltaRead.{delta_read}
+use Rattle.written_laws.proofs.SnapshotRead.{snapshot_read}
+use Rattle.written_laws.proofs.StatesBack.{states_back}
+use Rattle.chain_laws.specs.Producers.{IsAt, IsOver, KeepsChain, state_behind}
+use Rattle.chain_laws.proofs.Inserting.{inserted, beside}
+use Rattle.chain_laws.proofs.LastState.{IsLast, last_is}
+use Rattle.chain_laws.proofs.LongerChain.{earlier, longer_kept}
+use Rattle.chain_laws.proofs.NewState.{states, state_after, same_rows, sound}
+use Rattle.chain_laws.proofs.Putting.{IsPutIn, IsUntouched, put_or_before, untouched, put_there}
+use Rattle.chain_laws.proofs.StoreNames.{newest_below, taken}
+use Rattle.chain_laws.proofs.WrittenTags.{snapshot_tagged}
+
+abbrev kind_of : BlobName → ℕ
+kind_of (Snapshot version) = 0
+kind_of (Delta from to) = 1
+kind_of (Reverse from to) = 2
+kind_of Announced = 3
+
+-- names of two kinds differ
+delta_reverse : {a b c d : ℕ} → Delta a b ≡ Reverse c d → ⊥
+delta_reverse same = let no : 1 ≡ 2 = ap kind_of same in omega (arith, no)
+
+snapshot_delta : {v a b : ℕ} → Snapshot v ≡ Delta a b → ⊥
+snapshot_delta same = let no : 0 ≡ 1 = ap kind_of same in omega (arith, no)
+
+snapshot_reverse : {v a b : ℕ} → Snapshot v ≡ Reverse a b → ⊥
+snapshot_reverse same = let no : 0 ≡ 2 = ap kind_of same in omega (arith, no)
+
+module _ (store : Store) (chain : Chain) (last : Published) (version : ℕ) (tag : ℤ) (trees : List (ℕ × PlainTree)) (rows : Table)
+    (kept : KeepsChain store chain) (over : IsOver chain last) (may : MayFollow store last.version version tag) (is_version : IsVersion version) (fits : FitsSigned w64 tag)
+    (made : Next last.model last.rows trees rows) (limits : TellsTypes last.model last.rows rows None) where
+  abbrev state : ChainState
+  state = state_behind last tag rows
+
+  abbrev longer : Chain
+  longer = insert chain version state
+
+  is_last : IsLast last
+  is_last = last_is store chain last kept over
+
+  are : AreStates last.model last.rows rows
+  are = states last rows trees over.model is_last.once is_last.state made limits
+
+  is_sound : IsSound state
+  is_sound = sound last rows trees over.model is_last.once is_last.state made limits tag fits (λ e. may.unused (inl e))
+
+  new_here : HasVersion longer version state
+  new_here = inserted nat_cmp_total nat_cmp-IsAntisymmetric chain version state
+
+  follow : (last.version ≡ 0) ⊎ Follows chain version state
+  follow =
+      elim over.stands [
+        | inl new ↦ inl (ap (λ (p : Published). p.version) new)
+        | inr at ↦ inr record {
+          before = record { tag = last.tag; parent = at.parent; published = true; model = last.model; table = last.rows };
+          there = at.there;
+          earlier = earlier store chain kept version may.later last.version (record { tag = last.tag; parent = at.parent; published = true; model = last.model; table = last.rows }) at.there;
+          published = refl;
+          model = refl;
+          agree = λ t inside. same_rows last rows trees over.model is_last.once is_last.state made limits t;
+        }
+      ]
+
+  snapshot_is : (blob : List ℕ) → IsWrittenSnapshot last.model last.rows rows last.tag tag blob → length blob ≤ 2 ^ 28 → IsSnapshotOfState state blob
+  snapshot_is blob is short = (header_between last.tag tag last.model, refl, snapshot_read last.model last.rows rows are last.tag tag blob is_last.tag fits short is)
+
+  small : cast_unsigned w64 tag < 2 ^ 64
+  small = omega (arith, ints)
+
+  -- a name of the store is none of a blob of the new state
+  apart : (name put : BlobName) (blob : List ℕ) → get store name ≡ Some blob → version ≤ newest put → name ≡ put → ⊥
+  apart name put blob at high same =
+      let low = newest_below store name blob at in
+      let one = ap newest same in
+      let later = may.later in
+      omega (arith, low, one, high, later)
+
+  not_announced : (name : BlobName) → IsBlob name → name ≡ Announced → ⊥
+  not_announced name of_blob same = subst IsBlob same of_blob
+
+  says : (after : Store) → get after Announced ≡ Some (decimal version) → IsAnnounced after version
+  says after at = subst (λ (content : Option (List ℕ)). Announces content version) (sym at) (is_version, refl)
+
+  -- the puts of a first state
+  module _ (snapshot : List ℕ) (zero_before : last.version ≡ 0) (written : IsWrittenSnapshot last.model last.rows rows last.tag tag snapshot) (short : length snapshot ≤ 2 ^ 28) where
+    abbrev first_puts : List Put
+    first_puts = (Snapshot version, snapshot) ∷ (Announced, decimal version) ∷ []
+
+    abbrev first_store : Store
+    first_store = put_all store first_puts
+
+    first_each : (name : BlobName) (blob : List ℕ) → IsPutIn first_puts name blob → IsOfChain longer name blob
+    first_each name blob (inl (is, same)) =
+        subst (λ (n : BlobName). IsOfChain longer n blob) (sym is) (subst (IsOfChain longer (Snapshot version)) (sym same) (state, new_here, snapshot_is snapshot written short))
+    first_each name blob (inr (inl (is, same))) = subst (λ (n : BlobName). IsOfChain longer n blob) (sym is) tt
+    first_each name blob (inr (inr none)) = absurd none
+
+    each_of : (name : BlobName) (blob : List ℕ) → IsPutIn first_puts name blob ⊎ (get store name ≡ Some blob) → IsOfChain longer name blob ⊎ (get store name ≡ Some blob)
+    each_of name blob (inl put) = inl (first_each name blob put)
+    each_of name blob (inr was) = inr was
+
+    there : get first_store (Snapshot version) ≡ Some snapshot
+    there = put_there (Snapshot version, snapshot) ((Announced, decimal version) ∷ []) store (not_announced (Snapshot version) tt, tt)
+
+    pub first_kept : KeepsChain first_store longer
+    first_kept =
+        longer_kept store first_store chain kept version state may.later is_version is_sound refl may.announced (λ t. may.unused (inr t)) follow
+        (λ name blob of_blob at.
+        untouched first_puts store name (apart name (Snapshot version) blob at (omega arith), (not_announced name of_blob, tt)) ∙ at)
+        (λ name blob at. each_of name blob (put_or_before first_puts store name blob at))
+        (λ v other is. subst IsSome (untouched first_puts store (Snapshot v) (λ e. other (ap newest e), (not_announced (Snapshot v) tt, tt))) is)
+        (inl (zero_before, ap is_some there))
+        (says first_store (put_there (Announced, decimal version) [] (insert store (Snapshot version) snapshot) tt))
+        (taken first_store tag (Snapshot version) snapshot tt there (snapshot_tagged last.model last.rows rows last.tag tag snapshot small written))
+
+  -- the state of the producer's last version, and the new one behind it
+  of_step : last.version ≢ 0 → (P : ChainState → ChainState → Type 0) → ((parent : ℕ) → P (record { tag = last.tag; parent = parent; published = true; model = last.model; table = last.rows }) state)
+      → OfStep longer last.version version P
+  of_step nonzero P holds =
+      elim over.stands [
+        | inl new ↦ absurd (nonzero (ap (λ (p : Published). p.version) new))
+        | inr at ↦
+            (let old : ChainState = record { tag = last.tag; parent = at.parent; published = true; model = last.model; table = last.rows } in
+            let low = earlier store chain kept version may.later last.version old at.there in
+            let stays : HasVersion longer last.version old =
+            beside nat_cmp_total nat_cmp-IsAntisymmetric chain version state last.version (λ e. omega (arith, e, low)) ∙ at.there in
+            (old, state, stays, new_here, refl, holds at.parent))
+      ]
+
+  -- the puts of a later state
+  module _ (delta reverse snapshot : List ℕ) (nonzero : last.version ≢ 0) (forward : IsDeltaBetween last.model last.rows rows last.tag tag delta)
+      (back : IsDeltaBetween last.model rows last.rows tag last.tag reverse) (written : IsWrittenSnapshot last.model last.rows rows last.tag tag snapshot)
+      (short_delta : length delta ≤ 2 ^ 28) (short_reverse : length reverse ≤ 2 ^ 28) (short : length snapshot ≤ 2 ^ 28) where
+    abbrev later_puts : List Put
+    later_puts = (Delta last.version version, delta) ∷ (Reverse version last.version, reverse) ∷ (Snapshot version, snapshot) ∷ (Announced, decimal version) ∷ []
+
+    abbrev later_store : Store
+    later_store = put_all store later_puts
+
+    later_each : (name : BlobName) (blob : List ℕ) → IsPutIn later_puts name blob → IsOfChain longer name blob
+    later_each name blob (inl (is, same)) =
+        subst (λ (n : BlobName). IsOfChain longer n blob) (sym is)
+        (subst (IsOfChain longer (Delta last.version version)) (sym same)
+        (of_step nonzero (λ before after. LeadsBetween before after delta) (λ parent. delta_read last.model last.rows rows are last.tag tag delta is_last.tag fits short_delta forward)))
+    later_each name blob (inr (inl (is, same))) =
+        subst (λ (n : BlobName). IsOfChain longer n blob) (sym is)
+        (subst (IsOfChain longer (Reverse version last.version)) (sym same)
+        (of_step nonzero (λ before after. LeadsBetween after before reverse)
+        (λ parent. delta_read last.model rows last.rows (states_back last.model last.rows rows are) tag last.tag reverse fits is_last.tag short_reverse back)))
+    later_each name blob (inr (inr (inl (is, same)))) =
+        subst (λ (n : BlobName). IsOfChain longer n blob) (sym is) (subst (IsOfChain longer (Snapshot version)) (sym same) (state, new_here, snapshot_is snapshot written short))
+    later_each name blob (inr (inr (inr (inl (is, same))))) = subst (λ (n : BlobName). IsOfChain longer n blob) (sym is) tt
+    later_each name blob (inr (inr (inr (inr none)))) = absurd none
+
+    later_each_of : (name : BlobName) (blob : List ℕ) → IsPutIn later_puts name blob ⊎ (get store name ≡ Some blob) → IsOfChain longer name blob ⊎ (get store name ≡ Some blob)
+    later_each_of name blob (inl put) = inl (later_each name blob put)
+    later_each_of name blob (inr was) = inr was
+
+    abbrev with_delta : Store
+    with_delta = insert store (Delta last.version version) delta
+
+    abbrev with_reverse : Store
+    with_reverse = insert with_delta (Reverse version last.version) reverse
+
+    there_delta : get later_store (Delta last.version version) ≡ Some delta
+    there_delta =
+        put_there (Delta last.version version, delta) ((Reverse version last.version, reverse) ∷ (Snapshot version, snapshot) ∷ (Announced, decimal version) ∷ []) store
+        (delta_reverse, ((λ e. snapshot_delta (sym e)), (not_announced (Delta last.version version) tt, tt)))
+
+    there_reverse : get later_store (Reverse version last.version) ≡ Some reverse
+    there_reverse =
+        put_there (Reverse version last.version, reverse) ((Snapshot version, snapshot) ∷ (Announced, decimal version) ∷ []) with_delta
+        ((λ e. snapshot_reverse (sym e)), (not_announced (Reverse version last.version) tt, tt))
+
+    there_snapshot : get later_store (Snapshot version) ≡ Some snapshot
+    there_snapshot = put_there (Snapshot version, snapshot) ((Announced, decimal version) ∷ []) with_reverse (not_announced (Snapshot version) tt, tt)
+
+    pub later_kept : KeepsChain later_store longer
+    later_kept =
+        longer_kept store later_store chain kept version state may.later is_version is_sound refl may.announced (λ t. may.unused (inr t)) follow
+        (λ name blob of_blob at.
+        untouched later_puts store name (
+          apart name (Delta last.version version) blob at (omega arith),
+          (
+            apart name (Reverse version last.version) blob at (omega arith),
+            (apart name (Snapshot version) blob at (omega arith), (not_announced name of_blob, tt)),
+          ),
+        ) ∙ at)
+        (λ name blob at. later_each_of name blob (put_or_before later_puts store name blob at))
+        (λ v other is.
+        subst IsSome (untouched later_puts store (Snapshot v) (
+          snapshot_delta,
+          (
+            snapshot_reverse,
+            ((λ e. other (ap newest e)), (not_announced (Snapshot v) tt, tt)),
+          ),
+        )) is)
+        (inr record { forward = ap is_some there_delta; back = λ is. ap is_some there_reverse; whole = λ is. ap is_some there_snapshot })
+        (says later_store (put_there (Announced, decimal version) [] (insert with_reverse (Snapshot version) snapshot) tt))
+        (taken later_store tag (Snapshot version) snapshot tt there_snapshot (snapshot_tagged last.model last.rows rows last.tag tag snapshot small written))
+
+  pub over_longer : IsOver longer (record { model = last.model; rows = rows; tag = tag; version = version })
+  over_longer = record {
+    model = over.model;
+    stands = inr record { parent = last.version; there = new_here; stored = (state_after last rows trees over.model is_last.once is_last.state made limits).stored };
+  }

@@ -1,0 +1,39 @@
+-- What a store has after some puts, one after another: what was put, or what was there before.
+use Rattle.std.proofs.Common.{◌≡◌, ◌⊎◌, ℕ, List, [], ◌∷◌, Some, inl, inr, refl, sym, ◌∙◌}
+use Rattle.std.specs.FinMap.{get, insert}
+use Rattle.hol_io.specs.declared.name.BlobName.{BlobName}
+use Rattle.hol_io.specs.Store.{Store}
+use Rattle.hollow_machine.specs.Puts.{Put, put_all}
+use Rattle.chain_laws.proofs.Inserting.{inserted, beside, here_or_beside}
+use Rattle.chain_laws.proofs.NameOrder.{name_cmp_total, name_cmp-IsAntisymmetric}
+
+-- one of the puts puts this under the name
+abbrev pub IsPutIn : List Put → BlobName → List ℕ → Type 0
+IsPutIn [] name blob = ⊥
+IsPutIn (put ∷ puts) name blob = ((name ≡ put.0) × (blob ≡ put.1)) ⊎ IsPutIn puts name blob
+
+-- none of the puts is under the name
+abbrev pub IsUntouched : List Put → BlobName → Type 0
+IsUntouched [] name = Unit {0}
+IsUntouched (put ∷ puts) name = (name ≡ put.0 → ⊥) × IsUntouched puts name
+
+some_is : {A : Type 0} (a b : A) → Some a ≡ Some b → a ≡ b
+some_is a b e = cc
+
+pub put_or_before : (puts : List Put) (store : Store) (name : BlobName) (blob : List ℕ) → get (put_all store puts) name ≡ Some blob → IsPutIn puts name blob ⊎ (get store name ≡ Some blob)
+put_or_before [] store name blob at = inr at
+put_or_before (put ∷ puts) store name blob at =
+    elim (put_or_before puts (insert store put.0 put.1) name blob at) [
+      | inl among ↦ inl (inr among)
+      | inr there ↦ elim (here_or_beside name_cmp_total name_cmp-IsAntisymmetric store put.0 put.1 name) [
+        | inl here ↦ inl (inl (here.0, some_is blob put.1 (sym there ∙ here.1)))
+        | inr other ↦ inr (sym other.1 ∙ there)
+      ]
+    ]
+
+pub untouched : (puts : List Put) (store : Store) (name : BlobName) → IsUntouched puts name → get (put_all store puts) name ≡ get store name
+untouched [] store name apart = refl
+untouched (put ∷ puts) store name apart = untouched puts (insert store put.0 put.1) name apart.1 ∙ beside name_cmp_total name_cmp-IsAntisymmetric store put.0 put.1 name apart.0
+
+pub put_there : (put : Put) (puts : List Put) (store : Store) → IsUntouched puts put.0 → get (put_all store (put ∷ puts)) put.0 ≡ Some put.1
+put_there put puts store apart = untouched puts (insert store put.0 put.1) put.0 apart ∙ inserted name_cmp_total name_cmp-IsAntisymmetric store put.0 put.1

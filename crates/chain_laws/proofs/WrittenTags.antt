@@ -1,0 +1,22 @@
+-- What is written has its tags in front.
+use Rattle.std.proofs.Common.{◌≡◌, ◌≤◌, ◌<◌, ◌^◌, ℕ, ℤ, List, ◌++◌, length, inl, inr, refl, sym, subst, arith}
+use Rattle.std.specs.Prelude.{FitsSigned}
+use Rattle.std.specs.Int.{w32, w64, to_be_bytes, from_be_bytes, cast_unsigned}
+use Rattle.std.proofs.lemmas.Nat.{from_be_bytes-to_be_bytes_8}
+use Rattle.schema_model.specs.declared.schema.Schema.{Schema}
+use Rattle.schema_model.specs.Table.{Table}
+use Rattle.blob_frame.specs.Header.{format_number}
+use Rattle.snapshot_blob.specs.Written.{IsWrittenSnapshot}
+use Rattle.chain_store.specs.Tags.{HasTag}
+
+tag_in_front : (bits origin destination : ℕ) (rest : List ℕ) → bits < 2 ^ 64 → bits ≡ destination
+    → HasTag bits (to_be_bytes w32 format_number ++ (to_be_bytes w64 origin ++ (to_be_bytes w64 destination ++ rest)))
+tag_in_front bits origin destination rest small is = (
+  omega arith,
+  record { format = refl; tagged = inr (subst (λ (n : ℕ). from_be_bytes w64 (to_be_bytes w64 n) ≡ bits) is (from_be_bytes-to_be_bytes_8 bits small)) },
+)
+
+pub snapshot_tagged : (schemas : List Schema) (old new : Table) (origin destination : ℤ) (blob : List ℕ) → cast_unsigned w64 destination < 2 ^ 64 → IsWrittenSnapshot schemas old new origin destination blob
+    → HasTag (cast_unsigned w64 destination) blob
+snapshot_tagged schemas old new origin destination blob small is =
+    subst (HasTag (cast_unsigned w64 destination)) (sym is.is) (tag_in_front (cast_unsigned w64 destination) (cast_unsigned w64 origin) (cast_unsigned w64 destination) _ small refl)

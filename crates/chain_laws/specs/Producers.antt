@@ -1,0 +1,36 @@
+-- What a producer has to do with a chain: it has published nothing, or it is at a published state of the chain.
+use Rattle.std.specs.Prelude.{◌≡◌, ◌⊎◌, ℕ, ℤ, List, Option, IfSome, true}
+use Rattle.hol_io.specs.Store.{Store}
+use Rattle.schema_model.specs.declared.schema.Schema.{Schema}
+use Rattle.schema_model.specs.Table.{Table, EachRow}
+use Rattle.row_packing.specs.Written.{IsStored}
+use Rattle.chain_store.specs.Tags.{IsTagTaken}
+use Rattle.hollow_machine.specs.State.{Published, new_producer}
+use Rattle.written_laws.specs.Chain.{Chain, ChainState, HasVersion}
+use Rattle.written_laws.specs.HoldsChain.{HoldsChain}
+use Rattle.written_laws.specs.States.{IsWritableModel}
+
+-- The state that a producer publishes behind its last one: its model, and these rows under this tag.
+abbrev pub state_behind : Published → ℤ → Table → ChainState
+state_behind last tag rows = record { tag = tag; parent = last.version; published = true; model = last.model; table = rows }
+
+-- The producer's last state is published in the chain, under its version, with its tag, model and rows, whichever state it follows; and a
+-- blob can hold its rows, since none has a least INT or LONG.
+pub record IsAt (chain : Chain) (last : Published) : Type 0 where
+  pub parent : ℕ
+  pub there : HasVersion chain last.version (record { tag = last.tag; parent = parent; published = true; model = last.model; table = last.rows })
+  pub stored : EachRow last.model last.rows (λ schema row. IsStored row)
+
+-- A producer over the chain: its model can be written, and it is new or at a published state.
+pub record IsOver (chain : Chain) (last : Published) : Type 0 where
+  pub model : IsWritableModel last.model
+  pub stands : (last ≡ new_producer last.model) ⊎ IsAt chain last
+
+-- There is no producer, or it is over the chain.
+abbrev pub IsProducerOf : Chain → Option Published → Type 0
+IsProducerOf chain producer = IfSome producer (IsOver chain)
+
+-- The store holds the chain, and the tag of each state is that of a blob.
+pub record KeepsChain (store : Store) (chain : Chain) : Type 0 where
+  pub holds : HoldsChain store chain
+  pub tags : (version : ℕ) (state : ChainState) → HasVersion chain version state → IsTagTaken store state.tag
