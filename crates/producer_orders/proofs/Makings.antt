@@ -1,0 +1,57 @@
+-- What a closed cycle has made, from what its steps leave of the producer.
+use Rattle.std.proofs.Common.{◌≡◌, ◌<◌, ◌≤◌, inl, inr, ℕ, List, zero, suc, [], ◌∷◌, All, true, false, refl, sym, ap, ◌∙◌, subst, length, get_or, arith}
+use Rattle.std.specs.Prelude.{IsTrue, ◌↔◌}
+use Rattle.std.specs.FinMap.{empty}
+use Rattle.std.proofs.lemmas.Bool.{cases_lt}
+use Rattle.std.proofs.lemmas.List.Elements.{Contains-get_or}
+use Rattle.serde_json.specs.Data.{Data}
+use Rattle.schema_model.specs.Table.{Table}
+use Rattle.write_engine.specs.Cycle.{rows_in}
+use Rattle.write_engine.specs.CycleLimit.{TellsCycle}
+use Rattle.write_engine.specs.Production.{AreChanged, Production}
+use Rattle.write_engine.specs.declared.producer.Closed.{Closed}
+use Rattle.hollow_machine.specs.CycleOrder.{Makes}
+use Rattle.hollow_machine.specs.Kept.{published_of}
+use Rattle.hollow_machine.specs.Records.{AreTypes, entries}
+use Rattle.producer_orders.specs.Making.{IsMade}
+use Rattle.producer_orders.specs.Parts.{AreAdded}
+
+-- a table has no rows past its types
+rows_past : (table : Table) (t : ℕ) → length table ≤ t → rows_in table t ≡ empty
+rows_past [] t past = refl
+rows_past (rows ∷ table) zero past = absurd (omega arith)
+rows_past (rows ∷ table) (suc t) past = rows_past table t (omega arith)
+
+-- the types whose rows differ are types of the tables
+changed_within : (count : ℕ) (previous current : Table) (changed : List ℕ) → length previous ≡ count → length current ≡ count → AreChanged previous current changed → All (λ t. t < count) changed
+changed_within count previous current changed old new are = λ k d within.
+    let t = get_or changed k d in
+    elim (cases_lt t count) [
+      | inl below ↦ below
+      | inr past ↦
+          let none : rows_in current t ≡ empty = rows_past current t (omega arith) in
+          let none_before : rows_in previous t ≡ empty = rows_past previous t (omega arith) in
+          absurd ((are.same t).0 (Contains-get_or changed k d within) (none ∙ sym none_before))
+    ]
+
+-- A cycle that is closed over the records that were taken.
+pub is_made : (old taken new : Production) (add : Data) (closed : Closed) → taken ≡ record old { current = taken.current } → new ≡ record taken { closed = true; over = new.over } →
+    AreTypes old.schemas add → AreAdded old.schemas old.previous (entries old.schemas add) taken.current false → AreChanged taken.previous taken.current closed.changed →
+    (IsTrue closed.first ↔ (taken.version ≡ 0)) → TellsCycle taken.schemas taken.previous taken.current taken.version closed.changed new.over →
+    length new.previous ≡ length new.schemas → length new.current ≡ length new.schemas → IsMade (published_of old) add new closed
+is_made old taken new add closed kept ok types (trees, read, state) are first over previous_types current_types =
+    let whole : new ≡ record old { current = taken.current; closed = true; over = new.over } = ok ∙ ap (λ (p : Production). record p { closed = true; over = new.over }) kept in
+    let same : taken.current ≡ new.current = sym (ap (λ (p : Production). p.current) whole) in
+    let changed : AreChanged old.previous taken.current closed.changed = subst (λ (p : Production). AreChanged p.previous p.current closed.changed) kept are in
+    let limits : TellsCycle old.schemas old.previous taken.current old.version closed.changed new.over = subst (λ (p : Production). TellsCycle p.schemas p.previous p.current p.version closed.changed new.over) kept over in
+    let before : length old.previous ≡ length old.schemas = subst (λ (p : Production). length p.previous ≡ length p.schemas) whole previous_types in
+    let after : length taken.current ≡ length old.schemas = subst (λ (p : Production). length p.current ≡ length p.schemas) whole current_types in
+    let makes : Makes (published_of old) add taken.current closed.changed = record { trees = trees; read = read; state = state; types = changed } in
+    record {
+      types = types;
+      makes = subst (λ (rows : Table). Makes (published_of old) add rows closed.changed) same makes;
+      over = subst (λ (rows : Table). TellsCycle old.schemas old.previous rows old.version closed.changed new.over) same limits;
+      first = subst (λ (p : Production). IsTrue closed.first ↔ (p.version ≡ 0)) kept first;
+      in_model = changed_within (length old.schemas) old.previous taken.current closed.changed before after changed;
+      is_closed = ap (λ (p : Production). p.closed) whole;
+    }

@@ -1,0 +1,43 @@
+use Rattle.std.proofs.Common.{Err, List, Ok, inl, inr, subst}
+use Rattle.std.proofs.lemmas.Result.{err_from_is_err_and}
+use Rattle.schema_model.specs.declared.schema.Schema.{Schema}
+use Rattle.hollow_machine.specs.CycleOrder.{AreNamed, Publishes}
+use Rattle.hollow_machine.specs.Kept.{published_of}
+use Rattle.producer_orders.specs.Making.{EndsPublished}
+use Rattle.producer_orders.proofs.Cycling.{at_tag, changes, not_published, published, unpublished}
+use Rattle.producer_orders.proofs.cycle_order.end_cycle.Goals as goal
+use Rattle.producer_orders.proofs.cycle_order.end_cycle.Goals.{else-not-closed-via-then-not-closed+else-is_empty, else-not-closed-via-else-not-closed}
+
+pub returns-then-is_empty-clause-ends : goal.returns-then-is_empty-clause-ends
+returns-then-is_empty-clause-ends g c =
+    let old = c.args.producer.now in
+    let changed = c.args.closed.now.changed in
+    let named = subst (λ (schemas : List Schema). AreNamed schemas changed c.in_ok-changed.changed) c.model.ensures c.in_ok-changed.ensures in
+    unpublished (g.S.BlobStore.seen c.args.store.now).held (published_of old) old.current changed c.args.version c.args.tag c.in_ok-changed.changed c.args.closed.now.first
+    c.if-not-closed.true c.requires.first (c.is_empty.ensures.0 c.if-is_empty.true) named
+
+pub returns-in_err-publish_state-clause-ends : goal.returns-in_err-publish_state-clause-ends
+returns-in_err-publish_state-clause-ends g c =
+    let p = err_from_is_err_and c.from_residual-in_err-publish_state.result c.from_residual-in_err-publish_state.ensures.1 in
+    let old = c.args.producer.now in
+    let changed = c.args.closed.now.changed in
+    let held = (g.S.BlobStore.seen c.args.store.now).held in
+    let held' = (g.S.BlobStore.seen c.publish_state.new.store).held in
+    let now = published_of c.publish_state.new.producer in
+    let publishes : Publishes (published_of old) changed =
+    elim c.else-not-closed.branch [ else-not-closed-via-then-not-closed+else-is_empty w ↦ inr (changes changed w.is_empty.result w.if-is_empty.false w.is_empty.ensures) | else-not-closed-via-else-not-closed w ↦ inl (c.requires.first.0 w.if-not-closed.false) ] in
+    let told = at_tag (λ t. EndsPublished held (published_of old) old.current c.args.version t held' now (Err c.in_err-publish_state.field-0.0)) c.args.tag c.ranges.tag c.in_err-publish_state.ensures.ends in
+    rw (p.1, p.2) (not_published held held' (published_of old) now old.current changed c.args.version c.args.tag c.in_err-publish_state.field-0.0 publishes told)
+
+pub returns-clause-ends : goal.returns-clause-ends
+returns-clause-ends g c =
+    let old = c.args.producer.now in
+    let changed = c.args.closed.now.changed in
+    let held = (g.S.BlobStore.seen c.args.store.now).held in
+    let held' = (g.S.BlobStore.seen c.publish_state.new.store).held in
+    let now = published_of c.publish_state.new.producer in
+    let publishes : Publishes (published_of old) changed =
+    elim c.else-not-closed.branch [ else-not-closed-via-then-not-closed+else-is_empty w ↦ inr (changes changed w.is_empty.result w.if-is_empty.false w.is_empty.ensures) | else-not-closed-via-else-not-closed w ↦ inl (c.requires.first.0 w.if-not-closed.false) ] in
+    let named = subst (λ (schemas : List Schema). AreNamed schemas changed c.in_ok-changed.changed) c.model.ensures c.in_ok-changed.ensures in
+    let told = at_tag (λ t. EndsPublished held (published_of old) old.current c.args.version t held' now (Ok tt)) c.args.tag c.ranges.tag c.in_ok-publish_state.ensures.ends in
+    published held held' (published_of old) now old.current changed c.args.version c.args.tag c.in_ok-changed.changed publishes named told

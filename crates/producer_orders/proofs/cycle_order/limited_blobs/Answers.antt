@@ -1,0 +1,18 @@
+use Rattle.std.proofs.Common.{None, rules}
+use Rattle.std.proofs.lemmas.Result.{err_from_is_err_and}
+use Rattle.section_writing.specs.Limits.{MeansLarge}
+use Rattle.write_engine.specs.CycleLimit.{TellsTypes}
+use Rattle.hollow_machine.specs.Kept.{published_of}
+use Rattle.hollow_machine.specs.Puts.{AreBlobs}
+use Rattle.producer_orders.specs.Blobs.{AreNotShort}
+use Rattle.producer_orders.proofs.Cycling.{at_tag, not_written}
+use Rattle.producer_orders.proofs.cycle_order.limited_blobs.Goals as goal
+
+pub returns-in_err-write_blobs : goal.returns-in_err-write_blobs
+returns-in_err-write_blobs c =
+    let p = err_from_is_err_and c.from_residual.result c.from_residual.ensures.1 in
+    let made = c.args.producer.now in
+    let fault = c.in_err-write_blobs.field-0.0 in
+    let types : TellsTypes made.schemas made.previous made.current None = search rules in
+    let means = at_tag (λ t. MeansLarge (AreNotShort (AreBlobs (published_of made) made.current c.args.version t)) fault) c.args.tag c.ranges.tag c.in_err-write_blobs.ensures.large in
+    rw (p.1, p.2) (not_written (published_of made) made.current c.args.version c.args.tag fault types means)

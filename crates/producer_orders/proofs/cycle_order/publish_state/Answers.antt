@@ -1,0 +1,24 @@
+use Rattle.std.proofs.Common.{Err, ◌≡◌}
+use Rattle.std.proofs.lemmas.Result.{err_from_is_err_and}
+use Rattle.write_engine.specs.Production.{advanced_to}
+use Rattle.hollow_machine.specs.Kept.{published_of}
+use Rattle.producer_orders.specs.declared.write.Blobs.{Blobs}
+use Rattle.producer_orders.specs.Ends.{IsMemory, TellsEnd}
+use Rattle.producer_orders.specs.Making.{IsTooLarge, IsWithin}
+use Rattle.producer_orders.proofs.Cycling.{at_tag, is_published, no_blobs}
+use Rattle.producer_orders.proofs.cycle_order.publish_state.Goals as goal
+
+pub returns-in_err-blobs-clause-ends : goal.returns-in_err-blobs-clause-ends
+returns-in_err-blobs-clause-ends g c =
+    let p = err_from_is_err_and c.from_residual.result c.from_residual.ensures.1 in
+    let old = c.args.producer.now in
+    let end = c.in_err-blobs.field-0.0 in
+    let told = at_tag (λ t. TellsEnd {T = Blobs} (IsWithin (published_of old) old.current c.args.version t) (IsTooLarge (published_of old) old.current c.args.version t) IsMemory (Err end)) c.args.tag c.ranges.tag c.in_err-blobs.ensures in
+    rw (p.1, p.2) (no_blobs (g.S.BlobStore.seen c.args.store.now).held (published_of old) (published_of old) old.current c.args.version c.args.tag end told)
+
+pub returns-clause-ends : goal.returns-clause-ends
+returns-clause-ends g c =
+    let old = c.args.producer.now in
+    let within = at_tag (λ t. IsWithin (published_of old) old.current c.args.version t c.in_ok-blobs.blobs) c.args.tag c.ranges.tag c.in_ok-blobs.ensures in
+    let is = at_tag (λ t. c.advance.new.self ≡ advanced_to t c.args.version old) c.args.tag c.ranges.tag c.advance.ensures in
+    is_published (g.S.BlobStore.seen c.args.store.now).held (g.S.BlobStore.seen c.publish.new.store).held old c.advance.new.self c.args.version c.args.tag c.in_ok-blobs.blobs within c.in_ok-publish.ensures.put is

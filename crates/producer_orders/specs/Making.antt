@@ -1,0 +1,88 @@
+-- What the parts of a cycle make of a producer that has published its last state.
+use Rattle.std.specs.Prelude.{◌≡◌, ◌<◌, ◌↔◌, ℕ, ℤ, List, All, IfSome, IsTrue, true, Option, Some, None, Result, ⊤, length}
+use Rattle.serde_json.specs.Data.{Data}
+use Rattle.hol_io.specs.Store.{Store}
+use Rattle.schema_model.specs.declared.limit.Limit.TheVariants as limit
+use Rattle.schema_model.specs.Table.{Table}
+use Rattle.write_engine.specs.CycleLimit.{TellsCycle, TellsTypes}
+use Rattle.write_engine.specs.Production.{Production}
+use Rattle.write_engine.specs.declared.producer.Closed.{Closed}
+use Rattle.hol_orders.specs.declared.refusal.Refusal.{Refusal}
+use Rattle.hol_orders.specs.declared.refusal.Refusal.TheVariants.{TooLarge}
+use Rattle.hol_orders.specs.declared.reply.Reply.{Reply}
+use Rattle.hol_orders.specs.declared.reply.Reply.TheVariants.{Cycle}
+use Rattle.hollow_machine.specs.CycleOrder.{AreNamed, CycleStep, Leaves, Makes, Publishes, RefusesAfter}
+use Rattle.hollow_machine.specs.Follow.{MayFollow, MayNotFollow}
+use Rattle.hollow_machine.specs.Puts.{AreBlobs, IsShort, Put, puts_of, put_all}
+use Rattle.hollow_machine.specs.Records.{AreTypes}
+use Rattle.hollow_machine.specs.State.{Machine, Published}
+use Rattle.producer_orders.specs.Blobs.{puts_in}
+use Rattle.producer_orders.specs.Ends.{IsAnyStop, TellsEnd}
+use Rattle.producer_orders.specs.declared.cycle_end.CycleEnd.{CycleEnd}
+use Rattle.producer_orders.specs.declared.write.Blobs.{Blobs}
+
+-- A closed cycle: the state that the records make and the types that it changes, and the limit that it passes.
+pub record IsMade (last : Published) (add : Data) (made : Production) (closed : Closed) : Type 0 where
+  pub types : AreTypes last.model add
+  pub makes : Makes last add made.current closed.changed
+  pub over : TellsCycle last.model last.rows made.current last.version closed.changed made.over
+  pub first : IsTrue closed.first ↔ (last.version ≡ 0)
+  pub in_model : All (λ t. t < length last.model) closed.changed
+  pub is_closed : made.closed ≡ true
+
+-- The records are refused so, whatever the store, the version and the tag of a state that may follow.
+abbrev pub IsRefusedFor : Published → Data → Refusal → Type 0
+IsRefusedFor last add refusal = (store : Store) (version : ℕ) (tag : ℤ) → MayFollow store last.version version tag → RefusesAfter store last version tag add refusal
+
+-- A state that is to be published is refused so: a type passes a limit; or each type keeps all, and a blob is too long.
+abbrev pub IsTooLarge : Published → Table → ℕ → ℤ → Refusal → Type 0
+IsTooLarge last rows version tag (TooLarge limit.Blob) =
+    TellsTypes last.model last.rows rows None × ((blobs : List Put) → AreBlobs last rows version tag blobs → ¬ All IsShort blobs)
+IsTooLarge last rows version tag (TooLarge passed) = TellsTypes last.model last.rows rows (Some passed)
+IsTooLarge last rows version tag _ = ⊥
+
+-- The state is published: its blobs are put, and it is the producer's last one.
+abbrev pub IsPublished : Store → Published → Table → ℕ → ℤ → Option Store → Published → Type 0
+IsPublished store last rows version tag held now =
+    TellsTypes last.model last.rows rows None
+    × ((blobs : List Put) × AreBlobs last rows version tag blobs × All IsShort blobs
+    × (held ≡ Some (put_all store (puts_of blobs version))) × (now ≡ record { model = last.model; rows = rows; tag = tag; version = version }))
+
+-- the machine of a store and of what a producer has published
+abbrev pub machine_with : Store → Published → Machine
+machine_with store last = record { store = store; producer = Some last }
+
+-- The answer to a closed cycle, and what it leaves.
+abbrev pub IsEnded : Store → Published → Table → List ℕ → ℕ → ℤ → Option Store → Published → Reply → Type 0
+IsEnded store last rows changed version tag held now (Cycle names published version') =
+    (version' ≡ version) × AreNamed last.model changed names
+    × ((next : Store) × (held ≡ Some next) × Leaves (machine_with store last) last rows changed version tag published (machine_with next now))
+IsEnded store last rows changed version tag held now _ = ⊥
+
+-- The blobs of a state that keeps all limits.
+abbrev pub IsWithin : Published → Table → ℕ → ℤ → Blobs → Type 0
+IsWithin last rows version tag blobs =
+    TellsTypes last.model last.rows rows None × AreBlobs last rows version tag (puts_in blobs) × All IsShort (puts_in blobs)
+
+-- What a cycle of a producer answers or is refused for, over what the store tells, and what it leaves.
+abbrev pub Steps : ℕ → ℤ → Data → Option Store → Published → Option Store → Published → Result Reply CycleEnd → Type 0
+Steps version tag add held last held' now result = IfSome held (λ store. TellsEnd
+    (λ reply. (next : Store) × (held' ≡ Some next) × CycleStep (machine_with store last) version tag add reply (machine_with next now))
+    (λ refusal. (held' ≡ Some store) × RefusesAfter store last version tag add refusal) IsAnyStop result)
+
+-- What the check says of a state that is to follow the last one.
+abbrev pub Follows : Option Store → ℕ → ℕ → ℤ → Result ⊤ CycleEnd → Type 0
+Follows held last version tag result =
+    IfSome held (λ store. TellsEnd (λ _. MayFollow store last version tag) (MayNotFollow store last version tag) IsAnyStop result)
+
+-- How a closed cycle ends, over what the store tells, and what it leaves.
+abbrev pub Ends : Option Store → Published → Table → List ℕ → ℕ → ℤ → Option Store → Published → Result Reply CycleEnd → Type 0
+Ends held last rows changed version tag held' now result = IfSome held (λ store. TellsEnd
+    (IsEnded store last rows changed version tag held' now)
+    (λ refusal. (held' ≡ Some store) × Publishes last changed × IsTooLarge last rows version tag refusal) IsAnyStop result)
+
+-- How a closed cycle that is to be published ends.
+abbrev pub EndsPublished : Option Store → Published → Table → ℕ → ℤ → Option Store → Published → Result ⊤ CycleEnd → Type 0
+EndsPublished held last rows version tag held' now result = IfSome held (λ store. TellsEnd
+    (λ _. IsPublished store last rows version tag held' now)
+    (λ refusal. (held' ≡ Some store) × IsTooLarge last rows version tag refusal) IsAnyStop result)

@@ -1,0 +1,62 @@
+-- What the parts of the order `cycle` tell that come before anything is written.
+use Rattle.std.specs.Prelude.{◌<◌, ◌≤◌, ℕ, ℤ, List, length, Bool, true, false, Option, Some, None, Result, Ok, Err, ⊤}
+use Rattle.std.specs.Result.{IsErrOf}
+use Rattle.serde_json.specs.Data.{Data}
+use Rattle.hol_io.specs.Causes.{Rose}
+use Rattle.hol_io.specs.Store.{Store}
+use Rattle.hol_io.specs.declared.store.PutFault.{PutFault}
+use Rattle.hol_io.specs.declared.store.PutFault.TheVariants as put
+use Rattle.schema_model.specs.declared.schema.Schema.{Schema}
+use Rattle.schema_model.specs.PlainTree.{PlainTree}
+use Rattle.schema_model.specs.Table.{Table}
+use Rattle.write_engine.specs.Cycle.{Next}
+use Rattle.hol_orders.specs.declared.refusal.Refusal.{Refusal}
+use Rattle.hollow_machine.specs.Follow.{MayFollow, MayNotFollow}
+use Rattle.hollow_machine.specs.Records.{AreRead, AreTypes, Entry, IsFirstUnknown, IsFirstUnread}
+use Rattle.producer_orders.specs.declared.order_stop.OrderStop.{OrderStop}
+use Rattle.producer_orders.specs.declared.order_stop.OrderStop.TheVariants as stop
+use Rattle.producer_orders.specs.declared.record_fault.RecordFault.{RecordFault}
+use Rattle.producer_orders.specs.declared.record_fault.RecordFault.TheVariants as fault
+
+-- why an order stops where a put or a list was refused
+abbrev pub stop_of : PutFault → OrderStop
+stop_of put.Failed = stop.Store
+stop_of put.Memory = stop.Memory
+
+-- The store's count of faults never falls, and the order stops for the store only where the count rose.
+pub record HasStopCause {T : Type 0} (before now : ℕ) (result : Result T OrderStop) : Type 0 where
+  pub later : before ≤ now
+  pub failed : IsErrOf result stop.Store → Rose before now
+
+-- A state of this version and tag may follow that of the last version; or the first reason why not.
+abbrev pub TellsFollow : Store → ℕ → ℕ → ℤ → Option Refusal → Type 0
+TellsFollow store last version tag None = MayFollow store last version tag
+TellsFollow store last version tag (Some refusal) = MayNotFollow store last version tag refusal
+
+-- Each name is that of a type; or the first one that is that of none.
+abbrev pub TellsUnknown : List Schema → Data → Option (List ℕ) → Type 0
+TellsUnknown schemas add None = AreTypes schemas add
+TellsUnknown schemas add (Some name) = IsFirstUnknown schemas add name
+
+-- The records give trees, and these give the rows; or, where too many are said to be, no rows.
+abbrev pub AreAdded : List Schema → Table → List Entry → Table → Bool → Type 0
+AreAdded schemas previous recorded rows false =
+    (trees : List (ℕ × PlainTree)) × AreRead schemas recorded trees × Next schemas previous trees rows
+AreAdded schemas previous recorded rows true =
+    (trees : List (ℕ × PlainTree)) × AreRead schemas recorded trees × ((other : Table) → ¬ Next schemas previous trees other)
+
+-- What an answer tells of records that were to be added, of which there may be more: that they were; or the first one that gives no tree.
+abbrev pub TellsAdded : List Schema → Table → List Entry → Table → Result Bool RecordFault → Type 0
+TellsAdded schemas previous recorded rows (Ok full) = AreAdded schemas previous recorded rows full
+TellsAdded schemas previous recorded rows (Err (fault.Bad type_index place reason)) =
+    (type_index < length schemas) × IsFirstUnread schemas recorded type_index place reason
+TellsAdded schemas previous recorded rows (Err fault.TooMany) = ⊥
+TellsAdded schemas previous recorded rows (Err fault.Memory) = Unit {0}
+
+-- What an answer tells of all the records of a cycle.
+abbrev pub TellsRecords : List Schema → Table → List Entry → Table → Result ⊤ RecordFault → Type 0
+TellsRecords schemas previous recorded rows (Ok done) = AreAdded schemas previous recorded rows false
+TellsRecords schemas previous recorded rows (Err (fault.Bad type_index place reason)) =
+    (type_index < length schemas) × IsFirstUnread schemas recorded type_index place reason
+TellsRecords schemas previous recorded rows (Err fault.TooMany) = AreAdded schemas previous recorded rows true
+TellsRecords schemas previous recorded rows (Err fault.Memory) = Unit {0}

@@ -1,0 +1,65 @@
+//! Why a cycle ends before its state is published.
+use crate::order_stop::OrderStop;
+use hol_io::PutFault;
+use hol_orders::Refusal;
+use schema_model::Limit;
+use section_writing::WriteFault;
+use std::alloc::AllocError;
+
+/// Why a cycle ends before its state is published.
+#[derive(Debug, Drop)]
+pub(crate) enum CycleEnd {
+    /// It is refused.
+    Refused(Refusal),
+    /// It stops before it is answered.
+    Stopped(OrderStop),
+}
+
+impl From<AllocError> for CycleEnd {
+    ghost use Rattle.std.specs.Prelude.{◌≡◌};
+    ghost use Rattle.producer_orders.specs.declared.order_stop.OrderStop.TheVariants.{Memory};
+    ghost use Rattle.producer_orders.specs.declared.cycle_end.CycleEnd.TheVariants.{Stopped};
+
+    ghost from_gives = { λ _ end. end ≡ Stopped Memory };
+
+    fn from(_error: AllocError) -> CycleEnd {
+        CycleEnd::Stopped(OrderStop::Memory)
+    }
+}
+
+impl From<OrderStop> for CycleEnd {
+    ghost use Rattle.std.specs.Prelude.{◌≡◌};
+    ghost use Rattle.producer_orders.specs.declared.cycle_end.CycleEnd.TheVariants.{Stopped};
+
+    ghost from_gives = { λ stop end. end ≡ Stopped stop };
+
+    fn from(stop: OrderStop) -> CycleEnd {
+        CycleEnd::Stopped(stop)
+    }
+}
+
+impl From<PutFault> for CycleEnd {
+    ghost use Rattle.std.specs.Prelude.{◌≡◌};
+    ghost use Rattle.producer_orders.specs.Parts.{stop_of};
+    ghost use Rattle.producer_orders.specs.declared.cycle_end.CycleEnd.TheVariants.{Stopped};
+
+    ghost from_gives = { λ fault end. end ≡ Stopped (stop_of fault) };
+
+    fn from(fault: PutFault) -> CycleEnd {
+        CycleEnd::Stopped(OrderStop::from(fault))
+    }
+}
+
+impl From<WriteFault> for CycleEnd {
+    ghost use Rattle.std.specs.Prelude.{◌≡◌};
+    ghost use Rattle.producer_orders.specs.Ends.{end_of};
+
+    ghost from_gives = { λ fault end. end ≡ end_of fault };
+
+    fn from(fault: WriteFault) -> CycleEnd {
+        match fault {
+            WriteFault::Large => CycleEnd::Refused(Refusal::TooLarge(Limit::Blob)),
+            WriteFault::Memory => CycleEnd::Stopped(OrderStop::Memory),
+        }
+    }
+}

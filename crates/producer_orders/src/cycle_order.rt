@@ -1,0 +1,185 @@
+//! The order `cycle`.
+ghost use Rattle.std.specs.Prelude.{◌≡◌, ◌≤◌, ◌<◌, ◌↔◌, All, FitsSigned, IfOk, IfSome, IsTrue, OnErr, Some, None, true, length};
+ghost use Rattle.std.specs.Int.{w64};
+ghost use Rattle.std.specs.Result.{IsErrOf};
+ghost use Rattle.serde_json.specs.View.{view};
+ghost use Rattle.hol_io.specs.Causes.{Rose};
+ghost use Rattle.hol_io.specs.Name.{IsVersion};
+ghost use Rattle.write_engine.specs.CycleLimit.{TellsCycle, TellsTypes};
+ghost use Rattle.hol_orders.specs.Shapes.{AreRecords};
+ghost use Rattle.hollow_machine.specs.CycleOrder.{CycleStep};
+ghost use Rattle.hollow_machine.specs.Kept.{IsResting, Moves, published_of};
+ghost use Rattle.producer_orders.specs.Ends.{HasEndCause, IsMemory, TellsEnd};
+ghost use Rattle.producer_orders.specs.Making.{Ends, EndsPublished, Follows, IsTooLarge, IsWithin, Steps};
+
+use crate::cycle_end::CycleEnd;
+use crate::follow::why_not;
+use crate::make::{make_state, names_of_types};
+use crate::order_stop::OrderStop;
+use crate::publish::publish;
+use crate::write::{Blobs, write_blobs};
+use hol_io::BlobStore;
+use hol_orders::{Refusal, Reply};
+use serde_json::Value;
+use std::alloc::Global;
+use write_engine::{Closed, Producer};
+
+/// Publishes the next state of the producer: the records under this version and tag, where a type changes by them or it is the first state. A
+/// refusal leaves the store and the producer as they were. `Store` comes only where the store's count of faults rose.
+pub fn cycle<S: BlobStore>(
+    alloc: Global,
+    store: &mut S,
+    producer: &mut Option<Producer>,
+    version: u64,
+    tag: i64,
+    add: &Value,
+) -> Result<Reply, OrderStop>
+    requires order { IsVersion version × FitsSigned w64 tag × AreRecords (view add.now) }
+    requires resting { IfSome producer.old IsResting }
+    ensures step { Moves (λ machine reply next. CycleStep machine version tag (view add.now) reply next)
+        (S.seen store.old).held producer.old (S.seen store.new).held producer.new result }
+    ensures resting { IfSome producer.new IsResting }
+    ensures store_fault { IsErrOf result OrderStop.Store → Rose (S.seen store.old).faults (S.seen store.new).faults }
+    ensures later { (S.seen store.old).faults ≤ (S.seen store.new).faults }
+{
+    match producer {
+        Some(producer) => cycle_of(alloc, store, producer, version, tag, add),
+        None => Ok(Reply::Refused(Refusal::NoModel)),
+    }
+}
+
+// The same of a producer. What a cycle leaves that is not published is dropped.
+fn cycle_of<S: BlobStore>(
+    alloc: Global,
+    store: &mut S,
+    producer: &mut Producer,
+    version: u64,
+    tag: i64,
+    add: &Value,
+) -> Result<Reply, OrderStop>
+    requires records { AreRecords (view add.now) }
+    requires resting { IsResting producer.old }
+    ensures step { Moves (λ machine reply next. CycleStep machine version tag (view add.now) reply next)
+        (S.seen store.old).held (Some producer.old) (S.seen store.new).held (Some producer.new) result }
+    ensures resting { IsResting producer.new }
+    ensures store_fault { IsErrOf result OrderStop.Store → Rose (S.seen store.old).faults (S.seen store.new).faults }
+    ensures later { (S.seen store.old).faults ≤ (S.seen store.new).faults }
+{
+    let ended = run_cycle(alloc, store, producer, version, tag, add);
+    producer.undo();
+    match ended {
+        Ok(reply) => Ok(reply),
+        Err(CycleEnd::Refused(refusal)) => Ok(Reply::Refused(refusal)),
+        Err(CycleEnd::Stopped(stop)) => Err(stop),
+    }
+}
+
+// Runs a cycle from one part to the next, and leaves the producer wherever it ends.
+fn run_cycle<S: BlobStore>(
+    alloc: Global,
+    store: &mut S,
+    producer: &mut Producer,
+    version: u64,
+    tag: i64,
+    add: &Value,
+) -> Result<Reply, CycleEnd>
+    requires records { AreRecords (view add.now) }
+    requires resting { IsResting producer.old }
+    ensures steps { Steps version tag (view add.now) (S.seen store.old).held (published_of producer.old) (S.seen store.new).held (published_of producer.new) result }
+    ensures kept { OnErr result (published_of producer.new ≡ published_of producer.old) }
+    ensures cause { HasEndCause (S.seen store.old).faults (S.seen store.new).faults result }
+{
+    check_follow(alloc, store, producer.version(), version, tag)?;
+    let closed = make_state(alloc, producer, add)?;
+    end_cycle(alloc, store, producer, &closed, version, tag)
+}
+
+// Refuses a state that may not follow the last one.
+fn check_follow<S: BlobStore>(
+    alloc: Global,
+    store: &mut S,
+    last: u64,
+    version: u64,
+    tag: i64,
+) -> Result<(), CycleEnd>
+    ensures follows { Follows (S.seen store.old).held last version tag result }
+    ensures kept { (S.seen store.new).held ≡ (S.seen store.old).held }
+    ensures cause { HasEndCause (S.seen store.old).faults (S.seen store.new).faults result }
+{
+    match why_not(alloc, store, last, version, tag)? {
+        Some(refusal) => Err(CycleEnd::Refused(refusal)),
+        None => Ok(()),
+    }
+}
+
+// Publishes a closed cycle, if it is the first one or changes a type, and tells what it changes.
+fn end_cycle<S: BlobStore>(
+    alloc: Global,
+    store: &mut S,
+    producer: &mut Producer,
+    closed: &Closed,
+    version: u64,
+    tag: i64,
+) -> Result<Reply, CycleEnd>
+    requires is_closed { producer.old.closed ≡ true }
+    requires first { IsTrue closed.now.first ↔ (producer.old.version ≡ 0) }
+    requires in_model { All (λ t. t < length producer.old.schemas) closed.now.changed }
+    requires over { TellsCycle producer.old.schemas producer.old.previous producer.old.current producer.old.version closed.now.changed producer.old.over }
+    ensures ends { Ends (S.seen store.old).held (published_of producer.old) producer.old.current closed.now.changed version tag
+        (S.seen store.new).held (published_of producer.new) result }
+    ensures kept { OnErr result (published_of producer.new ≡ published_of producer.old) }
+    ensures cause { HasEndCause (S.seen store.old).faults (S.seen store.new).faults result }
+{
+    let changed = names_of_types(alloc, producer.model(), &closed.changed)?;
+    if !closed.first && closed.changed.is_empty() {
+        return Ok(Reply::Cycle {
+            changed,
+            published: false,
+            version,
+        });
+    }
+    publish_state(alloc, store, producer, version, tag)?;
+    Ok(Reply::Cycle {
+        changed,
+        published: true,
+        version,
+    })
+}
+
+// Publishes a closed cycle, which is then the producer's last state.
+fn publish_state<S: BlobStore>(
+    alloc: Global,
+    store: &mut S,
+    producer: &mut Producer,
+    version: u64,
+    tag: i64,
+) -> Result<(), CycleEnd>
+    requires is_closed { producer.old.closed ≡ true }
+    requires over { TellsTypes producer.old.schemas producer.old.previous producer.old.current producer.old.over }
+    ensures ends { EndsPublished (S.seen store.old).held (published_of producer.old) producer.old.current version tag
+        (S.seen store.new).held (published_of producer.new) result }
+    ensures kept { OnErr result (published_of producer.new ≡ published_of producer.old) }
+    ensures cause { HasEndCause (S.seen store.old).faults (S.seen store.new).faults result }
+{
+    let blobs = limited_blobs(alloc, producer, version, tag)?;
+    publish(alloc, store, version, &blobs)?;
+    producer.advance(tag, version);
+    Ok(())
+}
+
+// The blobs of a closed cycle that passes no limit.
+fn limited_blobs(
+    alloc: Global,
+    producer: &Producer,
+    version: u64,
+    tag: i64,
+) -> Result<Blobs, CycleEnd>
+    requires is_closed { producer.now.closed ≡ true }
+    requires over { TellsTypes producer.now.schemas producer.now.previous producer.now.current producer.now.over }
+    ensures { TellsEnd (IsWithin (published_of producer.now) producer.now.current version tag) (IsTooLarge (published_of producer.now) producer.now.current version tag) IsMemory result }
+{
+    if let Some(limit) = producer.over_limit() {
+        return Err(CycleEnd::Refused(Refusal::TooLarge(limit)));
+    }
+    Ok(write_blobs(alloc, producer, version, tag)?)
+}

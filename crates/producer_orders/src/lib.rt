@@ -1,0 +1,18 @@
+//! The orders that move a producer: what each answers, and what it leaves of the store and of the producer.
+#![tactic(auto)]
+
+mod cycle_end;
+mod cycle_order;
+mod follow;
+mod make;
+mod model_order;
+mod order_stop;
+mod publish;
+mod record_fault;
+mod records;
+mod types;
+mod write;
+
+pub use cycle_order::cycle;
+pub use model_order::model;
+pub use order_stop::OrderStop;

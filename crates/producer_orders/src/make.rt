@@ -1,0 +1,107 @@
+//! The next state of a producer is made of the records of a cycle.
+ghost use Rattle.std.specs.Prelude.{◌≡◌, ◌<◌, All, IfOk, Some, false, length, slice_get};
+ghost use Rattle.serde_json.specs.View.{view};
+ghost use Rattle.schema_model.specs.declared.schema.Schema.{Schema};
+ghost use Rattle.hol_orders.specs.Shapes.{AreRecords};
+ghost use Rattle.hollow_machine.specs.CycleOrder.{AreNamed};
+ghost use Rattle.hollow_machine.specs.Kept.{IsResting, published_of};
+ghost use Rattle.hollow_machine.specs.Records.{AreTypes, entries};
+ghost use Rattle.producer_orders.specs.Ends.{IsMemory, TellsEnd};
+ghost use Rattle.producer_orders.specs.Making.{IsMade, IsRefusedFor};
+ghost use Rattle.producer_orders.specs.Parts.{AreAdded};
+
+use crate::cycle_end::CycleEnd;
+use crate::order_stop::OrderStop;
+use crate::record_fault::RecordFault;
+use crate::records::add_records;
+use crate::types::unknown_type;
+use hol_orders::Refusal;
+use hol_varint::{Duplicate, Ordinals};
+use schema_model::{Limit, Model, Names, Reason};
+use serde_json::Value;
+use std::alloc::{AllocError, Global};
+use write_engine::{Closed, Producer};
+
+/// Adds the records to a producer, and closes the cycle. It is refused for the first name that is that of no type, then for the first record that
+/// gives no tree, and then where they are too many.
+pub(crate) fn make_state(
+    alloc: Global,
+    producer: &mut Producer,
+    add: &Value,
+) -> Result<Closed, CycleEnd>
+    requires resting { IsResting producer.old }
+    requires records { AreRecords (view add.now) }
+    ensures tells { TellsEnd (IsMade (published_of producer.old) (view add.now) producer.new) (IsRefusedFor (published_of producer.old) (view add.now)) IsMemory result }
+    ensures kept { published_of producer.new ≡ published_of producer.old }
+{
+    if let Some(name) = unknown_type(alloc, producer.model(), add)? {
+        return Err(CycleEnd::Refused(Refusal::NoType(name)));
+    }
+    take_records(alloc, producer, add)?;
+    let closed = producer.close()?;
+    // Each view tells that it has rows of so many types as the model.
+    let _previous = producer.previous();
+    let _current = producer.current();
+    Ok(closed)
+}
+
+// Adds the records to a producer.
+fn take_records(alloc: Global, producer: &mut Producer, add: &Value) -> Result<(), CycleEnd>
+    requires resting { IsResting producer.old }
+    requires types { AreTypes producer.old.schemas (view add.now) }
+    ensures tells { TellsEnd
+        (λ _. AreAdded producer.old.schemas producer.old.previous (entries producer.old.schemas (view add.now)) producer.new.current false)
+        (IsRefusedFor (published_of producer.old) (view add.now)) IsMemory result }
+    ensures kept { producer.new ≡ record producer.old { current = producer.new.current } }
+{
+    match add_records(alloc, producer, add) {
+        Ok(()) => Ok(()),
+        Err(
+            RecordFault::Bad {
+                type_index,
+                place,
+                reason,
+            },
+        ) => {
+            let refusal = bad_record(alloc, producer.model(), type_index, place, reason)?;
+            Err(CycleEnd::Refused(refusal))
+        }
+        Err(RecordFault::TooMany) => Err(CycleEnd::Refused(Refusal::TooLarge(Limit::Ordinals))),
+        Err(RecordFault::Memory) => Err(CycleEnd::Stopped(OrderStop::Memory)),
+    }
+}
+
+// The refusal of a record that gives no tree.
+fn bad_record(
+    alloc: Global,
+    model: &Model,
+    type_index: u32,
+    place: u64,
+    reason: Reason,
+) -> Result<Refusal, AllocError>
+    requires { type_index < length model.now }
+    ensures { IfOk result (λ refusal. (schema : Schema) × (slice_get model.now type_index ≡ Some schema) × (refusal ≡ Refusal.BadRecord schema.name place reason)) }
+{
+    Ok(Refusal::BadRecord {
+        type_name: model.schema(type_index).name.copy(alloc)?,
+        index: place,
+        reason,
+    })
+}
+
+/// The names of some types of a model.
+pub(crate) fn names_of_types(
+    alloc: Global,
+    model: &Model,
+    types: &Ordinals,
+) -> Result<Names, AllocError>
+    requires { All (λ type_index. type_index < length model.now) types.now }
+    ensures { IfOk result (AreNamed model.now types.now) }
+{
+    let mut names = Names::new(alloc);
+    let indexes = types.as_slice();
+    for type_index in indexes {
+        names.push(model.schema(*type_index).name.copy(alloc)?)?;
+    }
+    Ok(names)
+}
