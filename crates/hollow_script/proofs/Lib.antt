@@ -1,0 +1,3 @@
+mod Lining
+mod Ordering
+mod Answering

@@ -1,0 +1,11 @@
+//! Scripts: the orders of an input are answered one after another.
+#![tactic(auto)]
+
+mod keep;
+mod order;
+mod script;
+mod script_stop;
+
+pub use keep::Keep;
+pub use script::run_script;
+pub use script_stop::ScriptStop;

@@ -1,0 +1,58 @@
+//! The orders: what each is answered, and what it leaves of the store and of what is kept.
+ghost use Rattle.std.specs.Prelude.{◌≤◌, IfSome, IsErrOf};
+ghost use Rattle.hol_io.specs.Causes.{Rose};
+ghost use Rattle.hol_orders.specs.Order.{IsOrder};
+ghost use Rattle.hollow_machine.specs.Kept.{IsResting, Moves};
+ghost use Rattle.hollow_machine.specs.Script.{ShortStep};
+ghost use Rattle.hollow_machine.specs.Step.{Step};
+
+use crate::keep::Keep;
+use hol_io::BlobStore;
+use hol_orders::{Order, OrderFault, Refusal, Reply, order_of};
+use producer_orders::{OrderStop, cycle, model};
+use std::alloc::Global;
+
+/// Answers a line that is not too long: `BadOrder` exactly where it is no order, and else what the order is answered.
+pub fn answer_line<S: BlobStore>(
+    alloc: Global,
+    line: &[u8],
+    store: &mut S,
+    keep: &mut Keep,
+) -> Result<Reply, OrderStop>
+    requires resting { IfSome keep.old.producer IsResting }
+    ensures step { Moves (λ machine reply next. ShortStep machine line.now reply next)
+        (S.seen store.old).held keep.old.producer (S.seen store.new).held keep.new.producer result }
+    ensures resting { IfSome keep.new.producer IsResting }
+    ensures store_fault { IsErrOf result OrderStop.Store → Rose (S.seen store.old).faults (S.seen store.new).faults }
+    ensures later { (S.seen store.old).faults ≤ (S.seen store.new).faults }
+{
+    match order_of(alloc, line) {
+        Ok(order) => answer(alloc, &order, store, keep),
+        Err(OrderFault::BadOrder) => Ok(Reply::Refused(Refusal::BadOrder)),
+        Err(OrderFault::Memory) => Err(OrderStop::Memory),
+    }
+}
+
+// Answers an order. Those of the last arm are not built.
+fn answer<S: BlobStore>(
+    alloc: Global,
+    order: &Order,
+    store: &mut S,
+    keep: &mut Keep,
+) -> Result<Reply, OrderStop>
+    requires order { IsOrder order.now }
+    requires resting { IfSome keep.old.producer IsResting }
+    ensures step { Moves (λ machine reply next. Step machine order.now reply next)
+        (S.seen store.old).held keep.old.producer (S.seen store.new).held keep.new.producer result }
+    ensures resting { IfSome keep.new.producer IsResting }
+    ensures store_fault { IsErrOf result OrderStop.Store → Rose (S.seen store.old).faults (S.seen store.new).faults }
+    ensures later { (S.seen store.old).faults ≤ (S.seen store.new).faults }
+{
+    match order {
+        Order::Model(schemas) => model(alloc, schemas, &mut keep.producer),
+        Order::Cycle { version, tag, add } => {
+            cycle(alloc, store, &mut keep.producer, *version, *tag, add)
+        }
+        _ => Ok(Reply::Refused(Refusal::NotYet)),
+    }
+}
