@@ -25,6 +25,7 @@ use Rattle.hol_orders.specs.declared.reply.Reply.{Reply}
 use Rattle.hol_orders.specs.declared.reply.Reply.TheVariants.{Head, Refused}
 use Rattle.hol_orders.specs.declared.refusal.Refusal.{Refusal}
 use Rattle.hol_orders.specs.declared.refusal.Refusal.TheVariants.{NoBlob, BadBlob, TooLarge, NotYet, BadBody}
+use Rattle.hollow_machine.specs.State.{Machine}
 use Rattle.hollow_top.specs.declared.words.Command.{Command}
 use Rattle.hollow_top.specs.declared.words.Command.TheVariants as command
 use Rattle.hollow_top.specs.Command.{IsLineOf, Writes}
@@ -186,20 +187,18 @@ module _ (decided : IsDecided header.Stands header.Stuck) (prints : PrintsOnce) 
   one_shown one other true false a b = absurd (not_refused other a.0 b a.1)
   one_shown one other true true a b = (a.2 ∙ ap refusal_line (one_refusal a.0 b.0 a.1 b.1) ∙ sym b.2, refl)
 
--- a command writes one text, and leaves one store
+-- a command but `run` writes one text, and leaves one machine
 pub one_text : IsDecided header.Stands header.Stuck → PrintsOnce → IsOneSnapshot → BeginsWithHeader → (input : Option (List ℕ)) (store : Store) (asked : Command)
-    (one other : List ℕ) (refused also : Bool) (next after : Store) →
+    (one other : List ℕ) (refused also : Bool) (next after : Machine) → (asked ≡ command.Run → ⊥) →
     Writes input store asked one refused next → Writes input store asked other also after → (one ≡ other) × (refused ≡ also) × (next ≡ after)
-one_text decided prints snapshots begins input store command.Run one other refused also next after a b =
-    let same = one_line (λ reply. reply ≡ Refused NotYet) (λ x y p q. p ∙ sym q) one other refused also a.0 b.0 in
-    (same.0, same.1, a.1 ∙ sym b.1)
-one_text decided prints snapshots begins input store (command.Head name) one other refused also next after a b =
+one_text decided prints snapshots begins input store command.Run one other refused also next after apart a b = absurd (apart refl)
+one_text decided prints snapshots begins input store (command.Head name) one other refused also next after apart a b =
     let same = one_line (HeadIs name (told (Some store) name)) (one_head decided name (told (Some store) name)) one other refused also a.0 b.0 in
     (same.0, same.1, a.1 ∙ sym b.1)
-one_text decided prints snapshots begins input store (command.Show version) one other refused also next after a b =
+one_text decided prints snapshots begins input store (command.Show version) one other refused also next after apart a b =
     let same = one_shown decided prints snapshots begins (Snapshot version) (told (Some store) (Snapshot version)) one other refused also a.0 b.0 in
     (same.0, same.1, a.1 ∙ sym b.1)
-one_text decided prints snapshots begins input store (command.Make seed rows cycles) one other refused also next after a b =
+one_text decided prints snapshots begins input store (command.Make seed rows cycles) one other refused also next after apart a b =
     let same = one_line (λ reply. reply ≡ Refused NotYet) (λ x y p q. p ∙ sym q) one other refused also a.0 b.0 in
     (same.0, same.1, a.1 ∙ sym b.1)
 

@@ -26,6 +26,7 @@ use Rattle.snapshot_blob.specs.Stated.{TypeIs, schemas_of}
 use Rattle.hol_orders.specs.declared.refusal.Refusal.TheVariants.{NoBlob, BadBlob, TooLarge, NotYet, BadBody}
 use Rattle.hol_orders.specs.declared.reply.Reply.{Reply}
 use Rattle.hol_orders.specs.declared.reply.Reply.TheVariants.{Head, Refused}
+use Rattle.hollow_machine.specs.State.{started}
 use Rattle.hollow_top.specs.declared.words.Command.{Command}
 use Rattle.hollow_top.specs.declared.words.Command.TheVariants as command
 use Rattle.hollow_top.specs.Command.{HoldsBytes, IsUnbuilt, WritesSome}
@@ -87,15 +88,14 @@ shown_some decided fits name content bytes none = let some = head_some decided n
 pub some_head : IsDecided header.Stands header.Stuck → (input : Option (List ℕ)) (store : Store) (blob : BlobName) → HoldsBytes store → WritesSome input store (command.Head blob)
 some_head decided input store blob bytes =
     let some = head_some decided blob (told (Some store) blob) (bytes blob) in
-    (line_of some.0, is_refusal some.0, (store, ((some.0, some.1, refl, refl), refl)))
+    (line_of some.0, is_refusal some.0, (started store, ((some.0, some.1, refl, refl), refl)))
 
 pub some_unbuilt : (input : Option (List ℕ)) (store : Store) (asked : Command) → IsUnbuilt asked → WritesSome input store asked
-some_unbuilt input store command.Run is = (line_of (Refused NotYet), true, (store, ((Refused NotYet, refl, refl, refl), refl)))
-some_unbuilt input store (command.Make seed rows cycles) is = (line_of (Refused NotYet), true, (store, ((Refused NotYet, refl, refl, refl), refl)))
+some_unbuilt input store (command.Make seed rows cycles) is = (line_of (Refused NotYet), true, (started store, ((Refused NotYet, refl, refl, refl), refl)))
 some_unbuilt input store _ is = absurd is
 
 pub some_show : IsDecided header.Stands header.Stuck → FitsRows → (input : Option (List ℕ)) (store : Store) (version : ℕ) → HoldsBytes store →
     (WritesSome input store (command.Show version) → ⊥) → ⊥
 some_show decided fits input store version bytes none =
     shown_some decided fits (Snapshot version) (told (Some store) (Snapshot version)) (bytes (Snapshot version))
-    (λ text refused shows. none (text, refused, (store, (shows, refl))))
+    (λ text refused shows. none (text, refused, (started store, (shows, refl))))

@@ -1,8 +1,15 @@
--- What a run answers: its status, and what it leaves of the sink and of the store.
-use Rattle.std.specs.Prelude.{◌≡◌, ℕ, List, Option, Some, Bool, if◌then◌else◌}
+-- What a run answers: its status, and what it leaves of the sink, of the store and of what is kept.
+use Rattle.std.specs.Prelude.{◌≡◌, ℕ, List, Option, Some, Bool, if◌then◌else◌, Result, Ok, Err}
 use Rattle.std.specs.Io.KnownBytes.{Appends}
 use Rattle.hol_io.specs.Store.{Store}
+use Rattle.write_engine.specs.Production.{Production}
+use Rattle.hollow_machine.specs.Kept.{machine_of}
+use Rattle.hollow_machine.specs.State.{Machine}
+use Rattle.hollow_script.specs.Scripted.{TakesPast}
+use Rattle.hollow_script.specs.declared.script_stop.ScriptStop.{ScriptStop}
+use Rattle.hollow_script.specs.declared.script_stop.ScriptStop.TheVariants.{Memory, Source, Sink, Store as StoreFailed, TooLong}
 use Rattle.hollow_top.specs.declared.words.Command.{Command}
+use Rattle.hollow_top.specs.declared.words.Command.TheVariants as command
 use Rattle.hollow_top.specs.Command.{Writes, IsReading, IsUnbuilt}
 use Rattle.hollow_top.specs.Stopping.{GainsPart}
 use Rattle.hollow_top.specs.Words.{Asks}
@@ -19,8 +26,16 @@ AskToRead words = (command : Command) → Asks words command → IsReading comma
 abbrev pub AskUnbuilt : List (List ℕ) → Type 0
 AskUnbuilt words = (command : Command) → Asks words command → IsUnbuilt command
 
--- The command that the words ask for writes the text, with this verdict, and leaves this store.
-abbrev pub WordsWrite : List (List ℕ) → Option (List ℕ) → Store → List ℕ → Bool → Store → Type 0
+-- The words ask for the orders of the input.
+abbrev pub AskScript : List (List ℕ) → Type 0
+AskScript words = Asks words command.Run
+
+-- The words ask for the orders of the input, and more bytes of it were taken than an input may have.
+abbrev pub RunsPast : List (List ℕ) → Option (List ℕ) → Option (List ℕ) → Type 0
+RunsPast words left left' = AskScript words × TakesPast left left'
+
+-- The command that the words ask for writes the text, with this verdict, and leaves this machine.
+abbrev pub WordsWrite : List (List ℕ) → Option (List ℕ) → Store → List ℕ → Bool → Machine → Type 0
 WordsWrite words input store text refused next =
     (command : Command) × Asks words command × Writes input store command text refused next
 
@@ -28,14 +43,23 @@ WordsWrite words input store text refused next =
 abbrev pub status_of : Bool → ℕ
 status_of refused = if refused then 1 else 0
 
--- The sink gained the whole text that the words write, the status is that of its verdict, and the store is the one that
--- they leave.
-abbrev pub Finishes : List (List ℕ) → Option (List ℕ) → Store → Option Store → Option (List ℕ) → Option (List ℕ) → ℕ → Type 0
-Finishes words input store held before after status =
-    (text : List ℕ) × (refused : Bool) × (next : Store) × WordsWrite words input store text refused next
+-- The status of a script.
+abbrev pub script_status : Result Bool ScriptStop → ℕ
+script_status (Ok refused) = status_of refused
+script_status (Err Source) = 3
+script_status (Err Sink) = 4
+script_status (Err StoreFailed) = 5
+script_status (Err Memory) = 6
+script_status (Err TooLong) = 7
+
+-- The sink gained the whole text that the words write, the status is that of its verdict, and the store that is held and the
+-- producer that is kept are those of the machine that they leave.
+abbrev pub Finishes : List (List ℕ) → Option (List ℕ) → Store → Option Store → Option Production → Option (List ℕ) → Option (List ℕ) → ℕ → Type 0
+Finishes words input store held kept before after status =
+    (text : List ℕ) × (refused : Bool) × (next : Store) × WordsWrite words input store text refused (machine_of next kept)
     × (held ≡ Some next) × Appends before after text × (status ≡ status_of refused)
 
 -- The sink gained a part of the text that the words write, from its front on, and not all of it.
 abbrev pub WritesPart : List (List ℕ) → Option (List ℕ) → Store → Option (List ℕ) → Option (List ℕ) → Type 0
 WritesPart words input store before after =
-    GainsPart (λ text refused. (next : Store) × WordsWrite words input store text refused next) before after
+    GainsPart (λ text refused. (next : Machine) × WordsWrite words input store text refused next) before after

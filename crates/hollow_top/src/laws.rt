@@ -1,7 +1,8 @@
-//! Laws of the commands: words ask for one command, and a command writes one text and leaves one store, and some text.
-ghost use Rattle.std.specs.Prelude.{◌≡◌, ℕ, List, Bool, Option, map, string_bytes};
+//! Laws of the commands: words ask for one command, and a command writes one text and leaves one machine, and some text.
+ghost use Rattle.std.specs.Prelude.{◌≡◌, ◌≢◌, ℕ, List, Bool, Option, map, string_bytes};
 ghost use Rattle.hol_io.specs.declared.name.BlobName.{BlobName};
 ghost use Rattle.hol_io.specs.Store.{Store};
+ghost use Rattle.hollow_machine.specs.State.{Machine};
 ghost use Rattle.hollow_top.specs.declared.words.Command.{Command};
 ghost use Rattle.hollow_top.specs.Command.{HoldsBytes, IsUnbuilt, Writes, WritesSome};
 ghost use Rattle.hollow_top.specs.Words.{Asks};
@@ -20,10 +21,10 @@ pub fn one_command(words: &[String])
     let _command = command_of(words);
 }
 
-/// Over an input and a store a command writes one text at most, with one verdict, and leaves one store.
+/// Over an input and a store a command but `run` writes one text at most, with one verdict, and leaves one machine.
 pub fn one_answer()
-    ensures { (input : Option (List ℕ)) (store : Store) (command : Command) (one other : List ℕ) (refused also : Bool) (next after : Store)
-        → Writes input store command one refused next → Writes input store command other also after
+    ensures { (input : Option (List ℕ)) (store : Store) (command : Command) (one other : List ℕ) (refused also : Bool) (next after : Machine)
+        → command ≢ Command.Run → Writes input store command one refused next → Writes input store command other also after
         → (one ≡ other) × (refused ≡ also) × (next ≡ after) }
 {
     one_header();

@@ -10,5 +10,6 @@ mod show;
 mod stop;
 mod words;
 
-pub use program::{Keep, run};
+pub use hollow_script::Keep;
+pub use program::run;
 pub use words::{Command, command_of};

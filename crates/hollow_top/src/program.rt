@@ -1,8 +1,10 @@
 //! The top call: from the words of a command line to a status.
-ghost use Rattle.std.specs.Prelude.{◌≡◌, ◌≢◌, ◌<◌, ◌≤◌, ◌⊎◌, ◌↔◌, ℕ, List, Option, map, string_bytes, IfSome, OnSome, IsErrOf};
+ghost use Rattle.std.specs.Prelude.{◌≡◌, ◌≢◌, ◌<◌, ◌≤◌, ◌⊎◌, ◌↔◌, ℕ, List, Bool, Option, None, map, string_bytes, IfSome, IsSome, OnSome, IsErrOf};
+ghost use Rattle.std.specs.Io.KnownBytes.{IsAtEnd};
 ghost use Rattle.hol_io.specs.Causes.{Rose};
+ghost use Rattle.hollow_script.specs.Scripted.{AllWritten, TakesPast};
 ghost use Rattle.hollow_top.specs.Command.{IsUnbuilt, Serves};
-ghost use Rattle.hollow_top.specs.Run.{AsksNothing, AskToRead, AskUnbuilt, Finishes, WritesPart};
+ghost use Rattle.hollow_top.specs.Run.{AsksNothing, AskScript, AskToRead, AskUnbuilt, Finishes, RunsPast, WritesPart, status_of};
 ghost use Rattle.hollow_top.specs.Show.{Shows};
 ghost use Rattle.hollow_top.specs.Stopping.{GainsFront, GainsRefusal, IsVerdict, Leaves};
 ghost use Rattle.hollow_top.specs.Words.{Asks};
@@ -14,32 +16,25 @@ use crate::stop::Stop;
 use crate::words::{Command, command_of};
 use hol_io::{BlobStore, Sink, Source};
 use hol_orders::{Refusal, Reply};
+use hollow_script::{Keep, ScriptStop, run_script};
 use std::alloc::Global;
 
-/// What a run keeps from one order to the next.
-#[derive(Debug, Drop)]
-pub struct Keep {}
-
-impl Keep {
-    /// Nothing yet. It takes no memory.
-    pub fn new(_alloc: Global) -> Keep {
-        Keep {}
-    }
-}
-
-/// Does what the words ask for: reads the store, writes the answer's line or the lines of the rows to `out`,
+/// Does what the words ask for: reads the input or the store, writes the answers' lines or the lines of the rows to `out`,
 /// and gives the program's exit status.
 ///
 /// | status | comes |
 /// |---|---|
-/// | 0 | all was written, and it was no refusal |
-/// | 1 | a refusal's line was written |
+/// | 0 | all was written, and no line was a refusal |
+/// | 1 | all was written, and a line was a refusal |
 /// | 2 | exactly where the words ask for no command; nothing is read, written or put |
+/// | 3 | the source failed, which comes only for `run`, and where its count of faults rose |
 /// | 4 | the sink failed, which comes only where its count of faults rose |
 /// | 5 | the store failed, which comes only where its count of faults rose |
 /// | 6 | memory was refused; of the rows that `show` writes the sink may have the front |
+/// | 7 | a byte past the first 2^32 bytes of the input came, which comes only for `run` |
 ///
-/// `head` and `show` read the store alone, and put nothing. `run` and `make` are not built.
+/// `run` answers each line of the input, and what it keeps is the producer behind the last of them. `head` and `show` read
+/// the store alone, and put nothing. `make` is not built. The condition is that nothing is kept.
 pub fn run<I: Source, O: Sink, S: BlobStore>(
     alloc: Global,
     words: &[String],
@@ -48,25 +43,32 @@ pub fn run<I: Source, O: Sink, S: BlobStore>(
     store: &mut S,
     keep: &mut Keep,
 ) -> u8
-    ensures status { (result ≤ 6) × (result ≢ 3) }
+    requires { keep.old.producer ≡ None }
+    ensures status { result ≤ 7 }
     ensures words { (result ≡ 2) ↔ AsksNothing (map string_bytes words.now) }
+    ensures source_fault { result ≡ 3 → AskScript (map string_bytes words.now) × Rose (I.faults input.old) (I.faults input.new) }
     ensures sink_fault { result ≡ 4 → Rose (O.faults out.old) (O.faults out.new) }
     ensures store_fault { result ≡ 5 → Rose (S.seen store.old).faults (S.seen store.new).faults }
+    ensures past { result ≡ 7 → RunsPast (map string_bytes words.now) (I.left input.old) (I.left input.new) }
 
-    // No status but 0, 1 and 6 comes for a command where no count rises.
+    // No status but 0, 1 and 6 comes for a command where no count rises and the input is not too long.
     ensures complete { ¬ AsksNothing (map string_bytes words.now)
+        → ¬ Rose (I.faults input.old) (I.faults input.new)
         → ¬ Rose (O.faults out.old) (O.faults out.new)
-        → ¬ Rose (S.seen store.old).faults (S.seen store.new).faults → (result < 2) ⊎ (result ≡ 6) }
+        → ¬ Rose (S.seen store.old).faults (S.seen store.new).faults
+        → ¬ RunsPast (map string_bytes words.now) (I.left input.old) (I.left input.new) → (result < 2) ⊎ (result ≡ 6) }
 
-    // Over any store: a sink that tells what it took gained the line of a refusal exactly at 1.
-    ensures verdict { result < 2 → OnSome (O.taken out.old)
+    // Over any store, for one answer: a sink that tells what it took gained the line of a refusal exactly at 1.
+    ensures verdict { result < 2 → ¬ AskScript (map string_bytes words.now) → OnSome (O.taken out.old)
         ((result ≡ 1) ↔ GainsRefusal (O.taken out.old) (O.taken out.new)) }
 
-    // What is written and what the store then holds, where the store tells what it holds.
-    ensures answered { result < 2 → IfSome (S.seen store.old).held
-        (λ held. Finishes (map string_bytes words.now) (I.left input.old) held (S.seen store.new).held
-        (O.taken out.old) (O.taken out.new) result) }
-    ensures part { result ≡ 4 → IfSome (S.seen store.old).held
+    // What is written, what the store then holds and what is kept, where the store tells what it holds, and for `run` the
+    // source too.
+    ensures answered { result < 2 → (AskScript (map string_bytes words.now) → IsSome (I.left input.old))
+        → IfSome (S.seen store.old).held (λ held. Finishes (map string_bytes words.now) (I.left input.old) held
+        (S.seen store.new).held keep.new.producer (O.taken out.old) (O.taken out.new) result) }
+    ensures ended { result < 2 → AskScript (map string_bytes words.now) → IsAtEnd (I.left input.new) }
+    ensures part { result ≡ 4 → ¬ AskScript (map string_bytes words.now) → IfSome (S.seen store.old).held
         (λ held. WritesPart (map string_bytes words.now) (I.left input.old) held (O.taken out.old) (O.taken out.new)) }
 
     // What words for `head` and `show`, and words for nothing, leave as it was.
@@ -88,6 +90,9 @@ pub fn run<I: Source, O: Sink, S: BlobStore>(
     let Some(command) = command_of(words) else {
         return 2;
     };
+    if let Command::Run = command {
+        return serve_script(alloc, input, out, store, keep);
+    }
     match serve(alloc, &command, out, store) {
         Ok(refused) => u8::from(refused),
         Err(Stop::Sink) => 4,
@@ -96,13 +101,43 @@ pub fn run<I: Source, O: Sink, S: BlobStore>(
     }
 }
 
-// Writes what a command writes, and tells whether that is a refusal. No command that is built reads the input.
+// Answers the lines of the input, and gives the status.
+fn serve_script<I: Source, O: Sink, S: BlobStore>(
+    alloc: Global,
+    input: &mut I,
+    out: &mut O,
+    store: &mut S,
+    keep: &mut Keep,
+) -> u8
+    requires { keep.old.producer ≡ None }
+    ensures ends { result < 2 → IfSome (I.left input.old) (λ bytes. IfSome (S.seen store.old).held (λ first. (refused : Bool)
+        × AllWritten bytes first (S.seen store.new).held keep.new.producer (O.taken out.old) (O.taken out.new) refused
+        × (result ≡ status_of refused))) }
+    ensures ended { result < 2 → IsAtEnd (I.left input.new) }
+    ensures status { (result ≤ 7) × (result ≢ 2) }
+    ensures source_fault { result ≡ 3 → Rose (I.faults input.old) (I.faults input.new) }
+    ensures sink_fault { result ≡ 4 → Rose (O.faults out.old) (O.faults out.new) }
+    ensures store_fault { result ≡ 5 → Rose (S.seen store.old).faults (S.seen store.new).faults }
+    ensures past { result ≡ 7 → TakesPast (I.left input.old) (I.left input.new) }
+{
+    match run_script(alloc, input, out, store, keep) {
+        Ok(any_refused) => u8::from(any_refused),
+        Err(ScriptStop::Source) => 3,
+        Err(ScriptStop::Sink) => 4,
+        Err(ScriptStop::Store) => 5,
+        Err(ScriptStop::Memory) => 6,
+        Err(ScriptStop::TooLong) => 7,
+    }
+}
+
+// Writes what a command of one answer writes, and tells whether that is a refusal. It reads no input.
 fn serve<O: Sink, S: BlobStore>(
     alloc: Global,
     command: &Command,
     out: &mut O,
     store: &mut S,
 ) -> Result<bool, Stop>
+    requires { command.now ≢ Command.Run }
     ensures served { (input : Option (List ℕ)) → IfSome (S.seen store.old).held (λ held. Serves input held command.now
         (S.seen store.new).held (O.taken out.old) (O.taken out.new) result) }
     ensures verdict { Leaves IsVerdict (O.taken out.old) (O.taken out.new) result }
@@ -123,8 +158,7 @@ fn serve<O: Sink, S: BlobStore>(
             write_reply(alloc, &reply, out)
         }
         Command::Show(version) => show(alloc, *version, out, store),
-        Command::Run | Command::Make { .. } => {
-            write_reply(alloc, &Reply::Refused(Refusal::NotYet), out)
-        }
+        Command::Make { .. } => write_reply(alloc, &Reply::Refused(Refusal::NotYet), out),
+        Command::Run => unreachable!(),
     }
 }

@@ -1,19 +1,25 @@
 use Rattle.std.proofs.Common.{map, string_bytes, rules}
-use Rattle.hollow_top.proofs.Serving.{cast_status, finishes, part_written}
+use Rattle.hollow_top.proofs.Serving.{asks_script, cast_status, finishes, part_written, script_finishes}
 use Rattle.hollow_top.proofs.Verdicts.{status_tells}
 use Rattle.hollow_top.proofs.program.run.Goals as goal
 
 pub returns-in-Ok-clause-verdict : goal.returns-in-Ok-clause-verdict
-returns-in-Ok-clause-verdict g c = λ ended.
+returns-in-Ok-clause-verdict g c = λ ended single.
     status_tells (g.O.Sink.taken c.args.out.now) (g.O.Sink.taken c.serve.new.out) c.in-Ok.refused c.from.result (cast_status c.from.result c.in-Ok.refused c.from.ensures) c.in-Ok.ensures.verdict
 
 pub returns-in-Ok-clause-answered : goal.returns-in-Ok-clause-answered
-returns-in-Ok-clause-answered g c = λ ended.
+returns-in-Ok-clause-answered g c = λ ended enough.
     finishes (map string_bytes c.args.words.now) (g.I.Source.left c.args.input.now) (g.S.BlobStore.seen c.args.store.now).held (g.S.BlobStore.seen c.serve.new.store).held
-    c.in-Some.command (g.O.Sink.taken c.args.out.now) (g.O.Sink.taken c.serve.new.out) c.in-Ok.refused c.from.result
-    c.in-Some.ensures.0 (cast_status c.from.result c.in-Ok.refused c.from.ensures) (c.in-Ok.ensures.served (g.I.Source.left c.args.input.now))
+    c.args.keep.now.producer c.in-Some.command (g.O.Sink.taken c.args.out.now) (g.O.Sink.taken c.serve.new.out) c.in-Ok.refused c.from.result
+    c.requires c.in-Some.ensures.0 (cast_status c.from.result c.in-Ok.refused c.from.ensures) (c.in-Ok.ensures.served (g.I.Source.left c.args.input.now))
 
 pub returns-in-Err-Sink-clause-part : goal.returns-in-Err-Sink-clause-part
-returns-in-Err-Sink-clause-part g c = λ ended.
+returns-in-Err-Sink-clause-part g c = λ ended single.
     part_written (map string_bytes c.args.words.now) (g.I.Source.left c.args.input.now) (g.S.BlobStore.seen c.args.store.now).held (g.S.BlobStore.seen c.serve.new.store).held
     c.in-Some.command (g.O.Sink.taken c.args.out.now) (g.O.Sink.taken c.serve.new.out) _ (search rules) c.in-Some.ensures.0 (c.in-Err-Sink.ensures.served (g.I.Source.left c.args.input.now))
+
+pub returns-in-Run-clause-answered : goal.returns-in-Run-clause-answered
+returns-in-Run-clause-answered g c = λ ended tells.
+    (let asked = asks_script (map string_bytes c.args.words.now) c.in-Some.command c.in-Some.ensures.0 c.in-Run.is in
+    script_finishes (map string_bytes c.args.words.now) (g.I.Source.left c.args.input.now) (g.S.BlobStore.seen c.args.store.now).held (g.S.BlobStore.seen c.serve_script.new.store).held
+    c.serve_script.new.keep.producer (g.O.Sink.taken c.args.out.now) (g.O.Sink.taken c.serve_script.new.out) c.serve_script.result asked (tells asked) (c.serve_script.ensures.ends ended))

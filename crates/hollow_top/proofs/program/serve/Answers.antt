@@ -15,8 +15,8 @@ returns-in-Show-clause-served g c = λ input.
     (g.O.Sink.taken c.args.out.now) (g.O.Sink.taken c.show.new.out) c.show.result
     c.show.ensures.held c.in-Show.is c.show.ensures.served
 
-pub returns-in-Run-clause-served : goal.returns-in-Run-clause-served
-returns-in-Run-clause-served g c = λ input.
+pub returns-in-Make-clause-served : goal.returns-in-Make-clause-served
+returns-in-Make-clause-served g c = λ input.
     (let built : IsUnbuilt c.args.command.now = search rules in
     unbuilt_serves input (g.S.BlobStore.seen c.args.store.now).held (g.S.BlobStore.seen c.args.store.now).held c.args.command.now
-    (g.O.Sink.taken c.args.out.now) (g.O.Sink.taken c.write_reply-in-Run.new.out) c.write_reply-in-Run.result refl built c.write_reply-in-Run.ensures.written)
+    (g.O.Sink.taken c.args.out.now) (g.O.Sink.taken c.write_reply-in-Make.new.out) c.write_reply-in-Make.result refl built c.write_reply-in-Make.ensures.written)
