@@ -7,6 +7,8 @@
 //! | `blob PIECES` | the store holds the bytes of these pieces as snapshot-1 |
 //! | `more PIECES` | and behind them those of these |
 //! | `fill N PIECE` | and behind them this piece so many times |
+//! | `input TEXT`, `last TEXT` | the input of the next run goes on with this line, or with this text |
+//! | `calls N..`, `piece N` | in the next run these calls of the source fail, or it gives so many bytes a call |
 //! | `reads N..`, `writes N..`, `room N` | in the next run these calls of the store or of the sink fail, or the sink takes so much |
 //! | `run STATUS WORDS` | the words of a command line end with this status |
 //! | `out TEXT`, `part TEXT` | and what they write is this line, or ends in this front of one |
@@ -32,12 +34,21 @@ const HEADER: &str = "00000406 0000000000000000 0000000000000047 00 0000";
 /// How much a sink takes where nothing else is said.
 const ROOM: usize = 10_000;
 
+/// How many bytes a source gives a call where nothing else is said.
+const PIECE: usize = 7;
+
 /// What the cases are run on.
 #[derive(Drop)]
 pub struct Bench {
     alloc: Global,
     /// The blob, and its faulty twin.
     blobs: (Vec<u8>, Vec<u8>),
+    /// The input of the next run.
+    input: Vec<u8>,
+    /// The calls of the source that fail in the next run.
+    input_fails: Vec<u64>,
+    /// How many bytes the source gives a call in the next run.
+    piece: usize,
     /// The calls of the store and of the sink that fail in the next run.
     fails: (Vec<u64>, Vec<u64>),
     /// How much the sink takes in the next run.
@@ -52,6 +63,9 @@ impl Bench {
         Bench {
             alloc,
             blobs: (Vec::new(alloc), Vec::new(alloc)),
+            input: Vec::new(alloc),
+            input_fails: Vec::new(alloc),
+            piece: PIECE,
             fails: (Vec::new(alloc), Vec::new(alloc)),
             room: ROOM,
             texts: (Vec::new(alloc), Vec::new(alloc)),
@@ -66,6 +80,8 @@ impl Bench {
             b"types" => Ok(self.begin(HEADER)? && self.add(rest)?),
             b"more" => self.add(rest),
             b"fill" => self.fill(rest),
+            b"input" => self.ask(rest, "\n"),
+            b"last" => self.ask(rest, ""),
             b"run" => self.run(rest),
             b"out" => self.want(rest, "\n"),
             b"part" => self.want(rest, ""),
@@ -107,9 +123,18 @@ impl Bench {
         Ok(true)
     }
 
+    // The input goes on.
+    fn ask(&mut self, text: &str, end: &str) -> Result<bool, Fail> {
+        self.input.extend_from_slice(text.as_bytes())?;
+        self.input.extend_from_slice(end.as_bytes())?;
+        Ok(true)
+    }
+
     // What fails in the next run. Other words say nothing.
     fn arrange(&mut self, word: &str, rest: &str) -> Result<bool, Fail> {
         match word.as_bytes() {
+            b"calls" => put_numbers(rest, &mut self.input_fails)?,
+            b"piece" => self.piece = rest.parse::<usize>()?,
             b"reads" => put_numbers(rest, &mut self.fails.0)?,
             b"writes" => put_numbers(rest, &mut self.fails.1)?,
             b"room" => self.room = rest.parse::<usize>()?,
@@ -151,7 +176,9 @@ impl Bench {
         }
         let writes = Vec::from_slice(alloc, self.fails.1.as_slice())?;
         let mut out = MemSink::new(alloc, self.room, 7, writes)?;
-        let mut input = MemSource::new(Vec::new(alloc), 1, Vec::new(alloc));
+        let asked = Vec::from_slice(alloc, self.input.as_slice())?;
+        let calls = Vec::from_slice(alloc, self.input_fails.as_slice())?;
+        let mut input = MemSource::new(asked, self.piece.max(1), calls);
         let mut keep = Keep::new(alloc);
         let status = run(
             alloc,
@@ -163,6 +190,9 @@ impl Bench {
         );
         self.texts = (Vec::from_slice(alloc, out.bytes())?, Vec::new(alloc));
         self.fails = (Vec::new(alloc), Vec::new(alloc));
+        self.input = Vec::new(alloc);
+        self.input_fails = Vec::new(alloc);
+        self.piece = PIECE;
         self.room = ROOM;
         Ok(status)
     }
@@ -223,8 +253,8 @@ fn put_piece(alloc: Global, piece: &str, bytes: &mut Vec<u8>) -> Result<(), Fail
     Ok(())
 }
 
-// Adds the numbers of a line.
-fn put_numbers(line: &str, numbers: &mut Vec<u64>) -> Result<(), Fail> {
+/// Adds the numbers of a line.
+pub fn put_numbers(line: &str, numbers: &mut Vec<u64>) -> Result<(), Fail> {
     for number in line.split_whitespace() {
         numbers.push(number.parse::<u64>()?)?;
     }

@@ -6,6 +6,8 @@ mod bodies;
 #[cfg(test)]
 mod case;
 #[cfg(test)]
+mod cycles;
+#[cfg(test)]
 mod heads;
 #[cfg(test)]
 mod kinds;
@@ -13,6 +15,10 @@ mod kinds;
 mod limits;
 #[cfg(test)]
 mod outside;
+#[cfg(test)]
+mod scene;
+#[cfg(test)]
+mod scripts;
 #[cfg(test)]
 mod shows;
 #[cfg(test)]

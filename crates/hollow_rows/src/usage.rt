@@ -41,8 +41,6 @@ run 1 show snapshot-9
 out {"blob":"snapshot-9","error":18,"name":"NoBlob"}
 run 1 show snapshot-1
 out {"at":0,"blob":"snapshot-1","error":19,"name":"BadBlob","reason":40}
-run 1 run
-out {"error":90,"name":"NotYet"}
 run 1 make 0 1 1000
 out {"error":90,"name":"NotYet"}"#;
 

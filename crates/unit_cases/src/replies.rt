@@ -1,24 +1,9 @@
-//! A command that is answered, and the lines of refusals.
-use hol_io::{BlobName, MemSink, MemSource, MemStore};
+//! The lines of refusals.
+use hol_io::BlobName;
 use hol_orders::{Refusal, Reply, RowPlace, reply_line};
-use hollow_top::{Keep, run};
 use schema_model::{Limit, Name, Reason};
 use std::alloc::Global;
 use std::test::Fail;
-
-#[test]
-fn answers_a_command(rt: HostRuntime) -> Result<(), Fail> {
-    let alloc = rt.alloc();
-    let words = vec![in alloc; String::from_str(alloc, "run")?]?;
-    let mut store = MemStore::new(alloc, Vec::new(alloc), Vec::new(alloc));
-    let mut input = MemSource::new(Vec::new(alloc), 1, Vec::new(alloc));
-    let mut out = MemSink::new(alloc, 200, 7, Vec::new(alloc))?;
-    let mut keep = Keep::new(alloc);
-    let status = run(alloc, &words, &mut input, &mut out, &mut store, &mut keep);
-    assert_eq!(rt; status, 1);
-    assert!(rt; out.bytes() == b"{\"error\":90,\"name\":\"NotYet\"}\n".as_slice());
-    Ok(())
-}
 
 /// The line of a refusal.
 fn line(alloc: Global, refusal: Refusal) -> Result<String, Fail> {

@@ -1,0 +1,135 @@
+//! Cases over a store that stays from one command to the next. Beside the lines of `case` there are these.
+//!
+//! | line | what it says |
+//! |---|---|
+//! | `empty N..` | the store is empty, and these calls of its puts fail |
+//! | `holds NAME` | a name of it holds the blob |
+//! | `says NAME TEXT` | a name of it holds this text |
+//! | `go STATUS WORDS` | the words of a command line, over the store, end with this status |
+//! | `has NAME` | a name of it holds just the blob |
+//! | `told TEXT` | it announces this text |
+//! | `names NAME..` | it has these names alone, in their order |
+use crate::case::{Bench, put_numbers};
+use hol_io::{BlobName, BlobStore, MemStore, name_text, parse_name};
+use std::alloc::Global;
+use std::process::Abort;
+use std::test::Fail;
+
+/// A bench, and a store that stays.
+#[derive(Drop)]
+struct Scene {
+    alloc: Global,
+    bench: Bench,
+    store: MemStore,
+}
+
+impl Scene {
+    // An empty store.
+    fn new(alloc: Global) -> Scene {
+        Scene {
+            alloc,
+            bench: Bench::new(alloc),
+            store: MemStore::new(alloc, Vec::new(alloc), Vec::new(alloc)),
+        }
+    }
+
+    // Whether a line of a case holds.
+    fn step(&mut self, line: &str) -> Result<bool, Fail> {
+        let (word, rest) = line.split_once(' ').unwrap_or((line, ""));
+        match word.as_bytes() {
+            b"empty" => self.clear(rest),
+            b"holds" => self.hold(rest),
+            b"says" => self.say(rest),
+            b"go" => self.go(rest),
+            b"has" => self.has(rest),
+            b"told" => self.is_told(rest),
+            b"names" => self.has_names(rest),
+            _ => self.bench.step(line),
+        }
+    }
+
+    // The store is empty.
+    fn clear(&mut self, rest: &str) -> Result<bool, Fail> {
+        let mut puts = Vec::new(self.alloc);
+        put_numbers(rest, &mut puts)?;
+        self.store = MemStore::new(self.alloc, Vec::new(self.alloc), puts);
+        Ok(true)
+    }
+
+    // A name holds the blob.
+    fn hold(&mut self, name: &str) -> Result<bool, Fail> {
+        let blob = self.bench.blob()?;
+        self.put(name, blob.as_slice())
+    }
+
+    // A name holds a text.
+    fn say(&mut self, rest: &str) -> Result<bool, Fail> {
+        let (name, text) = rest.split_once(' ').unwrap_or((rest, ""));
+        self.put(name, text.as_bytes())
+    }
+
+    // A name holds these bytes.
+    fn put(&mut self, name: &str, bytes: &[u8]) -> Result<bool, Fail> {
+        match parse_name(name) {
+            Some(name) => Ok(self.store.put(&name, bytes).is_ok()),
+            None => Ok(false),
+        }
+    }
+
+    // A command line is run over the store.
+    fn go(&mut self, rest: &str) -> Result<bool, Fail> {
+        let (status, words) = rest.split_once(' ').unwrap_or((rest, ""));
+        let settled = self.bench.is_settled();
+        let ended = self.bench.answer_over(words, &mut self.store)?;
+        Ok(settled && ended == status.parse::<u8>()?)
+    }
+
+    // A name holds just the blob.
+    fn has(&mut self, name: &str) -> Result<bool, Fail> {
+        let blob = self.bench.blob()?;
+        match parse_name(name) {
+            Some(name) => self.holds(&name, blob.as_slice()),
+            None => Ok(false),
+        }
+    }
+
+    // The store announces this text.
+    fn is_told(&mut self, text: &str) -> Result<bool, Fail> {
+        self.holds(&BlobName::Announced, text.as_bytes())
+    }
+
+    // A name holds just these bytes.
+    fn holds(&mut self, name: &BlobName, bytes: &[u8]) -> Result<bool, Fail> {
+        let mut found = vec![in self.alloc; 0; bytes.len() + 1]?;
+        let Ok(count) = self.store.read_at(name, 0, found.as_mut_slice()) else {
+            return Ok(false);
+        };
+        Ok(&found[..count] == bytes)
+    }
+
+    // The store has these names alone.
+    fn has_names(&mut self, rest: &str) -> Result<bool, Fail> {
+        let mut listed = Vec::new(self.alloc);
+        if self.store.list(&mut listed).is_err() {
+            return Ok(false);
+        }
+        let mut text = String::new(self.alloc);
+        for name in &listed {
+            if !text.is_empty() {
+                text.push(' ')?;
+            }
+            text.push_str(name_text(self.alloc, name)?.as_str())?;
+        }
+        Ok(text.as_str() == rest)
+    }
+}
+
+/// Runs the cases of a text, each line of it behind the one before.
+pub fn pass(rt: &impl Abort, alloc: Global, cases: &str) -> Result<(), Fail> {
+    let mut scene = Scene::new(alloc);
+    for line in cases.lines() {
+        assert!(rt; scene.step(line)?, "{line}");
+    }
+    assert!(rt; scene.bench.is_settled(), "the last case");
+    Ok(())
+}
