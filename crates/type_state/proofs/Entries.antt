@@ -57,7 +57,7 @@ greater : (k m : ℕ) → m < k → nat_cmp k m ≡ Greater
 greater k m h = grind arith
 
 -- A number that is not below the bound stands last.
-bound_last : (os : List ℕ) (o : ℕ) → bound_of os ≤ o → bound_of (os ++ o ∷ []) ≡ o + 1
+pub bound_last : (os : List ℕ) (o : ℕ) → bound_of os ≤ o → bound_of (os ++ o ∷ []) ≡ o + 1
 unfolding bound_of
 bound_last [] o above = omega arith
 bound_last (k ∷ os) o above = omega (arith, bound_last os o (omega arith))
@@ -97,7 +97,7 @@ above_first k (e ∷ es) zero d all inside = lower k e.0 all.0
 above_first k (e ∷ es) (suc at) d all inside = above_first k es at d all.1 (omega arith)
 
 -- what an entry has under its ordinal is what the rows have there
-found_at : (es : List (ℕ × Row)) (o at : ℕ) (d : ℕ × Row) → IsStrictlySortedBy nat_cmp (keys_of es) → at < length es → (get_or es at d).0 ≡ o → rows.find nat_cmp o es ≡ Some (get_or es at d).1
+pub found_at : (es : List (ℕ × Row)) (o at : ℕ) (d : ℕ × Row) → IsStrictlySortedBy nat_cmp (keys_of es) → at < length es → (get_or es at d).0 ≡ o → rows.find nat_cmp o es ≡ Some (get_or es at d).1
 unfolding IsStrictlySortedBy
 found_at [] o at d sorted inside is = absurd (omega arith)
 found_at (e ∷ es) o zero d sorted inside is = subst (λ q. rows.find nat_cmp q (e ∷ es) ≡ Some e.1) is (finds e es)

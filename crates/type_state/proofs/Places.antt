@@ -14,7 +14,9 @@ use Rattle.type_state.specs.declared.section.Section.{Section}
 use Rattle.type_state.specs.Layout.{places_of, width_count}
 use Rattle.type_state.specs.Loads.{layout_of}
 use Rattle.type_state.specs.State.{Half, IsLaidOut}
-use Rattle.type_state.specs.WellFormed.{IsWidth, IsReadable}
+use Rattle.type_state.specs.WellFormed.{IsWidth, AreWidths, IsReadable}
+use Rattle.type_state.specs.declared.patch.PatchSection.{PatchSection}
+use Rattle.type_state.specs.Patches.{IsReadablePatch, patch_layout}
 
 -- Where there is a place the widths are those of the fields.
 field_widths : (max : Option ℕ) (fields : List Field) (widths : List ℕ) → 0 < places_of max → AllZip (λ (field : Field) width. IsWidth max field.kind width) fields widths → AllZip IsFieldWidth fields widths
@@ -50,15 +52,21 @@ is_buckets (Shape.Set element) object list = tt
 is_buckets (Shape.Map key value) object list = tt
 
 -- There are as many widths as the kind has.
-pub widths_long : (shape : Shape) (section : Section) → IsReadable shape section → length section.widths ≡ width_count shape
-widths_long (Shape.Object key fields) section h = AllZip-long (λ (field : Field) width. IsWidth section.max field.kind width) fields section.widths h.well.wide
-widths_long (Shape.List element) section h = h.well.wide.0
-widths_long (Shape.Set element) section h = h.well.wide.0
-widths_long (Shape.Map key value) section h = h.well.wide.0
+pub wide_long : (shape : Shape) (max : Option ℕ) (widths : List ℕ) → AreWidths shape max widths → length widths ≡ width_count shape
+wide_long (Shape.Object key fields) max widths h = AllZip-long (λ (field : Field) width. IsWidth max field.kind width) fields widths h
+wide_long (Shape.List element) max widths h = h.0
+wide_long (Shape.Set element) max widths h = h.0
+wide_long (Shape.Map key value) max widths h = h.0
 
--- A half at the layout of the section is laid out.
+pub widths_long : (shape : Shape) (section : Section) → IsReadable shape section → length section.widths ≡ width_count shape
+widths_long shape section h = wide_long shape section.max section.widths h.well.wide
+
+-- A half at the layout of the section, or of a patch, is laid out.
 pub laid_out : (schema : Schema) (section : Section) (half : Half) → IsReadable schema.shape section → half.layout ≡ layout_of section → IsLaidOut schema half
 laid_out schema section half h is = ap (λ l. length l.widths) is ∙ widths_long schema.shape section h
+
+pub laid_by : (schema : Schema) (patch : PatchSection) (half : Half) → IsReadablePatch schema.shape patch → half.layout ≡ patch_layout patch → IsLaidOut schema half
+laid_by schema patch half h is = ap (λ l. length l.widths) is ∙ wide_long schema.shape patch.max patch.widths h.well.wide
 
 pub narrow_one : (max : Option ℕ) (field : Field) (width : ℕ) → IsWidth max field.kind width → width ≤ 64
 narrow_one None field width h = h
@@ -77,8 +85,11 @@ each_narrow (width ∷ widths) zero h = h 0 0 (omega arith)
 each_narrow (width ∷ widths) (suc f) h = each_narrow widths f (λ k d l. h (suc k) d (omega arith))
 
 -- No width is above 64.
+pub wide_narrow : (shape : Shape) (max : Option ℕ) (widths : List ℕ) → AreWidths shape max widths → (f : ℕ) → slice_index widths f ≤ 64
+wide_narrow (Shape.Object key fields) max widths h f = narrow_at max fields widths f h
+wide_narrow (Shape.List element) max widths h f = each_narrow widths f h.1
+wide_narrow (Shape.Set element) max widths h f = each_narrow widths f h.1
+wide_narrow (Shape.Map key value) max widths h f = each_narrow widths f h.1
+
 pub narrow : (shape : Shape) (section : Section) → IsReadable shape section → (f : ℕ) → slice_index section.widths f ≤ 64
-narrow (Shape.Object key fields) section h f = narrow_at section.max fields section.widths f h.well.wide
-narrow (Shape.List element) section h f = each_narrow section.widths f h.well.wide.1
-narrow (Shape.Set element) section h f = each_narrow section.widths f h.well.wide.1
-narrow (Shape.Map key value) section h f = each_narrow section.widths f h.well.wide.1
+narrow shape section h = wide_narrow shape section.max section.widths h.well.wide

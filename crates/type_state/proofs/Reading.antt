@@ -48,22 +48,22 @@ same_entries P one (e ∷ es) (f ∷ fs) keys a b =
     λ i. first i ∷ rest i
 
 -- Rows that fit, and one more behind them.
-held_more : (shape : Shape) (widths : List ℕ) (before rows : List Row) (row : Row) → HoldsRows shape widths before rows → HoldsRow shape widths (before ++ (rows ++ row ∷ [])) row → HoldsRows shape widths before (rows ++ row ∷ [])
+pub held_more : (shape : Shape) (widths : List ℕ) (before rows : List Row) (row : Row) → HoldsRows shape widths before rows → HoldsRow shape widths (before ++ (rows ++ row ∷ [])) row → HoldsRows shape widths before (rows ++ row ∷ [])
 held_more shape widths before [] row h last = (last, tt)
 held_more shape widths before (r ∷ rows) row h last =
     (h.0, held_more shape widths (before ++ r ∷ []) rows row h.1 (subst (λ all. HoldsRow shape widths all row) (sym (append_assoc before (r ∷ []) (rows ++ row ∷ []))) last))
 
-held_at : (shape : Shape) (widths : List ℕ) (before rows : List Row) (row : Row) (after : List Row) → HoldsRows shape widths before (rows ++ row ∷ after) → HoldsRow shape widths (before ++ (rows ++ row ∷ [])) row
+pub held_at : (shape : Shape) (widths : List ℕ) (before rows : List Row) (row : Row) (after : List Row) → HoldsRows shape widths before (rows ++ row ∷ after) → HoldsRow shape widths (before ++ (rows ++ row ∷ [])) row
 held_at shape widths before [] row after h = h.0
 held_at shape widths before (r ∷ rows) row after h =
     subst (λ all. HoldsRow shape widths all row) (append_assoc before (r ∷ []) (rows ++ row ∷ [])) (held_at shape widths (before ++ r ∷ []) rows row after h.1)
 
 -- The end offsets behind one more row.
-more_bytes : (f : ℕ) (rows : List Row) (row : Row) → field_bytes f (rows ++ row ∷ []) ≡ field_bytes f rows + part_bytes f row
+pub more_bytes : (f : ℕ) (rows : List Row) (row : Row) → field_bytes f (rows ++ row ∷ []) ≡ field_bytes f rows + part_bytes f row
 more_bytes f rows row = sum_by-append (part_bytes f) rows (row ∷ []) ∙ ap (λ n. field_bytes f rows + n) (zero-add (part_bytes f row))
 
 -- The items of one more row.
-more_items : (rows : List Row) (row : Row) → item_count (rows ++ row ∷ []) ≡ item_count rows + items_of_row row
+pub more_items : (rows : List Row) (row : Row) → item_count (rows ++ row ∷ []) ≡ item_count rows + items_of_row row
 more_items rows row = sum_by-append items_of_row rows (row ∷ []) ∙ ap (λ n. item_count rows + n) (zero-add (items_of_row row))
 
 -- A row fits where it ends at equal offsets and behind as many items.
@@ -73,13 +73,13 @@ fits_same shape widths row one other few more same count h =
     subst (λ e. FitsRow shape widths e more row) ends (subst (λ n. FitsRow shape widths one n row) count h)
 
 -- What fits behind the ends of some rows is held behind the rows, and the other way round.
-holds_row : (shape : Shape) (widths ends : List ℕ) (items : ℕ) (rows : List Row) (row : Row) → ((f : ℕ) → slice_index ends f ≡ field_bytes f rows) → items ≡ item_count rows → FitsBehind shape widths ends items row
+pub holds_row : (shape : Shape) (widths ends : List ℕ) (items : ℕ) (rows : List Row) (row : Row) → ((f : ℕ) → slice_index ends f ≡ field_bytes f rows) → items ≡ item_count rows → FitsBehind shape widths ends items row
     → HoldsRow shape widths (rows ++ row ∷ []) row
 holds_row shape widths ends items rows row is count h =
     fits_same shape widths row (λ f. slice_index ends f + part_bytes f row) (λ f. field_bytes f (rows ++ row ∷ [])) (items + items_of_row row) (item_count (rows ++ row ∷ []))
     (λ f. ap (λ n. n + part_bytes f row) (is f) ∙ sym (more_bytes f rows row)) (ap (λ n. n + items_of_row row) count ∙ sym (more_items rows row)) h
 
-fits_row : (shape : Shape) (widths ends : List ℕ) (items : ℕ) (rows : List Row) (row : Row) → ((f : ℕ) → slice_index ends f ≡ field_bytes f rows) → items ≡ item_count rows → HoldsRow shape widths (rows ++ row ∷ []) row
+pub fits_row : (shape : Shape) (widths ends : List ℕ) (items : ℕ) (rows : List Row) (row : Row) → ((f : ℕ) → slice_index ends f ≡ field_bytes f rows) → items ≡ item_count rows → HoldsRow shape widths (rows ++ row ∷ []) row
     → FitsBehind shape widths ends items row
 fits_row shape widths ends items rows row is count h =
     fits_same shape widths row (λ f. field_bytes f (rows ++ row ∷ [])) (λ f. slice_index ends f + part_bytes f row) (item_count (rows ++ row ∷ [])) (items + items_of_row row)

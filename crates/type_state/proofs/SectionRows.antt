@@ -19,12 +19,13 @@ use Rattle.std.proofs.Math.Pow.{pow_mono}
 use Rattle.std.proofs.lemmas.List.Elements.{All-cons}
 use Rattle.hol_varint.specs.Zigzag.{unzigzag}
 use Rattle.bit_array.proofs.Elements.{element_of-lt}
-use Rattle.type_state.specs.WellFormed.{IsWidth, IsWellFormed}
+use Rattle.type_state.specs.WellFormed.{IsWidth, IsReadable, IsWellFormed}
 use Rattle.type_state.proofs.Places.{narrow_one}
 use Rattle.type_state.specs.declared.section.Section.{Section}
 use Rattle.type_state.specs.Loads.{SectionIs, IsSpelledIn}
+use Rattle.type_state.specs.Moving.{AreOfKind}
 use Rattle.type_state.proofs.Reading.{same_entries}
-use Rattle.type_state.proofs.Loading.{one_row}
+use Rattle.type_state.proofs.Loading.{one_row, of_kind}
 
 pub one_state : (shape : Shape) (section : Section) (a b : RowMap) → SectionIs shape section a → SectionIs shape section b → a ≡ b
 one_state shape section a b first second =
@@ -51,7 +52,7 @@ fields_fit [] [] [] h = tt
 fields_fit (f ∷ fs) (p ∷ ps) (v ∷ vs) h = (kind_fits f.kind p v h.0, fields_fit fs ps vs h.1)
 fields_fit _ _ _ h = absurd h
 
-row_fits : (shape : Shape) (section : Section) (o : ℕ) (row : Row) → IsSpelledIn shape section (o, row) → FitsShape shape row
+pub row_fits : (shape : Shape) (section : Section) (o : ℕ) (row : Row) → IsSpelledIn shape section (o, row) → FitsShape shape row
 row_fits (Shape.Object key fields) section o (Row.Object values) h = fields_fit fields (parts_of section.widths section.first section.areas o) values h
 row_fits (Shape.Object key fields) section o _ h = absurd h
 row_fits (Shape.List element) section o (Row.List ordinals) h = tt
@@ -108,7 +109,7 @@ key_ranges [] all k d l = absurd (omega arith)
 key_ranges (pair ∷ pairs) all zero d l = (all 0 pair (omega arith)).0
 key_ranges (pair ∷ pairs) all (suc k) d l = key_ranges pairs (λ i e h. all (suc i) e (omega arith)) k d (omega arith)
 
-row_ranges : (shape : Shape) (section : Section) (o : ℕ) (row : Row) → IsWellFormed shape section → IsSpelledIn shape section (o, row) → IsRowInRange row
+pub row_ranges : (shape : Shape) (section : Section) (o : ℕ) (row : Row) → IsWellFormed shape section → IsSpelledIn shape section (o, row) → IsRowInRange row
 row_ranges (Shape.Object key fields) section o (Row.Object values) well h = values_range section.max fields section.widths section.first (sum section.widths) o 0 section.areas values well.wide h
 row_ranges (Shape.Object key fields) section o _ well h = absurd h
 row_ranges (Shape.List element) section o (Row.List ordinals) well h = list_ranges ordinals h.small
@@ -135,3 +136,7 @@ rows_fit shape section rows o row is at = let entry = spelled_at shape section r
 
 pub rows_range : (shape : Shape) (section : Section) (rows : RowMap) (o : ℕ) (row : Row) → IsWellFormed shape section → SectionIs shape section rows → get rows o ≡ Some row → IsRowInRange row
 rows_range shape section rows o row well is at = let entry = spelled_at shape section rows o row is at in row_ranges shape section entry.0 row well entry.1
+
+-- Each row of a section that can be read is of the kind of its type.
+pub rows_of_kind : (shape : Shape) (section : Section) (rows : RowMap) → IsReadable shape section → SectionIs shape section rows → AreOfKind shape rows
+rows_of_kind shape section rows readable is o row at = let entry = spelled_at shape section rows o row is at in of_kind shape section entry.0 row readable entry.1

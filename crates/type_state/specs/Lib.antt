@@ -4,6 +4,8 @@ pub mod Holds
 pub mod Layout
 pub mod Loads
 pub mod Lookup
+pub mod Moving
+pub mod Patches
 pub mod State
 pub mod Views
 pub mod WellFormed

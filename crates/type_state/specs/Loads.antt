@@ -1,5 +1,5 @@
 -- Sections of a snapshot: the rows that the section of a type spells.
-use Rattle.std.specs.Prelude.{◌≡◌, ℕ, ◌<◌, ◌≤◌, List, [], All, Result, Ok, Err}
+use Rattle.std.specs.Prelude.{◌≡◌, ℕ, ◌<◌, ◌≤◌, List, [], Some, All, Result, Ok, Err}
 use Rattle.std.specs.FinMap.{entries, keys}
 use Rattle.std.specs.Map.{keys_of, values_of}
 use Rattle.schema_model.specs.declared.limit.Limit.{Limit}
@@ -21,6 +21,11 @@ use Rattle.type_state.specs.Holds.{Holds, HoldsRows, KeepsLimits}
 -- The layout that a section states.
 abbrev pub layout_of : Section → Layout
 layout_of section = record { max = section.max; widths = section.widths }
+
+-- The parts of a type, as those of a section whose last place is this one.
+abbrev pub parts_up_to : List ℕ → ℕ → List ℕ → List ℕ → List (List ℕ) → ℕ → Section
+parts_up_to widths total first second areas place =
+    record { max = Some place; widths = widths; total = total; first = first; second = second; areas = areas; live = [] }
 
 -- The place of a section spells this row, by the codec of the kind.
 abbrev pub Spells : Shape → Section → ℕ → Row → Type 0

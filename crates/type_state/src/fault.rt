@@ -3,7 +3,7 @@ ghost use Rattle.std.specs.Prelude.{◌≡◌};
 ghost use Rattle.type_state.specs.declared.fault.RowFault.TheVariants.{Memory as row_memory};
 
 use schema_model::{Limit, Reason};
-use std::alloc::AllocError;
+use std::alloc::{AllocError, AllocFailed};
 
 /// Why the rows of a type are refused.
 #[derive(Clone, Copy, Debug, PartialEq, Eq)]
@@ -20,6 +20,14 @@ impl From<AllocError> for RowFault {
     ghost from_gives = { λ _ e. e ≡ row_memory };
 
     fn from(_e: AllocError) -> RowFault {
+        RowFault::Memory
+    }
+}
+
+impl<T: Drop> From<AllocFailed<T>> for RowFault {
+    ghost from_gives = { λ _ e. e ≡ row_memory };
+
+    fn from(_e: AllocFailed<T>) -> RowFault {
         RowFault::Memory
     }
 }

@@ -1,6 +1,9 @@
 //! One half of a type's state: the rows of the type in one state, and their layout.
 ghost use Rattle.std.specs.Prelude.{◌≡◌, ◌↔◌, ◌+◌, ◌^◌, ◌<◌, ◌≤◌, ◌∷◌, ◌++◌, [], Some, None, IsSome, IfOk, IsTrue, MatchOption, OnOk};
 ghost use Rattle.std.specs.List.{Contains};
+ghost use Rattle.std.specs.List.Sorted.{IsStrictlySortedBy};
+ghost use Rattle.std.specs.Ordering.{nat_cmp};
+ghost use Rattle.std.specs.Map.{keys_of};
 ghost use Rattle.std.specs.FinMap.{get, keys, entries, empty};
 ghost use Rattle.ordinal_set.specs.Ordinals.{bound_of};
 ghost use Rattle.bucket_codec.specs.Run.{FindsIn};
@@ -70,6 +73,21 @@ impl Kept {
         self.entries.push((ordinal, row))?;
         self.bound = ordinal + 1;
         Ok(())
+    }
+
+    /// The rows, each with its ordinal, by rising ordinal.
+    pub(crate) fn entries(&self) -> &[(u32, Row)]
+        ensures are { result.now ≡ entries self.now.rows }
+        ensures rising { IsStrictlySortedBy nat_cmp (keys_of result.now) }
+    {
+        self.entries.as_slice()
+    }
+
+    /// The widths of the parts of a row, in bits.
+    pub(crate) fn widths(&self) -> &[u32]
+        ensures { result.now ≡ self.now.layout.widths }
+    {
+        self.widths.as_slice()
     }
 
     /// The greatest ordinal that has a place, none where there is no place.

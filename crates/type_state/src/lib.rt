@@ -1,23 +1,29 @@
 //! The rows of one type as they stand in its current state, and beside them those of the state before or of the next one.
 #![tactic(auto)]
 
+mod added;
 mod count;
 mod ends;
 mod fault;
 mod fits;
+mod held;
 mod items;
 mod kept;
 pub mod laws;
 mod load;
 mod lookup;
+mod moving;
+mod patch;
 mod place;
 mod section;
 mod state;
 mod states;
+mod staying;
 mod views;
 mod words;
 
 pub use fault::RowFault;
+pub use patch::PatchSection;
 pub use section::Section;
 pub use state::TypeState;
 pub use states::TypeStates;

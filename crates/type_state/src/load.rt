@@ -21,7 +21,7 @@ use std::alloc::Global;
 /// words lets a type have of one bit each.
 ///
 /// Elements of no bits take no words, and a run may stand at many places, so a short blob can have any number of both.
-const MOST_ITEMS: u64 = 64 * MAX_WORDS;
+pub(crate) const MOST_ITEMS: u64 = 64 * MAX_WORDS;
 
 /// The row at the place of an ordinal.
 fn read_row(
@@ -36,7 +36,14 @@ fn read_row(
     ensures kind { IfErr result IsLoadFault }
 {
     let place = u64::from(ordinal);
-    match read_place(alloc, schema, section, place) {
+    match read_place(
+        alloc,
+        schema,
+        &section.widths,
+        section.total,
+        section,
+        place,
+    ) {
         Ok(row) => Ok(row),
         Err(PlaceFault::Bad(reason)) => Err(RowFault::At(reason, place)),
         Err(PlaceFault::Memory) => Err(RowFault::Memory),

@@ -1,32 +1,31 @@
-//! The row at a place of a section, by the codec of its kind.
+//! The row at a place, by the codec of its kind.
 ghost use Rattle.std.specs.Prelude.{◌≡◌, ◌-◌, ◌<◌};
 ghost use Rattle.bucket_codec.specs.BucketPlace.{IsWidthCount, start_at, end_at};
 ghost use Rattle.type_state.specs.Layout.{places_of, width_count};
 ghost use Rattle.type_state.specs.WellFormed.{IsReadable};
-ghost use Rattle.type_state.specs.Loads.{TellsPlace};
+ghost use Rattle.type_state.specs.Loads.{TellsPlace, parts_up_to};
 
 use crate::Section;
 use bucket_codec::run_length;
-use schema_model::{PlaceFault, Row, Schema, Shape};
+use schema_model::{Parts, PlaceFault, Row, Schema, Shape, Widths};
 use std::alloc::Global;
 
-/// The row that a place of a section spells.
-pub(crate) fn read_place(
+/// The row that a place of the parts of a type spells.
+pub(crate) fn read_place<P: Parts>(
     alloc: Global,
     schema: &Schema,
-    section: &Section,
+    widths: &Widths,
+    total: u64,
+    parts: &P,
     place: u64,
 ) -> Result<Row, PlaceFault>
-    requires readable { IsReadable schema.now.shape section.now }
-    requires place { place < places_of section.now.max }
-    ensures { TellsPlace schema.now.shape section.now place result }
+    requires { IsReadable schema.now.shape (parts_up_to widths.now total (P.first_words parts.now) (P.second_words parts.now) (P.area_bytes parts.now) place) }
+    ensures { TellsPlace schema.now.shape (parts_up_to widths.now total (P.first_words parts.now) (P.second_words parts.now) (P.area_bytes parts.now) place) place result }
 {
-    let widths = &section.widths;
-    let total = section.total;
     match &schema.shape {
-        Shape::Object(_, _) => object_codec::read(alloc, schema, widths, total, section, place),
-        Shape::List(_) => list_codec::read(alloc, schema, widths, total, section, place),
-        _ => bucket_codec::read(alloc, schema, widths, total, section, place),
+        Shape::Object(_, _) => object_codec::read(alloc, schema, widths, total, parts, place),
+        Shape::List(_) => list_codec::read(alloc, schema, widths, total, parts, place),
+        _ => bucket_codec::read(alloc, schema, widths, total, parts, place),
     }
 }
 

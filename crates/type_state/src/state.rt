@@ -10,10 +10,12 @@ ghost use Rattle.type_state.specs.Lookup.{elements_of, pairs_of};
 ghost use Rattle.type_state.specs.State.{IsLaidOut, empty_half};
 ghost use Rattle.type_state.specs.WellFormed.{IsReadable};
 ghost use Rattle.type_state.specs.Loads.{IsLoadFault, IsFreeRow, Loads, TellsLoad, layout_of};
+ghost use Rattle.type_state.specs.Patches.{IsMovedBy, IsReadablePatch, TellsMove, patch_layout};
 
 use crate::kept::Kept;
 use crate::load::load;
-use crate::{RowFault, Section};
+use crate::moving::moved;
+use crate::{PatchSection, RowFault, Section};
 use schema_model::{Row, Schema};
 use std::alloc::{AllocError, Global};
 use std::marker::Model;
@@ -32,12 +34,15 @@ pub struct TypeState {
 
 impl Model for TypeState {
     ghost use Rattle.type_state.specs.State.{State, state_code};
+    ghost use Rattle.type_state.specs.Moving.{HasKind};
 
     ghost Value = { State };
 
     ghost coded = { state_code };
 
     ghost view = { λ s. record { schema = s.schema; current = s.current; other = s.other } };
+
+    ghost invariant = { λ s. HasKind s.schema.shape s.current s.other };
 }
 
 impl TypeState {
@@ -80,6 +85,29 @@ impl TypeState {
     {
         let next = load(self.alloc, &self.schema, section)?;
         self.other = next;
+        Ok(())
+    }
+
+    /// Lays out in the next half the current rows without those that a patch removes and with those that it adds, at the patch's layout. The
+    /// current half stays as it is. What the other one holds where the patch is refused is not said.
+    ///
+    /// `At` names an ordinal: `BadOrdinals` a removed one that does not rise or is not live, an added one that does not rise, has no place or is
+    /// live, and one that stays and has no place; `BadPointers`, `BadText`, `BadValue` and `BadBuckets` an added one whose place spells no row,
+    /// `BadWidth` one of the new rows that the widths cannot hold when they are laid out with no place between them. `Limit` names the limit
+    /// on words or bytes that the new rows pass. `Memory` comes also where these have more than 2^28 elements or buckets together, which
+    /// within the limit on words only those of no bits can.
+    pub fn move_next(&mut self, patch: &PatchSection) -> Result<(), RowFault>
+        requires { IsReadablePatch self.old.schema.shape patch.now }
+        ensures exact { Yields IsFreeRow result (Ok tt) ((rows : RowMap) × IsMovedBy self.old.schema.shape patch.now self.old.current.rows rows) }
+        ensures tells { TellsMove self.old.schema.shape patch.now self.old.current.rows self.new.other.rows result }
+        ensures kind { IfErr result IsLoadFault }
+        ensures layout { OnOk result (self.new.other.layout ≡ patch_layout patch.now) }
+        ensures laid { OnOk result (IsLaidOut self.new.schema self.new.other) }
+        ensures schema { self.new.schema ≡ self.old.schema }
+        ensures current { self.new.current ≡ self.old.current }
+    {
+        let half = moved(self.alloc, &self.schema, &self.current, patch)?;
+        self.other = half;
         Ok(())
     }
 

@@ -6,6 +6,7 @@ use Rattle.type_state.specs.Loads.{IsFreeRow, Loads}
 use Rattle.type_state.specs.WellFormed.{IsReadable}
 use Rattle.type_state.proofs.Loading.{exact}
 use Rattle.type_state.proofs.Places.{laid_out}
+use Rattle.type_state.proofs.SectionRows.{rows_of_kind}
 use Rattle.type_state.proofs.state.TypeState.load_next.Goals as goal
 
 pub returns-clause-exact : goal.returns-clause-exact
@@ -17,3 +18,8 @@ pub returns-clause-laid : goal.returns-clause-laid
 returns-clause-laid c =
     let readable : IsReadable c.self.inside.schema.shape c.args.section.now = subst (λ s. IsReadable s.schema.shape c.args.section.now) (sym c.self.view_is) c.requires in
     laid_out c.self.inside.schema c.args.section.now c.in_ok-next.next readable c.in_ok-next.ensures.layout
+
+pub invariant_of-self : goal.invariant_of-self
+invariant_of-self c =
+    let readable : IsReadable c.self.inside.schema.shape c.args.section.now = subst (λ s. IsReadable s.schema.shape c.args.section.now) (sym c.self.view_is) c.requires in
+    record { current_rows = c.self.invariant.current_rows; other_rows = rows_of_kind c.self.inside.schema.shape c.args.section.now c.in_ok-next.next.rows readable c.in_ok-next.ensures.tells.is }

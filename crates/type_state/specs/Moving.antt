@@ -1,0 +1,99 @@
+-- The parts of a move: which rows stay, which are added, and what the two make together.
+use Rattle.std.specs.Prelude.{◌≡◌, ℕ, ◌-◌, ◌^◌, ◌<◌, ◌≤◌, ◌⊎◌, List, [], ◌∷◌, Option, None, Some, IsSome, All, Contains, length, min, slice_index}
+use Rattle.std.specs.List.Sorted.{IsStrictlyIncreasing, IsStrictlySortedBy}
+use Rattle.std.specs.Ordering.{nat_cmp}
+use Rattle.std.specs.FinMap.{find, get, values}
+use Rattle.std.specs.Map.{keys_of, values_of}
+use Rattle.schema_model.specs.Parts.{shape_fields}
+use Rattle.schema_model.specs.Table.{RowMap}
+use Rattle.schema_model.specs.declared.schema.Shape.{Shape}
+use Rattle.schema_model.specs.declared.rows.row.Row.{Row}
+use Rattle.type_state.specs.declared.fault.RowFault.{RowFault}
+use Rattle.type_state.specs.declared.patch.PatchSection.{PatchSection}
+use Rattle.type_state.specs.Layout.{Layout, item_count, places_of}
+use Rattle.type_state.specs.State.{Half}
+use Rattle.type_state.specs.WordsHeld.{field_bytes, bytes_held}
+use Rattle.type_state.specs.Holds.{HoldsRows, KeepsLimits}
+use Rattle.type_state.specs.Ends.{IsOfKind}
+use Rattle.type_state.specs.Patches.{AddsRows, FitsOrdinals, MovesRows, patch_layout}
+
+-- A fault other than want of memory tells this.
+abbrev pub UnlessMemory : Type 0 → RowFault → Type 0
+UnlessMemory told RowFault.Memory = Unit {0}
+UnlessMemory told _ = told
+
+-- Each row is of the kind of its type.
+abbrev pub AreOfKind : Shape → RowMap → Type 0
+AreOfKind shape rows = (ordinal : ℕ) (row : Row) → get rows ordinal ≡ Some row → IsOfKind shape row
+
+-- The rows of both halves of a type are of its kind.
+pub record HasKind (shape : Shape) (current other : Half) : Type 0 where
+  pub current_rows : AreOfKind shape current.rows
+  pub other_rows : AreOfKind shape other.rows
+
+-- The removed ordinals rise and are live.
+pub record AreRemovable (old : RowMap) (removed : List ℕ) : Type 0 where
+  pub rise : IsStrictlyIncreasing removed
+  pub live : All (λ ordinal. IsSome (get old ordinal)) removed
+
+-- The entries are the old rows without the removed ones.
+pub record Leaves (old : RowMap) (removed : List ℕ) (stays : List (ℕ × Row)) : Type 0 where
+  pub removable : AreRemovable old removed
+  pub rising : IsStrictlySortedBy nat_cmp (keys_of stays)
+  pub gone : (ordinal : ℕ) → Contains removed ordinal → find nat_cmp ordinal stays ≡ None
+  pub kept : (ordinal : ℕ) → (Contains removed ordinal → ⊥) → find nat_cmp ordinal stays ≡ get old ordinal
+
+-- The added ordinals rise, have a place, and are not live.
+pub record AreAddable (old : RowMap) (places : ℕ) (added : List ℕ) : Type 0 where
+  pub rise : IsStrictlyIncreasing added
+  pub placed : All (λ ordinal. ordinal < places) added
+  pub free : All (λ ordinal. get old ordinal ≡ None) added
+
+-- The entries are the added ordinals, each with the row that its place spells.
+pub record AreAdded (shape : Shape) (patch : PatchSection) (rows : List (ℕ × Row)) : Type 0 where
+  pub keys : keys_of rows ≡ patch.added
+  pub adds : AddsRows shape patch (values_of rows)
+
+-- The rows are the old ones moved by the patch, and each has a place.
+pub record IsMoved (shape : Shape) (patch : PatchSection) (old new : RowMap) : Type 0 where
+  pub added : List Row
+  pub adds : AddsRows shape patch added
+  pub ordinals : FitsOrdinals old (patch_layout patch) patch.removed patch.added
+  pub moves : MovesRows old new patch.removed patch.added added
+  pub placed : (ordinal : ℕ) → IsSome (get new ordinal) → ordinal < places_of patch.max
+
+-- The rows of a layout fit it, laid out one behind the other, and end at these offsets; so many items and bytes are theirs.
+pub record AreLaidOut (shape : Shape) (widths : List ℕ) (rows : List Row) (ends : List ℕ) (items bytes : ℕ) : Type 0 where
+  pub held : HoldsRows shape widths [] rows
+  pub reached : (field : ℕ) → slice_index ends field ≡ field_bytes field rows
+  pub counted : items ≡ item_count rows
+  pub long : length ends ≡ length (shape_fields shape)
+  pub total : bytes ≡ min (bytes_held rows) (2 ^ 64 - 1)
+
+-- The layout fits its rows, laid out one behind the other, and they keep the limits.
+pub record IsHeld (shape : Shape) (layout : Layout) (rows : RowMap) : Type 0 where
+  pub parts : HoldsRows shape layout.widths [] (values rows)
+  pub within : KeepsLimits shape layout rows
+
+-- The first of some rows stands before the first of others.
+abbrev pub StandsBefore : List (ℕ × Row) → List (ℕ × Row) → Type 0
+StandsBefore [] others = ⊥
+StandsBefore (entry ∷ rows) [] = Unit {0}
+StandsBefore (entry ∷ rows) (other ∷ others) = entry.0 < other.0
+
+-- The first of some rows does not stand below this ordinal.
+abbrev pub StandFrom : ℕ → List (ℕ × Row) → Type 0
+StandFrom ordinal [] = Unit {0}
+StandFrom ordinal (entry ∷ rows) = ordinal ≤ entry.0
+
+-- The first row is taken from the front of some rows, and it is not behind the first of others.
+pub record IsTaken (rows others : List (ℕ × Row)) (entry : ℕ × Row) (rows_left others_left : List (ℕ × Row)) : Type 0 where
+  pub front : rows ≡ entry ∷ rows_left
+  pub same : others_left ≡ others
+  pub first : StandFrom entry.0 others
+
+-- What is taken from two lists: the first row of the two, and none where both are empty.
+abbrev pub IsNextOf : List (ℕ × Row) → List (ℕ × Row) → Option (ℕ × Row) → List (ℕ × Row) → List (ℕ × Row) → Type 0
+IsNextOf rows others None rows_left others_left = (rows ≡ []) × (others ≡ [])
+IsNextOf rows others (Some entry) rows_left others_left =
+    IsTaken rows others entry rows_left others_left ⊎ IsTaken others rows entry others_left rows_left

@@ -1,0 +1,54 @@
+//! The rows that a patch adds.
+ghost use Rattle.std.specs.Prelude.{◌<◌, List, All, IfErr, MatchResult, length};
+ghost use Rattle.schema_model.specs.declared.rows.row.Row.{Row as StoredRow};
+ghost use Rattle.std.specs.List.Sorted.{IsStrictlyIncreasing};
+ghost use Rattle.type_state.specs.Layout.{places_of};
+ghost use Rattle.type_state.specs.Loads.{IsLoadFault, TellsPlace};
+ghost use Rattle.type_state.specs.Patches.{AddsRows, IsReadablePatch, places_in};
+ghost use Rattle.type_state.specs.Moving.{AreAdded, UnlessMemory};
+
+use crate::place::read_place;
+use crate::{PatchSection, RowFault};
+use schema_model::{PlaceFault, Row, Schema};
+use std::alloc::Global;
+
+/// The row at a place of a patch.
+fn read_row(
+    alloc: Global,
+    schema: &Schema,
+    patch: &PatchSection,
+    place: u64,
+) -> Result<Row, PlaceFault>
+    requires readable { IsReadablePatch schema.now.shape patch.now }
+    requires place { place < length patch.now.added }
+    requires rising { IsStrictlyIncreasing patch.now.added }
+    requires placed { All (λ ordinal. ordinal < places_of patch.now.max) patch.now.added }
+    ensures { TellsPlace schema.now.shape (places_in patch.now) place result }
+{
+    read_place(alloc, schema, &patch.widths, patch.total, patch, place)
+}
+
+/// The added ordinals, which have places, each with the row that its place spells.
+///
+/// The place of each is read, and starts where the one before ends, so that no element, bucket or byte is read twice.
+pub(crate) fn read_added(
+    alloc: Global,
+    schema: &Schema,
+    patch: &PatchSection,
+) -> Result<Vec<(u32, Row)>, RowFault>
+    requires readable { IsReadablePatch schema.now.shape patch.now }
+    requires rising { IsStrictlyIncreasing patch.now.added }
+    requires placed { All (λ ordinal. ordinal < places_of patch.now.max) patch.now.added }
+    ensures tells { MatchResult result (λ rows. AreAdded schema.now.shape patch.now rows.items) (UnlessMemory ((rows : List StoredRow) → AddsRows schema.now.shape patch.now rows → ⊥)) }
+    ensures kind { IfErr result IsLoadFault }
+{
+    let mut rows = Vec::new(alloc);
+    for (place, ordinal) in patch.added.as_slice().iter().enumerate() {
+        match read_row(alloc, schema, patch, place as u64) {
+            Ok(row) => rows.push((*ordinal as u32, row))?,
+            Err(PlaceFault::Bad(reason)) => return Err(RowFault::At(reason, *ordinal)),
+            Err(PlaceFault::Memory) => return Err(RowFault::Memory),
+        }
+    }
+    Ok(rows)
+}
