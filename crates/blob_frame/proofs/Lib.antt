@@ -1,4 +1,5 @@
 pub mod Ahead
+pub mod Openings
 pub mod Chain
 pub mod Fixed
 pub mod Runs

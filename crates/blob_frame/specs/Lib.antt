@@ -1,4 +1,5 @@
 pub mod Item
+pub mod Opened
 pub mod SchemaForm
 pub mod Header
 pub mod Scene

@@ -92,7 +92,8 @@ impl Cursor {
 
     /// How many bytes of the blob are left.
     pub(crate) fn left(&self) -> u64
-        ensures { result + self.now.at ≡ self.now.size }
+        ensures value { result + self.now.at ≡ self.now.size }
+        ensures few { result ≤ 2 ^ 28 }
     {
         self.size - self.at
     }

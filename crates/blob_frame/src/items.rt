@@ -95,6 +95,7 @@ impl Cursor {
     pub fn run<S: BlobStore>(&mut self, store: &mut S, count: u64) -> Result<Octets, BlobFault>
         requires over { IsAbove S.seen store.old self.old }
         ensures reads { Leads S.seen (run count) store.old self.old store.new self.new result }
+        ensures few { IfOk result (λ bytes. length bytes ≤ 2 ^ 28) }
     {
         let start = self.at();
         if self.left() < count {

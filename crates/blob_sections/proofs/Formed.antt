@@ -15,21 +15,21 @@ abbrev IsEnough : Shape → Option ℕ → List ℕ → List ℕ → Type 0
 IsEnough shape max widths first = words_needed shape (record { max = max; widths = widths }) ≤ length first
 
 -- the widths of the fields of an OBJECT are its widths
-field_widths_are : (shape : Shape) (max : Option ℕ) (widths : List ℕ) → IsObject shape → AllZip (λ (field : Field) width. IsWidth max field.kind width) (shape_fields shape) widths → AreWidths shape max widths
+pub field_widths_are : (shape : Shape) (max : Option ℕ) (widths : List ℕ) → IsObject shape → AllZip (λ (field : Field) width. IsWidth max field.kind width) (shape_fields shape) widths → AreWidths shape max widths
 field_widths_are (Shape.Object key fields) max widths is wide = wide
 field_widths_are (Shape.List element) max widths is wide = absurd is
 field_widths_are (Shape.Set element) max widths is wide = absurd is
 field_widths_are (Shape.Map key value) max widths is wide = absurd is
 
 -- narrow widths, as many as the kind has, are those of another kind
-part_widths_are : (shape : Shape) (max : Option ℕ) (widths : List ℕ) → (IsObject shape → ⊥) → length widths ≡ width_count shape → All (λ width. width ≤ 64) widths → AreWidths shape max widths
+pub part_widths_are : (shape : Shape) (max : Option ℕ) (widths : List ℕ) → (IsObject shape → ⊥) → length widths ≡ width_count shape → All (λ width. width ≤ 64) widths → AreWidths shape max widths
 part_widths_are (Shape.Object key fields) max widths other long narrow = absurd (other tt)
 part_widths_are (Shape.List element) max widths other long narrow = (long, narrow)
 part_widths_are (Shape.Set element) max widths other long narrow = (long, narrow)
 part_widths_are (Shape.Map key value) max widths other long narrow = (long, narrow)
 
 -- another kind has no fields
-no_fields : (shape : Shape) → (IsObject shape → ⊥) → length (shape_fields shape) ≡ 0
+pub no_fields : (shape : Shape) → (IsObject shape → ⊥) → length (shape_fields shape) ≡ 0
 no_fields (Shape.Object key fields) other = absurd (other tt)
 no_fields (Shape.List element) other = refl
 no_fields (Shape.Set element) other = refl

@@ -135,8 +135,8 @@ fn at_least<S: BlobStore>(cursor: &mut Cursor, store: &mut S, least: u128) -> Re
     Ok(count)
 }
 
-// A word array of no fewer words than this.
-fn word_array<S: BlobStore>(
+/// A word array of no fewer words than this: their number, and each of them. `BadLength` stands at a number below it.
+pub fn word_array<S: BlobStore>(
     cursor: &mut Cursor,
     store: &mut S,
     least: u128,

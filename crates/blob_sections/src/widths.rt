@@ -52,8 +52,8 @@ fn field_width<S: BlobStore>(
     Ok(width)
 }
 
-/// The width of each field.
-pub(crate) fn field_widths<S: BlobStore>(
+/// The width of each field, under a max ordinal. `BadWidth` stands at one that the field's kind may not have.
+pub fn field_widths<S: BlobStore>(
     cursor: &mut Cursor,
     store: &mut S,
     max: Option<u32>,
@@ -96,8 +96,8 @@ fn width_count(shape: &Shape) -> usize
     }
 }
 
-/// The widths of a LIST, SET or MAP.
-pub(crate) fn part_widths<S: BlobStore>(
+/// The widths of a LIST, SET or MAP. `BadWidth` stands at one over 64.
+pub fn part_widths<S: BlobStore>(
     cursor: &mut Cursor,
     store: &mut S,
     shape: &Shape,

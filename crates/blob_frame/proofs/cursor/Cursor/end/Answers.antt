@@ -4,7 +4,7 @@ use Rattle.blob_frame.proofs.Runs.{reads_end, reads_trailing}
 use Rattle.blob_frame.proofs.cursor.Cursor.end.Goals as goal
 
 pub returns-then-left-gt0-clause-reads : goal.returns-then-left-gt0-clause-reads
-returns-then-left-gt0-clause-reads g c = reads_trailing c.requires.over (omega (arith, c.left.ensures)) (ap Err c.bad.ensures)
+returns-then-left-gt0-clause-reads g c = reads_trailing c.requires.over (omega (arith, c.left.ensures.value)) (ap Err c.bad.ensures)
 
 pub returns-clause-reads : goal.returns-clause-reads
-returns-clause-reads g c = reads_end c.requires.over (omega (arith, c.left.ensures))
+returns-clause-reads g c = reads_end c.requires.over (omega (arith, c.left.ensures.value))

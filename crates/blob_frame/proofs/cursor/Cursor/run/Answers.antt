@@ -5,8 +5,8 @@ use Rattle.blob_frame.specs.declared.fault.BlobFault.TheVariants.{Bad}
 use Rattle.blob_frame.proofs.Runs.{gathers_start, gathers_more, gathers_done, gathers_gone, reads_cut}
 use Rattle.blob_frame.proofs.cursor.Cursor.run.Goals as goal
 
-pub returns-then-left-count : goal.returns-then-left-count
-returns-then-left-count g c = record { reads = reads_cut c.args.count c.requires.over (omega (arith, c.left.ensures)) (ap Err c.bad.ensures) }
+pub returns-then-left-count-clause-reads : goal.returns-then-left-count-clause-reads
+returns-then-left-count-clause-reads g c = reads_cut c.args.count c.requires.over (omega (arith, c.left.ensures.value)) (ap Err c.bad.ensures)
 
 pub loop-self-preserved : goal.loop-self-preserved
 loop-self-preserved g c =
@@ -14,14 +14,16 @@ loop-self-preserved g c =
     let fits : length c.loop-self.bytes.items + c.min-piece.result ≤ c.args.count = omega arith in
     gathers_more c.min-piece.result c.loop-self.invariant c.in_ok-want.ensures.fills here fits c.pass.ensures.moved (grind (arith, common_steps))
 
-pub returns : goal.returns
-returns g c = record { reads = gathers_done c.loop-self.invariant (omega arith) c.from_vec.ensures }
+pub returns-clause-reads : goal.returns-clause-reads
+returns-clause-reads g c = gathers_done c.loop-self.invariant (omega arith) c.from_vec.ensures
+
+pub returns-clause-few : goal.returns-clause-few
+returns-clause-few g c = omega (arith, ap (λ (xs : List ℕ). length xs) c.from_vec.ensures, c.loop-self.invariant.within, c.left.ensures.few)
 
 pub loop-self-init : goal.loop-self-init
 loop-self-init g c = gathers_start c.args.count _ c.requires.over c.new-bytes.ensures.items
 
-pub returns-then-piece-eq0 : goal.returns-then-piece-eq0
-returns-then-piece-eq0 g c = record {
-  reads = gathers_gone c.loop-self.invariant c.in_ok-want.ensures.fills (omega (arith, ap (λ (xs : List ℕ). length xs) c.ahead.ensures.value)) (omega arith)
-      (omega (arith, c.left.ensures)) c.requires.over (ap (λ at. Err (Bad at Truncated)) c.at-start.ensures);
-}
+pub returns-then-piece-eq0-clause-reads : goal.returns-then-piece-eq0-clause-reads
+returns-then-piece-eq0-clause-reads g c =
+    gathers_gone c.loop-self.invariant c.in_ok-want.ensures.fills (omega (arith, ap (λ (xs : List ℕ). length xs) c.ahead.ensures.value)) (omega arith)
+    (omega (arith, c.left.ensures.value)) c.requires.over (ap (λ at. Err (Bad at Truncated)) c.at-start.ensures)
