@@ -1,5 +1,11 @@
 pub mod Added
 pub mod Changes
+pub mod Fits
+pub mod Moved
+pub mod OfModel
 pub mod Ordinals
 pub mod Parts
+pub mod Patch
+pub mod Reads
+pub mod Within
 pub mod Written

@@ -8,8 +8,9 @@ use Rattle.blob_frame.specs.Header.{header}
 use Rattle.blob_sections.specs.declared.section.PackedRows.{PackedRows}
 use Rattle.blob_sections.specs.Head.{type_head}
 use Rattle.blob_sections.specs.Section.{max_ordinal}
-use Rattle.delta_blob.specs.declared.part.PatchSection.{PatchSection}
-use Rattle.delta_blob.specs.declared.part.PatchPart.{PatchPart}
+use Rattle.type_state.specs.declared.patch.PatchSection.{PatchSection}
+use Rattle.type_state.specs.Patches.{IsWellFormedPatch}
+use Rattle.delta_blob.specs.declared.part.DeltaPart.{DeltaPart}
 use Rattle.delta_blob.specs.Added.{added_rows}
 use Rattle.delta_blob.specs.Ordinals.{ordinals}
 
@@ -36,19 +37,23 @@ patch_section shape = do
   nothing (patch_with max removed added rows)
 
 -- A type: its head and its section.
-unfoldable pub patch_part : Form PatchPart
+unfoldable pub patch_part : Form DeltaPart
 patch_part = do
   head ← type_head
   patch ← patch_section head.schema.shape
   nothing (record { at = head.at; schema = head.schema; section = patch })
 
+-- What stands of the type is well formed.
+abbrev pub IsWellFormedPart : DeltaPart → Type 0
+IsWellFormedPart part = IsWellFormedPatch part.schema.shape part.section
+
 -- The types of a delta, of which there are 512 at most, and the end of the blob behind them.
-unfoldable pub body : Form (List PatchPart)
+unfoldable pub body : Form (List DeltaPart)
 body = do
   parts ← counted (at_most vint 512) patch_part
   _ ← end
   nothing parts
 
 -- A delta, up to the end of the blob.
-unfoldable pub delta : Form (Header × List PatchPart)
+unfoldable pub delta : Form (Header × List DeltaPart)
 delta = both header body

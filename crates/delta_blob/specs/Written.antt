@@ -12,7 +12,7 @@ use Rattle.blob_sections.specs.declared.section.PackedRows.{PackedRows}
 use Rattle.section_writing.specs.Carried.{IsMax, FitGaps, AreCarried}
 use Rattle.section_writing.specs.Placed.{placed}
 use Rattle.section_writing.specs.Written.{delta_type_bytes}
-use Rattle.delta_blob.specs.declared.part.PatchPart.{PatchPart}
+use Rattle.delta_blob.specs.declared.part.DeltaPart.{DeltaPart}
 use Rattle.delta_blob.specs.Parts.{patch_with}
 
 -- What a delta carries of a type: its schema, the max ordinal, the ordinals that it removes and adds, and the packed rows of
@@ -69,10 +69,10 @@ abbrev pub header_of : ℤ → ℤ → List TypeChange → Header
 header_of origin destination changes = record { origin = origin; destination = destination; schemas = schemas_of changes; tags = [] }
 
 -- what is read of a changed type that stands at this offset
-abbrev pub part_of : TypeChange → ℕ → PatchPart
+abbrev pub part_of : TypeChange → ℕ → DeltaPart
 part_of change at = record { at = at; schema = change.schema; section = patch_with change.max change.removed change.added change.rows }
 
 -- what is read of all of them: the first stands behind the header and the number of types
-abbrev pub parts_of : ℤ → ℤ → List TypeChange → List PatchPart
+abbrev pub parts_of : ℤ → ℤ → List TypeChange → List DeltaPart
 parts_of origin destination changes = placed change_bytes part_of changes
     (length (header_bytes origin destination (schemas_of changes)) + length (varint_bytes (length changes)))

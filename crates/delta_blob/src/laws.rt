@@ -8,11 +8,18 @@ ghost use Rattle.schema_model.specs.declared.schema.Shape.{Shape};
 ghost use Rattle.type_state.specs.Layout.{places_of};
 ghost use Rattle.row_packing.specs.States.{AreWritable};
 ghost use Rattle.blob_grammar.specs.Decided.{EachPlace, IsDecided};
+ghost use Rattle.blob_frame.specs.declared.header.Header.{Header};
+ghost use Rattle.blob_frame.specs.Header.{HeaderIs};
 ghost use Rattle.blob_sections.specs.declared.section.PackedRows.{PackedRows};
 ghost use Rattle.blob_sections.specs.Section.{packed_rows};
 ghost use Rattle.delta_blob.specs.Added.{added_rows};
 ghost use Rattle.delta_blob.specs.Changes.{IsDeltaBetween};
+ghost use Rattle.delta_blob.specs.declared.part.DeltaPart.{DeltaPart};
+ghost use Rattle.delta_blob.specs.declared.patch.PatchPart.{PatchPart};
 ghost use Rattle.delta_blob.specs.Parts.{body, delta};
+ghost use Rattle.delta_blob.specs.Patch.{DeltaIs, TypePatch};
+ghost use Rattle.delta_blob.specs.Reads.{IsPatchAt};
+ghost use Rattle.delta_blob.specs.Within.{KeepItems, Within};
 ghost use Rattle.delta_blob.specs.Written.{TypeChange, IsWrittenDelta, header_of, parts_of};
 
 use row_packing::laws::one_packing_of_places;
@@ -28,6 +35,22 @@ pub fn one_delta()
 pub fn each_place()
     ensures body { EachPlace body.Stands body.Stuck }
     ensures delta { EachPlace delta.Stands delta.Stuck }
+{}
+
+/// A header at the start of a blob and the types behind it, up to the end of the blob, are a delta; and a delta begins with its header, behind
+/// which its types stand.
+pub fn header_and_body()
+    ensures items { (blob : List ℕ) (head : Header) (n : ℕ) (parts : List DeltaPart) → HeaderIs blob n head → body.Stands blob n parts (length blob)
+        → delta.Stands blob 0 (head, parts) (length blob) }
+    ensures begins { (blob : List ℕ) (origin destination : ℤ) (patch : List TypePatch) → (is : DeltaIs blob origin destination patch)
+        → (n : ℕ) × HeaderIs blob n is.head × body.Stands blob n is.parts (length blob) }
+{}
+
+/// Behind the header of a delta whose patch names types of a model alone, within the limits of a table, stand types of the model, as
+/// `read_patch` answers them: so a blob of which it answers that there are none is no such delta.
+pub fn parts_of_model()
+    ensures { (blob : List ℕ) (origin destination : ℤ) (patch : List TypePatch) (schemas : List Schema) (table : Table) → (is : DeltaIs blob origin destination patch)
+        → Within schemas table patch → KeepItems is.parts → (n : ℕ) × HeaderIs blob n is.head × ((named : List PatchPart) × IsPatchAt blob n schemas named) }
 {}
 
 /// With as many places as there are ordinals up to the max ordinal, the packed rows of a delta are those of a snapshot.

@@ -1,10 +1,18 @@
 //! Deltas: the blobs that carry what changes from one state to another.
 #![tactic(auto)]
 
+mod added;
 mod changed;
 pub mod laws;
+mod of_model;
+mod ordinals;
 mod part;
+mod patch;
+mod read;
+mod same;
 mod write;
 
-pub use part::{PatchPart, PatchParts, PatchSection};
+pub use part::{DeltaPart, DeltaParts};
+pub use patch::{Patch, PatchPart, PatchParts};
+pub use read::{read_delta, read_patch};
 pub use write::write_delta;

@@ -1,31 +1,23 @@
 //! The types of a delta as they stand in the blob.
-use hol_varint::{GapList, List};
-use schema_model::{Areas, Schema, Widths, Words};
+ghost use Rattle.std.specs.Prelude.{All, IfOk};
+ghost use Rattle.type_state.specs.Patches.{IsWellFormedPatch};
+ghost use Rattle.blob_grammar.specs.Form.{repeated};
+ghost use Rattle.blob_frame.specs.Scene.{IsAbove, Leads};
+ghost use Rattle.delta_blob.specs.Parts.{IsWellFormedPart, body, patch_part, patch_section};
 
-/// One type's part of a delta, as it stands in the blob. The places are those of the added ordinals, in their order.
-#[derive(Debug, Drop)]
-pub struct PatchSection {
-    /// The greatest ordinal that has a place in the state that the delta leads to; none where there is no place.
-    pub max: Option<u32>,
-    /// The widths of the parts of a row, in bits, in the blob's order.
-    pub widths: Widths,
-    /// The number of elements or buckets; 0 for an OBJECT.
-    pub total: u64,
-    /// The words of the records of an OBJECT, else those of the pointers.
-    pub first: Words,
-    /// The words of the elements or buckets; none for an OBJECT.
-    pub second: Words,
-    /// The variable bytes of each field of an OBJECT; none for the other kinds.
-    pub areas: Areas,
-    /// The ordinals that the delta takes away. A blob of another writer may have any numbers here and in the next list.
-    pub removed: GapList,
-    /// The ordinals that it brings.
-    pub added: GapList,
-}
+use crate::added::added_rows;
+use crate::ordinals::ordinals;
+use blob_frame::{BlobFault, Cursor};
+use blob_sections::{PackedRows, TypeHead, max_ordinal, type_head};
+use hol_io::BlobStore;
+use hol_varint::List;
+use schema_model::{Packed, Schema, Shape};
+use std::alloc::Global;
+use type_state::PatchSection;
 
 /// A type as it stands in a delta.
 #[derive(Debug, Drop)]
-pub struct PatchPart {
+pub struct DeltaPart {
     /// The offset of its schema in the blob, in bytes.
     pub at: u64,
     /// Its schema.
@@ -35,4 +27,89 @@ pub struct PatchPart {
 }
 
 /// The types of a delta, in the order of the blob.
-pub type PatchParts = List<PatchPart>;
+pub type DeltaParts = List<DeltaPart>;
+
+// The section of a type of this shape.
+fn section<S: BlobStore>(
+    cursor: &mut Cursor,
+    store: &mut S,
+    shape: &Shape,
+) -> Result<PatchSection, BlobFault>
+    requires over { IsAbove S.seen store.old cursor.old }
+    ensures reads { Leads S.seen (patch_section shape.now) store.old cursor.old store.new cursor.new result }
+    ensures whole { IfOk result (IsWellFormedPatch shape.now) }
+{
+    let max = max_ordinal(cursor, store)?;
+    let removed = ordinals(cursor, store)?;
+    let added = ordinals(cursor, store)?;
+    let rows = added_rows(cursor, store, shape, max, added.len() as u32)?;
+    let PackedRows {
+        widths,
+        total,
+        packed,
+    } = rows;
+    let Packed {
+        first,
+        second,
+        areas,
+    } = packed;
+    Ok(PatchSection {
+        max,
+        widths,
+        total,
+        first,
+        second,
+        areas,
+        removed,
+        added,
+    })
+}
+
+// A type: its head and its section.
+fn delta_part<S: BlobStore>(cursor: &mut Cursor, store: &mut S) -> Result<DeltaPart, BlobFault>
+    requires over { IsAbove S.seen store.old cursor.old }
+    ensures reads { Leads S.seen patch_part store.old cursor.old store.new cursor.new result }
+    ensures whole { IfOk result IsWellFormedPart }
+{
+    let TypeHead { at, schema } = type_head(cursor, store)?;
+    let section = section(cursor, store, &schema.shape)?;
+    Ok(DeltaPart {
+        at,
+        schema,
+        section,
+    })
+}
+
+// So many types.
+fn delta_parts<S: BlobStore>(
+    alloc: Global,
+    cursor: &mut Cursor,
+    store: &mut S,
+    count: u32,
+) -> Result<DeltaParts, BlobFault>
+    requires over { IsAbove S.seen store.old cursor.old }
+    ensures reads { Leads S.seen (repeated count patch_part) store.old cursor.old store.new cursor.new result }
+    ensures whole { IfOk result (All IsWellFormedPart) }
+{
+    let mut list = DeltaParts::new(alloc);
+    for _item in 0..count {
+        list.push(delta_part(cursor, store)?)?;
+    }
+    Ok(list)
+}
+
+/// The types of a delta and the end of the blob behind them.
+pub(crate) fn body<S: BlobStore>(
+    alloc: Global,
+    cursor: &mut Cursor,
+    store: &mut S,
+) -> Result<DeltaParts, BlobFault>
+    requires over { IsAbove S.seen store.old cursor.old }
+    ensures reads { Leads S.seen body store.old cursor.old store.new cursor.new result }
+    ensures whole { IfOk result (All IsWellFormedPart) }
+{
+    let count = cursor.type_count(store)?;
+    let parts = delta_parts(alloc, cursor, store, count)?;
+    cursor.end(store)?;
+    Ok(parts)
+}

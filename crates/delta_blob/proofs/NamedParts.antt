@@ -1,0 +1,48 @@
+-- The types of a delta whose patch names types of a model, within the limits, are parts of the model.
+use Rattle.std.proofs.Common.{◌≡◌, ◌≤◌, ℕ, ℤ, List, [], ◌∷◌, Some, refl, ap, ◌∙◌, subst}
+use Rattle.std.specs.Prelude.{All}
+use Rattle.std.specs.List.{AllZip}
+use Rattle.std.proofs.lemmas.List.Elements.{All-cons, All-head, All-nil, All-tail}
+use Rattle.schema_model.specs.declared.limit.Limit.TheVariants.{Items, Ordinals}
+use Rattle.schema_model.specs.declared.schema.Schema.{Schema}
+use Rattle.schema_model.specs.Limit.{number_of_limit}
+use Rattle.schema_model.specs.Table.{Table}
+use Rattle.type_state.specs.Layout.{Layout, places_of}
+use Rattle.blob_frame.specs.Header.{HeaderIs}
+use Rattle.delta_blob.specs.declared.part.DeltaPart.{DeltaPart}
+use Rattle.delta_blob.specs.declared.patch.PatchPart.{PatchPart}
+use Rattle.delta_blob.specs.Moved.{IsAt}
+use Rattle.delta_blob.specs.Patch.{DeltaIs, PartIs, TypePatch}
+use Rattle.delta_blob.specs.Reads.{IsOfModel, IsPatchAt, KeepsCounts}
+use Rattle.delta_blob.specs.Within.{IsTypeWithin, KeepItems, Within}
+use Rattle.delta_blob.proofs.WholeDeltas.{begins}
+
+abbrev HasFewItems : DeltaPart → Type 0
+HasFewItems part = part.section.total ≤ number_of_limit Items
+
+module _ (schemas : List Schema) (table : Table) where
+  abbrev IsNamed : TypePatch → Type 0
+  IsNamed named = (type_index : ℕ) × IsAt schemas type_index named × IsTypeWithin table type_index named
+
+  parts_named : (parts : List DeltaPart) (patch : List TypePatch) → AllZip PartIs parts patch → All IsNamed patch → All HasFewItems parts
+      → (named : List PatchPart) × AllZip (IsOfModel schemas) parts named × All KeepsCounts parts
+  parts_named [] [] are named items = ([], tt, All-nil KeepsCounts)
+  parts_named (part ∷ parts) (of ∷ patch) are named items =
+      let (index, at, within) = All-head IsNamed of patch named in
+      let (rest, each, counts) = parts_named parts patch are.1 (All-tail IsNamed of patch named) (All-tail HasFewItems part parts items) in
+      let here : PatchPart = record { type_index = index; at = part.at; section = part.section } in
+      let own : IsOfModel schemas part here = record { schema = at ∙ ap Some are.0.schema; at = refl; section = refl } in
+      let keeps : KeepsCounts part = record {
+        ordinals = subst (λ (layout : Layout). places_of layout.max ≤ number_of_limit Ordinals) are.0.layout within.ordinals;
+        items = All-head HasFewItems part parts items;
+      } in
+      (here ∷ rest, (own, each), All-cons KeepsCounts part parts keeps counts)
+  parts_named [] (of ∷ patch) are named items = absurd are
+  parts_named (part ∷ parts) [] are named items = absurd are
+
+pub stands_of_model : (blob : List ℕ) (origin destination : ℤ) (patch : List TypePatch) (schemas : List Schema) (table : Table) → (is : DeltaIs blob origin destination patch) → Within schemas table patch → KeepItems is.parts
+    → (n : ℕ) × HeaderIs blob n is.head × ((named : List PatchPart) × IsPatchAt blob n schemas named)
+stands_of_model blob origin destination patch schemas table is within items =
+    let (n, header, stands) = begins blob origin destination patch is in
+    let (named, each, counts) = parts_named schemas table is.parts patch is.types within items in
+    (n, header, (named, (is.parts, stands, record { once = is.items.once; each = each; counts = counts })))

@@ -1,0 +1,26 @@
+use Rattle.std.proofs.Common.{rules}
+use Rattle.hol_io.specs.Store.{told}
+use Rattle.delta_blob.proofs.PatchTelling.{not_store, on_ok, told_end, told_free, told_parts, told_stop, told_stuck}
+use Rattle.delta_blob.proofs.read.read_patch.Goals as goal
+
+pub returns-in_err-parts-clause-tells : goal.returns-in_err-parts-clause-tells
+returns-in_err-parts-clause-tells g c =
+    told_stop (told (g.S.BlobStore.seen c.args.store.now).held c.args.cursor.now.name) c.args.cursor.now.at _ c.args.model.now _ _ (search rules) c.in_err-parts.ensures.reads.tells
+
+pub returns-clause-tells : goal.returns-clause-tells
+returns-clause-tells g c =
+    told_parts (told (g.S.BlobStore.seen c.args.store.now).held c.args.cursor.now.name) c.args.cursor.now.at _ c.args.model.now c.in_ok-parts.parts c.parts_of.result c.in_ok-parts.ensures.reads.tells c.parts_of.ensures.tells
+
+pub returns-clause-ends : goal.returns-clause-ends
+returns-clause-ends g c = on_ok c.parts_of.result (told_end (told (g.S.BlobStore.seen c.args.store.now).held c.args.cursor.now.name) c.args.cursor.now.at _ c.in_ok-parts.parts c.in_ok-parts.ensures.reads.tells)
+
+pub returns-clause-cause : goal.returns-clause-cause
+returns-clause-cause g c = λ is. absurd (not_store c.args.model.now c.in_ok-parts.parts c.parts_of.result c.parts_of.ensures.tells is)
+
+pub returns-in_err-parts-clause-stuck : goal.returns-in_err-parts-clause-stuck
+returns-in_err-parts-clause-stuck g c =
+    told_stuck (told (g.S.BlobStore.seen c.args.store.now).held c.args.cursor.now.name) c.args.cursor.now.at _ _ _ (search rules) c.in_err-parts.ensures.reads.tells
+
+pub returns-clause-stuck : goal.returns-clause-stuck
+returns-clause-stuck g c =
+    told_free (told (g.S.BlobStore.seen c.args.store.now).held c.args.cursor.now.name) c.args.cursor.now.at _ c.in_ok-parts.parts c.parts_of.result c.in_ok-parts.ensures.reads.tells

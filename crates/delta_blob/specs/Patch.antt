@@ -1,0 +1,52 @@
+-- The patch of a delta: what it changes, by type, and which patch the bytes of a delta are.
+use Rattle.std.specs.Prelude.{◌≡◌, ℕ, ℤ, List, length, map}
+use Rattle.std.specs.List.{AllZip}
+use Rattle.schema_model.specs.declared.model.rule.Rule.TheVariants.{DuplicateName}
+use Rattle.schema_model.specs.declared.rows.row.Row.{Row}
+use Rattle.schema_model.specs.declared.schema.Schema.{Schema}
+use Rattle.schema_model.specs.Model.{IsKept}
+use Rattle.type_state.specs.Layout.{Layout}
+use Rattle.type_state.specs.Patches.{AddsRows, patch_layout}
+use Rattle.blob_frame.specs.declared.header.Header.{Header}
+use Rattle.delta_blob.specs.declared.part.DeltaPart.{DeltaPart}
+use Rattle.delta_blob.specs.Parts.{delta}
+
+-- What a delta changes of a type: its schema, the layout of its new rows, the ordinals that it removes, and those that it adds with the row
+-- of each.
+pub record TypePatch : Type 0 where
+  pub schema : Schema
+  pub layout : Layout
+  pub removed : List ℕ
+  pub added : List ℕ
+  pub rows : List Row
+
+-- The part of a type is that of this patch: it has the schema, the layout and the ordinals, and place k spells the row of the k-th added one.
+pub record PartIs (part : DeltaPart) (patch : TypePatch) : Type 0 where
+  pub schema : patch.schema ≡ part.schema
+  pub layout : patch.layout ≡ patch_layout part.section
+  pub removed : patch.removed ≡ part.section.removed
+  pub added : patch.added ≡ part.section.added
+  pub spelled : AddsRows part.schema.shape part.section patch.rows
+
+-- the schemas of the types
+abbrev pub schemas_in : List DeltaPart → List Schema
+schemas_in parts = map (λ part. part.schema) parts
+
+-- No two types of the parts have one name, and in none a field's name stands twice.
+abbrev pub NamesOnce : List DeltaPart → Type 0
+NamesOnce parts = IsKept (schemas_in parts) DuplicateName
+
+-- The blob has the items of a delta: this header and these parts, of which no two are of types of one name, and none of a type in which a
+-- field's name stands twice.
+pub record DeltaItems (blob : List ℕ) (head : Header) (parts : List DeltaPart) : Type 0 where
+  pub items : delta.Stands blob 0 (head, parts) (length blob)
+  pub once : NamesOnce parts
+
+-- The blob is a delta between these tags of this patch, type by type.
+pub record DeltaIs (blob : List ℕ) (origin destination : ℤ) (patch : List TypePatch) : Type 0 where
+  pub head : Header
+  pub parts : List DeltaPart
+  pub items : DeltaItems blob head parts
+  pub from_tag : head.origin ≡ origin
+  pub to_tag : head.destination ≡ destination
+  pub types : AllZip PartIs parts patch

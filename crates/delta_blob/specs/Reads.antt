@@ -1,0 +1,84 @@
+-- What each answer of the reader of a delta's types tells: from a place behind the header up to the end of the blob, against a model.
+use Rattle.std.specs.Prelude.{◌≡◌, ◌≤◌, ◌<◌, ◌⊎◌, ℕ, ℤ, List, Option, Some, None, Result, Ok, Err, All, length, slice_get, IsErrAnd}
+use Rattle.std.specs.List.{AllZip}
+use Rattle.hol_io.specs.declared.name.BlobName.{BlobName}
+use Rattle.schema_model.specs.declared.limit.Limit.TheVariants.{Blob, Ordinals, Items}
+use Rattle.schema_model.specs.declared.reason.Reason.{Reason}
+use Rattle.schema_model.specs.declared.schema.Schema.{Schema}
+use Rattle.schema_model.specs.Limit.{number_of_limit}
+use Rattle.type_state.specs.Layout.{places_of}
+use Rattle.type_state.specs.Patches.{IsReadablePatch}
+use Rattle.blob_frame.specs.declared.fault.BlobFault.{BlobFault}
+use Rattle.blob_frame.specs.declared.fault.BlobFault.TheVariants as fault
+use Rattle.blob_frame.specs.declared.header.Header.{Header}
+use Rattle.blob_frame.specs.Header.{HeaderIs, StuckInHeader}
+use Rattle.blob_frame.specs.Scene.{IsFree}
+use Rattle.delta_blob.specs.declared.part.DeltaPart.{DeltaPart}
+use Rattle.delta_blob.specs.declared.patch.Patch.{Patch}
+use Rattle.delta_blob.specs.declared.patch.PatchPart.{PatchPart}
+use Rattle.delta_blob.specs.Parts.{body}
+use Rattle.delta_blob.specs.Patch.{NamesOnce}
+
+-- The limits on a type's ordinals, and on its elements or buckets, are kept.
+pub record KeepsCounts (part : DeltaPart) : Type 0 where
+  pub ordinals : places_of part.section.max ≤ number_of_limit Ordinals
+  pub items : part.section.total ≤ number_of_limit Items
+
+-- A type of the delta is this type of the model: it has its schema, and this is its offset and its section.
+pub record IsOfModel (schemas : List Schema) (part : DeltaPart) (named : PatchPart) : Type 0 where
+  pub schema : slice_get schemas named.type_index ≡ Some part.schema
+  pub at : named.at ≡ part.at
+  pub section : named.section ≡ part.section
+
+-- The types of the delta are these of the model: no two have one name, each has the schema of its type, and they keep the limits on ordinals
+-- and items.
+pub record AreOfModel (schemas : List Schema) (parts : List DeltaPart) (named : List PatchPart) : Type 0 where
+  pub once : NamesOnce parts
+  pub each : AllZip (IsOfModel schemas) parts named
+  pub counts : All KeepsCounts parts
+
+-- From this place on the types of a delta stand up to the end of the blob, and they are these of the model.
+abbrev pub IsPatchAt : List ℕ → ℕ → List Schema → List PatchPart → Type 0
+IsPatchAt blob at schemas named = (parts : List DeltaPart) × body.Stands blob at parts (length blob) × AreOfModel schemas parts named
+
+-- No types of the model stand there up to the end of the blob.
+abbrev pub HasNoPatch : List ℕ → ℕ → List Schema → Type 0
+HasNoPatch blob at schemas = (named : List PatchPart) → IsPatchAt blob at schemas named → ⊥
+
+-- What each answer tells of the blob.
+abbrev pub TellsPatch : List ℕ → ℕ → List Schema → Result (List PatchPart) BlobFault → Type 0
+TellsPatch blob at schemas (Ok named) = IsPatchAt blob at schemas named
+TellsPatch blob at schemas (Err (fault.Bad place why)) = HasNoPatch blob at schemas
+TellsPatch blob at schemas (Err (fault.OtherModel of)) = HasNoPatch blob at schemas
+TellsPatch blob at schemas (Err (fault.Large limit)) = HasNoPatch blob at schemas
+TellsPatch blob at schemas (Err fault.Store) = Unit {0}
+TellsPatch blob at schemas (Err fault.Memory) = Unit {0}
+TellsPatch blob at schemas (Err _) = ⊥
+
+-- Where reading the types is stuck at an item the answer is the fault of it, but for the free ones.
+abbrev pub StopsPatch : List ℕ → ℕ → Result (List PatchPart) BlobFault → Type 0
+StopsPatch blob at answer = (place : ℕ) (why : Reason) → body.Stuck blob at place why → (answer ≡ Err (fault.Bad place why)) ⊎ IsErrAnd answer IsFree
+
+-- A type that was read can be moved by, wherever the blob came from: it is one of the model, and its section can be read.
+abbrev pub IsWholePart : List Schema → PatchPart → Type 0
+IsWholePart schemas part = (schema : Schema) × (slice_get schemas part.type_index ≡ Some schema) × IsReadablePatch schema.shape part.section
+
+-- What each answer of the reader of a delta tells of what the store has under its name, where the consumer is at this tag.
+abbrev pub TellsDelta : BlobName → ℤ → List Schema → Option (List ℕ) → Result Patch BlobFault → Type 0
+TellsDelta name current schemas None answer = (answer ≡ Err (fault.NoBlob name)) ⊎ IsErrAnd answer IsFree
+TellsDelta name current schemas (Some blob) (Ok patch) =
+    (head : Header) × (n : ℕ) × HeaderIs blob n head × (head.origin ≡ current) × (head.destination ≡ patch.destination) × (length blob ≡ patch.length)
+    × (length blob ≤ number_of_limit Blob) × IsPatchAt blob n schemas patch.parts
+TellsDelta name current schemas (Some blob) (Err (fault.OtherOrigin found at)) =
+    (head : Header) × (n : ℕ) × HeaderIs blob n head × (length blob ≤ number_of_limit Blob) × (head.origin ≡ found) × (at ≡ current) × (found ≡ current → ⊥)
+TellsDelta name current schemas (Some blob) (Err (fault.Large limit)) =
+    ((limit ≡ Blob) × (number_of_limit Blob < length blob))
+    ⊎ ((head : Header) × (n : ℕ) × HeaderIs blob n head × (length blob ≤ number_of_limit Blob) × (head.origin ≡ current) × HasNoPatch blob n schemas)
+TellsDelta name current schemas (Some blob) (Err (fault.Bad place why)) =
+    ((length blob ≤ number_of_limit Blob) × StuckInHeader blob place why)
+    ⊎ ((head : Header) × (n : ℕ) × HeaderIs blob n head × (length blob ≤ number_of_limit Blob) × (head.origin ≡ current) × HasNoPatch blob n schemas)
+TellsDelta name current schemas (Some blob) (Err (fault.OtherModel of)) =
+    (head : Header) × (n : ℕ) × HeaderIs blob n head × (length blob ≤ number_of_limit Blob) × (head.origin ≡ current) × HasNoPatch blob n schemas
+TellsDelta name current schemas (Some blob) (Err fault.Store) = Unit {0}
+TellsDelta name current schemas (Some blob) (Err fault.Memory) = Unit {0}
+TellsDelta name current schemas (Some blob) (Err _) = ⊥

@@ -1,0 +1,161 @@
+//! The types of a delta, as they stand in the blob, against a model.
+ghost use Rattle.std.specs.Prelude.{◌≡◌, ◌↔◌, ℕ, List, All, Contains, IfErr, IfOk, IsTrue, MatchOption, MatchResult, Some, length, map, slice_get};
+ghost use Rattle.std.specs.List.{AllZip};
+ghost use Rattle.schema_model.specs.Faults.{TellsFault};
+ghost use Rattle.schema_model.specs.Model.{IsModel};
+ghost use Rattle.delta_blob.specs.OfModel.{AreAmong, IsTaken, IsUnlike, Refuses};
+ghost use Rattle.delta_blob.specs.Parts.{IsWellFormedPart};
+ghost use Rattle.delta_blob.specs.Patch.{schemas_in};
+ghost use Rattle.delta_blob.specs.Reads.{AreOfModel, IsWholePart, KeepsCounts};
+ghost use Rattle.delta_blob.specs.declared.patch.PatchPart.{PatchPart};
+
+use crate::part::{DeltaPart, DeltaParts};
+use crate::patch::{PatchPart, PatchParts};
+use crate::same::same_schema;
+use blob_frame::BlobFault;
+use hol_varint::{Duplicate, Ordinals};
+use schema_model::{
+    Limit, MAX_ITEMS, MAX_ORDINALS, Model, ModelFault, Reason, Rule, Schema, Schemas, model_of,
+};
+use std::alloc::{AllocError, Global};
+
+/// The types of a delta as those of a model, within the limits.
+///
+/// `Bad` with `BadSchema` names the first type whose name stands earlier or that has a field twice, `OtherModel` the first one whose schema
+/// is not the model's of its name, `Large` a limit that is passed.
+pub(crate) fn parts_of(
+    alloc: Global,
+    parts: DeltaParts,
+    model: &Model,
+) -> Result<PatchParts, BlobFault>
+    requires { All IsWellFormedPart parts }
+    ensures tells { MatchResult result (AreOfModel model.now parts) (Refuses (List PatchPart) (AreOfModel model.now parts)) }
+    ensures whole { IfOk result (All (IsWholePart model.now)) }
+{
+    let indexes = indexes_of(alloc, parts.as_slice(), model)?;
+    check_counts(parts.as_slice())?;
+    Ok(named_parts(alloc, parts, &indexes)?)
+}
+
+// The index in the model of each type. No two types have one name, and each has the schema of the model.
+fn indexes_of(alloc: Global, parts: &[DeltaPart], model: &Model) -> Result<Ordinals, BlobFault>
+    ensures tells { MatchResult result (AreAmong model.now parts.now) (Refuses (List ℕ) (AreAmong model.now parts.now)) }
+    ensures model { IfOk result (λ indexes. IsModel model.now) }
+{
+    let mut indexes = Ordinals::with_capacity(alloc, model.len() as usize)?;
+    for part in parts {
+        let Some(type_index) = new_index(model, &part.schema, indexes.as_slice()) else {
+            return Err(unlike(alloc, parts, &part.schema));
+        };
+        indexes.push(type_index)?;
+    }
+    Ok(indexes)
+}
+
+// The index of a schema in a model, unless it was taken.
+fn new_index(model: &Model, schema: &Schema, taken: &[u32]) -> Option<u32>
+    ensures { MatchOption result ((index : ℕ) → slice_get model.now index ≡ Some schema.now → Contains taken.now index)
+        (λ index. (slice_get model.now index ≡ Some schema.now) × (Contains taken.now index → ⊥)) }
+{
+    let type_index = model.index_of(schema.name.text())?;
+    if same_schema(model.schema(type_index), schema) && !has_number(taken, type_index) {
+        Some(type_index)
+    } else {
+        None
+    }
+}
+
+// Whether a number is among others.
+fn has_number(numbers: &[u32], number: u32) -> bool
+    ensures { IsTrue result ↔ Contains numbers.now number }
+{
+    numbers.contains(&number)
+}
+
+// The fault of types of which this schema is not that of the model, or stands twice.
+fn unlike(alloc: Global, parts: &[DeltaPart], schema: &Schema) -> BlobFault
+    ensures { IsUnlike parts.now result }
+{
+    if let Err(fault) = check_names(alloc, parts) {
+        return fault;
+    }
+    match schema.name.copy(alloc) {
+        Ok(name) => BlobFault::OtherModel(name),
+        Err(_) => BlobFault::Memory,
+    }
+}
+
+// Tries the names of the types and of their fields, where there are few enough types and fields and no name is too long, as in a blob.
+fn check_names(alloc: Global, parts: &[DeltaPart]) -> Result<(), BlobFault>
+    ensures { IfErr result (IsUnlike parts.now) }
+{
+    let mut schemas = Schemas::new(alloc);
+    for part in parts {
+        schemas.push(part.schema.copy(alloc)?)?;
+    }
+    match model_of(alloc, schemas) {
+        Ok(_) => Ok(()),
+        Err(fault) => names_fault(parts, fault),
+    }
+}
+
+// What a fault of the model of all schemas says of their names. The other rules are not those of a delta.
+fn names_fault(parts: &[DeltaPart], fault: ModelFault) -> Result<(), BlobFault>
+    requires { TellsFault (schemas_in parts.now) fault }
+    ensures { IfErr result (IsUnlike parts.now) }
+{
+    match fault {
+        ModelFault::Broken(rule, type_index) => match rule {
+            Rule::DuplicateName => {
+                Err(BlobFault::Bad(parts[type_index as usize].at, Reason::BadSchema))
+            }
+            _ => Ok(()),
+        },
+        ModelFault::Memory => Err(BlobFault::Memory),
+    }
+}
+
+// Tries in each type the limit on ordinals, and then that on elements or buckets.
+fn check_counts(parts: &[DeltaPart]) -> Result<(), BlobFault>
+    ensures { MatchResult result (λ done. All KeepsCounts parts.now) (Refuses (Unit {0}) (λ done. All KeepsCounts parts.now)) }
+{
+    for part in parts {
+        if part.section.max.is_some_and(|max| max >= MAX_ORDINALS) {
+            return Err(BlobFault::Large(Limit::Ordinals));
+        }
+        if part.section.total > MAX_ITEMS {
+            return Err(BlobFault::Large(Limit::Items));
+        }
+    }
+    Ok(())
+}
+
+// The types under their indexes.
+fn named_parts(
+    alloc: Global,
+    parts: DeltaParts,
+    indexes: &Ordinals,
+) -> Result<PatchParts, AllocError>
+    requires { length indexes.now ≡ length parts }
+    ensures taken { IfOk result (AllZip IsTaken parts) }
+    ensures indexes { IfOk result (λ named. map (λ part. part.type_index) named ≡ indexes.now) }
+{
+    let mut named = PatchParts::with_capacity(alloc, parts.len())?;
+    for part in parts.into_vec() {
+        let type_index = *indexes.get(named.len());
+        named.push(named_part(part, type_index))?;
+    }
+    Ok(named)
+}
+
+// The type under its index.
+fn named_part(part: DeltaPart, type_index: u32) -> PatchPart
+    ensures taken { IsTaken part result }
+    ensures index { result.type_index ≡ type_index }
+{
+    PatchPart {
+        type_index,
+        at: part.at,
+        section: part.section,
+    }
+}
