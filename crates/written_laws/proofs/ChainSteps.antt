@@ -6,12 +6,12 @@ use Rattle.hol_io.specs.declared.name.BlobName.TheVariants.{Snapshot, Delta, Rev
 use Rattle.hol_io.specs.Store.{Store}
 use Rattle.schema_model.specs.declared.schema.Schema.{Schema}
 use Rattle.written_laws.specs.Chain.{Chain, ChainState, HasVersion, IsChain}
-use Rattle.written_laws.specs.Delta.{KeepItems, LeadsTo}
-use Rattle.written_laws.specs.Fits.{Fits}
+use Rattle.written_laws.specs.Delta.{LeadsTo}
+use Rattle.delta_blob.specs.Fits.{Fits}
 use Rattle.written_laws.specs.HoldsChain.{HoldsChain, IsStep, LeadsOn}
-use Rattle.written_laws.specs.Moved.{Moved}
-use Rattle.written_laws.specs.Patch.{TypePatch, DeltaIs}
-use Rattle.written_laws.specs.Within.{Within}
+use Rattle.delta_blob.specs.Moved.{Moved}
+use Rattle.delta_blob.specs.Patch.{TypePatch, DeltaIs}
+use Rattle.delta_blob.specs.Within.{KeepItems, Within}
 use Rattle.written_laws.proofs.PatchOnce.{patch_once, parts_once}
 
 -- one state stands under a version

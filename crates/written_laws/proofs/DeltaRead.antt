@@ -9,27 +9,28 @@ use Rattle.hol_varint.specs.Varint.{varint_bytes}
 use Rattle.schema_model.specs.declared.model.rule.Rule.TheVariants.{DuplicateName}
 use Rattle.schema_model.specs.declared.schema.Schema.{Schema}
 use Rattle.schema_model.specs.Model.{IsKept}
-use Rattle.schema_model.specs.Table.{Table, row_at}
+use Rattle.schema_model.specs.Table.{Table}
+use Rattle.row_walk.specs.BothStates.{rows_in}
 use Rattle.row_packing.proofs.Greatest.{all_gives, all_images}
 use Rattle.blob_frame.specs.Written.{header_bytes}
 use Rattle.section_writing.specs.Placed.{placed}
 use Rattle.section_writing.proofs.ListLength.{header_long}
 use Rattle.snapshot_blob.proofs.Zipped.{zip_right, zip_second}
-use Rattle.delta_blob.specs.declared.part.PatchPart.{PatchPart}
+use Rattle.delta_blob.specs.declared.part.DeltaPart.{DeltaPart}
 use Rattle.delta_blob.specs.Changes.{IsChangeOf, IsDeltaBetween}
 use Rattle.delta_blob.specs.Written.{TypeChange, IsCarried, IsWrittenDelta, change_bytes, header_of, part_of, schemas_of}
 use Rattle.delta_blob.proofs.ChangedTypes.{all_below}
 use Rattle.delta_blob.proofs.SpelledDeltas.{delta_stands}
 use Rattle.written_laws.specs.Delta.{LeadsTo}
-use Rattle.written_laws.specs.Fits.{FitsOrdinals, HoldsTable}
-use Rattle.written_laws.specs.Moved.{EachNamed, IsAt, IsUnnamed, Moved, MovesType}
-use Rattle.written_laws.specs.Patch.{TypePatch, PartIs}
+use Rattle.delta_blob.specs.Fits.{FitsTable, HoldsTable}
+use Rattle.delta_blob.specs.Moved.{EachNamed, IsAt, IsUnnamed, Moved, MovesType}
+use Rattle.delta_blob.specs.Patch.{TypePatch, PartIs}
 use Rattle.written_laws.specs.States.{AreStates}
-use Rattle.written_laws.specs.Within.{IsTypeWithin}
+use Rattle.delta_blob.specs.Within.{IsTypeWithin}
 use Rattle.written_laws.proofs.Beside.{at_index, each_pair, each_short, placed_alike, placed_all, placed_beside, placed_seconds}
 use Rattle.written_laws.proofs.Carrying.{few_schemas}
 use Rattle.written_laws.proofs.DeltaTypes.{patch_of, change_carried, few_items, new_held, new_within, ordinals_fit, part_is, rows_move}
-use Rattle.written_laws.proofs.Gone.{unchanged_row}
+use Rattle.written_laws.proofs.Gone.{unchanged_rows}
 use Rattle.written_laws.proofs.NamedOnce.{few_rising, named_once}
 
 module _ (schemas : List Schema) (old new : Table) (are : AreStates schemas old new) (origin destination : ℤ) (blob : List ℕ) (from : FitsSigned w64 origin) (to : FitsSigned w64 destination)
@@ -50,7 +51,7 @@ module _ (schemas : List Schema) (old new : Table) (are : AreStates schemas old 
   abbrev start : ℕ
   start = length front + length (varint_bytes (length is.changes))
 
-  abbrev parts : List PatchPart
+  abbrev parts : List DeltaPart
   parts = placed change_bytes part_of is.changes start
 
   abbrev patch : List TypePatch
@@ -97,7 +98,7 @@ module _ (schemas : List Schema) (old new : Table) (are : AreStates schemas old 
 
   parts_are : AllZip PartIs parts patch
   parts_are =
-      subst (λ (ps : List PatchPart). AllZip PartIs ps patch) (placed_seconds (IsChangeOf schemas old new) change_bytes part_of types is.changes is.are.carried start)
+      subst (λ (ps : List DeltaPart). AllZip PartIs ps patch) (placed_seconds (IsChangeOf schemas old new) change_bytes part_of types is.changes is.are.carried start)
       (placed_beside Changes PartIs (λ entry. change_bytes entry.1) (λ entry at. part_of entry.1 at) (patch_of new) (λ entry at of. part_is schemas old new are entry of at) entries change start)
 
   each_named : (P : ℕ → TypePatch → Type 0) → ((entry : ℕ × TypeChange) → Changes entry → P entry.0 (patch_of new entry)) → EachNamed schemas patch P
@@ -105,9 +106,9 @@ module _ (schemas : List Schema) (old new : Table) (are : AreStates schemas old 
       let Of = λ (named : TypePatch). (type_index : ℕ) × IsAt schemas type_index named × P type_index named in
       All-map Of (patch_of new) entries (all_gives Changes (λ entry. Of (patch_of new entry)) entries (λ entry of. (entry.0, of.schema, each entry of)) change)
 
-  stays : (type_index ordinal : ℕ) → type_index < length schemas → IsUnnamed schemas patch type_index → row_at new type_index ordinal ≡ row_at old type_index ordinal
-  stays type_index ordinal inside unnamed =
-      unchanged_row old new type_index ordinal (are.together.agree type_index inside)
+  stays : (type_index : ℕ) → type_index < length schemas → IsUnnamed schemas patch type_index → rows_in new type_index ≡ rows_in old type_index
+  stays type_index inside unnamed =
+      unchanged_rows old new type_index (are.together.agree type_index inside)
       (λ changed.
       let none = all_images (λ named. IsAt schemas type_index named → ⊥) (patch_of new) entries unnamed in
       let (c, of, not) = at_index (IsChangeOf schemas old new) (λ entry. IsAt schemas type_index (patch_of new entry) → ⊥) types is.changes is.are.carried none type_index
@@ -133,7 +134,7 @@ module _ (schemas : List Schema) (old new : Table) (are : AreStates schemas old 
       types = parts_are;
     };
     fits = record {
-      ordinals = each_named (FitsOrdinals old) (ordinals_fit schemas old new are);
+      ordinals = each_named (FitsTable old) (ordinals_fit schemas old new are);
       moved = new;
       moves = moved;
       closed = are.after.closed;

@@ -1,6 +1,7 @@
 -- Lemmas on a type of a delta that is written: it can be carried, it is read as its part, and the patch of that part leads from the old rows to the new ones.
-use Rattle.std.proofs.Common.{◌≡◌, ◌≤◌, ◌<◌, ◌*◌, ◌^◌, ℕ, List, ◌++◌, length, refl, ap, ◌∙◌, sym, subst, inl, inr, arith, length-append}
-use Rattle.std.specs.Prelude.{All, Contains}
+use Rattle.std.proofs.Common.{◌≡◌, ◌≤◌, ◌<◌, ◌*◌, ◌^◌, ℕ, List, ◌++◌, length, None, refl, ap, ◌∙◌, sym, subst, inl, inr, arith, length-append}
+use Rattle.std.specs.Prelude.{All, Contains, IsSome, is_some}
+use Rattle.std.specs.FinMap.{get}
 use Rattle.std.proofs.lemmas.List.{length-map}
 use Rattle.bit_array.specs.Element.{words_of}
 use Rattle.ordinal_set.specs.Gaps.{gap_bytes}
@@ -9,8 +10,10 @@ use Rattle.schema_model.specs.declared.schema.Schema.{Schema}
 use Rattle.schema_model.specs.declared.schema.Shape.{Shape}
 use Rattle.schema_model.specs.Table.{Table, IsLive, row_at}
 use Rattle.row_walk.specs.BothStates.{rows_in, rows_of_both}
+use Rattle.row_walk.proofs.RowsFrom.{get_in}
 use Rattle.type_state.specs.Holds.{Holds}
 use Rattle.type_state.specs.Layout.{place_bits, places_of}
+use Rattle.type_state.specs.Patches.{places_in}
 use Rattle.type_state.specs.WellFormed.{AreWidths}
 use Rattle.row_packing.specs.declared.chosen.Chosen.{Chosen}
 use Rattle.row_packing.specs.Chosen.{shape_at, chosen_total, chosen_widths}
@@ -26,11 +29,11 @@ use Rattle.section_writing.specs.Written.{max_bytes, packed_bytes, type_head_byt
 use Rattle.delta_blob.specs.Changes.{IsChangeOf, gone}
 use Rattle.delta_blob.specs.Written.{TypeChange, AreGaps, IsCarried, change_bytes, part_of}
 use Rattle.delta_blob.proofs.WrittenOnce.{all_of, gone_live}
-use Rattle.written_laws.specs.Fits.{FitsOrdinals, HoldsTable}
-use Rattle.written_laws.specs.Moved.{MovesType}
-use Rattle.written_laws.specs.Patch.{TypePatch, PartIs, places_in}
+use Rattle.delta_blob.specs.Fits.{FitsTable, HoldsTable}
+use Rattle.delta_blob.specs.Moved.{MovesType}
+use Rattle.delta_blob.specs.Patch.{TypePatch, PartIs}
 use Rattle.written_laws.specs.States.{AreStates}
-use Rattle.written_laws.specs.Within.{IsTypeWithin}
+use Rattle.delta_blob.specs.Within.{IsTypeWithin}
 use Rattle.written_laws.proofs.Carrying.{both_are, both_stored, can_write, has_parts, limits_kept, shape_here, small_max, spellable_at, texts_at}
 use Rattle.written_laws.proofs.ChosenLayout.{chosen_holds, chosen_wide, has_place, packed_enough}
 use Rattle.written_laws.proofs.Gone.{as_many_rows, dead_row, gone_dead, kept_row, ordinal_there, row_there, rows_under}
@@ -147,29 +150,37 @@ module _ (schemas : List Schema) (old new : Table) (are : AreStates schemas old 
     layout = refl;
     removed = refl;
     added = refl;
-    each = as_many_rows new entry.0 entry.1.added come.live;
-    spelled = λ place row there.
-        let (ordinal, listed, found) = ordinal_there new entry.0 entry.1.added come.live place row there in
-        let packed : ArePacked shape new entry.0 chosen entry.1.added (places_in (part_of entry.1 at)) = record { widths = refl; total = refl; packed = packs } in
-        law.places_spell shape new entry.0 chosen entry.1.added (places_in (part_of entry.1 at)) place ordinal row can come packed listed found;
+    spelled = record {
+      each = as_many_rows new entry.0 entry.1.added come.live;
+      spelled = λ place row there.
+          let (ordinal, listed, found) = ordinal_there new entry.0 entry.1.added come.live place row there in
+          let places = places_in (part_of entry.1 at).section in
+          let packed : ArePacked shape new entry.0 chosen entry.1.added places = record { widths = refl; total = refl; packed = packs } in
+          law.places_spell shape new entry.0 chosen entry.1.added places place ordinal row can come packed listed found;
+    };
   }
 
-  pub ordinals_fit : FitsOrdinals old entry.0 (patch_of new entry)
+  pub ordinals_fit : FitsTable old entry.0 (patch_of new entry)
   ordinals_fit = record {
     removed_rise = go.rising;
-    removed_live = go.live;
+    removed_live = all_gives (IsLive old entry.0) (λ ordinal. IsSome (get (rows_in old entry.0) ordinal)) entry.1.removed (λ ordinal live. ap is_some (get_in old entry.0 ordinal) ∙ live) go.live;
     added_rise = come.rising;
     added_placed = all_gives (IsLive new entry.0) (λ ordinal. ordinal < places_of entry.1.max) entry.1.added (has_place old new entry.0 entry.1.max is.chosen.max) come.live;
-    added_free = subst (All (λ ordinal. IsLive old entry.0 ordinal → ⊥)) (sym is.added) (all_of (λ ordinal. IsLive old entry.0 ordinal → ⊥) (gone new old entry.0) (gone_dead new old entry.0));
+    added_free = subst (All (λ ordinal. get (rows_in old entry.0) ordinal ≡ None)) (sym is.added)
+        (all_of (λ ordinal. get (rows_in old entry.0) ordinal ≡ None) (gone new old entry.0)
+        (λ ordinal comes. get_in old entry.0 ordinal ∙ dead_row (row_at old entry.0 ordinal) (gone_dead new old entry.0 ordinal comes)));
   }
 
   pub rows_move : MovesType old new entry.0 (patch_of new entry)
   rows_move = record {
-    removed = λ ordinal goes. dead_row (row_at new entry.0 ordinal) (gone_dead old new entry.0 ordinal (subst (λ (os : List ℕ). Contains os ordinal) is.removed goes));
-    added = row_there new entry.0 entry.1.added come.live;
+    gone = λ ordinal goes.
+        get_in new entry.0 ordinal
+        ∙ dead_row (row_at new entry.0 ordinal) (gone_dead old new entry.0 ordinal (subst (λ (os : List ℕ). Contains os ordinal) is.removed goes));
+    came = λ place ordinal at. get_in new entry.0 ordinal ∙ row_there new entry.0 entry.1.added come.live place ordinal at;
     kept = λ ordinal stays old_one.
-        kept_row old new entry.0 ordinal both.agree (λ goes. stays (subst (λ (os : List ℕ). Contains os ordinal) (sym is.removed) goes))
-        (λ comes. old_one (subst (λ (os : List ℕ). Contains os ordinal) (sym is.added) comes));
+        get_in new entry.0 ordinal
+        ∙ kept_row old new entry.0 ordinal both.agree (λ goes. stays (subst (λ (os : List ℕ). Contains os ordinal) (sym is.removed) goes))
+        (λ comes. old_one (subst (λ (os : List ℕ). Contains os ordinal) (sym is.added) comes)) ∙ sym (get_in old entry.0 ordinal);
   }
 
   pub new_held : HoldsTable new entry.0 (patch_of new entry)

@@ -1,7 +1,8 @@
 -- Lemmas on the ordinals that one state has and another lacks, and on the rows of both.
 use Rattle.std.proofs.Common.{◌≡◌, ◌⊎◌, ℕ, List, [], ◌∷◌, true, false, length, map, Option, Some, None, refl, sym, ap, ◌∙◌, subst, inl, inr}
 use Rattle.std.specs.Prelude.{All, Contains, IsSome, is_some, not, option_map, slice_get, ◌==◌}
-use Rattle.std.specs.FinMap.{get, keys}
+use Rattle.std.specs.Cmp.{nat_cmp_total}
+use Rattle.std.specs.FinMap.{get, keys, nat_cmp-IsAntisymmetric, same_map}
 use Rattle.std.specs.List.{cons_option, filter_map, list_any}
 use Rattle.std.proofs.lemmas.Bool.{cases_Bool, eq-eqb, eqb-true}
 use Rattle.std.proofs.lemmas.List.{length-map}
@@ -82,10 +83,14 @@ kept_row old new index ordinal agree stays old_one =
     alike old new index ordinal agree (λ live dead. stays (dead_gone old new index ordinal live dead)) (λ live dead. old_one (dead_gone new old index ordinal live dead))
 
 -- a type that is not changed keeps its rows
-pub unchanged_row : (old new : Table) (index ordinal : ℕ) → Agree old new index → (IsChanged old new index → ⊥) → row_at new index ordinal ≡ row_at old index ordinal
-unchanged_row old new index ordinal agree same =
-    alike old new index ordinal agree (λ live dead. same (λ one. dead (ap is_some (sym (row_in old new index ordinal one)) ∙ live)))
-    (λ live dead. same (λ one. dead (ap is_some (row_in old new index ordinal one) ∙ live)))
+pub unchanged_rows : (old new : Table) (index : ℕ) → Agree old new index → (IsChanged old new index → ⊥) → rows_in new index ≡ rows_in old index
+unchanged_rows old new index agree same =
+    same_map nat_cmp_total nat_cmp-IsAntisymmetric (rows_in new index) (rows_in old index) (λ ordinal. get_in new index ordinal ∙ row ordinal ∙ sym (get_in old index ordinal))
+  where
+    row : (ordinal : ℕ) → row_at new index ordinal ≡ row_at old index ordinal
+    row ordinal =
+        alike old new index ordinal agree (λ live dead. same (λ one. dead (ap is_some (sym (row_in old new index ordinal one)) ∙ live)))
+        (λ live dead. same (λ one. dead (ap is_some (row_in old new index ordinal one) ∙ live)))
 
 -- ---- the rows under ordinals that are live
 

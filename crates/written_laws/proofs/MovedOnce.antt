@@ -1,35 +1,39 @@
 -- A patch moves a table to one table.
 use Rattle.std.proofs.Common.{◌≡◌, ◌<◌, ◌⊎◌, ℕ, suc, List, [], ◌∷◌, length, Some, inl, inr, refl, sym, ap, ◌∙◌, subst, arith}
 use Rattle.std.specs.Cmp.{nat_cmp_total}
-use Rattle.std.specs.FinMap.{nat_cmp-IsAntisymmetric, same_map}
+use Rattle.std.specs.FinMap.{get, nat_cmp-IsAntisymmetric, same_map}
 use Rattle.std.proofs.lemmas.Bool.{cases_eq}
 use Rattle.std.proofs.lemmas.List.Elements.{All-cons, All-head, All-nil, All-tail}
 use Rattle.std.proofs.lemmas.Option.{slice_get-get_or}
 use Rattle.schema_model.specs.declared.model.rule.Rule.TheVariants.{DuplicateName}
+use Rattle.schema_model.specs.declared.rows.row.Row.{Row}
 use Rattle.schema_model.specs.declared.schema.Schema.{Schema}
 use Rattle.schema_model.specs.Model.{IsKept}
-use Rattle.schema_model.specs.Table.{Table, row_at}
+use Rattle.schema_model.specs.Table.{Table, RowMap}
 use Rattle.row_walk.specs.BothStates.{rows_in}
-use Rattle.row_walk.proofs.RowsFrom.{get_in}
-use Rattle.written_laws.specs.Moved.{EachNamed, IsAt, IsUnnamed, Moved, MovesType}
-use Rattle.written_laws.specs.Patch.{TypePatch}
+use Rattle.type_state.specs.Patches.{MovesRows}
+use Rattle.delta_blob.specs.Moved.{EachNamed, IsAt, IsUnnamed, Moved, MovesType}
+use Rattle.delta_blob.specs.Patch.{TypePatch}
+use Rattle.delta_blob.proofs.Indexed.{one_index}
 use Rattle.written_laws.proofs.Gone.{contained_or}
-use Rattle.written_laws.proofs.NamedOnce.{one_index}
 
--- the rows of a type that a patch names
-named_row : (old a b : Table) (index ordinal : ℕ) (patch : TypePatch) → MovesType old a index patch → MovesType old b index patch → row_at a index ordinal ≡ row_at b index ordinal
-named_row old a b index ordinal patch one other =
-    elim (contained_or patch.removed ordinal) [
-      | inl goes ↦ one.removed ordinal goes ∙ sym (other.removed ordinal goes)
-      | inr stays ↦
-          elim (contained_or patch.added ordinal) [
-            | inl comes ↦
-                let (k, within, same) = comes in
-                let at = slice_get-get_or patch.added k ordinal within ∙ ap Some same in
-                one.added k ordinal at ∙ sym (other.added k ordinal at)
-            | inr old_one ↦ one.kept ordinal stays old_one ∙ sym (other.kept ordinal stays old_one)
-          ]
-    ]
+-- rows are moved to the same ones
+one_move : (old a b : RowMap) (removed added : List ℕ) (rows : List Row) → MovesRows old a removed added rows → MovesRows old b removed added rows → a ≡ b
+one_move old a b removed added rows one other = same_map nat_cmp_total nat_cmp-IsAntisymmetric a b row
+  where
+    row : (ordinal : ℕ) → get a ordinal ≡ get b ordinal
+    row ordinal =
+        elim (contained_or removed ordinal) [
+          | inl goes ↦ one.gone ordinal goes ∙ sym (other.gone ordinal goes)
+          | inr stays ↦
+              elim (contained_or added ordinal) [
+                | inl comes ↦
+                    let (k, within, same) = comes in
+                    let at = slice_get-get_or added k ordinal within ∙ ap Some same in
+                    one.came k ordinal at ∙ sym (other.came k ordinal at)
+                | inr old_one ↦ one.kept ordinal stays old_one ∙ sym (other.kept ordinal stays old_one)
+              ]
+        ]
 
 module _ (schemas : List Schema) (apart : IsKept schemas DuplicateName) (P Q : ℕ → TypePatch → Type 0) where
   -- what a patch names a type by, or that it does not
@@ -61,14 +65,11 @@ same_tables (x ∷ xs) (y ∷ ys) long each =
 
 pub moved_once : (schemas : List Schema) (patch : List TypePatch) (old a b : Table) → IsKept schemas DuplicateName → length old ≡ length schemas → Moved schemas patch old a → Moved schemas patch old b → a ≡ b
 moved_once schemas patch old a b apart long one other =
-    same_tables a b (one.types ∙ sym other.types)
-    (λ index inside.
-    same_map nat_cmp_total nat_cmp-IsAntisymmetric (rows_in a index) (rows_in b index)
-    (λ ordinal. get_in a index ordinal ∙ row index ordinal (omega (arith, inside, one.types, long)) ∙ sym (get_in b index ordinal)))
+    same_tables a b (one.types ∙ sym other.types) (λ index inside. rows index (omega (arith, inside, one.types, long)))
   where
-    row : (index ordinal : ℕ) → index < length schemas → row_at a index ordinal ≡ row_at b index ordinal
-    row index ordinal inside =
+    rows : (index : ℕ) → index < length schemas → rows_in a index ≡ rows_in b index
+    rows index inside =
         elim (named_or schemas apart (MovesType old a) (MovesType old b) patch one.named other.named index) [
-          | inl named ↦ named_row old a b index ordinal named.0 named.1 named.2
-          | inr unnamed ↦ one.others index ordinal inside unnamed ∙ sym (other.others index ordinal inside unnamed)
+          | inl named ↦ one_move (rows_in old index) (rows_in a index) (rows_in b index) named.0.removed named.0.added named.0.rows named.1 named.2
+          | inr unnamed ↦ one.others index inside unnamed ∙ sym (other.others index inside unnamed)
         ]

@@ -1,36 +1,17 @@
 -- Lemmas on schemas that stand in a model at rising indexes: no name stands twice among them, and there are few.
-use Rattle.std.proofs.Common.{◌≡◌, ◌<◌, ◌≤◌, ℕ, zero, suc, List, [], ◌∷◌, take, get_or, length, Some, refl, sym, ap, ◌∙◌, subst, inl, inr, arith}
-use Rattle.std.specs.Prelude.{All, option_map, slice_get}
+use Rattle.std.proofs.Common.{◌≡◌, ◌<◌, ◌≤◌, ℕ, zero, suc, List, [], take, get_or, length, Some, sym, ◌∙◌, inl, inr, arith}
+use Rattle.std.specs.Prelude.{All, slice_get}
 use Rattle.std.specs.List.{AllZip}
 use Rattle.std.proofs.lemmas.Bool.{cases_lt}
 use Rattle.std.proofs.lemmas.List.{get_or-take, get_or_default, length-take}
-use Rattle.std.proofs.lemmas.Option.{get_or_from_slice_get, slice_get-get_or, slice_get-map, slice_get_within}
+use Rattle.std.proofs.lemmas.Option.{get_or_from_slice_get, slice_get-get_or, slice_get_within}
 use Rattle.schema_model.specs.declared.model.rule.Rule.TheVariants.{DuplicateName}
 use Rattle.schema_model.specs.declared.schema.Schema.{Schema}
 use Rattle.schema_model.specs.Model.{IsKept, StandsEarlier}
-use Rattle.schema_model.specs.Parts.{index_of_type, type_names}
+use Rattle.schema_model.specs.Parts.{type_names}
 use Rattle.schema_model.specs.Row.{Rises}
 use Rattle.schema_model.proofs.Indexing.{item_name}
-use Rattle.schema_model.proofs.ModelFacts.{index_at}
-
--- what stands beside one of a list
-pub beside_at : {X Y : Type 0} (R : X → Y → Type 0) (xs : List X) (ys : List Y) (k : ℕ) (y : Y) → AllZip R xs ys → slice_get ys k ≡ Some y → (x : X) × (slice_get xs k ≡ Some x) × R x y
-beside_at R [] [] k y r at = absurd cc
-beside_at R (x ∷ xs) (z ∷ ys) zero y r at = let same : z ≡ y = cc in (x, refl, subst (R x) same r.0)
-beside_at R (x ∷ xs) (z ∷ ys) (suc k) y r at = beside_at R xs ys k y r.1 at
-beside_at R [] (z ∷ ys) k y r at = absurd r
-beside_at R (x ∷ xs) [] k y r at = absurd r
-
--- the index of a type in the model, by its name
-index_is : (schemas : List Schema) → IsKept schemas DuplicateName → (index : ℕ) (schema : Schema) → slice_get schemas index ≡ Some schema → index_of_type schemas schema.name ≡ Some index
-index_is schemas apart index schema at =
-    (index_at schemas schema.name apart index).1 (slice_get-map (λ (s : Schema). s.name) schemas index ∙ ap (option_map (λ (s : Schema). s.name)) at)
-
--- types of one name stand at one index
-pub one_index : (schemas : List Schema) → IsKept schemas DuplicateName → (i j : ℕ) (a b : Schema) → slice_get schemas i ≡ Some a → slice_get schemas j ≡ Some b → a.name ≡ b.name → i ≡ j
-one_index schemas apart i j a b at_i at_j name =
-    let one : Some i ≡ Some j = sym (index_is schemas apart i a at_i) ∙ ap (index_of_type schemas) name ∙ index_is schemas apart j b at_j in
-    cc
+use Rattle.delta_blob.proofs.Indexed.{one_index, zip_beside}
 
 module _ (schemas : List Schema) (apart : IsKept schemas DuplicateName) (indexes : List ℕ) (rises : Rises indexes) (listed : List Schema)
     (are : AllZip (λ index schema. slice_get schemas index ≡ Some schema) indexes listed) where
@@ -45,8 +26,8 @@ module _ (schemas : List Schema) (apart : IsKept schemas DuplicateName) (indexes
       let its = item_name (λ (s : Schema). s.name) listed k other there in
       let name : other.name ≡ schema.name =
       sym its ∙ sym (get_or-take t names k [] below) ∙ get_or_default (take t names) k [] (get_or names t []) inside ∙ same ∙ own in
-      let (i, at_i, is_i) = beside_at (λ index one. slice_get schemas index ≡ Some one) indexes listed t schema are at in
-      let (j, at_j, is_j) = beside_at (λ index one. slice_get schemas index ≡ Some one) indexes listed k other are there in
+      let (i, at_i, is_i) = zip_beside (λ index one. slice_get schemas index ≡ Some one) indexes listed t schema are at in
+      let (j, at_j, is_j) = zip_beside (λ index one. slice_get schemas index ≡ Some one) indexes listed k other are there in
       let rising = rises k t 0 below (slice_get_within indexes t i at_i) in
       let equal = one_index schemas apart j i other schema is_j is_i name in
       absurd (omega (arith, rising, equal, get_or_from_slice_get indexes k j 0 at_j, get_or_from_slice_get indexes t i 0 at_i))
@@ -54,7 +35,7 @@ module _ (schemas : List Schema) (apart : IsKept schemas DuplicateName) (indexes
   pub named_once : IsKept listed DuplicateName
   named_once t (schema, at, inl again) = first_there t schema at again
   named_once t (schema, at, inr field) =
-      let (i, at_i, is_i) = beside_at (λ index one. slice_get schemas index ≡ Some one) indexes listed t schema are at in
+      let (i, at_i, is_i) = zip_beside (λ index one. slice_get schemas index ≡ Some one) indexes listed t schema are at in
       apart i (schema, is_i, inr field)
 
 -- numbers that rise are not below their places

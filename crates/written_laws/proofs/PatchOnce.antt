@@ -3,12 +3,13 @@ use Rattle.std.proofs.Common.{◌≡◌, ℕ, ℤ, suc, List, [], ◌∷◌, len
 use Rattle.std.specs.Prelude.{slice_get}
 use Rattle.std.specs.List.{AllZip}
 use Rattle.schema_model.specs.declared.rows.row.Row.{Row}
+use Rattle.type_state.specs.Patches.{places_in}
 use Rattle.type_state.proofs.Loading.{one_row}
 use Rattle.blob_frame.specs.declared.header.Header.{Header}
 use Rattle.snapshot_blob.proofs.Zipped.{zip_once}
-use Rattle.delta_blob.specs.declared.part.PatchPart.{PatchPart}
+use Rattle.delta_blob.specs.declared.part.DeltaPart.{DeltaPart}
 use Rattle.delta_blob.specs.Parts.{delta}
-use Rattle.written_laws.specs.Patch.{TypePatch, DeltaIs, PartIs, places_in}
+use Rattle.delta_blob.specs.Patch.{TypePatch, DeltaIs, PartIs}
 
 -- lists of rows that are the same at each place
 same_rows : (xs ys : List Row) → length xs ≡ length ys → ((k : ℕ) (x y : Row) → slice_get xs k ≡ Some x → slice_get ys k ≡ Some y → x ≡ y) → xs ≡ ys
@@ -20,27 +21,27 @@ same_rows (x ∷ xs) (y ∷ ys) long each =
     let rest = same_rows xs ys (omega (arith, long)) (λ k. each (suc k)) in
     λ i. one i ∷ rest i
 
-part_once : (part : PatchPart) (p q : TypePatch) → PartIs part p → PartIs part q → p ≡ q
+part_once : (part : DeltaPart) (p q : TypePatch) → PartIs part p → PartIs part q → p ≡ q
 part_once part p q one other =
     let schema = one.schema ∙ sym other.schema in
     let layout = one.layout ∙ sym other.layout in
     let removed = one.removed ∙ sym other.removed in
     let added = one.added ∙ sym other.added in
-    let long = one.each ∙ ap (λ (os : List ℕ). length os) added ∙ sym other.each in
-    let rows = same_rows p.rows q.rows long (λ k x y at_x at_y. (one_row part.schema.shape (places_in part)).once k x y (one.spelled k x at_x) (other.spelled k y at_y)) in
+    let long = one.spelled.each ∙ sym other.spelled.each in
+    let rows = same_rows p.rows q.rows long (λ k x y at_x at_y. (one_row part.schema.shape (places_in part.section)).once k x y (one.spelled.spelled k x at_x) (other.spelled.spelled k y at_y)) in
     λ i. record { schema = schema i; layout = layout i; removed = removed i; added = added i; rows = rows i }
 
 module _ (blob : List ℕ) (a b c d : ℤ) (p q : List TypePatch) (one : DeltaIs blob a b p) (other : DeltaIs blob c d q) where
-  same_items : ◌≡◌ {A = Header × List PatchPart} (one.head, one.parts) (other.head, other.parts)
+  same_items : ◌≡◌ {A = Header × List DeltaPart} (one.head, one.parts) (other.head, other.parts)
   same_items = (delta.decided.one blob 0 (one.head, one.parts) (other.head, other.parts) (length blob) (length blob) one.items.items other.items.items).0
 
   pub parts_once : one.parts ≡ other.parts
-  parts_once = ap (λ (v : Header × List PatchPart). v.1) same_items
+  parts_once = ap (λ (v : Header × List DeltaPart). v.1) same_items
 
   pub patch_once : (a ≡ c) × (b ≡ d) × (p ≡ q)
   patch_once =
-      let head : one.head ≡ other.head = ap (λ (v : Header × List PatchPart). v.0) same_items in (
+      let head : one.head ≡ other.head = ap (λ (v : Header × List DeltaPart). v.0) same_items in (
         sym one.from_tag ∙ ap (λ (h : Header). h.origin) head ∙ other.from_tag,
         sym one.to_tag ∙ ap (λ (h : Header). h.destination) head ∙ other.to_tag,
-        zip_once PartIs part_once one.parts p q one.types (subst (λ (ps : List PatchPart). AllZip PartIs ps q) (sym parts_once) other.types),
+        zip_once PartIs part_once one.parts p q one.types (subst (λ (ps : List DeltaPart). AllZip PartIs ps q) (sym parts_once) other.types),
       )

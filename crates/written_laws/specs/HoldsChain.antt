@@ -10,12 +10,12 @@ use Rattle.schema_model.specs.Limit.{number_of_limit}
 use Rattle.blob_frame.specs.declared.header.Header.{Header}
 use Rattle.chain_store.specs.Announced.{IsAnnounced}
 use Rattle.written_laws.specs.Chain.{Chain, ChainState, HasVersion, IsChain, IsLastPublished}
-use Rattle.written_laws.specs.Delta.{KeepItems, LeadsTo}
-use Rattle.written_laws.specs.Fits.{Fits}
-use Rattle.written_laws.specs.Moved.{Moved}
-use Rattle.written_laws.specs.Patch.{TypePatch, DeltaIs}
+use Rattle.written_laws.specs.Delta.{LeadsTo}
+use Rattle.delta_blob.specs.Fits.{Fits}
+use Rattle.delta_blob.specs.Moved.{Moved}
+use Rattle.delta_blob.specs.Patch.{TypePatch, DeltaIs}
 use Rattle.written_laws.specs.Snapshot.{IsSnapshotWith}
-use Rattle.written_laws.specs.Within.{Within}
+use Rattle.delta_blob.specs.Within.{KeepItems, Within}
 
 -- The blob is a snapshot of the state, with its tag as the destination.
 abbrev pub IsSnapshotOfState : ChainState → List ℕ → Type 0

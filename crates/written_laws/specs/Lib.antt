@@ -1,9 +1,5 @@
 pub mod Chain
 pub mod Delta
-pub mod Fits
 pub mod HoldsChain
-pub mod Moved
-pub mod Patch
 pub mod Snapshot
 pub mod States
-pub mod Within

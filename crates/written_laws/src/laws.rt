@@ -14,8 +14,8 @@ ghost use Rattle.written_laws.specs.States.{AreStates};
 ghost use Rattle.written_laws.specs.Chain.{Chain, ChainState, HasVersion};
 ghost use Rattle.written_laws.specs.Delta.{LeadsTo};
 ghost use Rattle.written_laws.specs.HoldsChain.{HoldsChain, IsStep, LeadsOn};
-ghost use Rattle.written_laws.specs.Moved.{Moved};
-ghost use Rattle.written_laws.specs.Patch.{DeltaIs, TypePatch};
+ghost use Rattle.delta_blob.specs.Moved.{Moved};
+ghost use Rattle.delta_blob.specs.Patch.{DeltaIs, TypePatch};
 ghost use Rattle.written_laws.specs.Snapshot.{IsSnapshotOf};
 
 /// A snapshot that is written of a new state, which follows an old one, is read back as the new state, within the limits.
