@@ -1,0 +1,13 @@
+mod Changed
+mod Comings
+mod Flips
+mod Left
+mod LoadedOnce
+mod Loads
+mod Moves
+mod PastRows
+mod SteppedOnce
+mod StepsTold
+mod Tables
+mod Patches
+mod Taken

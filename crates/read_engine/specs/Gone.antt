@@ -1,0 +1,10 @@
+-- The rows that left in the last step.
+use Rattle.std.specs.Prelude.{◌↔◌, ℕ, List, Contains}
+use Rattle.schema_model.specs.Row.{Rises}
+use Rattle.schema_model.specs.Table.{IsLive}
+use Rattle.read_engine.specs.Position.{Position, rows_now}
+
+-- These are the ordinals of a type that were live in the state before and are not live now, rising.
+pub record AreGone (position : Position) (type_index : ℕ) (ordinals : List ℕ) : Type 0 where
+  pub rising : Rises ordinals
+  pub are : (ordinal : ℕ) → Contains ordinals ordinal ↔ (IsLive position.before type_index ordinal × ¬ IsLive (rows_now position) type_index ordinal)

@@ -1,0 +1,6 @@
+pub mod Gone
+pub mod Moving
+pub mod Past
+pub mod Position
+pub mod Standing
+pub mod Taking

@@ -1,0 +1,47 @@
+//! Why a consumer does not take a blob.
+use blob_frame::BlobFault;
+use std::alloc::{AllocError, AllocFailed};
+
+/// Why a consumer does not take a blob.
+#[derive(Debug, Drop)]
+pub enum TakeFault {
+    /// A fault of the blob as a whole, of its header, or of the tag that it starts from; a failed store; or want of memory.
+    Blob(BlobFault),
+    /// The header can be read, and for a step starts from the consumer's tag, but the rest of the blob is refused.
+    Body,
+}
+
+impl From<BlobFault> for TakeFault {
+    ghost use Rattle.std.specs.Prelude.{◌≡◌};
+    ghost use Rattle.read_engine.specs.declared.fault.TakeFault.TheVariants.{Blob};
+
+    ghost from_gives = { λ fault taken. taken ≡ Blob fault };
+
+    fn from(fault: BlobFault) -> TakeFault {
+        TakeFault::Blob(fault)
+    }
+}
+
+impl From<AllocError> for TakeFault {
+    ghost use Rattle.std.specs.Prelude.{◌≡◌};
+    ghost use Rattle.blob_frame.specs.declared.fault.BlobFault.TheVariants.{Memory};
+    ghost use Rattle.read_engine.specs.declared.fault.TakeFault.TheVariants.{Blob};
+
+    ghost from_gives = { λ error taken. taken ≡ Blob Memory };
+
+    fn from(_error: AllocError) -> TakeFault {
+        TakeFault::Blob(BlobFault::Memory)
+    }
+}
+
+impl<T: Drop> From<AllocFailed<T>> for TakeFault {
+    ghost use Rattle.std.specs.Prelude.{◌≡◌};
+    ghost use Rattle.blob_frame.specs.declared.fault.BlobFault.TheVariants.{Memory};
+    ghost use Rattle.read_engine.specs.declared.fault.TakeFault.TheVariants.{Blob};
+
+    ghost from_gives = { λ error taken. taken ≡ Blob Memory };
+
+    fn from(_error: AllocFailed<T>) -> TakeFault {
+        TakeFault::Blob(BlobFault::Memory)
+    }
+}

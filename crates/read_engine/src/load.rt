@@ -1,0 +1,108 @@
+//! Loading the state of a snapshot.
+ghost use Rattle.std.specs.Prelude.{◌≡◌, ◌≤◌, Err, All, IfOk, IfSome, length, map, replicate};
+ghost use Rattle.hol_io.specs.declared.name.BlobName.TheVariants.{Snapshot};
+ghost use Rattle.hol_io.specs.Causes.{Rose};
+ghost use Rattle.hol_io.specs.Store.{told};
+ghost use Rattle.schema_model.specs.Model.{IsModel};
+ghost use Rattle.type_state.specs.State.{IsLaidOut};
+ghost use Rattle.type_state.specs.Views.{next_halves};
+ghost use Rattle.blob_frame.specs.declared.fault.BlobFault.TheVariants.{Store as StoreFailed};
+ghost use Rattle.snapshot_blob.specs.Body.{IsWholeBody};
+ghost use Rattle.read_engine.specs.Past.{no_part};
+ghost use Rattle.read_engine.specs.Standing.{current_halves};
+ghost use Rattle.read_engine.specs.Taking.{TellsStand, body_fault_of, loaded_position};
+
+use crate::TakeFault;
+use crate::past::{PastPart, PastParts};
+use crate::stand::Stand;
+use blob_frame::{BlobFault, opened};
+use hol_io::{BlobName, BlobStore};
+use snapshot_blob::laws::header_and_body;
+use snapshot_blob::{Body, read_body};
+use std::alloc::{AllocError, Global};
+use type_state::{TypeState, TypeStates};
+
+/// The state of the snapshot of a version.
+pub(crate) fn load<S: BlobStore>(
+    alloc: Global,
+    store: &mut S,
+    version: u64,
+) -> Result<Stand, TakeFault>
+    ensures tells { IfSome (S.seen store.old).held (λ held. TellsStand (Snapshot version) (told (S.seen store.old).held (Snapshot version)) result) }
+    ensures cause { result ≡ Err (TakeFault.Blob StoreFailed) → Rose (S.seen store.old).faults (S.seen store.new).faults }
+    ensures kept { (S.seen store.new).held ≡ (S.seen store.old).held }
+    ensures later { (S.seen store.old).faults ≤ (S.seen store.new).faults }
+    ensures unput { (S.seen store.new).puts ≡ (S.seen store.old).puts }
+{
+    header_and_body();
+    let name = BlobName::Snapshot(version);
+    let (header, mut cursor) = opened(alloc, store, &name)?;
+    match read_body(alloc, &mut cursor, store) {
+        Ok(body) => {
+            let past = no_past(alloc, body.model.len())?;
+            Ok(stand_of(header.destination, body, past))
+        }
+        Err(fault) => Err(body_fault(fault)),
+    }
+}
+
+// The state of a body, with this tag; nothing changed of its types.
+fn stand_of(tag: i64, body: Body, past: PastParts) -> Stand
+    requires whole { IsWholeBody body }
+    requires model { IsModel body.model }
+    requires past { past ≡ replicate (length body.model) no_part }
+    ensures { result ≡ loaded_position tag body }
+{
+    let Body { model, states } = body;
+    let states = flipped(states);
+    Stand {
+        tag,
+        model,
+        states,
+        past,
+    }
+}
+
+// The fault for one of a blob whose header can be read. Which fault it is of the blob's body is not told.
+pub(crate) fn body_fault(fault: BlobFault) -> TakeFault
+    ensures { result ≡ body_fault_of fault }
+{
+    match fault {
+        BlobFault::Store => TakeFault::Blob(BlobFault::Store),
+        BlobFault::Memory => TakeFault::Blob(BlobFault::Memory),
+        _ => TakeFault::Body,
+    }
+}
+
+// Nothing changed of so many types.
+pub(crate) fn no_past(alloc: Global, count: u32) -> Result<PastParts, AllocError>
+    ensures { IfOk result (λ past. past ≡ replicate count no_part) }
+{
+    let mut past = PastParts::new(alloc);
+    for _type_index in 0..count {
+        past.push(PastPart::none(alloc))?;
+    }
+    Ok(past)
+}
+
+// The states with their next halves as the current ones.
+fn flipped(states: TypeStates) -> Vec<TypeState>
+    requires { All (λ state. IsLaidOut state.schema state.other) states }
+    ensures halves { current_halves result.items ≡ next_halves states }
+    ensures schemas { map (λ state. state.schema) result.items ≡ map (λ state. state.schema) states }
+{
+    let mut states = states.into_vec();
+    flip_all(states.as_mut_slice());
+    states
+}
+
+// Makes the next halves the current ones.
+fn flip_all(states: &mut [TypeState])
+    requires { All (λ state. IsLaidOut state.schema state.other) states.old }
+    ensures halves { current_halves states.new ≡ next_halves states.old }
+    ensures schemas { map (λ state. state.schema) states.new ≡ map (λ state. state.schema) states.old }
+{
+    for state in states.iter_mut() {
+        state.flip();
+    }
+}

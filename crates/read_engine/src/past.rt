@@ -1,0 +1,118 @@
+//! What is kept of a type from the last step, so that the rows before it can still be looked up.
+ghost use Rattle.std.specs.Prelude.{◌≡◌, ◌↔◌, ◌<◌, ℕ, Some, None, IfOk, IsSome, IsTrue, MatchOption, length};
+ghost use Rattle.std.specs.List.Sorted.{IsStrictlyIncreasing};
+ghost use Rattle.std.specs.FinMap.{find, get};
+ghost use Rattle.std.specs.Ordering.{nat_cmp};
+ghost use Rattle.read_engine.specs.Past.{FitsPast, is_new, left_rows, no_part, rows_before};
+ghost use Rattle.read_engine.specs.Standing.{IsRowsBound};
+
+use hol_varint::{Duplicate, List, Ordinals};
+use schema_model::Row;
+use std::alloc::{AllocError, Global};
+use type_state::TypeState;
+
+/// What the last step changed of a type.
+#[derive(Debug, Drop)]
+pub(crate) struct PastPart {
+    /// Whether the step named the type.
+    pub(crate) named: bool,
+    /// The ordinals that came, rising.
+    pub(crate) came: Ordinals,
+    /// The ordinals that left, rising.
+    pub(crate) gone: Ordinals,
+    /// The row of each that left.
+    pub(crate) rows: List<Row>,
+}
+
+/// What the last step changed of each type, in model order.
+pub(crate) type PastParts = List<PastPart>;
+
+impl PastPart {
+    /// The part of a type of which nothing changed. It takes no memory.
+    pub(crate) fn none(alloc: Global) -> PastPart
+        ensures { result ≡ no_part }
+    {
+        PastPart {
+            named: false,
+            came: Ordinals::new(alloc),
+            gone: Ordinals::new(alloc),
+            rows: List::new(alloc),
+        }
+    }
+
+    /// Whether the ordinal came.
+    fn is_new(&self, ordinal: u32) -> bool
+        requires { IsStrictlyIncreasing self.now.came }
+        ensures { result ≡ is_new self.now ordinal }
+    {
+        self.came.as_slice().binary_search(&ordinal).is_ok()
+    }
+
+    /// The row that an ordinal had that left.
+    fn left_row(&self, ordinal: u32) -> Option<&Row>
+        requires rising { IsStrictlyIncreasing self.now.gone }
+        requires rows { length self.now.rows ≡ length self.now.gone }
+        ensures { MatchOption result (find nat_cmp ordinal (left_rows self.now) ≡ None) (λ row. find nat_cmp ordinal (left_rows self.now) ≡ Some row.now) }
+    {
+        let gone = self.gone.as_slice();
+        match gone.binary_search(&ordinal) {
+            Ok(place) => Some(self.rows.get(place)),
+            Err(_) => None,
+        }
+    }
+}
+
+/// Whether the type had a row under the ordinal before the step.
+pub(crate) fn was_live(state: &TypeState, part: &PastPart, ordinal: u32) -> bool
+    requires { FitsPast state.now.current.rows part.now }
+    ensures { IsTrue result ↔ IsSome (get (rows_before state.now.current.rows part.now) ordinal) }
+{
+    match part.left_row(ordinal) {
+        Some(_) => true,
+        None => !part.is_new(ordinal) && state.is_live(ordinal),
+    }
+}
+
+/// A copy of the row that the type had under an ordinal that was live before the step.
+pub(crate) fn row_before(
+    alloc: Global,
+    state: &TypeState,
+    part: &PastPart,
+    ordinal: u32,
+) -> Result<Row, AllocError>
+    requires fits { FitsPast state.now.current.rows part.now }
+    requires live { IsSome (get (rows_before state.now.current.rows part.now) ordinal) }
+    ensures { IfOk result (λ row. get (rows_before state.now.current.rows part.now) ordinal ≡ Some row) }
+{
+    match part.left_row(ordinal) {
+        Some(row) => row.copy(alloc),
+        None => state.row(alloc, ordinal),
+    }
+}
+
+/// One past the greatest ordinal that was live before the step, 0 for none.
+pub(crate) fn bound_before(state: &TypeState, part: &PastPart) -> u32
+    requires { FitsPast state.now.current.rows part.now }
+    ensures { IsRowsBound (rows_before state.now.current.rows part.now) result }
+{
+    let mut bound = first_bound(state, part);
+    while bound > 0 {
+        if was_live(state, part, bound - 1) {
+            return bound;
+        }
+        bound -= 1;
+    }
+    0
+}
+
+// A number above each ordinal that was live before the step.
+fn first_bound(state: &TypeState, part: &PastPart) -> u32
+    requires { FitsPast state.now.current.rows part.now }
+    ensures { (ordinal : ℕ) → IsSome (get (rows_before state.now.current.rows part.now) ordinal) → ordinal < result }
+{
+    let bound = state.bound();
+    match part.gone.as_slice().last() {
+        Some(last) => bound.max(*last + 1),
+        None => bound,
+    }
+}
