@@ -43,7 +43,7 @@ of_before P (Ok x) (Err reason) xs each is = absurd cc
 of_before P (Err reason) rest xs each is = absurd cc
 
 -- a value that is read fits its kind
-null_fits : (kind : FieldKind) → FitsLeaf kind Value.Null
+pub null_fits : (kind : FieldKind) → FitsLeaf kind Value.Null
 null_fits (FieldKind.Reference name) = tt
 null_fits FieldKind.Int = tt
 null_fits FieldKind.Long = tt
@@ -64,7 +64,7 @@ value_fits kind null read is = of_read (FitsLeaf kind) Value.Null read (null_fit
 value_fits kind value read is = kind_fits kind value read is
 
 -- the type of this name is there, and the tree fits it
-abbrev FitsNamed : List Schema → Name → PlainTree → Type 0
+abbrev pub FitsNamed : List Schema → Name → PlainTree → Type 0
 FitsNamed schemas name tree = IsSomeAnd (index_of_type schemas name) (λ t. FitsTree schemas t tree)
 
 -- what a type's name and its JSON give fits the type
@@ -72,10 +72,10 @@ abbrev EachFits : List Schema → (Name → Data → Result PlainTree Reason) �
 EachFits schemas follow = (name : Name) (value : Data) (tree : PlainTree) → follow name value ≡ Ok tree → FitsNamed schemas name tree
 
 -- the tree fits the field
-abbrev FitsField : List Schema → FieldKind → PlainTree → Type 0
+abbrev pub FitsField : List Schema → FieldKind → PlainTree → Type 0
 FitsField schemas kind tree = IsLeafOr tree (FitsLeaf kind) (IsSomeAnd (referred schemas kind) (λ t. FitsTree schemas t tree))
 
-some_and : {A : Type 0} (P : A → Type 0) (o : Option A) (x : A) → o ≡ Some x → P x → IsSomeAnd o P
+pub some_and : {A : Type 0} (P : A → Type 0) (o : Option A) (x : A) → o ≡ Some x → P x → IsSomeAnd o P
 some_and P o x is holds = subst (λ o'. IsSomeAnd o' P) (sym is) holds
 
 and_some : {A : Type 0} (P : A → Type 0) (o : Option A) (x : A) → o ≡ Some x → IsSomeAnd o P → P x
@@ -85,7 +85,7 @@ no_leaf : (o : Option ℕ) → IsSomeAnd o (λ t. ⊥) → ⊥
 no_leaf (Some t) none = none
 no_leaf None none = none
 
-record_fits : (schemas : List Schema) (name : Name) (tree : PlainTree) → FitsNamed schemas name tree → FitsField schemas (FieldKind.Reference name) tree
+pub record_fits : (schemas : List Schema) (name : Name) (tree : PlainTree) → FitsNamed schemas name tree → FitsField schemas (FieldKind.Reference name) tree
 record_fits schemas name (leaf value) fits = absurd (no_leaf (index_of_type schemas name) fits)
 record_fits schemas name (object trees) fits = fits
 record_fits schemas name (list trees) fits = fits
@@ -144,14 +144,14 @@ map_fits schemas t (Ok pairs) tree fits is = apart_fits schemas t (pairs_of_list
 map_fits schemas t (Err reason) tree fits is = absurd cc
 
 -- each type that a shape names is there
-abbrev AreNamed : List Schema → Shape → Type 0
+abbrev pub AreNamed : List Schema → Shape → Type 0
 AreNamed schemas shape = ¬ Any (λ name. index_of_type schemas name ≡ None) (shape_names shape)
 
-some_type : (o : Option ℕ) → (o ≡ None → ⊥) → (t : ℕ) × (o ≡ Some t)
+pub some_type : (o : Option ℕ) → (o ≡ None → ⊥) → (t : ℕ) × (o ≡ Some t)
 some_type (Some t) known = (t, refl)
 some_type None known = absurd (known refl)
 
-pairs_of_types : (schemas : List Schema) (key value : Name) (k v : ℕ) → index_of_type schemas key ≡ Some k → index_of_type schemas value ≡ Some v → map_types schemas (Shape.Map key value) ≡ Some (k, v)
+pub pairs_of_types : (schemas : List Schema) (key value : Name) (k v : ℕ) → index_of_type schemas key ≡ Some k → index_of_type schemas value ≡ Some v → map_types schemas (Shape.Map key value) ≡ Some (k, v)
 pairs_of_types schemas key value k v is is' =
     ap (option_and_then (λ k'. option_map (λ v'. (k', v')) (index_of_type schemas value))) is ∙ ap (option_map (λ v'. (k, v'))) is'
 

@@ -1,4 +1,15 @@
 pub mod ApartKeys
+pub mod FieldsBack
 pub mod Fitting
+pub mod PlainPrints
+pub mod PrintingFronts
+pub mod PrintingNames
+pub mod PrintingRows
+pub mod PrintingWhole
+pub mod ReadingBack
 pub mod ReadingTrees
+pub mod SameItself
 pub mod TreeParts
+pub mod UnfoldingFits
+pub mod UnfoldingInRange
+pub mod ValuesBack

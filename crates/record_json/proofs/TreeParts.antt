@@ -30,7 +30,7 @@ made_not seen seen' make read (JsonFault.Rule rule t) told = told
 made_not seen seen' make read (JsonFault.Field reason) told = ap (made make) told
 made_not seen seen' make read JsonFault.Memory told = told
 
-keys_apart : (pairs : PlainPairs) (decided : Dec (AreKeysApart pairs)) → AreKeysApart pairs → map_apart pairs decided ≡ Ok (map_tree pairs)
+pub keys_apart : (pairs : PlainPairs) (decided : Dec (AreKeysApart pairs)) → AreKeysApart pairs → map_apart pairs decided ≡ Ok (map_tree pairs)
 keys_apart pairs (yes apart) holds = refl
 keys_apart pairs (no same) holds = absurd (same holds)
 

@@ -1,12 +1,17 @@
-//! Records with all that they refer to, from JSON.
+//! Records with all that they refer to, from JSON and to JSON.
 #![tactic(auto)]
 
 mod keys;
 pub mod laws;
+mod leaves;
+mod print_fault;
+mod printed;
 mod tree_parts;
 mod tree_values;
 mod trees;
 
+pub use print_fault::PrintFault;
+pub use printed::tree_value;
 pub use trees::tree_from;
 
 #[cfg(test)]
