@@ -1,17 +1,23 @@
 -- Answer lines have no number with a fraction or an exponent, so that their text is the one that they are stated by.
-use Rattle.std.proofs.Common.{◌≡◌, ℕ, List, [], ◌∷◌, ◌++◌, false, Option, None, Some, Result, Ok, Err, String, Global, string_bytes, refl, ap, subst, ◌∙◌}
+use Rattle.std.proofs.Common.{codes, ◌≡◌, ℕ, ℤ, List, [], ◌∷◌, ◌++◌, map, Bool, true, false, ◌||◌, None, Some, Result, Ok, Err, String, Global, string_bytes, refl, ap, subst, ◌∙◌}
 use Rattle.std.specs.Prelude.{IfOk, OnOk}
 use Rattle.serde_json.specs.Data.{Data}
-use Rattle.serde_json.specs.Written.{has_float, compact_text}
+use Rattle.serde_json.specs.View.{view, items_of, items_view}
+use Rattle.serde_json.specs.declared.value.Value.{Value}
+use Rattle.serde_json.specs.Written.{has_float, items_have_float, compact_text}
 use Rattle.json_rows.proofs.Printed.{items_have_float-items_of, integer_has_none}
 use Rattle.hol_orders.specs.declared.reply.Reply.{Reply}
-use Rattle.hol_orders.specs.declared.reply.Reply.TheVariants.{Head, Model, Cycle, Refused}
+use Rattle.hol_orders.specs.declared.reply.Reply.TheVariants.{Head, Model, Cycle, Load, Step, Live, Row, Past, Refused}
 use Rattle.hol_orders.specs.declared.refusal.Refusal.{Refusal}
 use Rattle.hol_orders.specs.declared.refusal.Refusal.TheVariants.{BadOrder, LineTooLong, BadModel, NoModel, ModelFixed, BadRecord, BadVersion, TagUsed, NoBlob, BadBlob, OtherOrigin, NoState, NoType, NoRow, BadPath, NoMatch, Ambiguous, Mismatch, TooLarge, DuplicateRow, OtherModel, NotLast, NoIndex, WrongKind, BadKey, NotYet, BadBody}
+use Rattle.schema_model.specs.declared.schema.name.Name.{Name}
+use Rattle.blob_frame.specs.declared.header.Header.{Header}
+use Rattle.hol_orders.specs.Parts.{whole}
+use Rattle.hol_orders.specs.Plain.{IsPlain}
 use Rattle.hol_orders.specs.Refusal.{refusal_data}
-use Rattle.hol_orders.specs.Reply.{reply_data, texts_data, names_data, tags_data, line_of}
+use Rattle.hol_orders.specs.Reply.{reply_data, head_data, cycle_data, tag_data, live_data, row_data, past_item, texts_data, names_data, tags_data, line_of}
 
--- a refusal has none, and so has an answer
+-- a refusal has none
 has_float-refusal_data : (refusal : Refusal) → has_float (refusal_data refusal) ≡ false
 has_float-refusal_data BadOrder = refl
 has_float-refusal_data LineTooLong = refl
@@ -45,26 +51,78 @@ has_float-refusal_data BadKey = refl
 has_float-refusal_data NotYet = refl
 has_float-refusal_data (BadBody blob) = refl
 
-has_float-reply_data : (reply : Reply) → has_float (reply_data reply) ≡ false
-has_float-reply_data (Head header) =
+-- the other answers have none: those that hold no JSON value
+pub has_float-head_data : (header : Header) → has_float (head_data header) ≡ false
+has_float-head_data header =
     let schemas : has_float (names_data header.schemas) ≡ false = items_have_float-items_of _ (λ schema. refl) header.schemas in
     let tags : has_float (tags_data header.tags) ≡ false = items_have_float-items_of _ (λ tag. refl) header.tags in
     rw (integer_has_none header.destination, integer_has_none header.origin, schemas, tags) refl
-has_float-reply_data (Model types) = refl
-has_float-reply_data (Cycle changed published version) =
+
+pub has_float-cycle_data : (changed : List Name) (published : Bool) (version : ℕ) → has_float (cycle_data changed published version) ≡ false
+has_float-cycle_data changed published version =
     let texts : has_float (texts_data changed) ≡ false = items_have_float-items_of _ (λ name. refl) changed in
     rw texts refl
-has_float-reply_data (Refused refusal) = has_float-refusal_data refusal
 
--- the same of a value that is an answer's
-pub no_float : (value : Data) (reply : Reply) → value ≡ reply_data reply → has_float value ≡ false
-no_float value reply is = ap has_float is ∙ has_float-reply_data reply
+pub has_float-tag_data : (word : List ℕ) (tag : ℤ) → has_float (tag_data word tag) ≡ false
+has_float-tag_data word tag = rw (integer_has_none tag) refl
+
+pub has_float-live_data : (ordinals : List ℕ) → has_float (live_data ordinals) ≡ false
+has_float-live_data ordinals =
+    let numbers : items_have_float (items_of (map whole ordinals)) ≡ false = items_have_float-items_of _ (λ n. refl) ordinals in
+    rw numbers refl
+
+-- an answer that holds no JSON value
+abbrev pub IsBare : Reply → Type 0
+IsBare (Row row) = ⊥
+IsBare (Past entries) = ⊥
+IsBare _ = Unit {0}
+
+has_float-reply_data : (reply : Reply) → IsBare reply → has_float (reply_data reply) ≡ false
+has_float-reply_data (Head header) is = has_float-head_data header
+has_float-reply_data (Model types) is = refl
+has_float-reply_data (Cycle changed published version) is = has_float-cycle_data changed published version
+has_float-reply_data (Load tag) is = has_float-tag_data (codes "load") tag
+has_float-reply_data (Step tag) is = has_float-tag_data (codes "step") tag
+has_float-reply_data (Live ordinals) is = has_float-live_data ordinals
+has_float-reply_data (Row row) is = absurd is
+has_float-reply_data (Past entries) is = absurd is
+has_float-reply_data (Refused refusal) is = has_float-refusal_data refusal
+
+pub plain_answer : {E : Type 0} (reply : Reply) (r : Result Value E) → IsBare reply → IfOk r (λ value. view value ≡ reply_data reply) → IfOk r IsPlain
+plain_answer reply (Ok value) bare is = ap has_float is ∙ has_float-reply_data reply bare
+plain_answer reply (Err refused) bare is = tt
+
+-- a row's answer has none where the row has none
+pub plain_row : {E : Type 0} (row : Value) (r : Result Value E) → IsPlain row → IfOk r (λ value. view value ≡ row_data row) → IfOk r IsPlain
+plain_row row (Ok value) plain is = ap has_float is ∙ rw plain refl
+plain_row row (Err refused) plain is = tt
+
+-- the same of a row that left
+pub plain_entry : {E : Type 0} (ordinal : ℕ) (row : Value) (r : Result Value E) → IsPlain row → IfOk r (λ value. view value ≡ past_item (ordinal, row)) → IfOk r IsPlain
+plain_entry ordinal row (Ok value) plain is = ap has_float is ∙ rw plain refl
+plain_entry ordinal row (Err refused) plain is = tt
+
+-- one more item without
+pub items_more : (values : List Value) (value : Value) → items_have_float (items_view values) ≡ false → IsPlain value → items_have_float (items_view (values ++ value ∷ [])) ≡ false
+items_more [] value none plain = rw plain refl
+items_more (v ∷ values) value none plain =
+    let here : has_float (view v) ≡ false = first_false _ _ none in
+    let rest : items_have_float (items_view values) ≡ false = second_false _ _ none in
+    rw here (items_more values value rest plain)
+  where
+    first_false : (a b : Bool) → (a || b) ≡ false → a ≡ false
+    first_false true b e = e
+    first_false false b e = refl
+
+    second_false : (a b : Bool) → (a || b) ≡ false → b ≡ false
+    second_false true b e = cc
+    second_false false b e = e
 
 -- the text of an answer's JSON and a newline are its line
-pub is_line : {E : Type 0} (reply : Reply) (value : Data) (r : Result (String Global) E) → value ≡ reply_data reply →
-    IfOk r (λ text. has_float value ≡ false → string_bytes text ≡ compact_text value ++ 10 ∷ []) → IfOk r (λ line. string_bytes line ≡ line_of reply)
-is_line reply value (Ok text) is told = told (no_float value reply is) ∙ ap (λ d. compact_text d ++ 10 ∷ []) is
-is_line reply value (Err refused) is told = tt
+pub is_line : {E : Type 0} (reply : Reply) (value : Value) (r : Result (String Global) E) → view value ≡ reply_data reply → IsPlain value →
+    IfOk r (λ text. has_float (view value) ≡ false → string_bytes text ≡ compact_text (view value) ++ 10 ∷ []) → IfOk r (λ line. string_bytes line ≡ line_of reply)
+is_line reply value (Ok text) is plain told = told plain ∙ ap (λ d. compact_text d ++ 10 ∷ []) is
+is_line reply value (Err refused) is plain told = tt
 
 -- the same of a line that is appended
 pub is_put : {T E : Type 0} (reply : Reply) (value : Data) (before after : List ℕ) (r : Result T E) → value ≡ reply_data reply →

@@ -7,4 +7,5 @@ mod Words
 mod Told
 mod Walks
 mod Floats
+mod Pasts
 pub mod ThirdBytes

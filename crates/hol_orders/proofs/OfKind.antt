@@ -1,5 +1,5 @@
 -- An order of a kind has the content of this kind, and no other.
-use Rattle.std.proofs.Common.{◌≡◌, ℕ, ℤ, List, Result, Err, refl, ◌∙◌}
+use Rattle.std.proofs.Common.{◌≡◌, ℕ, List, Result, Err, refl, ◌∙◌}
 use Rattle.std.specs.Prelude.{IsErrAnd, FitsSigned}
 use Rattle.std.specs.Int.{w64}
 use Rattle.serde_json.specs.Data.{Data, string}
@@ -12,7 +12,7 @@ use Rattle.hol_orders.specs.declared.json.Paths.{Paths}
 use Rattle.hol_orders.specs.declared.json.SchemaList.{SchemaList}
 use Rattle.hol_orders.specs.declared.kind.Kind.{Kind}
 use Rattle.hol_orders.specs.declared.order.Order.{Order}
-use Rattle.hol_orders.specs.declared.order.Order.TheVariants.{Model, Cycle, Restore, Load, Step, Index, Get, Find, Live, Row, Has, At, Past, Check, Stat}
+use Rattle.hol_orders.specs.declared.order.Order.TheVariants.{Model, Cycle, Step, Index, Get, Find, Row, Has, At}
 use Rattle.hol_orders.specs.declared.order.OrderFault.{OrderFault}
 use Rattle.hol_orders.specs.Order.{IsOfKind, content_of, IsOrdinal}
 use Rattle.hol_orders.specs.Parts.{whole, pair, triple, cycle_data}

@@ -1,10 +1,9 @@
 -- Pairs, triples and what a cycle asks for: where a part is missing, so is the whole.
-use Rattle.std.proofs.Common.{◌≡◌, ℕ, List, [], ◌∷◌, Result, Ok, Err, refl, sym, subst}
+use Rattle.std.proofs.Common.{◌≡◌, [], ◌∷◌, Result, Ok, Err, refl, sym, subst}
 use Rattle.std.specs.Prelude.{IsErrAnd, FitsSigned}
 use Rattle.std.specs.Int.{w64}
-use Rattle.serde_json.specs.Data.{Data, array, object, no_items, item, no_members, member}
+use Rattle.serde_json.specs.Data.{Data}
 use Rattle.serde_json.specs.View.{view}
-use Rattle.serde_json.specs.declared.value.Value.{Value}
 use Rattle.hol_io.specs.Name.{IsVersion}
 use Rattle.hol_orders.specs.declared.json.NextState.{NextState}
 use Rattle.hol_orders.specs.declared.json.Records.{Records}

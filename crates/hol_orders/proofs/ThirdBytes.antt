@@ -1,10 +1,10 @@
 -- Lines of refusals are told from all other lines by their third byte.
-use Rattle.std.proofs.Common.{◌≡◌, ◌≢◌, inl, inr, ℕ, List, slice_index, Bool, true, false, Option, Some, None, refl, ap, subst, sym, ◌∙◌, arith}
+use Rattle.std.proofs.Common.{◌≡◌, ◌≢◌, inl, inr, ℕ, List, slice_index, false, Some, None, refl, subst, sym, ◌∙◌, arith}
 use Rattle.serde_json.proofs.OnLiterals.{serde_json_on_literals}
 use Rattle.hol_orders.specs.declared.refusal.Refusal.{Refusal}
 use Rattle.hol_orders.specs.declared.refusal.Refusal.TheVariants.{BadOrder, LineTooLong, BadModel, NoModel, ModelFixed, BadRecord, BadVersion, TagUsed, NoBlob, BadBlob, OtherOrigin, NoState, NoType, NoRow, BadPath, NoMatch, Ambiguous, Mismatch, TooLarge, DuplicateRow, OtherModel, NotLast, NoIndex, WrongKind, BadKey, NotYet, BadBody}
 use Rattle.hol_orders.specs.declared.reply.Reply.{Reply}
-use Rattle.hol_orders.specs.declared.reply.Reply.TheVariants.{Head, Model, Cycle, Refused}
+use Rattle.hol_orders.specs.declared.reply.Reply.TheVariants.{Head, Model, Cycle, Load, Step, Live, Row, Past, Refused}
 use Rattle.hol_orders.specs.Marks.{IsMarked}
 use Rattle.hol_orders.specs.Refusal.{refusal_line}
 use Rattle.hol_orders.specs.Reply.{is_refusal, line_of}
@@ -52,6 +52,11 @@ unfolding serde_json_on_literals
 other_unmarked (Head header) other = unmarked (line_of (Head header)) 100 refl (λ e. omega (arith, e)) (λ e. omega (arith, e)) (λ e. omega (arith, e))
 other_unmarked (Model types) other = unmarked (line_of (Model types)) 111 refl (λ e. omega (arith, e)) (λ e. omega (arith, e)) (λ e. omega (arith, e))
 other_unmarked (Cycle changed published version) other = unmarked (line_of (Cycle changed published version)) 99 refl (λ e. omega (arith, e)) (λ e. omega (arith, e)) (λ e. omega (arith, e))
+other_unmarked (Load tag) other = unmarked (line_of (Load tag)) 111 refl (λ e. omega (arith, e)) (λ e. omega (arith, e)) (λ e. omega (arith, e))
+other_unmarked (Step tag) other = unmarked (line_of (Step tag)) 111 refl (λ e. omega (arith, e)) (λ e. omega (arith, e)) (λ e. omega (arith, e))
+other_unmarked (Live ordinals) other = unmarked (line_of (Live ordinals)) 111 refl (λ e. omega (arith, e)) (λ e. omega (arith, e)) (λ e. omega (arith, e))
+other_unmarked (Row row) other = unmarked (line_of (Row row)) 111 refl (λ e. omega (arith, e)) (λ e. omega (arith, e)) (λ e. omega (arith, e))
+other_unmarked (Past entries) other = unmarked (line_of (Past entries)) 111 refl (λ e. omega (arith, e)) (λ e. omega (arith, e)) (λ e. omega (arith, e))
 other_unmarked (Refused refusal) other = absurd cc
 
 -- so the line of a refusal is that of no other answer

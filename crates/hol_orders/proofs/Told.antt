@@ -1,5 +1,5 @@
 -- What reading a line tells.
-use Rattle.std.proofs.Common.{◌≡◌, ◌⊎◌, inl, inr, ℕ, List, Option, Some, None, Result, Ok, Err, refl, ap, sym, ◌∙◌}
+use Rattle.std.proofs.Common.{◌≡◌, ◌⊎◌, inl, inr, ℕ, List, Some, Result, Ok, Err, refl, ap, sym, ◌∙◌}
 use Rattle.std.specs.Prelude.{IsErrAnd, IsUtf8}
 use Rattle.hol_varint.specs.Yields.{Yields}
 use Rattle.serde_json.specs.Data.{Data, object, no_members, member}

@@ -1,5 +1,5 @@
 -- The words of orders are told from one another by their first and third bytes.
-use Rattle.std.proofs.Common.{◌≡◌, ℕ, ◌+◌, ◌*◌, List, slice_index, Bool, if◌then◌else◌, ◌==◌, refl, ap, sym, ◌∙◌}
+use Rattle.std.proofs.Common.{◌≡◌, ℕ, ◌+◌, ◌*◌, List, slice_index, if◌then◌else◌, ◌==◌, refl, ap, sym, ◌∙◌}
 use Rattle.hol_orders.specs.declared.kind.Kind.{Kind}
 use Rattle.hol_orders.specs.declared.kind.Kind.TheVariants.{Model, Cycle, Restore, Load, Step, Index, Get, Find, Live, Row, Has, At, Past, Check, Stat}
 use Rattle.hol_orders.specs.Kind.{word_of_kind}

@@ -2,7 +2,9 @@ pub mod Kind
 pub mod Marks
 pub mod Order
 pub mod Parts
+pub mod Plain
 pub mod Refusal
 pub mod Reply
 pub mod Shapes
+pub mod Stops
 pub mod Taken

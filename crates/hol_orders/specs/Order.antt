@@ -1,10 +1,9 @@
 -- The orders: the JSON object that each is, and which lines are orders.
-use Rattle.std.specs.Prelude.{◌≡◌, ◌≢◌, ◌⊎◌, ℕ, ◌<◌, ◌^◌, ℤ, List, map, Option, Some, None, Result, Ok, Err, IsErrAnd, IsUtf8, FitsSigned, codes, true}
+use Rattle.std.specs.Prelude.{◌≡◌, ◌≢◌, ℕ, ◌<◌, ◌^◌, List, Some, Result, Ok, Err, IsUtf8, FitsSigned, true}
 use Rattle.std.specs.Int.{w64}
-use Rattle.serde_json.specs.Data.{Data, number, unsigned, string, array, object, boolean, no_items, item, no_members, member}
-use Rattle.serde_json.specs.Find.{of_integer}
+use Rattle.serde_json.specs.Data.{Data, string, object, boolean, no_members, member}
 use Rattle.serde_json.specs.Read.{read}
-use Rattle.serde_json.specs.View.{view, items_of}
+use Rattle.serde_json.specs.View.{view}
 use Rattle.hol_io.specs.Name.{IsVersion}
 use Rattle.json_rows.specs.SchemaJson.{AreSchemas}
 use Rattle.hol_orders.specs.declared.kind.Kind.{Kind}

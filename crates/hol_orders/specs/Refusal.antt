@@ -1,6 +1,6 @@
 -- The refusals: each as a JSON object, its members in byte order of their names, and its line.
 use Rattle.std.specs.Prelude.{ℕ, ◌^◌, ℤ, List, [], ◌∷◌, ◌++◌, codes, Option, Some, None}
-use Rattle.serde_json.specs.Data.{Data, null, number, unsigned, string, object, no_members, member}
+use Rattle.serde_json.specs.Data.{Data, null, number, string, object, no_members, member}
 use Rattle.serde_json.specs.Find.{of_integer}
 use Rattle.serde_json.specs.Written.{compact_text}
 use Rattle.hol_io.specs.declared.name.BlobName.{BlobName}

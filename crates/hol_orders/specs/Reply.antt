@@ -1,15 +1,16 @@
 -- The answers of one line: each as a JSON object, its members in byte order of their names, and its line.
-use Rattle.std.specs.Prelude.{ℕ, List, [], ◌∷◌, ◌++◌, map, codes, Bool, true, false}
+use Rattle.std.specs.Prelude.{ℕ, ℤ, List, [], ◌∷◌, ◌++◌, map, codes, Bool, true, false}
 use Rattle.serde_json.specs.Data.{Data, boolean, number, unsigned, string, array, object, no_items, item, no_members, member}
 use Rattle.serde_json.specs.Find.{of_integer}
-use Rattle.serde_json.specs.View.{items_of}
+use Rattle.serde_json.specs.View.{items_of, view}
+use Rattle.serde_json.specs.declared.value.Value.{Value}
 use Rattle.serde_json.specs.Written.{compact_text}
 use Rattle.schema_model.specs.declared.schema.name.Name.{Name}
 use Rattle.schema_model.specs.declared.schema.Schema.{Schema}
 use Rattle.blob_frame.specs.declared.header.Header.{Header}
 use Rattle.hol_orders.specs.declared.reply.Reply.{Reply}
-use Rattle.hol_orders.specs.declared.reply.Reply.TheVariants.{Head, Model, Cycle, Refused}
-use Rattle.hol_orders.specs.Parts.{whole}
+use Rattle.hol_orders.specs.declared.reply.Reply.TheVariants.{Head, Model, Cycle, Load, Step, Live, Row, Past, Refused}
+use Rattle.hol_orders.specs.Parts.{pair, whole}
 use Rattle.hol_orders.specs.Refusal.{refusal_data}
 
 -- names, in their order
@@ -48,11 +49,51 @@ cycle_data changed published version = object
     (member (codes "published") (boolean published)
     (member (codes "version") (whole version) no_members))))
 
+-- a consumer that is now at this tag
+abbrev pub tag_data : List ℕ → ℤ → Data
+tag_data word tag = object
+    (member (codes "ok") (string word)
+    (member (codes "tag") (number (of_integer tag)) no_members))
+
+-- a consumer that became a state, and one that moved to it
+abbrev pub load_data : ℤ → Data
+load_data tag = tag_data (codes "load") tag
+
+abbrev pub step_data : ℤ → Data
+step_data tag = tag_data (codes "step") tag
+
+-- the live ordinals of a type
+abbrev pub live_data : List ℕ → Data
+live_data ordinals = object
+    (member (codes "ok") (string (codes "live"))
+    (member (codes "ordinals") (array (items_of (map whole ordinals))) no_members))
+
+-- the record of a row
+abbrev pub row_data : Value → Data
+row_data row = object
+    (member (codes "ok") (string (codes "row"))
+    (member (codes "row") (view row) no_members))
+
+-- a row that left: its ordinal and its record
+abbrev pub past_item : ℕ × Value → Data
+past_item entry = pair (whole entry.0) (view entry.1)
+
+-- the rows that left
+abbrev pub past_data : List (ℕ × Value) → Data
+past_data entries = object
+    (member (codes "ok") (string (codes "past"))
+    (member (codes "rows") (array (items_of (map past_item entries))) no_members))
+
 -- The JSON object of an answer.
 abbrev pub reply_data : Reply → Data
 reply_data (Head header) = head_data header
 reply_data (Model types) = model_data types
 reply_data (Cycle changed published version) = cycle_data changed published version
+reply_data (Load tag) = load_data tag
+reply_data (Step tag) = step_data tag
+reply_data (Live ordinals) = live_data ordinals
+reply_data (Row row) = row_data row
+reply_data (Past entries) = past_data entries
 reply_data (Refused refusal) = refusal_data refusal
 
 -- Whether an answer is a refusal.
@@ -61,6 +102,11 @@ is_refusal (Refused refusal) = true
 is_refusal (Head header) = false
 is_refusal (Model types) = false
 is_refusal (Cycle changed published version) = false
+is_refusal (Load tag) = false
+is_refusal (Step tag) = false
+is_refusal (Live ordinals) = false
+is_refusal (Row row) = false
+is_refusal (Past entries) = false
 
 -- The line of an answer: its JSON text without spaces, and a newline.
 abbrev pub line_of : Reply → List ℕ

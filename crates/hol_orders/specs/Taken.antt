@@ -1,7 +1,7 @@
 -- What is taken apart of a JSON value: the items of an array, the only member of an object, its members one by one.
 use Rattle.std.specs.Prelude.{◌≡◌, ◌≢◌, ℕ, List, length, map, string_bytes, String, Option, Some, None, Result, Ok, Err}
 use Rattle.std.specs.declared.alloc.Global.{Global}
-use Rattle.serde_json.specs.Data.{Data, array, object, Items, Members, no_members, member}
+use Rattle.serde_json.specs.Data.{Data, array, object, Members, no_members, member}
 use Rattle.serde_json.specs.View.{view, items_of}
 use Rattle.serde_json.specs.declared.value.Value.{Value}
 use Rattle.hol_orders.specs.declared.order.OrderFault.{OrderFault}

@@ -1,15 +1,21 @@
 //! What a command or an order answers in one line, and the line of each answer.
 ghost use Rattle.std.specs.Prelude.{◌≡◌, ◌++◌, IfOk, OnOk, OnErr, string_bytes};
 ghost use Rattle.serde_json.specs.View.{view};
-ghost use Rattle.hol_orders.specs.Reply.{reply_data, head_data, model_data, cycle_data, texts_data, names_data, tags_data, is_refusal, line_of};
+ghost use Rattle.hol_orders.specs.Plain.{IsPlain};
+ghost use Rattle.hol_orders.specs.Reply.{reply_data, head_data, model_data, cycle_data, load_data, step_data, tag_data, live_data, row_data, past_data, past_item, texts_data, names_data, tags_data, is_refusal, line_of};
 
 use crate::line::{line_text, put_line};
+use crate::plain::PlainValue;
 use crate::refusal::Refusal;
 use crate::refusal_json::refusal_value;
 use blob_frame::Header;
+use hol_varint::{List, Ordinals};
 use schema_model::{NamePairs, Names, Schemas};
 use serde_json::{Value, json};
 use std::alloc::{AllocError, Global};
+
+/// Rows that left, each by its ordinal and as its record.
+pub type PastRows = List<(u32, PlainValue)>;
 
 /// What a command or an order answers in one line.
 #[derive(Debug, Drop)]
@@ -27,6 +33,16 @@ pub enum Reply {
         /// The version that was asked for.
         version: u64,
     },
+    /// The consumer became the state with this tag.
+    Load(i64),
+    /// The consumer moved to the state with this tag.
+    Step(i64),
+    /// The live ordinals of a type, rising.
+    Live(Ordinals),
+    /// The record of a row.
+    Row(PlainValue),
+    /// The records of a type that left in the last step, by rising ordinal.
+    Past(PastRows),
     /// Why the command or the order is refused.
     Refused(Refusal),
 }
@@ -42,16 +58,16 @@ impl Reply {
 
 /// The line of an answer: one JSON object without spaces, its members in byte order of their names,
 /// and a newline.
-pub fn reply_line(alloc: Global, reply: &Reply) -> Result<String, AllocError>
-    ensures { IfOk result (λ line. string_bytes line ≡ line_of reply.now) }
+pub fn reply_line(alloc: Global, reply: Reply) -> Result<String, AllocError>
+    ensures { IfOk result (λ line. string_bytes line ≡ line_of reply) }
 {
     let value = reply_value(alloc, reply)?;
     line_text(alloc, &value)
 }
 
 /// Appends the line of an answer. Where memory is refused `out` stays as it was.
-pub fn put_reply(alloc: Global, out: &mut Vec<u8>, reply: &Reply) -> Result<(), AllocError>
-    ensures put { OnOk result (out.new.items ≡ out.old.items ++ line_of reply.now) }
+pub fn put_reply(alloc: Global, out: &mut Vec<u8>, reply: Reply) -> Result<(), AllocError>
+    ensures put { OnOk result (out.new.items ≡ out.old.items ++ line_of reply) }
     ensures err { OnErr result (out.new.items ≡ out.old.items) }
 {
     let value = reply_value(alloc, reply)?;
@@ -59,18 +75,24 @@ pub fn put_reply(alloc: Global, out: &mut Vec<u8>, reply: &Reply) -> Result<(), 
 }
 
 // The JSON object of an answer, which has no number with a fraction or an exponent.
-fn reply_value(alloc: Global, reply: &Reply) -> Result<Value, AllocError>
-    ensures { IfOk result (λ value. view value ≡ reply_data reply.now) }
+fn reply_value(alloc: Global, reply: Reply) -> Result<Value, AllocError>
+    ensures value { IfOk result (λ value. view value ≡ reply_data reply) }
+    ensures plain { IfOk result IsPlain }
 {
     match reply {
-        Reply::Head(header) => head_value(alloc, header),
-        Reply::Model(types) => model_value(alloc, *types),
+        Reply::Head(header) => head_value(alloc, &header),
+        Reply::Model(types) => model_value(alloc, types),
         Reply::Cycle {
             changed,
             published,
             version,
-        } => cycle_value(alloc, changed, *published, *version),
-        Reply::Refused(refusal) => refusal_value(alloc, refusal),
+        } => cycle_value(alloc, &changed, published, version),
+        Reply::Load(tag) => tag_value(alloc, "load", tag),
+        Reply::Step(tag) => tag_value(alloc, "step", tag),
+        Reply::Live(ordinals) => live_value(alloc, &ordinals),
+        Reply::Row(row) => row_value(alloc, row),
+        Reply::Past(rows) => past_value(alloc, rows),
+        Reply::Refused(refusal) => refusal_value(alloc, &refusal),
     }
 }
 
@@ -110,6 +132,55 @@ fn cycle_value(
         "published": published,
         "version": version
     })
+}
+
+// A consumer that is now at this tag.
+fn tag_value(alloc: Global, word: &str, tag: i64) -> Result<Value, AllocError>
+    ensures { IfOk result (λ value. view value ≡ tag_data word.now tag) }
+{
+    json!(in alloc; {"ok": word, "tag": tag})
+}
+
+fn live_value(alloc: Global, ordinals: &Ordinals) -> Result<Value, AllocError>
+    ensures { IfOk result (λ value. view value ≡ live_data ordinals.now) }
+{
+    let mut numbers = Vec::new(alloc);
+    for ordinal in ordinals.as_slice() {
+        numbers.push(Value::from(*ordinal))?;
+    }
+    let numbers = Value::Array(numbers);
+    json!(in alloc; {"ok": "live", "ordinals": numbers})
+}
+
+#[tactic(auto, using(crate::proofs::Floats::plain_row))]
+fn row_value(alloc: Global, row: PlainValue) -> Result<Value, AllocError>
+    ensures value { IfOk result (λ value. view value ≡ row_data row) }
+    ensures plain { IfOk result IsPlain }
+{
+    let row = row.into_value();
+    json!(in alloc; {"ok": "row", "row": row})
+}
+
+fn past_value(alloc: Global, rows: PastRows) -> Result<Value, AllocError>
+    ensures value { IfOk result (λ value. view value ≡ past_data rows) }
+    ensures plain { IfOk result IsPlain }
+{
+    let mut entries = Vec::new(alloc);
+    for (ordinal, row) in rows.into_vec() {
+        entries.push(past_entry(alloc, ordinal, row)?)?;
+    }
+    let entries = Value::Array(entries);
+    json!(in alloc; {"ok": "past", "rows": entries})
+}
+
+// A row that left: its ordinal and its record.
+#[tactic(auto, using(crate::proofs::Floats::plain_entry))]
+fn past_entry(alloc: Global, ordinal: u32, row: PlainValue) -> Result<Value, AllocError>
+    ensures value { IfOk result (λ value. view value ≡ past_item (ordinal, row)) }
+    ensures plain { IfOk result IsPlain }
+{
+    let row = row.into_value();
+    json!(in alloc; [ordinal, row])
 }
 
 // Names, in their order.

@@ -46,14 +46,14 @@ fn lines(rt: HostRuntime) -> Result<(), Fail> {
         published: true,
         version: 1,
     };
-    let line = reply_line(alloc, &reply)?;
+    let line = reply_line(alloc, reply)?;
     assert_eq!(rt;
         line.as_str(),
         "{\"changed\":[],\"ok\":\"cycle\",\"published\":true,\"version\":1}\n"
     );
     let mut out = Vec::new(alloc);
     put_line(alloc, &mut out, &Value::Null)?;
-    put_reply(alloc, &mut out, &Reply::Model(1))?;
+    put_reply(alloc, &mut out, Reply::Model(1))?;
     assert!(rt; out.as_slice() == b"null\n{\"ok\":\"model\",\"types\":1}\n".as_slice());
     Ok(())
 }
