@@ -67,7 +67,7 @@ Leaves machine last rows changed version tag false next = (last.version ≢ 0) �
 Leaves machine last rows changed version tag true next =
     Publishes last changed × TellsTypes last.model last.rows rows None
     × ((blobs : List Put) × AreBlobs last rows version tag blobs × All IsShort blobs
-    × (next ≡ record { store = put_all machine.store (puts_of blobs version); producer = Some (record { model = last.model; rows = rows; tag = tag; version = version }) }))
+    × (next ≡ record machine { store = put_all machine.store (puts_of blobs version); producer = Some (record { model = last.model; rows = rows; tag = tag; version = version }) }))
 
 -- What a cycle answers that is not refused, and the machine behind it.
 abbrev pub Succeeds : Machine → Published → ℕ → ℤ → Data → List (List ℕ) → Bool → Machine → Type 0

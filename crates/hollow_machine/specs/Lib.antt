@@ -1,9 +1,13 @@
+pub mod Blobs
 pub mod CycleOrder
 pub mod Follow
 pub mod Kept
+pub mod LoadOrder
 pub mod ModelOrder
 pub mod Puts
 pub mod Records
+pub mod RowOrders
 pub mod Script
 pub mod State
 pub mod Step
+pub mod StepOrder

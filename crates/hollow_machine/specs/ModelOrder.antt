@@ -34,6 +34,6 @@ ModelRefusal machine value _ = ⊥
 abbrev pub ModelStep : Machine → Data → Reply → Machine → Type 0
 ModelStep machine value (Model types) next =
     (schemas : List Schema) × (machine.producer ≡ None) × StandsFor value schemas × IsModel schemas × (types ≡ length schemas)
-    × (next ≡ record { store = machine.store; producer = Some (new_producer schemas) })
+    × (next ≡ record machine { producer = Some (new_producer schemas) })
 ModelStep machine value (Refused refusal) next = ModelRefusal machine value refusal × (next ≡ machine)
 ModelStep machine value _ next = ⊥

@@ -2,14 +2,17 @@
 use Rattle.std.specs.Prelude.{◌≡◌}
 use Rattle.serde_json.specs.View.{view}
 use Rattle.hol_orders.specs.declared.order.Order.{Order}
-use Rattle.hol_orders.specs.declared.order.Order.TheVariants.{Model, Cycle}
+use Rattle.hol_orders.specs.declared.order.Order.TheVariants as order
 use Rattle.hol_orders.specs.declared.refusal.Refusal.{Refusal}
 use Rattle.hol_orders.specs.declared.refusal.Refusal.TheVariants.{NotYet}
 use Rattle.hol_orders.specs.declared.reply.Reply.{Reply}
 use Rattle.hol_orders.specs.declared.reply.Reply.TheVariants.{Refused}
 use Rattle.hollow_machine.specs.CycleOrder.{CycleStep}
+use Rattle.hollow_machine.specs.LoadOrder.{LoadStep}
 use Rattle.hollow_machine.specs.ModelOrder.{ModelStep}
+use Rattle.hollow_machine.specs.RowOrders.{LiveReply, Looks, PastReply, RowReply}
 use Rattle.hollow_machine.specs.State.{Machine}
+use Rattle.hollow_machine.specs.StepOrder.{StepStep, step_name}
 
 -- The answer is this refusal, and the machine is as it was.
 abbrev pub Refuses : Machine → Refusal → Reply → Machine → Type 0
@@ -17,6 +20,11 @@ Refuses machine refusal reply next = (reply ≡ Refused refusal) × (next ≡ ma
 
 -- What an order is answered. Those of the last line are not built.
 abbrev pub Step : Machine → Order → Reply → Machine → Type 0
-Step machine (Model schemas) reply next = ModelStep machine (view schemas) reply next
-Step machine (Cycle version tag add) reply next = CycleStep machine version tag (view add) reply next
+Step machine (order.Model schemas) reply next = ModelStep machine (view schemas) reply next
+Step machine (order.Cycle version tag add) reply next = CycleStep machine version tag (view add) reply next
+Step machine (order.Load version) reply next = LoadStep machine version reply next
+Step machine (order.Step from to) reply next = StepStep machine (step_name from to) reply next
+Step machine (order.Live name) reply next = Looks (λ consumer answer. LiveReply consumer name answer) machine reply next
+Step machine (order.Row name ordinal) reply next = Looks (λ consumer answer. RowReply consumer name ordinal answer) machine reply next
+Step machine (order.Past name) reply next = Looks (λ consumer answer. PastReply consumer name answer) machine reply next
 Step machine _ reply next = Refuses machine NotYet reply next

@@ -1,0 +1,87 @@
+-- The orders `live`, `row` and `past`: what each answers of where the consumer stands. They change nothing.
+use Rattle.std.specs.Prelude.{◌≡◌, ◌≤◌, ◌<◌, ◌↔◌, ℕ, List, Option, Some, None, Contains, map, sum_by}
+use Rattle.std.specs.List.{AllZip}
+use Rattle.serde_json.specs.View.{view}
+use Rattle.serde_json.specs.declared.value.Value.{Value}
+use Rattle.schema_model.specs.declared.limit.Limit.TheVariants.{Nodes}
+use Rattle.schema_model.specs.declared.schema.name.Name.{Name}
+use Rattle.schema_model.specs.Limit.{number_of_limit}
+use Rattle.schema_model.specs.Parts.{index_of_type}
+use Rattle.schema_model.specs.PlainTree.{PlainTree, node_count}
+use Rattle.schema_model.specs.Row.{Rises}
+use Rattle.schema_model.specs.Table.{Table, IsLive}
+use Rattle.schema_model.specs.Unfold.{unfold_row}
+use Rattle.record_json.specs.PrintTree.{PrintsTree}
+use Rattle.read_engine.specs.Position.{Position, rows_now}
+use Rattle.read_engine.specs.Gone.{AreGone}
+use Rattle.hol_orders.specs.declared.refusal.Refusal.{Refusal}
+use Rattle.hol_orders.specs.declared.refusal.Refusal.TheVariants.{NoRow, NoState, NoType, TooLarge}
+use Rattle.hol_orders.specs.declared.reply.Reply.{Reply}
+use Rattle.hol_orders.specs.declared.reply.Reply.TheVariants as reply
+use Rattle.hollow_machine.specs.State.{Machine}
+
+-- What is answered of the type at an index, where there is one of the name.
+abbrev pub AnswersAt : Position → Option ℕ → Name → (Position → ℕ → Reply → Type 0) → Reply → Type 0
+AnswersAt now None name Answers answer = answer ≡ reply.Refused (NoType name)
+AnswersAt now (Some t) name Answers answer = Answers now t answer
+
+-- What is answered of a type of this name: that the consumer has no state, that its model has no such type, or what is asked.
+abbrev pub AnswersOf : Option Position → Name → (Position → ℕ → Reply → Type 0) → Reply → Type 0
+AnswersOf None name Answers answer = answer ≡ reply.Refused NoState
+AnswersOf (Some now) name Answers answer = AnswersAt now (index_of_type now.schemas name) name Answers answer
+
+-- These are the live ordinals of a type, rising.
+pub record AreLive (table : Table) (type_index : ℕ) (ordinals : List ℕ) : Type 0 where
+  pub rising : Rises ordinals
+  pub are : (ordinal : ℕ) → Contains ordinals ordinal ↔ IsLive table type_index ordinal
+
+-- What `live` answers of a type.
+abbrev pub ListsLive : Position → ℕ → Reply → Type 0
+ListsLive now t (reply.Live ordinals) = AreLive (rows_now now) t ordinals
+ListsLive now t _ = ⊥
+
+abbrev pub LiveReply : Option Position → Name → Reply → Type 0
+LiveReply consumer name answer = AnswersOf consumer name ListsLive answer
+
+-- the record of a row, in a table of the consumer's model
+abbrev pub record_at : Position → Table → ℕ → ℕ → PlainTree
+record_at now table t ordinal = unfold_row now.schemas table t ordinal
+
+-- Why a row is not shown: its ordinal is not live, or its record has too many nodes.
+abbrev pub RowRefusal : Name → ℕ → Position → ℕ → Refusal → Type 0
+RowRefusal name ordinal now t (NoRow row) = (row.type_name ≡ name) × (row.ordinal ≡ ordinal) × ¬ IsLive (rows_now now) t ordinal
+RowRefusal name ordinal now t (TooLarge Nodes) = IsLive (rows_now now) t ordinal × (number_of_limit Nodes < node_count (record_at now (rows_now now) t ordinal))
+RowRefusal name ordinal now t _ = ⊥
+
+-- What `row` answers of a type: the record under an ordinal.
+abbrev pub ShowsRow : Name → ℕ → Position → ℕ → Reply → Type 0
+ShowsRow name ordinal now t (reply.Row value) =
+    IsLive (rows_now now) t ordinal × (node_count (record_at now (rows_now now) t ordinal) ≤ number_of_limit Nodes)
+    × PrintsTree now.schemas t (record_at now (rows_now now) t ordinal) (view value)
+ShowsRow name ordinal now t (reply.Refused refusal) = RowRefusal name ordinal now t refusal
+ShowsRow name ordinal now t _ = ⊥
+
+abbrev pub RowReply : Option Position → Name → ℕ → Reply → Type 0
+RowReply consumer name ordinal answer = AnswersOf consumer name (ShowsRow name ordinal) answer
+
+-- the nodes of the records that left a type, under these ordinals
+abbrev pub nodes_gone : Position → ℕ → List ℕ → ℕ
+nodes_gone now t ordinals = sum_by (λ ordinal. node_count (record_at now now.before t ordinal)) ordinals
+
+-- An entry shows the record that left under an ordinal.
+abbrev pub ShowsGone : Position → ℕ → ℕ → ℕ × Value → Type 0
+ShowsGone now t ordinal entry = (entry.0 ≡ ordinal) × PrintsTree now.schemas t (record_at now now.before t ordinal) (view entry.1)
+
+-- What `past` answers of a type: the records that left in the last step, by rising ordinal, or that these have too many nodes together.
+abbrev pub ShowsPast : Position → ℕ → Reply → Type 0
+ShowsPast now t (reply.Past entries) =
+    (ordinals : List ℕ) × AreGone now t ordinals × (nodes_gone now t ordinals ≤ number_of_limit Nodes) × AllZip (ShowsGone now t) ordinals entries
+ShowsPast now t (reply.Refused (TooLarge Nodes)) = (ordinals : List ℕ) × AreGone now t ordinals × (number_of_limit Nodes < nodes_gone now t ordinals)
+ShowsPast now t _ = ⊥
+
+abbrev pub PastReply : Option Position → Name → Reply → Type 0
+PastReply consumer name answer = AnswersOf consumer name ShowsPast answer
+
+-- The answer is one of where the consumer stands, and the machine is as it was.
+abbrev pub Looks : (Option Position → Reply → Type 0) → Machine → Reply → Machine → Type 0
+Looks Answers machine answer next = Answers machine.consumer answer × (next ≡ machine)

@@ -1,0 +1,46 @@
+-- The order `step`: what it answers, and the machine behind it.
+use Rattle.std.specs.Prelude.{◌≡◌, ◌≢◌, ℕ, List, Option, Some, None, IsSomeAnd, if◌then◌else◌, nat_lt}
+use Rattle.hol_io.specs.declared.name.BlobName.{BlobName}
+use Rattle.hol_io.specs.declared.name.BlobName.TheVariants.{Delta, Reverse}
+use Rattle.hol_io.specs.Store.{told}
+use Rattle.blob_frame.specs.declared.header.Header.{Header}
+use Rattle.blob_frame.specs.Opened.{HasHeader}
+use Rattle.read_engine.specs.Position.{Position}
+use Rattle.read_engine.specs.Taking.{StepsBy}
+use Rattle.hol_orders.specs.declared.refusal.Refusal.{Refusal}
+use Rattle.hol_orders.specs.declared.refusal.Refusal.TheVariants.{BadBody, NoState, OtherOrigin}
+use Rattle.hol_orders.specs.declared.reply.Reply.{Reply}
+use Rattle.hol_orders.specs.declared.reply.Reply.TheVariants.{Refused, Step}
+use Rattle.hollow_machine.specs.Blobs.{HeadRefusal}
+use Rattle.hollow_machine.specs.State.{Machine}
+
+-- The blob that leads from one version to another one: the delta where versions rise, and else the reverse delta.
+abbrev pub step_name : ℕ → ℕ → BlobName
+step_name from to = if nat_lt from to then Delta from to else Reverse from to
+
+-- What the name holds has a header, and starts from the consumer's tag, but is no delta that the consumer can take.
+abbrev pub HasBadDelta : Option (List ℕ) → Position → Type 0
+HasBadDelta content now =
+    (header : Header) × (blob : List ℕ) × HasHeader content header × (content ≡ Some blob) × (header.origin ≡ now.tag)
+    × ((to : Position) → ¬ StepsBy blob now to)
+
+-- Why what a name holds does not move a consumer: the first cause that there is no header; or it starts from another state; or else it is no delta
+-- that fits.
+abbrev pub DeltaRefusal : BlobName → Option (List ℕ) → Position → Refusal → Type 0
+DeltaRefusal name content now (OtherOrigin blob found current) =
+    (blob ≡ name) × (current ≡ now.tag) × (found ≢ current) × ((header : Header) × HasHeader content header × (header.origin ≡ found))
+DeltaRefusal name content now (BadBody blob) = (blob ≡ name) × HasBadDelta content now
+DeltaRefusal name content now refusal = HeadRefusal name content refusal
+
+-- Why the order is refused: the consumer has no state, or what there is to the blob.
+abbrev pub StepRefusal : BlobName → Option (List ℕ) → Option Position → Refusal → Type 0
+StepRefusal name content consumer NoState = consumer ≡ None
+StepRefusal name content consumer refusal = IsSomeAnd consumer (λ now. DeltaRefusal name content now refusal)
+
+-- The consumer moves along the blob, to the tag of its destination, or the order is refused and all stays.
+abbrev pub StepStep : Machine → BlobName → Reply → Machine → Type 0
+StepStep machine name (Step tag) next =
+    IsSomeAnd machine.consumer (λ now. (blob : List ℕ) × (to : Position) × (told (Some machine.store) name ≡ Some blob) × StepsBy blob now to × (tag ≡ to.tag)
+    × (next ≡ record machine { consumer = Some to }))
+StepStep machine name (Refused refusal) next = StepRefusal name (told (Some machine.store) name) machine.consumer refusal × (next ≡ machine)
+StepStep machine name _ next = ⊥
