@@ -1,8 +1,8 @@
 -- What is known of the last state of a producer over a chain.
-use Rattle.std.proofs.Common.{◌≡◌, ◌⊎◌, ℕ, ℤ, pos, List, length, Some, inl, inr, refl, sym, ap, subst, ◌∙◌, arith}
+use Rattle.std.proofs.Common.{◌≡◌, ℕ, length, Some, inl, inr, sym, ap, subst, ◌∙◌, arith}
 use Rattle.std.specs.Prelude.{FitsSigned, IsSome, is_some, true}
 use Rattle.std.specs.Int.{w64}
-use Rattle.std.specs.FinMap.{get, empty, get-empty}
+use Rattle.std.specs.FinMap.{get, get-empty}
 use Rattle.std.specs.Ordering.{nat_cmp}
 use Rattle.std.proofs.lemmas.Int.{ints}
 use Rattle.hol_io.specs.Store.{Store}
@@ -16,7 +16,7 @@ use Rattle.write_engine.proofs.NextStates.{none_there}
 use Rattle.hollow_machine.specs.State.{Published}
 use Rattle.written_laws.specs.Chain.{Chain}
 use Rattle.written_laws.specs.States.{IsState}
-use Rattle.chain_laws.specs.Producers.{IsAt, IsOver, KeepsChain}
+use Rattle.chain_laws.specs.Producers.{IsOver, KeepsChain}
 use Rattle.chain_laws.proofs.StoredRows.{none_stored}
 
 -- no row twice, a state of the model, and a tag of 64 bits
@@ -25,7 +25,7 @@ pub record IsLast (last : Published) : Type 0 where
   pub state : IsState last.model last.rows
   pub tag : FitsSigned w64 last.tag
 
-none_once : (count : ℕ) → HoldsOnce (no_rows count)
+pub none_once : (count : ℕ) → HoldsOnce (no_rows count)
 none_once count = record {
   once = λ t a b row at_a at_b. absurd (none t a row at_a);
   low = λ t ordinal live. absurd (nothing t ordinal live);

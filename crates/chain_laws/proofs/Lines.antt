@@ -1,9 +1,8 @@
 -- What a line leaves of the chain that a store holds, and of the producer over it.
-use Rattle.std.proofs.Common.{◌≡◌, ◌⊎◌, ◌++◌, ℕ, ℤ, List, [], ◌∷◌, length, Bool, true, false, Some, None, inl, inr, refl, sym, ap, subst, ◌∙◌, arith}
+use Rattle.std.proofs.Common.{◌≡◌, ◌≤◌, ◌^◌, ℕ, ℤ, List, [], ◌∷◌, length, Bool, true, false, Some, None, inl, inr, refl, sym, subst, arith}
 use Rattle.std.specs.Prelude.{All, FitsSigned, IsSomeAnd, Option}
 use Rattle.std.specs.Int.{w64}
 use Rattle.std.specs.FinMap.{insert}
-use Rattle.std.proofs.lemmas.List.Elements.{All-head, All-tail}
 use Rattle.serde_json.specs.Data.{Data}
 use Rattle.serde_json.specs.View.{view}
 use Rattle.serde_json.specs.declared.value.Value.{Value}
@@ -16,29 +15,44 @@ use Rattle.hol_orders.specs.declared.reply.Reply.{Reply}
 use Rattle.hol_orders.specs.declared.reply.Reply.TheVariants as reply
 use Rattle.hol_orders.specs.Order.{Orders}
 use Rattle.write_engine.specs.CycleLimit.{TellsTypes}
-use Rattle.hollow_machine.specs.CycleOrder.{CycleStep, Leaves, Makes, Succeeds}
+use Rattle.read_engine.specs.Position.{Position}
+use Rattle.snapshot_blob.specs.Written.{IsWrittenSnapshot}
+use Rattle.hollow_machine.specs.CycleOrder.{CycleStep, Makes, Succeeds}
 use Rattle.hollow_machine.specs.Follow.{MayFollow}
+use Rattle.hollow_machine.specs.LoadOrder.{LoadStep}
 use Rattle.hollow_machine.specs.ModelOrder.{ModelStep}
 use Rattle.hollow_machine.specs.Puts.{Put, AreBlobs, IsShort, puts_of, put_all}
+use Rattle.hollow_machine.specs.RowOrders.{LiveReply, Looks, PastReply, RowReply}
 use Rattle.hollow_machine.specs.Script.{LineStep, Script}
 use Rattle.hollow_machine.specs.State.{Machine, Published, new_producer}
 use Rattle.hollow_machine.specs.Step.{Refuses, Step}
+use Rattle.hollow_machine.specs.StepOrder.{StepStep, step_name}
+use Rattle.hol_io.specs.declared.name.BlobName.{BlobName}
 use Rattle.hol_io.specs.declared.name.BlobName.TheVariants.{Announced}
-use Rattle.hol_io.specs.Store.{Store}
-use Rattle.written_laws.specs.Chain.{Chain}
-use Rattle.chain_laws.specs.Growth.{AddsState, DefinesWritable, GrowsBy, GrowsAlong}
+use Rattle.written_laws.specs.Chain.{Chain, ChainState, HasVersion}
+use Rattle.written_laws.specs.States.{IsWritableModel}
+use Rattle.chain_laws.specs.Growth.{AddsState, GrowsBy, GrowsAlong}
 use Rattle.chain_laws.specs.Producers.{IsOver, IsProducerOf, KeepsChain, state_behind}
-use Rattle.chain_laws.proofs.PublishedState.{first_kept, later_kept, over_longer}
+use Rattle.chain_laws.proofs.Answering.{IsNoCycle, unless_cycle, live_no_cycle, row_no_cycle, past_no_cycle}
+use Rattle.chain_laws.proofs.FewPaths.{few_paths}
+use Rattle.chain_laws.proofs.PublishedState.{first_kept, later_kept, over_longer, versions_stay}
+use Rattle.chain_laws.proofs.StoreNames.{found_with}
+use Rattle.chain_laws.proofs.ValueTexts.{named_texts}
+
+-- each state of the one chain is one of the other
+abbrev pub Extends : Chain → Chain → Type 0
+Extends chain after = (v : ℕ) (s : ChainState) → HasVersion chain v s → HasVersion after v s
 
 -- the line leaves this machine, and the chain grew by what it published
 abbrev pub Keeps : Machine → List ℕ → Reply → Chain → Machine → Type 0
-Keeps machine line answer chain next = (after : Chain) × GrowsBy machine line answer chain after × KeepsChain next.store after × IsProducerOf after next.producer
+Keeps machine line answer chain next =
+    (after : Chain) × GrowsBy machine line answer chain after × KeepsChain next.store after × IsProducerOf after next.producer × Extends chain after
 
 module _ (machine : Machine) (line : List ℕ) (chain : Chain) (kept : KeepsChain machine.store chain) (over : IsProducerOf chain machine.producer) where
   same_keeps : (answer : Reply) (next : Machine) → GrowsBy machine line answer chain chain → next ≡ machine → Keeps machine line answer chain next
   same_keeps answer next grows same =
       let both = subst (λ (m : Machine). KeepsChain m.store chain × IsProducerOf chain m.producer) (sym same) (kept, over) in
-      (chain, grows, both.0, both.1)
+      (chain, grows, both.0, both.1, (λ v s there. there))
 
   refused_keeps : (answer : Reply) (next : Machine) (refusal : Refusal) → Refuses machine refusal answer next → Keeps machine line answer chain next
   refused_keeps answer next refusal refuses =
@@ -46,17 +60,32 @@ module _ (machine : Machine) (line : List ℕ) (chain : Chain) (kept : KeepsChai
 
   -- ---- cycle
 
+  can_write : (last : Published) (rows : Table) (tag : ℤ) (snapshot : List ℕ) → IsOver chain last → IsWrittenSnapshot last.model last.rows rows last.tag tag snapshot → length snapshot ≤ 2 ^ 28
+      → IsWritableModel last.model
+  can_write last rows tag snapshot is_over written short = record {
+    model = is_over.model;
+    texts = is_over.texts;
+    few = few_paths last.model last.rows rows last.tag tag snapshot written short;
+  }
+
+  -- where the blobs are short, the model can be written
+  writable : (last : Published) (rows : Table) (version : ℕ) (tag : ℤ) (blobs : List Put) → IsOver chain last → AreBlobs last rows version tag blobs → All IsShort blobs → IsWritableModel last.model
+  writable last rows version tag blobs is_over (inl (zero_before, (snapshot, written, is))) short =
+      can_write last rows tag snapshot is_over written (subst (All IsShort) is short 0 (Announced, []) (omega arith))
+  writable last rows version tag blobs is_over (inr (nonzero, (delta, reverse, snapshot, forward, back, written, is))) short =
+      can_write last rows tag snapshot is_over written (subst (All IsShort) is short 2 (Announced, []) (omega arith))
+
   puts_keep : (last : Published) (version : ℕ) (tag : ℤ) (add : Data) (rows : Table) (changed : List ℕ) (blobs : List Put) → IsOver chain last → IsVersion version → FitsSigned w64 tag
       → MayFollow machine.store last.version version tag → (makes : Makes last add rows changed) → TellsTypes last.model last.rows rows None
-      → AreBlobs last rows version tag blobs → All IsShort blobs → KeepsChain (put_all machine.store (puts_of blobs version)) (insert chain version (state_behind last tag rows))
-  puts_keep last version tag add rows changed blobs is_over is_version fits may makes limits (inl (zero_before, (snapshot, written, is))) short =
+      → AreBlobs last rows version tag blobs → All IsShort blobs → IsWritableModel last.model → KeepsChain (put_all machine.store (puts_of blobs version)) (insert chain version (state_behind last tag rows))
+  puts_keep last version tag add rows changed blobs is_over is_version fits may makes limits (inl (zero_before, (snapshot, written, is))) short can =
       let all = subst (All IsShort) is short in
       subst (λ (bs : List Put). KeepsChain (put_all machine.store (puts_of bs version)) (insert chain version (state_behind last tag rows))) (sym is)
-      (first_kept machine.store chain last version tag makes.trees rows kept is_over may is_version fits makes.state limits snapshot zero_before written (all 0 (Announced, []) (omega arith)))
-  puts_keep last version tag add rows changed blobs is_over is_version fits may makes limits (inr (nonzero, (delta, reverse, snapshot, forward, back, written, is))) short =
+      (first_kept machine.store chain last version tag makes.trees rows kept is_over can may is_version fits makes.state limits snapshot zero_before written (all 0 (Announced, []) (omega arith)))
+  puts_keep last version tag add rows changed blobs is_over is_version fits may makes limits (inr (nonzero, (delta, reverse, snapshot, forward, back, written, is))) short can =
       let all = subst (All IsShort) is short in
       subst (λ (bs : List Put). KeepsChain (put_all machine.store (puts_of bs version)) (insert chain version (state_behind last tag rows))) (sym is)
-      (later_kept machine.store chain last version tag makes.trees rows kept is_over may is_version fits makes.state limits delta reverse snapshot nonzero forward back written
+      (later_kept machine.store chain last version tag makes.trees rows kept is_over can may is_version fits makes.state limits delta reverse snapshot nonzero forward back written
       (all 0 (Announced, []) (omega arith)) (all 1 (Announced, []) (omega arith)) (all 2 (Announced, []) (omega arith)))
 
   cycle_done : (producer : Option Published) → machine.producer ≡ producer → (version : ℕ) (tag : ℤ) (add : Value) (names : List (List ℕ)) (published : Bool) (next : Machine)
@@ -67,14 +96,16 @@ module _ (machine : Machine) (line : List ℕ) (chain : Chain) (kept : KeepsChai
       same_keeps (reply.Cycle names false version) next refl leaves.2
   cycle_done (Some last) is version tag add names true next orders is_version fits is_over (may, types, (rows, changed, makes, named, (publishes, limits, (blobs, are, short, next_is)))) =
       let longer = insert chain version (state_behind last tag rows) in
-      let held = puts_keep last version tag (view add) rows changed blobs is_over is_version fits may makes limits are short in
-      let moved = over_longer machine.store chain last version tag makes.trees rows kept is_over may is_version fits makes.state limits in
+      let can = writable last rows version tag blobs is_over are short in
+      let held = puts_keep last version tag (view add) rows changed blobs is_over is_version fits may makes limits are short can in
+      let moved = over_longer machine.store chain last version tag makes.trees rows kept is_over can may is_version fits makes.state limits in
       let grows : AddsState chain last version tag (view add) longer = (makes.trees, rows, makes.read, makes.state, refl) in
       let both = subst (λ (m : Machine). KeepsChain m.store longer × IsProducerOf longer m.producer) (sym next_is) (held, moved) in (
         longer,
         (tag, add, orders, subst (λ (p : Option Published). IsSomeAnd p (λ l. AddsState chain l version tag (view add) longer)) (sym is) grows),
         both.0,
         both.1,
+        versions_stay machine.store chain last version tag makes.trees rows kept is_over can may is_version fits makes.state limits,
       )
 
   cycle_keeps : (version : ℕ) (tag : ℤ) (add : Value) (answer : Reply) (next : Machine) → Orders line (order.Cycle version tag add) → CycleStep machine version tag (view add) answer next → Keeps machine line answer chain next
@@ -86,31 +117,58 @@ module _ (machine : Machine) (line : List ℕ) (chain : Chain) (kept : KeepsChai
 
   -- ---- model
 
-  model_keeps : (value : Value) (answer : Reply) (next : Machine) → DefinesWritable line → Orders line (order.Model value) → ModelStep machine (view value) answer next → Keeps machine line answer chain next
-  model_keeps value (reply.Model types) next defines orders (schemas, none, stands, model, count, next_is) =
-      let fresh : IsOver chain (new_producer schemas) = record { model = defines value schemas orders stands model; stands = inl refl } in
+  model_keeps : (value : Value) (answer : Reply) (next : Machine) → ModelStep machine (view value) answer next → Keeps machine line answer chain next
+  model_keeps value (reply.Model types) next (schemas, none, stands, model, count, next_is) =
+      let fresh : IsOver chain (new_producer schemas) = record { model = model; texts = named_texts value schemas stands; stands = inl refl } in
       let both = subst (λ (m : Machine). KeepsChain m.store chain × IsProducerOf chain m.producer) (sym next_is) (kept, fresh) in
-      (chain, refl, both.0, both.1)
-  model_keeps value (reply.Refused refusal) next defines orders step = same_keeps (reply.Refused refusal) next refl step.1
-  model_keeps value _ next defines orders step = absurd step
+      (chain, refl, both.0, both.1, (λ v s there. there))
+  model_keeps value (reply.Refused refusal) next step = same_keeps (reply.Refused refusal) next refl step.1
+  model_keeps value _ next step = absurd step
 
-  order_keeps : (asked : Order) (answer : Reply) (next : Machine) → DefinesWritable line → Orders line asked → Step machine asked answer next → Keeps machine line answer chain next
-  order_keeps (order.Model value) answer next defines orders step = model_keeps value answer next defines orders step
-  order_keeps (order.Cycle version tag add) answer next defines orders step = cycle_keeps version tag add answer next orders step
-  order_keeps _ answer next defines orders step = refused_keeps answer next _ step
+  -- ---- the consumer's orders
 
-  pub line_keeps : (answer : Reply) (next : Machine) → DefinesWritable line → LineStep machine line answer next → Keeps machine line answer chain next
-  line_keeps answer next defines (inl long) = refused_keeps answer next _ long.1
-  line_keeps answer next defines (inr (short, inl none)) = refused_keeps answer next _ none.1
-  line_keeps answer next defines (inr (short, inr (asked, orders, step))) = order_keeps asked answer next defines orders step
+  beside_keeps : (answer : Reply) (next : Machine) (consumer : Option Position) → GrowsBy machine line answer chain chain → next ≡ record machine { consumer = consumer } → Keeps machine line answer chain next
+  beside_keeps answer next consumer grows same =
+      let both = subst (λ (m : Machine). KeepsChain m.store chain × IsProducerOf chain m.producer) (sym same) (kept, over) in
+      (chain, grows, both.0, both.1, (λ v s there. there))
 
-pub script_keeps : (machine next : Machine) (lines : List (List ℕ)) (text : List ℕ) (refused : Bool) (chain : Chain) → Script machine lines text refused next → All DefinesWritable lines
+  load_keeps : (version : ℕ) (answer : Reply) (next : Machine) → LoadStep machine version answer next → Keeps machine line answer chain next
+  load_keeps version (reply.Load tag) next (blob, position, at, loads, tag_is, next_is) = beside_keeps (reply.Load tag) next (Some position) refl next_is
+  load_keeps version (reply.Refused refusal) next step = same_keeps (reply.Refused refusal) next refl step.1
+  load_keeps version _ next step = absurd step
+
+  step_keeps : (name : BlobName) (answer : Reply) (next : Machine) → StepStep machine name answer next → Keeps machine line answer chain next
+  step_keeps name (reply.Step tag) next step =
+      let (now, is, (blob, to, at, steps, tag_is, next_is)) = found_with machine.consumer _ step in
+      beside_keeps (reply.Step tag) next (Some to) refl next_is
+  step_keeps name (reply.Refused refusal) next step = same_keeps (reply.Refused refusal) next refl step.1
+  step_keeps name _ next step = absurd step
+
+  looks_keep : (Answers : Option Position → Reply → Type 0) (answer : Reply) (next : Machine) → (Answers machine.consumer answer → IsNoCycle answer) → Looks Answers machine answer next → Keeps machine line answer chain next
+  looks_keep Answers answer next none step = same_keeps answer next (unless_cycle machine line chain answer (none step.0)) step.1
+
+  order_keeps : (asked : Order) (answer : Reply) (next : Machine) → Orders line asked → Step machine asked answer next → Keeps machine line answer chain next
+  order_keeps (order.Model value) answer next orders step = model_keeps value answer next step
+  order_keeps (order.Cycle version tag add) answer next orders step = cycle_keeps version tag add answer next orders step
+  order_keeps (order.Load version) answer next orders step = load_keeps version answer next step
+  order_keeps (order.Step from to) answer next orders step = step_keeps (step_name from to) answer next step
+  order_keeps (order.Live name) answer next orders step = looks_keep (λ consumer a. LiveReply consumer name a) answer next (live_no_cycle machine.consumer name answer) step
+  order_keeps (order.Row name ordinal) answer next orders step = looks_keep (λ consumer a. RowReply consumer name ordinal a) answer next (row_no_cycle machine.consumer name ordinal answer) step
+  order_keeps (order.Past name) answer next orders step = looks_keep (λ consumer a. PastReply consumer name a) answer next (past_no_cycle machine.consumer name answer) step
+  order_keeps _ answer next orders step = refused_keeps answer next _ step
+
+  pub line_keeps : (answer : Reply) (next : Machine) → LineStep machine line answer next → Keeps machine line answer chain next
+  line_keeps answer next (inl long) = refused_keeps answer next _ long.1
+  line_keeps answer next (inr (short, inl none)) = refused_keeps answer next _ none.1
+  line_keeps answer next (inr (short, inr (asked, orders, step))) = order_keeps asked answer next orders step
+
+pub script_keeps : (machine next : Machine) (lines : List (List ℕ)) (text : List ℕ) (refused : Bool) (chain : Chain) → Script machine lines text refused next
     → KeepsChain machine.store chain → IsProducerOf chain machine.producer
     → (after : Chain) × GrowsAlong machine lines text chain next after × KeepsChain next.store after × IsProducerOf after next.producer
-script_keeps machine next [] text refused chain script defines kept over =
+script_keeps machine next [] text refused chain script kept over =
     let both = subst (λ (m : Machine). KeepsChain m.store chain × IsProducerOf chain m.producer) (sym script.2) (kept, over) in
     (chain, (script.0, script.2, refl), both.0, both.1)
-script_keeps machine next (line ∷ lines) text refused chain (answer, between, rest, others, step, later, text_is, refused_is) defines kept over =
-    let (middle, grows, held, moved) = line_keeps machine line chain kept over answer between (All-head DefinesWritable line lines defines) step in
-    let (after, along, still, there) = script_keeps between next lines rest others middle later (All-tail DefinesWritable line lines defines) held moved in
+script_keeps machine next (line ∷ lines) text refused chain (answer, between, rest, others, step, later, text_is, refused_is) kept over =
+    let (middle, grows, held, moved, extends) = line_keeps machine line chain kept over answer between step in
+    let (after, along, still, there) = script_keeps between next lines rest others middle later held moved in
     (after, (answer, between, middle, rest, step, grows, along, text_is), still, there)

@@ -1,6 +1,6 @@
 -- A chain with a published state more, in a store with its blobs.
-use Rattle.std.proofs.Common.{◌≡◌, ◌≤◌, ◌<◌, ◌⊎◌, ℕ, List, Option, Some, None, inl, inr, refl, sym, ap, subst, ◌∙◌, arith}
-use Rattle.std.specs.Prelude.{IsTrue, IsSome, is_some}
+use Rattle.std.proofs.Common.{◌≡◌, ◌<◌, ◌⊎◌, ℕ, List, Some, inl, inr, sym, ap, subst, ◌∙◌, arith}
+use Rattle.std.specs.Prelude.{IsTrue, is_some}
 use Rattle.std.specs.FinMap.{get, insert, nat_cmp-IsAntisymmetric}
 use Rattle.std.specs.Cmp.{nat_cmp_total}
 use Rattle.hol_io.specs.declared.name.BlobName.{BlobName}
@@ -11,7 +11,7 @@ use Rattle.chain_store.specs.Announced.{IsAnnounced}
 use Rattle.chain_store.specs.Tags.{IsBlob, IsTagTaken}
 use Rattle.chain_store.specs.Versions.{last_version}
 use Rattle.written_laws.specs.Chain.{Chain, ChainState, HasVersion, IsSound, Follows, IsChain}
-use Rattle.written_laws.specs.HoldsChain.{IsOfChain, IsThere, HasBlobs, HoldsChain}
+use Rattle.written_laws.specs.HoldsChain.{IsOfChain, IsThere, HasBlobs}
 use Rattle.chain_laws.specs.Producers.{KeepsChain}
 use Rattle.chain_laws.proofs.Inserting.{inserted, beside, here_or_beside}
 use Rattle.chain_laws.proofs.StoreNames.{found, newest_below, one_announced, taken_stays}

@@ -6,7 +6,6 @@ use Rattle.std.specs.FinMap.{empty, get-empty, values}
 use Rattle.std.specs.Ordering.{nat_cmp}
 use Rattle.std.proofs.lemmas.Bool.{cases_lt}
 use Rattle.schema_model.specs.declared.rows.row.Row.{Row}
-use Rattle.schema_model.specs.declared.schema.Schema.{Schema}
 use Rattle.schema_model.specs.PlainTree.{PlainTree}
 use Rattle.schema_model.specs.Table.{Table, row_at}
 use Rattle.row_walk.specs.BothStates.{rows_in}
@@ -21,7 +20,7 @@ use Rattle.write_engine.specs.Soundness.{IsClosedTableOf}
 use Rattle.write_engine.proofs.ClosedStates.{next_closed}
 use Rattle.write_engine.proofs.NextStates.{next_agree, next_once}
 use Rattle.hollow_machine.specs.State.{Published}
-use Rattle.written_laws.specs.Chain.{ChainState, IsSound}
+use Rattle.written_laws.specs.Chain.{IsSound}
 use Rattle.written_laws.specs.States.{IsWritableModel, IsState, AreStates}
 use Rattle.chain_laws.specs.Producers.{state_behind}
 use Rattle.chain_laws.proofs.StoredRows.{next_stored}

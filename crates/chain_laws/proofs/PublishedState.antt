@@ -1,6 +1,6 @@
 -- A cycle that publishes: the store holds the chain with the state more, at which the producer is then.
 use Rattle.std.proofs.Common.{◌≡◌, ◌≢◌, ◌≤◌, ◌<◌, ◌^◌, ◌⊎◌, ℕ, ℤ, List, [], ◌∷◌, length, Some, None, inl, inr, refl, sym, ap, subst, ◌∙◌, arith}
-use Rattle.std.specs.Prelude.{All, FitsSigned, IsSome, is_some, true, Option}
+use Rattle.std.specs.Prelude.{FitsSigned, IsSome, is_some, true, Option}
 use Rattle.std.specs.Fmt.{decimal}
 use Rattle.std.specs.Int.{w64, cast_unsigned}
 use Rattle.std.specs.FinMap.{get, insert, nat_cmp-IsAntisymmetric}
@@ -15,26 +15,26 @@ use Rattle.schema_model.specs.Table.{Table}
 use Rattle.write_engine.specs.Cycle.{Next}
 use Rattle.write_engine.specs.CycleLimit.{TellsTypes}
 use Rattle.chain_store.specs.Announced.{Announces, IsAnnounced}
-use Rattle.chain_store.specs.Tags.{IsBlob, IsTagTaken}
+use Rattle.chain_store.specs.Tags.{IsBlob}
 use Rattle.chain_store.specs.Versions.{newest}
 use Rattle.delta_blob.specs.Changes.{IsDeltaBetween}
 use Rattle.snapshot_blob.specs.Written.{IsWrittenSnapshot}
 use Rattle.hollow_machine.specs.Follow.{MayFollow}
-use Rattle.hollow_machine.specs.Puts.{Put, AreBlobs, AreFirst, AreLater, IsShort, puts_of, put_all}
+use Rattle.hollow_machine.specs.Puts.{Put, put_all}
 use Rattle.hollow_machine.specs.State.{Published}
 use Rattle.written_laws.specs.Chain.{Chain, ChainState, HasVersion, Follows, IsSound}
 use Rattle.written_laws.specs.HoldsChain.{IsOfChain, IsSnapshotOfState, LeadsBetween, OfStep}
 use Rattle.written_laws.specs.Snapshot.{header_between}
-use Rattle.written_laws.specs.States.{AreStates}
+use Rattle.written_laws.specs.States.{AreStates, IsWritableModel}
 use Rattle.written_laws.proofs.DeltaRead.{delta_read}
 use Rattle.written_laws.proofs.SnapshotRead.{snapshot_read}
 use Rattle.written_laws.proofs.StatesBack.{states_back}
-use Rattle.chain_laws.specs.Producers.{IsAt, IsOver, KeepsChain, state_behind}
+use Rattle.chain_laws.specs.Producers.{IsOver, KeepsChain, state_behind}
 use Rattle.chain_laws.proofs.Inserting.{inserted, beside}
 use Rattle.chain_laws.proofs.LastState.{IsLast, last_is}
 use Rattle.chain_laws.proofs.LongerChain.{earlier, longer_kept}
 use Rattle.chain_laws.proofs.NewState.{states, state_after, same_rows, sound}
-use Rattle.chain_laws.proofs.Putting.{IsPutIn, IsUntouched, put_or_before, untouched, put_there}
+use Rattle.chain_laws.proofs.Putting.{IsPutIn, put_or_before, untouched, put_there}
 use Rattle.chain_laws.proofs.StoreNames.{newest_below, taken}
 use Rattle.chain_laws.proofs.WrittenTags.{snapshot_tagged}
 
@@ -55,7 +55,7 @@ snapshot_reverse : {v a b : ℕ} → Snapshot v ≡ Reverse a b → ⊥
 snapshot_reverse same = let no : 0 ≡ 2 = ap kind_of same in omega (arith, no)
 
 module _ (store : Store) (chain : Chain) (last : Published) (version : ℕ) (tag : ℤ) (trees : List (ℕ × PlainTree)) (rows : Table)
-    (kept : KeepsChain store chain) (over : IsOver chain last) (may : MayFollow store last.version version tag) (is_version : IsVersion version) (fits : FitsSigned w64 tag)
+    (kept : KeepsChain store chain) (over : IsOver chain last) (writable : IsWritableModel last.model) (may : MayFollow store last.version version tag) (is_version : IsVersion version) (fits : FitsSigned w64 tag)
     (made : Next last.model last.rows trees rows) (limits : TellsTypes last.model last.rows rows None) where
   abbrev state : ChainState
   state = state_behind last tag rows
@@ -67,10 +67,10 @@ module _ (store : Store) (chain : Chain) (last : Published) (version : ℕ) (tag
   is_last = last_is store chain last kept over
 
   are : AreStates last.model last.rows rows
-  are = states last rows trees over.model is_last.once is_last.state made limits
+  are = states last rows trees writable is_last.once is_last.state made limits
 
   is_sound : IsSound state
-  is_sound = sound last rows trees over.model is_last.once is_last.state made limits tag fits (λ e. may.unused (inl e))
+  is_sound = sound last rows trees writable is_last.once is_last.state made limits tag fits (λ e. may.unused (inl e))
 
   new_here : HasVersion longer version state
   new_here = inserted nat_cmp_total nat_cmp-IsAntisymmetric chain version state
@@ -85,7 +85,7 @@ module _ (store : Store) (chain : Chain) (last : Published) (version : ℕ) (tag
           earlier = earlier store chain kept version may.later last.version (record { tag = last.tag; parent = at.parent; published = true; model = last.model; table = last.rows }) at.there;
           published = refl;
           model = refl;
-          agree = λ t inside. same_rows last rows trees over.model is_last.once is_last.state made limits t;
+          agree = λ t inside. same_rows last rows trees writable is_last.once is_last.state made limits t;
         }
       ]
 
@@ -230,5 +230,12 @@ module _ (store : Store) (chain : Chain) (last : Published) (version : ℕ) (tag
   pub over_longer : IsOver longer (record { model = last.model; rows = rows; tag = tag; version = version })
   over_longer = record {
     model = over.model;
-    stands = inr record { parent = last.version; there = new_here; stored = (state_after last rows trees over.model is_last.once is_last.state made limits).stored };
+    texts = over.texts;
+    stands = inr record { parent = last.version; there = new_here; stored = (state_after last rows trees writable is_last.once is_last.state made limits).stored };
   }
+
+  -- the states that were there are there
+  pub versions_stay : (v : ℕ) (s : ChainState) → HasVersion chain v s → HasVersion longer v s
+  versions_stay v s there =
+      let low = earlier store chain kept version may.later v s there in
+      beside nat_cmp_total nat_cmp-IsAntisymmetric chain version state v (λ e. omega (arith, e, low)) ∙ there

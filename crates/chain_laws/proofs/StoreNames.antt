@@ -1,14 +1,13 @@
 -- The names of a store: none is of a later version than the last one, and a blob with a tag makes the tag taken.
-use Rattle.std.proofs.Common.{◌≡◌, ◌≤◌, ◌<◌, ◌⊎◌, ℕ, ℤ, zero, suc, List, [], ◌∷◌, length, get_or, max, map, Option, Some, None, inl, inr, refl, sym, ap, subst, ◌∙◌, arith}
+use Rattle.std.proofs.Common.{◌≡◌, ◌≤◌, ◌<◌, ℕ, ℤ, zero, suc, List, [], ◌∷◌, length, get_or, max, map, Option, Some, None, refl, sym, ap, subst, ◌∙◌, arith}
 use Rattle.std.specs.Prelude.{Contains, IsSome, IsSomeAnd, is_some, fold}
 use Rattle.std.specs.FinMap.{get, keys, contains_key-keys}
-use Rattle.std.specs.Fmt.{decimal}
 use Rattle.std.specs.Int.{w64, cast_unsigned}
 use Rattle.std.proofs.lemmas.Fmt.{decimal_injective}
 use Rattle.std.proofs.lemmas.Map.Views.{Contains-from_any, tells_apart}
 use Rattle.hol_io.specs.declared.name.BlobName.{BlobName}
 use Rattle.hol_io.specs.Store.{Store, names}
-use Rattle.chain_laws.proofs.NameOrder.{name_cmp_total, name_cmp-IsAntisymmetric}
+use Rattle.chain_laws.proofs.NameOrder.{name_cmp-IsAntisymmetric}
 use Rattle.chain_store.specs.Announced.{Announces}
 use Rattle.chain_store.specs.Tags.{HasTag, IsBlob, IsTagTaken}
 use Rattle.chain_store.specs.Versions.{newest, last_version}

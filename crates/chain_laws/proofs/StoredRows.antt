@@ -1,7 +1,7 @@
 -- A blob can hold the rows that a cycle makes: a value that it cannot hold was taken as null.
-use Rattle.std.proofs.Common.{◌≡◌, ℕ, ℤ, zero, suc, List, [], ◌∷◌, Bool, true, false, if◌then◌else◌, length, Option, Some, None, inl, inr, refl, sym, ap, subst, ◌∙◌, map as images}
-use Rattle.std.specs.Prelude.{slice_set, slice_get}
-use Rattle.std.specs.FinMap.{get, insert, empty, get-empty}
+use Rattle.std.proofs.Common.{◌≡◌, ℕ, ℤ, zero, suc, List, [], ◌∷◌, Bool, true, false, if◌then◌else◌, length, Some, inl, inr, refl, sym, ap, subst, ◌∙◌, map as images}
+use Rattle.std.specs.Prelude.{slice_set}
+use Rattle.std.specs.FinMap.{get, insert, get-empty}
 use Rattle.std.specs.Ordering.{nat_cmp}
 use Rattle.std.proofs.lemmas.Bool.{cases_eq}
 use Rattle.schema_model.specs.declared.rows.row.Row.{Row}
@@ -15,7 +15,7 @@ use Rattle.typed_trees.specs.FitsTree.{IsLeafOr}
 use Rattle.ordinal_map.proofs.SlotRows.{get_inserted, get_beside}
 use Rattle.row_walk.proofs.RowsFrom.{get_in}
 use Rattle.row_packing.specs.Written.{IsStored}
-use Rattle.write_engine.specs.Cycle.{Adds, AddsFields, AddsAll, AddsPairs, AddsRecords, Next, PutsRow, no_rows, rows_in, with_row}
+use Rattle.write_engine.specs.Cycle.{Adds, AddsFields, AddsAll, AddsPairs, AddsRecords, Next, PutsRow, no_rows, rows_in}
 
 -- a blob can hold each row of the table
 abbrev pub AreStored : Table → Type 0

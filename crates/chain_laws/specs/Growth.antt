@@ -4,12 +4,9 @@ use Rattle.std.specs.FinMap.{insert}
 use Rattle.serde_json.specs.Data.{Data}
 use Rattle.serde_json.specs.View.{view}
 use Rattle.serde_json.specs.declared.value.Value.{Value}
-use Rattle.schema_model.specs.declared.schema.Schema.{Schema}
-use Rattle.schema_model.specs.Model.{IsModel}
 use Rattle.schema_model.specs.PlainTree.{PlainTree}
 use Rattle.schema_model.specs.Table.{Table}
 use Rattle.write_engine.specs.Cycle.{Next}
-use Rattle.json_rows.specs.SchemaJson.{StandsFor}
 use Rattle.hol_orders.specs.declared.order.Order.TheVariants as order
 use Rattle.hol_orders.specs.declared.reply.Reply.{Reply}
 use Rattle.hol_orders.specs.declared.reply.Reply.TheVariants.{Cycle}
@@ -19,7 +16,6 @@ use Rattle.hollow_machine.specs.Records.{AreRead, entries}
 use Rattle.hollow_machine.specs.Script.{LineStep}
 use Rattle.hollow_machine.specs.State.{Machine, Published}
 use Rattle.written_laws.specs.Chain.{Chain}
-use Rattle.written_laws.specs.States.{IsWritableModel}
 use Rattle.chain_laws.specs.Producers.{state_behind}
 
 -- The chain has one state more, under this version: the next state that the records make behind the producer's last one.
@@ -27,11 +23,6 @@ abbrev pub AddsState : Chain → Published → ℕ → ℤ → Data → Chain �
 AddsState chain last version tag add after =
     (trees : List (ℕ × PlainTree)) × (rows : Table) × AreRead last.model (entries last.model add) trees × Next last.model last.rows trees rows
     × (after ≡ insert chain version (state_behind last tag rows))
-
--- Each model that the line defines can be written.
-abbrev pub DefinesWritable : List ℕ → Type 0
-DefinesWritable line =
-    (value : Value) (schemas : List Schema) → Orders line (order.Model value) → StandsFor (view value) schemas → IsModel schemas → IsWritableModel schemas
 
 -- What a line with this answer makes of the chain: where the answer is that it published, it has the state of the line's cycle more, and
 -- else it is the same.

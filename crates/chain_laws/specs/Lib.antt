@@ -1,2 +1,5 @@
+pub mod Answers
+pub mod Consumers
 pub mod Growth
+pub mod Headline
 pub mod Producers

@@ -1,14 +1,17 @@
 -- What a producer has to do with a chain: it has published nothing, or it is at a published state of the chain.
-use Rattle.std.specs.Prelude.{◌≡◌, ◌⊎◌, ℕ, ℤ, List, Option, IfSome, true}
+use Rattle.std.specs.Prelude.{◌≡◌, ◌⊎◌, ℕ, ℤ, Option, IfSome, All, IsUtf8, true}
+use Rattle.std.specs.FinMap.{get}
+use Rattle.hol_io.specs.declared.name.BlobName.{BlobName}
 use Rattle.hol_io.specs.Store.{Store}
-use Rattle.schema_model.specs.declared.schema.Schema.{Schema}
+use Rattle.blob_grammar.specs.Decided.{AreBytes}
+use Rattle.schema_model.specs.Model.{IsModel}
+use Rattle.schema_model.specs.Schema.{EachName}
 use Rattle.schema_model.specs.Table.{Table, EachRow}
 use Rattle.row_packing.specs.Written.{IsStored}
 use Rattle.chain_store.specs.Tags.{IsTagTaken}
 use Rattle.hollow_machine.specs.State.{Published, new_producer}
 use Rattle.written_laws.specs.Chain.{Chain, ChainState, HasVersion}
 use Rattle.written_laws.specs.HoldsChain.{HoldsChain}
-use Rattle.written_laws.specs.States.{IsWritableModel}
 
 -- The state that a producer publishes behind its last one: its model, and these rows under this tag.
 abbrev pub state_behind : Published → ℤ → Table → ChainState
@@ -21,9 +24,10 @@ pub record IsAt (chain : Chain) (last : Published) : Type 0 where
   pub there : HasVersion chain last.version (record { tag = last.tag; parent = parent; published = true; model = last.model; table = last.rows })
   pub stored : EachRow last.model last.rows (λ schema row. IsStored row)
 
--- A producer over the chain: its model can be written, and it is new or at a published state.
+-- A producer over the chain: it has a model, whose names are texts, and it is new or at a published state.
 pub record IsOver (chain : Chain) (last : Published) : Type 0 where
-  pub model : IsWritableModel last.model
+  pub model : IsModel last.model
+  pub texts : All (EachName IsUtf8) last.model
   pub stands : (last ≡ new_producer last.model) ⊎ IsAt chain last
 
 -- There is no producer, or it is over the chain.
@@ -34,3 +38,7 @@ IsProducerOf chain producer = IfSome producer (IsOver chain)
 pub record KeepsChain (store : Store) (chain : Chain) : Type 0 where
   pub holds : HoldsChain store chain
   pub tags : (version : ℕ) (state : ChainState) → HasVersion chain version state → IsTagTaken store state.tag
+
+-- What the store has under each name are bytes.
+abbrev pub HoldsBytes : Store → Type 0
+HoldsBytes store = (name : BlobName) → IfSome (get store name) AreBytes

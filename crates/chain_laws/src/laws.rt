@@ -1,18 +1,39 @@
 //! Laws of chains.
-ghost use Rattle.std.specs.Prelude.{◌≡◌, ℕ, List, All, Bool};
+ghost use Rattle.std.specs.Prelude.{◌≡◌, ◌≢◌, ◌↔◌, ℕ, ℤ, List, Bool, Some, IfSome};
+ghost use Rattle.serde_json.specs.declared.value.Value.{Value};
+ghost use Rattle.hol_io.specs.declared.name.BlobName.TheVariants.{Snapshot};
 ghost use Rattle.hol_io.specs.Store.{Store};
+ghost use Rattle.hol_orders.specs.declared.order.Order.TheVariants as order;
+ghost use Rattle.hol_orders.specs.declared.refusal.Refusal.TheVariants.{OtherOrigin};
 ghost use Rattle.hol_orders.specs.declared.reply.Reply.{Reply};
+ghost use Rattle.hol_orders.specs.declared.reply.Reply.TheVariants as reply;
+ghost use Rattle.read_engine.specs.Position.{IsPosition, Position};
 ghost use Rattle.hollow_machine.specs.Script.{LineStep, Script};
 ghost use Rattle.hollow_machine.specs.State.{Machine, started};
-ghost use Rattle.written_laws.specs.Chain.{Chain};
-ghost use Rattle.chain_laws.specs.Growth.{DefinesWritable, GrowsBy, GrowsAlong};
-ghost use Rattle.chain_laws.specs.Producers.{IsProducerOf, KeepsChain};
+ghost use Rattle.hollow_machine.specs.Step.{Step};
+ghost use Rattle.hollow_machine.specs.StepOrder.{step_name};
+ghost use Rattle.written_laws.specs.Chain.{Chain, ChainState, HasVersion};
+ghost use Rattle.written_laws.specs.HoldsChain.{HoldsChain, IsThere};
+ghost use Rattle.chain_laws.specs.Answers.{SaysOne};
+ghost use Rattle.chain_laws.specs.Consumers.{Fresh, IsConsumerOf, IsIn, StandsAt, StartsAt};
+ghost use Rattle.chain_laws.specs.Growth.{GrowsBy, GrowsAlong};
+ghost use Rattle.chain_laws.specs.Headline.{AreTrueLines, StandsOn};
+ghost use Rattle.chain_laws.specs.Producers.{HoldsBytes, IsProducerOf, KeepsChain};
 
-/// Where the store holds a chain, and the producer is new or at a published state of it, or there is none, it is so after each line. The
+use delta_blob::laws::one_written_delta;
+use hol_orders::laws::one_order;
+use snapshot_blob::laws::one_written_snapshot;
+
+/// A store of bytes that holds a chain keeps it: the tag of each state is that of a blob.
+pub fn chain_is_kept()
+    ensures { (store : Store) (chain : Chain) → HoldsChain store chain → HoldsBytes store → KeepsChain store chain }
+{}
+
+/// Where the store keeps a chain, and the producer is new or at a published state of it, or there is none, it is so after each line. The
 /// chain has the state more that the line published, or is the same.
 pub fn line_keeps_chain()
     ensures { (machine next : Machine) (line : List ℕ) (reply : Reply) (chain : Chain)
-        → LineStep machine line reply next → DefinesWritable line → KeepsChain machine.store chain → IsProducerOf chain machine.producer
+        → LineStep machine line reply next → KeepsChain machine.store chain → IsProducerOf chain machine.producer
         → (after : Chain) × GrowsBy machine line reply chain after × KeepsChain next.store after × IsProducerOf after next.producer }
 {}
 
@@ -20,9 +41,130 @@ pub fn line_keeps_chain()
 /// published.
 pub fn script_keeps_chain()
     ensures lines { (machine next : Machine) (lines : List (List ℕ)) (text : List ℕ) (refused : Bool) (chain : Chain)
-        → Script machine lines text refused next → All DefinesWritable lines → KeepsChain machine.store chain → IsProducerOf chain machine.producer
+        → Script machine lines text refused next → KeepsChain machine.store chain → IsProducerOf chain machine.producer
         → (after : Chain) × GrowsAlong machine lines text chain next after × KeepsChain next.store after × IsProducerOf after next.producer }
     ensures run { (store : Store) (next : Machine) (lines : List (List ℕ)) (text : List ℕ) (refused : Bool) (chain : Chain)
-        → Script (started store) lines text refused next → All DefinesWritable lines → KeepsChain store chain
+        → Script (started store) lines text refused next → KeepsChain store chain
         → (after : Chain) × GrowsAlong (started store) lines text chain next after × KeepsChain next.store after × IsProducerOf after next.producer }
+{}
+
+/// A consumer without a state, or at one of the chain that the store keeps, is so after each line, over the chain that the line made.
+pub fn line_keeps_consumer()
+    ensures { (machine next : Machine) (line : List ℕ) (reply : Reply) (chain : Chain)
+        → LineStep machine line reply next → KeepsChain machine.store chain → IsProducerOf chain machine.producer → IsConsumerOf chain machine.consumer
+        → (after : Chain) × GrowsBy machine line reply chain after × KeepsChain next.store after × IsProducerOf after next.producer × IsConsumerOf after next.consumer }
+{}
+
+/// So it is after the lines of a script. A run starts without a consumer, so the consumer has no state or one of the chain after any lines.
+pub fn script_keeps_consumer()
+    ensures lines { (machine next : Machine) (lines : List (List ℕ)) (text : List ℕ) (refused : Bool) (chain : Chain)
+        → Script machine lines text refused next → KeepsChain machine.store chain → IsProducerOf chain machine.producer → IsConsumerOf chain machine.consumer
+        → (after : Chain) × GrowsAlong machine lines text chain next after × KeepsChain next.store after × IsProducerOf after next.producer × IsConsumerOf after next.consumer }
+    ensures run { (store : Store) (next : Machine) (lines : List (List ℕ)) (text : List ℕ) (refused : Bool) (chain : Chain)
+        → Script (started store) lines text refused next → KeepsChain store chain
+        → (after : Chain) × GrowsAlong (started store) lines text chain next after × KeepsChain next.store after × IsProducerOf after next.producer × IsConsumerOf after next.consumer }
+{}
+
+/// A step whose blob the store has, and that starts where the consumer stands, is taken and not refused: it leads to a state of the chain.
+pub fn chain_step_taken()
+    ensures taken { (machine : Machine) (chain : Chain) (from to : ℕ) (now : Position)
+        → HoldsChain machine.store chain → machine.consumer ≡ Some now → IsIn chain now → StartsAt machine.store (step_name from to) now.tag
+        → (position : Position) × Step machine (order.Step from to) (reply.Step position.tag) (record machine { consumer = Some position }) }
+    ensures only { (machine next : Machine) (chain : Chain) (from to : ℕ) (now : Position) (answer : Reply)
+        → HoldsChain machine.store chain → machine.consumer ≡ Some now → IsIn chain now → StartsAt machine.store (step_name from to) now.tag → Step machine (order.Step from to) answer next
+        → (position : Position) × IsIn chain position × (answer ≡ reply.Step position.tag) × (next ≡ record machine { consumer = Some position }) }
+{}
+
+/// A step whose blob starts at another tag than the consumer's is refused as such, and nothing changes, whatever else the store has.
+pub fn other_origin_refused()
+    ensures refused { (machine : Machine) (from to : ℕ) (now : Position) (origin : ℤ)
+        → machine.consumer ≡ Some now → StartsAt machine.store (step_name from to) origin → origin ≢ now.tag
+        → Step machine (order.Step from to) (reply.Refused (OtherOrigin (step_name from to) origin now.tag)) machine }
+    ensures only { (machine next : Machine) (from to : ℕ) (now : Position) (origin : ℤ) (answer : Reply)
+        → machine.consumer ≡ Some now → StartsAt machine.store (step_name from to) origin → origin ≢ now.tag → Step machine (order.Step from to) answer next
+        → (answer ≡ reply.Refused (OtherOrigin (step_name from to) origin now.tag)) × (next ≡ machine) }
+{}
+
+/// Where the store has the snapshot of a version of the chain, loading it is not refused, and makes the consumer stand at the state of the
+/// version: where the consumer had its tag already, it has this state afresh.
+pub fn chain_load_taken()
+    ensures taken { (machine : Machine) (chain : Chain) (version : ℕ) (state : ChainState)
+        → HoldsChain machine.store chain → HasVersion chain version state → IsThere machine.store (Snapshot version)
+        → (position : Position) × Step machine (order.Load version) (reply.Load state.tag) (record machine { consumer = Some position }) }
+    ensures only { (machine next : Machine) (chain : Chain) (version : ℕ) (state : ChainState) (answer : Reply)
+        → HoldsChain machine.store chain → HasVersion chain version state → IsThere machine.store (Snapshot version) → Step machine (order.Load version) answer next
+        → (position : Position) × StandsAt state position × (answer ≡ reply.Load state.tag) × (next ≡ record machine { consumer = Some position }) }
+    ensures fresh { (machine next : Machine) (chain : Chain) (version : ℕ) (state : ChainState) (now : Position) (answer : Reply)
+        → HoldsChain machine.store chain → HasVersion chain version state → IsThere machine.store (Snapshot version) → machine.consumer ≡ Some now → now.tag ≡ state.tag
+        → Step machine (order.Load version) answer next → Fresh chain machine next }
+{}
+
+/// What is asked of a consumer at a state of the chain is answered as where it has this state afresh: the answers are those of the state's model
+/// and rows, whichever way the consumer took to them.
+pub fn fresh_answers()
+    ensures live { (machine fresh : Machine) (chain : Chain) (name : List ℕ) (answer : Reply)
+        → HoldsChain machine.store chain → IsConsumerOf chain machine.consumer → Fresh chain machine fresh
+        → Step machine (order.Live name) answer machine ↔ Step fresh (order.Live name) answer fresh }
+    ensures row { (machine fresh : Machine) (chain : Chain) (name : List ℕ) (ordinal : ℕ) (answer : Reply)
+        → HoldsChain machine.store chain → IsConsumerOf chain machine.consumer → Fresh chain machine fresh
+        → Step machine (order.Row name ordinal) answer machine ↔ Step fresh (order.Row name ordinal) answer fresh }
+{}
+
+/// What is asked of a consumer has one answer line.
+pub fn one_look()
+    ensures live { (machine next after : Machine) (name : List ℕ) (answer other : Reply)
+        → Step machine (order.Live name) answer next → Step machine (order.Live name) other after → SaysOne answer other × (next ≡ after) }
+    ensures row { (machine next after : Machine) (name : List ℕ) (ordinal : ℕ) (answer other : Reply)
+        → Step machine (order.Row name ordinal) answer next → Step machine (order.Row name ordinal) other after → SaysOne answer other × (next ≡ after) }
+    ensures past { (machine next after : Machine) (name : List ℕ) (answer other : Reply)
+        → Step machine (order.Past name) answer next → Step machine (order.Past name) other after → SaysOne answer other × (next ≡ after) }
+{}
+
+/// A load and a step have one answer line and leave one machine. So it is whichever blobs the store has: of a step where the consumer's rows are
+/// those of a model, as they are wherever its blobs came from.
+pub fn one_move()
+    ensures load { (machine next after : Machine) (version : ℕ) (answer other : Reply)
+        → Step machine (order.Load version) answer next → Step machine (order.Load version) other after → SaysOne answer other × (next ≡ after) }
+    ensures step { (machine next after : Machine) (from to : ℕ) (answer other : Reply) → IfSome machine.consumer IsPosition
+        → Step machine (order.Step from to) answer next → Step machine (order.Step from to) other after → SaysOne answer other × (next ≡ after) }
+{}
+
+/// Over a store that keeps a chain, with a producer of it, a cycle has one answer and leaves one machine: there is one next state, and it is written
+/// in one way.
+pub fn one_cycle()
+    ensures { (machine next after : Machine) (chain : Chain) (version : ℕ) (tag : ℤ) (add : Value) (answer other : Reply)
+        → KeepsChain machine.store chain → IsProducerOf chain machine.producer
+        → Step machine (order.Cycle version tag add) answer next → Step machine (order.Cycle version tag add) other after → (answer ≡ other) × (next ≡ after) }
+{
+    one_written_snapshot();
+    one_written_delta();
+}
+
+/// The order `model` has one answer, and leaves one machine.
+pub fn one_model()
+    ensures { (machine next after : Machine) (schemas : Value) (answer other : Reply)
+        → Step machine (order.Model schemas) answer next → Step machine (order.Model schemas) other after → (answer ≡ other) × (next ≡ after) }
+{}
+
+/// A script has one text and one verdict, and leaves one machine: that of a run over each store, and lines behind others over a store that keeps a
+/// chain.
+pub fn one_script()
+    ensures run { (store : Store) (next after : Machine) (lines : List (List ℕ)) (text other : List ℕ) (refused also : Bool)
+        → Script (started store) lines text refused next → Script (started store) lines other also after → (text ≡ other) × (refused ≡ also) × (next ≡ after) }
+    ensures lines { (machine next after : Machine) (lines : List (List ℕ)) (text other : List ℕ) (refused also : Bool) (chain : Chain)
+        → KeepsChain machine.store chain → IsProducerOf chain machine.producer → IsConsumerOf chain machine.consumer
+        → Script machine lines text refused next → Script machine lines other also after → (text ≡ other) × (refused ≡ also) × (next ≡ after) }
+{
+    one_written_snapshot();
+    one_written_delta();
+    one_order();
+}
+
+/// The headline: over a store of bytes that holds a chain, each line of a script is answered as is promised. A state that a cycle publishes follows in
+/// the chain; the consumer stands at a state of it behind each line; what `live` and `row` answer is what that state answers loaded afresh; a step
+/// along a blob of the store is taken where it starts at the consumer's tag, and else refused for its origin, and then nothing changes.
+pub fn true_script()
+    ensures { (store : Store) (next : Machine) (lines : List (List ℕ)) (text : List ℕ) (refused : Bool) (chain : Chain)
+        → Script (started store) lines text refused next → HoldsChain store chain → HoldsBytes store
+        → (after : Chain) × AreTrueLines chain (started store) lines text next after × StandsOn after next }
 {}

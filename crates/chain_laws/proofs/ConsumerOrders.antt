@@ -1,0 +1,192 @@
+-- The orders that move a consumer over a store that holds a chain: which are taken, and that a step from another state is refused.
+use Rattle.std.proofs.Common.{◌≡◌, ◌≢◌, ℕ, ℤ, List, length, Bool, true, false, if◌then◌else◌, Option, Some, None, refl, sym, ap, subst, ◌∙◌, arith}
+use Rattle.std.specs.Prelude.{IsSomeAnd, nat_lt}
+use Rattle.std.specs.FinMap.{get}
+use Rattle.hol_io.specs.declared.name.BlobName.{BlobName}
+use Rattle.hol_io.specs.declared.name.BlobName.TheVariants.{Snapshot, Delta, Reverse, Announced}
+use Rattle.type_state.specs.Views.{table_of}
+use Rattle.blob_frame.specs.declared.header.Header.{Header}
+use Rattle.blob_frame.specs.Header.{HeaderIs, header}
+use Rattle.blob_frame.specs.Opened.{HasHeader}
+use Rattle.snapshot_blob.specs.Snapshot.{IsAccepted}
+use Rattle.snapshot_blob.proofs.Whole.{begins}
+use Rattle.delta_blob.specs.Patch.{TypePatch, DeltaIs}
+use Rattle.read_engine.specs.Position.{Position}
+use Rattle.read_engine.specs.Taking.{LoadsFrom, StepsBy}
+use Rattle.hol_orders.specs.declared.refusal.Refusal.{Refusal}
+use Rattle.hol_orders.specs.declared.refusal.Refusal.TheVariants.{BadBlob, BadBody, NoBlob, NoState, OtherOrigin, TooLarge}
+use Rattle.hol_orders.specs.declared.reply.Reply.{Reply}
+use Rattle.hol_orders.specs.declared.reply.Reply.TheVariants as reply
+use Rattle.hollow_machine.specs.Blobs.{SnapshotRefusal}
+use Rattle.hollow_machine.specs.LoadOrder.{LoadStep}
+use Rattle.hollow_machine.specs.State.{Machine}
+use Rattle.hollow_machine.specs.StepOrder.{StepRefusal, StepStep, step_name}
+use Rattle.written_laws.specs.Chain.{Chain, ChainState, HasVersion}
+use Rattle.written_laws.specs.HoldsChain.{HoldsChain, IsOfChain, IsStep, IsThere}
+use Rattle.chain_laws.specs.Consumers.{Fresh, IsIn, StandsAt, StartsAt}
+use Rattle.chain_laws.proofs.BlobTags.{delta_begins}
+use Rattle.chain_laws.proofs.ConsumerMoves.{loads_state, steps_in, step_there}
+use Rattle.chain_laws.proofs.StoreNames.{found, found_with}
+
+-- ---- names and headers
+
+pub step_named : (from to : ℕ) → IsStep (step_name from to)
+step_named from to = by_order (nat_lt from to)
+  where
+    by_order : (rises : Bool) → IsStep (if rises then Delta from to else Reverse from to)
+    by_order true = tt
+    by_order false = tt
+
+pub some_one : {A : Type 0} (o : Option A) (a b : A) → o ≡ Some a → o ≡ Some b → a ≡ b
+some_one o a b one other = let same : Some a ≡ Some b = sym one ∙ other in cc
+
+pub one_header : (content : Option (List ℕ)) (a b : Header) → HasHeader content a → HasHeader content b → a ≡ b
+one_header content a b (x, n, at_x, short_x, begins_x) (y, m, at_y, short_y, begins_y) =
+    let same : y ≡ x = some_one content y x at_y at_x in
+    (header.decided.one x 0 a b n m begins_x (subst (λ (blob : List ℕ). HeaderIs blob m b) same begins_y)).0
+
+-- a delta starts where its header says
+delta_origin : (content : Option (List ℕ)) (blob : List ℕ) (head : Header) (origin destination : ℤ) (patch : List TypePatch) → content ≡ Some blob → HasHeader content head → DeltaIs blob origin destination patch
+    → head.origin ≡ origin
+delta_origin content blob head origin destination patch at (x, n, at_x, short, begin) is =
+    let same : x ≡ blob = some_one content x blob at_x at in
+    let (m, also) = delta_begins blob is.head is.parts (length blob) is.items.items in
+    let one = header.decided.one blob 0 head is.head n m (subst (λ (b : List ℕ). HeaderIs b n head) same begin) also in
+    ap (λ (h : Header). h.origin) one.0 ∙ is.from_tag
+
+-- ---- steps
+
+-- a step that can be taken is not refused
+pub no_refusal : (name : BlobName) (content : Option (List ℕ)) (head : Header) (blob : List ℕ) (now to : Position) → content ≡ Some blob → HasHeader content head → head.origin ≡ now.tag → StepsBy blob now to
+    → (refusal : Refusal) → StepRefusal name content (Some now) refusal → ⊥
+no_refusal name content head blob now to at has starts steps NoState is = absurd cc
+no_refusal name content head blob now to at has starts steps (OtherOrigin other origin current) (named, current_is, apart, (its, its_has, its_origin)) =
+    apart (sym its_origin ∙ ap (λ (h : Header). h.origin) (one_header content its head its_has has) ∙ starts ∙ sym current_is)
+no_refusal name content head blob now to at has starts steps (BadBody other) (named, (its, x, its_has, at_x, its_origin, none)) =
+    none to (subst (λ (b : List ℕ). StepsBy b now to) (some_one content blob x at at_x) steps)
+no_refusal name content head blob now to at has starts steps (NoBlob other) (named, none) = let no : Some blob ≡ None = sym at ∙ none in absurd cc
+no_refusal name content head blob now to at (y, n, at_y, short, begin) starts steps (BadBlob other place reason row) (x, at_x, its_short, stuck, named, row_is) =
+    header.decided.apart x 0 head n place reason (subst (λ (b : List ℕ). HeaderIs b n head) (some_one content y x at_y at_x) begin) stuck
+no_refusal name content head blob now to at (y, n, at_y, short, begin) starts steps (TooLarge what) (x, at_x, over, what_is) =
+    let same : length y ≡ length x = ap (λ (b : List ℕ). length b) (some_one content y x at_y at_x) in omega (arith, short, over, same)
+no_refusal name content head blob now to at has starts steps _ is = absurd is
+
+module _ (machine : Machine) (chain : Chain) (name : BlobName) (now : Position) (holds : HoldsChain machine.store chain) (of_step : IsStep name) (was : machine.consumer ≡ Some now) (is : IsIn chain now)
+    (starts : StartsAt machine.store name now.tag) where
+  abbrev stored : Option (List ℕ)
+  stored = get machine.store name
+
+  delta_of : (named : BlobName) (blob : List ℕ) → IsStep named → IsOfChain chain named blob → (origin destination : ℤ) × (patch : List TypePatch) × DeltaIs blob origin destination patch
+  delta_of (Delta from to) blob step (before, after, at, at_after, parent, leads) = (before.tag, after.tag, leads.patch, leads.is)
+  delta_of (Reverse from to) blob step (before, after, at, at_after, parent, leads) = (after.tag, before.tag, leads.patch, leads.is)
+  delta_of (Snapshot version) blob step is = absurd step
+  delta_of Announced blob step is = absurd step
+
+  can_step : (blob : List ℕ) × (to : Position) × (stored ≡ Some blob) × StepsBy blob now to
+  can_step =
+      let (head, has, starts_at) = starts in
+      let (blob, n, at, short, begin) = has in
+      let (origin, destination, patch, delta) = delta_of name blob of_step (holds.each name blob at) in
+      let same : origin ≡ now.tag = sym (delta_origin stored blob head origin destination patch at has delta) ∙ starts_at in
+      let (to, steps) = step_there machine.store chain holds name blob now destination patch of_step at is (subst (λ (tag : ℤ). DeltaIs blob tag destination patch) same delta) in
+      (blob, to, at, steps)
+
+  pub step_taken : (position : Position) × StepStep machine name (reply.Step position.tag) (record machine { consumer = Some position })
+  step_taken =
+      let (blob, to, at, steps) = can_step in (
+        to,
+        subst (λ (consumer : Option Position). IsSomeAnd consumer (λ here. (b : List ℕ) × (p : Position) × (stored ≡ Some b) × StepsBy b here p × (to.tag ≡ p.tag)
+            × (record machine { consumer = Some to } ≡ record machine { consumer = Some p }))) (sym was) (blob, to, at, steps, refl, refl),
+      )
+
+  pub step_only : (answer : Reply) (next : Machine) → StepStep machine name answer next
+      → (position : Position) × IsIn chain position × (answer ≡ reply.Step position.tag) × (next ≡ record machine { consumer = Some position })
+  step_only (reply.Step tag) next step =
+      let (here, also, (blob, to, at, steps, tag_is, next_is)) = found_with machine.consumer _ step in
+      let same : here ≡ now = some_one machine.consumer here now also was in
+      let from_now : StepsBy blob now to = subst (λ (p : Position). StepsBy blob p to) same steps in
+      (to, steps_in machine.store chain holds name blob now to of_step at is from_now, ap (λ (t : ℤ). reply.Step t) tag_is, next_is)
+  step_only (reply.Refused refusal) next step =
+      let (blob, to, at, steps) = can_step in
+      absurd (no_refusal name stored starts.0 blob now to at starts.1 starts.2 steps refusal (subst (λ (consumer : Option Position). StepRefusal name stored consumer refusal) was step.0))
+  step_only _ next step = absurd step
+
+-- ---- a step from another state
+
+other_refusal : (name : BlobName) (content : Option (List ℕ)) (head : Header) (now : Position) (origin : ℤ) → HasHeader content head → head.origin ≡ origin → origin ≢ now.tag
+    → (refusal : Refusal) → StepRefusal name content (Some now) refusal → refusal ≡ OtherOrigin name origin now.tag
+other_refusal name content head now origin has starts apart NoState is = absurd cc
+other_refusal name content head now origin has starts apart (OtherOrigin other at current) (named, current_is, not, (its, its_has, its_origin)) =
+    let from : at ≡ origin = sym its_origin ∙ ap (λ (h : Header). h.origin) (one_header content its head its_has has) ∙ starts in
+    λ i. OtherOrigin (named i) (from i) (current_is i)
+other_refusal name content head now origin has starts apart (BadBody other) (named, (its, x, its_has, at_x, its_origin, none)) =
+    absurd (apart (sym starts ∙ ap (λ (h : Header). h.origin) (one_header content head its has its_has) ∙ its_origin))
+other_refusal name content head now origin (y, n, at_y, short, begin) starts apart (NoBlob other) (named, none) = let no : Some y ≡ None = sym at_y ∙ none in absurd cc
+other_refusal name content head now origin (y, n, at_y, short, begin) starts apart (BadBlob other place reason row) (x, at_x, its_short, stuck, named, row_is) =
+    absurd (header.decided.apart x 0 head n place reason (subst (λ (b : List ℕ). HeaderIs b n head) (some_one content y x at_y at_x) begin) stuck)
+other_refusal name content head now origin (y, n, at_y, short, begin) starts apart (TooLarge what) (x, at_x, over, what_is) =
+    let same : length y ≡ length x = ap (λ (b : List ℕ). length b) (some_one content y x at_y at_x) in absurd (omega (arith, short, over, same))
+other_refusal name content head now origin has starts apart _ is = absurd is
+
+module _ (machine : Machine) (name : BlobName) (now : Position) (origin : ℤ) (was : machine.consumer ≡ Some now) (starts : StartsAt machine.store name origin) (apart : origin ≢ now.tag) where
+  abbrev content : Option (List ℕ)
+  content = get machine.store name
+
+  pub other_refused : StepStep machine name (reply.Refused (OtherOrigin name origin now.tag)) machine
+  other_refused = (
+    subst (λ (consumer : Option Position). StepRefusal name content consumer (OtherOrigin name origin now.tag)) (sym was) (refl, refl, apart, (starts.0, starts.1, starts.2)),
+    refl,
+  )
+
+  pub other_only : (answer : Reply) (next : Machine) → StepStep machine name answer next → (answer ≡ reply.Refused (OtherOrigin name origin now.tag)) × (next ≡ machine)
+  other_only (reply.Step tag) next step =
+      let (here, also, (blob, to, at, steps, tag_is, next_is)) = found_with machine.consumer _ step in
+      let same : here ≡ now = some_one machine.consumer here now also was in
+      absurd (apart (sym starts.2 ∙ delta_origin content blob starts.0 here.tag to.tag steps.patch at starts.1 steps.is ∙ ap (λ (p : Position). p.tag) same))
+  other_only (reply.Refused refusal) next step = (
+    ap (λ (r : Refusal). reply.Refused r)
+        (other_refusal name content starts.0 now origin starts.1 starts.2 apart refusal (subst (λ (consumer : Option Position). StepRefusal name content consumer refusal) was step.0)),
+    step.1,
+  )
+  other_only _ next step = absurd step
+
+-- ---- loads
+
+-- a snapshot that can be loaded is not refused
+pub no_load_refusal : (version : ℕ) (content : Option (List ℕ)) (blob : List ℕ) (position : Position) → content ≡ Some blob → LoadsFrom blob position → (refusal : Refusal) → SnapshotRefusal (Snapshot version) content refusal → ⊥
+no_load_refusal version content blob position at (head, accepted, tag, before) (BadBody other) (named, (its, x, has, at_x, none)) =
+    none head position.schemas position.halves (subst (λ (b : List ℕ). IsAccepted b head position.schemas position.halves) (some_one content blob x at at_x) accepted)
+no_load_refusal version content blob position at loads (NoBlob other) (named, none) = let no : Some blob ≡ None = sym at ∙ none in absurd cc
+no_load_refusal version content blob position at (head, accepted, tag, before) (BadBlob other place reason row) (x, at_x, its_short, stuck, named, row_is) =
+    let (n, begin, short) = begins blob head position.schemas position.halves accepted in
+    header.decided.apart x 0 head n place reason (subst (λ (b : List ℕ). HeaderIs b n head) (some_one content blob x at at_x) begin) stuck
+no_load_refusal version content blob position at (head, accepted, tag, before) (TooLarge what) (x, at_x, over, what_is) =
+    let (n, begin, short) = begins blob head position.schemas position.halves accepted in
+    let same : length blob ≡ length x = ap (λ (b : List ℕ). length b) (some_one content blob x at at_x) in omega (arith, short, over, same)
+no_load_refusal version content blob position at loads _ is = absurd is
+
+module _ (machine : Machine) (chain : Chain) (version : ℕ) (state : ChainState) (holds : HoldsChain machine.store chain) (there : HasVersion chain version state) (whole : IsThere machine.store (Snapshot version)) where
+  can_load : (blob : List ℕ) × (position : Position) × (get machine.store (Snapshot version) ≡ Some blob) × LoadsFrom blob position
+  can_load =
+      let (blob, at) = found (get machine.store (Snapshot version)) whole in
+      let (other, also, (head, tag, is)) = holds.each (Snapshot version) blob at in
+      (blob, record { tag = head.destination; schemas = other.model; halves = is.halves; before = table_of is.halves }, at, (head, is.accepted, refl, refl))
+
+  pub load_taken : (position : Position) × LoadStep machine version (reply.Load state.tag) (record machine { consumer = Some position })
+  load_taken =
+      let (blob, position, at, loads) = can_load in
+      let stands = loads_state machine.store chain holds version state blob position there at loads in
+      (position, (blob, position, at, loads, sym stands.tag, refl))
+
+  pub load_only : (answer : Reply) (next : Machine) → LoadStep machine version answer next
+      → (position : Position) × StandsAt state position × (answer ≡ reply.Load state.tag) × (next ≡ record machine { consumer = Some position })
+  load_only (reply.Load tag) next (blob, position, at, loads, tag_is, next_is) =
+      let stands = loads_state machine.store chain holds version state blob position there at loads in
+      (position, stands, ap (λ (t : ℤ). reply.Load t) (tag_is ∙ stands.tag), next_is)
+  load_only (reply.Refused refusal) next step = let (blob, position, at, loads) = can_load in absurd (no_load_refusal version (get machine.store (Snapshot version)) blob position at loads refusal step.0)
+  load_only _ next step = absurd step
+
+  pub load_fresh : (now : Position) (answer : Reply) (next : Machine) → machine.consumer ≡ Some now → now.tag ≡ state.tag → LoadStep machine version answer next → Fresh chain machine next
+  load_fresh now answer next was tag step =
+      let (position, stands, answer_is, next_is) = load_only answer next step in
+      record { now = now; was = was; version = version; state = state; there = there; tag = tag; position = position; stands = stands; is = next_is }

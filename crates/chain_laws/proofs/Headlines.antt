@@ -1,0 +1,51 @@
+-- What is promised of each line of a script, over a store that keeps a chain.
+use Rattle.std.proofs.Common.{◌≡◌, ℕ, List, [], ◌∷◌, Bool, refl, sym, subst}
+use Rattle.hol_orders.specs.declared.order.Order.{Order}
+use Rattle.hol_orders.specs.declared.order.Order.TheVariants as order
+use Rattle.hol_orders.specs.declared.reply.Reply.{Reply}
+use Rattle.hollow_machine.specs.Script.{LineStep, Script}
+use Rattle.hollow_machine.specs.State.{Machine}
+use Rattle.hollow_machine.specs.Step.{Step}
+use Rattle.hollow_machine.specs.StepOrder.{step_name}
+use Rattle.written_laws.specs.Chain.{Chain}
+use Rattle.chain_laws.specs.Consumers.{Fresh, IsConsumerOf}
+use Rattle.chain_laws.specs.Headline.{AreTrueLines, IsAsFresh, IsTrueLine, IsTrueOrder, StandsOn}
+use Rattle.chain_laws.proofs.ConsumerLines.{line_keeps_both}
+use Rattle.chain_laws.proofs.ConsumerOrders.{other_only, step_named, step_only}
+use Rattle.chain_laws.proofs.FreshAnswers.{live_afresh, row_afresh}
+
+module _ (machine : Machine) (chain : Chain) (stands : StandsOn chain machine) where
+  true_order : (asked : Order) (answer : Reply) (next : Machine) → Step machine asked answer next → IsTrueOrder chain machine asked answer next
+  true_order (order.Step from to) answer next step = record {
+    taken = λ now was starts. step_only machine chain (step_name from to) now stands.kept.holds (step_named from to) was (subst (IsConsumerOf chain) was stands.consumer) starts answer next step;
+    other = λ now origin was starts apart. other_only machine (step_name from to) now origin was starts apart answer next step;
+  }
+  true_order (order.Live name) answer next step = λ fresh afresh. (
+    (live_afresh machine fresh chain stands.kept.holds.sound stands.consumer afresh name answer).0 step.0,
+    refl,
+  )
+  true_order (order.Row name ordinal) answer next step = λ fresh afresh. (
+    (row_afresh machine fresh chain stands.kept.holds.sound stands.consumer afresh name ordinal answer).0 step.0,
+    refl,
+  )
+  true_order _ answer next step = tt
+
+  true_line : (line : List ℕ) (answer : Reply) (next : Machine) → LineStep machine line answer next → (after : Chain) × IsTrueLine chain machine line answer next after
+  true_line line answer next step =
+      let (after, grows, kept, producer, consumer) = line_keeps_both machine next line answer chain step stands.kept stands.producer stands.consumer in (
+        after,
+        record {
+          step = step;
+          grows = grows;
+          stands = record { kept = kept; producer = producer; consumer = consumer };
+          order = λ asked orders is. true_order asked answer next is;
+        },
+      )
+
+pub true_lines : (chain : Chain) (machine next : Machine) (lines : List (List ℕ)) (text : List ℕ) (refused : Bool) → StandsOn chain machine → Script machine lines text refused next
+    → (after : Chain) × AreTrueLines chain machine lines text next after × StandsOn after next
+true_lines chain machine next [] text refused stands script = (chain, (script.0, script.2, refl), subst (StandsOn chain) (sym script.2) stands)
+true_lines chain machine next (line ∷ lines) text refused stands (answer, between, rest, others, step, later, text_is, refused_is) =
+    let (middle, line_is) = true_line machine chain stands line answer between step in
+    let (after, along, last) = true_lines middle between next lines rest others line_is.stands later in
+    (after, (answer, between, middle, rest, line_is, along, text_is), last)

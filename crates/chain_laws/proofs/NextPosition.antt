@@ -1,0 +1,150 @@
+-- Where a consumer stands behind a step: there is a position with the table that a patch moves to, the layouts of the patch in the types that it
+-- names, and the others as they were.
+use Rattle.std.proofs.Common.{◌≡◌, ◌<◌, ◌⊎◌, ◌+◌, ℕ, zero, suc, List, [], ◌∷◌, length, get_or, Some, None, inl, inr, refl, sym, ap, subst, ◌∙◌, arith}
+use Rattle.std.specs.Prelude.{slice_get, unwrap_or}
+use Rattle.std.specs.Option.{option_map}
+use Rattle.std.specs.List.{AllZip}
+use Rattle.std.proofs.lemmas.Bool.{cases_eq}
+use Rattle.std.proofs.lemmas.List.Elements.{All-head, All-tail}
+use Rattle.std.proofs.lemmas.Option.{slice_get-get_or, slice_get-map}
+use Rattle.schema_model.specs.declared.model.rule.Rule.TheVariants.{DuplicateName}
+use Rattle.schema_model.specs.declared.schema.Schema.{Schema}
+use Rattle.schema_model.specs.Model.{IsKept}
+use Rattle.schema_model.specs.Table.{Table}
+use Rattle.type_state.specs.Layout.{Layout}
+use Rattle.type_state.specs.State.{Half}
+use Rattle.type_state.specs.Views.{table_of}
+use Rattle.delta_blob.specs.declared.part.DeltaPart.{DeltaPart}
+use Rattle.delta_blob.specs.Moved.{EachNamed, IsAt, IsUnnamed}
+use Rattle.delta_blob.specs.Patch.{NamesOnce, PartIs, TypePatch, schemas_in}
+use Rattle.read_engine.specs.Taking.{layout_at}
+use Rattle.delta_blob.proofs.Indexed.{one_index, zip_beside}
+
+-- ---- the layouts
+
+abbrev chosen : {A B X : Type 0} → A ⊎ B → X → X → X
+chosen (inl here) x y = x
+chosen (inr apart) x y = y
+
+chosen_here : {A X : Type 0} (c : A ⊎ (A → ⊥)) (x y : X) → A → chosen c x y ≡ x
+chosen_here (inl here) x y is = refl
+chosen_here (inr apart) x y is = absurd (apart is)
+
+chosen_not : {A X : Type 0} (c : A ⊎ (A → ⊥)) (x y : X) → (A → ⊥) → chosen c x y ≡ y
+chosen_not (inl here) x y not = absurd (not here)
+chosen_not (inr apart) x y not = refl
+
+module _ (schemas : List Schema) (once : IsKept schemas DuplicateName) (P : ℕ → TypePatch → Type 0) (base : ℕ → Layout) where
+  abbrev Named : TypePatch → Type 0
+  Named named = (t : ℕ) × IsAt schemas t named × P t named
+
+  -- that of the patch of the type, and else the one as it was
+  abbrev layouts : (patch : List TypePatch) → EachNamed schemas patch P → ℕ → Layout
+  layouts [] each t = base t
+  layouts (named ∷ patch) each t =
+      chosen (cases_eq (All-head Named named patch each).0 t) named.layout (layouts patch (All-tail Named named patch each) t)
+
+  layouts_other : (patch : List TypePatch) (each : EachNamed schemas patch P) (t : ℕ) → IsUnnamed schemas patch t → layouts patch each t ≡ base t
+  layouts_other [] each t none = refl
+  layouts_other (named ∷ patch) each t none =
+      let (i, at, p) = All-head Named named patch each in
+      chosen_not (cases_eq i t) _ _ (λ same. All-head (λ n. IsAt schemas t n → ⊥) named patch none (subst (λ k. IsAt schemas k named) same at))
+      ∙ layouts_other patch (All-tail Named named patch each) t (All-tail (λ n. IsAt schemas t n → ⊥) named patch none)
+
+  layouts_named : (patch : List TypePatch) (each : EachNamed schemas patch P) (t k : ℕ) (named : TypePatch) → slice_get patch k ≡ Some named → IsAt schemas t named
+      → ((j : ℕ) (other : TypePatch) → slice_get patch j ≡ Some other → IsAt schemas t other → j ≡ k) → layouts patch each t ≡ named.layout
+  layouts_named [] each t k named at is one = absurd cc
+  layouts_named (first ∷ patch) each t zero named at is one =
+      let same : first ≡ named = cc in
+      let (i, of_first, p) = All-head Named first patch each in
+      let here : i ≡ t = one_index schemas once i t first.schema named.schema of_first is (ap (λ (n : TypePatch). n.schema.name) same) in
+      chosen_here (cases_eq i t) _ _ here ∙ ap (λ (n : TypePatch). n.layout) same
+  layouts_named (first ∷ patch) each t (suc k) named at is one =
+      let (i, of_first, p) = All-head Named first patch each in
+      chosen_not (cases_eq i t) _ _ (λ same. (let no = one 0 first refl (subst (λ n. IsAt schemas n first) same of_first) in omega (arith, no)))
+      ∙ layouts_named patch (All-tail Named first patch each) t k named at is (λ j other at_other of_other. (let next = one (suc j) other at_other of_other in omega (arith, next)))
+
+-- of one type a patch has one part
+pub one_part : (schemas : List Schema) (parts : List DeltaPart) (patch : List TypePatch) → NamesOnce parts → AllZip PartIs parts patch → (t j k : ℕ) (a b : TypePatch)
+    → slice_get patch j ≡ Some a → slice_get patch k ≡ Some b → IsAt schemas t a → IsAt schemas t b → j ≡ k
+one_part schemas parts patch once are t j k a b at_a at_b of_a of_b =
+    let (x, at_x, is_x) = zip_beside PartIs parts patch j a are at_a in
+    let (y, at_y, is_y) = zip_beside PartIs parts patch k b are at_b in
+    let both : Some a.schema ≡ Some b.schema = sym of_a ∙ of_b in
+    let same : a.schema ≡ b.schema = cc in
+    one_index (schemas_in parts) once j k x.schema y.schema (in_parts parts j x at_x) (in_parts parts k y at_y)
+    (ap (λ (s : Schema). s.name) (sym is_x.schema ∙ same ∙ is_y.schema))
+  where
+    in_parts : (all : List DeltaPart) (i : ℕ) (part : DeltaPart) → slice_get all i ≡ Some part → slice_get (schemas_in all) i ≡ Some part.schema
+    in_parts all i part at = slice_get-map (λ (p : DeltaPart). p.schema) all i ∙ ap (option_map (λ (p : DeltaPart). p.schema)) at
+
+-- ---- the halves
+
+-- the rows of a table in these layouts, of which the first is that of this index
+abbrev halves_of : (ℕ → Layout) → ℕ → Table → List Half
+halves_of layout t [] = []
+halves_of layout t (rows ∷ table) = record { layout = layout t; rows = rows } ∷ halves_of layout (suc t) table
+
+halves_table : (layout : ℕ → Layout) (t : ℕ) (table : Table) → table_of (halves_of layout t table) ≡ table
+halves_table layout t [] = refl
+halves_table layout t (rows ∷ table) = λ i. rows ∷ halves_table layout (suc t) table i
+
+halves_count : (layout : ℕ → Layout) (t : ℕ) (table : Table) → length (halves_of layout t table) ≡ length table
+halves_count layout t [] = refl
+halves_count layout t (rows ∷ table) = ap suc (halves_count layout (suc t) table)
+
+halves_layout : (layout : ℕ → Layout) (t : ℕ) (table : Table) (k : ℕ) → k < length table → layout_at (halves_of layout t table) k ≡ Some (layout (t + k))
+halves_layout layout t [] k inside = absurd (omega (arith, inside))
+halves_layout layout t (rows ∷ table) zero inside = let at : t ≡ t + 0 = omega arith in ap (λ n. Some (layout n)) at
+halves_layout layout t (rows ∷ table) (suc k) inside =
+    let at : suc t + k ≡ t + suc k = omega arith in
+    halves_layout layout (suc t) table k (omega (arith, inside)) ∙ ap (λ n. Some (layout n)) at
+
+abbrev no_layout : Layout
+no_layout = record { max = None; widths = [] }
+
+abbrev layout_of : List Half → ℕ → Layout
+layout_of halves t = unwrap_or (layout_at halves t) no_layout
+
+layout_there : (halves : List Half) (t : ℕ) → t < length halves → layout_at halves t ≡ Some (layout_of halves t)
+layout_there [] t inside = absurd (omega (arith, inside))
+layout_there (half ∷ halves) zero inside = refl
+layout_there (half ∷ halves) (suc t) inside = layout_there halves t (omega (arith, inside))
+
+module _ (schemas : List Schema) (once : IsKept schemas DuplicateName) (P : ℕ → TypePatch → Type 0) (halves : List Half) (parts : List DeltaPart) (patch : List TypePatch) (names : NamesOnce parts)
+    (are : AllZip PartIs parts patch) (each : EachNamed schemas patch P) (table : Table) (types : length table ≡ length schemas) (count : length halves ≡ length schemas) where
+  abbrev layout : ℕ → Layout
+  layout = layouts schemas once P (layout_of halves) patch each
+
+  abbrev pub next_halves : List Half
+  next_halves = halves_of layout 0 table
+
+  pub next_table : table_of next_halves ≡ table
+  next_table = halves_table layout 0 table
+
+  pub next_count : length next_halves ≡ length halves
+  next_count = halves_count layout 0 table ∙ types ∙ sym count
+
+  next_layout : (t : ℕ) → t < length schemas → layout_at next_halves t ≡ Some (layout t)
+  next_layout t inside =
+      let at : 0 + t ≡ t = omega arith in
+      halves_layout layout 0 table t (omega (arith, inside, types)) ∙ ap (λ n. Some (layout n)) at
+
+  pub next_others : (t : ℕ) → t < length schemas → IsUnnamed schemas patch t → layout_at next_halves t ≡ layout_at halves t
+  next_others t inside unnamed =
+      next_layout t inside ∙ ap (λ (l : Layout). Some l) (layouts_other schemas once P (layout_of halves) patch each t unnamed) ∙ sym (layout_there halves t (omega (arith, inside, count)))
+
+  pub next_named : EachNamed schemas patch (λ t named. layout_at next_halves t ≡ Some named.layout)
+  next_named k d within =
+      let (t, at, p) = each k d within in
+      let there = slice_get-get_or patch k d within in (
+        t,
+        at,
+        next_layout t (inside_of schemas t (get_or patch k d) at) ∙ ap (λ (l : Layout). Some l) (layouts_named schemas once P (layout_of halves) patch each t k (get_or patch k d) there at
+            (λ j other at_other of_other. one_part schemas parts patch names are t j k other (get_or patch k d) at_other there of_other at)),
+      )
+    where
+      inside_of : (all : List Schema) (i : ℕ) (named : TypePatch) → IsAt all i named → i < length all
+      inside_of [] i named at = absurd cc
+      inside_of (schema ∷ all) zero named at = omega arith
+      inside_of (schema ∷ all) (suc i) named at = let rest = inside_of all i named at in omega (arith, rest)

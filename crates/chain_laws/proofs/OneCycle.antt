@@ -1,0 +1,473 @@
+-- A cycle has one answer, and leaves one machine.
+use Rattle.std.proofs.Common.{◌≡◌, ◌≢◌, ◌≤◌, ◌<◌, ◌⊎◌, ℕ, ℤ, List, [], ◌∷◌, ◌++◌, Bool, true, false, Option, Some, None, Ok, Err, inl, inr, refl, sym, ap, subst, ◌∙◌, arith}
+use Rattle.std.specs.Prelude.{All, IfSome, IsOk, IsSome, IsSomeAnd, slice_get}
+use Rattle.std.specs.List.{AllZip}
+use Rattle.std.proofs.lemmas.Bool.{cases_eq, cases_lt}
+use Rattle.std.proofs.lemmas.List.Elements.{All-cons, All-head, All-nil, All-tail}
+use Rattle.serde_json.specs.Data.{Data}
+use Rattle.hol_io.specs.declared.name.BlobName.TheVariants.{Snapshot, Delta, Reverse, Announced}
+use Rattle.hol_io.specs.Store.{Store, told}
+use Rattle.schema_model.specs.declared.limit.Limit.{Limit}
+use Rattle.schema_model.specs.declared.limit.Limit.TheVariants as limit
+use Rattle.schema_model.specs.declared.schema.Schema.{Schema}
+use Rattle.schema_model.specs.declared.schema.Shape.{Shape}
+use Rattle.schema_model.specs.declared.reason.Reason.{Reason}
+use Rattle.schema_model.specs.declared.reason.Reason.TheVariants.{BadAnnounced}
+use Rattle.schema_model.specs.Model.{IsModel}
+use Rattle.schema_model.specs.Parts.{index_of_type}
+use Rattle.schema_model.specs.PlainTree.{PlainTree}
+use Rattle.schema_model.specs.Table.{Table}
+use Rattle.record_json.specs.ReadTree.{read_tree}
+use Rattle.row_packing.specs.Chosen.{shape_at}
+use Rattle.row_packing.specs.States.{AreWritable}
+use Rattle.row_packing.specs.TypeLimit.{KeepsBytes, KeepsItems, TellsLimit}
+use Rattle.write_engine.specs.Agreement.{HoldsOnce}
+use Rattle.write_engine.specs.Cycle.{Next}
+use Rattle.write_engine.specs.CycleLimit.{TellsTypes}
+use Rattle.write_engine.specs.Production.{AreChanged}
+use Rattle.write_engine.proofs.NextStates.{next_agree}
+use Rattle.write_engine.proofs.OneState.{next_is_one}
+use Rattle.write_engine.proofs.TypesKept.{writable, writable_back}
+use Rattle.snapshot_blob.specs.Written.{IsWrittenSnapshot}
+use Rattle.delta_blob.specs.Changes.{IsDeltaBetween}
+use Rattle.chain_store.specs.Announced.{Announces, IsAnnounced, IsBadlyAnnounced, IsNoVersion}
+use Rattle.chain_store.specs.Versions.{last_version}
+use Rattle.hol_orders.specs.declared.refusal.Refusal.{Refusal}
+use Rattle.hol_orders.specs.declared.refusal.Refusal.TheVariants as refused
+use Rattle.hol_orders.specs.declared.reply.Reply.{Reply}
+use Rattle.hol_orders.specs.declared.reply.Reply.TheVariants as reply
+use Rattle.hollow_machine.specs.CycleOrder.{AreNamed, CycleRefusal, CycleStep, Leaves, Makes, PassesLimit, Publishes, RefusesAfter, Succeeds}
+use Rattle.hollow_machine.specs.Follow.{MayFollow, MayNotFollow}
+use Rattle.hollow_machine.specs.Puts.{AreBlobs, IsShort, Put, puts_of, put_all}
+use Rattle.hollow_machine.specs.Records.{AreRead, AreTypes, Entry, GivesTree, IsFirstUnknown, IsFirstUnread, entries}
+use Rattle.hollow_machine.specs.State.{Machine, Published}
+use Rattle.chain_laws.proofs.OneLook.{rising_one}
+use Rattle.chain_laws.proofs.PrintedOnce.{each_once}
+use Rattle.chain_laws.proofs.StoreNames.{found_with, one_announced}
+
+-- ---- the first of a list for which something does not hold
+
+first_one : {A : Type 0} (P : A → Type 0) (before other : List A) (x y : A) (rest more : List A) → All P before → All P other → (P x → ⊥) → (P y → ⊥) → before ++ (x ∷ rest) ≡ other ++ (y ∷ more) → x ≡ y
+first_one P [] [] x y rest more all also not nor same = cc
+first_one P [] (b ∷ other) x y rest more all also not nor same = let here : b ≡ x = cc in absurd (not (subst P here (All-head P b other also)))
+first_one P (a ∷ before) [] x y rest more all also not nor same = let here : a ≡ y = cc in absurd (nor (subst P here (All-head P a before all)))
+first_one P (a ∷ before) (b ∷ other) x y rest more all also not nor same =
+    let tails : before ++ (x ∷ rest) ≡ other ++ (y ∷ more) = cc in
+    first_one P before other x y rest more (All-tail P a before all) (All-tail P b other also) not nor tails
+
+in_all : {A : Type 0} (P : A → Type 0) (before : List A) (x : A) (rest : List A) → All P (before ++ (x ∷ rest)) → P x
+in_all P [] x rest all = All-head P x rest all
+in_all P (a ∷ before) x rest all = in_all P before x rest (All-tail P a (before ++ (x ∷ rest)) all)
+
+-- ---- whether a state may follow
+
+module _ (store : Store) (last version : ℕ) (tag : ℤ) where
+  bad_apart : (announced : ℕ) → IsBadlyAnnounced store → IsAnnounced store announced → ⊥
+  bad_apart announced bad is = by_content (told (Some store) Announced) announced bad is
+    where
+      by_content : (content : Option (List ℕ)) (n : ℕ) → IsNoVersion content → Announces content n → ⊥
+      by_content None n none says = none
+      by_content (Some bytes) n none says = none n says.0 says.1
+
+  one_version : (u v : ℕ) → IsAnnounced store u → IsAnnounced store v → u ≡ v
+  one_version u v one other = one_announced (told (Some store) Announced) u v one other
+
+  may_apart : (refusal : Refusal) → MayNotFollow store last version tag refusal → MayFollow store last version tag → ⊥
+  may_apart (refused.BadBlob blob at reason row) is may = bad_apart last is.0 may.announced
+  may_apart (refused.NotLast announced) is may = is.1 (one_version announced last is.0 may.announced)
+  may_apart (refused.BadVersion greatest) is may = let low = is.2 in let same = is.1 in let later = may.later in omega (arith, low, same, later)
+  may_apart (refused.TagUsed used) is may = may.unused is.3
+  may_apart _ is may = absurd is
+
+  abbrev Why : Refusal → Type 0
+  Why refusal =
+      (IsBadlyAnnounced store × (refusal ≡ refused.BadBlob Announced 0 BadAnnounced None))
+      ⊎ (((announced : ℕ) × IsAnnounced store announced × (announced ≢ last) × (refusal ≡ refused.NotLast announced))
+      ⊎ ((IsAnnounced store last × (version ≤ last_version store) × (refusal ≡ refused.BadVersion (last_version store)))
+      ⊎ (IsAnnounced store last × (last_version store < version) × (refusal ≡ refused.TagUsed tag))))
+
+  why : (refusal : Refusal) → MayNotFollow store last version tag refusal → Why refusal
+  why (refused.BadBlob blob at reason row) is = inl (is.0, (λ i. refused.BadBlob (is.1 i) (is.2 i) (is.3 i) (is.4 i)))
+  why (refused.NotLast announced) is = inr (inl (announced, is.0, is.1, refl))
+  why (refused.BadVersion greatest) is =
+      let same = is.1 in let low = is.2 in inr (inr (inl (is.0, omega (arith, same, low), ap (λ n. refused.BadVersion n) same)))
+  why (refused.TagUsed used) is = inr (inr (inr (is.0, is.1, ap (λ t. refused.TagUsed t) is.2)))
+  why _ is = absurd is
+
+  one_why : (r s : Refusal) → Why r → Why s → r ≡ s
+  one_why r s (inl bad) (inl also) = bad.1 ∙ sym also.1
+  one_why r s (inl bad) (inr (inl other)) = absurd (bad_apart other.0 bad.0 other.1)
+  one_why r s (inl bad) (inr (inr (inl low))) = absurd (bad_apart last bad.0 low.0)
+  one_why r s (inl bad) (inr (inr (inr used))) = absurd (bad_apart last bad.0 used.0)
+  one_why r s (inr (inl other)) (inl bad) = absurd (bad_apart other.0 bad.0 other.1)
+  one_why r s (inr (inl other)) (inr (inl also)) = other.3 ∙ ap (λ n. refused.NotLast n) (one_version other.0 also.0 other.1 also.1) ∙ sym also.3
+  one_why r s (inr (inl other)) (inr (inr (inl low))) = absurd (other.2 (one_version other.0 last other.1 low.0))
+  one_why r s (inr (inl other)) (inr (inr (inr used))) = absurd (other.2 (one_version other.0 last other.1 used.0))
+  one_why r s (inr (inr (inl low))) (inl bad) = absurd (bad_apart last bad.0 low.0)
+  one_why r s (inr (inr (inl low))) (inr (inl other)) = absurd (other.2 (one_version other.0 last other.1 low.0))
+  one_why r s (inr (inr (inl low))) (inr (inr (inl also))) = low.2 ∙ sym also.2
+  one_why r s (inr (inr (inl low))) (inr (inr (inr used))) = absurd (let a = low.1 in let b = used.1 in omega (arith, a, b))
+  one_why r s (inr (inr (inr used))) (inl bad) = absurd (bad_apart last bad.0 used.0)
+  one_why r s (inr (inr (inr used))) (inr (inl other)) = absurd (other.2 (one_version other.0 last other.1 used.0))
+  one_why r s (inr (inr (inr used))) (inr (inr (inl low))) = absurd (let a = low.1 in let b = used.1 in omega (arith, a, b))
+  one_why r s (inr (inr (inr used))) (inr (inr (inr also))) = used.2 ∙ sym also.2
+
+-- ---- the limits of the types
+
+module _ (shape : Shape) (old new : Table) (t : ℕ) where
+  none_some : (passed : Limit) → TellsLimit shape old new t None → TellsLimit shape old new t (Some passed) → ⊥
+  none_some limit.Items kept not = not kept.0
+  none_some limit.Bytes kept not = not.1 kept.1
+  none_some limit.Words kept not = not.2 kept.2
+  none_some _ kept not = absurd not
+
+  abbrev Which : Limit → Type 0
+  Which passed =
+      ((passed ≡ limit.Items) × (KeepsItems shape old new t → ⊥))
+      ⊎ (((passed ≡ limit.Bytes) × KeepsItems shape old new t × (KeepsBytes old new t → ⊥))
+      ⊎ ((passed ≡ limit.Words) × KeepsItems shape old new t × KeepsBytes old new t))
+
+  which : (passed : Limit) → TellsLimit shape old new t (Some passed) → Which passed
+  which limit.Items not = inl (refl, not)
+  which limit.Bytes not = inr (inl (refl, not.0, not.1))
+  which limit.Words not = inr (inr (refl, not.0, not.1))
+  which _ not = absurd not
+
+  one_which : (l m : Limit) → Which l → Which m → l ≡ m
+  one_which l m (inl a) (inl b) = a.0 ∙ sym b.0
+  one_which l m (inl a) (inr (inl b)) = absurd (a.1 b.1)
+  one_which l m (inl a) (inr (inr b)) = absurd (a.1 b.1)
+  one_which l m (inr (inl a)) (inl b) = absurd (b.1 a.1)
+  one_which l m (inr (inl a)) (inr (inl b)) = a.0 ∙ sym b.0
+  one_which l m (inr (inl a)) (inr (inr b)) = absurd (a.2 b.2)
+  one_which l m (inr (inr a)) (inl b) = absurd (b.1 a.1)
+  one_which l m (inr (inr a)) (inr (inl b)) = absurd (b.2 a.2)
+  one_which l m (inr (inr a)) (inr (inr b)) = a.0 ∙ sym b.0
+
+module _ (schemas : List Schema) (old new : Table) where
+  types_apart : (passed : Limit) → TellsTypes schemas old new None → TellsTypes schemas old new (Some passed) → ⊥
+  types_apart passed kept (t, inside, before, not) = none_some (shape_at schemas t) old new t passed (kept t inside) not
+
+  types_one : (l m : Limit) → TellsTypes schemas old new (Some l) → TellsTypes schemas old new (Some m) → l ≡ m
+  types_one l m (t, inside, before, not) (u, within, earlier, nor) =
+      elim (cases_lt t u) [
+        | inl low ↦ absurd (none_some (shape_at schemas t) old new t l (earlier t low) not)
+        | inr up ↦
+            elim (cases_eq t u) [
+              | inl same ↦
+                  one_which (shape_at schemas u) old new u l m (which (shape_at schemas u) old new u l (subst (λ k. TellsLimit (shape_at schemas k) old new k (Some l)) same not))
+                  (which (shape_at schemas u) old new u m nor)
+              | inr apart ↦ absurd (none_some (shape_at schemas u) old new u m (before u (omega (arith, up, apart))) nor)
+            ]
+      ]
+
+-- ---- the records of a cycle
+
+module _ (last : Published) (add : Data) (once : HoldsOnce last.rows) where
+  abbrev recorded : List Entry
+  recorded = entries last.model add
+
+  tree_one : (entry : Entry) (a b : ℕ × PlainTree) → GivesTree last.model entry a → GivesTree last.model entry b → a ≡ b
+  tree_one entry a b one other =
+      let index = one.0 ∙ sym other.0 in
+      let both : Ok a.1 ≡ Ok b.1 = sym one.1 ∙ other.1 in
+      let tree : a.1 ≡ b.1 = cc in
+      λ i. (index i, tree i)
+
+  trees_one : (trees others : List (ℕ × PlainTree)) → AreRead last.model recorded trees → AreRead last.model recorded others → trees ≡ others
+  trees_one trees others one other = each_once (GivesTree last.model) tree_one recorded trees others one other
+
+  rows_one : (rows others : Table) (changed also : List ℕ) → Makes last add rows changed → Makes last add others also → rows ≡ others
+  rows_one rows others changed also one other =
+      let same = trees_one one.trees other.trees one.read other.read in
+      next_is_one last.model last.rows rows others one.trees once one.state
+      (subst (λ (ts : List (ℕ × PlainTree)). Next last.model last.rows ts others) (sym same) other.state)
+
+  changed_one : (rows others : Table) (changed also : List ℕ) → rows ≡ others → AreChanged last.rows rows changed → AreChanged last.rows others also → changed ≡ also
+  changed_one rows others changed also same one other =
+      let here : AreChanged last.rows rows also = subst (λ (t : Table). AreChanged last.rows t also) (sym same) other in
+      rising_one changed also one.rising here.rising (λ q. ((λ among. (here.same q).1 ((one.same q).0 among)), (λ among. (one.same q).1 ((here.same q).0 among))))
+
+  no_tree : (trees : List (ℕ × PlainTree)) (type_index place : ℕ) (reason : Reason) → AreRead last.model recorded trees → IsFirstUnread last.model recorded type_index place reason → ⊥
+  no_tree trees type_index place reason read first =
+      let all : All (λ (entry : Entry). IsOk (read_tree last.model entry.type_index entry.value)) recorded = each_ok recorded trees read in
+      let ok : IsOk (read_tree last.model type_index first.value) =
+      in_all (λ (entry : Entry). IsOk (read_tree last.model entry.type_index entry.value)) first.before (record { type_index = type_index; place = place; value = first.value }) first.rest
+      (subst (λ (es : List Entry). All (λ (entry : Entry). IsOk (read_tree last.model entry.type_index entry.value)) es) first.split all) in
+      let bad = subst IsOk first.unread ok in absurd cc
+    where
+      each_ok : (es : List Entry) (ts : List (ℕ × PlainTree)) → AllZip (GivesTree last.model) es ts → All (λ (entry : Entry). IsOk (read_tree last.model entry.type_index entry.value)) es
+      each_ok [] [] are = All-nil (λ (entry : Entry). IsOk (read_tree last.model entry.type_index entry.value))
+      each_ok [] (t ∷ ts) are = absurd are
+      each_ok (e ∷ es) [] are = absurd are
+      each_ok (e ∷ es) (t ∷ ts) are =
+          All-cons (λ (entry : Entry). IsOk (read_tree last.model entry.type_index entry.value)) e es (subst IsOk (sym are.0.1) refl) (each_ok es ts are.1)
+
+  no_type : (name : List ℕ) → AreTypes last.model add → IsFirstUnknown last.model add name → ⊥
+  no_type name types first =
+      let known = in_all (λ (n : List ℕ). IsSome (index_of_type last.model n)) first.before name first.rest
+      (subst (λ (names : List (List ℕ)). All (λ (n : List ℕ). IsSome (index_of_type last.model n)) names) first.split types) in
+      let bad = subst IsSome first.unknown known in absurd cc
+
+  unknown_one : (a b : List ℕ) → IsFirstUnknown last.model add a → IsFirstUnknown last.model add b → a ≡ b
+  unknown_one a b one other =
+      first_one (λ (n : List ℕ). IsSome (index_of_type last.model n)) one.before other.before a b one.rest other.rest one.known other.known
+      (λ known. (let bad = subst IsSome one.unknown known in absurd cc)) (λ known. (let bad = subst IsSome other.unknown known in absurd cc)) (sym one.split ∙ other.split)
+
+  unread_one : (t u place other_place : ℕ) (reason why_too : Reason) → IsFirstUnread last.model recorded t place reason → IsFirstUnread last.model recorded u other_place why_too
+      → (t ≡ u) × (place ≡ other_place) × (reason ≡ why_too)
+  unread_one t u place other_place reason why_too one other =
+      let same = first_one (λ (entry : Entry). IsOk (read_tree last.model entry.type_index entry.value)) one.before other.before
+      (record { type_index = t; place = place; value = one.value }) (record { type_index = u; place = other_place; value = other.value }) one.rest other.rest one.read other.read
+      (λ ok. (let bad = subst IsOk one.unread ok in absurd cc)) (λ ok. (let bad = subst IsOk other.unread ok in absurd cc)) (sym one.split ∙ other.split) in
+      let both : Err reason ≡ Err why_too = sym one.unread ∙ ap (λ (e : Entry). read_tree last.model e.type_index e.value) same ∙ other.unread in
+      (ap (λ (e : Entry). e.type_index) same, ap (λ (e : Entry). e.place) same, cc)
+
+-- ---- a cycle of a producer
+
+-- each state is written in one way
+abbrev pub WrittenOnce : Type 0
+WrittenOnce =
+    ((schemas : List Schema) (old new : Table) (origin destination : ℤ) (a b : List ℕ) → IsModel schemas → AreWritable schemas old new → IsWrittenSnapshot schemas old new origin destination a
+    → IsWrittenSnapshot schemas old new origin destination b → a ≡ b)
+    × ((schemas : List Schema) (old new : Table) (origin destination : ℤ) (a b : List ℕ) → IsModel schemas → AreWritable schemas old new → IsDeltaBetween schemas old new origin destination a
+    → IsDeltaBetween schemas old new origin destination b → a ≡ b)
+
+module _ (written : WrittenOnce) (machine : Machine) (last : Published) (version : ℕ) (tag : ℤ) (add : Data) (model : IsModel last.model) (once : HoldsOnce last.rows) where
+  abbrev store : Store
+  store = machine.store
+
+  blobs_one : (rows : Table) (trees : List (ℕ × PlainTree)) → Next last.model last.rows trees rows → TellsTypes last.model last.rows rows None → (blobs others : List Put)
+      → AreBlobs last rows version tag blobs → AreBlobs last rows version tag others → blobs ≡ others
+  blobs_one rows trees made keeps blobs others (inl (zero_before, (snapshot, one, is))) (inl (zero_too, (other, also, other_is))) =
+      let can = writable last.model last.rows rows (next_agree last.model last.rows rows trees once made) keeps in
+      let same = written.0 last.model last.rows rows last.tag tag snapshot other model can one also in
+      is ∙ ap (λ (b : List ℕ). (Snapshot version, b) ∷ []) same ∙ sym other_is
+  blobs_one rows trees made keeps blobs others (inl first) (inr later) = absurd (later.0 first.0)
+  blobs_one rows trees made keeps blobs others (inr later) (inl first) = absurd (later.0 first.0)
+  blobs_one rows trees made keeps blobs others (inr (nonzero, (delta, reverse, snapshot, forth, back, one, is))) (inr (nonzero_too, (d, r, s, forth_too, back_too, also, other_is))) =
+      let agree = next_agree last.model last.rows rows trees once made in
+      let can = writable last.model last.rows rows agree keeps in
+      let deltas = written.1 last.model last.rows rows last.tag tag delta d model can forth forth_too in
+      let reverses = written.1 last.model rows last.rows tag last.tag reverse r model (writable_back last.model last.rows rows agree keeps) back back_too in
+      let snapshots = written.0 last.model last.rows rows last.tag tag snapshot s model can one also in
+      is ∙ (λ i. (Delta last.version version, deltas i) ∷ (Reverse version last.version, reverses i) ∷ (Snapshot version, snapshots i) ∷ []) ∙ sym other_is
+
+  -- what a cycle publishes is not left out
+  not_both : (changed : List ℕ) → Publishes last changed → last.version ≢ 0 → changed ≡ [] → ⊥
+  not_both changed (inl zero_before) nonzero none = nonzero zero_before
+  not_both changed (inr some) nonzero none = some none
+
+  leaves_one : (rows : Table) (trees : List (ℕ × PlainTree)) (changed : List ℕ) → Next last.model last.rows trees rows → (published also : Bool) (next after : Machine)
+      → Leaves machine last rows changed version tag published next → Leaves machine last rows changed version tag also after → (published ≡ also) × (next ≡ after)
+  leaves_one rows trees changed made false false next after one other = (refl, one.2 ∙ sym other.2)
+  leaves_one rows trees changed made false true next after one other = absurd (not_both changed other.0 one.0 one.1)
+  leaves_one rows trees changed made true false next after one other = absurd (not_both changed one.0 other.0 other.1)
+  leaves_one rows trees changed made true true next after (publishes, keeps, (blobs, are, short, next_is)) (publishes_too, keeps_too, (others, are_too, short_too, after_is)) =
+      let same = blobs_one rows trees made keeps blobs others are are_too in (
+        refl,
+        next_is
+            ∙ ap (λ (bs : List Put). record machine { store = put_all machine.store (puts_of bs version); producer = Some (record { model = last.model; rows = rows; tag = tag; version = version }) }) same
+            ∙ sym after_is,
+      )
+
+  named_one : (schemas : List Schema) (types : List ℕ) (names others : List (List ℕ)) → AreNamed schemas types names → AreNamed schemas types others → names ≡ others
+  named_one schemas types names others one other =
+      each_once (λ t name. IsSomeAnd (slice_get schemas t) (λ (s : Schema). s.name ≡ name)) (λ t a b x y. name_one t a b (slice_get schemas t) x y) types names others one other
+    where
+      name_one : (t : ℕ) (a b : List ℕ) (found : Option Schema) → IsSomeAnd found (λ (s : Schema). s.name ≡ a) → IsSomeAnd found (λ (s : Schema). s.name ≡ b) → a ≡ b
+      name_one t a b None x y = absurd x
+      name_one t a b (Some s) x y = sym x ∙ y
+
+  succeeds_one : (names others : List (List ℕ)) (published also : Bool) (next after : Machine) → Succeeds machine last version tag add names published next
+      → Succeeds machine last version tag add others also after → (names ≡ others) × (published ≡ also) × (next ≡ after)
+  succeeds_one names others published also next after (may, types, (rows, changed, makes, named, leaves)) (may_too, types_too, (table, ts, makes_too, named_too, leaves_too)) =
+      let same = rows_one last add once rows table changed ts makes makes_too in
+      let list = changed_one last add once rows table changed ts same makes.types makes_too.types in
+      let here = subst (λ (t : Table). Leaves machine last t changed version tag also after) (sym same) (subst (λ (cs : List ℕ). Leaves machine last table cs version tag also after) (sym list) leaves_too) in
+      let left = leaves_one rows makes.trees changed makes.state published also next after leaves here in
+      (named_one last.model changed names others named (subst (λ (cs : List ℕ). AreNamed last.model cs others) (sym list) named_too), left.0, left.1)
+
+  -- ---- why a cycle is refused
+
+  abbrev NoNext : Type 0
+  NoNext = (trees : List (ℕ × PlainTree)) × AreRead last.model (entries last.model add) trees × ((rows : Table) → Next last.model last.rows trees rows → ⊥)
+
+  -- a blob of what is published is too long
+  abbrev TooLong : Type 0
+  TooLong =
+      (rows : Table) × (changed : List ℕ) × Makes last add rows changed × Publishes last changed × TellsTypes last.model last.rows rows None
+      × ((blobs : List Put) → AreBlobs last rows version tag blobs → All IsShort blobs → ⊥)
+
+  -- a type of what is published passes this limit
+  abbrev TypePasses : Limit → Type 0
+  TypePasses passed = (rows : Table) × (changed : List ℕ) × Makes last add rows changed × Publishes last changed × TellsTypes last.model last.rows rows (Some passed)
+
+  abbrev PassKind : Limit → Type 0
+  PassKind passed = ((passed ≡ limit.Ordinals) × NoNext) ⊎ (((passed ≡ limit.Blob) × TooLong) ⊎ TypePasses passed)
+
+  pass_kind : (passed : Limit) → PassesLimit last version tag add passed → PassKind passed
+  pass_kind limit.Ordinals is = inl (refl, is)
+  pass_kind limit.Blob is = inr (inl (refl, is))
+  pass_kind _ is = inr (inr is)
+
+  read_of : (passed : Limit) → PassKind passed → (trees : List (ℕ × PlainTree)) × AreRead last.model (entries last.model add) trees
+  read_of passed (inl none) = (none.1.0, none.1.1)
+  read_of passed (inr (inl (is, (rows, changed, makes, publishes, keeps, not)))) = (makes.trees, makes.read)
+  read_of passed (inr (inr (rows, changed, makes, publishes, tells))) = (makes.trees, makes.read)
+
+  no_next : NoNext → (rows : Table) (changed : List ℕ) → Makes last add rows changed → ⊥
+  no_next (trees, read, none) rows changed makes =
+      none rows (subst (λ (ts : List (ℕ × PlainTree)). Next last.model last.rows ts rows) (trees_one last add once makes.trees trees makes.read read) makes.state)
+
+  same_rows : (P : Table → Type 0) (rows others : Table) (changed also : List ℕ) → Makes last add rows changed → Makes last add others also → P others → P rows
+  same_rows P rows others changed also makes makes_too p = subst P (sym (rows_one last add once rows others changed also makes makes_too)) p
+
+  passes_one : (l m : Limit) → PassKind l → PassKind m → l ≡ m
+  passes_one l m (inl none) (inl also) = none.0 ∙ sym also.0
+  passes_one l m (inl none) (inr (inl (is, (rows, changed, makes, publishes, keeps, not)))) = absurd (no_next none.1 rows changed makes)
+  passes_one l m (inl none) (inr (inr (rows, changed, makes, publishes, tells))) = absurd (no_next none.1 rows changed makes)
+  passes_one l m (inr (inl (is, (rows, changed, makes, publishes, keeps, not)))) (inl none) = absurd (no_next none.1 rows changed makes)
+  passes_one l m (inr (inr (rows, changed, makes, publishes, tells))) (inl none) = absurd (no_next none.1 rows changed makes)
+  passes_one l m (inr (inl one)) (inr (inl other)) = one.0 ∙ sym other.0
+  passes_one l m (inr (inl (is, (rows, changed, makes, publishes, keeps, not)))) (inr (inr (others, also, makes_too, publishes_too, tells))) =
+      absurd (types_apart last.model last.rows rows m keeps
+      (same_rows (λ (t : Table). TellsTypes last.model last.rows t (Some m)) rows others changed also makes makes_too tells))
+  passes_one l m (inr (inr (others, also, makes_too, publishes_too, tells))) (inr (inl (is, (rows, changed, makes, publishes, keeps, not)))) =
+      absurd (types_apart last.model last.rows rows l keeps
+      (same_rows (λ (t : Table). TellsTypes last.model last.rows t (Some l)) rows others changed also makes makes_too tells))
+  passes_one l m (inr (inr (rows, changed, makes, publishes, tells))) (inr (inr (others, also, makes_too, publishes_too, tells_too))) =
+      types_one last.model last.rows rows l m tells (same_rows (λ (t : Table). TellsTypes last.model last.rows t (Some m)) rows others changed also makes makes_too tells_too)
+
+  abbrev May : Type 0
+  May = MayFollow store last.version version tag
+
+  abbrev Unread : Refusal → Type 0
+  Unread refusal =
+      (name : List ℕ) × (place : ℕ) × (reason : Reason) × (refusal ≡ refused.BadRecord name place reason)
+      × ((t : ℕ) × IsSomeAnd (slice_get last.model t) (λ (s : Schema). s.name ≡ name) × IsFirstUnread last.model (entries last.model add) t place reason)
+
+  abbrev AfterKind : Refusal → Type 0
+  AfterKind refusal =
+      MayNotFollow store last.version version tag refusal
+      ⊎ (May × (((name : List ℕ) × (refusal ≡ refused.NoType name) × IsFirstUnknown last.model add name)
+      ⊎ (AreTypes last.model add × (Unread refusal ⊎ ((passed : Limit) × (refusal ≡ refused.TooLarge passed) × PassKind passed)))))
+
+  after_kind : (refusal : Refusal) → RefusesAfter store last version tag add refusal → AfterKind refusal
+  after_kind (refused.NoType name) is = inr (is.0, inl (name, refl, is.1))
+  after_kind (refused.BadRecord name place reason) is = inr (is.0, inr (is.1, inl (name, place, reason, refl, is.2)))
+  after_kind (refused.TooLarge passed) is = inr (is.0, inr (is.1, inr (passed, refl, pass_kind passed is.2)))
+  after_kind _ is = inl is
+
+  name_at : (found : Option Schema) (a b : List ℕ) → IsSomeAnd found (λ (s : Schema). s.name ≡ a) → IsSomeAnd found (λ (s : Schema). s.name ≡ b) → a ≡ b
+  name_at None a b x y = absurd x
+  name_at (Some s) a b x y = sym x ∙ y
+
+  unread_same : (r s : Refusal) → Unread r → Unread s → r ≡ s
+  unread_same r s (name, place, reason, is, (t, named, first)) (other, place_too, reason_too, is_too, (u, named_too, first_too)) =
+      let same = unread_one last add once t u place place_too reason reason_too first first_too in
+      let names = name_at (slice_get last.model u) name other (subst (λ k. IsSomeAnd (slice_get last.model k) (λ (s : Schema). s.name ≡ name)) same.0 named) named_too in
+      is ∙ (λ i. refused.BadRecord (names i) (same.1 i) (same.2 i)) ∙ sym is_too
+
+  unread_apart : (r : Refusal) (trees : List (ℕ × PlainTree)) → AreRead last.model (entries last.model add) trees → Unread r → ⊥
+  unread_apart r trees read (name, place, reason, is, (t, named, first)) = no_tree last add once trees t place reason read first
+
+  after_one : (r s : Refusal) → AfterKind r → AfterKind s → r ≡ s
+  after_one r s (inl not) (inl also) = one_why store last.version version tag r s (why store last.version version tag r not) (why store last.version version tag s also)
+  after_one r s (inl not) (inr may) = absurd (may_apart store last.version version tag r not may.0)
+  after_one r s (inr may) (inl not) = absurd (may_apart store last.version version tag s not may.0)
+  after_one r s (inr (may, inl (name, is, first))) (inr (may_too, inl (other, is_too, first_too))) = is ∙ ap (λ n. refused.NoType n) (unknown_one last add once name other first first_too) ∙ sym is_too
+  after_one r s (inr (may, inl (name, is, first))) (inr (may_too, inr (types, more))) = absurd (no_type last add once name types first)
+  after_one r s (inr (may, inr (types, more))) (inr (may_too, inl (name, is, first))) = absurd (no_type last add once name types first)
+  after_one r s (inr (may, inr (types, inl unread))) (inr (may_too, inr (types_too, inl also))) = unread_same r s unread also
+  after_one r s (inr (may, inr (types, inl unread))) (inr (may_too, inr (types_too, inr (passed, is, kind)))) =
+      let (trees, read) = read_of passed kind in absurd (unread_apart r trees read unread)
+  after_one r s (inr (may, inr (types, inr (passed, is, kind)))) (inr (may_too, inr (types_too, inl unread))) =
+      let (trees, read) = read_of passed kind in absurd (unread_apart s trees read unread)
+  after_one r s (inr (may, inr (types, inr (l, is, kind)))) (inr (may_too, inr (types_too, inr (m, is_too, also)))) = is ∙ ap (λ p. refused.TooLarge p) (passes_one l m kind also) ∙ sym is_too
+
+  -- ---- a cycle that succeeds is not refused
+
+  left_not : (rows : Table) (changed : List ℕ) (published : Bool) (next : Machine) (passed : Limit) → Makes last add rows changed → Leaves machine last rows changed version tag published next → PassKind passed → ⊥
+  left_not rows changed false next passed makes leaves (inl none) = no_next none.1 rows changed makes
+  left_not rows changed true next passed makes leaves (inl none) = no_next none.1 rows changed makes
+  left_not rows changed false next passed makes (nonzero, none, next_is) (inr (inl (is, (others, also, makes_too, publishes, keeps, not)))) =
+      let same = rows_one last add once rows others changed also makes makes_too in
+      let list = changed_one last add once rows others changed also same makes.types makes_too.types in
+      not_both changed (subst (λ (cs : List ℕ). Publishes last cs) (sym list) publishes) nonzero none
+  left_not rows changed false next passed makes (nonzero, none, next_is) (inr (inr (others, also, makes_too, publishes, tells))) =
+      let same = rows_one last add once rows others changed also makes makes_too in
+      let list = changed_one last add once rows others changed also same makes.types makes_too.types in
+      not_both changed (subst (λ (cs : List ℕ). Publishes last cs) (sym list) publishes) nonzero none
+  left_not rows changed true next passed makes (publishes, keeps, (blobs, are, short, next_is)) (inr (inl (is, (others, also, makes_too, publishes_too, keeps_too, not)))) =
+      (same_rows (λ (t : Table). (bs : List Put) → AreBlobs last t version tag bs → All IsShort bs → ⊥) rows others changed also makes makes_too not) blobs are short
+  left_not rows changed true next passed makes (publishes, keeps, (blobs, are, short, next_is)) (inr (inr (others, also, makes_too, publishes_too, tells))) =
+      types_apart last.model last.rows rows passed keeps (same_rows (λ (t : Table). TellsTypes last.model last.rows t (Some passed)) rows others changed also makes makes_too tells)
+
+  succeeds_not : (names : List (List ℕ)) (published : Bool) (next : Machine) (refusal : Refusal) → Succeeds machine last version tag add names published next → AfterKind refusal → ⊥
+  succeeds_not names published next refusal (may, types, more) (inl not) = may_apart store last.version version tag refusal not may
+  succeeds_not names published next refusal (may, types, more) (inr (may_too, inl (name, is, first))) = no_type last add once name types first
+  succeeds_not names published next refusal (may, types, (rows, changed, makes, named, leaves)) (inr (may_too, inr (types_too, inl unread))) = unread_apart refusal makes.trees makes.read unread
+  succeeds_not names published next refusal (may, types, (rows, changed, makes, named, leaves)) (inr (may_too, inr (types_too, inr (passed, is, kind)))) =
+      left_not rows changed published next passed makes leaves kind
+
+-- ---- the order
+
+-- a producer's model is a model, and no row stands twice in its rows
+pub record IsOnce (last : Published) : Type 0 where
+  pub model : IsModel last.model
+  pub once : HoldsOnce last.rows
+
+abbrev RefusalOf : Machine → ℕ → ℤ → Data → Refusal → Type 0
+RefusalOf machine version tag add refusal =
+    ((machine.producer ≡ None) × (refusal ≡ refused.NoModel)) ⊎ IsSomeAnd machine.producer (λ last. RefusesAfter machine.store last version tag add refusal)
+
+refusal_of : (machine : Machine) (version : ℕ) (tag : ℤ) (add : Data) (refusal : Refusal) → CycleRefusal machine version tag add refusal → RefusalOf machine version tag add refusal
+refusal_of machine version tag add refused.NoModel is = inl (is, refl)
+refusal_of machine version tag add _ is = inr is
+
+module _ (written : WrittenOnce) (machine : Machine) (version : ℕ) (tag : ℤ) (add : Data) (known : IfSome machine.producer IsOnce) where
+  known_of : (last : Published) → machine.producer ≡ Some last → IsOnce last
+  known_of last is = subst (λ (producer : Option Published). IfSome producer IsOnce) is known
+
+  same_last : (last other : Published) → machine.producer ≡ Some last → machine.producer ≡ Some other → other ≡ last
+  same_last last other is also = let both : Some other ≡ Some last = sym also ∙ is in cc
+
+  refusals_one : (r s : Refusal) → RefusalOf machine version tag add r → RefusalOf machine version tag add s → r ≡ s
+  refusals_one r s (inl none) (inl also) = none.1 ∙ sym also.1
+  refusals_one r s (inl none) (inr some) = let (last, is, refuses) = found_with machine.producer _ some in let no : Some last ≡ None = sym is ∙ none.0 in absurd cc
+  refusals_one r s (inr some) (inl none) = let (last, is, refuses) = found_with machine.producer _ some in let no : Some last ≡ None = sym is ∙ none.0 in absurd cc
+  refusals_one r s (inr one) (inr other) =
+      let (last, is, refuses) = found_with machine.producer _ one in
+      let (same, also, refuses_too) = found_with machine.producer _ other in
+      let here = subst (λ (l : Published). RefusesAfter machine.store l version tag add s) (same_last last same is also) refuses_too in
+      let facts = known_of last is in
+      after_one written machine last version tag add facts.model facts.once r s (after_kind written machine last version tag add facts.model facts.once r refuses)
+      (after_kind written machine last version tag add facts.model facts.once s here)
+
+  not_refused : (names : List (List ℕ)) (published : Bool) (next : Machine) (refusal : Refusal) → IsSomeAnd machine.producer (λ last. Succeeds machine last version tag add names published next)
+      → RefusalOf machine version tag add refusal → ⊥
+  not_refused names published next refusal some (inl none) = let (last, is, succeeds) = found_with machine.producer _ some in let no : Some last ≡ None = sym is ∙ none.0 in absurd cc
+  not_refused names published next refusal some (inr other) =
+      let (last, is, succeeds) = found_with machine.producer _ some in
+      let (same, also, refuses) = found_with machine.producer _ other in
+      let here = subst (λ (l : Published). RefusesAfter machine.store l version tag add refusal) (same_last last same is also) refuses in
+      let facts = known_of last is in
+      succeeds_not written machine last version tag add facts.model facts.once names published next refusal succeeds (after_kind written machine last version tag add facts.model facts.once refusal here)
+
+  pub one_cycle : (one other : Reply) (next after : Machine) → CycleStep machine version tag add one next → CycleStep machine version tag add other after → (one ≡ other) × (next ≡ after)
+  one_cycle (reply.Cycle names published v) (reply.Cycle others also w) next after one other =
+      let (last, is, succeeds) = found_with machine.producer _ one.1 in
+      let (same, is_too, succeeds_too) = found_with machine.producer _ other.1 in
+      let here = subst (λ (l : Published). Succeeds machine l version tag add others also after) (same_last last same is is_too) succeeds_too in
+      let facts = known_of last is in
+      let all = succeeds_one written machine last version tag add facts.model facts.once names others published also next after succeeds here in
+      let versions = one.0 ∙ sym other.0 in
+      ((λ i. reply.Cycle (all.0 i) (all.1 i) (versions i)), all.2)
+  one_cycle (reply.Cycle names published v) (reply.Refused refusal) next after one other = absurd (not_refused names published next refusal one.1 (refusal_of machine version tag add refusal other.0))
+  one_cycle (reply.Refused refusal) (reply.Cycle names published v) next after one other = absurd (not_refused names published after refusal other.1 (refusal_of machine version tag add refusal one.0))
+  one_cycle (reply.Refused r) (reply.Refused s) next after one other =
+      (ap (λ x. reply.Refused x) (refusals_one r s (refusal_of machine version tag add r one.0) (refusal_of machine version tag add s other.0)), one.1 ∙ sym other.1)
+  one_cycle (reply.Cycle names published v) _ next after one other = absurd other
+  one_cycle (reply.Refused r) _ next after one other = absurd other
+  one_cycle _ other_answer next after one other = absurd one

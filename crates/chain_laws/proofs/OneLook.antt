@@ -1,0 +1,144 @@
+-- What is asked of a consumer has one answer line.
+use Rattle.std.proofs.Common.{◌≡◌, ◌<◌, ℕ, List, [], ◌∷◌, map, inl, inr, ◌⊎◌, Option, Some, None, refl, sym, ap, subst, ◌∙◌, arith}
+use Rattle.std.specs.Prelude.{Contains, ◌↔◌, codes}
+use Rattle.std.specs.List.{AllZip}
+use Rattle.serde_json.specs.Data.{Data, array, string, object, no_members, member}
+use Rattle.serde_json.specs.View.{view, items_of}
+use Rattle.serde_json.specs.declared.value.Value.{Value}
+use Rattle.schema_model.specs.declared.limit.Limit.TheVariants.{Nodes}
+use Rattle.schema_model.specs.declared.schema.name.Name.{Name}
+use Rattle.schema_model.specs.Limit.{number_of_limit}
+use Rattle.schema_model.specs.Parts.{index_of_type}
+use Rattle.schema_model.specs.PlainTree.{node_count}
+use Rattle.schema_model.specs.Row.{Rises}
+use Rattle.schema_model.specs.Table.{IsLive}
+use Rattle.write_engine.proofs.RisingLists.{one_set}
+use Rattle.hol_orders.specs.declared.refusal.Refusal.{Refusal}
+use Rattle.hol_orders.specs.declared.refusal.Refusal.TheVariants.{NoRow, TooLarge}
+use Rattle.hol_orders.specs.declared.reply.Reply.{Reply}
+use Rattle.hol_orders.specs.declared.reply.Reply.TheVariants as reply
+use Rattle.hol_orders.specs.Parts.{pair, whole}
+use Rattle.hol_orders.specs.Reply.{is_refusal, past_item, reply_data}
+use Rattle.read_engine.specs.Gone.{AreGone}
+use Rattle.read_engine.specs.Position.{Position, rows_now}
+use Rattle.hollow_machine.specs.RowOrders.{AnswersAt, AnswersOf, ListsLive, LiveReply, PastReply, RowRefusal, RowReply, ShowsGone, ShowsPast, ShowsRow, nodes_gone, record_at}
+use Rattle.chain_laws.specs.Answers.{SaysOne}
+use Rattle.chain_laws.proofs.PrintedOnce.{tree_once}
+
+pub says : (one other : Reply) → one ≡ other → SaysOne one other
+says one other same = (ap reply_data same, ap is_refusal same)
+
+-- rising lists with the same members are one
+pub rising_one : (xs ys : List ℕ) → Rises xs → Rises ys → ((q : ℕ) → Contains xs q ↔ Contains ys q) → xs ≡ ys
+rising_one xs ys rises also same = one_set ys xs ys (record { rising = rises; same = same }) (record { rising = also; same = λ q. ((λ among. among), (λ among. among)) })
+
+-- ---- by the consumer and the name
+
+module _ (name : Name) (Answers : Position → ℕ → Reply → Type 0) (each : (now : Position) (t : ℕ) (a b : Reply) → Answers now t a → Answers now t b → SaysOne a b) where
+  one_at : (now : Position) (found : Option ℕ) (a b : Reply) → AnswersAt now found name Answers a → AnswersAt now found name Answers b → SaysOne a b
+  one_at now None a b a_is b_is = says a b (a_is ∙ sym b_is)
+  one_at now (Some t) a b a_is b_is = each now t a b a_is b_is
+
+  one_of : (consumer : Option Position) (a b : Reply) → AnswersOf consumer name Answers a → AnswersOf consumer name Answers b → SaysOne a b
+  one_of None a b a_is b_is = says a b (a_is ∙ sym b_is)
+  one_of (Some now) a b a_is b_is = one_at now (index_of_type now.schemas name) a b a_is b_is
+
+-- ---- live
+
+one_list : (now : Position) (t : ℕ) (a b : Reply) → ListsLive now t a → ListsLive now t b → SaysOne a b
+one_list now t (reply.Live xs) (reply.Live ys) one other =
+    says (reply.Live xs) (reply.Live ys) (ap (λ os. reply.Live os) (rising_one xs ys one.rising other.rising
+    (λ q. ((λ among. (other.are q).1 ((one.are q).0 among)), (λ among. (one.are q).1 ((other.are q).0 among))))))
+one_list now t (reply.Live xs) _ one other = absurd other
+one_list now t _ b one other = absurd one
+
+pub one_live : (consumer : Option Position) (name : Name) (a b : Reply) → LiveReply consumer name a → LiveReply consumer name b → SaysOne a b
+one_live consumer name a b one other = one_of name ListsLive one_list consumer a b one other
+
+-- ---- row
+
+abbrev row_object : Data → Data
+row_object row = object (member (codes "ok") (string (codes "row")) (member (codes "row") row no_members))
+
+module _ (name : Name) (ordinal : ℕ) (now : Position) (t : ℕ) where
+  abbrev Live : Type 0
+  Live = IsLive (rows_now now) t ordinal
+
+  abbrev nodes : ℕ
+  nodes = node_count (record_at now (rows_now now) t ordinal)
+
+  row_kind : (refusal : Refusal) → RowRefusal name ordinal now t refusal
+      → ((Live → ⊥) × (refusal ≡ NoRow (record { type_name = name; ordinal = ordinal }))) ⊎ (Live × (number_of_limit Nodes < nodes) × (refusal ≡ TooLarge Nodes))
+  row_kind (NoRow row) is = inl (is.2, (λ i. NoRow (record { type_name = is.0 i; ordinal = is.1 i })))
+  row_kind (TooLarge Nodes) is = inr (is.0, is.1, refl)
+  row_kind _ is = absurd is
+
+  abbrev Kind : Refusal → Type 0
+  Kind refusal = ((Live → ⊥) × (refusal ≡ NoRow (record { type_name = name; ordinal = ordinal }))) ⊎ (Live × (number_of_limit Nodes < nodes) × (refusal ≡ TooLarge Nodes))
+
+  both : (r s : Refusal) → Kind r → Kind s → r ≡ s
+  both r s (inl none) (inl also) = none.1 ∙ sym also.1
+  both r s (inl none) (inr large) = absurd (none.0 large.0)
+  both r s (inr large) (inl none) = absurd (none.0 large.0)
+  both r s (inr large) (inr also) = large.2 ∙ sym also.2
+
+  shown_not : (value : Value) (refusal : Refusal) → ShowsRow name ordinal now t (reply.Row value) → RowRefusal name ordinal now t refusal → ⊥
+  shown_not value refusal shows refuses = elim (row_kind refusal refuses) [ inl none ↦ none.0 shows.0 | inr large ↦ (let few = shows.1 in let many = large.1 in omega arith) ]
+
+  one_show : (a b : Reply) → ShowsRow name ordinal now t a → ShowsRow name ordinal now t b → SaysOne a b
+  one_show (reply.Row v) (reply.Row w) one other = (ap row_object (tree_once now.schemas t (record_at now (rows_now now) t ordinal) (view v) (view w) one.2 other.2), refl)
+  one_show (reply.Row v) (reply.Refused refusal) one other = absurd (shown_not v refusal one other)
+  one_show (reply.Refused refusal) (reply.Row w) one other = absurd (shown_not w refusal other one)
+  one_show (reply.Refused r) (reply.Refused s) one other =
+      says (reply.Refused r) (reply.Refused s) (ap (λ x. reply.Refused x) (both r s (row_kind r one) (row_kind s other)))
+  one_show (reply.Row v) _ one other = absurd other
+  one_show (reply.Refused r) _ one other = absurd other
+  one_show _ b one other = absurd one
+
+pub one_row : (consumer : Option Position) (name : Name) (ordinal : ℕ) (a b : Reply) → RowReply consumer name ordinal a → RowReply consumer name ordinal b → SaysOne a b
+one_row consumer name ordinal a b one other = one_of name (ShowsRow name ordinal) (one_show name ordinal) consumer a b one other
+
+-- ---- past
+
+abbrev past_object : List Data → Data
+past_object rows = object (member (codes "ok") (string (codes "past")) (member (codes "rows") (array (items_of rows)) no_members))
+
+module _ (now : Position) (t : ℕ) where
+  gone_one : (xs ys : List ℕ) → AreGone now t xs → AreGone now t ys → xs ≡ ys
+  gone_one xs ys one other =
+      rising_one xs ys one.rising other.rising (λ q. ((λ among. (other.are q).1 ((one.are q).0 among)), (λ among. (one.are q).1 ((other.are q).0 among))))
+
+  items_one : (os : List ℕ) (es fs : List (ℕ × Value)) → AllZip (ShowsGone now t) os es → AllZip (ShowsGone now t) os fs → map past_item es ≡ map past_item fs
+  items_one [] [] [] h g = refl
+  items_one [] [] (f ∷ fs) h g = absurd g
+  items_one [] (e ∷ es) fs h g = absurd h
+  items_one (o ∷ os) [] fs h g = absurd h
+  items_one (o ∷ os) (e ∷ es) [] h g = absurd g
+  items_one (o ∷ os) (e ∷ es) (f ∷ fs) h g =
+      let number = h.0.0 ∙ sym g.0.0 in
+      let shown = tree_once now.schemas t (record_at now now.before t o) (view e.1) (view f.1) h.0.1 g.0.1 in
+      let rest = items_one os es fs h.1 g.1 in
+      λ i. pair (whole (number i)) (shown i) ∷ rest i
+
+  past_refused : (refusal : Refusal) → ShowsPast now t (reply.Refused refusal) → (refusal ≡ TooLarge Nodes) × ((ordinals : List ℕ) × AreGone now t ordinals × (number_of_limit Nodes < nodes_gone now t ordinals))
+  past_refused (TooLarge Nodes) is = (refl, is)
+  past_refused _ is = absurd is
+
+  past_not : (entries : List (ℕ × Value)) (refusal : Refusal) → ShowsPast now t (reply.Past entries) → ShowsPast now t (reply.Refused refusal) → ⊥
+  past_not entries refusal (xs, gone, few, shown) refuses =
+      let (is, (ys, also, many)) = past_refused refusal refuses in
+      let same = ap (nodes_gone now t) (gone_one xs ys gone also) in omega (arith, few, many, same)
+
+  one_past_at : (a b : Reply) → ShowsPast now t a → ShowsPast now t b → SaysOne a b
+  one_past_at (reply.Past es) (reply.Past fs) (xs, gone, few, shown) (ys, also, few_too, shown_too) =
+      (ap past_object (items_one xs es fs shown (subst (λ (os : List ℕ). AllZip (ShowsGone now t) os fs) (gone_one ys xs also gone) shown_too)), refl)
+  one_past_at (reply.Past es) (reply.Refused refusal) one other = absurd (past_not es refusal one other)
+  one_past_at (reply.Refused refusal) (reply.Past fs) one other = absurd (past_not fs refusal other one)
+  one_past_at (reply.Refused r) (reply.Refused s) one other =
+      says (reply.Refused r) (reply.Refused s) (ap (λ x. reply.Refused x) ((past_refused r one).0 ∙ sym (past_refused s other).0))
+  one_past_at (reply.Past es) _ one other = absurd other
+  one_past_at (reply.Refused r) _ one other = absurd other
+  one_past_at _ b one other = absurd one
+
+pub one_past : (consumer : Option Position) (name : Name) (a b : Reply) → PastReply consumer name a → PastReply consumer name b → SaysOne a b
+one_past consumer name a b one other = one_of name ShowsPast one_past_at consumer a b one other

@@ -1,0 +1,252 @@
+-- A load and a step of a consumer have one answer line, and leave one machine.
+use Rattle.std.proofs.Common.{◌≡◌, ◌≢◌, ◌≤◌, ◌<◌, ◌⊎◌, ℕ, suc, List, [], ◌∷◌, length, Option, Some, None, inl, inr, refl, sym, ap, subst, ◌∙◌, arith}
+use Rattle.std.specs.Prelude.{IfSome}
+use Rattle.std.specs.FinMap.{get}
+use Rattle.std.proofs.lemmas.Bool.{cases_eq, cases_lt}
+use Rattle.std.proofs.lemmas.List.{length-map}
+use Rattle.std.proofs.lemmas.List.Elements.{All-cons, All-head, All-nil, All-tail}
+use Rattle.hol_io.specs.declared.name.BlobName.{BlobName}
+use Rattle.hol_io.specs.declared.name.BlobName.TheVariants.{Snapshot}
+use Rattle.schema_model.specs.declared.limit.Limit.TheVariants as limit
+use Rattle.schema_model.specs.declared.model.rule.Rule.TheVariants.{DuplicateName}
+use Rattle.schema_model.specs.declared.reason.Reason.{Reason}
+use Rattle.schema_model.specs.declared.schema.Schema.{Schema}
+use Rattle.schema_model.specs.Limit.{number_of_limit}
+use Rattle.schema_model.specs.Model.{IsKept}
+use Rattle.type_state.specs.State.{Half}
+use Rattle.type_state.specs.Views.{table_of}
+use Rattle.blob_frame.specs.declared.header.Header.{Header}
+use Rattle.blob_frame.specs.Header.{StuckInHeader, header}
+use Rattle.blob_frame.specs.Opened.{HasHeader}
+use Rattle.snapshot_blob.proofs.Whole.{one_snapshot}
+use Rattle.delta_blob.specs.Moved.{EachNamed, IsAt, IsUnnamed, Moved}
+use Rattle.delta_blob.specs.Patch.{TypePatch}
+use Rattle.hol_orders.specs.declared.refusal.Refusal.{Refusal}
+use Rattle.hol_orders.specs.declared.refusal.Refusal.TheVariants.{BadBlob, BadBody, NoBlob, NoState, OtherOrigin, TooLarge}
+use Rattle.hol_orders.specs.declared.reply.Reply.{Reply}
+use Rattle.hol_orders.specs.declared.reply.Reply.TheVariants as reply
+use Rattle.read_engine.specs.Position.{Position, rows_now}
+use Rattle.read_engine.specs.Taking.{LoadsFrom, StepsBy, layout_at}
+use Rattle.hollow_machine.specs.Blobs.{HeadRefusal, SnapshotRefusal}
+use Rattle.hollow_machine.specs.LoadOrder.{LoadStep}
+use Rattle.hollow_machine.specs.State.{Machine}
+use Rattle.hollow_machine.specs.StepOrder.{StepRefusal, StepStep}
+use Rattle.written_laws.proofs.MovedOnce.{moved_once}
+use Rattle.delta_blob.proofs.Indexed.{one_index}
+use Rattle.written_laws.proofs.PatchOnce.{patch_once}
+use Rattle.chain_laws.specs.Answers.{SaysOne}
+use Rattle.chain_laws.proofs.BlobTags.{delta_begins}
+use Rattle.chain_laws.proofs.ConsumerOrders.{no_load_refusal, no_refusal, one_header, some_one}
+use Rattle.chain_laws.proofs.OneLook.{says}
+use Rattle.chain_laws.proofs.StoreNames.{found_with}
+
+-- both answers say one line, and the machines behind them are one
+abbrev Alike : Reply → Machine → Reply → Machine → Type 0
+Alike one next other after = SaysOne one other × (next ≡ after)
+
+alike : (one other : Reply) (next after : Machine) → one ≡ other → next ≡ after → Alike one next other after
+alike one other next after same and = (says one other same, and)
+
+-- ---- why a blob has no header
+
+module _ (name : BlobName) where
+  of_none : (refusal : Refusal) → HeadRefusal name None refusal → refusal ≡ NoBlob name
+  of_none (NoBlob other) is = ap (λ (n : BlobName). NoBlob n) is.0
+  of_none (BadBlob other at reason row) is = let there = is.1 in absurd cc
+  of_none (TooLarge what) is = let there = is.1 in absurd cc
+  of_none _ is = absurd is
+
+  of_large : (blob : List ℕ) (refusal : Refusal) → number_of_limit limit.Blob < length blob → HeadRefusal name (Some blob) refusal → refusal ≡ TooLarge limit.Blob
+  of_large blob (NoBlob other) large is = let there = is.1 in absurd cc
+  of_large blob (BadBlob other at reason row) large is = absurd (omega (arith, ap (λ (b : List ℕ). length b) (some_one (Some blob) blob is.0 refl is.1), is.2, large))
+  of_large blob (TooLarge what) large is = ap (λ w. TooLarge w) is.3
+  of_large blob _ large is = absurd is
+
+  of_short : (blob : List ℕ) (refusal : Refusal) → length blob ≤ number_of_limit limit.Blob → HeadRefusal name (Some blob) refusal
+      → (at : ℕ) × (reason : Reason) × StuckInHeader blob at reason × (refusal ≡ BadBlob name at reason None)
+  of_short blob (NoBlob other) short is = let there = is.1 in absurd cc
+  of_short blob (BadBlob other at reason row) short is =
+      let stuck = subst (λ (b : List ℕ). StuckInHeader b at reason) (some_one (Some blob) is.0 blob is.1 refl) is.3 in
+      (at, reason, stuck, (λ i. BadBlob (is.4 i) at reason (is.5 i)))
+  of_short blob (TooLarge what) short is = absurd (omega (arith, ap (λ (b : List ℕ). length b) (some_one (Some blob) blob is.0 refl is.1), is.2, short))
+  of_short blob _ short is = absurd is
+
+  one_head_refusal : (content : Option (List ℕ)) (one other : Refusal) → HeadRefusal name content one → HeadRefusal name content other → one ≡ other
+  one_head_refusal None one other a b = of_none one a ∙ sym (of_none other b)
+  one_head_refusal (Some blob) one other a b =
+      elim (cases_lt (number_of_limit limit.Blob) (length blob)) [
+        | inl large ↦ of_large blob one large a ∙ sym (of_large blob other large b)
+        | inr short ↦
+            (let (at, reason, stuck, one_is) = of_short blob one short a in
+            let (place, why, also, other_is) = of_short blob other short b in
+            let once = header.decided.once blob 0 at place reason why stuck also in
+            one_is ∙ (λ i. BadBlob name (once.0 i) (once.1 i) None) ∙ sym other_is)
+      ]
+
+  head_apart : (content : Option (List ℕ)) (head : Header) (refusal : Refusal) → HasHeader content head → HeadRefusal name content refusal → ⊥
+  head_apart content head refusal (blob, n, at, short, begin) refuses =
+      let (place, why, stuck, is) = of_short blob refusal short (subst (λ (c : Option (List ℕ)). HeadRefusal name c refusal) at refuses) in
+      header.decided.apart blob 0 head n place why begin stuck
+
+-- ---- loads
+
+load_once : (blob : List ℕ) (a b : Position) → LoadsFrom blob a → LoadsFrom blob b → a ≡ b
+load_once blob a b (head, accepted, tag, before) (other, also, tag_too, before_too) =
+    let once = one_snapshot blob head other accepted.0 also.0 a.schemas b.schemas a.halves b.halves accepted.1 also.1 in
+    let tags = tag ∙ ap (λ (h : Header). h.destination) once.0 ∙ sym tag_too in
+    let befores = before ∙ ap table_of once.3 ∙ sym before_too in
+    λ i. record { tag = tags i; schemas = once.2 i; halves = once.3 i; before = befores i }
+
+module _ (name : BlobName) (content : Option (List ℕ)) where
+  abbrev LoadKind : Refusal → Type 0
+  LoadKind refusal = ((refusal ≡ BadBody name) × ((head : Header) × HasHeader content head)) ⊎ HeadRefusal name content refusal
+
+  load_kind : (refusal : Refusal) → SnapshotRefusal name content refusal → LoadKind refusal
+  load_kind (BadBody other) (named, (head, blob, has, at, none)) = inl (ap (λ (n : BlobName). BadBody n) named, (head, has))
+  load_kind _ is = inr is
+
+  load_kinds : (one other : Refusal) → LoadKind one → LoadKind other → one ≡ other
+  load_kinds one other (inl body) (inl also) = body.0 ∙ sym also.0
+  load_kinds one other (inl body) (inr head) = absurd (head_apart name content body.1.0 other body.1.1 head)
+  load_kinds one other (inr head) (inl body) = absurd (head_apart name content body.1.0 one body.1.1 head)
+  load_kinds one other (inr head) (inr also) = one_head_refusal name content one other head also
+
+pub one_load : (machine : Machine) (version : ℕ) (one other : Reply) (next after : Machine) → LoadStep machine version one next → LoadStep machine version other after → Alike one next other after
+one_load machine version (reply.Load tag) (reply.Load also) next after (blob, position, at, loads, tag_is, next_is) (x, place, at_x, loads_x, also_is, after_is) =
+    let same = some_one (get machine.store (Snapshot version)) x blob at_x at in
+    let here : position ≡ place = load_once blob position place loads (subst (λ (b : List ℕ). LoadsFrom b place) same loads_x) in
+    alike (reply.Load tag) (reply.Load also) next after (ap (λ t. reply.Load t) (tag_is ∙ ap (λ (p : Position). p.tag) here ∙ sym also_is))
+    (next_is ∙ ap (λ (p : Position). record machine { consumer = Some p }) here ∙ sym after_is)
+one_load machine version (reply.Load tag) (reply.Refused refusal) next after (blob, position, at, loads, tag_is, next_is) step =
+    absurd (no_load_refusal version (get machine.store (Snapshot version)) blob position at loads refusal step.0)
+one_load machine version (reply.Refused refusal) (reply.Load tag) next after step (blob, position, at, loads, tag_is, next_is) =
+    absurd (no_load_refusal version (get machine.store (Snapshot version)) blob position at loads refusal step.0)
+one_load machine version (reply.Refused r) (reply.Refused s) next after one other =
+    let content = get machine.store (Snapshot version) in
+    let same = load_kinds (Snapshot version) content r s (load_kind (Snapshot version) content r one.0) (load_kind (Snapshot version) content s other.0) in
+    alike (reply.Refused r) (reply.Refused s) next after (ap (λ x. reply.Refused x) same) (one.1 ∙ sym other.1)
+one_load machine version (reply.Load tag) _ next after one other = absurd other
+one_load machine version (reply.Refused r) _ next after one other = absurd other
+one_load machine version _ other_answer next after one other = absurd one
+
+-- ---- steps
+
+-- halves of one table in the same layouts
+halves_once : (xs bs : List Half) → table_of xs ≡ table_of bs → ((t : ℕ) → t < length xs → layout_at xs t ≡ layout_at bs t) → xs ≡ bs
+halves_once [] [] rows each = refl
+halves_once [] (b ∷ bs) rows each = absurd (let none = ap (λ t. length t) rows in omega (arith, none))
+halves_once (a ∷ xs) [] rows each = absurd (let none = ap (λ t. length t) rows in omega (arith, none))
+halves_once (a ∷ xs) (b ∷ bs) rows each =
+    let of_layout : Some a.layout ≡ Some b.layout = each 0 (omega arith) in
+    let layout : a.layout ≡ b.layout = cc in
+    let row : a.rows ≡ b.rows = cc in
+    let more : table_of xs ≡ table_of bs = cc in
+    let others = halves_once xs bs more (λ t inside. each (suc t) (omega (arith, inside))) in
+    λ i. record { layout = layout i; rows = row i } ∷ others i
+
+-- the types that a patch names are laid out in one way
+named_alike : (schemas : List Schema) → IsKept schemas DuplicateName → (xs bs : List Half) (patch : List TypePatch) → EachNamed schemas patch (λ t named. layout_at xs t ≡ Some named.layout)
+    → EachNamed schemas patch (λ t named. layout_at bs t ≡ Some named.layout) → (index : ℕ) → (layout_at xs index ≡ layout_at bs index) ⊎ IsUnnamed schemas patch index
+named_alike schemas apart xs bs [] one other index = inr (All-nil (λ named. IsAt schemas index named → ⊥))
+named_alike schemas apart xs bs (named ∷ patch) one other index =
+    let (i, at_i, p) = All-head (λ n. (t : ℕ) × IsAt schemas t n × (layout_at xs t ≡ Some n.layout)) named patch one in
+    let (j, at_j, q) = All-head (λ n. (t : ℕ) × IsAt schemas t n × (layout_at bs t ≡ Some n.layout)) named patch other in
+    let same = one_index schemas apart j i named.schema named.schema at_j at_i refl in
+    elim (cases_eq i index) [
+      | inl here ↦ inl (subst (λ t. layout_at xs t ≡ layout_at bs t) here (p ∙ sym (subst (λ t. layout_at bs t ≡ Some named.layout) same q)))
+      | inr apart_here ↦
+          elim (named_alike schemas apart xs bs patch (All-tail (λ n. (t : ℕ) × IsAt schemas t n × (layout_at xs t ≡ Some n.layout)) named patch one)
+          (All-tail (λ n. (t : ℕ) × IsAt schemas t n × (layout_at bs t ≡ Some n.layout)) named patch other) index) [
+            | inl found ↦ inl found
+            | inr none ↦ inr (All-cons (λ n. IsAt schemas index n → ⊥) named patch (λ at. apart_here (one_index schemas apart i index named.schema named.schema at_i at refl)) none)
+          ]
+    ]
+
+-- a consumer whose rows are of its model, in which no name stands twice
+pub record IsTyped (now : Position) : Type 0 where
+  pub names : IsKept now.schemas DuplicateName
+  pub types : length (rows_now now) ≡ length now.schemas
+
+step_once : (blob : List ℕ) (now a b : Position) → IsTyped now → StepsBy blob now a → StepsBy blob now b → a ≡ b
+step_once blob now a b typed one other =
+    let once = patch_once blob now.tag a.tag now.tag b.tag one.patch other.patch one.is other.is in
+    let moved : Moved now.schemas one.patch (rows_now now) (rows_now b) = subst (λ (p : List TypePatch). Moved now.schemas p (rows_now now) (rows_now b)) (sym once.2) other.moved in
+    let rows : rows_now a ≡ rows_now b = moved_once now.schemas one.patch (rows_now now) (rows_now a) (rows_now b) typed.names typed.types one.moved moved in
+    let count : length a.halves ≡ length now.schemas = one.types ∙ sym (length-map now.halves (λ (half : Half). half.rows)) ∙ typed.types in
+    let layouts = subst (λ (p : List TypePatch). EachNamed now.schemas p (λ t named. layout_at b.halves t ≡ Some named.layout)) (sym once.2) other.layouts in
+    let others : (t : ℕ) → t < length now.schemas → IsUnnamed now.schemas one.patch t → layout_at b.halves t ≡ layout_at now.halves t =
+    subst (λ (p : List TypePatch). (t : ℕ) → t < length now.schemas → IsUnnamed now.schemas p t → layout_at b.halves t ≡ layout_at now.halves t) (sym once.2) other.others in
+    let halves = halves_once a.halves b.halves rows (λ t inside.
+    (let within : t < length now.schemas = omega (arith, inside, count) in
+    elim (named_alike now.schemas typed.names a.halves b.halves one.patch one.layouts layouts t) [
+      | inl same ↦ same
+      | inr unnamed ↦ one.others t within unnamed ∙ sym (others t within unnamed)
+    ])) in
+    let schemas = one.model ∙ sym other.model in
+    let before = one.before ∙ sym other.before in
+    λ i. record { tag = once.1 i; schemas = schemas i; halves = halves i; before = before i }
+
+module _ (name : BlobName) (content : Option (List ℕ)) (now : Position) where
+  abbrev StepKind : Refusal → Type 0
+  StepKind refusal =
+      ((head : Header) × HasHeader content head
+      × (((head.origin ≢ now.tag) × (refusal ≡ OtherOrigin name head.origin now.tag)) ⊎ ((head.origin ≡ now.tag) × (refusal ≡ BadBody name))))
+      ⊎ HeadRefusal name content refusal
+
+  step_kind : (refusal : Refusal) → StepRefusal name content (Some now) refusal → StepKind refusal
+  step_kind NoState is = absurd cc
+  step_kind (OtherOrigin other found current) (named, current_is, not, (head, has, is)) =
+      inl (head, has, inl ((λ same. not (sym is ∙ same ∙ sym current_is)), (λ i. OtherOrigin (named i) (sym is i) (current_is i))))
+  step_kind (BadBody other) (named, (head, blob, has, at, starts, none)) = inl (head, has, inr (starts, ap (λ (n : BlobName). BadBody n) named))
+  step_kind _ is = inr is
+
+  step_kinds : (one other : Refusal) → StepKind one → StepKind other → one ≡ other
+  step_kinds one other (inl (head, has, inl apart)) (inl (its, its_has, inl also)) =
+      apart.1 ∙ ap (λ (h : Header). OtherOrigin name h.origin now.tag) (one_header content head its has its_has) ∙ sym also.1
+  step_kinds one other (inl (head, has, inl apart)) (inl (its, its_has, inr also)) = absurd (apart.0 (ap (λ (h : Header). h.origin) (one_header content head its has its_has) ∙ also.0))
+  step_kinds one other (inl (head, has, inr body)) (inl (its, its_has, inl also)) = absurd (also.0 (ap (λ (h : Header). h.origin) (one_header content its head its_has has) ∙ body.0))
+  step_kinds one other (inl (head, has, inr body)) (inl (its, its_has, inr also)) = body.1 ∙ sym also.1
+  step_kinds one other (inl (head, has, why)) (inr no_head) = absurd (head_apart name content head other has no_head)
+  step_kinds one other (inr no_head) (inl (head, has, why)) = absurd (head_apart name content head one has no_head)
+  step_kinds one other (inr no_head) (inr also) = one_head_refusal name content one other no_head also
+
+no_state : (name : BlobName) (content : Option (List ℕ)) (refusal : Refusal) → StepRefusal name content None refusal → refusal ≡ NoState
+no_state name content NoState is = refl
+no_state name content _ is = absurd is
+
+one_step_refusal : (name : BlobName) (content : Option (List ℕ)) (consumer : Option Position) (one other : Refusal) → StepRefusal name content consumer one → StepRefusal name content consumer other → one ≡ other
+one_step_refusal name content None one other a b = no_state name content one a ∙ sym (no_state name content other b)
+one_step_refusal name content (Some now) one other a b = step_kinds name content now one other (step_kind name content now one a) (step_kind name content now other b)
+
+module _ (machine : Machine) (name : BlobName) (typed : IfSome machine.consumer IsTyped) where
+  abbrev content : Option (List ℕ)
+  content = get machine.store name
+
+  -- a step that was taken is not refused
+  taken_not : (now to : Position) (blob : List ℕ) (refusal : Refusal) → machine.consumer ≡ Some now → content ≡ Some blob → StepsBy blob now to → StepRefusal name content machine.consumer refusal → ⊥
+  taken_not now to blob refusal is at steps refuses =
+      let (n, begin) = delta_begins blob steps.is.head steps.is.parts (length blob) steps.is.items.items in
+      no_refusal name content steps.is.head blob now to at (blob, n, at, steps.short, begin) steps.is.from_tag steps refusal
+      (subst (λ (consumer : Option Position). StepRefusal name content consumer refusal) is refuses)
+
+  pub one_move : (one other : Reply) (next after : Machine) → StepStep machine name one next → StepStep machine name other after → Alike one next other after
+  one_move (reply.Step tag) (reply.Step also) next after one other =
+      let (now, is, (blob, to, at, steps, tag_is, next_is)) = found_with machine.consumer _ one in
+      let (now_too, is_too, (x, place, at_x, steps_x, also_is, after_is)) = found_with machine.consumer _ other in
+      let here = some_one machine.consumer now_too now is_too is in
+      let bytes = some_one content x blob at_x at in
+      let steps_too : StepsBy blob now place = subst (λ (b : List ℕ). StepsBy b now place) bytes (subst (λ (p : Position). StepsBy x p place) here steps_x) in
+      let there : to ≡ place = step_once blob now to place (subst (λ (consumer : Option Position). IfSome consumer IsTyped) is typed) steps steps_too in
+      alike (reply.Step tag) (reply.Step also) next after (ap (λ t. reply.Step t) (tag_is ∙ ap (λ (p : Position). p.tag) there ∙ sym also_is))
+      (next_is ∙ ap (λ (p : Position). record machine { consumer = Some p }) there ∙ sym after_is)
+  one_move (reply.Step tag) (reply.Refused refusal) next after one other =
+      let (now, is, (blob, to, at, steps, tag_is, next_is)) = found_with machine.consumer _ one in
+      absurd (taken_not now to blob refusal is at steps other.0)
+  one_move (reply.Refused refusal) (reply.Step tag) next after one other =
+      let (now, is, (blob, to, at, steps, tag_is, next_is)) = found_with machine.consumer _ other in
+      absurd (taken_not now to blob refusal is at steps one.0)
+  one_move (reply.Refused r) (reply.Refused s) next after one other =
+      alike (reply.Refused r) (reply.Refused s) next after (ap (λ x. reply.Refused x) (one_step_refusal name content machine.consumer r s one.0 other.0)) (one.1 ∙ sym other.1)
+  one_move (reply.Step tag) _ next after one other = absurd other
+  one_move (reply.Refused r) _ next after one other = absurd other
+  one_move _ other_answer next after one other = absurd one

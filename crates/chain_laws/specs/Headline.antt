@@ -1,0 +1,59 @@
+-- The headline: what a script over a store that holds a chain comes to, line by line.
+use Rattle.std.specs.Prelude.{◌≡◌, ◌≢◌, ℕ, ℤ, List, [], ◌∷◌, ◌++◌, Some}
+use Rattle.schema_model.specs.declared.schema.name.Name.{Name}
+use Rattle.hol_orders.specs.declared.order.Order.{Order}
+use Rattle.hol_orders.specs.declared.order.Order.TheVariants as order
+use Rattle.hol_orders.specs.declared.refusal.Refusal.TheVariants.{OtherOrigin}
+use Rattle.hol_orders.specs.declared.reply.Reply.{Reply}
+use Rattle.hol_orders.specs.declared.reply.Reply.TheVariants as reply
+use Rattle.hol_orders.specs.Order.{Orders}
+use Rattle.hol_orders.specs.Reply.{line_of}
+use Rattle.read_engine.specs.Position.{Position}
+use Rattle.hollow_machine.specs.Script.{LineStep}
+use Rattle.hollow_machine.specs.State.{Machine}
+use Rattle.hollow_machine.specs.Step.{Step}
+use Rattle.hollow_machine.specs.StepOrder.{step_name}
+use Rattle.written_laws.specs.Chain.{Chain}
+use Rattle.chain_laws.specs.Consumers.{Fresh, IsConsumerOf, IsIn, StartsAt}
+use Rattle.chain_laws.specs.Growth.{GrowsBy}
+use Rattle.chain_laws.specs.Producers.{IsProducerOf, KeepsChain}
+
+-- A step along a blob of the store: where this starts where the consumer stands, it is taken, and leads to a state of the chain; where it starts
+-- at another tag, it is refused as such, and nothing changes.
+pub record IsTrueStep (chain : Chain) (machine : Machine) (from to : ℕ) (answer : Reply) (next : Machine) : Type 0 where
+  pub taken : (now : Position) → machine.consumer ≡ Some now → StartsAt machine.store (step_name from to) now.tag
+      → (position : Position) × IsIn chain position × (answer ≡ reply.Step position.tag) × (next ≡ record machine { consumer = Some position })
+  pub other : (now : Position) (origin : ℤ) → machine.consumer ≡ Some now → StartsAt machine.store (step_name from to) origin → origin ≢ now.tag
+      → (answer ≡ reply.Refused (OtherOrigin (step_name from to) origin now.tag)) × (next ≡ machine)
+
+-- The answer is that of the consumer's state, loaded afresh.
+abbrev pub IsAsFresh : Chain → Machine → Order → Reply → Type 0
+IsAsFresh chain machine asked answer = (fresh : Machine) → Fresh chain machine fresh → Step fresh asked answer fresh
+
+-- What is promised of each order: of a step which are taken, and of what is asked that the way to the state does not show.
+abbrev pub IsTrueOrder : Chain → Machine → Order → Reply → Machine → Type 0
+IsTrueOrder chain machine (order.Step from to) answer next = IsTrueStep chain machine from to answer next
+IsTrueOrder chain machine (order.Live name) answer next = IsAsFresh chain machine (order.Live name) answer
+IsTrueOrder chain machine (order.Row name ordinal) answer next = IsAsFresh chain machine (order.Row name ordinal) answer
+IsTrueOrder chain machine asked answer next = Unit {0}
+
+-- The store keeps the chain, the producer is new or at a published state of it, and the consumer at a state of it.
+pub record StandsOn (chain : Chain) (machine : Machine) : Type 0 where
+  pub kept : KeepsChain machine.store chain
+  pub producer : IsProducerOf chain machine.producer
+  pub consumer : IsConsumerOf chain machine.consumer
+
+-- A line has this answer and leaves this machine, over the chain that it made of the earlier one, and what is promised of its order holds.
+pub record IsTrueLine (chain : Chain) (machine : Machine) (line : List ℕ) (answer : Reply) (next : Machine) (after : Chain) : Type 0 where
+  pub step : LineStep machine line answer next
+  pub grows : GrowsBy machine line answer chain after
+  pub stands : StandsOn after next
+  pub order : (asked : Order) → Orders line asked → Step machine asked answer next → IsTrueOrder chain machine asked answer next
+
+-- So are the lines one after another, up to the last machine and the last chain, and the text is their answers.
+abbrev pub AreTrueLines : Chain → Machine → List (List ℕ) → List ℕ → Machine → Chain → Type 0
+AreTrueLines chain machine [] text next after = (text ≡ []) × (next ≡ machine) × (after ≡ chain)
+AreTrueLines chain machine (line ∷ lines) text next after =
+    (answer : Reply) × (between : Machine) × (middle : Chain) × (rest : List ℕ)
+    × IsTrueLine chain machine line answer between middle × AreTrueLines middle between lines rest next after
+    × (text ≡ line_of answer ++ rest)
