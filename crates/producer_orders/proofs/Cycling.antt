@@ -11,13 +11,14 @@ use Rattle.schema_model.specs.Table.{Table}
 use Rattle.write_engine.specs.CycleLimit.{TellsTypes}
 use Rattle.write_engine.specs.Production.{Production, advanced_to, without_rows}
 use Rattle.write_engine.specs.declared.producer.Closed.{Closed}
+use Rattle.read_engine.specs.Position.{Position}
 use Rattle.hol_orders.specs.declared.refusal.Refusal.{Refusal}
 use Rattle.hol_orders.specs.declared.refusal.Refusal.TheVariants as refusal
 use Rattle.hol_orders.specs.declared.reply.Reply.{Reply}
 use Rattle.hol_orders.specs.declared.reply.Reply.TheVariants as reply
 use Rattle.hollow_machine.specs.CycleOrder.{AreNamed, CycleRefusal, CycleStep, Makes, Publishes, RefusesAfter}
 use Rattle.hollow_machine.specs.Follow.{MayFollow}
-use Rattle.hollow_machine.specs.Kept.{Moves, published_of}
+use Rattle.hollow_machine.specs.Kept.{MovesProducer, published_of}
 use Rattle.hollow_machine.specs.Records.{AreTypes}
 use Rattle.hollow_machine.specs.Puts.{AreBlobs, put_all, puts_of}
 use Rattle.hollow_machine.specs.State.{Published}
@@ -43,16 +44,16 @@ too_large store last version tag add rows changed _ follows types makes publishe
 -- how a closed cycle ends is what the order answers
 ended : (store : Store) (last : Published) (version : ℕ) (tag : ℤ) (add : Data) (rows : Table) (changed : List ℕ) (held : Option Store) (now : Published) (answer : Reply) →
     MayFollow store last.version version tag → AreTypes last.model add → Makes last add rows changed → IsEnded store last rows changed version tag held now answer →
-    (next : Store) × (held ≡ Some next) × CycleStep (machine_with store last) version tag add answer (machine_with next now)
+    (next : Store) × (held ≡ Some next) × ((consumer : Option Position) → CycleStep (machine_with store last consumer) version tag add answer (machine_with next now consumer))
 ended store last version tag add rows changed held now (reply.Cycle names published version') follows types makes (same, named, (next, is, leaves)) =
-    (next, is, (same, (follows, types, (rows, changed, makes, named, leaves))))
+    (next, is, λ consumer. (same, (follows, types, (rows, changed, makes, named, leaves consumer))))
 ended store last version tag add rows changed held now _ follows types makes told = absurd told
 
 -- how the last part ends is how the cycle ends
 ends_so : (store : Store) (last : Published) (version : ℕ) (tag : ℤ) (add : Data) (rows : Table) (changed : List ℕ) (held : Option Store) (now : Published) (result : Result Reply CycleEnd) →
     MayFollow store last.version version tag → AreTypes last.model add → Makes last add rows changed →
     TellsEnd (IsEnded store last rows changed version tag held now) (λ why. (held ≡ Some store) × Publishes last changed × IsTooLarge last rows version tag why) IsAnyStop result →
-    TellsEnd (λ answer. (next : Store) × (held ≡ Some next) × CycleStep (machine_with store last) version tag add answer (machine_with next now))
+    TellsEnd (λ answer. (next : Store) × (held ≡ Some next) × ((consumer : Option Position) → CycleStep (machine_with store last consumer) version tag add answer (machine_with next now consumer)))
     (λ why. (held ≡ Some store) × RefusesAfter store last version tag add why) IsAnyStop result
 ends_so store last version tag add rows changed held now (Ok answer) follows types makes told = ended store last version tag add rows changed held now answer follows types makes told
 ends_so store last version tag add rows changed held now (Err (cycle_end.Refused why)) follows types makes told = (told.0, too_large store last version tag add rows changed why follows types makes told.1 told.2)
@@ -69,31 +70,32 @@ ends version tag add (Some store) between held' last mid now made closed result 
     ends_so store last version tag add made.current closed.changed held' now result follows is.types is.makes over_store
 
 -- what is refused after the state of a producer is refused of the machine
-after_producer : (store : Store) (last : Published) (version : ℕ) (tag : ℤ) (add : Data) (why : Refusal) → RefusesAfter store last version tag add why → CycleRefusal (machine_with store last) version tag add why
-after_producer store last version tag add refusal.NoModel h = absurd h
-after_producer store last version tag add _ is = is
+after_producer : (store : Store) (last : Published) (consumer : Option Position) (version : ℕ) (tag : ℤ) (add : Data) (why : Refusal) → RefusesAfter store last version tag add why →
+    CycleRefusal (machine_with store last consumer) version tag add why
+after_producer store last consumer version tag add refusal.NoModel h = absurd h
+after_producer store last consumer version tag add _ is = is
 
 -- What a cycle answers moves the machine, where all that it leaves unpublished is dropped.
 pub answers : (version : ℕ) (tag : ℤ) (add : Data) (held held' : Option Store) (old mid new : Production) (answer : Reply) (E : Type 0) → new ≡ without_rows mid →
     Steps version tag add held (published_of old) held' (published_of mid) (Ok answer) →
-    Moves {E = E} (λ machine r next. CycleStep machine version tag add r next) held (Some old) held' (Some new) (Ok answer)
-answers version tag add None held' old mid new answer E is steps = tt
-answers version tag add (Some store) held' old mid new answer E is steps =
-    subst (λ p. Moves {E = E} (λ machine r next. CycleStep machine version tag add r next) (Some store) (Some old) held' (Some p) (Ok answer)) (sym is) steps
+    MovesProducer {E = E} (λ machine r next. CycleStep machine version tag add r next) held (Some old) held' (Some new) (Ok answer)
+answers version tag add None held' old mid new answer E is steps = λ consumer. tt
+answers version tag add (Some store) held' old mid new answer E is (next, told, steps) =
+    subst (λ p. MovesProducer {E = E} (λ machine r next. CycleStep machine version tag add r next) (Some store) (Some old) held' (Some p) (Ok answer)) (sym is)
+    (λ consumer. (next, told, steps consumer))
 
 pub refuses : (version : ℕ) (tag : ℤ) (add : Data) (held held' : Option Store) (old mid new : Production) (why : Refusal) (E : Type 0) → new ≡ without_rows mid → published_of mid ≡ published_of old →
     Steps version tag add held (published_of old) held' (published_of mid) (Err (cycle_end.Refused why)) →
-    Moves {E = E} (λ machine r next. CycleStep machine version tag add r next) held (Some old) held' (Some new) (Ok (reply.Refused why))
-refuses version tag add None held' old mid new why E is kept steps = tt
+    MovesProducer {E = E} (λ machine r next. CycleStep machine version tag add r next) held (Some old) held' (Some new) (Ok (reply.Refused why))
+refuses version tag add None held' old mid new why E is kept steps = λ consumer. tt
 refuses version tag add (Some store) held' old mid new why E is kept steps =
-    let same : machine_with store (published_of mid) ≡ machine_with store (published_of old) = ap (machine_with store) kept in
-    subst (λ p. Moves {E = E} (λ machine r next. CycleStep machine version tag add r next) (Some store) (Some old) held' (Some p) (Ok (reply.Refused why))) (sym is)
-    (store, steps.0, (after_producer store (published_of old) version tag add why steps.1, same))
+    subst (λ p. MovesProducer {E = E} (λ machine r next. CycleStep machine version tag add r next) (Some store) (Some old) held' (Some p) (Ok (reply.Refused why))) (sym is)
+    (λ consumer. (store, steps.0, (after_producer store (published_of old) consumer version tag add why steps.1, ap (λ p. machine_with store p consumer) kept)))
 
 pub no_producer : (version : ℕ) (tag : ℤ) (add : Data) (held : Option Store) (kept : Option Production) (E : Type 0) → kept ≡ None →
-    Moves {E = E} (λ machine r next. CycleStep machine version tag add r next) held kept held kept (Ok (reply.Refused refusal.NoModel))
-no_producer version tag add None kept E is = tt
-no_producer version tag add (Some store) kept E is = (store, refl, (ap (option_map published_of) is, refl))
+    MovesProducer {E = E} (λ machine r next. CycleStep machine version tag add r next) held kept held kept (Ok (reply.Refused refusal.NoModel))
+no_producer version tag add None kept E is = λ consumer. tt
+no_producer version tag add (Some store) kept E is = λ consumer. (store, refl, (ap (option_map published_of) is, refl))
 
 -- what holds at a tag that was passed on holds at the tag
 pub at_tag : (P : ℤ → Type 0) (tag : ℤ) → FitsSigned w64 tag → P (to_z w64 (of_z w64 tag)) → P tag
@@ -132,14 +134,14 @@ pub unpublished : (held : Option Store) (last : Published) (rows : Table) (chang
     first ≡ false → (IsTrue first ↔ (last.version ≡ 0)) → changed ≡ [] → AreNamed last.model changed names → Ends held last rows changed version tag held last (Ok (reply.Cycle names false version))
 unpublished None last rows changed version tag names first later is empty named = tt
 unpublished (Some store) last rows changed version tag names first later is empty named =
-    (refl, named, (store, refl, ((λ zero. not_true first later (is.1 zero)), empty, refl)))
+    (refl, named, (store, refl, λ consumer. ((λ zero. not_true first later (is.1 zero)), empty, refl)))
 
 -- A cycle that is published ends so.
 pub published : (held held' : Option Store) (last now : Published) (rows : Table) (changed : List ℕ) (version : ℕ) (tag : ℤ) (names : List (List ℕ)) →
     Publishes last changed → AreNamed last.model changed names → EndsPublished held last rows version tag held' now (Ok tt) → Ends held last rows changed version tag held' now (Ok (reply.Cycle names true version))
 published None held' last now rows changed version tag names publishes named told = tt
 published (Some store) held' last now rows changed version tag names publishes named (types, (blobs, are, short, put, is)) =
-    (refl, named, (put_all store (puts_of blobs version), put, (publishes, types, (blobs, are, short, ap (machine_with (put_all store (puts_of blobs version))) is))))
+    (refl, named, (put_all store (puts_of blobs version), put, λ consumer. (publishes, types, (blobs, are, short, ap (λ p. machine_with (put_all store (puts_of blobs version)) p consumer) is))))
 
 -- A cycle that cannot be published ends so.
 pub not_published : (held held' : Option Store) (last now : Published) (rows : Table) (changed : List ℕ) (version : ℕ) (tag : ℤ) (end : CycleEnd) → Publishes last changed →

@@ -17,7 +17,7 @@ use Rattle.hol_orders.specs.declared.reply.Reply.{Reply}
 use Rattle.hol_orders.specs.declared.reply.Reply.TheVariants.{Refused}
 use Rattle.hollow_machine.specs.ModelOrder.{BreaksRule, IsNamed, ModelStep}
 use Rattle.hollow_machine.specs.State.{Machine}
-use Rattle.producer_orders.specs.declared.order_stop.OrderStop.{OrderStop}
+use Rattle.hol_orders.specs.declared.order_stop.OrderStop.{OrderStop}
 
 -- an item that stands for a schema has its name
 item_named : (Named : FieldKind → List ℕ → Type 0) (items : Items) (schemas : List Schema) (t : ℕ) (schema : Schema) → ItemsAre (IsSchema Named) items schemas → slice_get schemas t ≡ Some schema →

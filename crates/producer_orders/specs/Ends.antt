@@ -7,8 +7,8 @@ use Rattle.section_writing.specs.declared.fault.WriteFault.{WriteFault}
 use Rattle.section_writing.specs.declared.fault.WriteFault.TheVariants as write
 use Rattle.hol_orders.specs.declared.refusal.Refusal.{Refusal}
 use Rattle.hol_orders.specs.declared.refusal.Refusal.TheVariants.{TooLarge}
-use Rattle.producer_orders.specs.declared.order_stop.OrderStop.{OrderStop}
-use Rattle.producer_orders.specs.declared.order_stop.OrderStop.TheVariants as stop
+use Rattle.hol_orders.specs.declared.order_stop.OrderStop.{OrderStop}
+use Rattle.hol_orders.specs.declared.order_stop.OrderStop.TheVariants as stop
 use Rattle.producer_orders.specs.declared.cycle_end.CycleEnd.{CycleEnd}
 use Rattle.producer_orders.specs.declared.cycle_end.CycleEnd.TheVariants.{Refused, Stopped}
 

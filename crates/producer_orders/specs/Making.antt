@@ -7,6 +7,7 @@ use Rattle.schema_model.specs.Table.{Table}
 use Rattle.write_engine.specs.CycleLimit.{TellsCycle, TellsTypes}
 use Rattle.write_engine.specs.Production.{Production}
 use Rattle.write_engine.specs.declared.producer.Closed.{Closed}
+use Rattle.read_engine.specs.Position.{Position}
 use Rattle.hol_orders.specs.declared.refusal.Refusal.{Refusal}
 use Rattle.hol_orders.specs.declared.refusal.Refusal.TheVariants.{TooLarge}
 use Rattle.hol_orders.specs.declared.reply.Reply.{Reply}
@@ -48,15 +49,16 @@ IsPublished store last rows version tag held now =
     × ((blobs : List Put) × AreBlobs last rows version tag blobs × All IsShort blobs
     × (held ≡ Some (put_all store (puts_of blobs version))) × (now ≡ record { model = last.model; rows = rows; tag = tag; version = version }))
 
--- the machine of a store and of what a producer has published
-abbrev pub machine_with : Store → Published → Machine
-machine_with store last = record { store = store; producer = Some last }
+-- the machine of a store, of what a producer has published, and of where the consumer stands
+abbrev pub machine_with : Store → Published → Option Position → Machine
+machine_with store last consumer = record { store = store; producer = Some last; consumer = consumer }
 
--- The answer to a closed cycle, and what it leaves.
+-- The answer to a closed cycle, and what it leaves, wherever the consumer stands.
 abbrev pub IsEnded : Store → Published → Table → List ℕ → ℕ → ℤ → Option Store → Published → Reply → Type 0
 IsEnded store last rows changed version tag held now (Cycle names published version') =
     (version' ≡ version) × AreNamed last.model changed names
-    × ((next : Store) × (held ≡ Some next) × Leaves (machine_with store last) last rows changed version tag published (machine_with next now))
+    × ((next : Store) × (held ≡ Some next)
+    × ((consumer : Option Position) → Leaves (machine_with store last consumer) last rows changed version tag published (machine_with next now consumer)))
 IsEnded store last rows changed version tag held now _ = ⊥
 
 -- The blobs of a state that keeps all limits.
@@ -64,10 +66,11 @@ abbrev pub IsWithin : Published → Table → ℕ → ℤ → Blobs → Type 0
 IsWithin last rows version tag blobs =
     TellsTypes last.model last.rows rows None × AreBlobs last rows version tag (puts_in blobs) × All IsShort (puts_in blobs)
 
--- What a cycle of a producer answers or is refused for, over what the store tells, and what it leaves.
+-- What a cycle of a producer answers or is refused for, over what the store tells, and what it leaves, wherever the consumer stands.
 abbrev pub Steps : ℕ → ℤ → Data → Option Store → Published → Option Store → Published → Result Reply CycleEnd → Type 0
 Steps version tag add held last held' now result = IfSome held (λ store. TellsEnd
-    (λ reply. (next : Store) × (held' ≡ Some next) × CycleStep (machine_with store last) version tag add reply (machine_with next now))
+    (λ reply. (next : Store) × (held' ≡ Some next)
+    × ((consumer : Option Position) → CycleStep (machine_with store last consumer) version tag add reply (machine_with next now consumer)))
     (λ refusal. (held' ≡ Some store) × RefusesAfter store last version tag add refusal) IsAnyStop result)
 
 -- What the check says of a state that is to follow the last one.

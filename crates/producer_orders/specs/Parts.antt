@@ -1,11 +1,7 @@
 -- What the parts of the order `cycle` tell that come before anything is written.
 use Rattle.std.specs.Prelude.{◌<◌, ◌≤◌, ℕ, ℤ, List, length, Bool, true, false, Option, Some, None, Result, Ok, Err, ⊤}
-use Rattle.std.specs.Result.{IsErrOf}
 use Rattle.serde_json.specs.Data.{Data}
-use Rattle.hol_io.specs.Causes.{Rose}
 use Rattle.hol_io.specs.Store.{Store}
-use Rattle.hol_io.specs.declared.store.PutFault.{PutFault}
-use Rattle.hol_io.specs.declared.store.PutFault.TheVariants as put
 use Rattle.schema_model.specs.declared.schema.Schema.{Schema}
 use Rattle.schema_model.specs.PlainTree.{PlainTree}
 use Rattle.schema_model.specs.Table.{Table}
@@ -13,20 +9,10 @@ use Rattle.write_engine.specs.Cycle.{Next}
 use Rattle.hol_orders.specs.declared.refusal.Refusal.{Refusal}
 use Rattle.hollow_machine.specs.Follow.{MayFollow, MayNotFollow}
 use Rattle.hollow_machine.specs.Records.{AreRead, AreTypes, Entry, IsFirstUnknown, IsFirstUnread}
-use Rattle.producer_orders.specs.declared.order_stop.OrderStop.{OrderStop}
-use Rattle.producer_orders.specs.declared.order_stop.OrderStop.TheVariants as stop
+use Rattle.hol_orders.specs.declared.order_stop.OrderStop.{OrderStop}
+use Rattle.hol_orders.specs.declared.order_stop.OrderStop.TheVariants as stop
 use Rattle.producer_orders.specs.declared.record_fault.RecordFault.{RecordFault}
 use Rattle.producer_orders.specs.declared.record_fault.RecordFault.TheVariants as fault
-
--- why an order stops where a put or a list was refused
-abbrev pub stop_of : PutFault → OrderStop
-stop_of put.Failed = stop.Store
-stop_of put.Memory = stop.Memory
-
--- The store's count of faults never falls, and the order stops for the store only where the count rose.
-pub record HasStopCause {T : Type 0} (before now : ℕ) (result : Result T OrderStop) : Type 0 where
-  pub later : before ≤ now
-  pub failed : IsErrOf result stop.Store → Rose before now
 
 -- A state of this version and tag may follow that of the last version; or the first reason why not.
 abbrev pub TellsFollow : Store → ℕ → ℕ → ℤ → Option Refusal → Type 0

@@ -1,7 +1,6 @@
 //! Why a cycle ends before its state is published.
-use crate::order_stop::OrderStop;
 use hol_io::PutFault;
-use hol_orders::Refusal;
+use hol_orders::{OrderStop, Refusal};
 use schema_model::Limit;
 use section_writing::WriteFault;
 use std::alloc::AllocError;
@@ -17,7 +16,7 @@ pub(crate) enum CycleEnd {
 
 impl From<AllocError> for CycleEnd {
     ghost use Rattle.std.specs.Prelude.{◌≡◌};
-    ghost use Rattle.producer_orders.specs.declared.order_stop.OrderStop.TheVariants.{Memory};
+    ghost use Rattle.hol_orders.specs.declared.order_stop.OrderStop.TheVariants.{Memory};
     ghost use Rattle.producer_orders.specs.declared.cycle_end.CycleEnd.TheVariants.{Stopped};
 
     ghost from_gives = { λ _ end. end ≡ Stopped Memory };
@@ -40,7 +39,7 @@ impl From<OrderStop> for CycleEnd {
 
 impl From<PutFault> for CycleEnd {
     ghost use Rattle.std.specs.Prelude.{◌≡◌};
-    ghost use Rattle.producer_orders.specs.Parts.{stop_of};
+    ghost use Rattle.hol_orders.specs.Stops.{stop_of};
     ghost use Rattle.producer_orders.specs.declared.cycle_end.CycleEnd.TheVariants.{Stopped};
 
     ghost from_gives = { λ fault end. end ≡ Stopped (stop_of fault) };

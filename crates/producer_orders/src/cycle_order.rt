@@ -8,18 +8,17 @@ ghost use Rattle.hol_io.specs.Name.{IsVersion};
 ghost use Rattle.write_engine.specs.CycleLimit.{TellsCycle, TellsTypes};
 ghost use Rattle.hol_orders.specs.Shapes.{AreRecords};
 ghost use Rattle.hollow_machine.specs.CycleOrder.{CycleStep};
-ghost use Rattle.hollow_machine.specs.Kept.{IsResting, Moves, published_of};
+ghost use Rattle.hollow_machine.specs.Kept.{IsResting, MovesProducer, published_of};
 ghost use Rattle.producer_orders.specs.Ends.{HasEndCause, IsMemory, TellsEnd};
 ghost use Rattle.producer_orders.specs.Making.{Ends, EndsPublished, Follows, IsTooLarge, IsWithin, Steps};
 
 use crate::cycle_end::CycleEnd;
 use crate::follow::why_not;
 use crate::make::{make_state, names_of_types};
-use crate::order_stop::OrderStop;
 use crate::publish::publish;
 use crate::write::{Blobs, write_blobs};
 use hol_io::BlobStore;
-use hol_orders::{Refusal, Reply};
+use hol_orders::{OrderStop, Refusal, Reply};
 use serde_json::Value;
 use std::alloc::Global;
 use write_engine::{Closed, Producer};
@@ -36,7 +35,7 @@ pub fn cycle<S: BlobStore>(
 ) -> Result<Reply, OrderStop>
     requires order { IsVersion version × FitsSigned w64 tag × AreRecords (view add.now) }
     requires resting { IfSome producer.old IsResting }
-    ensures step { Moves (λ machine reply next. CycleStep machine version tag (view add.now) reply next)
+    ensures step { MovesProducer (λ machine reply next. CycleStep machine version tag (view add.now) reply next)
         (S.seen store.old).held producer.old (S.seen store.new).held producer.new result }
     ensures resting { IfSome producer.new IsResting }
     ensures store_fault { IsErrOf result OrderStop.Store → Rose (S.seen store.old).faults (S.seen store.new).faults }
@@ -59,7 +58,7 @@ fn cycle_of<S: BlobStore>(
 ) -> Result<Reply, OrderStop>
     requires records { AreRecords (view add.now) }
     requires resting { IsResting producer.old }
-    ensures step { Moves (λ machine reply next. CycleStep machine version tag (view add.now) reply next)
+    ensures step { MovesProducer (λ machine reply next. CycleStep machine version tag (view add.now) reply next)
         (S.seen store.old).held (Some producer.old) (S.seen store.new).held (Some producer.new) result }
     ensures resting { IsResting producer.new }
     ensures store_fault { IsErrOf result OrderStop.Store → Rose (S.seen store.old).faults (S.seen store.new).faults }

@@ -1,12 +1,12 @@
 //! Whether a new state may follow the last one that is published.
 ghost use Rattle.std.specs.Prelude.{◌≡◌, ℕ, IfOk, IfSome};
 ghost use Rattle.chain_store.specs.Announced.{IsAnnounced};
-ghost use Rattle.producer_orders.specs.Parts.{HasStopCause, TellsFollow};
+ghost use Rattle.hol_orders.specs.Stops.{HasStopCause};
+ghost use Rattle.producer_orders.specs.Parts.{TellsFollow};
 
-use crate::order_stop::OrderStop;
 use chain_store::{Announcement, announced_version, greatest_version, is_tag_taken, names_of};
 use hol_io::{BlobName, BlobStore};
-use hol_orders::Refusal;
+use hol_orders::{OrderStop, Refusal};
 use schema_model::Reason;
 use std::alloc::Global;
 

@@ -6,7 +6,6 @@ mod cycle_order;
 mod follow;
 mod make;
 mod model_order;
-mod order_stop;
 mod publish;
 mod record_fault;
 mod records;
@@ -15,4 +14,3 @@ mod write;
 
 pub use cycle_order::cycle;
 pub use model_order::model;
-pub use order_stop::OrderStop;

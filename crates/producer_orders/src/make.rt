@@ -11,11 +11,10 @@ ghost use Rattle.producer_orders.specs.Making.{IsMade, IsRefusedFor};
 ghost use Rattle.producer_orders.specs.Parts.{AreAdded};
 
 use crate::cycle_end::CycleEnd;
-use crate::order_stop::OrderStop;
 use crate::record_fault::RecordFault;
 use crate::records::add_records;
 use crate::types::unknown_type;
-use hol_orders::Refusal;
+use hol_orders::{OrderStop, Refusal};
 use hol_varint::{Duplicate, Ordinals};
 use schema_model::{Limit, Model, Names, Reason};
 use serde_json::Value;

@@ -1,13 +1,13 @@
 //! The order `model`.
-ghost use Rattle.std.specs.Prelude.{◌≡◌, ℕ, List, IfOk, IfErr, IfSome};
+ghost use Rattle.std.specs.Prelude.{◌≡◌, ℕ, List, Option, IfOk, IfErr, IfSome};
 ghost use Rattle.serde_json.specs.View.{view};
 ghost use Rattle.hol_io.specs.Store.{Store};
 ghost use Rattle.json_rows.specs.SchemaJson.{AreSchemas};
+ghost use Rattle.read_engine.specs.Position.{Position};
 ghost use Rattle.hollow_machine.specs.Kept.{IsResting, machine_of};
 ghost use Rattle.hollow_machine.specs.ModelOrder.{BreaksRule, IsNamed, ModelStep};
 
-use crate::order_stop::OrderStop;
-use hol_orders::{Refusal, Reply};
+use hol_orders::{OrderStop, Refusal, Reply};
 use json_rows::{JsonFault, schemas_from};
 use schema_model::{ModelFault, Name, Rule, model_of};
 use serde_json::Value;
@@ -24,8 +24,8 @@ pub fn model(
 ) -> Result<Reply, OrderStop>
     requires schemas { AreSchemas (view value.now) }
     requires resting { IfSome producer.old IsResting }
-    ensures step { (store : Store) → IfOk result
-        (λ reply. ModelStep (machine_of store producer.old) (view value.now) reply (machine_of store producer.new)) }
+    ensures step { (store : Store) (consumer : Option Position) → IfOk result
+        (λ reply. ModelStep (machine_of store producer.old consumer) (view value.now) reply (machine_of store producer.new consumer)) }
     ensures resting { IfSome producer.new IsResting }
     ensures stop { IfErr result (λ stop. stop ≡ OrderStop.Memory) }
 {

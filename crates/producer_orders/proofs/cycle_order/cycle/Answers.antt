@@ -2,8 +2,8 @@ use Rattle.std.proofs.Common.{Option, Some, subst, sym}
 use Rattle.serde_json.specs.View.{view}
 use Rattle.write_engine.specs.Production.{Production}
 use Rattle.hollow_machine.specs.CycleOrder.{CycleStep}
-use Rattle.hollow_machine.specs.Kept.{Moves}
-use Rattle.producer_orders.specs.declared.order_stop.OrderStop.{OrderStop}
+use Rattle.hollow_machine.specs.Kept.{MovesProducer}
+use Rattle.hol_orders.specs.declared.order_stop.OrderStop.{OrderStop}
 use Rattle.producer_orders.proofs.Cycling.{at_tag, no_producer}
 use Rattle.producer_orders.proofs.cycle_order.cycle.Goals as goal
 
@@ -13,8 +13,8 @@ returns-in-Some-clause-step g c =
     let held' = (g.S.BlobStore.seen c.cycle_of.new.store).held in
     let new = Some c.cycle_of.new.producer in
     let add = view c.args.add.now in
-    let step = at_tag (λ t. Moves (λ machine reply next. CycleStep machine c.args.version t add reply next) held (Some c.in-Some.producer) held' new c.cycle_of.result) c.args.tag c.ranges.tag c.cycle_of.ensures.step in
-    subst (λ (old : Option Production). Moves (λ machine reply next. CycleStep machine c.args.version c.args.tag add reply next) held old held' new c.cycle_of.result) (sym c.in-Some.is) step
+    let step = at_tag (λ t. MovesProducer (λ machine reply next. CycleStep machine c.args.version t add reply next) held (Some c.in-Some.producer) held' new c.cycle_of.result) c.args.tag c.ranges.tag c.cycle_of.ensures.step in
+    subst (λ (old : Option Production). MovesProducer (λ machine reply next. CycleStep machine c.args.version c.args.tag add reply next) held old held' new c.cycle_of.result) (sym c.in-Some.is) step
 
 pub returns-in-None-clause-step : goal.returns-in-None-clause-step
 returns-in-None-clause-step g c = no_producer c.args.version c.args.tag (view c.args.add.now) (g.S.BlobStore.seen c.args.store.now).held c.args.producer.now OrderStop c.in-None.is

@@ -1,7 +1,7 @@
 use Rattle.std.proofs.Common.{Err, Ok}
 use Rattle.serde_json.specs.View.{view}
 use Rattle.hollow_machine.specs.Kept.{published_of}
-use Rattle.producer_orders.specs.declared.order_stop.OrderStop.{OrderStop}
+use Rattle.hol_orders.specs.declared.order_stop.OrderStop.{OrderStop}
 use Rattle.producer_orders.specs.declared.cycle_end.CycleEnd.TheVariants.{Refused}
 use Rattle.producer_orders.specs.Making.{Steps}
 use Rattle.producer_orders.proofs.Cycling.{answers, at_tag, refuses}
