@@ -1,0 +1,7 @@
+mod Asking
+mod LiveLists
+mod Loading
+mod PastRows
+mod Refusing
+mod ShownRows
+mod Stepping

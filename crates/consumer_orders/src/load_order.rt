@@ -1,0 +1,34 @@
+//! The order `load`.
+ghost use Rattle.std.specs.Prelude.{◌≡◌, ◌≤◌, IsErrOf, OnErr};
+ghost use Rattle.hol_io.specs.Causes.{Rose};
+ghost use Rattle.hollow_machine.specs.Kept.{MovesConsumer};
+ghost use Rattle.hollow_machine.specs.LoadOrder.{LoadStep};
+
+use crate::take_refusal::take_refusal;
+use hol_io::{BlobName, BlobStore};
+use hol_orders::{OrderStop, Reply};
+use read_engine::Consumer;
+
+/// The consumer becomes the state of a version's snapshot, and the answer tells its tag; or the snapshot is refused, with the first cause: `NoBlob`,
+/// `TooLarge` and `BadBlob` where it has no header, and `BadBody` where it has one and is no snapshot within the limits. After a refusal or a stop the
+/// consumer is as before. The store stays as it is. `Store` comes only where the store's count of faults rose.
+pub fn load<S: BlobStore>(
+    store: &mut S,
+    consumer: &mut Consumer,
+    version: u64,
+) -> Result<Reply, OrderStop>
+    ensures step { MovesConsumer (λ machine reply next. LoadStep machine version reply next) (S.seen store.old).held consumer.old consumer.new result }
+    ensures stopped { OnErr result (consumer.new ≡ consumer.old) }
+    ensures held { (S.seen store.new).held ≡ (S.seen store.old).held }
+    ensures puts { (S.seen store.new).puts ≡ (S.seen store.old).puts }
+    ensures store_fault { IsErrOf result OrderStop.Store → Rose (S.seen store.old).faults (S.seen store.new).faults }
+    ensures later { (S.seen store.old).faults ≤ (S.seen store.new).faults }
+{
+    if let Err(fault) = consumer.load(store, version) {
+        return Ok(Reply::Refused(take_refusal(&BlobName::Snapshot(version), fault)?));
+    }
+    match consumer.tag() {
+        Some(tag) => Ok(Reply::Load(tag)),
+        None => unreachable!(),
+    }
+}

@@ -1,0 +1,78 @@
+//! The order `step`.
+ghost use Rattle.std.specs.Prelude.{◌≡◌, ◌≢◌, ◌≤◌, ◌<◌, IsErrOf, IsSome, OnErr};
+ghost use Rattle.hol_io.specs.Causes.{Rose};
+ghost use Rattle.hollow_machine.specs.Kept.{MovesConsumer};
+ghost use Rattle.hollow_machine.specs.StepOrder.{StepStep, step_name};
+ghost use Rattle.read_engine.specs.Taking.{IsStepName};
+
+use crate::take_refusal::take_refusal;
+use hol_io::{BlobName, BlobStore, Steps};
+use hol_orders::{OrderStop, Refusal, Reply};
+use read_engine::Consumer;
+use std::marker::Brand;
+use std::sync::ledger::{Blank, Ledger};
+
+/// The consumer moves along the blob that leads from one version to another, and the answer tells its new tag; or the order is refused, with the first
+/// cause: `NoState` where the consumer has no state, `NoBlob`, `TooLarge` and `BadBlob` where the blob has no header, `OtherOrigin` where it does not
+/// start from the consumer's tag, and `BadBody` where it does and is no delta that the consumer can take. After a refusal or a stop the consumer is as
+/// before. The store stays as it is. `Store` comes only where the store's count of faults rose.
+pub fn step<S: BlobStore>(
+    store: &mut S,
+    consumer: &mut Consumer,
+    from: u64,
+    to: u64,
+) -> Result<Reply, OrderStop>
+    requires { from ≢ to }
+    ensures step { MovesConsumer (λ machine reply next. StepStep machine (step_name from to) reply next) (S.seen store.old).held consumer.old consumer.new result }
+    ensures stopped { OnErr result (consumer.new ≡ consumer.old) }
+    ensures held { (S.seen store.new).held ≡ (S.seen store.old).held }
+    ensures puts { (S.seen store.new).puts ≡ (S.seen store.old).puts }
+    ensures store_fault { IsErrOf result OrderStop.Store → Rose (S.seen store.old).faults (S.seen store.new).faults }
+    ensures later { (S.seen store.old).faults ≤ (S.seen store.new).faults }
+{
+    if consumer.tag().is_none() {
+        return Ok(Reply::Refused(Refusal::NoState));
+    }
+    move_along::<S, Brand>(Blank::new(1), store, consumer, &name_of_step(from, to))
+}
+
+// The same of a consumer that has a state, along the blob of this name. The steps of indexes are counted on a blank that nobody reads.
+fn move_along<S: BlobStore, L: Ledger>(
+    blank: Blank,
+    store: &mut S,
+    consumer: &mut Consumer,
+    name: &BlobName,
+) -> Result<Reply, OrderStop>
+    requires ledger { blank.name ≡ L.name }
+    requires parts { blank.parts ≡ L.parts }
+    requires some { 0 < blank.parts }
+    requires state { IsSome consumer.old }
+    requires name { IsStepName name.now }
+    ensures step { MovesConsumer (λ machine reply next. StepStep machine name.now reply next) (S.seen store.old).held consumer.old consumer.new result }
+    ensures stopped { OnErr result (consumer.new ≡ consumer.old) }
+    ensures held { (S.seen store.new).held ≡ (S.seen store.old).held }
+    ensures puts { (S.seen store.new).puts ≡ (S.seen store.old).puts }
+    ensures store_fault { IsErrOf result OrderStop.Store → Rose (S.seen store.old).faults (S.seen store.new).faults }
+    ensures later { (S.seen store.old).faults ≤ (S.seen store.new).faults }
+{
+    let mut steps = Steps::<L>::new(blank);
+    if let Err(fault) = consumer.step(store, name, &mut steps) {
+        return Ok(Reply::Refused(take_refusal(name, fault)?));
+    }
+    match consumer.tag() {
+        Some(tag) => Ok(Reply::Step(tag)),
+        None => unreachable!(),
+    }
+}
+
+// The blob that leads from one version to another: the delta to a later one, and the reverse delta to an earlier one.
+fn name_of_step(from: u64, to: u64) -> BlobName
+    ensures name { result ≡ step_name from to }
+    ensures step { IsStepName result }
+{
+    if from < to {
+        BlobName::Delta(from, to)
+    } else {
+        BlobName::Reverse(from, to)
+    }
+}
