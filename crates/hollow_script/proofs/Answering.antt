@@ -5,15 +5,16 @@ use Rattle.std.specs.Io.KnownBytes.{Appends}
 use Rattle.std.proofs.KnownBytes.{Appends-nil, Appends-trans, Consumes-nil, Consumes-trans}
 use Rattle.hol_io.specs.Lines.{IsAhead, Reading, Takes, cut, starts}
 use Rattle.hol_io.specs.Store.{Store}
-use Rattle.write_engine.specs.Production.{Production}
 use Rattle.hol_orders.specs.declared.reply.Reply.{Reply}
 use Rattle.hol_orders.specs.Reply.{is_refusal, line_of}
-use Rattle.hollow_machine.specs.Kept.{Moves, machine_of}
+use Rattle.hollow_machine.specs.Kept.{machine_of}
 use Rattle.hollow_machine.specs.Script.{LineStep, Script, ShortStep, longest_line}
 use Rattle.hollow_machine.specs.State.{Machine, started}
 use Rattle.hollow_machine.proofs.Scripts.{join}
-use Rattle.producer_orders.specs.declared.order_stop.OrderStop.{OrderStop}
+use Rattle.hol_orders.specs.declared.order_stop.OrderStop.{OrderStop}
 use Rattle.hollow_script.proofs.Lining.{begins}
+use Rattle.hollow_script.specs.Kept.{KeepsNothing, MovesKept, machine_with}
+use Rattle.hollow_script.specs.declared.keep.Keep.{Keep}
 use Rattle.hollow_script.specs.declared.script_stop.ScriptStop.{ScriptStop}
 use Rattle.hollow_script.specs.Scripted.{AllAnswered, AllWritten, AnswersNext, HasGiven, IsAnswered, PutsAnswer, ServesNext, TakesPast, longest_input}
 
@@ -47,15 +48,15 @@ told_both (Some x) None P Q holds gives = tt
 told_both (Some x) (Some y) P Q holds gives = gives x y holds
 
 -- what an order is answered, a line that is not too long is
-pub line_answered : (held held' : Option Store) (kept kept' : Option Production) (now : Store) (line : List ℕ) (reply : Reply) → length line ≤ longest_line → held ≡ Some now →
-    Moves {E = OrderStop} (λ machine answer next. ShortStep machine line answer next) held kept held' kept' (Ok reply) →
-    (next : Store) × (held' ≡ Some next) × LineStep (machine_of now kept) line reply (machine_of next kept')
+pub line_answered : (held held' : Option Store) (kept kept' : Keep) (now : Store) (line : List ℕ) (reply : Reply) → length line ≤ longest_line → held ≡ Some now →
+    MovesKept {E = OrderStop} (λ machine answer next. ShortStep machine line answer next) held kept held' kept' (Ok reply) →
+    (next : Store) × (held' ≡ Some next) × LineStep (machine_with now kept) line reply (machine_with next kept')
 line_answered held held' kept kept' now line reply short told moves =
-    let (next, after, step) = subst (λ h. Moves {E = OrderStop} (λ machine answer next. ShortStep machine line answer next) h kept held' kept' (Ok reply)) told moves in
+    let (next, after, step) = subst (λ h. MovesKept {E = OrderStop} (λ machine answer next. ShortStep machine line answer next) h kept held' kept' (Ok reply)) told moves in
     (next, after, inr (short, step))
 
 -- nothing is answered yet
-none_answered : (bytes : List ℕ) (first : Store) (left : Option (List ℕ)) (reading : Reading) (kept : Option Production) (before : Option (List ℕ)) (waiting : List ℕ) → kept ≡ None → waiting ≡ [] →
+none_answered : (bytes : List ℕ) (first : Store) (left : Option (List ℕ)) (reading : Reading) (kept : Keep) (before : Option (List ℕ)) (waiting : List ℕ) → KeepsNothing kept → waiting ≡ [] →
     HasGiven bytes left reading [] → IsAnswered bytes first left (Some first) reading kept before before waiting false
 none_answered bytes first left reading kept before waiting none nothing has = record {
   lines = [];
@@ -64,12 +65,12 @@ none_answered bytes first left reading kept before waiting none nothing has = re
   gone = [];
   given = has;
   told = refl;
-  script = (refl, refl, ap (machine_of first) none);
+  script = (refl, refl, (λ i. machine_of first (none.producer i) (none.consumer i)));
   split = sym nothing;
   gained = Appends-nil before;
 }
 
-pub starts_answered : (left : Option (List ℕ)) (held : Option Store) (reading : Reading) (kept : Option Production) (before : Option (List ℕ)) (waiting : List ℕ) → kept ≡ None → waiting ≡ [] →
+pub starts_answered : (left : Option (List ℕ)) (held : Option Store) (reading : Reading) (kept : Keep) (before : Option (List ℕ)) (waiting : List ℕ) → KeepsNothing kept → waiting ≡ [] →
     ((bytes : List ℕ) → IsAhead reading bytes bytes longest_input) → reading.line_max ≡ longest_line →
     IfSome left (λ bytes. IfSome held (λ first. IsAnswered bytes first left held reading kept before before waiting false))
 starts_answered None held reading kept before waiting none nothing ahead most = tt
@@ -85,7 +86,7 @@ one_flag false = refl
 one_script : (machine next : Machine) (line : List ℕ) (reply : Reply) → LineStep machine line reply next → Script machine (line ∷ []) (line_of reply) (is_refusal reply) next
 one_script machine next line reply step = (reply, next, [], false, step, (refl, refl, refl), sym (append-nil (line_of reply)), one_flag (is_refusal reply))
 
-module _ (bytes : List ℕ) (first : Store) (left left' : Option (List ℕ)) (held held' : Option Store) (r r' : Reading) (kept kept' : Option Production) (before mid : Option (List ℕ)) (waiting : List ℕ) (refused : Bool) where
+module _ (bytes : List ℕ) (first : Store) (left left' : Option (List ℕ)) (held held' : Option Store) (r r' : Reading) (kept kept' : Keep) (before mid : Option (List ℕ)) (waiting : List ℕ) (refused : Bool) where
   -- one more line is answered
   pub answered_next : (after : Option (List ℕ)) (waiting' : List ℕ) (also : Bool) (reply : Reply) (found : Option Reply) → found ≡ Some reply → also ≡ is_refusal reply →
       IsAnswered bytes first left held r kept before mid waiting refused →
@@ -101,9 +102,9 @@ module _ (bytes : List ℕ) (first : Store) (left left' : Option (List ℕ)) (he
         gone = is.gone ++ gone;
         given = given;
         told = told;
-        script = subst (λ b. Script (started first) (is.lines ++ line ∷ []) (is.text ++ line_of reply) (if refused then true else b) (machine_of next kept')) (sym flag)
-            (join (started first) (machine_of is.store kept) (machine_of next kept') is.lines (line ∷ []) is.text (line_of reply) refused (is_refusal reply) is.script
-            (one_script (machine_of is.store kept) (machine_of next kept') line reply step));
+        script = subst (λ b. Script (started first) (is.lines ++ line ∷ []) (is.text ++ line_of reply) (if refused then true else b) (machine_with next kept')) (sym flag)
+            (join (started first) (machine_with is.store kept) (machine_with next kept') is.lines (line ∷ []) is.text (line_of reply) refused (is_refusal reply) is.script
+            (one_script (machine_with is.store kept) (machine_with next kept') line reply step));
         split = ap (λ t. t ++ line_of reply) is.split ∙ append_assoc is.gone waiting (line_of reply) ∙ ap (λ t. is.gone ++ t) split ∙ sym (append_assoc is.gone gone waiting');
         gained = Appends-trans before mid after is.gone gone is.gained gained;
       }
@@ -119,15 +120,15 @@ module _ (bytes : List ℕ) (first : Store) (left left' : Option (List ℕ)) (he
         text = is.text;
         gone = is.gone;
         told = told;
-        script = subst (λ k. Script (started first) (cut bytes) is.text refused (machine_of is.store k)) (sym same)
-            (subst (λ ls. Script (started first) ls is.text refused (machine_of is.store kept)) (sym cut_is) is.script);
+        script = subst (λ k. Script (started first) (cut bytes) is.text refused (machine_with is.store k)) (sym same)
+            (subst (λ ls. Script (started first) ls is.text refused (machine_with is.store kept)) (sym cut_is) is.script);
         short = short;
         split = is.split;
         gained = is.gained;
       }
 
 -- what is answered where source and store are told, with one more line
-module _ (left left' : Option (List ℕ)) (held held' : Option Store) (r r' : Reading) (kept kept' : Option Production) (before mid after : Option (List ℕ)) (waiting waiting' : List ℕ) (refused also next : Bool) (found : Option Bool) where
+module _ (left left' : Option (List ℕ)) (held held' : Option Store) (r r' : Reading) (kept kept' : Keep) (before mid after : Option (List ℕ)) (waiting waiting' : List ℕ) (refused also next : Bool) (found : Option Bool) where
   pub told_next : (source : Option (List ℕ)) (store : Option Store) → found ≡ Some also → next ≡ (if refused then true else also) →
       IfSome source (λ bytes. IfSome store (λ first. IsAnswered bytes first left held r kept before mid waiting refused)) →
       ((bytes : List ℕ) (first : Store) (start : Option (List ℕ)) (flag : Bool) → IsAnswered bytes first left held r kept start mid waiting flag → ServesNext bytes first left' held' r' kept' start after waiting' flag (Ok found)) →
@@ -139,7 +140,7 @@ module _ (left left' : Option (List ℕ)) (held held' : Option Store) (r r' : Re
       (subst (λ f. ServesNext bytes first left' held' r' kept' before after waiting' refused (Ok f)) some (serves bytes first before refused is))
 
 -- and all answers are written
-pub all_written : (bytes : List ℕ) (first : Store) (held : Option Store) (kept : Option Production) (before mid after : Option (List ℕ)) (waiting : List ℕ) (refused : Bool) →
+pub all_written : (bytes : List ℕ) (first : Store) (held : Option Store) (kept : Keep) (before mid after : Option (List ℕ)) (waiting : List ℕ) (refused : Bool) →
     AllAnswered bytes first held kept before mid waiting refused → Appends mid after waiting → AllWritten bytes first held kept before after refused
 all_written bytes first held kept before mid after waiting refused is gained = record {
   store = is.store;

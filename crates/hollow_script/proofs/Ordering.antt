@@ -5,9 +5,11 @@ use Rattle.std.proofs.lemmas.Int.{to_z-of_z}
 use Rattle.serde_json.specs.View.{view}
 use Rattle.serde_json.specs.declared.value.Value.{Value}
 use Rattle.hol_io.specs.Store.{Store}
+use Rattle.schema_model.specs.declared.schema.name.Name.{Name}
 use Rattle.write_engine.specs.Production.{Production}
+use Rattle.read_engine.specs.Position.{Position}
 use Rattle.hol_orders.specs.declared.order.Order.{Order}
-use Rattle.hol_orders.specs.declared.order.Order.TheVariants.{Model, Cycle}
+use Rattle.hol_orders.specs.declared.order.Order.TheVariants as order
 use Rattle.hol_orders.specs.declared.refusal.Refusal.TheVariants.{BadOrder, NotYet}
 use Rattle.hol_orders.specs.declared.reply.Reply.{Reply}
 use Rattle.hol_orders.specs.declared.reply.Reply.TheVariants.{Refused}
@@ -15,53 +17,129 @@ use Rattle.hol_orders.specs.declared.order.OrderFault.{OrderFault}
 use Rattle.hol_orders.specs.declared.order.OrderFault.TheVariants as order_fault
 use Rattle.hol_orders.specs.Order.{IsOrder, Orders, TellsOrder}
 use Rattle.hollow_machine.specs.CycleOrder.{CycleStep}
-use Rattle.hollow_machine.specs.Kept.{Moves, machine_of}
+use Rattle.hollow_machine.specs.Kept.{Moves, MovesConsumer, MovesProducer, machine_of}
+use Rattle.hollow_machine.specs.LoadOrder.{LoadStep}
 use Rattle.hollow_machine.specs.ModelOrder.{ModelStep}
+use Rattle.hollow_machine.specs.RowOrders.{LiveReply, Looks, PastReply, RowReply}
 use Rattle.hollow_machine.specs.Script.{ShortStep}
 use Rattle.hollow_machine.specs.State.{Machine}
 use Rattle.hollow_machine.specs.Step.{Step}
-use Rattle.producer_orders.specs.declared.order_stop.OrderStop.{OrderStop}
-
--- what the order `model` is answered over each store moves the machine, for it leaves the store
-pub model_moves : (held : Option Store) (kept kept' : Option Production) (order : Order) (schemas : Value) (r : Result Reply OrderStop) → order ≡ Model schemas →
-    ((store : Store) → IfOk r (λ reply. ModelStep (machine_of store kept) (view schemas) reply (machine_of store kept'))) →
-    Moves (λ machine reply next. Step machine order reply next) held kept held kept' r
-model_moves None kept kept' order schemas r is answers = tt
-model_moves (Some store) kept kept' order schemas (Err stop) is answers = tt
-model_moves (Some store) kept kept' order schemas (Ok reply) is answers =
-    (store, refl, subst (λ asked. Step (machine_of store kept) asked reply (machine_of store kept')) (sym is) (answers store))
-
--- an answer that leaves the machine as it was moves it so
-pub stays : (IsStep : Machine → Reply → Machine → Type 0) (held : Option Store) (kept : Option Production) (reply : Reply) → ((machine : Machine) → IsStep machine reply machine) →
-    Moves {E = OrderStop} IsStep held kept held kept (Ok reply)
-stays IsStep None kept reply steps = tt
-stays IsStep (Some store) kept reply steps = (store, refl, steps (machine_of store kept))
+use Rattle.hollow_machine.specs.StepOrder.{StepStep, step_name}
+use Rattle.hol_orders.specs.declared.order_stop.OrderStop.{OrderStop}
+use Rattle.hollow_script.specs.Kept.{MovesKept}
+use Rattle.hollow_script.specs.declared.keep.Keep.{Keep}
 
 -- a line that is no order leaves the machine as it was
 pub no_order_steps : (line : List ℕ) (fault : OrderFault) → fault ≡ order_fault.BadOrder → TellsOrder line (Err fault) → (machine : Machine) → ShortStep machine line (Refused BadOrder) machine
 no_order_steps line fault is tells machine = inl (subst (λ f. TellsOrder line (Err f)) is tells, (refl, refl))
 
 -- as an order moves the machine, its line does
-pub order_moves : (held held' : Option Store) (kept kept' : Option Production) (line : List ℕ) (order : Order) (r : Result Reply OrderStop) → Orders line order →
-    Moves (λ machine reply next. Step machine order reply next) held kept held' kept' r → Moves (λ machine reply next. ShortStep machine line reply next) held kept held' kept' r
-order_moves None held' kept kept' line order r is moves = tt
-order_moves (Some store) held' kept kept' line order (Err stop) is moves = tt
-order_moves (Some store) held' kept kept' line order (Ok reply) is moves = (moves.0, moves.1, inr (order, is, moves.2))
+pub order_moves : (held held' : Option Store) (keep keep' : Keep) (line : List ℕ) (asked : Order) (r : Result Reply OrderStop) → Orders line asked →
+    MovesKept (λ machine reply next. Step machine asked reply next) held keep held' keep' r → MovesKept (λ machine reply next. ShortStep machine line reply next) held keep held' keep' r
+order_moves None held' keep keep' line asked r is moves = tt
+order_moves (Some store) held' keep keep' line asked (Err stop) is moves = tt
+order_moves (Some store) held' keep keep' line asked (Ok reply) is moves = (moves.0, moves.1, inr (asked, is, moves.2))
 
--- the numbers of an order that is a cycle are in their ranges
-cycle_fits : (order : Order) (version : ℕ) (tag : ℤ) (add : Value) → order ≡ Cycle version tag add → IsOrder order → FitsSigned w64 tag
-cycle_fits order version tag add is fits = (subst IsOrder is fits).1
+-- an answer that leaves the machine as it was moves it so
+pub stays : (IsStep : Machine → Reply → Machine → Type 0) (held : Option Store) (keep : Keep) (reply : Reply) → ((machine : Machine) → IsStep machine reply machine) →
+    MovesKept {E = OrderStop} IsStep held keep held keep (Ok reply)
+stays IsStep None keep reply steps = tt
+stays IsStep (Some store) keep reply steps = (store, refl, steps (machine_of store keep.producer keep.consumer))
 
--- as the order `cycle` moves the machine, with its tag handed on, so does an order that is one
-pub cycle_moves : (held held' : Option Store) (kept kept' : Option Production) (order : Order) (version : ℕ) (tag : ℤ) (add : Value) (r : Result Reply OrderStop) → order ≡ Cycle version tag add → IsOrder order →
-    Moves (λ machine reply next. CycleStep machine version (to_z w64 (of_z w64 tag)) (view add) reply next) held kept held' kept' r → Moves (λ machine reply next. Step machine order reply next) held kept held' kept' r
-cycle_moves held held' kept kept' order version tag add r is fits moves =
-    subst (λ asked. Moves (λ machine reply next. Step machine asked reply next) held kept held' kept' r) (sym is)
-    (subst (λ t. Moves (λ machine reply next. CycleStep machine version t (view add) reply next) held kept held' kept' r) (to_z-of_z w64 tag (cycle_fits order version tag add is fits)) moves)
+-- an order that moves the machine in a way that is that of its kind
+module _ (held held' : Option Store) (kept kept' : Option Production) (consumer consumer' : Option Position) (asked : Order) (r : Result Reply OrderStop) where
+  abbrev pub MovesBy : (Machine → Reply → Machine → Type 0) → Type 0
+  MovesBy IsStep = Moves {E = OrderStop} IsStep held kept consumer held' kept' consumer' r
 
--- an order that is not built is told so
-pub not_built : (order : Order) → ((schemas : Value) → order ≡ Model schemas → ⊥) → ((version : ℕ) (tag : ℤ) (add : Value) → order ≡ Cycle version tag add → ⊥) → (machine : Machine) →
-    Step machine order (Refused NotYet) machine
-not_built (Model schemas) no_model no_cycle machine = absurd (no_model schemas refl)
-not_built (Cycle version tag add) no_model no_cycle machine = absurd (no_cycle version tag add refl)
-not_built _ no_model no_cycle machine = (refl, refl)
+  pub asked_moves : (other : Order) → asked ≡ other → MovesBy (λ machine reply next. Step machine other reply next) → MovesBy (λ machine reply next. Step machine asked reply next)
+  asked_moves other is moves = subst (λ order. MovesBy (λ machine reply next. Step machine order reply next)) (sym is) moves
+
+module _ (held : Option Store) (kept kept' : Option Production) (consumer : Option Position) (asked : Order) (r : Result Reply OrderStop) where
+  -- what the order `model` is answered over each store moves the machine, for it leaves the store and the consumer
+  pub model_moves : (schemas : Value) → asked ≡ order.Model schemas →
+      ((store : Store) (at : Option Position) → IfOk r (λ reply. ModelStep (machine_of store kept at) (view schemas) reply (machine_of store kept' at))) →
+      Moves (λ machine reply next. Step machine asked reply next) held kept consumer held kept' consumer r
+  model_moves schemas is answers = asked_moves held held kept kept' consumer consumer asked r (order.Model schemas) is (over held r answers)
+    where
+      over : (told : Option Store) (answer : Result Reply OrderStop) →
+          ((store : Store) (at : Option Position) → IfOk answer (λ reply. ModelStep (machine_of store kept at) (view schemas) reply (machine_of store kept' at))) →
+          Moves (λ machine reply next. ModelStep machine (view schemas) reply next) told kept consumer told kept' consumer answer
+      over None answer gives = tt
+      over (Some store) (Err stop) gives = tt
+      over (Some store) (Ok reply) gives = (store, refl, gives store consumer)
+
+  -- as the order `cycle` moves the machine, with its tag handed on, so does an order that is one
+  pub cycle_moves : (held' : Option Store) (version : ℕ) (tag : ℤ) (add : Value) → asked ≡ order.Cycle version tag add → IsOrder asked →
+      MovesProducer (λ machine reply next. CycleStep machine version (to_z w64 (of_z w64 tag)) (view add) reply next) held kept held' kept' r →
+      Moves (λ machine reply next. Step machine asked reply next) held kept consumer held' kept' consumer r
+  cycle_moves held' version tag add is fits moves =
+      let same = to_z-of_z w64 tag (subst IsOrder is fits).1 in
+      asked_moves held held' kept kept' consumer consumer asked r (order.Cycle version tag add) is
+      (subst (λ t. Moves (λ machine reply next. CycleStep machine version t (view add) reply next) held kept consumer held' kept' consumer r) same (moves consumer))
+
+-- the orders of a consumer, which leave the store and the producer
+module _ (held held' : Option Store) (kept : Option Production) (consumer consumer' : Option Position) (asked : Order) (r : Result Reply OrderStop) where
+  pub consumer_moves : (IsStep : Machine → Reply → Machine → Type 0) → held' ≡ held → MovesConsumer IsStep held consumer consumer' r → Moves IsStep held kept consumer held' kept consumer' r
+  consumer_moves IsStep same moves = subst (λ (h : Option Store). Moves IsStep held kept consumer h kept consumer' r) (sym same) (moves kept)
+
+  pub load_moves : (version : ℕ) → asked ≡ order.Load version → held' ≡ held → MovesConsumer (λ machine reply next. LoadStep machine version reply next) held consumer consumer' r →
+      Moves (λ machine reply next. Step machine asked reply next) held kept consumer held' kept consumer' r
+  load_moves version is same moves =
+      asked_moves held held' kept kept consumer consumer' asked r (order.Load version) is (consumer_moves (λ machine reply next. LoadStep machine version reply next) same moves)
+
+  pub step_moves : (from to : ℕ) → asked ≡ order.Step from to → held' ≡ held → MovesConsumer (λ machine reply next. StepStep machine (step_name from to) reply next) held consumer consumer' r →
+      Moves (λ machine reply next. Step machine asked reply next) held kept consumer held' kept consumer' r
+  step_moves from to is same moves =
+      asked_moves held held' kept kept consumer consumer' asked r (order.Step from to) is (consumer_moves (λ machine reply next. StepStep machine (step_name from to) reply next) same moves)
+
+-- the orders that ask a consumer, which leave the machine as it was
+looks : (Answers : Option Position → Reply → Type 0) (held : Option Store) (kept : Option Production) (consumer : Option Position) (r : Result Reply OrderStop) → IfOk r (Answers consumer) →
+    Moves (λ machine reply next. Looks Answers machine reply next) held kept consumer held kept consumer r
+looks Answers None kept consumer r answers = tt
+looks Answers (Some store) kept consumer (Err stop) answers = tt
+looks Answers (Some store) kept consumer (Ok reply) answers = (store, refl, (answers, refl))
+
+module _ (held : Option Store) (kept : Option Production) (consumer : Option Position) (asked : Order) (r : Result Reply OrderStop) where
+  pub live_moves : (name : Name) → asked ≡ order.Live name → IfOk r (LiveReply consumer name) → Moves (λ machine reply next. Step machine asked reply next) held kept consumer held kept consumer r
+  live_moves name is answers = asked_moves held held kept kept consumer consumer asked r (order.Live name) is (looks (λ at answer. LiveReply at name answer) held kept consumer r answers)
+
+  pub row_moves : (name : Name) (ordinal : ℕ) → asked ≡ order.Row name ordinal → IfOk r (RowReply consumer name ordinal) → Moves (λ machine reply next. Step machine asked reply next) held kept consumer held kept consumer r
+  row_moves name ordinal is answers = asked_moves held held kept kept consumer consumer asked r (order.Row name ordinal) is (looks (λ at answer. RowReply at name ordinal answer) held kept consumer r answers)
+
+  pub past_moves : (name : Name) → asked ≡ order.Past name → IfOk r (PastReply consumer name) → Moves (λ machine reply next. Step machine asked reply next) held kept consumer held kept consumer r
+  past_moves name is answers = asked_moves held held kept kept consumer consumer asked r (order.Past name) is (looks (λ at answer. PastReply at name answer) held kept consumer r answers)
+
+-- an order that is not built
+abbrev pub IsUnbuilt : Order → Type 0
+IsUnbuilt (order.Model schemas) = ⊥
+IsUnbuilt (order.Cycle version tag add) = ⊥
+IsUnbuilt (order.Load version) = ⊥
+IsUnbuilt (order.Step from to) = ⊥
+IsUnbuilt (order.Live name) = ⊥
+IsUnbuilt (order.Row name ordinal) = ⊥
+IsUnbuilt (order.Past name) = ⊥
+IsUnbuilt _ = Unit {0}
+
+-- an order that is none of those that are built
+pub not_built : (asked : Order) → ((schemas : Value) → asked ≡ order.Model schemas → ⊥) → ((version : ℕ) (tag : ℤ) (add : Value) → asked ≡ order.Cycle version tag add → ⊥) →
+    ((version : ℕ) → asked ≡ order.Load version → ⊥) → ((from to : ℕ) → asked ≡ order.Step from to → ⊥) → ((name : Name) → asked ≡ order.Live name → ⊥) →
+    ((name : Name) (ordinal : ℕ) → asked ≡ order.Row name ordinal → ⊥) → ((name : Name) → asked ≡ order.Past name → ⊥) → IsUnbuilt asked
+not_built (order.Model schemas) model cycle load step live row past = model schemas refl
+not_built (order.Cycle version tag add) model cycle load step live row past = cycle version tag add refl
+not_built (order.Load version) model cycle load step live row past = load version refl
+not_built (order.Step from to) model cycle load step live row past = step from to refl
+not_built (order.Live name) model cycle load step live row past = live name refl
+not_built (order.Row name ordinal) model cycle load step live row past = row name ordinal refl
+not_built (order.Past name) model cycle load step live row past = past name refl
+not_built _ model cycle load step live row past = tt
+
+-- it is told so
+pub told_unbuilt : (asked : Order) → IsUnbuilt asked → (machine : Machine) → Step machine asked (Refused NotYet) machine
+told_unbuilt (order.Model schemas) is machine = absurd is
+told_unbuilt (order.Cycle version tag add) is machine = absurd is
+told_unbuilt (order.Load version) is machine = absurd is
+told_unbuilt (order.Step from to) is machine = absurd is
+told_unbuilt (order.Live name) is machine = absurd is
+told_unbuilt (order.Row name ordinal) is machine = absurd is
+told_unbuilt (order.Past name) is machine = absurd is
+told_unbuilt _ is machine = (refl, refl)

@@ -1,19 +1,19 @@
--- What a run of a script keeps from line to line: the store and the producer, the lines that were answered, and the answers
--- that wait to be written.
+-- What a run of a script keeps from line to line: the store, the producer and the consumer, the lines that were answered, and the
+-- answers that wait to be written.
 use Rattle.std.specs.Prelude.{◌≡◌, ◌<◌, ◌≤◌, ◌^◌, ℕ, List, [], ◌∷◌, ◌++◌, length, Bool, true, if◌then◌else◌, Option, Some, None, Result, Ok, Err}
 use Rattle.std.specs.Io.KnownBytes.{Appends, Consumes}
 use Rattle.hol_io.specs.Lines.{Reading, Moves, cut}
 use Rattle.hol_io.specs.Store.{Store}
-use Rattle.write_engine.specs.Production.{Production}
 use Rattle.hol_orders.specs.declared.reply.Reply.{Reply}
 use Rattle.hol_orders.specs.declared.reply.Reply.TheVariants.{Cycle}
-use Rattle.hollow_machine.specs.Kept.{machine_of}
 use Rattle.hollow_machine.specs.Script.{LineStep, Script, longest_line}
 use Rattle.hollow_machine.specs.State.{started}
-use Rattle.producer_orders.specs.declared.order_stop.OrderStop.{OrderStop}
-use Rattle.producer_orders.specs.declared.order_stop.OrderStop.TheVariants as order_stop
+use Rattle.hol_orders.specs.declared.order_stop.OrderStop.{OrderStop}
+use Rattle.hol_orders.specs.declared.order_stop.OrderStop.TheVariants as order_stop
+use Rattle.hollow_script.specs.declared.keep.Keep.{Keep}
 use Rattle.hollow_script.specs.declared.script_stop.ScriptStop.{ScriptStop}
 use Rattle.hollow_script.specs.declared.script_stop.ScriptStop.TheVariants.{Memory, Store as StoreFailed}
+use Rattle.hollow_script.specs.Kept.{machine_with}
 
 -- How many bytes of an input are taken as lines.
 abbrev pub longest_input : ℕ
@@ -36,40 +36,40 @@ HasGiven bytes (Some left) reading lines = Moves lines bytes longest_input readi
 
 -- What the next line is answered over a store, where these lines were given before: an answer that moves the machine, or
 -- none where the input has no other lines.
-abbrev pub AnswersNext : List ℕ → List (List ℕ) → Store → Option (List ℕ) → Reading → Option Production → Option Store → Option Production → Result (Option Reply) ScriptStop → Type 0
+abbrev pub AnswersNext : List ℕ → List (List ℕ) → Store → Option (List ℕ) → Reading → Keep → Option Store → Keep → Result (Option Reply) ScriptStop → Type 0
 AnswersNext bytes lines store left' reading' kept held' kept' (Ok (Some reply)) =
     (line : List ℕ) × HasGiven bytes left' reading' (lines ++ line ∷ [])
-    × ((next : Store) × (held' ≡ Some next) × LineStep (machine_of store kept) line reply (machine_of next kept'))
+    × ((next : Store) × (held' ≡ Some next) × LineStep (machine_with store kept) line reply (machine_with next kept'))
 AnswersNext bytes lines store left' reading' kept held' kept' (Ok None) =
     (cut bytes ≡ lines) × (length bytes ≤ longest_input) × (held' ≡ Some store) × (kept' ≡ kept)
 AnswersNext bytes lines store left' reading' kept held' kept' (Err stop) = Unit {0}
 
 -- The lines of an input that were given are answered, from the first store to the one that is held now: their answers were
 -- taken by the sink, and the last ones wait.
-pub record IsAnswered (bytes : List ℕ) (first : Store) (left : Option (List ℕ)) (held : Option Store) (reading : Reading) (kept : Option Production) (before after : Option (List ℕ)) (waiting : List ℕ) (refused : Bool) : Type 0 where
+pub record IsAnswered (bytes : List ℕ) (first : Store) (left : Option (List ℕ)) (held : Option Store) (reading : Reading) (kept : Keep) (before after : Option (List ℕ)) (waiting : List ℕ) (refused : Bool) : Type 0 where
   pub lines : List (List ℕ)
   pub store : Store
   pub text : List ℕ
   pub gone : List ℕ
   pub given : HasGiven bytes left reading lines
   pub told : held ≡ Some store
-  pub script : Script (started first) lines text refused (machine_of store kept)
+  pub script : Script (started first) lines text refused (machine_with store kept)
   pub split : text ≡ gone ++ waiting
   pub gained : Appends before after gone
 
 -- All lines of an input are answered, and the last answers wait.
-pub record AllAnswered (bytes : List ℕ) (first : Store) (held : Option Store) (kept : Option Production) (before after : Option (List ℕ)) (waiting : List ℕ) (refused : Bool) : Type 0 where
+pub record AllAnswered (bytes : List ℕ) (first : Store) (held : Option Store) (kept : Keep) (before after : Option (List ℕ)) (waiting : List ℕ) (refused : Bool) : Type 0 where
   pub store : Store
   pub text : List ℕ
   pub gone : List ℕ
   pub told : held ≡ Some store
-  pub script : Script (started first) (cut bytes) text refused (machine_of store kept)
+  pub script : Script (started first) (cut bytes) text refused (machine_with store kept)
   pub short : length bytes ≤ longest_input
   pub split : text ≡ gone ++ waiting
   pub gained : Appends before after gone
 
 -- What serving the next line leaves, where the lines before it are answered: it is answered too, or all lines are.
-abbrev pub ServesNext : List ℕ → Store → Option (List ℕ) → Option Store → Reading → Option Production → Option (List ℕ) → Option (List ℕ) → List ℕ → Bool → Result (Option Bool) ScriptStop → Type 0
+abbrev pub ServesNext : List ℕ → Store → Option (List ℕ) → Option Store → Reading → Keep → Option (List ℕ) → Option (List ℕ) → List ℕ → Bool → Result (Option Bool) ScriptStop → Type 0
 ServesNext bytes first left held reading kept before after waiting refused (Ok (Some also)) =
     IsAnswered bytes first left held reading kept before after waiting (if refused then true else also)
 ServesNext bytes first left held reading kept before after waiting refused (Ok None) =
@@ -77,11 +77,11 @@ ServesNext bytes first left held reading kept before after waiting refused (Ok N
 ServesNext bytes first left held reading kept before after waiting refused (Err stop) = Unit {0}
 
 -- All lines of an input are answered, and the sink gained all answers.
-pub record AllWritten (bytes : List ℕ) (first : Store) (held : Option Store) (kept : Option Production) (before after : Option (List ℕ)) (refused : Bool) : Type 0 where
+pub record AllWritten (bytes : List ℕ) (first : Store) (held : Option Store) (kept : Keep) (before after : Option (List ℕ)) (refused : Bool) : Type 0 where
   pub store : Store
   pub text : List ℕ
   pub told : held ≡ Some store
-  pub script : Script (started first) (cut bytes) text refused (machine_of store kept)
+  pub script : Script (started first) (cut bytes) text refused (machine_with store kept)
   pub short : length bytes ≤ longest_input
   pub gained : Appends before after text
 

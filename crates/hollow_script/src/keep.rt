@@ -1,6 +1,7 @@
 //! What a run keeps from one order to the next.
-ghost use Rattle.std.specs.Prelude.{◌≡◌, None};
+ghost use Rattle.hollow_script.specs.Kept.{KeepsNothing};
 
+use read_engine::Consumer;
 use std::alloc::Global;
 use write_engine::Producer;
 
@@ -9,13 +10,18 @@ use write_engine::Producer;
 pub struct Keep {
     /// The producer, where there is one.
     pub producer: Option<Producer>,
+    /// The consumer, which has no state before it loads one.
+    pub consumer: Consumer,
 }
 
 impl Keep {
-    /// No producer. It takes no memory.
-    pub fn new(_alloc: Global) -> Keep
-        ensures { result.producer ≡ None }
+    /// No producer, and a consumer without a state. It takes no memory.
+    pub fn new(alloc: Global) -> Keep
+        ensures { KeepsNothing result }
     {
-        Keep { producer: None }
+        Keep {
+            producer: None,
+            consumer: Consumer::new(alloc),
+        }
     }
 }

@@ -2,14 +2,16 @@
 ghost use Rattle.std.specs.Prelude.{◌≤◌, IfSome, IsErrOf};
 ghost use Rattle.hol_io.specs.Causes.{Rose};
 ghost use Rattle.hol_orders.specs.Order.{IsOrder};
-ghost use Rattle.hollow_machine.specs.Kept.{IsResting, Moves};
+ghost use Rattle.hollow_machine.specs.Kept.{IsResting};
 ghost use Rattle.hollow_machine.specs.Script.{ShortStep};
 ghost use Rattle.hollow_machine.specs.Step.{Step};
+ghost use Rattle.hollow_script.specs.Kept.{MovesKept};
 
 use crate::keep::Keep;
+use consumer_orders::{live, load, past, row, step};
 use hol_io::BlobStore;
-use hol_orders::{Order, OrderFault, Refusal, Reply, order_of};
-use producer_orders::{OrderStop, cycle, model};
+use hol_orders::{Order, OrderFault, OrderStop, Refusal, Reply, order_of};
+use producer_orders::{cycle, model};
 use std::alloc::Global;
 
 /// Answers a line that is not too long: `BadOrder` exactly where it is no order, and else what the order is answered.
@@ -20,8 +22,8 @@ pub fn answer_line<S: BlobStore>(
     keep: &mut Keep,
 ) -> Result<Reply, OrderStop>
     requires resting { IfSome keep.old.producer IsResting }
-    ensures step { Moves (λ machine reply next. ShortStep machine line.now reply next)
-        (S.seen store.old).held keep.old.producer (S.seen store.new).held keep.new.producer result }
+    ensures step { MovesKept (λ machine reply next. ShortStep machine line.now reply next)
+        (S.seen store.old).held keep.old (S.seen store.new).held keep.new result }
     ensures resting { IfSome keep.new.producer IsResting }
     ensures store_fault { IsErrOf result OrderStop.Store → Rose (S.seen store.old).faults (S.seen store.new).faults }
     ensures later { (S.seen store.old).faults ≤ (S.seen store.new).faults }
@@ -42,8 +44,8 @@ fn answer<S: BlobStore>(
 ) -> Result<Reply, OrderStop>
     requires order { IsOrder order.now }
     requires resting { IfSome keep.old.producer IsResting }
-    ensures step { Moves (λ machine reply next. Step machine order.now reply next)
-        (S.seen store.old).held keep.old.producer (S.seen store.new).held keep.new.producer result }
+    ensures step { MovesKept (λ machine reply next. Step machine order.now reply next)
+        (S.seen store.old).held keep.old (S.seen store.new).held keep.new result }
     ensures resting { IfSome keep.new.producer IsResting }
     ensures store_fault { IsErrOf result OrderStop.Store → Rose (S.seen store.old).faults (S.seen store.new).faults }
     ensures later { (S.seen store.old).faults ≤ (S.seen store.new).faults }
@@ -53,6 +55,11 @@ fn answer<S: BlobStore>(
         Order::Cycle { version, tag, add } => {
             cycle(alloc, store, &mut keep.producer, *version, *tag, add)
         }
+        Order::Load(version) => load(store, &mut keep.consumer, *version),
+        Order::Step { from, to } => step(store, &mut keep.consumer, *from, *to),
+        Order::Live(type_name) => live(alloc, &keep.consumer, type_name),
+        Order::Row { type_name, ordinal } => row(alloc, &keep.consumer, type_name, *ordinal),
+        Order::Past(type_name) => past(alloc, &keep.consumer, type_name),
         _ => Ok(Reply::Refused(Refusal::NotYet)),
     }
 }

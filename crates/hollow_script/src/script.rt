@@ -7,6 +7,7 @@ ghost use Rattle.hol_io.specs.Store.{Store};
 ghost use Rattle.hol_io.specs.Turn.{HasLimits};
 ghost use Rattle.hol_orders.specs.Reply.{line_of};
 ghost use Rattle.hollow_machine.specs.Kept.{IsResting};
+ghost use Rattle.hollow_script.specs.Kept.{KeepsNothing};
 ghost use Rattle.hollow_script.specs.Scripted.{AllAnswered, AllWritten, AnswersNext, Gains, HasGiven, IsAnswered, MayPut, PutsAnswer, ServesNext, TakesPast, longest_input};
 
 use crate::keep::Keep;
@@ -32,9 +33,9 @@ pub fn run_script<I: Source, O: Sink, S: BlobStore>(
     store: &mut S,
     keep: &mut Keep,
 ) -> Result<bool, ScriptStop>
-    requires { keep.old.producer ≡ None }
+    requires { KeepsNothing keep.old }
     ensures written { IfSome (I.left input.old) (λ bytes. IfSome (S.seen store.old).held (λ first. IfOk result
-        (AllWritten bytes first (S.seen store.new).held keep.new.producer (O.taken out.old) (O.taken out.new)))) }
+        (AllWritten bytes first (S.seen store.new).held keep.new (O.taken out.old) (O.taken out.new)))) }
     ensures ended { IfOk result (λ refused. IsAtEnd (I.left input.new)) }
     ensures source_fault { IsErrOf result ScriptStop.Source → Rose (I.faults input.old) (I.faults input.new) }
     ensures sink_fault { IsErrOf result ScriptStop.Sink → Rose (O.faults out.old) (O.faults out.new) }
@@ -64,10 +65,10 @@ fn answer_lines<I: Source, O: Sink, S: BlobStore>(
     keep: &mut Keep,
     waiting: &mut Vec<u8>,
 ) -> Result<bool, ScriptStop>
-    requires fresh { keep.old.producer ≡ None }
+    requires fresh { KeepsNothing keep.old }
     requires none_waits { waiting.old.items ≡ [] }
     ensures answered { IfSome (I.left input.old) (λ bytes. IfSome (S.seen store.old).held (λ first. IfOk result
-        (AllAnswered bytes first (S.seen store.new).held keep.new.producer (O.taken out.old) (O.taken out.new) waiting.new.items))) }
+        (AllAnswered bytes first (S.seen store.new).held keep.new (O.taken out.old) (O.taken out.new) waiting.new.items))) }
     ensures ended { IfOk result (λ refused. IsAtEnd (I.left input.new)) }
     ensures source_fault { IsErrOf result ScriptStop.Source → Rose (I.faults input.old) (I.faults input.new) }
     ensures sink_fault { IsErrOf result ScriptStop.Sink → Rose (O.faults out.old) (O.faults out.new) }
@@ -100,8 +101,8 @@ fn serve_next<I: Source, O: Sink, S: BlobStore>(
 ) -> Result<Option<bool>, ScriptStop>
     requires resting { IfSome keep.old.producer IsResting }
     ensures served { (bytes : List ℕ) (first : Store) (before : Option (List ℕ)) (refused : Bool)
-        → IsAnswered bytes first (I.left input.old) (S.seen store.old).held lines.old keep.old.producer before (O.taken out.old) waiting.old.items refused
-        → ServesNext bytes first (I.left input.new) (S.seen store.new).held lines.new keep.new.producer before (O.taken out.new) waiting.new.items refused result }
+        → IsAnswered bytes first (I.left input.old) (S.seen store.old).held lines.old keep.old before (O.taken out.old) waiting.old.items refused
+        → ServesNext bytes first (I.left input.new) (S.seen store.new).held lines.new keep.new before (O.taken out.new) waiting.new.items refused result }
     ensures resting { IfSome keep.new.producer IsResting }
     ensures takes { Takes (I.left input.old) (I.left input.new) lines.old.taken lines.new.taken }
     ensures limits { HasLimits lines.old lines.new }
@@ -117,8 +118,9 @@ fn serve_next<I: Source, O: Sink, S: BlobStore>(
     let Some(reply) = next_reply(alloc, lines, input, store, keep)? else {
         return Ok(None);
     };
-    put_answer(alloc, &reply, waiting, out)?;
-    Ok(Some(reply.is_refusal()))
+    let refused = reply.is_refusal();
+    put_answer(alloc, reply, waiting, out)?;
+    Ok(Some(refused))
 }
 
 // Answers the next line of the input, if there is one.
@@ -132,7 +134,7 @@ fn next_reply<I: Source, S: BlobStore>(
     requires resting { IfSome keep.old.producer IsResting }
     ensures answers { (bytes : List ℕ) (given : List (List ℕ)) (now : Store) → HasGiven bytes (I.left input.old) lines.old given
         → (S.seen store.old).held ≡ Some now
-        → AnswersNext bytes given now (I.left input.new) lines.new keep.old.producer (S.seen store.new).held keep.new.producer result }
+        → AnswersNext bytes given now (I.left input.new) lines.new keep.old (S.seen store.new).held keep.new result }
     ensures resting { IfSome keep.new.producer IsResting }
     ensures takes { Takes (I.left input.old) (I.left input.new) lines.old.taken lines.new.taken }
     ensures limits { HasLimits lines.old lines.new }
@@ -155,18 +157,19 @@ fn next_reply<I: Source, S: BlobStore>(
 // Puts an answer behind those that wait, and writes all of them once they are many, or the answer is that of a put.
 fn put_answer<O: Sink>(
     alloc: Global,
-    reply: &Reply,
+    reply: Reply,
     waiting: &mut Vec<u8>,
     out: &mut O,
 ) -> Result<(), ScriptStop>
-    ensures put { IfOk result (λ done. PutsAnswer (line_of reply.now) (O.taken out.old) (O.taken out.new) waiting.old.items waiting.new.items) }
-    ensures at_once { IfOk result (λ done. MayPut reply.now → waiting.new.items ≡ []) }
+    ensures put { IfOk result (λ done. PutsAnswer (line_of reply) (O.taken out.old) (O.taken out.new) waiting.old.items waiting.new.items) }
+    ensures at_once { IfOk result (λ done. MayPut reply → waiting.new.items ≡ []) }
     ensures sink_fault { IsErrOf result ScriptStop.Sink → Rose (O.faults out.old) (O.faults out.new) }
     ensures later { O.faults out.old ≤ O.faults out.new }
     ensures others { IfErr result (λ stop. (stop ≡ ScriptStop.Memory) ⊎ (stop ≡ ScriptStop.Sink)) }
 {
+    let may_put = is_of_put(&reply);
     put_reply(alloc, waiting, reply)?;
-    if !is_due(reply, waiting.as_slice()) {
+    if !may_put && waiting.len() < BATCH {
         return Ok(());
     }
     write_all(out, waiting.as_slice())?;
@@ -174,9 +177,9 @@ fn put_answer<O: Sink>(
     Ok(())
 }
 
-// Whether the answers that wait are to be written: they are many, or the last one is that of a put.
-fn is_due(reply: &Reply, waiting: &[u8]) -> bool
+// Whether an answer is that of an order which may have put blobs.
+fn is_of_put(reply: &Reply) -> bool
     ensures { MayPut reply.now → result ≡ true }
 {
-    waiting.len() >= BATCH || matches!(reply, Reply::Cycle { .. })
+    matches!(reply, Reply::Cycle { .. })
 }

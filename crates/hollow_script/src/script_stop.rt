@@ -1,6 +1,6 @@
 //! Why a script ends before its input does.
 use hol_io::{LineFault, WriteFailed};
-use producer_orders::OrderStop;
+use hol_orders::OrderStop;
 use std::alloc::AllocError;
 
 /// Why a script ends before all lines of its input are answered.

@@ -8,9 +8,9 @@ pub loop-turn-init : goal.loop-turn-init
 loop-turn-init g c =
     let at_start = reader_starts _ _ _ c.in_ok-lines.ensures.starts in
     record {
-      answered = starts_answered (g.I.Source.left c.args.input.now) (g.S.BlobStore.seen c.args.store.now).held _ c.args.keep.now.producer (g.O.Sink.taken c.args.out.now) c.args.waiting.now.items c.requires.fresh c.requires.none_waits
+      answered = starts_answered (g.I.Source.left c.args.input.now) (g.S.BlobStore.seen c.args.store.now).held _ c.args.keep.now (g.O.Sink.taken c.args.out.now) c.args.waiting.now.items c.requires.fresh c.requires.none_waits
           c.in_ok-lines.ensures.ahead at_start.0;
-      resting = subst (λ kept. IfSome kept IsResting) (sym c.requires.fresh) tt;
+      resting = subst (λ kept. IfSome kept IsResting) (sym c.requires.fresh.producer) tt;
       later = omega arith;
       source_later = omega arith;
       store_later = omega arith;
@@ -31,7 +31,7 @@ returns-in_err-also-clause-past g c = λ too.
 pub loop-turn-preserved : goal.loop-turn-preserved
 loop-turn-preserved g c = record {
   answered = told_next (g.I.Source.left c.loop-turn.input) (g.I.Source.left c.serve_next.new.input) (g.S.BlobStore.seen c.loop-turn.store).held (g.S.BlobStore.seen c.serve_next.new.store).held
-      c.loop-turn.lines c.serve_next.new.lines c.loop-turn.keep.producer c.serve_next.new.keep.producer (g.O.Sink.taken c.args.out.now) (g.O.Sink.taken c.loop-turn.out) (g.O.Sink.taken c.serve_next.new.out)
+      c.loop-turn.lines c.serve_next.new.lines c.loop-turn.keep c.serve_next.new.keep (g.O.Sink.taken c.args.out.now) (g.O.Sink.taken c.loop-turn.out) (g.O.Sink.taken c.serve_next.new.out)
       c.loop-turn.waiting.items c.serve_next.new.waiting.items c.loop-turn.refused c.in-Some.also _ c.in_ok-also.field-0
       (g.I.Source.left c.args.input.now) (g.S.BlobStore.seen c.args.store.now).held c.in-Some.is (search rules) c.loop-turn.invariant.answered c.in_ok-also.ensures.served;
   resting = c.in_ok-also.ensures.resting;

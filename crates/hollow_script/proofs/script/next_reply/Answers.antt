@@ -11,7 +11,7 @@ returns-in_ok-answer_line-in-Line-clause-answers g c = λ bytes given now has to
     let found = line_given bytes given c.args.lines.now c.next.new.self left next c.line.result.now c.in_ok-next.field-0 c.in-Line.is has limits c.in_ok-next.ensures.tells c.line.ensures (still_most bytes given c.args.lines.now c.next.new.self left has limits) in (
       c.line.result.now,
       found.0,
-      line_answered (g.S.BlobStore.seen c.args.store.now).held (g.S.BlobStore.seen c.answer_line.new.store).held c.args.keep.now.producer c.answer_line.new.keep.producer now c.line.result.now _ found.1 told c.in_ok-answer_line-in-Line.ensures.step,
+      line_answered (g.S.BlobStore.seen c.args.store.now).held (g.S.BlobStore.seen c.answer_line.new.store).held c.args.keep.now c.answer_line.new.keep now c.line.result.now _ found.1 told c.in_ok-answer_line-in-Line.ensures.step,
     ))
 
 pub returns-in-Long-clause-answers : goal.returns-in-Long-clause-answers

@@ -5,7 +5,7 @@ use Rattle.hollow_script.proofs.script.run_script.Goals as goal
 pub returns-in-Ok-clause-written : goal.returns-in-Ok-clause-written
 returns-in-Ok-clause-written g c =
     let held = (g.S.BlobStore.seen c.answer_lines.new.store).held in
-    let kept = c.answer_lines.new.keep.producer in
+    let kept = c.answer_lines.new.keep in
     let before = g.O.Sink.taken c.args.out.now in
     let mid = g.O.Sink.taken c.answer_lines.new.out in
     let after = g.O.Sink.taken c.write_all.new.out in
