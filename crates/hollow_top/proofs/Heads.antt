@@ -8,51 +8,13 @@ use Rattle.schema_model.specs.Limit.{number_of_limit}
 use Rattle.blob_frame.specs.declared.fault.BlobFault.{BlobFault}
 use Rattle.blob_frame.specs.declared.fault.BlobFault.TheVariants as fault
 use Rattle.blob_frame.specs.declared.header.Header.{Header}
+use Rattle.blob_frame.specs.Opened.{TellsHeader}
 use Rattle.blob_frame.specs.Scene.{Place, IsFree}
 use Rattle.blob_frame.specs.Starting.{Starts}
 use Rattle.hol_orders.specs.declared.refusal.Refusal.{Refusal}
 use Rattle.hol_orders.specs.declared.refusal.Refusal.TheVariants.{NoBlob, BadBlob, TooLarge}
-use Rattle.hollow_top.specs.Head.{HeadRefusal, TellsHeader, refusal_of}
-
-free_tells : (name : BlobName) (content : Option (List ℕ)) (found : BlobFault) → IsFree found → TellsHeader name content (Err found)
-free_tells name content fault.Store free = tt
-free_tells name content fault.Memory free = tt
-free_tells name content _ free = absurd free
-
--- what a fault at the start says of the content
-unstarted : (name : BlobName) (content : Option (List ℕ)) (found : BlobFault) → Starts name content (Err found) → TellsHeader name content (Err found)
-unstarted name None found starts =
-    elim (starts.absent refl) [
-      | inl is ↦ (let same : found ≡ fault.NoBlob name = cc in subst (λ f. TellsHeader name None (Err f)) (sym same) (refl, refl))
-      | inr free ↦ free_tells name None found free
-    ]
-unstarted name (Some blob) found starts =
-    elim (cases_lt (number_of_limit limit.Blob) (length blob)) [
-      | inl large ↦ elim (starts.large blob refl large) [
-        | inl is ↦ (let same : found ≡ fault.Large limit.Blob = cc in
-            subst (λ f. TellsHeader name (Some blob) (Err f)) (sym same) (blob, refl, large, refl))
-        | inr free ↦ free_tells name (Some blob) found free
-      ]
-      | inr fits ↦ elim (starts.found blob refl fits) [
-        | inl made ↦ (let is = made.1 in absurd cc)
-        | inr free ↦ free_tells name (Some blob) found free
-      ]
-    ]
-
-pub tells_start : (held : Option Store) (name : BlobName) (found : BlobFault) (answer : Result (Header × Place) BlobFault) → answer ≡ Err found →
-    OnSome held (Starts name (told held name) (Err found)) → IfSome held (λ store. TellsHeader name (told held name) answer)
-tells_start None name found answer is starts = tt
-tells_start (Some store) name found answer is starts =
-    subst (λ (a : Result (Header × Place) BlobFault). TellsHeader name (told (Some store) name) a) (sym is) (unstarted name (told (Some store) name) found starts)
-
--- a cursor that was made stands in a blob that is not too large
-fitting : (name : BlobName) (content : Option (List ℕ)) (place : Place) → Starts name content (Ok place) → (blob : List ℕ) × (content ≡ Some blob) × (length blob ≤ number_of_limit limit.Blob)
-fitting name None place starts = elim (starts.absent refl) [ inl is ↦ absurd cc | inr free ↦ absurd free ]
-fitting name (Some blob) place starts =
-    elim (cases_lt (number_of_limit limit.Blob) (length blob)) [
-      | inl large ↦ elim (starts.large blob refl large) [ inl is ↦ absurd cc | inr free ↦ absurd free ]
-      | inr fits ↦ (blob, refl, fits)
-    ]
+use Rattle.hollow_machine.specs.Blobs.{HeadRefusal}
+use Rattle.hollow_top.specs.Head.{refusal_of}
 
 -- the refusal for a fault of the header is that of the content
 pub refused : (name : BlobName) (content : Option (List ℕ)) (found : BlobFault) (refusal : Refusal) → TellsHeader name content (Err found) → Ok refusal ≡ refusal_of name found →

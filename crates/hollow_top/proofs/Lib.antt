@@ -11,3 +11,4 @@ mod Verdicts
 mod Serving
 mod OneAnswer
 mod SomeAnswer
+mod TrueScripts

@@ -18,6 +18,7 @@ use Rattle.type_state.specs.Views.{table_of}
 use Rattle.blob_frame.specs.declared.header.Header.{Header}
 use Rattle.blob_grammar.specs.Decided.{IsDecided}
 use Rattle.blob_frame.specs.Header.{header, HeaderIs}
+use Rattle.blob_frame.specs.Opened.{HasHeader}
 use Rattle.snapshot_blob.specs.declared.part.TypePart.{TypePart}
 use Rattle.snapshot_blob.specs.Snapshot.{SnapshotIs, IsAccepted}
 use Rattle.json_rows.specs.StoredRow.{IsRowData}
@@ -25,16 +26,17 @@ use Rattle.hol_orders.specs.declared.reply.Reply.{Reply}
 use Rattle.hol_orders.specs.declared.reply.Reply.TheVariants.{Head, Refused}
 use Rattle.hol_orders.specs.declared.refusal.Refusal.{Refusal}
 use Rattle.hol_orders.specs.declared.refusal.Refusal.TheVariants.{NoBlob, BadBlob, TooLarge, NotYet, BadBody}
+use Rattle.hollow_machine.specs.Blobs.{HasBadBody, HeadRefusal, SnapshotRefusal}
 use Rattle.hollow_machine.specs.State.{Machine}
 use Rattle.hollow_top.specs.declared.words.Command.{Command}
 use Rattle.hollow_top.specs.declared.words.Command.TheVariants as command
 use Rattle.hollow_top.specs.Command.{IsLineOf, Writes}
-use Rattle.hollow_top.specs.Head.{HasHeader, HeadIs, HeadRefusal}
+use Rattle.hollow_top.specs.Head.{HeadIs}
 use Rattle.hol_orders.specs.Refusal.{refusal_line}
 use Rattle.hol_orders.specs.Reply.{is_refusal, line_of}
 use Rattle.json_rows.specs.RowLine.{row_data}
 use Rattle.hollow_top.specs.RowLines.{Listed, IsRowLine, AreLinesOf, rows_in_order}
-use Rattle.hollow_top.specs.Show.{HasBadBody, ShowsRows, ShowRefusal, ShowsContent}
+use Rattle.hollow_top.specs.Show.{ShowsRows, ShowsContent}
 use Rattle.hollow_top.specs.Words.{Asks, TellsCommand}
 
 -- a row prints as one value at most
@@ -153,14 +155,14 @@ snapshot_head begins content text (blob, head, schemas, halves, there, accepted,
     (head, (blob, n, there, short, stands))
 
 -- a refusal of `show` is one of the header, or that of a bad body
-shown_refusals : (name : BlobName) (content : Option (List ℕ)) (refusal : Refusal) → ShowRefusal name content refusal →
+shown_refusals : (name : BlobName) (content : Option (List ℕ)) (refusal : Refusal) → SnapshotRefusal name content refusal →
     HeadRefusal name content refusal ⊎ ((refusal ≡ BadBody name) × HasBadBody content)
 shown_refusals name content (BadBody other) is = inr (ap BadBody is.0, is.1)
 shown_refusals name content _ is = inl is
 
 module _ (decided : IsDecided header.Stands header.Stuck) (prints : PrintsOnce) (snapshots : IsOneSnapshot) (begins : BeginsWithHeader) (name : BlobName) (content : Option (List ℕ)) where
   -- what is shown is no refusal
-  not_refused : (text : List ℕ) (refusal : Refusal) → ShowsRows content text → ShowRefusal name content refusal → ⊥
+  not_refused : (text : List ℕ) (refusal : Refusal) → ShowsRows content text → SnapshotRefusal name content refusal → ⊥
   not_refused text refusal shows refuses =
       elim (shown_refusals name content refusal refuses) [
         | inl head ↦ (let h = snapshot_head begins content text shows in header_apart decided name content h.0 refusal h.1 head)
@@ -168,7 +170,7 @@ module _ (decided : IsDecided header.Stands header.Stuck) (prints : PrintsOnce) 
             let (header, blob, has, there, never) = body.1 in never shows.1 shows.2 shows.3 (subst (λ b. IsAccepted b shows.1 shows.2 shows.3) (same_blob content shows.0 blob shows.4 there) shows.5))
       ]
 
-  one_refusal : (one other : Refusal) → ShowRefusal name content one → ShowRefusal name content other → one ≡ other
+  one_refusal : (one other : Refusal) → SnapshotRefusal name content one → SnapshotRefusal name content other → one ≡ other
   one_refusal one other a b =
       elim (shown_refusals name content one a) [
         | inl p ↦ elim (shown_refusals name content other b) [

@@ -7,10 +7,11 @@ use Rattle.hol_io.specs.Store.{Store}
 use Rattle.hol_orders.specs.declared.refusal.Refusal.TheVariants.{NotYet}
 use Rattle.hol_orders.specs.declared.reply.Reply.{Reply}
 use Rattle.hol_orders.specs.declared.reply.Reply.TheVariants.{Refused}
-use Rattle.write_engine.specs.Production.{Production}
 use Rattle.hollow_machine.specs.Kept.{machine_of}
 use Rattle.hollow_machine.specs.State.{started}
+use Rattle.hollow_script.specs.Kept.{KeepsNothing, machine_with}
 use Rattle.hollow_script.specs.Scripted.{AllWritten}
+use Rattle.hollow_script.specs.declared.keep.Keep.{Keep}
 use Rattle.hollow_top.specs.declared.stop.Stop.{Stop}
 use Rattle.hollow_top.specs.declared.stop.Stop.TheVariants.{Memory, Sink, Store as StoreFailed}
 use Rattle.hollow_top.specs.declared.words.Command.{Command}
@@ -69,12 +70,12 @@ cast_status status true is = is
 cast_status status false is = is
 
 -- the words that ask for a command finish as it serves
-pub finishes : (words : List (List ℕ)) (input : Option (List ℕ)) (held after_held : Option Store) (kept : Option Production) (command : Command) (before after : Option (List ℕ)) (refused : Bool) (status : ℕ) →
-    kept ≡ None → Asks words command → status ≡ status_of refused → ServesHeld input held after_held command before after (Ok refused) →
+pub finishes : (words : List (List ℕ)) (input : Option (List ℕ)) (held after_held : Option Store) (kept : Keep) (command : Command) (before after : Option (List ℕ)) (refused : Bool) (status : ℕ) →
+    KeepsNothing kept → Asks words command → status ≡ status_of refused → ServesHeld input held after_held command before after (Ok refused) →
     IfSome held (λ store. Finishes words input store after_held kept before after status)
 finishes words input None after_held kept command before after refused status none asked is served = tt
 finishes words input (Some store) after_held kept command before after refused status none asked is (text, next, writes, same, gained) =
-    (text, refused, next, (command, asked, subst (λ machine. Writes input store command text refused machine) (sym (ap (machine_of next) none)) writes), same, gained, is)
+    (text, refused, next, (command, asked, subst (λ machine. Writes input store command text refused machine) (λ i. machine_of next (sym none.producer i) (sym none.consumer i)) writes), same, gained, is)
 
 pub part_written : (words : List (List ℕ)) (input : Option (List ℕ)) (held after_held : Option Store) (command : Command) (before after : Option (List ℕ)) (stop : Stop) → stop ≡ Sink →
     Asks words command → ServesHeld input held after_held command before after (Err stop) →
@@ -99,10 +100,10 @@ pub asks_no_script : (words : List (List ℕ)) (command : Command) → ((other :
 asks_no_script words command one apart asked = apart (sym (one Run asked))
 
 -- What a script leaves where it ends: with this status, all that it writes.
-abbrev pub EndsScript : List ℕ → Store → Option Store → Option Production → Option (List ℕ) → Option (List ℕ) → ℕ → Type 0
+abbrev pub EndsScript : List ℕ → Store → Option Store → Keep → Option (List ℕ) → Option (List ℕ) → ℕ → Type 0
 EndsScript bytes first held kept before after status = (refused : Bool) × AllWritten bytes first held kept before after refused × (status ≡ status_of refused)
 
-pub ends_script : (input : Option (List ℕ)) (held after_held : Option Store) (kept : Option Production) (before after : Option (List ℕ)) (refused : Bool) (status : ℕ) → status ≡ status_of refused →
+pub ends_script : (input : Option (List ℕ)) (held after_held : Option Store) (kept : Keep) (before after : Option (List ℕ)) (refused : Bool) (status : ℕ) → status ≡ status_of refused →
     IfSome input (λ bytes. IfSome held (λ first. AllWritten bytes first after_held kept before after refused)) →
     IfSome input (λ bytes. IfSome held (λ first. EndsScript bytes first after_held kept before after status))
 ends_script None held after_held kept before after refused status is written = tt
@@ -110,7 +111,7 @@ ends_script (Some bytes) None after_held kept before after refused status is wri
 ends_script (Some bytes) (Some first) after_held kept before after refused status is written = (refused, written, is)
 
 -- words that ask for a script finish as it ends
-pub script_finishes : (words : List (List ℕ)) (input : Option (List ℕ)) (held after_held : Option Store) (kept : Option Production) (before after : Option (List ℕ)) (status : ℕ) → AskScript words → IsSome input →
+pub script_finishes : (words : List (List ℕ)) (input : Option (List ℕ)) (held after_held : Option Store) (kept : Keep) (before after : Option (List ℕ)) (status : ℕ) → AskScript words → IsSome input →
     IfSome input (λ bytes. IfSome held (λ first. EndsScript bytes first after_held kept before after status)) →
     IfSome held (λ first. Finishes words input first after_held kept before after status)
 script_finishes words None held after_held kept before after status asked some ends = absurd cc

@@ -9,6 +9,7 @@ use Rattle.blob_frame.specs.declared.fault.BlobFault.{BlobFault}
 use Rattle.blob_frame.specs.declared.fault.BlobFault.TheVariants as fault
 use Rattle.blob_frame.specs.declared.header.Header.{Header}
 use Rattle.blob_frame.specs.Header.{HeaderIs}
+use Rattle.blob_frame.specs.Opened.{TellsHeader}
 use Rattle.blob_frame.specs.Scene.{Place, IsFree}
 use Rattle.schema_model.specs.declared.limit.Limit.TheVariants as limit
 use Rattle.schema_model.specs.declared.schema.Schema.{Schema}
@@ -25,10 +26,11 @@ use Rattle.hol_orders.specs.declared.reply.Reply.TheVariants.{Refused}
 use Rattle.hollow_top.specs.declared.stop.Stop.{Stop}
 use Rattle.hollow_top.specs.declared.stop.Stop.TheVariants.{Memory, Sink, Store as StoreFailed}
 use Rattle.hollow_top.specs.Command.{IsLineOf}
-use Rattle.hollow_top.specs.Head.{HeadRefusal, TellsHeader, refusal_of}
+use Rattle.hollow_machine.specs.Blobs.{HeadRefusal, SnapshotRefusal}
+use Rattle.hollow_top.specs.Head.{refusal_of}
 use Rattle.hol_orders.specs.Reply.{is_refusal, line_of}
 use Rattle.hollow_top.specs.RowLines.{AreLinesOf, Listed, LeavesLines, rows_in_order}
-use Rattle.hollow_top.specs.Show.{ShowRefusal, ShowsContent, ShowsRows, Shows, body_refusal_of}
+use Rattle.hollow_top.specs.Show.{ShowsContent, ShowsRows, Shows, body_refusal_of}
 use Rattle.hollow_top.specs.Stopping.{GainsFront, Leaves}
 use Rattle.hollow_top.proofs.Heads.{refused}
 use Rattle.hollow_top.proofs.Writes.{failed, failure}
@@ -65,11 +67,11 @@ is_read (Some store) mid name opened answer same named (blob, there, short, stan
 
 -- a fault of the body of a blob that has a header is the refusal of it
 body_refuses : RefusesBody → (name : BlobName) (content : Option (List ℕ)) (opened : Header × Place) (refusal : Refusal) (found : BlobFault) →
-    IsRead content opened (Err found) → Ok refusal ≡ body_refusal_of name found → ShowRefusal name content refusal
+    IsRead content opened (Err found) → Ok refusal ≡ body_refusal_of name found → SnapshotRefusal name content refusal
 body_refuses law name content opened refusal found (blob, there, short, stands, tells) is =
     elim (law blob opened.0 opened.1.at found stands tells) [
       | inl free ↦ absurd (not_free found free is)
-      | inr never ↦ subst (ShowRefusal name content) (sym (bad_body found tells is)) (refl, (opened.0, blob, (blob, opened.1.at, there, short, stands), there, never))
+      | inr never ↦ subst (SnapshotRefusal name content) (sym (bad_body found tells is)) (refl, (opened.0, blob, (blob, opened.1.at, there, short, stands), there, never))
     ]
   where
     not_free : (f : BlobFault) → IsFree f → Ok refusal ≡ body_refusal_of name f → ⊥
@@ -82,14 +84,14 @@ body_refuses law name content opened refusal found (blob, there, short, stands, 
     bad_body fault.Memory tells e = absurd cc
     bad_body _ tells e = cc
 
-refusal_shown : (name : BlobName) (content : Option (List ℕ)) (refusal : Refusal) → ShowRefusal name content refusal → (text : List ℕ) (refused : Bool) →
+refusal_shown : (name : BlobName) (content : Option (List ℕ)) (refusal : Refusal) → SnapshotRefusal name content refusal → (text : List ℕ) (refused : Bool) →
     IsLineOf (λ answer. answer ≡ Refused refusal) text refused → ShowsContent name content text refused
 refusal_shown name content refusal refuses text refused (answer, same, text_is, verdict) =
     let told_so : refused ≡ true = verdict ∙ ap is_refusal same in
     subst (ShowsContent name content text) (sym told_so) (refusal, refuses, text_is ∙ ap line_of same)
 
 -- a refusal of the header is one of `show`
-pub head_shown : (name : BlobName) (content : Option (List ℕ)) (refusal : Refusal) → HeadRefusal name content refusal → ShowRefusal name content refusal
+pub head_shown : (name : BlobName) (content : Option (List ℕ)) (refusal : Refusal) → HeadRefusal name content refusal → SnapshotRefusal name content refusal
 head_shown name content (BadBody other) is = absurd is
 head_shown name content _ is = is
 

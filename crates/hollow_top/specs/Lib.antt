@@ -1,5 +1,6 @@
 pub mod Command
 pub mod Head
+pub mod Headline
 pub mod HeldLines
 pub mod RowLines
 pub mod Run

@@ -2,10 +2,10 @@
 use Rattle.std.specs.Prelude.{◌≡◌, ℕ, List, Option, Some, Bool, if◌then◌else◌, Result, Ok, Err}
 use Rattle.std.specs.Io.KnownBytes.{Appends}
 use Rattle.hol_io.specs.Store.{Store}
-use Rattle.write_engine.specs.Production.{Production}
-use Rattle.hollow_machine.specs.Kept.{machine_of}
 use Rattle.hollow_machine.specs.State.{Machine}
+use Rattle.hollow_script.specs.Kept.{machine_with}
 use Rattle.hollow_script.specs.Scripted.{TakesPast}
+use Rattle.hollow_script.specs.declared.keep.Keep.{Keep}
 use Rattle.hollow_script.specs.declared.script_stop.ScriptStop.{ScriptStop}
 use Rattle.hollow_script.specs.declared.script_stop.ScriptStop.TheVariants.{Memory, Source, Sink, Store as StoreFailed, TooLong}
 use Rattle.hollow_top.specs.declared.words.Command.{Command}
@@ -53,10 +53,10 @@ script_status (Err Memory) = 6
 script_status (Err TooLong) = 7
 
 -- The sink gained the whole text that the words write, the status is that of its verdict, and the store that is held and the
--- producer that is kept are those of the machine that they leave.
-abbrev pub Finishes : List (List ℕ) → Option (List ℕ) → Store → Option Store → Option Production → Option (List ℕ) → Option (List ℕ) → ℕ → Type 0
+-- producer and the consumer that are kept are those of the machine that they leave.
+abbrev pub Finishes : List (List ℕ) → Option (List ℕ) → Store → Option Store → Keep → Option (List ℕ) → Option (List ℕ) → ℕ → Type 0
 Finishes words input store held kept before after status =
-    (text : List ℕ) × (refused : Bool) × (next : Store) × WordsWrite words input store text refused (machine_of next kept)
+    (text : List ℕ) × (refused : Bool) × (next : Store) × WordsWrite words input store text refused (machine_with next kept)
     × (held ≡ Some next) × Appends before after text × (status ≡ status_of refused)
 
 -- The sink gained a part of the text that the words write, from its front on, and not all of it.

@@ -9,12 +9,12 @@ use Rattle.type_state.specs.Views.{table_of}
 use Rattle.blob_frame.specs.declared.fault.BlobFault.{BlobFault}
 use Rattle.blob_frame.specs.declared.fault.BlobFault.TheVariants as fault
 use Rattle.blob_frame.specs.declared.header.Header.{Header}
-use Rattle.snapshot_blob.specs.Snapshot.{IsAccepted, IsRefused}
+use Rattle.snapshot_blob.specs.Snapshot.{IsAccepted}
 use Rattle.hol_orders.specs.declared.refusal.Refusal.{Refusal}
 use Rattle.hol_orders.specs.declared.refusal.Refusal.TheVariants.{BadBody}
+use Rattle.hollow_machine.specs.Blobs.{SnapshotRefusal}
 use Rattle.hollow_top.specs.declared.stop.Stop.{Stop}
 use Rattle.hollow_top.specs.declared.stop.Stop.TheVariants as stop
-use Rattle.hollow_top.specs.Head.{HasHeader, HeadRefusal}
 use Rattle.hol_orders.specs.Refusal.{refusal_line}
 use Rattle.hollow_top.specs.RowLines.{AreRowLines}
 
@@ -24,20 +24,10 @@ ShowsRows content text =
     (blob : List ℕ) × (head : Header) × (schemas : List Schema) × (halves : List Half)
     × (content ≡ Some blob) × IsAccepted blob head schemas halves × AreRowLines schemas (table_of halves) text
 
--- What a name holds has a header, and is no snapshot within the limits.
-abbrev pub HasBadBody : Option (List ℕ) → Type 0
-HasBadBody content = (header : Header) × (blob : List ℕ) × HasHeader content header × (content ≡ Some blob) × IsRefused blob
-
--- Why what a name holds is not shown: the first cause that there is no header, or else that it is no snapshot within the
--- limits.
-abbrev pub ShowRefusal : BlobName → Option (List ℕ) → Refusal → Type 0
-ShowRefusal name content (BadBody other) = (other ≡ name) × HasBadBody content
-ShowRefusal name content refusal = HeadRefusal name content refusal
-
 -- What `show` writes for what a name holds, and whether that is a refusal.
 abbrev pub ShowsContent : BlobName → Option (List ℕ) → List ℕ → Bool → Type 0
 ShowsContent name content text false = ShowsRows content text
-ShowsContent name content text true = (refusal : Refusal) × ShowRefusal name content refusal × (text ≡ refusal_line refusal)
+ShowsContent name content text true = (refusal : Refusal) × SnapshotRefusal name content refusal × (text ≡ refusal_line refusal)
 
 -- What `show` writes over a store for the snapshot of a version, and whether that is a refusal.
 abbrev pub Shows : Store → ℕ → List ℕ → Bool → Type 0

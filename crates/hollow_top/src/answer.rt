@@ -10,14 +10,15 @@ use hol_orders::{Reply, reply_line};
 use std::alloc::Global;
 
 /// Writes the line of an answer, and tells whether it is a refusal.
-pub fn write_reply<O: Sink>(alloc: Global, reply: &Reply, out: &mut O) -> Result<bool, Stop>
-    ensures written { Leaves (IsLineOf (λ answer. answer ≡ reply.now)) (O.taken out.old) (O.taken out.new) result }
+pub fn write_reply<O: Sink>(alloc: Global, reply: Reply, out: &mut O) -> Result<bool, Stop>
+    ensures written { Leaves (IsLineOf (λ answer. answer ≡ reply)) (O.taken out.old) (O.taken out.new) result }
     ensures verdict { Leaves IsVerdict (O.taken out.old) (O.taken out.new) result }
     ensures sink_fault { IsErrOf result Stop.Sink → Rose (O.faults out.old) (O.faults out.new) }
     ensures no_store { IsErrOf result Stop.Store → ⊥ }
     ensures silent { IsErrOf result Stop.Memory → out.new ≡ out.old }
 {
+    let refused = reply.is_refusal();
     let line = reply_line(alloc, reply)?;
     write_all(out, line.as_bytes())?;
-    Ok(reply.is_refusal())
+    Ok(refused)
 }

@@ -1,13 +1,10 @@
 //! `head`: the header of a blob.
-ghost use Rattle.std.specs.Prelude.{◌≡◌, ◌≤◌, Err, IfOk, IfErr, IfSome};
-ghost use Rattle.hol_io.specs.Causes.{Rose};
-ghost use Rattle.hol_io.specs.Store.{told};
-ghost use Rattle.blob_frame.specs.Scene.{IsAbove};
-ghost use Rattle.hollow_top.specs.Head.{HeadReply, TellsHeader, refusal_of};
+ghost use Rattle.std.specs.Prelude.{◌≡◌, ◌≤◌, IfOk, IfErr, IfSome};
+ghost use Rattle.hollow_top.specs.Head.{HeadReply, refusal_of};
 ghost use Rattle.hollow_top.specs.Stopping.{StopsBefore};
 
 use crate::stop::Stop;
-use blob_frame::{BlobFault, Cursor, Header};
+use blob_frame::{BlobFault, opened};
 use hol_io::{BlobName, BlobStore};
 use hol_orders::{Refusal, Reply};
 use std::alloc::Global;
@@ -26,26 +23,6 @@ pub fn head<S: BlobStore>(alloc: Global, store: &mut S, name: &BlobName) -> Resu
         Ok((header, _cursor)) => Ok(Reply::Head(header)),
         Err(fault) => Ok(Reply::Refused(refusal(name, fault)?)),
     }
-}
-
-/// The header of a blob, and a cursor that stands behind it.
-pub fn opened<S: BlobStore>(
-    alloc: Global,
-    store: &mut S,
-    name: &BlobName,
-) -> Result<(Header, Cursor), BlobFault>
-    ensures tells { IfSome (S.seen store.old).held
-        (λ held. TellsHeader name.now (told (S.seen store.old).held name.now) result) }
-    ensures over { IfOk result (λ opened. IsAbove S.seen store.new opened.1) }
-    ensures named { IfOk result (λ opened. opened.1.name ≡ name.now) }
-    ensures cause { result ≡ Err BlobFault.Store → Rose (S.seen store.old).faults (S.seen store.new).faults }
-    ensures kept { (S.seen store.new).held ≡ (S.seen store.old).held }
-    ensures later { (S.seen store.old).faults ≤ (S.seen store.new).faults }
-    ensures unput { (S.seen store.new).puts ≡ (S.seen store.old).puts }
-{
-    let mut cursor = Cursor::start(alloc, store, name)?;
-    let header = cursor.read_header(store)?;
-    Ok((header, cursor))
 }
 
 /// The refusal for a fault of the header of a name's blob. The faults of the last line are none of a header.

@@ -2,8 +2,13 @@
 ghost use Rattle.std.specs.Prelude.{◌≡◌, ◌≢◌, ◌<◌, ◌≤◌, ◌⊎◌, ◌↔◌, ℕ, List, Bool, Option, None, map, string_bytes, IfSome, IsSome, OnSome, IsErrOf};
 ghost use Rattle.std.specs.Io.KnownBytes.{IsAtEnd};
 ghost use Rattle.hol_io.specs.Causes.{Rose};
+ghost use Rattle.hollow_script.specs.Kept.{KeepsNothing};
 ghost use Rattle.hollow_script.specs.Scripted.{AllWritten, TakesPast};
+ghost use Rattle.written_laws.specs.Chain.{Chain};
+ghost use Rattle.written_laws.specs.HoldsChain.{HoldsChain};
+ghost use Rattle.chain_laws.specs.Producers.{HoldsBytes};
 ghost use Rattle.hollow_top.specs.Command.{IsUnbuilt, Serves};
+ghost use Rattle.hollow_top.specs.Headline.{AnswersTruly};
 ghost use Rattle.hollow_top.specs.Run.{AsksNothing, AskScript, AskToRead, AskUnbuilt, Finishes, RunsPast, WritesPart, status_of};
 ghost use Rattle.hollow_top.specs.Show.{Shows};
 ghost use Rattle.hollow_top.specs.Stopping.{GainsFront, GainsRefusal, IsVerdict, Leaves};
@@ -14,6 +19,7 @@ use crate::head::head;
 use crate::show::show;
 use crate::stop::Stop;
 use crate::words::{Command, command_of};
+use chain_laws::laws::true_script;
 use hol_io::{BlobStore, Sink, Source};
 use hol_orders::{Refusal, Reply};
 use hollow_script::{Keep, ScriptStop, run_script};
@@ -33,7 +39,7 @@ use std::alloc::Global;
 /// | 6 | memory was refused; of the rows that `show` writes the sink may have the front |
 /// | 7 | a byte past the first 2^32 bytes of the input came, which comes only for `run` |
 ///
-/// `run` answers each line of the input, and what it keeps is the producer behind the last of them. `head` and `show` read
+/// `run` answers each line of the input, and what it keeps are the producer and the consumer behind the last of them. `head` and `show` read
 /// the store alone, and put nothing. `make` is not built. The condition is that nothing is kept.
 pub fn run<I: Source, O: Sink, S: BlobStore>(
     alloc: Global,
@@ -43,7 +49,7 @@ pub fn run<I: Source, O: Sink, S: BlobStore>(
     store: &mut S,
     keep: &mut Keep,
 ) -> u8
-    requires { keep.old.producer ≡ None }
+    requires { KeepsNothing keep.old }
     ensures status { result ≤ 7 }
     ensures words { (result ≡ 2) ↔ AsksNothing (map string_bytes words.now) }
     ensures source_fault { result ≡ 3 → AskScript (map string_bytes words.now) × Rose (I.faults input.old) (I.faults input.new) }
@@ -66,10 +72,15 @@ pub fn run<I: Source, O: Sink, S: BlobStore>(
     // source too.
     ensures answered { result < 2 → (AskScript (map string_bytes words.now) → IsSome (I.left input.old))
         → IfSome (S.seen store.old).held (λ held. Finishes (map string_bytes words.now) (I.left input.old) held
-        (S.seen store.new).held keep.new.producer (O.taken out.old) (O.taken out.new) result) }
+        (S.seen store.new).held keep.new (O.taken out.old) (O.taken out.new) result) }
     ensures ended { result < 2 → AskScript (map string_bytes words.now) → IsAtEnd (I.left input.new) }
     ensures part { result ≡ 4 → ¬ AskScript (map string_bytes words.now) → IfSome (S.seen store.old).held
         (λ held. WritesPart (map string_bytes words.now) (I.left input.old) held (O.taken out.old) (O.taken out.new)) }
+
+    // The headline: over a store of bytes that held a chain, each line is answered as is true of the chain, and the consumer stands at a state of it.
+    ensures headline { result < 2 → AskScript (map string_bytes words.now) → IfSome (I.left input.old) (λ bytes. IfSome (S.seen store.old).held (λ first.
+        (chain : Chain) → HoldsChain first chain → HoldsBytes first
+        → AnswersTruly bytes first chain (S.seen store.new).held keep.new (O.taken out.old) (O.taken out.new))) }
 
     // What words for `head` and `show`, and words for nothing, leave as it was.
     ensures input { AskToRead (map string_bytes words.now) → input.new ≡ input.old }
@@ -109,10 +120,13 @@ fn serve_script<I: Source, O: Sink, S: BlobStore>(
     store: &mut S,
     keep: &mut Keep,
 ) -> u8
-    requires { keep.old.producer ≡ None }
+    requires { KeepsNothing keep.old }
     ensures ends { result < 2 → IfSome (I.left input.old) (λ bytes. IfSome (S.seen store.old).held (λ first. (refused : Bool)
-        × AllWritten bytes first (S.seen store.new).held keep.new.producer (O.taken out.old) (O.taken out.new) refused
+        × AllWritten bytes first (S.seen store.new).held keep.new (O.taken out.old) (O.taken out.new) refused
         × (result ≡ status_of refused))) }
+    ensures headline { result < 2 → IfSome (I.left input.old) (λ bytes. IfSome (S.seen store.old).held (λ first.
+        (chain : Chain) → HoldsChain first chain → HoldsBytes first
+        → AnswersTruly bytes first chain (S.seen store.new).held keep.new (O.taken out.old) (O.taken out.new))) }
     ensures ended { result < 2 → IsAtEnd (I.left input.new) }
     ensures status { (result ≤ 7) × (result ≢ 2) }
     ensures source_fault { result ≡ 3 → Rose (I.faults input.old) (I.faults input.new) }
@@ -120,6 +134,7 @@ fn serve_script<I: Source, O: Sink, S: BlobStore>(
     ensures store_fault { result ≡ 5 → Rose (S.seen store.old).faults (S.seen store.new).faults }
     ensures past { result ≡ 7 → TakesPast (I.left input.old) (I.left input.new) }
 {
+    true_script();
     match run_script(alloc, input, out, store, keep) {
         Ok(any_refused) => u8::from(any_refused),
         Err(ScriptStop::Source) => 3,
@@ -155,10 +170,10 @@ fn serve<O: Sink, S: BlobStore>(
     match command {
         Command::Head(blob) => {
             let reply = head(alloc, store, blob)?;
-            write_reply(alloc, &reply, out)
+            write_reply(alloc, reply, out)
         }
         Command::Show(version) => show(alloc, *version, out, store),
-        Command::Make { .. } => write_reply(alloc, &Reply::Refused(Refusal::NotYet), out),
+        Command::Make { .. } => write_reply(alloc, Reply::Refused(Refusal::NotYet), out),
         Command::Run => unreachable!(),
     }
 }

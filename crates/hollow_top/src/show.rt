@@ -5,10 +5,10 @@ ghost use Rattle.hollow_top.specs.Show.{Shows, body_refusal_of};
 ghost use Rattle.hollow_top.specs.Stopping.{GainsFront, IsVerdict, Leaves};
 
 use crate::answer::write_reply;
-use crate::head::{opened, refusal};
+use crate::head::refusal;
 use crate::row_lines::show_rows;
 use crate::stop::Stop;
-use blob_frame::BlobFault;
+use blob_frame::{BlobFault, opened};
 use hol_io::{BlobName, BlobStore, Sink};
 use hol_orders::{Refusal, Reply};
 use snapshot_blob::laws::header_and_body;
@@ -40,14 +40,14 @@ pub fn show<O: Sink, S: BlobStore>(
     header_and_body();
     let (_header, mut cursor) = match opened(alloc, store, &name) {
         Ok(opened) => opened,
-        Err(fault) => return write_reply(alloc, &Reply::Refused(refusal(&name, fault)?), out),
+        Err(fault) => return write_reply(alloc, Reply::Refused(refusal(&name, fault)?), out),
     };
     match read_body(alloc, &mut cursor, store) {
         Ok(body) => {
             show_rows(alloc, &body.rows(), out)?;
             Ok(false)
         }
-        Err(fault) => write_reply(alloc, &Reply::Refused(body_refusal(&name, fault)?), out),
+        Err(fault) => write_reply(alloc, Reply::Refused(body_refusal(&name, fault)?), out),
     }
 }
 

@@ -10,7 +10,7 @@ returns-in-Ok-clause-verdict g c = λ ended single.
 pub returns-in-Ok-clause-answered : goal.returns-in-Ok-clause-answered
 returns-in-Ok-clause-answered g c = λ ended enough.
     finishes (map string_bytes c.args.words.now) (g.I.Source.left c.args.input.now) (g.S.BlobStore.seen c.args.store.now).held (g.S.BlobStore.seen c.serve.new.store).held
-    c.args.keep.now.producer c.in-Some.command (g.O.Sink.taken c.args.out.now) (g.O.Sink.taken c.serve.new.out) c.in-Ok.refused c.from.result
+    c.args.keep.now c.in-Some.command (g.O.Sink.taken c.args.out.now) (g.O.Sink.taken c.serve.new.out) c.in-Ok.refused c.from.result
     c.requires c.in-Some.ensures.0 (cast_status c.from.result c.in-Ok.refused c.from.ensures) (c.in-Ok.ensures.served (g.I.Source.left c.args.input.now))
 
 pub returns-in-Err-Sink-clause-part : goal.returns-in-Err-Sink-clause-part
@@ -22,4 +22,4 @@ pub returns-in-Run-clause-answered : goal.returns-in-Run-clause-answered
 returns-in-Run-clause-answered g c = λ ended tells.
     (let asked = asks_script (map string_bytes c.args.words.now) c.in-Some.command c.in-Some.ensures.0 c.in-Run.is in
     script_finishes (map string_bytes c.args.words.now) (g.I.Source.left c.args.input.now) (g.S.BlobStore.seen c.args.store.now).held (g.S.BlobStore.seen c.serve_script.new.store).held
-    c.serve_script.new.keep.producer (g.O.Sink.taken c.args.out.now) (g.O.Sink.taken c.serve_script.new.out) c.serve_script.result asked (tells asked) (c.serve_script.ensures.ends ended))
+    c.serve_script.new.keep (g.O.Sink.taken c.args.out.now) (g.O.Sink.taken c.serve_script.new.out) c.serve_script.result asked (tells asked) (c.serve_script.ensures.ends ended))

@@ -1,0 +1,17 @@
+-- The headline: what the orders of an input come to over a store that held a chain.
+use Rattle.std.specs.Prelude.{◌≡◌, ℕ, List, Option, Some}
+use Rattle.std.specs.Io.KnownBytes.{Appends}
+use Rattle.hol_io.specs.Lines.{cut}
+use Rattle.hol_io.specs.Store.{Store}
+use Rattle.hollow_machine.specs.State.{started}
+use Rattle.hollow_script.specs.Kept.{machine_with}
+use Rattle.hollow_script.specs.declared.keep.Keep.{Keep}
+use Rattle.written_laws.specs.Chain.{Chain}
+use Rattle.chain_laws.specs.Headline.{AreTrueLines, StandsOn}
+
+-- The sink gained the answers to the lines of the input, each of which is true of the chain that the lines before it made; and the store that is
+-- held, with the producer and the consumer that are kept, stands on the last chain.
+abbrev pub AnswersTruly : List ℕ → Store → Chain → Option Store → Keep → Option (List ℕ) → Option (List ℕ) → Type 0
+AnswersTruly bytes first chain held kept before after =
+    (text : List ℕ) × (next : Store) × (last : Chain) × AreTrueLines chain (started first) (cut bytes) text (machine_with next kept) last
+    × StandsOn last (machine_with next kept) × (held ≡ Some next) × Appends before after text
