@@ -4,7 +4,7 @@ ghost use Rattle.schema_model.specs.Parts.{shape_key};
 ghost use Rattle.codec_cases.specs.Small.{IsSmall};
 
 use crate::two_states::NoRows;
-use delta_blob::write_delta;
+use delta_blob::{read_delta, write_delta};
 use hol_io::{BlobName, BlobStore, SureStore};
 use row_packing::type_limit;
 use schema_model::{MAX_ORDINALS, Rows, Shape};
@@ -88,5 +88,19 @@ fn written(rt: HostRuntime) -> Result<(), Fail> {
     let written = blobs_of(alloc, &rows).map_err(|_| "write")?;
     blob.extend_from_slice(decoded(alloc, DELTA)?.as_slice())?;
     assert_eq!(rt; written.as_slice(), blob.as_slice());
+    let delta = BlobName::Delta(1, 2);
+    store
+        .put(&delta, decoded(alloc, DELTA)?.as_slice())
+        .map_err(|_| "put")?;
+    let patch = read_delta(alloc, &mut store, &delta, 70, &loaded.model)?;
+    assert_eq!(rt; patch.destination, 71);
+    assert_eq!(rt; patch.parts.len(), 1);
+    assert!(rt;
+        patch
+            .parts
+            .as_slice()
+            .iter()
+            .all(|part| part.section.added.len() == 2)
+    );
     Ok(())
 }

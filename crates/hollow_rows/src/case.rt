@@ -8,6 +8,7 @@
 //! | `more PIECES` | and behind them those of these |
 //! | `fill N PIECE` | and behind them this piece so many times |
 //! | `input TEXT`, `last TEXT` | the input of the next run goes on with this line, or with this text |
+//! | `again N TEXT` | and it goes on with this text so many times |
 //! | `calls N..`, `piece N` | in the next run these calls of the source fail, or it gives so many bytes a call |
 //! | `reads N..`, `writes N..`, `room N` | in the next run these calls of the store or of the sink fail, or the sink takes so much |
 //! | `run STATUS WORDS` | the words of a command line end with this status |
@@ -82,6 +83,7 @@ impl Bench {
             b"fill" => self.fill(rest),
             b"input" => self.ask(rest, "\n"),
             b"last" => self.ask(rest, ""),
+            b"again" => self.ask_again(rest),
             b"run" => self.run(rest),
             b"out" => self.want(rest, "\n"),
             b"part" => self.want(rest, ""),
@@ -127,6 +129,15 @@ impl Bench {
     fn ask(&mut self, text: &str, end: &str) -> Result<bool, Fail> {
         self.input.extend_from_slice(text.as_bytes())?;
         self.input.extend_from_slice(end.as_bytes())?;
+        Ok(true)
+    }
+
+    // The input goes on with a text so many times.
+    fn ask_again(&mut self, rest: &str) -> Result<bool, Fail> {
+        let (count, text) = rest.split_once(' ').unwrap_or((rest, ""));
+        for _time in 0..count.parse::<u32>()? {
+            self.ask(text, "")?;
+        }
         Ok(true)
     }
 

@@ -316,6 +316,23 @@ out {"error":12,"name":"BadModel","rule":"BadPath","type":"A"}
 out {"error":12,"name":"BadModel","rule":"BadPath","type":"A"}
 out {"error":12,"name":"BadModel","rule":"TooDeep","type":"L0"}"#;
 
+/// A text that is too large for a type, and a line that is too long. The run goes on behind both.
+const LARGE: &str = r#"empty
+piece 65536
+input {"model":[{"fields":[{"name":"t","type":"STRING"}],"kind":"OBJECT","name":"A"}]}
+last {"cycle":{"version":1,"tag":1,"add":{"A":[{"t":"
+again 1048576 xxxxxxxxxxxxxxxxxxxxxxxxxxxxxxxx
+input x"}]}}}
+last {"cycle":{"version":1,"tag":1,"add":{"A":[{"t":"
+again 2097152 xxxxxxxxxxxxxxxxxxxxxxxxxxxxxxxx
+input "}]}}}
+input {"cycle":{"version":1,"tag":1,"add":{}}}
+go 1 run
+out {"ok":"model","types":1}
+out {"error":28,"limit":33554432,"name":"TooLarge","what":"bytes"}
+out {"error":11,"limit":67108864,"name":"LineTooLong"}
+out {"changed":[],"ok":"cycle","published":true,"version":1}"#;
+
 #[test]
 fn follows_states(rt: HostRuntime) -> Result<(), Fail> {
     pass(&rt, rt.alloc(), CHAIN)
@@ -339,4 +356,9 @@ fn refuses_records(rt: HostRuntime) -> Result<(), Fail> {
 #[test]
 fn refuses_models(rt: HostRuntime) -> Result<(), Fail> {
     pass(&rt, rt.alloc(), MODELS)
+}
+
+#[test]
+fn refuses_large_orders(rt: HostRuntime) -> Result<(), Fail> {
+    pass(&rt, rt.alloc(), LARGE)
 }

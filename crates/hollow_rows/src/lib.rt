@@ -6,7 +6,11 @@ mod bodies;
 #[cfg(test)]
 mod case;
 #[cfg(test)]
+mod consumers;
+#[cfg(test)]
 mod cycles;
+#[cfg(test)]
+mod guide;
 #[cfg(test)]
 mod heads;
 #[cfg(test)]
@@ -21,6 +25,8 @@ mod scene;
 mod scripts;
 #[cfg(test)]
 mod shows;
+#[cfg(test)]
+mod turned;
 #[cfg(test)]
 mod usage;
 #[cfg(test)]

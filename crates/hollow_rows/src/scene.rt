@@ -17,15 +17,17 @@ use std::test::Fail;
 
 /// A bench, and a store that stays.
 #[derive(Drop)]
-struct Scene {
+pub struct Scene {
     alloc: Global,
-    bench: Bench,
-    store: MemStore,
+    /// What the commands are run on.
+    pub bench: Bench,
+    /// The store.
+    pub store: MemStore,
 }
 
 impl Scene {
-    // An empty store.
-    fn new(alloc: Global) -> Scene {
+    /// An empty store.
+    pub fn new(alloc: Global) -> Scene {
         Scene {
             alloc,
             bench: Bench::new(alloc),
@@ -33,8 +35,8 @@ impl Scene {
         }
     }
 
-    // Whether a line of a case holds.
-    fn step(&mut self, line: &str) -> Result<bool, Fail> {
+    /// Whether a line of a case holds.
+    pub fn step(&mut self, line: &str) -> Result<bool, Fail> {
         let (word, rest) = line.split_once(' ').unwrap_or((line, ""));
         match word.as_bytes() {
             b"empty" => self.clear(rest),
@@ -68,8 +70,8 @@ impl Scene {
         self.put(name, text.as_bytes())
     }
 
-    // A name holds these bytes.
-    fn put(&mut self, name: &str, bytes: &[u8]) -> Result<bool, Fail> {
+    /// A name holds these bytes.
+    pub fn put(&mut self, name: &str, bytes: &[u8]) -> Result<bool, Fail> {
         match parse_name(name) {
             Some(name) => Ok(self.store.put(&name, bytes).is_ok()),
             None => Ok(false),

@@ -31,6 +31,16 @@ input {"model":[]}
 run 1 run
 out {"error":12,"name":"BadModel","rule":"UnknownType","type":"L"}
 out {"ok":"model","types":0}
+# More types than a model may have, and a path that is longer than a blob can tell.
+last {"model":[
+again 513 {"fields":[],"kind":"OBJECT","name":"A"},
+input {"fields":[],"kind":"OBJECT","name":"B"}]}
+last {"model":[{"fields":[],"key":["
+again 65536 x
+input "],"kind":"OBJECT","name":"C"}]}
+run 1 run
+out {"error":12,"name":"BadModel","rule":"TooMany","type":"A"}
+out {"error":12,"name":"BadModel","rule":"LongName","type":"C"}
 # There is one producer in a run, and none at the begin of the next.
 input {"model":[]}
 input {"model":[]}
@@ -41,7 +51,7 @@ input {"model":[]}
 run 0 run
 out {"ok":"model","types":0}
 # Orders that are not built.
-input {"live":"A"}
+input {"restore":1}
 input {"stat":true}
 input {"stat":false}
 run 1 run

@@ -7,7 +7,7 @@ use std::test::Fail;
 
 /// The line of a refusal.
 fn line(alloc: Global, refusal: Refusal) -> Result<String, Fail> {
-    Ok(reply_line(alloc, &Reply::Refused(refusal))?)
+    Ok(reply_line(alloc, Reply::Refused(refusal))?)
 }
 
 #[test]

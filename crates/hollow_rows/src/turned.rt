@@ -1,0 +1,114 @@
+//! A delta with each of its bits turned, and each front of it: taken, or refused for its cause, and then all stays.
+use crate::scene::Scene;
+use std::alloc::Global;
+use std::process::Abort;
+use std::test::Fail;
+
+/// Two states of one type.
+const CHAIN: &str =
+    r#"input {"model":[{"fields":[{"name":"n","type":"INT"}],"kind":"OBJECT","name":"A"}]}
+input {"cycle":{"add":{"A":[{"n":5},{"n":null}]},"tag":71,"version":1}}
+input {"cycle":{"add":{"A":[{"n":5},{"n":-1}]},"tag":72,"version":2}}
+go 0 run
+out {"ok":"model","types":1}
+out {"changed":["A"],"ok":"cycle","published":true,"version":1}
+out {"changed":["A"],"ok":"cycle","published":true,"version":2}"#;
+
+/// The delta between them.
+const DELTA: &str =
+    "blob 0000040600000000000000470000000000000048100100000141000100016E0003494E540000000100000141000100016E0003494E5402000102010101020401000000000000000100";
+
+/// What a step along the delta comes to where a bit of it is turned, byte by byte, the least bit of each first: `h` a fault of the header, `o`
+/// another origin, `b` a fault of the body, `k` a step.
+const TURNED: &str =
+    "hhhhhhhh hhhhhhhh hhhhhhhh hhhhhhhh oooooooo oooooooo oooooooo oooooooo oooooooo oooooooo oooooooo oooooooo \
+    kkkkkkkk kkkkkkkk kkkkkkkk kkkkkkkk kkkkkkkk kkkkkkkk kkkkkkkk kkkkkkkk kkkkhkkh hhhhhhhh hhhhhhhh hhhhhhhh \
+    hhhhhhhh kkkkkkkh hhhhhhhh hhhhhhhh hhhhhhhh hhhhhhhh kkkkkkkh hhhhhhhh hhhhhhhh hhhhhhhh hhhhhhhh hhhhhhhh \
+    hhhhhbhh hhhhhhhh hhhhhhhh bbbbbbbb bbbbbbbb bbbbbbbb bbbbbbbb bbbbbbbb bbbbbbbb bbbbbbbb bbbbbbbb bbbbbbbb \
+    bbbbbbbb bbbbbbbb bbbbbbbb bbbbbbbb bbbbbbbb bbbbbbbb kbkkkkkb bbbbbbbb bbbbbbbb kbkkkkkb bbbbbbbb kbbbbbbb \
+    bbbbbbbb bbbbbbbb kkbkkkbb bbbbbbbb kkkkkkkk kkkkkkkk kkkkkkkk kkkkkkkk kkkkkkkk kkkkkkkk kkkkkkkk kkkkkkkk \
+    bbbbbbbb";
+
+/// The same where the delta ends behind so many bytes, from none on.
+const CUT: &str = "hhhhhhhhhhhhhhhhhhhhhhhhhhhhhhhhhhhhhhhbbbbbbbbbbbbbbbbbbbbbbbbbbbbbbbbbb";
+
+/// The orders over each such delta.
+const ORDERS: [&str; 3] = [
+    r#"input {"load":1}"#,
+    r#"input {"step":[1,2]}"#,
+    r#"input {"live":"A"}"#,
+];
+
+// How the answer to a step begins, by what it comes to.
+fn begin_of(kind: u8) -> &'static str {
+    match kind {
+        b'h' => r#"{"at":"#,
+        b'o' => r#"{"blob":"delta-1-2","current":71,"error":20,"found":"#,
+        b'b' => r#"{"blob":"delta-1-2","error":92,"name":"BadBody"}"#,
+        _ => r#"{"ok":"step","tag":"#,
+    }
+}
+
+// Whether the text is that of a load, of a step of this kind, and of the rows that are live then.
+fn is_told(text: &str, kind: u8) -> bool {
+    let mut lines = text.lines();
+    let loaded = lines.next() == Some(r#"{"ok":"load","tag":71}"#);
+    let stepped = lines
+        .next()
+        .is_some_and(|line| line.starts_with(begin_of(kind)));
+    let live = lines.next();
+    let stayed = kind == b'k' || live == Some(r#"{"ok":"live","ordinals":[0,1]}"#);
+    loaded && stepped && live.is_some() && stayed
+}
+
+// A scene with the two states, and the delta between them.
+fn two_states(alloc: Global) -> Result<(Scene, Vec<u8>), Fail> {
+    let mut scene = Scene::new(alloc);
+    for line in CHAIN.lines() {
+        scene.step(line)?;
+    }
+    scene.step(DELTA)?;
+    let delta = scene.bench.blob()?;
+    Ok((scene, delta))
+}
+
+// Whether the orders over this delta come to that.
+fn comes_to(scene: &mut Scene, delta: &[u8], kind: u8) -> Result<bool, Fail> {
+    scene.put("delta-1-2", delta)?;
+    for order in ORDERS {
+        scene.step(order)?;
+    }
+    scene.bench.answer_over("run", &mut scene.store)?;
+    Ok(is_told(std::str::from_utf8(scene.bench.text())?, kind))
+}
+
+#[test]
+fn turned_bits(rt: HostRuntime) -> Result<(), Fail> {
+    let (mut scene, mut delta) = two_states(rt.alloc())?;
+    for (place, kinds) in TURNED.split_ascii_whitespace().enumerate() {
+        for (bit, kind) in kinds.bytes().enumerate() {
+            let turned = 1u8 << (bit % 8);
+            if let Some(byte) = delta.get_mut(place) {
+                *byte ^= turned;
+            }
+            assert!(rt;
+                comes_to(&mut scene, delta.as_slice(), kind)?,
+                "byte {place}, bit {bit}"
+            );
+            if let Some(byte) = delta.get_mut(place) {
+                *byte ^= turned;
+            }
+        }
+    }
+    Ok(())
+}
+
+#[test]
+fn fronts(rt: HostRuntime) -> Result<(), Fail> {
+    let (mut scene, delta) = two_states(rt.alloc())?;
+    for (count, kind) in CUT.bytes().enumerate() {
+        let front = delta.get(..count).unwrap_or(&[]);
+        assert!(rt; comes_to(&mut scene, front, kind)?, "{count} bytes");
+    }
+    Ok(())
+}
