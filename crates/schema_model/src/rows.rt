@@ -2,14 +2,16 @@
 ghost use Rattle.std.specs.Prelude.{List, ℕ, ◌≡◌, ◌↔◌, Some, IfOk, IsTrue};
 ghost use Rattle.schema_model.specs.declared.schema.Schema.{Schema};
 ghost use Rattle.schema_model.specs.Table.{Table, IsTableOf, IsBound, IsLive, row_at};
+ghost use Rattle.schema_model.specs.Lent.{lent_row};
 
 pub(crate) mod dangling;
+pub(crate) mod lent;
 pub(crate) mod packed;
 pub(crate) mod parts;
 pub(crate) mod row;
 pub(crate) mod tree;
 
-use crate::{Model, Row};
+use crate::{LentRow, Model, Row};
 use std::alloc::{AllocError, Global};
 
 /// The rows of a state, by type and ordinal, wherever they stand.
@@ -37,4 +39,12 @@ pub trait Rows {
     fn row(&self, alloc: Global, type_index: u32, ordinal: u32) -> Result<Row, AllocError>
         requires { IsLive (table self.now) type_index ordinal }
         ensures { IfOk result (λ row. row_at (table self.now) type_index ordinal ≡ Some row) };
+
+    /// The row of a type under a live ordinal, to look at: lent where it stands as a row, and else made, for which memory is taken.
+    fn lend(&self, alloc: Global, type_index: u32, ordinal: u32) -> Result<LentRow<'_>, AllocError>
+        requires { IsLive (table self.now) type_index ordinal }
+        ensures { IfOk result (λ lent. row_at (table self.now) type_index ordinal ≡ Some (lent_row lent)) }
+    {
+        Ok(LentRow::Made(self.row(alloc, type_index, ordinal)?))
+    }
 }

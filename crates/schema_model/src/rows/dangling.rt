@@ -81,8 +81,8 @@ fn is_closed_at<R: Rows>(
     if !rows.is_live(type_index, ordinal) {
         return Ok(true);
     }
-    let row = rows.row(alloc, type_index, ordinal)?;
-    Ok(names_live(rows, shape, &row))
+    let lent = rows.lend(alloc, type_index, ordinal)?;
+    Ok(names_live(rows, shape, lent.row()))
 }
 
 // Whether each ordinal that a row of a type of this shape names is live.
