@@ -2,6 +2,7 @@ pub mod Areas
 pub mod Checked
 pub mod Dangling
 pub mod Faults
+pub mod Key
 pub mod Lent
 pub mod Limit
 pub mod Model
