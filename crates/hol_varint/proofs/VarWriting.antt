@@ -52,6 +52,12 @@ pub filled_whole : (bytes : List ℕ) (start high number : ℕ) → high ≡ 0 �
 unfolding high_bytes
 filled_whole bytes start high number none filled = sym (ap (λ h. high_bytes h ++ drop start bytes) none) ∙ filled.spelled
 
+-- a number of one group is its own byte
+pub one_group : (number : ℕ) → number < 128 → varint_bytes number ≡ number ∷ []
+one_group number small =
+    let byte : number % 128 ≡ number = omega arith in
+    sym (filled_whole _ 9 (number / 128) number (omega arith) (filled_last number (omega arith))) ∙ ap (λ n. n ∷ []) byte
+
 -- what the groups from a number's front on spell
 spells_groups : (high : ℕ) (groups : List ℕ) (last : ℕ) → AllBelowBase 128 groups → last < 128 → SpellsOn high (map (λ group. group + 128) groups ++ last ∷ []) (number_from_digits_after 128 high groups * 128 + last)
 spells_groups high [] last below small = (small, refl)

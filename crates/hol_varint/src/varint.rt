@@ -94,10 +94,16 @@ pub fn put_vint(out: &mut Vec<u8>, number: u32) -> Result<(), AllocError>
 }
 
 /// Writes a number below 2^64 at the end. Where memory is refused nothing is written.
+#[tactic(auto, using(crate::proofs::VarWriting::one_group))]
 pub fn put_vlong(out: &mut Vec<u8>, number: u64) -> Result<(), AllocError>
     ensures ok { OnOk result (out.new.items ≡ out.old.items ++ varint_bytes number) }
     ensures err { OnErr result (out.new.items ≡ out.old.items) }
 {
+    // Most numbers have one group.
+    if number < 0x80 {
+        out.push(number as u8)?;
+        return Ok(());
+    }
     let (bytes, start) = spelling(number);
     out.extend_from_slice(&bytes[start..])
 }
