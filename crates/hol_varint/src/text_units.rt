@@ -1,5 +1,6 @@
 //! The UTF-16 units of texts, and the bytes of a STRING: a number of variable length for each unit.
 ghost use Rattle.std.specs.Prelude.{◌≡◌, ℕ, List, ◌<◌, ◌≤◌, ◌↔◌, ◌++◌, ◌-◌, ◌^◌, length, min, take, drop, IfOk, IfSome, IsSomeAnd, IsNone, OnOk, OnErr};
+ghost use Rattle.std.specs.Char.Escape.{encode_utf16};
 ghost use Rattle.std.specs.String.{string_bytes};
 ghost use Rattle.hol_varint.specs.TextUnits.{AreUnits, AreUnitsIn, IsBadText, IsFreeUnits, IsTextOf, AreWellFormed, TellsUnits, TellsUnitAt, units_bytes, text_units};
 ghost use Rattle.hol_varint.specs.Varint.{varint_bytes};
@@ -114,11 +115,23 @@ pub fn units_of(alloc: Global, text: &str) -> Result<Units, AllocError>
     ensures are { IfOk result AreUnits }
 {
     let mut units = Vec::with_capacity(alloc, text.len())?;
-    let mut pair = [0; 2];
     for character in text.chars() {
-        units.extend_from_slice(character.encode_utf16(&mut pair))?;
+        push_character(&mut units, character)?;
     }
     Ok(Units::from_vec(units))
+}
+
+// Adds the one or two units of a character.
+fn push_character(units: &mut Vec<u16>, character: char) -> Result<(), AllocError>
+    ensures { OnOk result (units.new.items ≡ units.old.items ++ encode_utf16 character) }
+{
+    let code = u32::from(character);
+    if code < UNIT_LIMIT {
+        units.push(code as u16)?;
+        return Ok(());
+    }
+    let mut pair = [0; 2];
+    units.extend_from_slice(character.encode_utf16(&mut pair))
 }
 
 /// The text that has these units, or `None` where they are not well-formed UTF-16.
