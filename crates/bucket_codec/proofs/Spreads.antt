@@ -4,6 +4,8 @@ use Rattle.std.specs.Prelude.{fold, map, option_map, unwrap_or}
 use Rattle.std.specs.List.{reduce}
 use Rattle.std.proofs.lemmas.List.Sums.{fold-append, sum_by-cons}
 use Rattle.schema_model.specs.declared.rows.row.Row.{Row}
+use Rattle.schema_model.specs.declared.rows.lent.LentRow.{LentRow}
+use Rattle.schema_model.specs.Lent.{lent_row}
 use Rattle.row_walk.specs.BothStates.{Takes}
 use Rattle.bucket_codec.specs.BucketCount.{bucket_count}
 use Rattle.bucket_codec.specs.Run.{keys_of}
@@ -52,11 +54,11 @@ pub record IsGathered (all left : List Row) (buckets size key value : ℕ) : Typ
   pub keys : max key (fold max 0 (keys_of_rows left)) ≡ fold max 0 (keys_of_rows all)
   pub values : max value (fold max 0 (values_of_rows left)) ≡ fold max 0 (values_of_rows all)
 
-pub gathered_more : (all left rest : List Row) (taken : Option Row) (row : Row) (buckets size key value buckets' size' key' value' : ℕ) → IsGathered all left buckets size key value → Takes left taken rest
-    → taken ≡ Some row → buckets' ≡ min (buckets + bucket_count (length (pairs_of row))) (2 ^ 128 - 1) → size' ≡ max size (length (pairs_of row))
+pub gathered_more : (all left rest : List Row) (taken : Option LentRow) (lent : LentRow) (row : Row) (buckets size key value buckets' size' key' value' : ℕ) → IsGathered all left buckets size key value
+    → Takes left (option_map lent_row taken) rest → taken ≡ Some lent → row ≡ lent_row lent → buckets' ≡ min (buckets + bucket_count (length (pairs_of row))) (2 ^ 128 - 1) → size' ≡ max size (length (pairs_of row))
     → key' ≡ max key (fold max 0 (keys_of (pairs_of row))) → value' ≡ max value (fold max 0 (values_of (pairs_of row))) → IsGathered all rest buckets' size' key' value'
-gathered_more all left rest taken row buckets size key value buckets' size' key' value' done takes found counted sized keyed valued =
-    let is : left ≡ row ∷ rest = subst (λ (t : Option Row). Takes left t rest) found takes in
+gathered_more all left rest taken lent row buckets size key value buckets' size' key' value' done takes found lends counted sized keyed valued =
+    let is : left ≡ row ∷ rest = subst (λ (t : Option Row). Takes left t rest) (ap (option_map lent_row) found ∙ ap Some (sym lends)) takes in
     let count : buckets_of_rows left ≡ bucket_count (length (pairs_of row)) + buckets_of_rows rest =
     ap buckets_of_rows is ∙ sum_by-cons bucket_count (length (pairs_of row)) (sizes_of rest) in
     let sizes : fold max 0 (sizes_of left) ≡ max (length (pairs_of row)) (fold max 0 (sizes_of rest)) =

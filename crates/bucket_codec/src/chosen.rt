@@ -126,8 +126,8 @@ fn gather<A: Rows, B: Rows>(
         value: 0,
     };
     let mut walk = RowWalk::start();
-    while let Some(row) = walk.next(alloc, old, new, type_index)? {
-        spread = spread.with(&row);
+    while let Some(lent) = walk.next(alloc, old, new, type_index)? {
+        spread = spread.with(lent.row());
     }
     Ok(spread)
 }

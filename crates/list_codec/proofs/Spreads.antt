@@ -1,9 +1,11 @@
 -- Lemmas on the number and the greatest of the elements of rows.
-use Rattle.std.proofs.Common.{◌≡◌, ℕ, ◌+◌, ◌-◌, ◌^◌, ◌<◌, ◌≤◌, List, [], ◌∷◌, ◌++◌, length, get_or, drop, ap, ◌∙◌, subst, arith, add-one, max, min}
-use Rattle.std.specs.Prelude.{flat_map, Option, Some, None}
+use Rattle.std.proofs.Common.{◌≡◌, ℕ, ◌+◌, ◌-◌, ◌^◌, ◌<◌, ◌≤◌, List, [], ◌∷◌, ◌++◌, length, get_or, drop, ap, sym, ◌∙◌, subst, arith, add-one, max, min}
+use Rattle.std.specs.Prelude.{flat_map, option_map, Option, Some, None}
 use Rattle.std.proofs.Math.Seq.{drop-cons}
 use Rattle.std.proofs.lemmas.List.{length-append, drop_all}
 use Rattle.schema_model.specs.declared.rows.row.Row.{Row}
+use Rattle.schema_model.specs.declared.rows.lent.LentRow.{LentRow}
+use Rattle.schema_model.specs.Lent.{lent_row}
 use Rattle.row_walk.specs.BothStates.{Takes}
 use Rattle.list_codec.specs.Widths.{elements_of_row, greatest}
 
@@ -34,10 +36,11 @@ pub record IsGathered (all left : List Row) (count most : ℕ) : Type 0 where
   pub fits : count ≤ 2 ^ 64 - 1
   pub highest : max most (greatest (flat_map elements_of_row left)) ≡ greatest (flat_map elements_of_row all)
 
-pub gathered_more : (all left rest : List Row) (taken : Option Row) (row : Row) (count most count' most' : ℕ) → IsGathered all left count most → Takes left taken rest → taken ≡ Some row
+pub gathered_more : (all left rest : List Row) (taken : Option LentRow) (lent : LentRow) (row : Row) (count most count' most' : ℕ) → IsGathered all left count most
+    → Takes left (option_map lent_row taken) rest → taken ≡ Some lent → row ≡ lent_row lent
     → count' ≡ min (count + length (elements_of_row row)) (2 ^ 64 - 1) → most' ≡ max most (greatest (elements_of_row row)) → IsGathered all rest count' most'
-gathered_more all left rest taken row count most count' most' done takes found counted highest =
-    let is : left ≡ row ∷ rest = subst (λ (t : Option Row). Takes left t rest) found takes in
+gathered_more all left rest taken lent row count most count' most' done takes found lends counted highest =
+    let is : left ≡ row ∷ rest = subst (λ (t : Option Row). Takes left t rest) (ap (option_map lent_row) found ∙ ap Some (sym lends)) takes in
     let here = elements_of_row row in
     let behind = flat_map elements_of_row rest in
     let split : flat_map elements_of_row left ≡ here ++ behind = ap (flat_map elements_of_row) is in

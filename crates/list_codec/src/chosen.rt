@@ -83,6 +83,7 @@ fn greatest(numbers: &[u32]) -> u32
 }
 
 /// How many elements the lists of both states have, and the greatest of them.
+#[tactic(auto, using(crate::proofs::Spreads::gathered_more))]
 fn gather<A: Rows, B: Rows>(
     alloc: Global,
     old: &A,
@@ -97,8 +98,8 @@ fn gather<A: Rows, B: Rows>(
         greatest: 0,
     };
     let mut walk = RowWalk::start();
-    while let Some(row) = walk.next(alloc, old, new, type_index)? {
-        spread = spread.with(&row);
+    while let Some(lent) = walk.next(alloc, old, new, type_index)? {
+        spread = spread.with(lent.row());
     }
     Ok(spread)
 }

@@ -60,8 +60,8 @@ fn bytes_under<R: Rows>(
     if !rows.is_live(type_index, ordinal) {
         return Ok(0);
     }
-    let row = rows.row(alloc, type_index, ordinal)?;
-    Ok(bytes_of(values_of(&row)))
+    let lent = rows.lend(alloc, type_index, ordinal)?;
+    Ok(bytes_of(values_of(lent.row())))
 }
 
 /// The fields of a type, none where there is no such type.
@@ -134,8 +134,8 @@ fn gather<A: Rows, B: Rows>(
 {
     let mut spreads = vec![in alloc; Spread { bits: 0, bytes: 0 }; fields]?;
     let mut walk = RowWalk::start();
-    while let Some(row) = walk.next(alloc, old, new, type_index)? {
-        add_record(&mut spreads, values_of(&row));
+    while let Some(lent) = walk.next(alloc, old, new, type_index)? {
+        add_record(&mut spreads, values_of(lent.row()));
     }
     Ok(spreads)
 }

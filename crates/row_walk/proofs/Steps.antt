@@ -2,7 +2,10 @@
 use Rattle.std.proofs.Common.{◌≡◌, ◌+◌, ℕ, List, [], ◌∷◌, ◌++◌, Bool, true, false, Option, Some, None, sym, ap, ◌∙◌, subst, arith}
 use Rattle.std.specs.Prelude.{if◌then◌else◌, Result, Ok, Err, IfOk}
 use Rattle.std.specs.FinMap.{get}
+use Rattle.std.specs.Option.{option_map}
 use Rattle.schema_model.specs.declared.rows.row.Row.{Row}
+use Rattle.schema_model.specs.declared.rows.lent.LentRow.{LentRow}
+use Rattle.schema_model.specs.Lent.{lent_row}
 use Rattle.schema_model.specs.Table.{Table, IsLive, row_at}
 use Rattle.row_walk.specs.declared.walk.RowWalk.{RowWalk}
 use Rattle.row_walk.specs.BothStates.{rows_in, rows_added, rows_from, rows_left, Takes, TellsLive}
@@ -66,7 +69,8 @@ module _ (old new : Table) (type_index : ℕ) where
       behind_old walk second ∙ left ∙ rows_past (rows_added old new type_index) from (λ q reached. added_none old new type_index q (none q reached))
 
 -- what a step takes of rows that are the same
-pub takes_same : {E : Type 0} (before middle after : List Row) (result : Result (Option Row) E) → before ≡ middle → IfOk result (λ row. Takes middle row after) → IfOk result (λ row. Takes before row after)
+pub takes_same : {E : Type 0} (before middle after : List Row) (result : Result (Option LentRow) E) → before ≡ middle
+    → IfOk result (λ next. Takes middle (option_map lent_row next) after) → IfOk result (λ next. Takes before (option_map lent_row next) after)
 takes_same before middle after (Ok None) same h = same ∙ h
-takes_same before middle after (Ok (Some row)) same h = same ∙ h
+takes_same before middle after (Ok (Some lent)) same h = same ∙ h
 takes_same before middle after (Err fault) same h = h

@@ -1,9 +1,11 @@
 //! A walk over the rows of a type in two states.
 ghost use Rattle.std.specs.Prelude.{ℕ, ◌≡◌, true, IfOk};
+ghost use Rattle.std.specs.Option.{option_map};
+ghost use Rattle.schema_model.specs.Lent.{lent_row};
 ghost use Rattle.schema_model.specs.Table.{Table};
 ghost use Rattle.row_walk.specs.BothStates.{rows_left, rows_of_both, Takes, TellsLive};
 
-use schema_model::{Row, Rows};
+use schema_model::{LentRow, Rows};
 use std::alloc::{AllocError, Global};
 
 /// How far a walk over the rows of a type in an old and a new state has come: it takes those of the old one by rising ordinal, and then those
@@ -27,15 +29,15 @@ impl RowWalk {
         }
     }
 
-    /// A copy of the next row, none where there is none.
-    pub fn next<A: Rows, B: Rows>(
+    /// The next row, to look at; none where there is none.
+    pub fn next<'a, A: Rows, B: Rows>(
         &mut self,
         alloc: Global,
-        old: &A,
-        new: &B,
+        old: &'a A,
+        new: &'a B,
         type_index: u32,
-    ) -> Result<Option<Row>, AllocError>
-        ensures { IfOk result (λ row. Takes (rows_left (A.table old.now) (B.table new.now) type_index self.old) row (rows_left (A.table old.now) (B.table new.now) type_index self.new)) }
+    ) -> Result<Option<LentRow<'a>>, AllocError>
+        ensures { IfOk result (λ next. Takes (rows_left (A.table old.now) (B.table new.now) type_index self.old) (option_map lent_row next) (rows_left (A.table old.now) (B.table new.now) type_index self.new)) }
     {
         if self.in_new {
             return self.next_added(alloc, old, new, type_index);
@@ -43,7 +45,7 @@ impl RowWalk {
         match next_live(old, type_index, self.ordinal) {
             Some(ordinal) => {
                 self.ordinal = ordinal + 1;
-                Ok(Some(old.row(alloc, type_index, ordinal)?))
+                Ok(Some(old.lend(alloc, type_index, ordinal)?))
             }
             None => {
                 self.in_new = true;
@@ -54,20 +56,20 @@ impl RowWalk {
     }
 
     /// The next row of the new state, once those of the old one are behind the walk.
-    fn next_added<A: Rows, B: Rows>(
+    fn next_added<'a, A: Rows, B: Rows>(
         &mut self,
         alloc: Global,
-        old: &A,
-        new: &B,
+        old: &'a A,
+        new: &'a B,
         type_index: u32,
-    ) -> Result<Option<Row>, AllocError>
+    ) -> Result<Option<LentRow<'a>>, AllocError>
         requires { self.old.in_new ≡ true }
-        ensures { IfOk result (λ row. Takes (rows_left (A.table old.now) (B.table new.now) type_index self.old) row (rows_left (A.table old.now) (B.table new.now) type_index self.new)) }
+        ensures { IfOk result (λ next. Takes (rows_left (A.table old.now) (B.table new.now) type_index self.old) (option_map lent_row next) (rows_left (A.table old.now) (B.table new.now) type_index self.new)) }
     {
         while let Some(ordinal) = next_live(new, type_index, self.ordinal) {
             self.ordinal = ordinal + 1;
             if !old.is_live(type_index, ordinal) {
-                return Ok(Some(new.row(alloc, type_index, ordinal)?));
+                return Ok(Some(new.lend(alloc, type_index, ordinal)?));
             }
         }
         Ok(None)

@@ -5,7 +5,7 @@ ghost use Rattle.write_engine.specs.Production.{current_of, previous_of};
 
 use hol_varint::Duplicate;
 use ordinal_map::OrdinalMap;
-use schema_model::{Model, Row, Rows};
+use schema_model::{LentRow, Model, Row, Rows};
 use std::alloc::{AllocError, Global};
 
 /// The rows of a producer's previous state.
@@ -65,6 +65,15 @@ impl<'a> Rows for Previous<'a> {
     fn row(&self, alloc: Global, type_index: u32, ordinal: u32) -> Result<Row, AllocError> {
         self.maps[type_index as usize].row(ordinal).copy(alloc)
     }
+
+    fn lend(
+        &self,
+        _alloc: Global,
+        type_index: u32,
+        ordinal: u32,
+    ) -> Result<LentRow<'_>, AllocError> {
+        Ok(LentRow::Kept(self.maps[type_index as usize].row(ordinal)))
+    }
 }
 
 /// The rows of a producer's cycle so far.
@@ -123,5 +132,14 @@ impl<'a> Rows for Current<'a> {
 
     fn row(&self, alloc: Global, type_index: u32, ordinal: u32) -> Result<Row, AllocError> {
         self.maps[type_index as usize].row(ordinal).copy(alloc)
+    }
+
+    fn lend(
+        &self,
+        _alloc: Global,
+        type_index: u32,
+        ordinal: u32,
+    ) -> Result<LentRow<'_>, AllocError> {
+        Ok(LentRow::Kept(self.maps[type_index as usize].row(ordinal)))
     }
 }

@@ -1,24 +1,23 @@
+use Rattle.std.proofs.Common.{ap}
+use Rattle.std.specs.Option.{option_map}
+use Rattle.schema_model.specs.Lent.{lent_row}
 use Rattle.list_codec.proofs.Spreads.{gathered_more, gathered_all}
 use Rattle.list_codec.proofs.chosen.gather.Goals as goal
 
 pub returns-clause-count : goal.returns-clause-count
-returns-clause-count g c = (gathered_all _ _ _ _ c.loop-row.spread.count c.loop-row.spread.greatest c.loop-row.invariant c.in_ok-row.ensures c.in_default.is).0
+returns-clause-count g c =
+    (gathered_all _ _ _ _ c.loop-lent.spread.count c.loop-lent.spread.greatest c.loop-lent.invariant c.in_ok-lent.ensures (ap (option_map lent_row) c.in_default.is)).0
 
 pub returns-clause-greatest : goal.returns-clause-greatest
-returns-clause-greatest g c = (gathered_all _ _ _ _ c.loop-row.spread.count c.loop-row.spread.greatest c.loop-row.invariant c.in_ok-row.ensures c.in_default.is).1
+returns-clause-greatest g c =
+    (gathered_all _ _ _ _ c.loop-lent.spread.count c.loop-lent.spread.greatest c.loop-lent.invariant c.in_ok-lent.ensures (ap (option_map lent_row) c.in_default.is)).1
 
-pub loop-row-preserved-in-Some : goal.loop-row-preserved-in-Some
-loop-row-preserved-in-Some g c =
-    gathered_more _ _ _ _ c.in-Some.row c.loop-row.spread.count c.loop-row.spread.greatest _ _ c.loop-row.invariant c.in_ok-row.ensures c.in-Some.is c.with-spread.ensures.count c.with-spread.ensures.greatest
+pub loop-lent-preserved-in-Some-2 : goal.loop-lent-preserved-in-Some-2
+loop-lent-preserved-in-Some-2 g c =
+    gathered_more _ _ _ _ c.in-Some.lent c.row.result.now c.loop-lent.spread.count c.loop-lent.spread.greatest _ _ c.loop-lent.invariant c.in_ok-lent.ensures c.in-Some.is c.row.ensures
+    c.with-spread.ensures.count c.with-spread.ensures.greatest
 
-pub loop-row-preserved-in-Some-2 : goal.loop-row-preserved-in-Some-2
-loop-row-preserved-in-Some-2 g c =
-    gathered_more _ _ _ _ c.in-Some.row c.loop-row.spread.count c.loop-row.spread.greatest _ _ c.loop-row.invariant c.in_ok-row.ensures c.in-Some.is c.with-spread.ensures.count c.with-spread.ensures.greatest
-
-pub loop-row-preserved-in-Some-3 : goal.loop-row-preserved-in-Some-3
-loop-row-preserved-in-Some-3 g c =
-    gathered_more _ _ _ _ c.in-Some.row c.loop-row.spread.count c.loop-row.spread.greatest _ _ c.loop-row.invariant c.in_ok-row.ensures c.in-Some.is c.with-spread.ensures.count c.with-spread.ensures.greatest
-
-pub loop-row-preserved : goal.loop-row-preserved
-loop-row-preserved g c =
-    gathered_more _ _ _ _ c.in-Some.row c.loop-row.spread.count c.loop-row.spread.greatest _ _ c.loop-row.invariant c.in_ok-row.ensures c.in-Some.is c.with-spread.ensures.count c.with-spread.ensures.greatest
+pub loop-lent-preserved : goal.loop-lent-preserved
+loop-lent-preserved g c =
+    gathered_more _ _ _ _ c.in-Some.lent c.row.result.now c.loop-lent.spread.count c.loop-lent.spread.greatest _ _ c.loop-lent.invariant c.in_ok-lent.ensures c.in-Some.is c.row.ensures
+    c.with-spread.ensures.count c.with-spread.ensures.greatest

@@ -3,10 +3,10 @@ use Rattle.row_walk.specs.BothStates.{rows_left, rows_of_both}
 use Rattle.list_codec.proofs.Spreads.{IsGathered}
 use Rattle.list_codec.proofs.chosen.gather.Given as goal
 
-abbrev pub invariant-loop-row : goal.invariant-loop-row
-invariant-loop-row g l =
+abbrev pub invariant-loop-lent : goal.invariant-loop-lent
+invariant-loop-lent g l =
     IsGathered (rows_of_both (g.A.Rows.table l.old) (g.B.Rows.table l.new) l.type_index) (rows_left (g.A.Rows.table l.old) (g.B.Rows.table l.new) l.type_index l.walk)
     l.spread.count l.spread.greatest
 
-abbrev pub decreases-loop-row : goal.decreases-loop-row
-decreases-loop-row g l = length (rows_left (g.A.Rows.table l.old) (g.B.Rows.table l.new) l.type_index l.walk)
+abbrev pub decreases-loop-lent : goal.decreases-loop-lent
+decreases-loop-lent g l = length (rows_left (g.A.Rows.table l.old) (g.B.Rows.table l.new) l.type_index l.walk)

@@ -1,10 +1,11 @@
+use Rattle.schema_model.specs.Lent.{lent_row}
 use Rattle.row_walk.proofs.Steps.{took_old, ended_old, takes_same}
 use Rattle.row_walk.proofs.walk.RowWalk.next.Goals as goal
 
-pub returns-in_ok-row-in-Some : goal.returns-in_ok-row-in-Some
-returns-in_ok-row-in-Some g c =
-    took_old (g.A.Rows.table c.args.old.now) (g.B.Rows.table c.args.new.now) c.args.type_index c.args.self.now c.in-Some.ordinal c.in_ok-row-in-Some.field-0
-    c.if-self.false c.in-Some.ensures c.in_ok-row-in-Some.ensures
+pub returns-in_ok-lend-in-Some : goal.returns-in_ok-lend-in-Some
+returns-in_ok-lend-in-Some g c =
+    took_old (g.A.Rows.table c.args.old.now) (g.B.Rows.table c.args.new.now) c.args.type_index c.args.self.now c.in-Some.ordinal (lent_row c.in_ok-lend-in-Some.field-0)
+    c.if-self.false c.in-Some.ensures c.in_ok-lend-in-Some.ensures
 
 pub returns-in-None : goal.returns-in-None
 returns-in-None g c =
