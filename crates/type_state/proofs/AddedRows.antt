@@ -1,5 +1,5 @@
 -- The rows that the places of a patch spell, read one after another.
-use Rattle.std.proofs.Common.{◌≡◌, ℕ, zero, suc, ◌+◌, ◌<◌, ◌≤◌, List, [], ◌∷◌, ◌++◌, length, take, get_or, Some, refl, ap, sym, ◌∙◌, subst, arith}
+use Rattle.std.proofs.Common.{◌≡◌, ℕ, zero, suc, ◌+◌, ◌<◌, ◌≤◌, List, [], ◌∷◌, ◌++◌, length, map, take, get_or, Some, refl, ap, sym, ◌∙◌, subst, arith}
 use Rattle.std.specs.Prelude.{slice_get}
 use Rattle.std.specs.Map.{keys_of, values_of}
 use Rattle.std.proofs.lemmas.List.{take_more, take_all, map-append, length-map, length-take}
@@ -10,46 +10,51 @@ use Rattle.type_state.specs.declared.patch.PatchSection.{PatchSection}
 use Rattle.type_state.specs.Loads.{Spells, IsSpelledIn}
 use Rattle.type_state.specs.Patches.{AddsRows, places_in}
 use Rattle.type_state.specs.Moving.{AreAdded}
-use Rattle.type_state.proofs.Rising.{Entry}
+use Rattle.type_state.specs.Differences.{Difference, present}
 
 -- The rows of the places before this one are read.
-pub record AreRead (shape : Shape) (patch : PatchSection) (place : ℕ) (rows : List Entry) : Type 0 where
-  pub keys : keys_of rows ≡ take place patch.added
-  pub spelled : (k : ℕ) (row : Row) → slice_get (values_of rows) k ≡ Some row → Spells shape (places_in patch) k row
+pub record AreRead (shape : Shape) (patch : PatchSection) (place : ℕ) (differences : List Difference) : Type 0 where
+  pub keys : keys_of differences ≡ take place patch.added
+  pub rows : List Row
+  pub are : values_of differences ≡ map present rows
+  pub spelled : (k : ℕ) (row : Row) → slice_get rows k ≡ Some row → Spells shape (places_in patch) k row
 
-pub begun : (shape : Shape) (patch : PatchSection) (rows : List Entry) → rows ≡ [] → AreRead shape patch 0 rows
-begun shape patch rows none = subst (AreRead shape patch 0) (sym none) record { keys = refl; spelled = λ k row at. absurd cc }
+pub begun : (shape : Shape) (patch : PatchSection) (differences : List Difference) → differences ≡ [] → AreRead shape patch 0 differences
+begun shape patch differences none = subst (AreRead shape patch 0) (sym none) record { keys = refl; rows = []; are = refl; spelled = λ k row at. absurd cc }
 
 -- What is spelled before a place and at it is spelled before the next one.
-spelled_more : (P : ℕ → Row → Type 0) (es : List Entry) (o : ℕ) (last : Row) → ((k : ℕ) (row : Row) → slice_get (values_of es) k ≡ Some row → P k row) → P (length es) last
-    → (k : ℕ) (row : Row) → slice_get (values_of (es ++ (o, last) ∷ [])) k ≡ Some row → P k row
-spelled_more P [] o last before here zero row at = let same : last ≡ row = cc in subst (P 0) same here
-spelled_more P [] o last before here (suc k) row at = absurd cc
-spelled_more P (e ∷ es) o last before here zero row at = before 0 row at
-spelled_more P (e ∷ es) o last before here (suc k) row at = spelled_more (λ i. P (suc i)) es o last (λ i. before (suc i)) here k row at
+spelled_more : (P : ℕ → Row → Type 0) (rows : List Row) (last : Row) → ((k : ℕ) (row : Row) → slice_get rows k ≡ Some row → P k row) → P (length rows) last
+    → (k : ℕ) (row : Row) → slice_get (rows ++ last ∷ []) k ≡ Some row → P k row
+spelled_more P [] last before here zero row at = let same : last ≡ row = cc in subst (P 0) same here
+spelled_more P [] last before here (suc k) row at = absurd cc
+spelled_more P (r ∷ rows) last before here zero row at = before 0 row at
+spelled_more P (r ∷ rows) last before here (suc k) row at = spelled_more (λ i. P (suc i)) rows last (λ i. before (suc i)) here k row at
 
-long : (shape : Shape) (patch : PatchSection) (place : ℕ) (rows : List Entry) → AreRead shape patch place rows → place ≤ length patch.added → length rows ≡ place
-long shape patch place rows r inside =
-    let mapped = length-map rows (λ (e : Entry). e.0) in
+long : (shape : Shape) (patch : PatchSection) (place : ℕ) (differences : List Difference) (r : AreRead shape patch place differences) → place ≤ length patch.added → length r.rows ≡ place
+long shape patch place differences r inside =
+    let mapped = length-map differences (λ (d : Difference). d.0) in
+    let values = length-map differences (λ (d : Difference). d.1) in
+    let some = length-map r.rows present in
     let taken = length-take place patch.added in
     let same = ap length r.keys in
-    omega (arith, mapped, taken, same, inside)
+    let are = ap length r.are in
+    omega (arith, mapped, values, some, taken, same, are, inside)
 
-pub read_on : (shape : Shape) (patch : PatchSection) (place o : ℕ) (row : Row) (rows new : List Entry) → AreRead shape patch place rows → place < length patch.added → o ≡ get_or patch.added place 0 → IsSpelledIn shape (places_in patch) (place, row)
-    → new ≡ rows ++ (o, row) ∷ [] → AreRead shape patch (place + 1) new
-read_on shape patch place o row rows new r inside is here last =
-    let count = long shape patch place rows r (omega arith) in
+pub read_on : (shape : Shape) (patch : PatchSection) (place o : ℕ) (row : Row) (differences new : List Difference) → AreRead shape patch place differences → place < length patch.added → o ≡ get_or patch.added place 0
+    → IsSpelledIn shape (places_in patch) (place, row) → new ≡ differences ++ (o, Some row) ∷ [] → AreRead shape patch (place + 1) new
+read_on shape patch place o row differences new r inside is here last =
+    let count = long shape patch place differences r (omega arith) in
     record {
-      keys = ap keys_of last ∙ map-append (λ e. e.0) rows ((o, row) ∷ []) ∙ ap (λ t. t ++ o ∷ []) r.keys ∙ ap (λ n. take place patch.added ++ n ∷ []) is ∙ sym (take_more patch.added place 0 inside);
-      spelled = subst (λ es. (k : ℕ) (found : Row) → slice_get (values_of es) k ≡ Some found → Spells shape (places_in patch) k found) (sym last)
-          (spelled_more (Spells shape (places_in patch)) rows o row r.spelled (subst (λ p. Spells shape (places_in patch) p row) (sym count) here));
+      keys = ap keys_of last ∙ map-append (λ d. d.0) differences ((o, Some row) ∷ []) ∙ ap (λ t. t ++ o ∷ []) r.keys ∙ ap (λ n. take place patch.added ++ n ∷ []) is ∙ sym (take_more patch.added place 0 inside);
+      rows = r.rows ++ row ∷ [];
+      are = ap values_of last ∙ map-append (λ d. d.1) differences ((o, Some row) ∷ []) ∙ ap (λ t. t ++ Some row ∷ []) r.are ∙ sym (map-append present r.rows (row ∷ []));
+      spelled = spelled_more (Spells shape (places_in patch)) r.rows row r.spelled (subst (λ p. Spells shape (places_in patch) p row) (sym count) here);
     }
 
-pub all_read : (shape : Shape) (patch : PatchSection) (place : ℕ) (rows : List Entry) → AreRead shape patch place rows → place ≡ length patch.added → AreAdded shape patch rows
-all_read shape patch place rows r end =
-    let count = long shape patch place rows r (omega arith) in
-    let mapped = length-map rows (λ (e : Entry). e.1) in
-    record { keys = r.keys ∙ take_all place patch.added (omega arith); adds = record { each = omega (arith, mapped, count); spelled = r.spelled } }
+pub all_read : (shape : Shape) (patch : PatchSection) (place : ℕ) (differences : List Difference) → AreRead shape patch place differences → place ≡ length patch.added → AreAdded shape patch differences
+all_read shape patch place differences r end =
+    let count = long shape patch place differences r (omega arith) in
+    record { keys = r.keys ∙ take_all place patch.added (omega arith); rows = r.rows; are = r.are; adds = record { each = omega (arith, count); spelled = r.spelled } }
 
 -- A place that spells no row: the patch adds none.
 pub none_at : (shape : Shape) (patch : PatchSection) (place : ℕ) → place < length patch.added → ((row : Row) → IsSpelledIn shape (places_in patch) (place, row) → ⊥) → (rows : List Row) → AddsRows shape patch rows → ⊥

@@ -1,12 +1,13 @@
 -- Rows that are laid out one behind the other, and what a layout holds.
-use Rattle.std.proofs.Common.{◌≡◌, ℕ, ◌+◌, ◌-◌, ◌^◌, ◌<◌, min, List, [], ◌∷◌, ◌++◌, length, take, drop, get_or, refl, ap, sym, ◌∙◌, subst, arith}
-use Rattle.std.specs.Prelude.{All, slice_index}
-use Rattle.std.specs.List.Sorted.{IsStrictlySortedBy}
+use Rattle.std.proofs.Common.{◌≡◌, ℕ, ◌+◌, ◌-◌, ◌^◌, ◌≤◌, inl, inr, min, List, [], ◌∷◌, ◌++◌, length, None, Some, refl, ap, sym, ◌∙◌, subst, arith, append_assoc}
+use Rattle.std.specs.Prelude.{IsSome, is_some, slice_index}
 use Rattle.std.specs.Ordering.{nat_cmp}
-use Rattle.std.specs.FinMap.{find, entries, get-entries}
+use Rattle.std.specs.FinMap.{find, entries, get, get-entries, keys}
 use Rattle.std.specs.Map.{keys_of, values_of}
-use Rattle.std.proofs.lemmas.List.{take_more, take-append-drop, map-append, at_drop_more}
+use Rattle.std.proofs.lemmas.Bool.{cases_eq}
+use Rattle.std.proofs.lemmas.List.{append-nil, map-append}
 use Rattle.std.proofs.lemmas.List.Sums.{sum_by-append}
+use Rattle.ordinal_set.specs.Ordinals.{bound_of}
 use Rattle.schema_model.specs.Parts.{shape_fields}
 use Rattle.schema_model.specs.Table.{RowMap}
 use Rattle.schema_model.specs.declared.schema.Shape.{Shape}
@@ -14,50 +15,120 @@ use Rattle.schema_model.specs.declared.rows.row.Row.{Row}
 use Rattle.type_state.specs.WordsHeld.{row_bytes, part_bytes}
 use Rattle.type_state.specs.Layout.{items_of_row}
 use Rattle.type_state.specs.Holds.{HoldsRows}
-use Rattle.type_state.specs.Ends.{FitsBehind, IsOfKind}
-use Rattle.type_state.specs.Moving.{AreLaidOut, AreOfKind}
+use Rattle.type_state.specs.Ends.{FitsBehind}
+use Rattle.type_state.specs.Moving.{AreLaidOut}
 use Rattle.type_state.proofs.Reading.{held_more, held_at, more_bytes, more_items, holds_row, fits_row}
-use Rattle.type_state.proofs.Entries.{found_at}
+use Rattle.type_state.proofs.Entries.{below_bound, entries_rise}
+use Rattle.type_state.proofs.Lookups.{found, none_below, skipped}
+use Rattle.type_state.proofs.Rising.{RiseFrom, none_is_not}
 
 abbrev pub Entry : Type 0
 Entry = ℕ × Row
 
--- At first no rows are laid out.
-pub begun : (shape : Shape) (widths ends : List ℕ) (items : ℕ) → ((f : ℕ) → slice_index ends f ≡ 0) → items ≡ 0 → length ends ≡ length (shape_fields shape) → AreLaidOut shape widths [] ends items 0
-begun shape widths ends items zeros zero long = record { held = tt; reached = zeros; counted = zero; long = long; total = refl }
+-- The rows are parted at an ordinal: those below it, and the others, among which it is looked up.
+pub record Parted (rows : RowMap) (o : ℕ) (done rest : List Entry) : Type 0 where
+  pub whole : entries rows ≡ done ++ rest
+  pub rising : RiseFrom o (keys_of rest)
+  pub found : (q : ℕ) → o ≤ q → get rows q ≡ find nat_cmp q rest
 
-values_more : (es : List Entry) (index : ℕ) (e : Entry) → index < length es → e ≡ get_or es index e → values_of (take (index + 1) es) ≡ values_of (take index es) ++ e.1 ∷ []
-values_more es index e inside is =
-    ap values_of (take_more es index e inside) ∙ map-append (λ f. f.1) (take index es) (get_or es index e ∷ []) ∙ ap (λ f. values_of (take index es) ++ f.1 ∷ []) (sym is)
+at_first : (rows : RowMap) → Parted rows 0 [] (entries rows)
+at_first rows = record { whole = refl; rising = entries_rise rows; found = λ q l. get-entries rows q }
 
-values_whole : (es : List Entry) (index : ℕ) (e : Entry) → index < length es → e ≡ get_or es index e → values_of es ≡ values_of (take index es) ++ e.1 ∷ values_of (drop (index + 1) es)
-values_whole es index e inside is =
-    ap values_of (sym (take-append-drop index es)) ∙ map-append (λ f. f.1) (take index es) (drop index es)
-    ∙ ap (λ t. values_of (take index es) ++ values_of t) (at_drop_more (λ t. t) es index e inside ∙ ap (λ f. f ∷ drop (index + 1) es) (sym is))
+-- Where no row is under the ordinal, the rows are parted at the next one too.
+past : (rows : RowMap) (o : ℕ) (done rest : List Entry) → Parted rows o done rest → get rows o ≡ None → Parted rows (o + 1) done rest
+past rows o done rest p none = record { whole = p.whole; rising = higher rest p.rising (sym (p.found o (omega arith)) ∙ none); found = λ q l. p.found q (omega arith) }
+  where
+    higher : (es : List Entry) → RiseFrom o (keys_of es) → find nat_cmp o es ≡ None → RiseFrom (o + 1) (keys_of es)
+    higher [] rise none = tt
+    higher (e ∷ es) rise none = elim (cases_eq o e.0) [
+      | inl same ↦ absurd (none_is_not (find nat_cmp o (e ∷ es)) none (ap is_some (found o e es same)))
+      | inr other ↦ (omega (arith, rise.0, λ (eq : o ≡ e.0). other eq), rise.1)
+    ]
 
--- One row more is laid out.
-pub laid_more : (shape : Shape) (widths : List ℕ) (es : List Entry) (index : ℕ) (e : Entry) (ends after : List ℕ) (items more bytes total : ℕ) → AreLaidOut shape widths (values_of (take index es)) ends items bytes → index < length es
-    → e ≡ get_or es index e → FitsBehind shape widths ends items e.1 → ((f : ℕ) → slice_index after f ≡ slice_index ends f + part_bytes f e.1) → more ≡ items + items_of_row e.1 → length after ≡ length ends
-    → total ≡ min (bytes + min (row_bytes e.1) (2 ^ 64 - 1)) (2 ^ 64 - 1) → AreLaidOut shape widths (values_of (take (index + 1) es)) after more total
-laid_more shape widths es index e ends after items more bytes total l inside is fits grown up long sum =
-    let rows = values_of (take index es) in
-    subst (λ all. AreLaidOut shape widths all after more total) (sym (values_more es index e inside is)) record {
-      held = held_more shape widths [] rows e.1 l.held (holds_row shape widths ends items rows e.1 l.reached l.counted fits);
-      reached = λ f. grown f ∙ ap (λ n. n + part_bytes f e.1) (l.reached f) ∙ sym (more_bytes f rows e.1);
-      counted = up ∙ ap (λ n. n + items_of_row e.1) l.counted ∙ sym (more_items rows e.1);
-      long = long ∙ l.long;
-      total = (let whole = sum_by-append row_bytes rows (e.1 ∷ []) in let was = l.total in grind (arith, whole, was, sum));
-    }
+-- Where one is, it is the first of the others.
+pub record Comes (rows : RowMap) (o : ℕ) (row : Row) (done rest : List Entry) : Type 0 where
+  pub behind : List Entry
+  pub is : rest ≡ (o, row) ∷ behind
+  pub parted : Parted rows (o + 1) (done ++ (o, row) ∷ []) behind
+
+comes : (rows : RowMap) (o : ℕ) (row : Row) (done rest : List Entry) → Parted rows o done rest → get rows o ≡ Some row → Comes rows o row done rest
+comes rows o row done [] p at = absurd (let none : None ≡ Some row = sym (p.found o (omega arith)) ∙ at in cc)
+comes rows o row done (e ∷ rest) p at = elim (cases_eq o e.0) [
+  | inl same ↦
+      let row_is : Some e.1 ≡ Some row = sym (found o e rest same) ∙ sym (p.found o (omega arith)) ∙ at in
+      let value : e.1 ≡ row = cc in
+      let is : e ≡ (o, row) = λ i. (sym same i, value i) in
+      record {
+        behind = rest;
+        is = ap (λ (f : Entry). f ∷ rest) is;
+        parted = record {
+          whole = p.whole ∙ ap (λ (f : Entry). done ++ f ∷ rest) is ∙ sym (append_assoc done ((o, row) ∷ []) rest);
+          rising = subst (λ n. RiseFrom (n + 1) (keys_of rest)) (sym same) p.rising.1;
+          found = λ q l. p.found q (omega arith) ∙ skipped q e rest (λ eq. omega (arith, eq, same));
+        };
+      }
+  | inr other ↦
+      let high : RiseFrom (o + 1) (keys_of (e ∷ rest)) = (omega (arith, p.rising.0, λ (eq : o ≡ e.0). other eq), p.rising.1) in
+      let none : None ≡ Some row = sym (none_below o (o + 1) (e ∷ rest) (omega arith) high) ∙ sym (p.found o (omega arith)) ∙ at in
+      absurd cc
+]
+
+-- At the bound no other is left.
+all_done : (rows : RowMap) (o : ℕ) (done rest : List Entry) → Parted rows o done rest → bound_of (keys rows) ≤ o → entries rows ≡ done
+all_done rows o done [] p high = p.whole ∙ append-nil done
+all_done rows o done (e ∷ rest) p high =
+    let low = p.rising.0 in
+    let below = below_bound rows e.0 (subst IsSome (sym (p.found e.0 low)) (ap is_some (found e.0 e rest refl))) in
+    absurd (omega (arith, low, below, high))
+
+-- The rows below an ordinal are laid out.
+pub record Laid (shape : Shape) (widths : List ℕ) (rows : RowMap) (o : ℕ) (ends : List ℕ) (items bytes : ℕ) : Type 0 where
+  pub done : List Entry
+  pub rest : List Entry
+  pub parted : Parted rows o done rest
+  pub out : AreLaidOut shape widths (values_of done) ends items bytes
+
+-- At first none are.
+pub begun : (shape : Shape) (widths : List ℕ) (rows : RowMap) (ends : List ℕ) (items : ℕ) → ((f : ℕ) → slice_index ends f ≡ 0) → items ≡ 0 → length ends ≡ length (shape_fields shape) → Laid shape widths rows 0 ends items 0
+begun shape widths rows ends items zeros zero long = record {
+  done = [];
+  rest = entries rows;
+  parted = at_first rows;
+  out = record { held = tt; reached = zeros; counted = zero; long = long; total = refl };
+}
+
+-- No row is under the ordinal.
+pub passed : (shape : Shape) (widths : List ℕ) (rows : RowMap) (o : ℕ) (ends : List ℕ) (items bytes : ℕ) → Laid shape widths rows o ends items bytes → get rows o ≡ None → Laid shape widths rows (o + 1) ends items bytes
+passed shape widths rows o ends items bytes l none = record { done = l.done; rest = l.rest; parted = past rows o l.done l.rest l.parted none; out = l.out }
+
+-- The row under the ordinal is laid out.
+pub laid_more : (shape : Shape) (widths : List ℕ) (rows : RowMap) (o : ℕ) (row : Row) (ends after : List ℕ) (items more bytes total : ℕ) → Laid shape widths rows o ends items bytes → get rows o ≡ Some row
+    → FitsBehind shape widths ends items row → ((f : ℕ) → slice_index after f ≡ slice_index ends f + part_bytes f row) → more ≡ items + items_of_row row → length after ≡ length ends
+    → total ≡ min (bytes + min (row_bytes row) (2 ^ 64 - 1)) (2 ^ 64 - 1) → Laid shape widths rows (o + 1) after more total
+laid_more shape widths rows o row ends after items more bytes total l at fits grown up long sum =
+    let c = comes rows o row l.done l.rest l.parted at in
+    let before = values_of l.done in
+    let values : values_of (l.done ++ (o, row) ∷ []) ≡ before ++ row ∷ [] = map-append (λ (e : Entry). e.1) l.done ((o, row) ∷ []) in
+    let out : AreLaidOut shape widths (before ++ row ∷ []) after more total = record {
+      held = held_more shape widths [] before row l.out.held (holds_row shape widths ends items before row l.out.reached l.out.counted fits);
+      reached = λ f. grown f ∙ ap (λ n. n + part_bytes f row) (l.out.reached f) ∙ sym (more_bytes f before row);
+      counted = up ∙ ap (λ n. n + items_of_row row) l.out.counted ∙ sym (more_items before row);
+      long = long ∙ l.out.long;
+      total = (let whole = sum_by-append row_bytes before (row ∷ []) in let was = l.out.total in grind (arith, whole, was, sum));
+    } in
+    record { done = l.done ++ (o, row) ∷ []; rest = c.behind; parted = c.parted; out = subst (λ rs. AreLaidOut shape widths rs after more total) (sym values) out }
 
 -- A row that does not fit: the layout does not hold the rows.
-pub misfit : (shape : Shape) (widths : List ℕ) (es : List Entry) (index : ℕ) (e : Entry) (ends : List ℕ) (items bytes : ℕ) → AreLaidOut shape widths (values_of (take index es)) ends items bytes → index < length es → e ≡ get_or es index e
-    → (FitsBehind shape widths ends items e.1 → ⊥) → HoldsRows shape widths [] (values_of es) → ⊥
-misfit shape widths es index e ends items bytes l inside is wide held =
-    let rows = values_of (take index es) in
-    let at = held_at shape widths [] rows e.1 (values_of (drop (index + 1) es)) (subst (HoldsRows shape widths []) (values_whole es index e inside is) held) in
-    wide (fits_row shape widths ends items rows e.1 l.reached l.counted at)
+pub misfit : (shape : Shape) (widths : List ℕ) (rows : RowMap) (o : ℕ) (row : Row) (ends : List ℕ) (items bytes : ℕ) → Laid shape widths rows o ends items bytes → get rows o ≡ Some row
+    → (FitsBehind shape widths ends items row → ⊥) → HoldsRows shape widths [] (values_of (entries rows)) → ⊥
+misfit shape widths rows o row ends items bytes l at wide held =
+    let c = comes rows o row l.done l.rest l.parted at in
+    let whole : values_of (entries rows) ≡ values_of l.done ++ row ∷ values_of c.behind =
+    ap values_of l.parted.whole ∙ map-append (λ (e : Entry). e.1) l.done l.rest ∙ ap (λ (es : List Entry). values_of l.done ++ values_of es) c.is in
+    let at_row = held_at shape widths [] (values_of l.done) row (values_of c.behind) (subst (HoldsRows shape widths []) whole held) in
+    wide (fits_row shape widths ends items (values_of l.done) row l.out.reached l.out.counted at_row)
 
--- Each entry is of the kind of its type where each row is.
-pub kinds_of : (shape : Shape) (rows : RowMap) (es : List Entry) → es ≡ entries rows → IsStrictlySortedBy nat_cmp (keys_of es) → AreOfKind shape rows → All (λ e. IsOfKind shape e.1) es
-kinds_of shape rows es same sorted kinds k d inside =
-    kinds (get_or es k d).0 (get_or es k d).1 (get-entries rows (get_or es k d).0 ∙ ap (find nat_cmp (get_or es k d).0) (sym same) ∙ found_at es (get_or es k d).0 k d sorted inside refl)
+-- All rows are laid out.
+pub all_laid : (shape : Shape) (widths : List ℕ) (rows : RowMap) (o : ℕ) (ends : List ℕ) (items bytes : ℕ) → Laid shape widths rows o ends items bytes → bound_of (keys rows) ≤ o → AreLaidOut shape widths (values_of (entries rows)) ends items bytes
+all_laid shape widths rows o ends items bytes l high =
+    subst (λ es. AreLaidOut shape widths (values_of es) ends items bytes) (sym (all_done rows o l.done l.rest l.parted high)) l.out

@@ -20,7 +20,7 @@ use Rattle.type_state.proofs.Loading.{one_row, of_kind}
 use Rattle.type_state.proofs.PlacesUpTo.{readable_patch, spells_same, up_to, well_patch}
 use Rattle.type_state.proofs.SectionRows.{row_fits, row_ranges}
 use Rattle.type_state.proofs.Removal.{has_or}
-use Rattle.type_state.proofs.Moves.{key_live}
+use Rattle.type_state.proofs.Lookups.{key_live}
 
 -- An ordinal in a list stands at a place.
 at_place : (added : List ℕ) (o : ℕ) → Contains added o → (place : ℕ) × (slice_get added place ≡ Some o)

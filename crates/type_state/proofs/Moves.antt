@@ -1,25 +1,33 @@
 -- Which rows a patch moves others to.
-use Rattle.std.proofs.Common.{◌≡◌, ℕ, zero, suc, ◌+◌, ◌-◌, ◌^◌, ◌<◌, ◌≤◌, inl, inr, List, [], ◌∷◌, ◌++◌, length, get_or, None, Some, refl, ap, sym, ◌∙◌, subst, arith}
-use Rattle.std.specs.Prelude.{All, Contains, IsSome, is_some, slice_get}
+use Rattle.std.proofs.Common.{◌≡◌, ℕ, zero, suc, ◌+◌, ◌-◌, ◌^◌, ◌<◌, ◌≤◌, inl, inr, List, [], ◌∷◌, length, map, get_or, Option, None, Some, refl, ap, sym, ◌∙◌, subst, arith}
+use Rattle.std.specs.Prelude.{All, Contains, IsSome, slice_get}
+use Rattle.std.specs.Option.{option_map}
+use Rattle.std.specs.List.Sorted.{IsStrictlySortedBy}
 use Rattle.std.specs.Ordering.{nat_cmp}
-use Rattle.std.specs.FinMap.{find, entries, get, get-entries}
+use Rattle.std.specs.FinMap.{find, get, keys}
 use Rattle.std.specs.Map.{keys_of, values_of}
-use Rattle.std.proofs.lemmas.Bool.{cases_eq, false≢true}
-use Rattle.std.proofs.lemmas.List.{append-nil}
+use Rattle.std.proofs.lemmas.Bool.{cases_eq}
+use Rattle.std.proofs.lemmas.List.{get_or-map, length-map}
 use Rattle.std.proofs.lemmas.List.Elements.{All-contains}
-use Rattle.std.proofs.lemmas.Option.{slice_get_within, get_or_from_slice_get}
+use Rattle.std.proofs.lemmas.Map.Keys.{sorted_from_strictly_increasing}
+use Rattle.std.proofs.lemmas.Option.{slice_get_within, slice_get-get_or, slice_get-map}
+use Rattle.ordinal_set.specs.Ordinals.{bound_of}
 use Rattle.schema_model.specs.declared.schema.Shape.{Shape}
+use Rattle.schema_model.specs.declared.rows.row.Row.{Row}
 use Rattle.schema_model.specs.Table.{RowMap}
-use Rattle.schema_model.proofs.RowEntries.{skips, finds}
-use Rattle.type_state.specs.declared.fault.RowFault.{RowFault}
+use Rattle.type_state.specs.declared.differences.Differences.{Differences}
+use Rattle.type_state.specs.declared.moving.Move.{Move}
 use Rattle.type_state.specs.declared.patch.PatchSection.{PatchSection}
+use Rattle.type_state.specs.Differences.{AreApart, AreBelow, Difference, present, removal, rows_with}
 use Rattle.type_state.specs.Layout.{places_of}
-use Rattle.type_state.specs.Patches.{IsMovedBy, RefusesMove}
-use Rattle.type_state.specs.Moving.{AreAddable, AreAdded, IsMoved, Leaves, UnlessMemory}
-use Rattle.type_state.proofs.Entries.{found_at}
-use Rattle.type_state.proofs.Rising.{Entry, RiseFrom, none_is_not, from_increasing}
+use Rattle.type_state.specs.Patches.{IsMovedBy, MovesRows}
+use Rattle.type_state.specs.Moving.{IsDifferent, IsMoved, IsWithin}
+use Rattle.type_state.proofs.DifferingRows.{either, get_with}
+use Rattle.type_state.proofs.Entries.{below_bound}
+use Rattle.type_state.proofs.Lookups.{found, skipped}
+use Rattle.type_state.proofs.MovedRows.{one_result}
 use Rattle.type_state.proofs.Removal.{has_or}
-use Rattle.type_state.proofs.Joins.{find_behind, past_none, some_behind, AreSmall}
+use Rattle.type_state.proofs.Rising.{RiseFrom, none_is_not, from_sorted}
 
 -- ---- what is found among the added rows
 
@@ -28,119 +36,151 @@ not_below low [] k o rise at = absurd cc
 not_below low (m ∷ os) zero o rise at = let same : m ≡ o = cc in omega (arith, rise.0)
 not_below low (m ∷ os) (suc k) o rise at = let above = not_below (m + 1) os k o rise.1 at in omega (arith, rise.0)
 
--- What is found under the ordinal at a place is the row at the place.
-found_at_place : (low : ℕ) (rows : List Entry) (k o : ℕ) → RiseFrom low (keys_of rows) → slice_get (keys_of rows) k ≡ Some o → find nat_cmp o rows ≡ slice_get (values_of rows) k
+-- What is found under the ordinal at a place is what stands at the place.
+found_at_place : {X : Type 0} (low : ℕ) (es : List (ℕ × X)) (k o : ℕ) → RiseFrom low (keys_of es) → slice_get (keys_of es) k ≡ Some o → find nat_cmp o es ≡ slice_get (values_of es) k
 found_at_place low [] k o rise at = absurd cc
-found_at_place low (e ∷ rows) zero o rise at = let same : e.0 ≡ o = cc in subst (λ q. find nat_cmp q (e ∷ rows) ≡ Some e.1) same (finds e rows)
-found_at_place low (e ∷ rows) (suc k) o rise at =
-    let above = not_below (e.0 + 1) (keys_of rows) k o rise.1 at in
-    skips o e rows (λ same. omega (arith, same, above)) ∙ found_at_place (e.0 + 1) rows k o rise.1 at
+found_at_place low (e ∷ es) zero o rise at = let same : e.0 ≡ o = cc in found o e es (sym same)
+found_at_place low (e ∷ es) (suc k) o rise at =
+    let above = not_below (e.0 + 1) (keys_of es) k o rise.1 at in
+    skipped o e es (λ same. omega (arith, same, above)) ∙ found_at_place (e.0 + 1) es k o rise.1 at
 
 behind : (o m : ℕ) (os : List ℕ) → Contains os o → Contains (m ∷ os) o
 behind o m os at = (suc at.0, omega (arith, at.1), at.2)
 
 -- Under another ordinal nothing is found.
-lacks : (o : ℕ) (rows : List Entry) → (Contains (keys_of rows) o → ⊥) → find nat_cmp o rows ≡ None
+lacks : {X : Type 0} (o : ℕ) (es : List (ℕ × X)) → (Contains (keys_of es) o → ⊥) → find nat_cmp o es ≡ None
 lacks o [] none = refl
-lacks o (e ∷ rows) none = skips o e rows (λ same. none (0, omega arith, sym same)) ∙ lacks o rows (λ at. none (behind o e.0 (keys_of rows) at))
+lacks o (e ∷ es) none = skipped o e es (λ same. none (0, omega arith, sym same)) ∙ lacks o es (λ at. none (behind o e.0 (keys_of es) at))
 
-found_below : (o limit : ℕ) (rows : List Entry) → All (λ e. e.0 < limit) rows → IsSome (find nat_cmp o rows) → o < limit
-found_below o limit [] small some = absurd (false≢true some)
-found_below o limit (e ∷ rows) small some = elim (cases_eq o e.0) [
-  | inl same ↦ (let low = small 0 e (omega arith) in omega (arith, same, low))
-  | inr other ↦ found_below o limit rows (λ k d inside. small (suc k) d (omega arith)) (subst IsSome (skips o e rows other) some)
+all_below : (os : List ℕ) (limit : ℕ) → All (λ o. o < limit) os → bound_of os ≤ limit
+unfolding bound_of
+all_below [] limit below = omega arith
+all_below (o ∷ os) limit below = let first = below 0 0 (omega arith) in let rest = all_below os limit (λ k d inside. below (suc k) d (omega arith)) in omega (arith, first, rest)
+
+-- ---- what a patch makes differ
+
+pub removed_keys : (os : List ℕ) → keys_of (map removal os) ≡ os
+removed_keys [] = refl
+removed_keys (o ∷ os) = ap (λ rest. o ∷ rest) (removed_keys os)
+
+removed_found : (os : List ℕ) (o : ℕ) → Contains os o → find nat_cmp o (map removal os) ≡ Some None
+removed_found [] o at = absurd (omega (arith, at.1))
+removed_found (r ∷ os) o (zero, inside, is) = found o (removal r) (map removal os) (sym is)
+removed_found (r ∷ os) o (suc k, inside, is) = elim (cases_eq o r) [
+  | inl same ↦ found o (removal r) (map removal os) same
+  | inr other ↦ skipped o (removal r) (map removal os) other ∙ removed_found os o (k, omega arith, is)
 ]
 
--- A key is live.
-pub key_live : (rows : List Entry) (k d : ℕ) → k < length (keys_of rows) → IsSome (find nat_cmp (get_or (keys_of rows) k d) rows)
-key_live [] k d inside = absurd (omega arith)
-key_live (e ∷ rows) zero d inside = ap is_some (finds e rows)
-key_live (e ∷ rows) (suc k) d inside = some_behind (get_or (keys_of rows) k d) e rows (key_live rows k d (omega arith))
+module _ (shape : Shape) (patch : PatchSection) (old : RowMap) (ds : Differences) (d : IsDifferent shape patch old ds) where
+  free : (o : ℕ) → Contains patch.added o → get old o ≡ None
+  free o at = All-contains (λ m. get old m ≡ None) patch.added o d.addable.free at
 
--- ---- what two lists make together
+  live : (o : ℕ) → Contains patch.removed o → IsSome (get old o)
+  live o at = All-contains (λ m. IsSome (get old m)) patch.removed o d.removable.live at
 
-pub keys_small : (rows : List Entry) (added : List ℕ) (places : ℕ) → keys_of rows ≡ added → All (λ o. o < places) added → places ≤ 2 ^ 22 → AreSmall rows
-keys_small rows added places same placed few k d inside = small rows (subst (All (λ o. o < places)) (sym same) placed) k d inside
-  where
-    small : (es : List Entry) → All (λ o. o < places) (keys_of es) → (k : ℕ) (d : Entry) → k < length es → (get_or es k d).0 < 2 ^ 32 - 1
-    small [] all k d inside = absurd (omega arith)
-    small (e ∷ es) all zero d inside = let low = all 0 0 (omega arith) in omega (arith, low, few)
-    small (e ∷ es) all (suc k) d inside = small es (λ i n l. all (suc i) n (omega arith)) k d (omega arith)
+  not_added : (o : ℕ) → (Contains patch.added o → ⊥) → find nat_cmp o ds.added.items ≡ None
+  not_added o out = lacks o ds.added.items (λ at. out (subst (λ os. Contains os o) d.added.keys at))
 
--- No ordinal is both among the rows that stay and among the added ones.
-pub apart : (old : RowMap) (removed added : List ℕ) (places : ℕ) (stays rows : List Entry) → Leaves old removed stays → AreAddable old places added → keys_of rows ≡ added → (o : ℕ) → IsSome (find nat_cmp o rows) → find nat_cmp o stays ≡ None
-apart old removed added places stays rows l a same o some = elim (has_or added o) [
-  | inl at ↦ not_staying old removed stays o l (All-contains (λ m. get old m ≡ None) added o a.free at)
-  | inr out ↦ absurd (none_is_not (find nat_cmp o rows) (lacks o rows (λ at. out (subst (λ os. Contains os o) same at))) some)
-]
-  where
-    not_staying : (old : RowMap) (removed : List ℕ) (stays : List Entry) (o : ℕ) → Leaves old removed stays → get old o ≡ None → find nat_cmp o stays ≡ None
-    not_staying old removed stays o l free = elim (has_or removed o) [ inl at ↦ l.gone o at | inr out ↦ l.kept o out ∙ free ]
+  removed_are : keys_of ds.removed.items ≡ patch.removed
+  removed_are = ap keys_of d.removed ∙ removed_keys patch.removed
 
-front_only : (o : ℕ) (stays rows : List Entry) → find nat_cmp o rows ≡ None → find nat_cmp o (stays ++ rows) ≡ find nat_cmp o stays
-front_only o stays rows none = find_behind o stays rows [] none ∙ ap (find nat_cmp o) (append-nil stays)
+  not_removed : (o : ℕ) → (Contains patch.removed o → ⊥) → find nat_cmp o ds.removed.items ≡ None
+  not_removed o out = lacks o ds.removed.items (λ at. out (subst (λ os. Contains os o) removed_are at))
 
--- The rows that stay and the added ones together are the moved ones.
-pub are_moved : (shape : Shape) (patch : PatchSection) (old new : RowMap) (stays rows : List Entry) → Leaves old patch.removed stays → AreAddable old (places_of patch.max) patch.added → All (λ e. e.0 < places_of patch.max) stays
-    → AreAdded shape patch rows → ((o : ℕ) → get new o ≡ find nat_cmp o (stays ++ rows)) → IsMoved shape patch old new
-are_moved shape patch old new stays rows l a placed r is = record {
-  added = values_of rows;
-  adds = r.adds;
-  ordinals = record { removed_rise = l.removable.rise; removed_live = l.removable.live; added_rise = a.rise; added_placed = a.placed; added_free = a.free };
-  moves = record {
-    gone = λ o at. is o ∙ past_none o stays rows (l.gone o at) ∙ absent o (λ added. none_is_not (get old o) (free o added) (All-contains (λ m. IsSome (get old m)) patch.removed o l.removable.live at));
+  pub are_apart : AreApart ds
+  are_apart = record {
+    removed = subst (IsStrictlySortedBy nat_cmp) (sym removed_are) (sorted_from_strictly_increasing patch.removed d.removable.rise);
+    added = subst (IsStrictlySortedBy nat_cmp) (sym d.added.keys) (sorted_from_strictly_increasing patch.added d.addable.rise);
+    apart = λ o some. elim (has_or patch.added o) [
+      | inl at ↦ not_removed o (λ gone. none_is_not (get old o) (free o at) (live o gone))
+      | inr out ↦ absurd (none_is_not (find nat_cmp o ds.added.items) (not_added o out) some)
+    ];
+  }
+
+  rise : RiseFrom 0 (keys_of ds.added.items)
+  rise = from_sorted (keys_of ds.added.items) are_apart.added
+
+  some_row : (rows : List Row) (place : ℕ) (rest : Option Row) → place < length rows → either (option_map present (slice_get rows place)) rest ≡ slice_get rows place
+  some_row [] place rest inside = absurd (omega arith)
+  some_row (row ∷ rows) zero rest inside = refl
+  some_row (row ∷ rows) (suc place) rest inside = some_row rows place rest (omega arith)
+
+  -- The rows with the differences are the old ones, moved by the patch.
+  pub are_moves : MovesRows old (rows_with old ds) patch.removed patch.added d.added.rows
+  are_moves = record {
+    gone = λ o at.
+        get_with old ds are_apart o
+        ∙ ap (λ f. either f (either (find nat_cmp o ds.removed.items) (get old o))) (not_added o (λ came. none_is_not (get old o) (free o came) (live o at)))
+        ∙ ap (λ f. either f (get old o)) (ap (find nat_cmp o) d.removed ∙ removed_found patch.removed o at);
     came = λ place o at.
-        (let at_key : slice_get (keys_of rows) place ≡ Some o = ap (λ os. slice_get os place) r.keys ∙ at in
-        is o ∙ past_none o stays rows (apart old patch.removed patch.added (places_of patch.max) stays rows l a r.keys o (found_some place o at_key)) ∙ found_at_place 0 rows place o rising at_key);
-    kept = λ o removed added. is o ∙ front_only o stays rows (absent o added) ∙ l.kept o removed;
-  };
-  placed = λ o some. elim (has_or patch.added o) [
-    | inl at ↦ All-contains (λ m. m < places_of patch.max) patch.added o a.placed at
-    | inr out ↦ found_below o (places_of patch.max) stays placed (subst IsSome (is o ∙ front_only o stays rows (absent o out)) some)
-  ];
-}
-  where
-    rising : RiseFrom 0 (keys_of rows)
-    rising = subst (RiseFrom 0) (sym r.keys) (from_increasing patch.added a.rise)
+        (let inside = slice_get_within patch.added place o at in
+        let each = d.added.adds.each in
+        get_with old ds are_apart o
+        ∙ ap (λ f. either f (either (find nat_cmp o ds.removed.items) (get old o)))
+        (found_at_place 0 ds.added.items place o rise (ap (λ os. slice_get os place) d.added.keys ∙ at) ∙ ap (λ rs. slice_get rs place) d.added.are ∙ slice_get-map present d.added.rows place)
+        ∙ some_row d.added.rows place (either (find nat_cmp o ds.removed.items) (get old o)) (omega (arith, each, inside)));
+    kept = λ o removed added.
+        get_with old ds are_apart o
+        ∙ ap (λ f. either f (either (find nat_cmp o ds.removed.items) (get old o))) (not_added o added)
+        ∙ ap (λ f. either f (get old o)) (not_removed o removed);
+  }
 
-    free : (o : ℕ) → Contains patch.added o → get old o ≡ None
-    free o at = All-contains (λ m. get old m ≡ None) patch.added o a.free at
+  -- Where the bound of the new rows is one of a place, each has a place.
+  pub are_moved : bound_of (keys (rows_with old ds)) ≤ places_of patch.max → IsMoved shape patch old (rows_with old ds)
+  are_moved placed = record {
+    added = d.added.rows;
+    adds = d.added.adds;
+    ordinals = record { removed_rise = d.removable.rise; removed_live = d.removable.live; added_rise = d.addable.rise; added_placed = d.addable.placed; added_free = d.addable.free };
+    moves = are_moves;
+    placed = λ o some. let below = below_bound (rows_with old ds) o some in omega (arith, below, placed);
+  }
 
-    absent : (o : ℕ) → (Contains patch.added o → ⊥) → find nat_cmp o rows ≡ None
-    absent o out = lacks o rows (λ at. out (subst (λ os. Contains os o) r.keys at))
+  -- Else the patch moves the rows to none.
+  pub not_placed : places_of patch.max < bound_of (keys (rows_with old ds)) → (rows : RowMap) → IsMovedBy shape patch old rows → ⊥
+  not_placed high rows m =
+      let same : rows ≡ rows_with old ds = one_result shape patch old rows (rows_with old ds) m.added d.added.rows m.adds d.added.adds m.moves are_moves in
+      let low = all_below (keys rows) (places_of patch.max) m.held.places in
+      let bound = ap (λ (r : RowMap). bound_of (keys r)) same in
+      omega (arith, low, bound, high)
 
-    found_some : (place o : ℕ) → slice_get (keys_of rows) place ≡ Some o → IsSome (find nat_cmp o rows)
-    found_some place o at =
-        let inside = slice_get_within (keys_of rows) place o at in
-        subst (λ q. IsSome (find nat_cmp q rows)) (get_or_from_slice_get (keys_of rows) place o 0 at) (key_live rows place 0 inside)
+  some_at : (rows : List Row) (place : ℕ) → place < length rows → IsSome (slice_get rows place)
+  some_at [] place inside = absurd (omega arith)
+  some_at (row ∷ rows) zero inside = refl
+  some_at (row ∷ rows) (suc place) inside = some_at rows place (omega arith)
 
--- ---- what refuses a move
+  added_below : (room : ℕ) → ((o : ℕ) → IsSome (get (rows_with old ds) o) → o < room) → AreBelow room ds.added.items
+  added_below room above k e inside =
+      let o = (get_or ds.added.items k e).0 in
+      let long = length-map ds.added.items (λ (f : Difference). f.0) in
+      let mapped = get_or-map (λ (f : Difference). f.0) ds.added.items k e o inside in
+      let at : Contains patch.added o = subst (λ os. Contains os o) d.added.keys (k, omega (arith, long), mapped) in
+      above o (some_came o at)
+    where
+      some_came : (o : ℕ) → Contains patch.added o → IsSome (get (rows_with old ds) o)
+      some_came o at =
+          let place = at.0 in
+          let each = d.added.adds.each in
+          let is : slice_get patch.added place ≡ Some o = slice_get-get_or patch.added place o at.1 ∙ ap Some at.2 in
+          subst IsSome (sym (are_moves.came place o is)) (some_at d.added.rows place (omega (arith, each, at.1)))
 
-entries_staying : (shape : Shape) (patch : PatchSection) (old rows : RowMap) (stays : List Entry) → Leaves old patch.removed stays → IsMovedBy shape patch old rows → (o : ℕ) → IsSome (find nat_cmp o stays) → o < places_of patch.max
-entries_staying shape patch old rows stays l m o some = elim (has_or patch.removed o) [
-  | inl at ↦ absurd (none_is_not (find nat_cmp o stays) (l.gone o at) some)
-  | inr out ↦
-      let live : IsSome (get old o) = subst IsSome (l.kept o out) some in
-      let other : Contains patch.added o → ⊥ = λ at. none_is_not (get old o) (All-contains (λ n. get old n ≡ None) patch.added o m.ordinals.added_free at) live in
-      key_of (λ n. n < places_of patch.max) o (entries rows) m.held.places (subst IsSome (sym (m.moves.kept o out other) ∙ get-entries rows o) live)
-]
-  where
-    key_of : (P : ℕ → Type 0) (o : ℕ) (es : List Entry) → All P (keys_of es) → IsSome (find nat_cmp o es) → P o
-    key_of P o [] all some = absurd (false≢true some)
-    key_of P o (e ∷ es) all some = elim (cases_eq o e.0) [
-      | inl same ↦ subst P (sym same) (all 0 0 (omega arith))
-      | inr differs ↦ key_of P o es (λ k d inside. all (suc k) d (omega arith)) (subst IsSome (skips o e es differs) some)
-    ]
+  pub added_small : places_of patch.max ≤ 2 ^ 22 → AreBelow (2 ^ 32 - 1) ds.added.items
+  added_small few k e inside =
+      let long = length-map ds.added.items (λ (f : Difference). f.0) in
+      let mapped = get_or-map (λ (f : Difference). f.0) ds.added.items k e 0 inside in
+      let placed : All (λ o. o < places_of patch.max) (keys_of ds.added.items) = subst (All (λ o. o < places_of patch.max)) (sym d.added.keys) d.addable.placed in
+      let low = placed k 0 (omega (arith, long, inside)) in
+      omega (arith, low, mapped, few)
 
-all_placed : (shape : Shape) (patch : PatchSection) (old rows : RowMap) (places : ℕ) (stays : List Entry) → Leaves old patch.removed stays → places ≡ places_of patch.max → IsMovedBy shape patch old rows → All (λ e. e.0 < places) stays
-all_placed shape patch old rows places stays l is m k d inside =
-    let o = (get_or stays k d).0 in
-    let some : IsSome (find nat_cmp o stays) = ap is_some (found_at stays o k d l.rising inside refl) in
-    subst (λ n. o < n) (sym is) (entries_staying shape patch old rows stays l m o some)
+  pub removed_below : AreBelow (bound_of (keys old)) ds.removed.items
+  removed_below = subst (AreBelow (bound_of (keys old))) (sym d.removed) (each patch.removed (λ o at. below_bound old o (live o at)))
+    where
+      each : (os : List ℕ) → ((o : ℕ) → Contains os o → o < bound_of (keys old)) → AreBelow (bound_of (keys old)) (map removal os)
+      each [] below k e inside = absurd (omega arith)
+      each (o ∷ os) below zero e inside = below o (0, omega arith, refl)
+      each (o ∷ os) below (suc k) e inside = each os (λ p at. below p (behind p o os at)) k e (omega arith)
 
--- A row that stays and has no place.
-pub not_placed : (shape : Shape) (patch : PatchSection) (old : RowMap) (places : ℕ) (stays : List Entry) (fault : RowFault) → Leaves old patch.removed stays → places ≡ places_of patch.max
-    → UnlessMemory (All (λ e. e.0 < places) stays → ⊥) fault → RefusesMove shape patch old fault
-not_placed shape patch old places stays RowFault.Memory l is bad = tt
-not_placed shape patch old places stays (RowFault.At reason o) l is bad = λ rows m. bad (all_placed shape patch old rows places stays l is m)
-not_placed shape patch old places stays (RowFault.Limit limit) l is bad = λ rows m. bad (all_placed shape patch old rows places stays l is m)
+  pub are_within : (next : Move) → next.differences ≡ ds → next.outline.bound ≡ bound_of (keys (rows_with old ds)) → IsWithin (bound_of (keys old)) next
+  are_within next same bound = record {
+    removed = subst (λ (x : Differences). AreBelow (bound_of (keys old)) x.removed.items) (sym same) removed_below;
+    added = subst (λ (x : Differences). AreBelow next.outline.bound x.added.items) (sym same) (added_below next.outline.bound (λ o some. let below = below_bound (rows_with old ds) o some in omega (arith, below, bound)));
+  }

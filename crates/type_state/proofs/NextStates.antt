@@ -30,7 +30,7 @@ equal Equal e = refl
 equal Greater e = absurd (false≢true e)
 
 -- a live ordinal is below the bound
-live_below : (o : ℕ) (es : List (ℕ × Row)) → is_some (find nat_cmp o es) ≡ true → o < bound_of (map (λ e. e.0) es)
+pub live_below : (o : ℕ) (es : List (ℕ × Row)) → is_some (find nat_cmp o es) ≡ true → o < bound_of (map (λ e. e.0) es)
 unfolding bound_of
 live_below o [] live = absurd (false≢true live)
 live_below o (e ∷ es) live =
@@ -43,7 +43,7 @@ itself : (o : ℕ) → nat_cmp o o ≡ Equal
 itself o = grind arith
 
 -- the greatest live ordinal is the last below the bound
-greatest : (es : List (ℕ × Row)) → (bound_of (map (λ e. e.0) es) ≡ 0) ⊎ ((o : ℕ) × (bound_of (map (λ e. e.0) es) ≡ o + 1) × (is_some (find nat_cmp o es) ≡ true))
+pub greatest : (es : List (ℕ × Row)) → (bound_of (map (λ e. e.0) es) ≡ 0) ⊎ ((o : ℕ) × (bound_of (map (λ e. e.0) es) ≡ o + 1) × (is_some (find nat_cmp o es) ≡ true))
 unfolding bound_of
 greatest [] = inl refl
 greatest (e ∷ es) = elim (greatest es) [
@@ -60,10 +60,10 @@ greatest (e ∷ es) = elim (greatest es) [
     behind : (o : ℕ) (e : ℕ × Row) (es : List (ℕ × Row)) → is_some (find nat_cmp o es) ≡ true → is_some (find nat_cmp o (e ∷ es)) ≡ true
     behind o e es live = elim (is_eq (nat_cmp o e.0)) as (λ b. is_some (cond b (Some e.1) (find nat_cmp o es)) ≡ true) [ true ↦ refl | false ↦ live ]
 
-live_found : (rows : RowMap) (o : ℕ) → IsSome (get rows o) → is_some (find nat_cmp o (entries rows)) ≡ true
+pub live_found : (rows : RowMap) (o : ℕ) → IsSome (get rows o) → is_some (find nat_cmp o (entries rows)) ≡ true
 live_found rows o live = subst (λ r. is_some r ≡ true) (get-entries rows o) live
 
-found_live : (rows : RowMap) (o : ℕ) → is_some (find nat_cmp o (entries rows)) ≡ true → IsSome (get rows o)
+pub found_live : (rows : RowMap) (o : ℕ) → is_some (find nat_cmp o (entries rows)) ≡ true → IsSome (get rows o)
 found_live rows o live = subst (λ r. is_some r ≡ true) (sym (get-entries rows o)) live
 
 -- the bound of a type is that of its state's rows

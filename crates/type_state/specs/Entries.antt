@@ -1,12 +1,18 @@
--- The entries in which the rows of a half are kept.
-use Rattle.std.specs.Prelude.{◌≡◌, ℕ, List}
-use Rattle.std.specs.Map.{keys_of}
-use Rattle.std.specs.Ordering.{nat_cmp}
-use Rattle.std.specs.List.Sorted.{IsStrictlySortedBy}
+-- How the rows of a half are kept.
+use Rattle.std.specs.Prelude.{◌≡◌}
+use Rattle.std.specs.FinMap.{keys}
 use Rattle.ordinal_set.specs.Ordinals.{bound_of}
-use Rattle.schema_model.specs.declared.rows.row.Row.{Row}
+use Rattle.schema_model.specs.declared.schema.Shape.{Shape}
+use Rattle.type_state.specs.declared.differences.Others.{Others}
+use Rattle.type_state.specs.declared.outline.Outline.{Outline}
+use Rattle.type_state.specs.Differences.{AreOthers, other_rows}
+use Rattle.type_state.specs.Moving.{HasKind}
+use Rattle.type_state.specs.Slots.{Stored}
+use Rattle.type_state.specs.State.{half_of}
 
--- The ordinals rise, up to one below the bound.
-pub record IsKept (bound : ℕ) (entries : List (ℕ × Row)) : Type 0 where
-  pub rising : IsStrictlySortedBy nat_cmp (keys_of entries)
-  pub bounded : bound ≡ bound_of (keys_of entries)
+-- Both halves of a type are of its kind, the outline of each has the bound of its rows, and the other one is told beside the current one.
+pub record IsKept (shape : Shape) (stored : Stored) (current : Outline) (others : Others) (other : Outline) : Type 0 where
+  pub kinds : HasKind shape (half_of current stored.rows) (half_of other (other_rows stored.rows others))
+  pub current_bound : current.bound ≡ bound_of (keys stored.rows)
+  pub other_bound : other.bound ≡ bound_of (keys (other_rows stored.rows others))
+  pub told : AreOthers stored.room others

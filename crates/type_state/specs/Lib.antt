@@ -1,3 +1,4 @@
+pub mod Differences
 pub mod Ends
 pub mod Entries
 pub mod Holds
@@ -6,6 +7,7 @@ pub mod Loads
 pub mod Lookup
 pub mod Moving
 pub mod Patches
+pub mod Slots
 pub mod State
 pub mod Views
 pub mod WellFormed

@@ -1,15 +1,18 @@
 -- The parts of a move: which rows stay, which are added, and what the two make together.
-use Rattle.std.specs.Prelude.{◌≡◌, ℕ, ◌-◌, ◌^◌, ◌<◌, ◌≤◌, ◌⊎◌, List, [], ◌∷◌, Option, None, Some, IsSome, All, Contains, length, min, slice_index}
-use Rattle.std.specs.List.Sorted.{IsStrictlyIncreasing, IsStrictlySortedBy}
-use Rattle.std.specs.Ordering.{nat_cmp}
-use Rattle.std.specs.FinMap.{find, get, values}
+use Rattle.std.specs.Prelude.{◌≡◌, ℕ, ◌-◌, ◌^◌, ◌<◌, List, [], Option, None, Some, IsSome, All, length, map, min, slice_index}
+use Rattle.std.specs.List.Sorted.{IsStrictlyIncreasing}
+use Rattle.std.specs.FinMap.{get, values}
 use Rattle.std.specs.Map.{keys_of, values_of}
 use Rattle.schema_model.specs.Parts.{shape_fields}
 use Rattle.schema_model.specs.Table.{RowMap}
 use Rattle.schema_model.specs.declared.schema.Shape.{Shape}
 use Rattle.schema_model.specs.declared.rows.row.Row.{Row}
 use Rattle.type_state.specs.declared.fault.RowFault.{RowFault}
+use Rattle.type_state.specs.declared.differences.Differences.{Differences}
+use Rattle.type_state.specs.declared.moving.Move.{Move}
+use Rattle.type_state.specs.declared.outline.Outline.{Outline}
 use Rattle.type_state.specs.declared.patch.PatchSection.{PatchSection}
+use Rattle.type_state.specs.Differences.{AreBelow, present, removal}
 use Rattle.type_state.specs.Layout.{Layout, item_count, places_of}
 use Rattle.type_state.specs.State.{Half}
 use Rattle.type_state.specs.WordsHeld.{field_bytes, bytes_held}
@@ -36,23 +39,31 @@ pub record AreRemovable (old : RowMap) (removed : List ℕ) : Type 0 where
   pub rise : IsStrictlyIncreasing removed
   pub live : All (λ ordinal. IsSome (get old ordinal)) removed
 
--- The entries are the old rows without the removed ones.
-pub record Leaves (old : RowMap) (removed : List ℕ) (stays : List (ℕ × Row)) : Type 0 where
-  pub removable : AreRemovable old removed
-  pub rising : IsStrictlySortedBy nat_cmp (keys_of stays)
-  pub gone : (ordinal : ℕ) → Contains removed ordinal → find nat_cmp ordinal stays ≡ None
-  pub kept : (ordinal : ℕ) → (Contains removed ordinal → ⊥) → find nat_cmp ordinal stays ≡ get old ordinal
-
 -- The added ordinals rise, have a place, and are not live.
 pub record AreAddable (old : RowMap) (places : ℕ) (added : List ℕ) : Type 0 where
   pub rise : IsStrictlyIncreasing added
   pub placed : All (λ ordinal. ordinal < places) added
   pub free : All (λ ordinal. get old ordinal ≡ None) added
 
--- The entries are the added ordinals, each with the row that its place spells.
-pub record AreAdded (shape : Shape) (patch : PatchSection) (rows : List (ℕ × Row)) : Type 0 where
-  pub keys : keys_of rows ≡ patch.added
-  pub adds : AddsRows shape patch (values_of rows)
+-- The differences are the added ordinals, each with the row that its place spells.
+pub record AreAdded (shape : Shape) (patch : PatchSection) (differences : List (ℕ × Option Row)) : Type 0 where
+  pub keys : keys_of differences ≡ patch.added
+  pub rows : List Row
+  pub are : values_of differences ≡ map present rows
+  pub adds : AddsRows shape patch rows
+
+-- The ordinals of a patch fit the old rows, and these are the differences that it makes: no row under a removed ordinal, and under an added
+-- one the row that its place spells.
+pub record IsDifferent (shape : Shape) (patch : PatchSection) (old : RowMap) (differences : Differences) : Type 0 where
+  pub removable : AreRemovable old patch.removed
+  pub addable : AreAddable old (places_of patch.max) patch.added
+  pub removed : differences.removed.items ≡ map removal patch.removed
+  pub added : AreAdded shape patch differences.added.items
+
+-- The ordinals of the differences of a move are below the bounds of the rows before it and after it.
+pub record IsWithin (bound : ℕ) (next : Move) : Type 0 where
+  pub removed : AreBelow bound next.differences.removed.items
+  pub added : AreBelow next.outline.bound next.differences.added.items
 
 -- The rows are the old ones moved by the patch, and each has a place.
 pub record IsMoved (shape : Shape) (patch : PatchSection) (old new : RowMap) : Type 0 where
@@ -75,25 +86,6 @@ pub record IsHeld (shape : Shape) (layout : Layout) (rows : RowMap) : Type 0 whe
   pub parts : HoldsRows shape layout.widths [] (values rows)
   pub within : KeepsLimits shape layout rows
 
--- The first of some rows stands before the first of others.
-abbrev pub StandsBefore : List (ℕ × Row) → List (ℕ × Row) → Type 0
-StandsBefore [] others = ⊥
-StandsBefore (entry ∷ rows) [] = Unit {0}
-StandsBefore (entry ∷ rows) (other ∷ others) = entry.0 < other.0
-
--- The first of some rows does not stand below this ordinal.
-abbrev pub StandFrom : ℕ → List (ℕ × Row) → Type 0
-StandFrom ordinal [] = Unit {0}
-StandFrom ordinal (entry ∷ rows) = ordinal ≤ entry.0
-
--- The first row is taken from the front of some rows, and it is not behind the first of others.
-pub record IsTaken (rows others : List (ℕ × Row)) (entry : ℕ × Row) (rows_left others_left : List (ℕ × Row)) : Type 0 where
-  pub front : rows ≡ entry ∷ rows_left
-  pub same : others_left ≡ others
-  pub first : StandFrom entry.0 others
-
--- What is taken from two lists: the first row of the two, and none where both are empty.
-abbrev pub IsNextOf : List (ℕ × Row) → List (ℕ × Row) → Option (ℕ × Row) → List (ℕ × Row) → List (ℕ × Row) → Type 0
-IsNextOf rows others None rows_left others_left = (rows ≡ []) × (others ≡ [])
-IsNextOf rows others (Some entry) rows_left others_left =
-    IsTaken rows others entry rows_left others_left ⊎ IsTaken others rows entry others_left rows_left
+-- The layout of an outline.
+abbrev pub layout_at : Outline → Layout
+layout_at outline = record { max = outline.max; widths = outline.widths }

@@ -1,12 +1,12 @@
 -- The two states of a type that are kept: the current one, and beside it the one before or the next one.
 use Rattle.std.specs.Prelude.{◌≡◌, ℕ, List, [], length, Option, None, refl}
 use Rattle.std.specs.Coded.{Coded, code_by, coded×, coded_ℕ, coded_list, coded_option}
-use Rattle.std.specs.FinMap.{code, empty, from_entries}
+use Rattle.std.specs.FinMap.{code, empty}
 use Rattle.schema_model.specs.declared.schema.Schema.{Schema}
-use Rattle.schema_model.specs.declared.rows.row.Row.{Row}
 use Rattle.schema_model.specs.contracts.schema.Schema as schema_contract
 use Rattle.schema_model.specs.contracts.rows.row.Row as row_contract
 use Rattle.schema_model.specs.Table.{RowMap}
+use Rattle.type_state.specs.declared.outline.Outline.{Outline}
 use Rattle.type_state.specs.Layout.{Layout, width_count}
 
 -- The rows of a type in one state, by ordinal, and their layout in the blob that gave them.
@@ -24,9 +24,9 @@ pub record State : Type 0 where
 abbrev pub empty_half : Half
 empty_half = record { layout = record { max = None; widths = [] }; rows = empty }
 
--- The rows of a list of entries.
-abbrev pub rows_of : List (ℕ × Row) → RowMap
-rows_of entries = from_entries entries
+-- A half with this outline and these rows.
+abbrev pub half_of : Outline → RowMap → Half
+half_of outline rows = record { layout = record { max = outline.max; widths = outline.widths }; rows = rows }
 
 -- A half is laid out where it has as many widths as its kind has.
 abbrev pub IsLaidOut : Schema → Half → Type 0

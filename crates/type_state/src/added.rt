@@ -7,6 +7,7 @@ ghost use Rattle.type_state.specs.Loads.{IsLoadFault, TellsPlace};
 ghost use Rattle.type_state.specs.Patches.{AddsRows, IsReadablePatch, places_in};
 ghost use Rattle.type_state.specs.Moving.{AreAdded, UnlessMemory};
 
+use crate::differences::Difference;
 use crate::place::read_place;
 use crate::{PatchSection, RowFault};
 use schema_model::{PlaceFault, Row, Schema};
@@ -35,7 +36,7 @@ pub(crate) fn read_added(
     alloc: Global,
     schema: &Schema,
     patch: &PatchSection,
-) -> Result<Vec<(u32, Row)>, RowFault>
+) -> Result<Vec<Difference>, RowFault>
     requires readable { IsReadablePatch schema.now.shape patch.now }
     requires rising { IsStrictlyIncreasing patch.now.added }
     requires placed { All (λ ordinal. ordinal < places_of patch.now.max) patch.now.added }
@@ -45,7 +46,7 @@ pub(crate) fn read_added(
     let mut rows = Vec::new(alloc);
     for (place, ordinal) in patch.added.as_slice().iter().enumerate() {
         match read_row(alloc, schema, patch, place as u64) {
-            Ok(row) => rows.push((*ordinal as u32, row))?,
+            Ok(row) => rows.push((*ordinal as u32, Some(row)))?,
             Err(PlaceFault::Bad(reason)) => return Err(RowFault::At(reason, *ordinal)),
             Err(PlaceFault::Memory) => return Err(RowFault::Memory),
         }

@@ -1,63 +1,75 @@
 //! Whether a layout holds its rows, and whether they keep the limits.
-ghost use Rattle.std.specs.Prelude.{◌≡◌, ◌≤◌, ℕ, [], All, IfErr, MatchResult, length, slice_index};
-ghost use Rattle.std.specs.Map.{values_of};
+ghost use Rattle.std.specs.Prelude.{◌≡◌, ◌≤◌, ℕ, [], IfErr, MatchResult, length, slice_index};
+ghost use Rattle.std.specs.FinMap.{keys, values};
+ghost use Rattle.ordinal_set.specs.Ordinals.{bound_of};
 ghost use Rattle.schema_model.specs.Parts.{shape_fields};
+ghost use Rattle.type_state.specs.Differences.{AreApart, rows_with};
 ghost use Rattle.type_state.specs.Layout.{width_count};
 ghost use Rattle.type_state.specs.Holds.{HoldsRows};
-ghost use Rattle.type_state.specs.Ends.{IsOfKind};
 ghost use Rattle.type_state.specs.Loads.{IsLoadFault};
-ghost use Rattle.type_state.specs.Moving.{AreLaidOut, AreOfKind, IsHeld, UnlessMemory};
+ghost use Rattle.type_state.specs.Moving.{AreLaidOut, AreOfKind, IsHeld, UnlessMemory, layout_at};
 
 use crate::RowFault;
 use crate::count::row_len;
 use crate::ends::Ends;
-use crate::kept::Kept;
 use crate::load::MOST_ITEMS;
+use crate::moving::Move;
+use crate::slots::Slots;
 use crate::words::fixed_words;
 use schema_model::{Limit, MAX_BYTES, MAX_WORDS, Reason, Row, Schema};
 use std::alloc::Global;
 
 /// Lays out rows one behind the other, tests that each part of them fits its width, and counts their bytes; the ends are at 0.
-fn lay_out(
-    schema: &Schema,
-    widths: &[u32],
-    entries: &[(u32, Row)],
-    ends: &mut Ends,
-) -> Result<u64, RowFault>
-    requires widths { length widths.now ≡ width_count schema.now.shape }
-    requires narrow { (part : ℕ) → slice_index widths.now part ≤ 64 }
-    requires kinds { All (λ entry. IsOfKind schema.now.shape entry.1) entries.now }
+fn lay_out(schema: &Schema, next: &Move, rows: &Slots, ends: &mut Ends) -> Result<u64, RowFault>
+    requires widths { length next.now.outline.widths ≡ width_count schema.now.shape }
+    requires narrow { (part : ℕ) → slice_index next.now.outline.widths part ≤ 64 }
+    requires kinds { AreOfKind schema.now.shape (rows_with rows.now.rows next.now.differences) }
+    requires apart { AreApart next.now.differences }
+    requires bound { next.now.outline.bound ≡ bound_of (keys (rows_with rows.now.rows next.now.differences)) }
     requires zero { (f : ℕ) → slice_index ends.old.offsets.items f ≡ 0 }
     requires long { length ends.old.offsets.items ≡ length (shape_fields schema.now.shape) }
     requires none { ends.old.items ≡ 0 }
-    ensures tells { MatchResult result (AreLaidOut schema.now.shape widths.now (values_of entries.now) ends.new.offsets.items ends.new.items) (UnlessMemory (HoldsRows schema.now.shape widths.now [] (values_of entries.now) → ⊥)) }
+    ensures tells { MatchResult result (AreLaidOut schema.now.shape next.now.outline.widths (values (rows_with rows.now.rows next.now.differences)) ends.new.offsets.items ends.new.items) (UnlessMemory (HoldsRows schema.now.shape next.now.outline.widths [] (values (rows_with rows.now.rows next.now.differences)) → ⊥)) }
     ensures kind { IfErr result IsLoadFault }
 {
     let mut bytes: u64 = 0;
-    for (ordinal, row) in entries {
-        if !ends.add(&schema.shape, widths, row) {
-            return Err(RowFault::At(Reason::BadWidth, u64::from(*ordinal)));
+    for ordinal in 0..next.outline.bound {
+        if let Some(row) = next.differences.find(rows, ordinal) {
+            if !ends.add(&schema.shape, next.outline.widths.as_slice(), row) {
+                return Err(RowFault::At(Reason::BadWidth, u64::from(ordinal)));
+            }
+            if ends.items > MOST_ITEMS {
+                return Err(RowFault::Memory);
+            }
+            bytes = bytes.saturating_add(row_len(row));
         }
-        if ends.items > MOST_ITEMS {
-            return Err(RowFault::Memory);
-        }
-        bytes = bytes.saturating_add(row_len(row));
     }
     Ok(bytes)
 }
 
 /// Tests that the layout of a half holds its rows, laid out one behind the other, and that they keep the limits.
-pub(crate) fn test_held(alloc: Global, schema: &Schema, half: &Kept) -> Result<(), RowFault>
-    requires widths { length half.now.layout.widths ≡ width_count schema.now.shape }
-    requires narrow { (part : ℕ) → slice_index half.now.layout.widths part ≤ 64 }
-    requires kinds { AreOfKind schema.now.shape half.now.rows }
-    ensures tells { MatchResult result (λ _. IsHeld schema.now.shape half.now.layout half.now.rows) (UnlessMemory (IsHeld schema.now.shape half.now.layout half.now.rows → ⊥)) }
+pub(crate) fn test_held(
+    alloc: Global,
+    schema: &Schema,
+    next: &Move,
+    rows: &Slots,
+) -> Result<(), RowFault>
+    requires widths { length next.now.outline.widths ≡ width_count schema.now.shape }
+    requires narrow { (part : ℕ) → slice_index next.now.outline.widths part ≤ 64 }
+    requires kinds { AreOfKind schema.now.shape (rows_with rows.now.rows next.now.differences) }
+    requires apart { AreApart next.now.differences }
+    requires bound { next.now.outline.bound ≡ bound_of (keys (rows_with rows.now.rows next.now.differences)) }
+    ensures tells { MatchResult result (λ _. IsHeld schema.now.shape (layout_at next.now.outline) (rows_with rows.now.rows next.now.differences)) (UnlessMemory (IsHeld schema.now.shape (layout_at next.now.outline) (rows_with rows.now.rows next.now.differences) → ⊥)) }
     ensures kind { IfErr result IsLoadFault }
 {
     let mut ends = Ends::new(alloc, &schema.shape)?;
-    let widths = half.widths();
-    let bytes = lay_out(schema, widths, half.entries(), &mut ends)?;
-    let words = fixed_words(&schema.shape, half.max(), widths, ends.items);
+    let bytes = lay_out(schema, next, rows, &mut ends)?;
+    let words = fixed_words(
+        &schema.shape,
+        next.outline.max,
+        next.outline.widths.as_slice(),
+        ends.items,
+    );
     if words > u128::from(MAX_WORDS) {
         return Err(RowFault::Limit(Limit::Words));
     }

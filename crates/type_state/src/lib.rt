@@ -3,6 +3,7 @@
 
 mod added;
 mod count;
+mod differences;
 mod ends;
 mod fault;
 mod fits;
@@ -13,12 +14,14 @@ pub mod laws;
 mod load;
 mod lookup;
 mod moving;
+mod ordinals;
+mod outline;
 mod patch;
 mod place;
 mod section;
+mod slots;
 mod state;
 mod states;
-mod staying;
 mod views;
 mod words;
 

@@ -1,104 +1,150 @@
 //! From the current rows of a type and a patch to its next rows.
-ghost use Rattle.std.specs.Prelude.{◌≡◌, ◌<◌, ◌-◌, ◌^◌, ◌++◌, ℕ, [], None, IsSome, IsTrue, ◌↔◌, All, IfErr, IfOk, MatchResult, OnOk};
-ghost use Rattle.std.specs.Ordering.{nat_cmp};
-ghost use Rattle.std.specs.FinMap.{entries, find, get};
-ghost use Rattle.std.specs.Map.{keys_of};
-ghost use Rattle.std.specs.List.Sorted.{IsStrictlySortedBy};
+ghost use Rattle.std.specs.Prelude.{◌≡◌, ◌<◌, ◌≤◌, ◌-◌, ◌^◌, ℕ, List, None, IsSome, All, IfErr, IfOk, MatchResult, map};
+ghost use Rattle.std.specs.FinMap.{get, keys};
+ghost use Rattle.ordinal_set.specs.Ordinals.{bound_of};
+ghost use Rattle.type_state.specs.Differences.{AreApart, AreBelow, removal, rows_with};
 ghost use Rattle.type_state.specs.Loads.{IsLoadFault};
 ghost use Rattle.type_state.specs.Patches.{IsMovedBy, IsReadablePatch, RefusesMove, patch_layout};
-ghost use Rattle.type_state.specs.Moving.{AreOfKind, IsMoved, IsNextOf, StandsBefore};
+ghost use Rattle.type_state.specs.Moving.{AreOfKind, IsDifferent, IsMoved, IsWithin, layout_at};
 
 use crate::added::read_added;
+use crate::differences::{Difference, Differences};
 use crate::held::test_held;
-use crate::kept::Kept;
-use crate::staying::{staying, test_added, test_staying};
+use crate::ordinals::{test_added, test_removed};
+use crate::outline::Outline;
+use crate::slots::Slots;
 use crate::words::places;
 use crate::{PatchSection, RowFault};
 use hol_varint::Duplicate;
-use schema_model::{Row, Schema};
+use schema_model::{Reason, Schema};
 use std::alloc::{AllocError, Global};
-use std::collections::VecDeque;
 
-/// Rows with their ordinals, by rising ordinal, that are taken from the front.
-type RowQueue = VecDeque<(u32, Row)>;
+/// The rows that a patch moves others to, as differences from these.
+#[derive(Debug, Drop)]
+pub(crate) struct Move {
+    pub(crate) outline: Outline,
+    pub(crate) differences: Differences,
+}
 
-/// Whether the first of some rows stands before the first of others.
-fn is_before(some: &RowQueue, others: &RowQueue) -> bool
-    ensures { IsTrue result ↔ StandsBefore some.now.items others.now.items }
+/// Under each of some ordinals no row.
+fn removals(alloc: Global, ordinals: &[u64]) -> Result<Vec<Difference>, AllocError>
+    requires { All (λ ordinal. ordinal < 2 ^ 32) ordinals.now }
+    ensures { IfOk result (λ differences. differences.items ≡ map removal ordinals.now) }
 {
-    match (some.front(), others.front()) {
-        (Some(one), Some(other)) => one.0 < other.0,
-        (one, _) => one.is_some(),
+    let mut differences = Vec::new(alloc);
+    for ordinal in ordinals {
+        differences.push((*ordinal as u32, None))?;
+    }
+    Ok(differences)
+}
+
+/// A number above each ordinal that has a row with the differences, by one above those that had one before.
+fn first_bound(bound: u32, differences: &Differences) -> u32
+    requires apart { AreApart differences.now }
+    requires small { AreBelow (2 ^ 32 - 1) differences.now.added.items }
+    ensures before { bound ≤ result }
+    ensures added { AreBelow result differences.now.added.items }
+{
+    match differences.added.as_slice().last() {
+        Some(last) => bound.max(last.0 + 1),
+        None => bound,
     }
 }
 
-/// Takes the first row of two queues, which have no ordinal in common.
-fn next_of(some: &mut RowQueue, others: &mut RowQueue) -> Option<(u32, Row)>
-    ensures { IsNextOf some.old.items others.old.items result some.new.items others.new.items }
+/// One past the greatest ordinal that has a row with the differences, by a bound of those that had one before.
+fn bound_with(rows: &Slots, bound: u32, differences: &Differences) -> u32
+    requires apart { AreApart differences.now }
+    requires bound { bound ≡ bound_of (keys rows.now.rows) }
+    requires small { AreBelow (2 ^ 32 - 1) differences.now.added.items }
+    requires removed { AreBelow bound differences.now.removed.items }
+    ensures { result ≡ bound_of (keys (rows_with rows.now.rows differences.now)) }
 {
-    if is_before(some, others) {
-        some.pop_front()
-    } else {
-        others.pop_front()
+    let mut above = first_bound(bound, differences);
+    while above > 0 {
+        if differences.find(rows, above - 1).is_some() {
+            return above;
+        }
+        above -= 1;
     }
+    0
 }
 
-/// Puts the rows of two lists into an empty half by rising ordinal. Each list rises, and no ordinal is in both.
-fn join(half: &mut Kept, stays: Vec<(u32, Row)>, added: Vec<(u32, Row)>) -> Result<(), AllocError>
-    requires empty { entries half.old.rows ≡ [] }
-    requires stays_rise { IsStrictlySortedBy nat_cmp (keys_of stays.items) }
-    requires added_rise { IsStrictlySortedBy nat_cmp (keys_of added.items) }
-    requires stays_small { All (λ entry. entry.0 < 2 ^ 32 - 1) stays.items }
-    requires added_small { All (λ entry. entry.0 < 2 ^ 32 - 1) added.items }
-    requires apart { (ordinal : ℕ) → IsSome (find nat_cmp ordinal added.items) → find nat_cmp ordinal stays.items ≡ None }
-    ensures rows { OnOk result ((ordinal : ℕ) → get half.new.rows ordinal ≡ find nat_cmp ordinal (stays.items ++ added.items)) }
-    ensures layout { half.new.layout ≡ half.old.layout }
-{
-    let mut stays = VecDeque::from_vec(stays);
-    let mut added = VecDeque::from_vec(added);
-    while let Some((ordinal, row)) = next_of(&mut stays, &mut added) {
-        half.push(ordinal, row)?;
-    }
-    Ok(())
-}
-
-/// The rows that a patch moves others to, at its layout, where each has a place.
-fn joined(
+/// The differences of the rows that a patch moves others to. The removed ordinals are live, and so below the bound.
+fn differences_of(
     alloc: Global,
     schema: &Schema,
-    current: &Kept,
+    _bound: u32,
+    rows: &Slots,
     patch: &PatchSection,
-) -> Result<Kept, RowFault>
-    requires { IsReadablePatch schema.now.shape patch.now }
-    ensures tells { MatchResult result (λ half. IsMoved schema.now.shape patch.now current.now.rows half.rows) (RefusesMove schema.now.shape patch.now current.now.rows) }
-    ensures layout { IfOk result (λ half. half.layout ≡ patch_layout patch.now) }
+) -> Result<Differences, RowFault>
+    requires readable { IsReadablePatch schema.now.shape patch.now }
+    requires bound { _bound ≡ bound_of (keys rows.now.rows) }
+    ensures tells { MatchResult result (λ differences. IsDifferent schema.now.shape patch.now rows.now.rows differences) (RefusesMove schema.now.shape patch.now rows.now.rows) }
     ensures kind { IfErr result IsLoadFault }
 {
     let places = places(patch.max);
-    let stays = staying(alloc, current, patch.removed.as_slice())?;
-    test_added(current, patch.added.as_slice(), places)?;
-    test_staying(stays.as_slice(), places)?;
-    let added = read_added(alloc, schema, patch)?;
-    let mut half = Kept::new(alloc, patch.max, patch.widths.copy(alloc)?);
-    join(&mut half, stays, added)?;
-    Ok(half)
+    test_removed(rows, patch.removed.as_slice())?;
+    test_added(rows, patch.added.as_slice(), places)?;
+    Ok(Differences {
+        removed: removals(alloc, patch.removed.as_slice())?,
+        added: read_added(alloc, schema, patch)?,
+    })
 }
 
-/// The rows that a patch moves others to, at its layout, which holds them within the limits.
+/// The rows that a patch moves others to, at its layout, where each has a place.
+fn differing(
+    alloc: Global,
+    schema: &Schema,
+    bound: u32,
+    rows: &Slots,
+    patch: &PatchSection,
+) -> Result<Move, RowFault>
+    requires readable { IsReadablePatch schema.now.shape patch.now }
+    requires bound { bound ≡ bound_of (keys rows.now.rows) }
+    ensures tells { MatchResult result (λ next. IsMoved schema.now.shape patch.now rows.now.rows (rows_with rows.now.rows next.differences)) (RefusesMove schema.now.shape patch.now rows.now.rows) }
+    ensures layout { IfOk result (λ next. layout_at next.outline ≡ patch_layout patch.now) }
+    ensures bound { IfOk result (λ next. next.outline.bound ≡ bound_of (keys (rows_with rows.now.rows next.differences))) }
+    ensures apart { IfOk result (λ next. AreApart next.differences) }
+    ensures within { IfOk result (IsWithin bound) }
+    ensures kind { IfErr result IsLoadFault }
+{
+    let differences = differences_of(alloc, schema, bound, rows, patch)?;
+    let next_bound = bound_with(rows, bound, &differences);
+    if u64::from(next_bound) > places(patch.max) {
+        let last = u64::from(next_bound - 1);
+        return Err(RowFault::At(Reason::BadOrdinals, last));
+    }
+    let outline = Outline {
+        max: patch.max,
+        widths: patch.widths.copy(alloc)?,
+        bound: next_bound,
+    };
+    Ok(Move {
+        outline,
+        differences,
+    })
+}
+
+/// The rows that a patch moves others to, at its layout, which holds them within the limits; these have the bound.
 pub(crate) fn moved(
     alloc: Global,
     schema: &Schema,
-    current: &Kept,
+    bound: u32,
+    rows: &Slots,
     patch: &PatchSection,
-) -> Result<Kept, RowFault>
+) -> Result<Move, RowFault>
     requires readable { IsReadablePatch schema.now.shape patch.now }
-    requires kinds { AreOfKind schema.now.shape current.now.rows }
-    ensures tells { MatchResult result (λ half. IsMovedBy schema.now.shape patch.now current.now.rows half.rows) (RefusesMove schema.now.shape patch.now current.now.rows) }
-    ensures kinds { IfOk result (λ half. AreOfKind schema.now.shape half.rows) }
-    ensures layout { IfOk result (λ half. half.layout ≡ patch_layout patch.now) }
+    requires bound { bound ≡ bound_of (keys rows.now.rows) }
+    requires kinds { AreOfKind schema.now.shape rows.now.rows }
+    ensures tells { MatchResult result (λ next. IsMovedBy schema.now.shape patch.now rows.now.rows (rows_with rows.now.rows next.differences)) (RefusesMove schema.now.shape patch.now rows.now.rows) }
+    ensures kinds { IfOk result (λ next. AreOfKind schema.now.shape (rows_with rows.now.rows next.differences)) }
+    ensures layout { IfOk result (λ next. layout_at next.outline ≡ patch_layout patch.now) }
+    ensures bound { IfOk result (λ next. next.outline.bound ≡ bound_of (keys (rows_with rows.now.rows next.differences))) }
+    ensures apart { IfOk result (λ next. AreApart next.differences) }
+    ensures within { IfOk result (IsWithin bound) }
     ensures kind { IfErr result IsLoadFault }
 {
-    let half = joined(alloc, schema, current, patch)?;
-    test_held(alloc, schema, &half)?;
-    Ok(half)
+    let next = differing(alloc, schema, bound, rows, patch)?;
+    test_held(alloc, schema, &next, rows)?;
+    Ok(next)
 }

@@ -12,11 +12,16 @@ ghost use Rattle.type_state.specs.WellFormed.{IsReadable};
 ghost use Rattle.type_state.specs.Loads.{IsLoadFault, IsFreeRow, Loads, TellsLoad, layout_of};
 ghost use Rattle.type_state.specs.Patches.{IsMovedBy, IsReadablePatch, TellsMove, patch_layout};
 
+use crate::differences::Others;
 use crate::kept::Kept;
 use crate::load::load;
-use crate::moving::moved;
+use crate::lookup::{at, has};
+use crate::moving::{Move, moved};
+use crate::outline::Outline;
+use crate::slots::Slots;
 use crate::{PatchSection, RowFault, Section};
-use schema_model::{Row, Schema};
+use hol_varint::Duplicate;
+use schema_model::{Row, Schema, Widths};
 use std::alloc::{AllocError, Global};
 use std::marker::Model;
 use std::mem;
@@ -28,21 +33,24 @@ use std::mem;
 pub struct TypeState {
     alloc: Global,
     schema: Schema,
-    current: Kept,
-    other: Kept,
+    rows: Slots,
+    current: Outline,
+    others: Others,
+    other: Outline,
 }
 
 impl Model for TypeState {
-    ghost use Rattle.type_state.specs.State.{State, state_code};
-    ghost use Rattle.type_state.specs.Moving.{HasKind};
+    ghost use Rattle.type_state.specs.State.{State, half_of, state_code};
+    ghost use Rattle.type_state.specs.Differences.{other_rows};
+    ghost use Rattle.type_state.specs.Entries.{IsKept};
 
     ghost Value = { State };
 
     ghost coded = { state_code };
 
-    ghost view = { λ s. record { schema = s.schema; current = s.current; other = s.other } };
+    ghost view = { λ s. record { schema = s.schema; current = half_of s.current s.rows.rows; other = half_of s.other (other_rows s.rows.rows s.others) } };
 
-    ghost invariant = { λ s. HasKind s.schema.shape s.current s.other };
+    ghost invariant = { λ s. IsKept s.schema.shape s.rows s.current s.others s.other };
 }
 
 impl TypeState {
@@ -53,8 +61,10 @@ impl TypeState {
         TypeState {
             alloc,
             schema,
-            current: Kept::empty(alloc),
-            other: Kept::empty(alloc),
+            rows: Slots::new(alloc),
+            current: Outline::new(None, Widths::new(alloc)),
+            others: Others::Whole(Slots::new(alloc)),
+            other: Outline::new(None, Widths::new(alloc)),
         }
     }
 
@@ -84,7 +94,9 @@ impl TypeState {
         ensures current { self.new.current ≡ self.old.current }
     {
         let next = load(self.alloc, &self.schema, section)?;
-        self.other = next;
+        let Kept { outline, rows } = next;
+        self.others = Others::Whole(rows);
+        self.other = outline;
         Ok(())
     }
 
@@ -106,8 +118,15 @@ impl TypeState {
         ensures schema { self.new.schema ≡ self.old.schema }
         ensures current { self.new.current ≡ self.old.current }
     {
-        let half = moved(self.alloc, &self.schema, &self.current, patch)?;
-        self.other = half;
+        let bound = self.current.bound;
+        let next = moved(self.alloc, &self.schema, bound, &self.rows, patch)?;
+        let Move {
+            outline,
+            differences,
+        } = next;
+        self.rows.grow(bound.max(outline.bound) as usize)?;
+        self.others = Others::Differ(differences);
+        self.other = outline;
         Ok(())
     }
 
@@ -115,7 +134,8 @@ impl TypeState {
     pub fn discard_next(&mut self)
         ensures { self.new ≡ record self.old { other = empty_half } }
     {
-        self.other = Kept::empty(self.alloc);
+        self.others = Others::Whole(Slots::new(self.alloc));
+        self.other = Outline::new(None, Widths::new(self.alloc));
     }
 
     /// Makes the next half the current one, and the current one that of the state before. It takes no memory.
@@ -123,6 +143,7 @@ impl TypeState {
         requires { IsLaidOut self.old.schema self.old.other }
         ensures { self.new ≡ record { schema = self.old.schema; current = self.old.other; other = self.old.current } }
     {
+        self.others.exchange(&mut self.rows);
         mem::swap(&mut self.current, &mut self.other);
     }
 
@@ -130,21 +151,21 @@ impl TypeState {
     pub fn max(&self) -> Option<u32>
         ensures { result ≡ self.now.current.layout.max }
     {
-        self.current.max()
+        self.current.max
     }
 
     /// One past the greatest live ordinal of the current state, 0 for none.
     pub fn bound(&self) -> u32
         ensures { result ≡ bound_of (keys self.now.current.rows) }
     {
-        self.current.bound()
+        self.current.bound
     }
 
     /// One past the greatest ordinal that was live in the state before, 0 for none.
     pub fn bound_before(&self) -> u32
         ensures { result ≡ bound_of (keys self.now.other.rows) }
     {
-        self.other.bound()
+        self.other.bound
     }
 
     /// One past the greatest ordinal that is live in the next half, 0 for none.
@@ -152,21 +173,21 @@ impl TypeState {
         requires { IsLaidOut self.now.schema self.now.other }
         ensures { result ≡ bound_of (keys self.now.other.rows) }
     {
-        self.other.bound()
+        self.other.bound
     }
 
     /// Whether the current state has a row under the ordinal.
     pub fn is_live(&self, ordinal: u32) -> bool
         ensures { IsTrue result ↔ IsSome (get self.now.current.rows ordinal) }
     {
-        self.current.is_live(ordinal)
+        self.rows.find(u64::from(ordinal)).is_some()
     }
 
     /// Whether the state before had a row under the ordinal.
     pub fn was_live(&self, ordinal: u32) -> bool
         ensures { IsTrue result ↔ IsSome (get self.now.other.rows ordinal) }
     {
-        self.other.is_live(ordinal)
+        self.others.find(&self.rows, ordinal).is_some()
     }
 
     /// Whether the next half has a row under the ordinal.
@@ -174,7 +195,7 @@ impl TypeState {
         requires { IsLaidOut self.now.schema self.now.other }
         ensures { IsTrue result ↔ IsSome (get self.now.other.rows ordinal) }
     {
-        self.other.is_live(ordinal)
+        self.others.find(&self.rows, ordinal).is_some()
     }
 
     /// A copy of the row of the current state under a live ordinal.
@@ -182,14 +203,20 @@ impl TypeState {
         requires { IsSome (get self.now.current.rows ordinal) }
         ensures { IfOk result (λ row. get self.now.current.rows ordinal ≡ Some row) }
     {
-        self.current.row(alloc, ordinal)
+        match self.rows.find(u64::from(ordinal)) {
+            Some(row) => row.copy(alloc),
+            None => unreachable!(),
+        }
     }
 
     /// Whether the current state has a set with the element under the ordinal. It takes no memory.
     pub fn has(&self, ordinal: u32, element: u32) -> bool
         ensures { IsTrue result ↔ Contains (elements_of (get self.now.current.rows ordinal)) element }
     {
-        self.current.has(ordinal, element)
+        match self.rows.find(u64::from(ordinal)) {
+            Some(row) => has(row, element),
+            None => false,
+        }
     }
 
     /// The value beside the key in the map that the current state has under the ordinal; none where it has no map there, or one without the
@@ -197,7 +224,10 @@ impl TypeState {
     pub fn at(&self, ordinal: u32, key: u32) -> Option<u32>
         ensures { FindsIn (pairs_of (get self.now.current.rows ordinal)) key result }
     {
-        self.current.at(ordinal, key)
+        match self.rows.find(u64::from(ordinal)) {
+            Some(row) => at(row, key),
+            None => None,
+        }
     }
 
     /// A copy of the row of the state before under an ordinal that was live.
@@ -205,7 +235,10 @@ impl TypeState {
         requires { IsSome (get self.now.other.rows ordinal) }
         ensures { IfOk result (λ row. get self.now.other.rows ordinal ≡ Some row) }
     {
-        self.other.row(alloc, ordinal)
+        match self.others.find(&self.rows, ordinal) {
+            Some(row) => row.copy(alloc),
+            None => unreachable!(),
+        }
     }
 
     /// A copy of the row of the next half under an ordinal that is live there.
@@ -214,6 +247,9 @@ impl TypeState {
         requires live { IsSome (get self.now.other.rows ordinal) }
         ensures { IfOk result (λ row. get self.now.other.rows ordinal ≡ Some row) }
     {
-        self.other.row(alloc, ordinal)
+        match self.others.find(&self.rows, ordinal) {
+            Some(row) => row.copy(alloc),
+            None => unreachable!(),
+        }
     }
 }

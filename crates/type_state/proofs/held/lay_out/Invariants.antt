@@ -1,7 +1,6 @@
-use Rattle.std.proofs.Common.{take}
-use Rattle.std.specs.Map.{values_of}
-use Rattle.type_state.specs.Moving.{AreLaidOut}
+use Rattle.type_state.specs.Differences.{rows_with}
+use Rattle.type_state.proofs.Layouts.{Laid}
 use Rattle.type_state.proofs.held.lay_out.Given as goal
 
 abbrev pub invariant-loop-ordinal : goal.invariant-loop-ordinal
-invariant-loop-ordinal l = AreLaidOut l.schema.shape l.widths (values_of (take l.ordinal-index l.entries)) l.ends.offsets.items l.ends.items l.bytes
+invariant-loop-ordinal l = Laid l.schema.shape l.next.outline.widths (rows_with l.rows.rows l.next.differences) l.ordinal l.ends.offsets.items l.ends.items l.bytes

@@ -1,8 +1,9 @@
 use Rattle.std.proofs.Common.{Ok, subst, sym}
 use Rattle.hol_varint.specs.Yields.{Yields}
 use Rattle.schema_model.specs.Table.{RowMap}
-use Rattle.type_state.specs.State.{State}
+use Rattle.type_state.specs.State.{Half, IsLaidOut, State}
 use Rattle.type_state.specs.Loads.{IsFreeRow, Loads}
+use Rattle.type_state.specs.Moving.{AreOfKind}
 use Rattle.type_state.specs.WellFormed.{IsReadable}
 use Rattle.type_state.proofs.Loading.{exact}
 use Rattle.type_state.proofs.Places.{laid_out}
@@ -17,9 +18,15 @@ returns-clause-exact c =
 pub returns-clause-laid : goal.returns-clause-laid
 returns-clause-laid c =
     let readable : IsReadable c.self.inside.schema.shape c.args.section.now = subst (λ s. IsReadable s.schema.shape c.args.section.now) (sym c.self.view_is) c.requires in
-    laid_out c.self.inside.schema c.args.section.now c.in_ok-next.next readable c.in_ok-next.ensures.layout
+    subst (λ (half : Half). IsLaidOut c.self.inside.schema half) (sym c.next.view_is) (laid_out c.self.inside.schema c.args.section.now c.in_ok-next.next readable c.in_ok-next.ensures.layout)
 
 pub invariant_of-self : goal.invariant_of-self
 invariant_of-self c =
     let readable : IsReadable c.self.inside.schema.shape c.args.section.now = subst (λ s. IsReadable s.schema.shape c.args.section.now) (sym c.self.view_is) c.requires in
-    record { current_rows = c.self.invariant.current_rows; other_rows = rows_of_kind c.self.inside.schema.shape c.args.section.now c.in_ok-next.next.rows readable c.in_ok-next.ensures.tells.is }
+    let kinds = rows_of_kind c.self.inside.schema.shape c.args.section.now c.in_ok-next.next.rows readable c.in_ok-next.ensures.tells.is in
+    record {
+      kinds = record { current_rows = c.self.invariant.kinds.current_rows; other_rows = subst (λ (half : Half). AreOfKind c.self.inside.schema.shape half.rows) (sym c.next.view_is) kinds };
+      current_bound = c.self.invariant.current_bound;
+      other_bound = c.next.invariant;
+      told = tt;
+    }

@@ -1,0 +1,37 @@
+use Rattle.std.proofs.Common.{refl, subst, sym, arith}
+use Rattle.type_state.specs.declared.moving.Move.{Move}
+use Rattle.type_state.specs.Differences.{AreBelow}
+use Rattle.type_state.specs.Moving.{IsWithin}
+use Rattle.type_state.proofs.Moves.{added_small, are_apart, are_moved, are_within, not_placed, removed_below}
+use Rattle.type_state.proofs.moving.differing.Goals as goal
+
+pub bound_with-next_bound-requires-clause-apart : goal.bound_with-next_bound-requires-clause-apart
+bound_with-next_bound-requires-clause-apart c = are_apart c.args.schema.now.shape c.args.patch.now c.args.rows.now.rows c.in_ok-differences.differences c.in_ok-differences.ensures.tells
+
+pub bound_with-next_bound-requires-clause-small : goal.bound_with-next_bound-requires-clause-small
+bound_with-next_bound-requires-clause-small c =
+    added_small c.args.schema.now.shape c.args.patch.now c.args.rows.now.rows c.in_ok-differences.differences c.in_ok-differences.ensures.tells (omega (arith, c.requires.readable.few))
+
+pub bound_with-next_bound-requires-clause-removed : goal.bound_with-next_bound-requires-clause-removed
+bound_with-next_bound-requires-clause-removed c =
+    subst (λ bound. AreBelow bound c.in_ok-differences.differences.removed.items) (sym c.requires.bound)
+    (removed_below c.args.schema.now.shape c.args.patch.now c.args.rows.now.rows c.in_ok-differences.differences c.in_ok-differences.ensures.tells)
+
+pub returns-then-from-places-clause-tells : goal.returns-then-from-places-clause-tells
+returns-then-from-places-clause-tells c =
+    not_placed c.args.schema.now.shape c.args.patch.now c.args.rows.now.rows c.in_ok-differences.differences c.in_ok-differences.ensures.tells
+    (omega (arith, c.bound_with-next_bound.ensures, c.from.ensures, c.places.ensures.is, c.if-from-places.true))
+
+pub returns-clause-tells : goal.returns-clause-tells
+returns-clause-tells c =
+    are_moved c.args.schema.now.shape c.args.patch.now c.args.rows.now.rows c.in_ok-differences.differences c.in_ok-differences.ensures.tells
+    (omega (arith, c.bound_with-next_bound.ensures, c.from.ensures, c.places.ensures.is, c.if-from-places.false))
+
+pub returns-clause-apart : goal.returns-clause-apart
+returns-clause-apart c = are_apart c.args.schema.now.shape c.args.patch.now c.args.rows.now.rows c.in_ok-differences.differences c.in_ok-differences.ensures.tells
+
+pub returns-clause-within : goal.returns-clause-within
+returns-clause-within c =
+    let next : Move = record { outline = record { max = c.args.patch.now.max; widths = c.in_ok-copy.field-0; bound = c.bound_with-next_bound.result }; differences = c.in_ok-differences.differences } in
+    subst (λ bound. IsWithin bound next) (sym c.requires.bound)
+    (are_within c.args.schema.now.shape c.args.patch.now c.args.rows.now.rows c.in_ok-differences.differences c.in_ok-differences.ensures.tells next refl c.bound_with-next_bound.ensures)

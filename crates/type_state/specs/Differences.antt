@@ -1,0 +1,65 @@
+-- Rows that are told by their differences from other rows.
+use Rattle.std.specs.Prelude.{◌≡◌, ℕ, ◌<◌, List, [], ◌∷◌, Option, None, Some, IsSome, All, map}
+use Rattle.std.specs.Ordering.{nat_cmp}
+use Rattle.std.specs.FinMap.{find, get, insert, remove}
+use Rattle.std.specs.List.Sorted.{IsStrictlySortedBy}
+use Rattle.std.specs.Map.{keys_of}
+use Rattle.schema_model.specs.declared.rows.row.Row.{Row}
+use Rattle.schema_model.specs.Table.{RowMap}
+use Rattle.type_state.specs.declared.differences.Differences.{Differences}
+use Rattle.type_state.specs.declared.differences.Others.{Others}
+
+-- An ordinal, and the row that is to stand under it, if one is.
+abbrev pub Difference : Type 0
+Difference = ℕ × Option Row
+
+-- No row is to stand under the ordinal.
+abbrev pub removal : ℕ → Difference
+removal ordinal = (ordinal, None)
+
+-- A row is there.
+abbrev pub present : Row → Option Row
+present row = Some row
+
+-- The rows with this difference.
+abbrev pub differ_at : RowMap → Difference → RowMap
+differ_at rows (ordinal, None) = remove rows ordinal
+differ_at rows (ordinal, Some row) = insert rows ordinal row
+
+-- The rows with each of these differences.
+unfoldable pub differing : RowMap → List Difference → RowMap
+differing rows [] = rows
+differing rows (difference ∷ differences) = differing (differ_at rows difference) differences
+
+-- The differences that lead back to these rows.
+abbrev pub leading_back : RowMap → List Difference → List Difference
+leading_back rows differences = map (λ difference. (difference.0, get rows difference.0)) differences
+
+-- The ordinals of both parts of the differences rise, and none is in both.
+pub record AreApart (differences : Differences) : Type 0 where
+  pub removed : IsStrictlySortedBy nat_cmp (keys_of differences.removed.items)
+  pub added : IsStrictlySortedBy nat_cmp (keys_of differences.added.items)
+  pub apart : (ordinal : ℕ) → IsSome (find nat_cmp ordinal differences.added.items) → find nat_cmp ordinal differences.removed.items ≡ None
+
+-- The ordinals of some differences are below a number.
+abbrev pub AreBelow : ℕ → List Difference → Type 0
+AreBelow room differences = All (λ difference. difference.0 < room) differences
+
+-- The rows with the differences of both parts.
+abbrev pub rows_with : RowMap → Differences → RowMap
+rows_with rows differences = differing (differing rows differences.removed.items) differences.added.items
+
+-- The rows of the other half, beside these.
+abbrev pub other_rows : RowMap → Others → RowMap
+other_rows rows (Others.Whole slots) = slots.rows
+other_rows rows (Others.Differ differences) = rows_with rows differences
+
+-- The other half is told beside the current one, whose rows have so many slots.
+pub record AreTold (room : ℕ) (differences : Differences) : Type 0 where
+  pub apart : AreApart differences
+  pub removed : AreBelow room differences.removed.items
+  pub added : AreBelow room differences.added.items
+
+abbrev pub AreOthers : ℕ → Others → Type 0
+AreOthers room (Others.Whole slots) = Unit {0}
+AreOthers room (Others.Differ differences) = AreTold room differences
