@@ -1,5 +1,4 @@
 pub mod KeyedEntries
 pub mod Keeping
 pub mod Puts
-pub mod OneKey
 pub mod SlotRows

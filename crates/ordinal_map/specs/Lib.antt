@@ -1,4 +1,3 @@
 pub mod Assign
-pub mod RowKey
 pub mod Slots
 pub mod States

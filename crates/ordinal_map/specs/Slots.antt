@@ -6,7 +6,7 @@ use Rattle.std.specs.Str.{bytes_eq}
 use Rattle.schema_model.specs.declared.rows.row.Row.{Row}
 use Rattle.schema_model.specs.Table.{RowMap}
 use Rattle.ordinal_map.specs.Assign.{IsPast}
-use Rattle.ordinal_map.specs.RowKey.{row_key}
+use Rattle.row_keys.specs.RowKey.{row_key}
 use Rattle.ordinal_map.specs.declared.slot.Slot.{Slot}
 use Rattle.ordinal_map.specs.declared.slot.Slot.TheVariants.{Free, Previous, Current, Both}
 

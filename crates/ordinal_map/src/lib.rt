@@ -2,7 +2,6 @@
 #![tactic(auto)]
 
 mod fault;
-mod key;
 mod map;
 mod row_index;
 mod slot;

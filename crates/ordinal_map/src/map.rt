@@ -2,16 +2,16 @@
 ghost use Rattle.std.specs.Prelude.{◌≡◌, ◌≢◌, ◌↔◌, ℕ, ◌<◌, ◌^◌, Some, Ok, Err, IsSome, IsTrue, MatchBool};
 ghost use Rattle.std.specs.FinMap.{get, empty};
 ghost use Rattle.hol_varint.specs.Yields.{Yields};
-ghost use Rattle.ordinal_map.specs.RowKey.{row_key as key_of};
+ghost use Rattle.row_keys.specs.RowKey.{row_key as key_of};
 ghost use Rattle.ordinal_map.specs.Assign.{Agree, Holds, IsFreePut, IsPast, IsPut, IsTaken, TellsPut};
 
 use crate::fault::PutRowFault;
-use crate::key::row_key;
 use crate::row_index::RowIndex;
 use crate::slot::{
     Slot, advance_all, any_changed, current_has, least_free, make_room, previous_has, row_at,
     undo_all,
 };
+use row_keys::row_key;
 use schema_model::{MAX_ORDINALS, Row};
 use std::alloc::{AllocError, Global};
 use std::marker::Model;

@@ -1,4 +1,4 @@
--- A key is that of one row.
+-- A key is that of one row, or of one list of values.
 use Rattle.std.proofs.Common.{◌≡◌, ℕ, ℤ, pos, negsuc, Bool, true, false, List, [], ◌∷◌, ◌++◌, length, flat_map, refl, sym, ap, ◌∙◌, arith, append_assoc}
 use Rattle.std.proofs.lemmas.List.{append_cancel_left}
 use Rattle.hol_varint.specs.Varint.{varint_bytes}
@@ -7,7 +7,7 @@ use Rattle.hol_varint.proofs.VarWriting.{varint_is}
 use Rattle.hol_varint.proofs.Varints.{varint_once}
 use Rattle.schema_model.specs.declared.rows.row.Value.{Value}
 use Rattle.schema_model.specs.declared.rows.row.Row.{Row}
-use Rattle.ordinal_map.specs.RowKey.{flag_byte, numbers_key, value_key, pair_key, row_key}
+use Rattle.row_keys.specs.RowKey.{flag_byte, numbers_key, value_key, values_key, pair_key, row_key}
 
 -- a key tells the value and where it ends
 abbrev Apart : {A : Type 0} → (A → List ℕ) → Type 0
@@ -93,8 +93,11 @@ pair_apart a b x y e =
 alone : {A : Type 0} (key : A → List ℕ) → Apart key → (a b : A) → key a ≡ key b → a ≡ b
 alone key apart a b e = (apart a b [] [] (ap (λ (bytes : List ℕ). bytes ++ []) e)).0
 
+pub values_once : (a b : List Value) → values_key a ≡ values_key b → a ≡ b
+values_once a b e = alone values_key (counted_apart value_key value_apart) a b e
+
 pub row_once : (a b : Row) → row_key a ≡ row_key b → a ≡ b
-row_once (Row.Object a) (Row.Object b) e = ap Row.Object (alone (λ values. varint_bytes (length values) ++ flat_map value_key values) (counted_apart value_key value_apart) a b (behind _ _ _ e))
+row_once (Row.Object a) (Row.Object b) e = ap Row.Object (values_once a b (behind _ _ _ e))
 row_once (Row.List a) (Row.List b) e = ap Row.List (alone numbers_key (counted_apart varint_bytes varint_apart) a b (behind _ _ _ e))
 row_once (Row.Set a) (Row.Set b) e = ap Row.Set (alone numbers_key (counted_apart varint_bytes varint_apart) a b (behind _ _ _ e))
 row_once (Row.Map a) (Row.Map b) e = ap Row.Map (alone (λ pairs. varint_bytes (length pairs) ++ flat_map pair_key pairs) (counted_apart pair_key pair_apart) a b (behind _ _ _ e))

@@ -1,4 +1,4 @@
--- The key of a row: bytes that tell it from each other row.
+-- The key of a row and that of a list of values: bytes that tell it from each other one.
 use Rattle.std.specs.Prelude.{List, [], ◌∷◌, ◌++◌, ℕ, Bool, true, false, length, flat_map}
 use Rattle.hol_varint.specs.Varint.{varint_bytes}
 use Rattle.hol_varint.specs.Zigzag.{zigzag}
@@ -28,9 +28,13 @@ value_key (Value.Ref ordinal) = 6 ∷ varint_bytes ordinal
 abbrev pub pair_key : ℕ × ℕ → List ℕ
 pair_key pair = varint_bytes pair.0 ++ varint_bytes pair.1
 
+-- values, their count first
+abbrev pub values_key : List Value → List ℕ
+values_key values = varint_bytes (length values) ++ flat_map value_key values
+
 -- a row: its kind, the number of its parts, and each part
 abbrev pub row_key : Row → List ℕ
-row_key (Row.Object values) = 0 ∷ varint_bytes (length values) ++ flat_map value_key values
+row_key (Row.Object values) = 0 ∷ values_key values
 row_key (Row.List ordinals) = 1 ∷ numbers_key ordinals
 row_key (Row.Set ordinals) = 2 ∷ numbers_key ordinals
 row_key (Row.Map pairs) = 3 ∷ varint_bytes (length pairs) ++ flat_map pair_key pairs

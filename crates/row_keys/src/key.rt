@@ -1,19 +1,22 @@
-//! The key of a row: bytes that tell it from each other row.
+//! The key of a row and that of a list of values: bytes that tell it from each other one.
 ghost use Rattle.std.specs.Prelude.{◌≡◌, ◌∷◌, ◌++◌, [], length, flat_map, IfOk, OnOk};
 ghost use Rattle.hol_varint.specs.Varint.{varint_bytes};
-ghost use Rattle.ordinal_map.specs.RowKey.{flag_byte, numbers_key, value_key, pair_key, row_key as key_of};
+ghost use Rattle.row_keys.specs.RowKey.{flag_byte, numbers_key, value_key, pair_key, row_key as key_of, values_key as key_of_values};
 
 use hol_varint::{put_units, put_vint, put_vlong, zigzag32, zigzag64};
-use schema_model::{Row, Value};
+use schema_model::{Row, Value, Values};
 use std::alloc::{AllocError, Global};
 
 /// The key of a row: its kind, the number of its parts, and each part.
-pub(crate) fn row_key(alloc: Global, row: &Row) -> Result<Vec<u8>, AllocError>
+pub fn row_key(alloc: Global, row: &Row) -> Result<Vec<u8>, AllocError>
     ensures { IfOk result (λ key. key.items ≡ key_of row.now) }
 {
     let mut key = Vec::new(alloc);
     match row {
-        Row::Object(values) => put_values(&mut key, values.as_slice())?,
+        Row::Object(values) => {
+            key.push(0)?;
+            put_values(&mut key, values.as_slice())?;
+        }
         Row::List(ordinals) => put_ordinals(&mut key, 1, ordinals.as_slice())?,
         Row::Set(ordinals) => put_ordinals(&mut key, 2, ordinals.as_slice())?,
         Row::Map(pairs) => put_pairs(&mut key, pairs.as_slice())?,
@@ -21,11 +24,19 @@ pub(crate) fn row_key(alloc: Global, row: &Row) -> Result<Vec<u8>, AllocError>
     Ok(key)
 }
 
-// The key of a record, behind what stands already.
-fn put_values(key: &mut Vec<u8>, values: &[Value]) -> Result<(), AllocError>
-    ensures { OnOk result (key.new.items ≡ key.old.items ++ (0 ∷ varint_bytes (length values.now) ++ flat_map value_key values.now)) }
+/// The key of a list of values: their number, and each of them.
+pub fn values_key(alloc: Global, values: &Values) -> Result<Vec<u8>, AllocError>
+    ensures { IfOk result (λ key. key.items ≡ key_of_values values.now) }
 {
-    key.push(0)?;
+    let mut key = Vec::new(alloc);
+    put_values(&mut key, values.as_slice())?;
+    Ok(key)
+}
+
+// The key of values, behind what stands already.
+fn put_values(key: &mut Vec<u8>, values: &[Value]) -> Result<(), AllocError>
+    ensures { OnOk result (key.new.items ≡ key.old.items ++ key_of_values values.now) }
+{
     put_vlong(key, values.len() as u64)?;
     for value in values {
         put_value(key, value)?;
