@@ -1,0 +1,7 @@
+pub mod Answering
+pub mod EmptyTables
+pub mod Following
+pub mod KeptKeys
+pub mod PairLists
+pub mod SlotKeys
+pub mod SlotPairs
