@@ -9,3 +9,4 @@ pub mod SchemaShapes
 pub mod Refusals
 pub mod OneSchemaList
 pub mod ReadingEach
+pub mod KeyParts

@@ -4,6 +4,7 @@
 mod fault;
 mod floats;
 mod json_form;
+mod key;
 pub mod laws;
 mod line;
 mod order;
@@ -15,6 +16,7 @@ mod values;
 mod view;
 
 pub use fault::JsonFault;
+pub use key::key_from;
 pub use line::row_line;
 pub use order::field_order;
 pub use schema_shape::are_schemas;

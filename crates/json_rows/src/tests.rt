@@ -2,9 +2,12 @@
 ghost use Rattle.schema_model.specs.Dangling.{IsPlain};
 ghost use Rattle.schema_model.specs.Row.{FitsShape};
 
-use super::{are_schemas, field_order, row_line, row_value, schemas_from, value_from};
+use super::{are_schemas, field_order, key_from, row_line, row_value, schemas_from, value_from};
 use hol_varint::Ordinals;
-use schema_model::{FieldKind, Fields, Name, Pairs, Row, Schema, Schemas, Shape, Values, model_of};
+use schema_model::{
+    FieldKind, Fields, Model, Name, Pairs, Paths, Row, Schema, Schemas, Shape, Values, model_of,
+    resolve,
+};
 use serde_json::Value;
 use std::alloc::{AllocError, Global};
 use std::test::Fail;
@@ -167,5 +170,40 @@ fn values_of_fields(rt: HostRuntime) -> Result<(), Fail> {
         read_value(alloc, FieldKind::Bytes, "\"0Aff\"")?.as_str(),
         "Bytes(List { items: [10, 255] })"
     );
+    Ok(())
+}
+
+/// What is read of a key of the field f of the type A, as the debug text of its values or of the fault.
+fn read_key(alloc: Global, model: &Model, text: &str) -> Result<String, Fail> {
+    let Some(type_index) = model.index_of("A") else {
+        return Ok(String::from_str(alloc, "no type")?);
+    };
+    let Ok(path) = resolve(alloc, model, type_index, "f") else {
+        return Ok(String::from_str(alloc, "no path")?);
+    };
+    let paths = Paths::from_vec(vec![in alloc; path]?);
+    match key_from(alloc, model, &paths, &Value::from_str(alloc, text)?) {
+        Ok(key) => Ok(format!(in alloc; "{key:?}")?),
+        Err(fault) => Ok(format!(in alloc; "{fault:?}")?),
+    }
+}
+
+#[test]
+fn keys(rt: HostRuntime) -> Result<(), Fail> {
+    let alloc = rt.alloc();
+    let schemas =
+        "[{\"kind\":\"OBJECT\",\"name\":\"A\",\"fields\":[{\"name\":\"f\",\"type\":\"INT\"}]}]";
+    let Ok(schemas) = schemas_from(alloc, &Value::from_str(alloc, schemas)?) else {
+        panic!(rt; "no schemas");
+    };
+    let Ok(model) = model_of(alloc, schemas) else {
+        panic!(rt; "no model");
+    };
+    assert_eq!(rt;
+        read_key(alloc, &model, "[7]")?.as_str(),
+        "List { items: [Int(7)] }"
+    );
+    assert_eq!(rt; read_key(alloc, &model, "[-2147483648]")?.as_str(), "Shape");
+    assert_eq!(rt; read_key(alloc, &model, "[7,8]")?.as_str(), "Shape");
     Ok(())
 }
