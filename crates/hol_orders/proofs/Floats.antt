@@ -1,5 +1,5 @@
 -- Answer lines have no number with a fraction or an exponent, so that their text is the one that they are stated by.
-use Rattle.std.proofs.Common.{codes, ◌≡◌, ℕ, ℤ, List, [], ◌∷◌, ◌++◌, map, Bool, true, false, ◌||◌, None, Some, Result, Ok, Err, String, Global, string_bytes, refl, ap, subst, ◌∙◌}
+use Rattle.std.proofs.Common.{codes, ◌≡◌, ℕ, ℤ, List, [], ◌∷◌, ◌++◌, map, Bool, true, false, ◌||◌, Option, None, Some, Result, Ok, Err, String, Global, string_bytes, refl, ap, subst, ◌∙◌}
 use Rattle.std.specs.Prelude.{IfOk, OnOk}
 use Rattle.serde_json.specs.Data.{Data}
 use Rattle.serde_json.specs.View.{view, items_of, items_view}
@@ -7,7 +7,7 @@ use Rattle.serde_json.specs.declared.value.Value.{Value}
 use Rattle.serde_json.specs.Written.{has_float, items_have_float, compact_text}
 use Rattle.json_rows.proofs.Printed.{items_have_float-items_of, integer_has_none}
 use Rattle.hol_orders.specs.declared.reply.Reply.{Reply}
-use Rattle.hol_orders.specs.declared.reply.Reply.TheVariants.{Head, Model, Cycle, Load, Step, Live, Row, Past, Refused}
+use Rattle.hol_orders.specs.declared.reply.Reply.TheVariants.{Head, Model, Cycle, Load, Step, Index, Get, Find, Live, Row, Has, At, Past, Refused}
 use Rattle.hol_orders.specs.declared.refusal.Refusal.{Refusal}
 use Rattle.hol_orders.specs.declared.refusal.Refusal.TheVariants.{BadOrder, LineTooLong, BadModel, NoModel, ModelFixed, BadRecord, BadVersion, TagUsed, NoBlob, BadBlob, OtherOrigin, NoState, NoType, NoRow, BadPath, NoMatch, Ambiguous, Mismatch, TooLarge, DuplicateRow, OtherModel, NotLast, NoIndex, WrongKind, BadKey, NotYet, BadBody}
 use Rattle.schema_model.specs.declared.schema.name.Name.{Name}
@@ -15,7 +15,7 @@ use Rattle.blob_frame.specs.declared.header.Header.{Header}
 use Rattle.hol_orders.specs.Parts.{whole}
 use Rattle.hol_orders.specs.Plain.{IsPlain}
 use Rattle.hol_orders.specs.Refusal.{refusal_data}
-use Rattle.hol_orders.specs.Reply.{reply_data, head_data, cycle_data, tag_data, live_data, row_data, past_item, texts_data, names_data, tags_data, line_of}
+use Rattle.hol_orders.specs.Reply.{reply_data, head_data, cycle_data, tag_data, get_data, ordinals_data, at_data, row_data, past_item, texts_data, names_data, tags_data, line_of}
 
 -- a refusal has none
 has_float-refusal_data : (refusal : Refusal) → has_float (refusal_data refusal) ≡ false
@@ -66,13 +66,18 @@ has_float-cycle_data changed published version =
 pub has_float-tag_data : (word : List ℕ) (tag : ℤ) → has_float (tag_data word tag) ≡ false
 has_float-tag_data word tag = rw (integer_has_none tag) refl
 
-pub has_float-live_data : (ordinals : List ℕ) → has_float (live_data ordinals) ≡ false
-has_float-live_data ordinals =
+pub has_float-ordinals_data : (word ordinals : List ℕ) → has_float (ordinals_data word ordinals) ≡ false
+has_float-ordinals_data word ordinals =
     let numbers : items_have_float (items_of (map whole ordinals)) ≡ false = items_have_float-items_of _ (λ n. refl) ordinals in
     rw numbers refl
 
+pub has_float-at_data : (value : Option ℕ) → has_float (at_data value) ≡ false
+has_float-at_data None = refl
+has_float-at_data (Some ordinal) = refl
+
 -- an answer that holds no JSON value
 abbrev pub IsBare : Reply → Type 0
+IsBare (Get ordinal row) = ⊥
 IsBare (Row row) = ⊥
 IsBare (Past entries) = ⊥
 IsBare _ = Unit {0}
@@ -83,14 +88,24 @@ has_float-reply_data (Model types) is = refl
 has_float-reply_data (Cycle changed published version) is = has_float-cycle_data changed published version
 has_float-reply_data (Load tag) is = has_float-tag_data (codes "load") tag
 has_float-reply_data (Step tag) is = has_float-tag_data (codes "step") tag
-has_float-reply_data (Live ordinals) is = has_float-live_data ordinals
+has_float-reply_data (Index keys) is = refl
+has_float-reply_data (Get ordinal row) is = absurd is
+has_float-reply_data (Find ordinals) is = has_float-ordinals_data (codes "find") ordinals
+has_float-reply_data (Live ordinals) is = has_float-ordinals_data (codes "live") ordinals
 has_float-reply_data (Row row) is = absurd is
+has_float-reply_data (Has there) is = refl
+has_float-reply_data (At value) is = has_float-at_data value
 has_float-reply_data (Past entries) is = absurd is
 has_float-reply_data (Refused refusal) is = has_float-refusal_data refusal
 
 pub plain_answer : {E : Type 0} (reply : Reply) (r : Result Value E) → IsBare reply → IfOk r (λ value. view value ≡ reply_data reply) → IfOk r IsPlain
 plain_answer reply (Ok value) bare is = ap has_float is ∙ has_float-reply_data reply bare
 plain_answer reply (Err refused) bare is = tt
+
+-- a found record's answer has none where the record has none
+pub plain_found : {E : Type 0} (ordinal : ℕ) (row : Value) (r : Result Value E) → IsPlain row → IfOk r (λ value. view value ≡ get_data ordinal row) → IfOk r IsPlain
+plain_found ordinal row (Ok value) plain is = ap has_float is ∙ rw plain refl
+plain_found ordinal row (Err refused) plain is = tt
 
 -- a row's answer has none where the row has none
 pub plain_row : {E : Type 0} (row : Value) (r : Result Value E) → IsPlain row → IfOk r (λ value. view value ≡ row_data row) → IfOk r IsPlain

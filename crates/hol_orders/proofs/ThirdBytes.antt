@@ -4,7 +4,7 @@ use Rattle.serde_json.proofs.OnLiterals.{serde_json_on_literals}
 use Rattle.hol_orders.specs.declared.refusal.Refusal.{Refusal}
 use Rattle.hol_orders.specs.declared.refusal.Refusal.TheVariants.{BadOrder, LineTooLong, BadModel, NoModel, ModelFixed, BadRecord, BadVersion, TagUsed, NoBlob, BadBlob, OtherOrigin, NoState, NoType, NoRow, BadPath, NoMatch, Ambiguous, Mismatch, TooLarge, DuplicateRow, OtherModel, NotLast, NoIndex, WrongKind, BadKey, NotYet, BadBody}
 use Rattle.hol_orders.specs.declared.reply.Reply.{Reply}
-use Rattle.hol_orders.specs.declared.reply.Reply.TheVariants.{Head, Model, Cycle, Load, Step, Live, Row, Past, Refused}
+use Rattle.hol_orders.specs.declared.reply.Reply.TheVariants.{Head, Model, Cycle, Load, Step, Index, Get, Find, Live, Row, Has, At, Past, Refused}
 use Rattle.hol_orders.specs.Marks.{IsMarked}
 use Rattle.hol_orders.specs.Refusal.{refusal_line}
 use Rattle.hol_orders.specs.Reply.{is_refusal, line_of}
@@ -54,8 +54,13 @@ other_unmarked (Model types) other = unmarked (line_of (Model types)) 111 refl (
 other_unmarked (Cycle changed published version) other = unmarked (line_of (Cycle changed published version)) 99 refl (λ e. omega (arith, e)) (λ e. omega (arith, e)) (λ e. omega (arith, e))
 other_unmarked (Load tag) other = unmarked (line_of (Load tag)) 111 refl (λ e. omega (arith, e)) (λ e. omega (arith, e)) (λ e. omega (arith, e))
 other_unmarked (Step tag) other = unmarked (line_of (Step tag)) 111 refl (λ e. omega (arith, e)) (λ e. omega (arith, e)) (λ e. omega (arith, e))
+other_unmarked (Index keys) other = unmarked (line_of (Index keys)) 107 refl (λ e. omega (arith, e)) (λ e. omega (arith, e)) (λ e. omega (arith, e))
+other_unmarked (Get ordinal row) other = unmarked (line_of (Get ordinal row)) 111 refl (λ e. omega (arith, e)) (λ e. omega (arith, e)) (λ e. omega (arith, e))
+other_unmarked (Find ordinals) other = unmarked (line_of (Find ordinals)) 111 refl (λ e. omega (arith, e)) (λ e. omega (arith, e)) (λ e. omega (arith, e))
 other_unmarked (Live ordinals) other = unmarked (line_of (Live ordinals)) 111 refl (λ e. omega (arith, e)) (λ e. omega (arith, e)) (λ e. omega (arith, e))
 other_unmarked (Row row) other = unmarked (line_of (Row row)) 111 refl (λ e. omega (arith, e)) (λ e. omega (arith, e)) (λ e. omega (arith, e))
+other_unmarked (Has there) other = unmarked (line_of (Has there)) 104 refl (λ e. omega (arith, e)) (λ e. omega (arith, e)) (λ e. omega (arith, e))
+other_unmarked (At value) other = unmarked (line_of (At value)) 111 refl (λ e. omega (arith, e)) (λ e. omega (arith, e)) (λ e. omega (arith, e))
 other_unmarked (Past entries) other = unmarked (line_of (Past entries)) 111 refl (λ e. omega (arith, e)) (λ e. omega (arith, e)) (λ e. omega (arith, e))
 other_unmarked (Refused refusal) other = absurd cc
 

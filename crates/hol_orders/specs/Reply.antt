@@ -1,5 +1,5 @@
 -- The answers of one line: each as a JSON object, its members in byte order of their names, and its line.
-use Rattle.std.specs.Prelude.{ℕ, ℤ, List, [], ◌∷◌, ◌++◌, map, codes, Bool, true, false}
+use Rattle.std.specs.Prelude.{ℕ, ℤ, List, [], ◌∷◌, ◌++◌, map, codes, Bool, true, false, Option}
 use Rattle.serde_json.specs.Data.{Data, boolean, number, unsigned, string, array, object, no_items, item, no_members, member}
 use Rattle.serde_json.specs.Find.{of_integer}
 use Rattle.serde_json.specs.View.{items_of, view}
@@ -9,9 +9,9 @@ use Rattle.schema_model.specs.declared.schema.name.Name.{Name}
 use Rattle.schema_model.specs.declared.schema.Schema.{Schema}
 use Rattle.blob_frame.specs.declared.header.Header.{Header}
 use Rattle.hol_orders.specs.declared.reply.Reply.{Reply}
-use Rattle.hol_orders.specs.declared.reply.Reply.TheVariants.{Head, Model, Cycle, Load, Step, Live, Row, Past, Refused}
+use Rattle.hol_orders.specs.declared.reply.Reply.TheVariants.{Head, Model, Cycle, Load, Step, Index, Get, Find, Live, Row, Has, At, Past, Refused}
 use Rattle.hol_orders.specs.Parts.{pair, whole}
-use Rattle.hol_orders.specs.Refusal.{refusal_data}
+use Rattle.hol_orders.specs.Refusal.{number_or_null, refusal_data}
 
 -- names, in their order
 abbrev pub texts_data : List Name → Data
@@ -62,11 +62,43 @@ load_data tag = tag_data (codes "load") tag
 abbrev pub step_data : ℤ → Data
 step_data tag = tag_data (codes "step") tag
 
--- the live ordinals of a type
-abbrev pub live_data : List ℕ → Data
-live_data ordinals = object
-    (member (codes "ok") (string (codes "live"))
+-- an index that is kept, in which so many rows have a key
+abbrev pub index_data : ℕ → Data
+index_data keys = object
+    (member (codes "keys") (whole keys)
+    (member (codes "ok") (string (codes "index")) no_members))
+
+-- the record that has a primary key, and its ordinal
+abbrev pub get_data : ℕ → Value → Data
+get_data ordinal row = object
+    (member (codes "ok") (string (codes "get"))
+    (member (codes "ordinal") (whole ordinal)
+    (member (codes "row") (view row) no_members)))
+
+-- ordinals of a type
+abbrev pub ordinals_data : List ℕ → List ℕ → Data
+ordinals_data word ordinals = object
+    (member (codes "ok") (string word)
     (member (codes "ordinals") (array (items_of (map whole ordinals))) no_members))
+
+-- the live ordinals of a type, and those of the rows that have a key
+abbrev pub live_data : List ℕ → Data
+live_data ordinals = ordinals_data (codes "live") ordinals
+
+abbrev pub find_data : List ℕ → Data
+find_data ordinals = ordinals_data (codes "find") ordinals
+
+-- whether a set has an element
+abbrev pub has_data : Bool → Data
+has_data there = object
+    (member (codes "has") (boolean there)
+    (member (codes "ok") (string (codes "has")) no_members))
+
+-- the value that a map has beside a key, and null where it has none
+abbrev pub at_data : Option ℕ → Data
+at_data value = object
+    (member (codes "ok") (string (codes "at"))
+    (member (codes "value") (number_or_null value) no_members))
 
 -- the record of a row
 abbrev pub row_data : Value → Data
@@ -91,8 +123,13 @@ reply_data (Model types) = model_data types
 reply_data (Cycle changed published version) = cycle_data changed published version
 reply_data (Load tag) = load_data tag
 reply_data (Step tag) = step_data tag
+reply_data (Index keys) = index_data keys
+reply_data (Get ordinal row) = get_data ordinal row
+reply_data (Find ordinals) = find_data ordinals
 reply_data (Live ordinals) = live_data ordinals
 reply_data (Row row) = row_data row
+reply_data (Has there) = has_data there
+reply_data (At value) = at_data value
 reply_data (Past entries) = past_data entries
 reply_data (Refused refusal) = refusal_data refusal
 
@@ -104,8 +141,13 @@ is_refusal (Model types) = false
 is_refusal (Cycle changed published version) = false
 is_refusal (Load tag) = false
 is_refusal (Step tag) = false
+is_refusal (Index keys) = false
+is_refusal (Get ordinal row) = false
+is_refusal (Find ordinals) = false
 is_refusal (Live ordinals) = false
 is_refusal (Row row) = false
+is_refusal (Has there) = false
+is_refusal (At value) = false
 is_refusal (Past entries) = false
 
 -- The line of an answer: its JSON text without spaces, and a newline.

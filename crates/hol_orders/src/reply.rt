@@ -2,7 +2,7 @@
 ghost use Rattle.std.specs.Prelude.{◌≡◌, ◌++◌, IfOk, OnOk, OnErr, string_bytes};
 ghost use Rattle.serde_json.specs.View.{view};
 ghost use Rattle.hol_orders.specs.Plain.{IsPlain};
-ghost use Rattle.hol_orders.specs.Reply.{reply_data, head_data, model_data, cycle_data, load_data, step_data, tag_data, live_data, row_data, past_data, past_item, texts_data, names_data, tags_data, is_refusal, line_of};
+ghost use Rattle.hol_orders.specs.Reply.{reply_data, head_data, model_data, cycle_data, load_data, step_data, tag_data, index_data, get_data, ordinals_data, row_data, has_data, at_data, past_data, past_item, texts_data, names_data, tags_data, is_refusal, line_of};
 
 use crate::line::{line_text, put_line};
 use crate::plain::PlainValue;
@@ -37,10 +37,25 @@ pub enum Reply {
     Load(i64),
     /// The consumer moved to the state with this tag.
     Step(i64),
+    /// The consumer keeps an index, in which so many rows have a key.
+    Index(u64),
+    /// The record that has a primary key.
+    Get {
+        /// Its ordinal.
+        ordinal: u32,
+        /// The record.
+        row: PlainValue,
+    },
+    /// The ordinals of the rows that have a key, rising.
+    Find(Ordinals),
     /// The live ordinals of a type, rising.
     Live(Ordinals),
     /// The record of a row.
     Row(PlainValue),
+    /// Whether a set has an element.
+    Has(bool),
+    /// The value beside a key of a map; none where the map has no such key.
+    At(Option<u32>),
     /// The records of a type that left in the last step, by rising ordinal.
     Past(PastRows),
     /// Why the command or the order is refused.
@@ -89,8 +104,13 @@ fn reply_value(alloc: Global, reply: Reply) -> Result<Value, AllocError>
         } => cycle_value(alloc, &changed, published, version),
         Reply::Load(tag) => tag_value(alloc, "load", tag),
         Reply::Step(tag) => tag_value(alloc, "step", tag),
-        Reply::Live(ordinals) => live_value(alloc, &ordinals),
+        Reply::Index(keys) => index_value(alloc, keys),
+        Reply::Get { ordinal, row } => get_value(alloc, ordinal, row),
+        Reply::Find(ordinals) => ordinals_value(alloc, "find", &ordinals),
+        Reply::Live(ordinals) => ordinals_value(alloc, "live", &ordinals),
         Reply::Row(row) => row_value(alloc, row),
+        Reply::Has(there) => has_value(alloc, there),
+        Reply::At(value) => at_value(alloc, value),
         Reply::Past(rows) => past_value(alloc, rows),
         Reply::Refused(refusal) => refusal_value(alloc, &refusal),
     }
@@ -141,15 +161,46 @@ fn tag_value(alloc: Global, word: &str, tag: i64) -> Result<Value, AllocError>
     json!(in alloc; {"ok": word, "tag": tag})
 }
 
-fn live_value(alloc: Global, ordinals: &Ordinals) -> Result<Value, AllocError>
-    ensures { IfOk result (λ value. view value ≡ live_data ordinals.now) }
+fn index_value(alloc: Global, keys: u64) -> Result<Value, AllocError>
+    ensures { IfOk result (λ value. view value ≡ index_data keys) }
+{
+    json!(in alloc; {"keys": keys, "ok": "index"})
+}
+
+#[tactic(auto, using(crate::proofs::Floats::plain_found))]
+fn get_value(alloc: Global, ordinal: u32, row: PlainValue) -> Result<Value, AllocError>
+    ensures value { IfOk result (λ value. view value ≡ get_data ordinal row) }
+    ensures plain { IfOk result IsPlain }
+{
+    let row = row.into_value();
+    json!(in alloc; {"ok": "get", "ordinal": ordinal, "row": row})
+}
+
+fn has_value(alloc: Global, there: bool) -> Result<Value, AllocError>
+    ensures { IfOk result (λ value. view value ≡ has_data there) }
+{
+    json!(in alloc; {"has": there, "ok": "has"})
+}
+
+fn at_value(alloc: Global, value: Option<u32>) -> Result<Value, AllocError>
+    ensures { IfOk result (λ json. view json ≡ at_data value) }
+{
+    match value {
+        Some(ordinal) => json!(in alloc; {"ok": "at", "value": ordinal}),
+        None => json!(in alloc; {"ok": "at", "value": null}),
+    }
+}
+
+// Ordinals of a type, in their order.
+fn ordinals_value(alloc: Global, word: &str, ordinals: &Ordinals) -> Result<Value, AllocError>
+    ensures { IfOk result (λ value. view value ≡ ordinals_data word.now ordinals.now) }
 {
     let mut numbers = Vec::new(alloc);
     for ordinal in ordinals.as_slice() {
         numbers.push(Value::from(*ordinal))?;
     }
     let numbers = Value::Array(numbers);
-    json!(in alloc; {"ok": "live", "ordinals": numbers})
+    json!(in alloc; {"ok": word, "ordinals": numbers})
 }
 
 #[tactic(auto, using(crate::proofs::Floats::plain_row))]
