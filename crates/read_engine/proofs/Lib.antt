@@ -1,11 +1,16 @@
+mod Answered
+mod Came
 mod Changed
 mod Comings
 mod Flips
+mod Follow
 mod Left
 mod LoadedOnce
 mod Loads
+mod Mapped
 mod Moves
 mod PastRows
+mod Places
 mod SteppedOnce
 mod StepsTold
 mod Tables

@@ -1,8 +1,9 @@
 -- What a load leaves: where it stands, and what is told of the blob.
-use Rattle.std.proofs.Common.{◌≡◌, ◌≤◌, ◌⊎◌, inl, inr, ℕ, zero, suc, ℤ, List, [], ◌∷◌, length, map, Option, Some, None, Result, Ok, Err, IfSome, refl, sym, ap, ◌∙◌, subst, arith, replicate}
+use Rattle.std.proofs.Common.{◌≡◌, ◌≤◌, ◌⊎◌, inl, inr, ℕ, zero, suc, ℤ, List, [], ◌∷◌, length, map, Option, Some, None, Result, Ok, Err, IfSome, refl, sym, ap, ◌∙◌, subst, arith, lit≤, replicate}
 use Rattle.std.specs.List.{AllZip}
 use Rattle.std.specs.Cmp.{nat_cmp_total}
 use Rattle.std.specs.FinMap.{nat_cmp-IsAntisymmetric, same_map}
+use Rattle.std.proofs.lemmas.List.Elements.{All-nil}
 use Rattle.hol_io.specs.declared.name.BlobName.{BlobName}
 use Rattle.hol_io.specs.Store.{Store, told}
 use Rattle.schema_model.specs.declared.limit.Limit.TheVariants as limit
@@ -24,7 +25,8 @@ use Rattle.read_engine.specs.declared.fault.TakeFault.{TakeFault}
 use Rattle.read_engine.specs.declared.fault.TakeFault.TheVariants as take
 use Rattle.read_engine.specs.declared.past.PastPart.{PastPart}
 use Rattle.read_engine.specs.Past.{FitsPast, no_part, rows_before, table_before}
-use Rattle.read_engine.specs.Position.{Position, IsPosition}
+use Rattle.read_engine.specs.Kept.{IsKept}
+use Rattle.read_engine.specs.Position.{IsIndexOf, IsPosition, Position}
 use Rattle.read_engine.specs.Standing.{IsStanding, current_halves, position_of}
 use Rattle.read_engine.specs.Taking.{TellsStand, body_fault_of, loaded_position}
 use Rattle.read_engine.proofs.PastRows.{get_before}
@@ -70,10 +72,10 @@ module _ (tag : ℤ) (body : Body) (states : List State) (past : List PastPart) 
   before : table_before (table_of (current_halves states)) past ≡ table_of (current_halves states)
   before = ap (table_before (table_of (current_halves states))) none ∙ same_table (length body.model) (table_of (current_halves states)) long
 
-  pub position_is : position_of tag body.model states past ≡ loaded_position tag body
-  position_is = λ i. record { tag = tag; schemas = body.model; halves = halves i; before = (before ∙ here) i }
+  pub position_is : position_of tag body.model states past [] ≡ loaded_position tag body
+  position_is = λ i. record { tag = tag; schemas = body.model; halves = halves i; before = (before ∙ here) i; indexes = [] }
 
-  pub stands : IsStanding tag body.model states past
+  pub stands : IsStanding tag body.model states past []
   stands = record {
     named = schemas ∙ whole.next.named;
     fits = subst (AllZip FitsPast (table_of (current_halves states))) (sym none) (all_fit_none (length body.model) (table_of (current_halves states)) long);
@@ -83,7 +85,10 @@ module _ (tag : ℤ) (body : Body) (states : List State) (past : List PastPart) 
       closed = whole.closed;
       rows_before = whole.next.fits;
       closed_before = whole.closed;
+      indexes = All-nil (IsIndexOf body.model);
+      few = lit≤ tt;
     };
+    indexes = All-nil (IsKept body.model (table_of (current_halves states)));
   }
 
 -- ---- what is told of the blob
@@ -134,4 +139,4 @@ module _ (name : BlobName) where
   load_told law None opened found position read is = tt
   load_told law (Some store) opened found position (blob, there, short, stands, tells) is =
       subst (λ (p : Position). TellsStand name (told (Some store) name) (Ok p)) (sym is)
-      (blob, there, (opened.0, law blob opened.0 opened.1.at found stands short tells, refl, refl))
+      (blob, there, (opened.0, law blob opened.0 opened.1.at found stands short tells, refl, refl, refl))

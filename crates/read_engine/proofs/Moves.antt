@@ -1,6 +1,6 @@
 -- Moving the types of a state one after another.
 use Rattle.std.proofs.Common.{◌≡◌, ◌<◌, ◌+◌, ◌-◌, ◌^◌, inl, inr, ℕ, zero, suc, List, [], ◌∷◌, ◌++◌, length, get_or, set, take, map, Option, Some, None, Result, Ok, Err, IfErr, refl, sym, ap, ◌∙◌, subst, arith}
-use Rattle.std.specs.Prelude.{All, IsSome, IsErrAnd, slice_get}
+use Rattle.std.specs.Prelude.{All, IsSome, IsErrAnd, slice_get, OnErr}
 use Rattle.std.specs.List.{AllZip}
 use Rattle.std.specs.FinMap.{get, keys}
 use Rattle.std.specs.Option.{option_map}
@@ -42,7 +42,7 @@ set_other (w ∷ xs) zero (suc j) x apart = refl
 set_other (w ∷ xs) (suc i) zero x apart = refl
 set_other (w ∷ xs) (suc i) (suc j) x apart = set_other xs i j x (λ same. apart (ap suc same))
 
-map_set : {A B : Type 0} (f : A → B) (xs : List A) (i : ℕ) (x d : A) → f x ≡ f (get_or xs i d) → map f (set xs i x) ≡ map f xs
+pub map_set : {A B : Type 0} (f : A → B) (xs : List A) (i : ℕ) (x d : A) → f x ≡ f (get_or xs i d) → map f (set xs i x) ≡ map f xs
 map_set f [] i x d same = refl
 map_set f (w ∷ xs) zero x d same = ap (λ y. y ∷ map f xs) same
 map_set f (w ∷ xs) (suc i) x d same = ap (λ ys. f w ∷ ys) (map_set f xs i x d same)
@@ -171,6 +171,10 @@ refuses_as P Q (take_fault.Blob _) gives is = absurd is
 pub refused_exit : {T : Type 0} (P : Type 0) (r : Result T TakeFault) (e : TakeFault) → IsErrAnd r (λ f. f ≡ e) → Refuses P e → IfErr r (Refuses P)
 refused_exit P (Ok x) e is refuses = absurd is
 refused_exit P (Err f) e is refuses = subst (Refuses P) (sym is) refuses
+
+pub on_err : {T E : Type 0} (r : Result T E) (P : Type 0) → P → OnErr r P
+on_err (Ok x) P p = tt
+on_err (Err e) P p = p
 
 -- ---- what is kept
 

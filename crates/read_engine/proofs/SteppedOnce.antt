@@ -121,4 +121,5 @@ module _ (blob : List ℕ) (from a b : Position) (position : IsPosition from) (o
       let schemas = one.model ∙ sym other.model in
       let halves = same_halves a.halves b.halves (one.types ∙ sym other.types) (λ t inside. layouts_of t (omega (arith, inside, long_halves))) same_now in
       let before = one.before ∙ sym other.before in
-      λ i. record { tag = tag i; schemas = schemas i; halves = halves i; before = before i }
+      let indexes = one.indexes ∙ sym other.indexes in
+      λ i. record { tag = tag i; schemas = schemas i; halves = halves i; before = before i; indexes = indexes i }

@@ -123,6 +123,7 @@ module _ (blob : List ℕ) (n : ℕ) (head : Header) (named : List PatchPart) (f
         ∙ patches.other_layouts from.schemas mid taken.past named read.0 apart read.2 taken.takes.moved are t inside none
         ∙ ap (λ (hs : List Half). layout_at hs t) (taken.takes.stays.halves ∙ taken.at.halves);
     before = refl;
+    indexes = refl;
   }
 
 -- ---- a step that is refused

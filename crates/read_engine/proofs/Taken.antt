@@ -1,20 +1,27 @@
 -- What a step takes and leaves.
-use Rattle.std.proofs.Common.{◌≡◌, ℤ, List, get_or, map, refl, sym, ap, ◌∙◌, subst}
-use Rattle.std.specs.Prelude.{All}
+use Rattle.std.proofs.Common.{◌≡◌, ◌≤◌, ◌<◌, ◌+◌, ℕ, ℤ, List, length, get_or, map, refl, sym, ap, ◌∙◌, subst, arith}
+use Rattle.std.specs.Prelude.{All, sum_by}
 use Rattle.std.specs.List.{AllZip}
 use Rattle.schema_model.specs.declared.schema.Schema.{Schema}
+use Rattle.schema_model.specs.declared.limit.Limit.TheVariants.{Indexes}
+use Rattle.schema_model.specs.Limit.{number_of_limit}
 use Rattle.schema_model.specs.Table.{IsClosed, IsTableOf, Table}
 use Rattle.type_state.specs.Patches.{IsReadablePatch}
 use Rattle.type_state.specs.State.{Half, State}
 use Rattle.type_state.specs.Views.{table_of}
 use Rattle.delta_blob.specs.declared.patch.PatchPart.{PatchPart}
 use Rattle.delta_blob.specs.Reads.{IsWholePart}
+use Rattle.key_index.specs.Indexed.{Indexed}
 use Rattle.read_engine.specs.declared.past.PastPart.{PastPart}
+use Rattle.read_engine.specs.Indexes.{CountsNew, CountsStep}
 use Rattle.read_engine.specs.Moving.{AreComing, AreMoved, IsReadableIn, IsTaken, StaysCurrent, TakesParts, coming_halves}
+use Rattle.read_engine.specs.Kept.{FollowsPart, IsKept, count_came, index_kept}
 use Rattle.read_engine.specs.Past.{FitsPast, table_before}
-use Rattle.read_engine.specs.Position.{Position}
+use Rattle.read_engine.specs.Position.{Index, IsIndexOf, IsPosition, Position}
 use Rattle.read_engine.specs.Standing.{IsStanding, current_halves, position_of}
+use Rattle.read_engine.proofs.Came.{counts_new}
 use Rattle.read_engine.proofs.Changed.{FitsLaw, RangesLaw, all_before, all_changed, all_fit, are_coming, state_there}
+use Rattle.read_engine.proofs.Follow.{KeyLaw, all_follow}
 
 -- ---- before the moves
 
@@ -29,9 +36,30 @@ pub comes : FitsLaw → RangesLaw → (schemas : List Schema) (parts : List Patc
 comes fits_law ranges_law schemas parts before states past moved stays named was =
     are_coming fits_law ranges_law schemas parts states past moved (stays.schemas ∙ named) (subst (λ (halves : List Half). IsTableOf schemas (table_of halves)) (sym stays.halves) was)
 
+-- the rows that come follow each index
+pub all_ready : KeyLaw → FitsLaw → RangesLaw → (schemas : List Schema) (parts : List PatchPart) (before states : List State) (past : List PastPart) → AreMoved parts states past → StaysCurrent before states
+    → map (λ (s : State). s.schema) before ≡ schemas → IsTableOf schemas (table_of (current_halves before)) → IsClosed schemas (table_of (current_halves before)) → IsClosed schemas (table_of (coming_halves states past))
+    → (indexes : List Indexed) → All (IsKept schemas (table_of (current_halves before))) indexes → All (FollowsPart schemas (table_of (coming_halves states past)) past) indexes
+all_ready law fits_law ranges_law schemas parts before states past moved stays named was closed closed_too indexes kept =
+    let changed = all_changed parts states past moved in
+    all_follow law schemas (table_of (current_halves before)) (table_of (coming_halves states past)) past (all_fit states past changed) (all_before states past changed ∙ ap table_of stays.halves) was
+    (comes fits_law ranges_law schemas parts before states past moved stays named was).fits closed closed_too indexes kept
+
+-- where it stands if the current halves stay
+pub stands_still : (tag : ℤ) (schemas : List Schema) (before states : List State) (past : List PastPart) (indexes : List Indexed) → IsStanding tag schemas before past indexes → StaysCurrent before states → IsStanding tag schemas states past indexes
+stands_still tag schemas before states past indexes stands stays =
+    let still = sym stays.halves in
+    record {
+      named = stays.schemas ∙ stands.named;
+      fits = subst (λ (halves : List Half). AllZip FitsPast (table_of halves) past) still stands.fits;
+      position = subst (λ (halves : List Half). IsPosition record { tag = tag; schemas = schemas; halves = halves; before = table_before (table_of halves) past; indexes = map index_kept indexes }) still stands.position;
+      indexes = subst (λ (halves : List Half). All (IsKept schemas (table_of halves)) indexes) still stands.indexes;
+    }
+
 -- ---- behind them
 
-module _ (tag other : ℤ) (schemas : List Schema) (parts : List PatchPart) (before after : List State) (kept past : List PastPart) (stands : IsStanding other schemas before kept) (takes : TakesParts schemas parts before after past) where
+module _ (tag other : ℤ) (schemas : List Schema) (parts : List PatchPart) (before after : List State) (kept past : List PastPart) (indexes moved : List Indexed) (stands : IsStanding other schemas before kept indexes) (takes : TakesParts schemas parts before after past)
+    (same : map index_kept moved ≡ map index_kept indexes) (follow : All (IsKept schemas (table_of (current_halves after))) moved) where
   here : table_of (current_halves after) ≡ table_of (coming_halves takes.mid past)
   here = ap table_of takes.halves
 
@@ -41,7 +69,7 @@ module _ (tag other : ℤ) (schemas : List Schema) (parts : List PatchPart) (bef
       ∙ all_before takes.mid past (all_changed parts takes.mid past takes.moved)
       ∙ ap table_of takes.stays.halves
 
-  pub stands_after : IsStanding tag schemas after past
+  pub stands_after : IsStanding tag schemas after past moved
   stands_after = record {
     named = takes.same ∙ stands.named;
     fits = subst (λ (table : Table). AllZip FitsPast table past) (sym here) (all_fit takes.mid past (all_changed parts takes.mid past takes.moved));
@@ -51,15 +79,30 @@ module _ (tag other : ℤ) (schemas : List Schema) (parts : List PatchPart) (bef
       closed = subst (IsClosed schemas) (sym here) takes.closed;
       rows_before = subst (IsTableOf schemas) (sym before_is) stands.position.rows;
       closed_before = subst (IsClosed schemas) (sym before_is) stands.position.closed;
+      indexes = subst (All (IsIndexOf schemas)) (sym same) stands.position.indexes;
+      few = subst (λ (xs : List Index). length xs ≤ number_of_limit Indexes) (sym same) stands.position.few;
     };
+    indexes = follow;
   }
 
-  pub is_taken : (from : Position) → position_of other schemas before kept ≡ from → IsTaken tag parts from (position_of tag schemas after past)
-  is_taken from view = subst (λ (p : Position). IsTaken tag parts p (position_of tag schemas after past)) view record {
+  pub is_taken : (from : Position) → position_of other schemas before kept indexes ≡ from → IsTaken tag parts from (position_of tag schemas after past moved)
+  is_taken from view = subst (λ (p : Position). IsTaken tag parts p (position_of tag schemas after past moved)) view record {
     before = before;
     after = after;
     past = past;
     at = record { schemas = stands.named; halves = refl };
     takes = takes;
-    is = λ i. record { tag = tag; schemas = schemas; halves = current_halves after; before = before_is i };
+    is = λ i. record { tag = tag; schemas = schemas; halves = current_halves after; before = before_is i; indexes = same i };
   }
+
+  within : All (λ (kept : Indexed). kept.type_index < length (table_of (current_halves after))) indexes
+  within k d inside = let known = (stands.indexes k d inside).of.type_there in omega (arith, known, ap length here, takes.fits.types)
+
+  -- how many came, of each index
+  pub counts_step : (was is : ℕ) → is ≡ was + sum_by (λ kept. count_came past kept.type_index) indexes → CountsStep (position_of tag schemas after past moved) was is
+  counts_step was is rose =
+      let to : Position = position_of tag schemas after past moved in (
+        sum_by (λ kept. count_came past kept.type_index) indexes,
+        subst (λ (xs : List Index). CountsNew to xs (sum_by (λ kept. count_came past kept.type_index) indexes)) (sym same) (counts_new to past stands_after.fits refl indexes within),
+        rose,
+      )

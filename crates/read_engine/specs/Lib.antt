@@ -1,4 +1,6 @@
 pub mod Gone
+pub mod Indexes
+pub mod Kept
 pub mod Moving
 pub mod Past
 pub mod Position

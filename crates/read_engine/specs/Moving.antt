@@ -118,7 +118,7 @@ pub record IsTaken (tag : ℤ) (parts : List PatchPart) (from to : Position) : T
   pub past : List PastPart
   pub at : AreAt from before
   pub takes : TakesParts from.schemas parts before after past
-  pub is : to ≡ record { tag = tag; schemas = from.schemas; halves = current_halves after; before = rows_now from }
+  pub is : to ≡ record { tag = tag; schemas = from.schemas; halves = current_halves after; before = rows_now from; indexes = from.indexes }
 
 -- A step from the position does not take the parts.
 abbrev pub IsNotTaken : List PatchPart → Position → Type 0

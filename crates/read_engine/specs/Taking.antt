@@ -1,6 +1,6 @@
 -- What a consumer takes: a snapshot that it loads, and a delta that starts at its tag and fits its rows; and what is told of a blob that it
 -- does not take.
-use Rattle.std.specs.Prelude.{◌≡◌, ◌≢◌, ◌≤◌, ◌<◌, ℕ, ℤ, List, Option, Some, None, Result, Ok, Err, length, slice_get}
+use Rattle.std.specs.Prelude.{◌≡◌, ◌≢◌, ◌≤◌, ◌<◌, ℕ, ℤ, List, [], Option, Some, None, Result, Ok, Err, length, slice_get}
 use Rattle.std.specs.Option.{option_map}
 use Rattle.hol_io.specs.declared.name.BlobName.{BlobName}
 use Rattle.hol_io.specs.declared.name.BlobName.TheVariants.{Delta, Reverse}
@@ -25,17 +25,19 @@ use Rattle.read_engine.specs.declared.fault.TakeFault.TheVariants as take
 use Rattle.read_engine.specs.Position.{Position, rows_now}
 
 -- The blob is a snapshot within the limits, and this is where a consumer stands that loads it: at the destination of its header, with its model,
--- layouts and rows, and the same rows before.
+-- layouts and rows, the same rows before, and no index.
 abbrev pub LoadsFrom : List ℕ → Position → Type 0
 LoadsFrom blob position =
     (head : Header) × IsAccepted blob head position.schemas position.halves × (position.tag ≡ head.destination) × (position.before ≡ rows_now position)
+    × (position.indexes ≡ [])
 
 -- the layout of a type
 abbrev pub layout_at : List Half → ℕ → Option Layout
 layout_at halves type_index = option_map (λ half. half.layout) (slice_get halves type_index)
 
 -- The blob is a delta from the consumer's tag, of a patch that fits its rows and passes no limit, and it leads to this position: with the tag of
--- the delta's destination, the rows that the patch moves to, the layouts of the patch in the types that it names, and the rows before.
+-- the delta's destination, the rows that the patch moves to, the layouts of the patch in the types that it names, the rows before, and the same
+-- indexes.
 pub record StepsBy (blob : List ℕ) (from to : Position) : Type 0 where
   pub patch : List TypePatch
   pub is : DeltaIs blob from.tag to.tag patch
@@ -49,6 +51,7 @@ pub record StepsBy (blob : List ℕ) (from to : Position) : Type 0 where
   pub layouts : EachNamed from.schemas patch (λ type_index named. layout_at to.halves type_index ≡ Some named.layout)
   pub others : (type_index : ℕ) → type_index < length from.schemas → IsUnnamed from.schemas patch type_index → layout_at to.halves type_index ≡ layout_at from.halves type_index
   pub before : to.before ≡ rows_now from
+  pub indexes : to.indexes ≡ from.indexes
 
 -- The name is that of a delta or of a reverse delta.
 abbrev pub IsStepName : BlobName → Type 0
@@ -75,7 +78,7 @@ TellsLoad name content now (Err fault) = TellsHead name content fault
 
 -- where a consumer stands that loads a body, with this tag
 abbrev pub loaded_position : ℤ → Body → Position
-loaded_position tag body = record { tag = tag; schemas = body.model; halves = next_halves body.states; before = table_of (next_halves body.states) }
+loaded_position tag body = record { tag = tag; schemas = body.model; halves = next_halves body.states; before = table_of (next_halves body.states); indexes = [] }
 
 -- What the answer to the state of a load tells of what the name holds.
 abbrev pub TellsStand : BlobName → Option (List ℕ) → Result Position TakeFault → Type 0

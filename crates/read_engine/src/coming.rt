@@ -16,10 +16,10 @@ use type_state::TypeState;
 
 /// The rows that come, as those of a model.
 #[derive(Drop)]
-struct Coming<'a> {
-    model: &'a Model,
-    states: &'a [TypeState],
-    past: &'a [PastPart],
+pub(crate) struct Coming<'a> {
+    pub(crate) model: &'a Model,
+    pub(crate) states: &'a [TypeState],
+    pub(crate) past: &'a [PastPart],
 }
 
 impl<'a> std::marker::Model for Coming<'a> {

@@ -1,22 +1,27 @@
 //! A consumer: at first it has no state; a load gives it one, and steps move it.
-ghost use Rattle.std.specs.Prelude.{◌≡◌, ◌≤◌, ◌<◌, Some, None, Err, IfSome, IsSome, IsSomeAnd, MatchOption, OnErr, OnOk, length};
+ghost use Rattle.std.specs.Prelude.{◌≡◌, ◌≢◌, ◌≤◌, ◌<◌, ◌↔◌, All, Contains, Some, None, Err, IfErr, IfOk, IfSome, IsSome, IsSomeAnd, IsTrue, MatchOption, OnErr, OnOk, length, slice_get};
 ghost use Rattle.std.specs.Option.{option_map};
 ghost use Rattle.hol_io.specs.declared.name.BlobName.TheVariants.{Snapshot};
 ghost use Rattle.hol_io.specs.Causes.{Rose};
 ghost use Rattle.hol_io.specs.Store.{told};
-ghost use Rattle.blob_frame.specs.declared.fault.BlobFault.TheVariants.{Store as StoreFailed};
+ghost use Rattle.schema_model.specs.Key.{AreMatches, IsResolved};
+ghost use Rattle.schema_model.specs.Table.{row_at};
+ghost use Rattle.bucket_codec.specs.Run.{FindsIn};
+ghost use Rattle.type_state.specs.Lookup.{elements_of, pairs_of};
+ghost use Rattle.blob_frame.specs.declared.fault.BlobFault.TheVariants.{Memory as MemoryRefused, Store as StoreFailed};
 ghost use Rattle.read_engine.specs.Gone.{AreGone};
+ghost use Rattle.read_engine.specs.Indexes.{AddsIndex, CountsAdded, CountsKeyed, CountsStep, HasNoRoom, index_by};
 ghost use Rattle.read_engine.specs.Position.{IsPosition, Position, rows_now};
 ghost use Rattle.read_engine.specs.Taking.{IsStepName, TellsLoad, TellsStep};
 
 use crate::load::load;
 use crate::stand::Stand;
 use crate::step::step;
-use crate::{Before, Now, TakeFault};
+use crate::{Before, IndexFault, Now, TakeFault};
 use hol_io::{BlobName, BlobStore, Steps};
 use hol_varint::Ordinals;
-use schema_model::Model;
-use std::alloc::Global;
+use schema_model::{Model, Paths, Values};
+use std::alloc::{AllocError, Global};
 use std::sync::ledger::Ledger;
 
 /// A consumer of the blobs of a store.
@@ -46,7 +51,7 @@ impl Consumer {
         Consumer { alloc, stand: None }
     }
 
-    /// Loads the state of the snapshot of a version, in place of the state that it has; the rows before it are the same.
+    /// Loads the state of the snapshot of a version, in place of the state that it has; the rows before it are the same, and no index is kept.
     ///
     /// The faults of `Blob` are those of the blob as a whole and of its header: `NoBlob`, `Large` with `Blob`, `Bad`, and `Store` and `Memory`.
     /// `Body` comes where the header can be read and the blob is no snapshot within the limits. After a fault everything is as before.
@@ -68,13 +73,15 @@ impl Consumer {
     ///
     /// The faults of `Blob` are those of the blob as a whole and of its header, and `OtherOrigin` with both tags, where the delta starts from
     /// another tag than that of the state. `Body` comes where the header can be read and starts from that tag, and the blob is no delta that
-    /// moves the state within the limits. After a fault everything is as before, the rows before the last step too. No index is kept, and so
-    /// no step is counted.
+    /// moves the state within the limits. After a fault everything is as before, the rows before the last step too.
+    ///
+    /// The indexes stay, and answer of the new rows. A step is counted for each ordinal that comes in the type of each index; after a fault
+    /// other than want of memory none is.
     pub fn step<S: BlobStore, L: Ledger>(
         &mut self,
         store: &mut S,
         name: &BlobName,
-        _steps: &mut Steps<L>,
+        steps: &mut Steps<L>,
     ) -> Result<(), TakeFault>
         requires standing { IsSome self.old }
         requires named { IsStepName name.now }
@@ -86,10 +93,11 @@ impl Consumer {
         ensures kept { (S.seen store.new).held ≡ (S.seen store.old).held }
         ensures later { (S.seen store.old).faults ≤ (S.seen store.new).faults }
         ensures unput { (S.seen store.new).puts ≡ (S.seen store.old).puts }
-        ensures uncounted { _steps.new ≡ _steps.old }
+        ensures counted { OnOk result (IsSomeAnd self.new (λ to. CountsStep to steps.old steps.new)) }
+        ensures uncounted { IfErr result (λ fault. fault ≢ TakeFault.Blob MemoryRefused → steps.new ≡ steps.old) }
     {
         match &mut self.stand {
-            Some(stand) => step(self.alloc, stand, store, name),
+            Some(stand) => step(self.alloc, stand, store, name, steps),
             None => unreachable!(),
         }
     }
@@ -147,6 +155,88 @@ impl Consumer {
     {
         match &self.stand {
             Some(stand) => stand.gone(type_index),
+            None => unreachable!(),
+        }
+    }
+
+    /// Keeps an index of the rows of a type by the values at the ends of paths, and answers its number: its place among the indexes. One that
+    /// is kept already is left as it is.
+    ///
+    /// `TooMany` comes where it is not kept and there are 16 others. After a fault everything is as before. A step is counted for each live row
+    /// of the type where the index is made.
+    pub fn add_index<L: Ledger>(
+        &mut self,
+        type_index: u32,
+        paths: Paths,
+        steps: &mut Steps<L>,
+    ) -> Result<u32, IndexFault>
+        requires type_there { IsSomeAnd self.old (λ position. type_index < length position.schemas) }
+        requires resolved { IsSomeAnd self.old (λ position. All (IsResolved position.schemas type_index) paths) }
+        ensures added { IfOk result (λ number. IsSomeAnd self.old (λ from. IsSomeAnd self.new (λ to. AddsIndex (index_by type_index paths) from to number))) }
+        ensures counted { OnOk result (IsSomeAnd self.old (λ from. CountsAdded from (index_by type_index paths) steps.old steps.new)) }
+        ensures many { (result ≡ Err IndexFault.TooMany) ↔ IsSomeAnd self.old (λ from. HasNoRoom from (index_by type_index paths)) }
+        ensures refused { OnErr result (self.new ≡ self.old) }
+    {
+        match &mut self.stand {
+            Some(stand) => stand.add_index(self.alloc, type_index, paths, steps),
+            None => unreachable!(),
+        }
+    }
+
+    /// The number of the index of a type by these paths, if it is kept. It takes no memory.
+    pub fn index_of(&self, type_index: u32, paths: &Paths) -> Option<u32>
+        requires { IsSome self.now }
+        ensures { IsSomeAnd self.now (λ position. MatchOption result (¬ Contains position.indexes (index_by type_index paths.now))
+            (λ number. slice_get position.indexes number ≡ Some (index_by type_index paths.now))) }
+    {
+        match &self.stand {
+            Some(stand) => stand.index_of(type_index, paths),
+            None => unreachable!(),
+        }
+    }
+
+    /// How many rows have a key of an index: no null stands on one of its paths.
+    pub fn keyed(&self, index: u32) -> u64
+        requires { IsSomeAnd self.now (λ position. index < length position.indexes) }
+        ensures { IsSomeAnd self.now (λ position. IsSomeAnd (slice_get position.indexes index) (λ kept. CountsKeyed position kept result)) }
+    {
+        match &self.stand {
+            Some(stand) => stand.keyed(index),
+            None => unreachable!(),
+        }
+    }
+
+    /// The ordinals of the rows that have a key of an index, rising. It costs its answer, and no walk over the rows.
+    pub fn find(&self, index: u32, key: &Values) -> Result<Ordinals, AllocError>
+        requires { IsSomeAnd self.now (λ position. index < length position.indexes) }
+        ensures { IfOk result (λ ordinals. IsSomeAnd self.now (λ position. IsSomeAnd (slice_get position.indexes index)
+            (λ kept. AreMatches position.schemas (rows_now position) kept.type_index kept.paths key.now ordinals))) }
+    {
+        match &self.stand {
+            Some(stand) => stand.find(self.alloc, index, key),
+            None => unreachable!(),
+        }
+    }
+
+    /// Whether a type has a set with the element under the ordinal. It takes no memory.
+    pub fn has(&self, type_index: u32, ordinal: u32, element: u32) -> bool
+        requires { IsSomeAnd self.now (λ position. type_index < length position.schemas) }
+        ensures { IsSomeAnd self.now (λ position. IsTrue result ↔ Contains (elements_of (row_at (rows_now position) type_index ordinal)) element) }
+    {
+        match &self.stand {
+            Some(stand) => stand.has(type_index, ordinal, element),
+            None => unreachable!(),
+        }
+    }
+
+    /// The value beside the key in the map that a type has under the ordinal; none where it has no map there, or one without the key. It takes
+    /// no memory.
+    pub fn at(&self, type_index: u32, ordinal: u32, key: u32) -> Option<u32>
+        requires { IsSomeAnd self.now (λ position. type_index < length position.schemas) }
+        ensures { IsSomeAnd self.now (λ position. FindsIn (pairs_of (row_at (rows_now position) type_index ordinal)) key result) }
+    {
+        match &self.stand {
+            Some(stand) => stand.at(type_index, ordinal, key),
             None => unreachable!(),
         }
     }

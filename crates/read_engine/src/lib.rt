@@ -1,9 +1,11 @@
-//! A consumer: the state that it loads from a snapshot and moves by deltas.
+//! A consumer: the state that it loads from a snapshot and moves by deltas, and the indexes that it keeps over its rows.
 #![tactic(auto)]
 
 mod coming;
 mod consumer;
 mod fault;
+mod indexes;
+mod keeping;
 pub mod laws;
 mod load;
 mod moving;
@@ -13,5 +15,5 @@ mod step;
 mod views;
 
 pub use consumer::Consumer;
-pub use fault::TakeFault;
+pub use fault::{IndexFault, TakeFault};
 pub use views::{Before, Now};

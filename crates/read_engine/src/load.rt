@@ -40,14 +40,14 @@ pub(crate) fn load<S: BlobStore>(
     match read_body(alloc, &mut cursor, store) {
         Ok(body) => {
             let past = no_past(alloc, body.model.len())?;
-            Ok(stand_of(header.destination, body, past))
+            Ok(stand_of(alloc, header.destination, body, past))
         }
         Err(fault) => Err(body_fault(fault)),
     }
 }
 
-// The state of a body, with this tag; nothing changed of its types.
-fn stand_of(tag: i64, body: Body, past: PastParts) -> Stand
+// The state of a body, with this tag; nothing changed of its types, and no index is kept.
+fn stand_of(alloc: Global, tag: i64, body: Body, past: PastParts) -> Stand
     requires whole { IsWholeBody body }
     requires model { IsModel body.model }
     requires past { past ≡ replicate (length body.model) no_part }
@@ -60,6 +60,7 @@ fn stand_of(tag: i64, body: Body, past: PastParts) -> Stand
         model,
         states,
         past,
+        indexes: Vec::new(alloc),
     }
 }
 

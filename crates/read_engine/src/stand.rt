@@ -1,19 +1,25 @@
 //! Where a consumer stands that has a state.
-ghost use Rattle.std.specs.Prelude.{◌<◌, length};
+ghost use Rattle.std.specs.Prelude.{◌<◌, ◌↔◌, Contains, IsTrue, length};
+ghost use Rattle.schema_model.specs.Table.{row_at};
+ghost use Rattle.bucket_codec.specs.Run.{FindsIn};
+ghost use Rattle.type_state.specs.Lookup.{elements_of, pairs_of};
 ghost use Rattle.read_engine.specs.Gone.{AreGone};
+ghost use Rattle.read_engine.specs.Position.{rows_now};
 
 use crate::past::PastParts;
 use hol_varint::Ordinals;
+use key_index::KeyIndex;
 use schema_model::Model;
 use type_state::TypeState;
 
-/// A state: its tag, its model, the rows of each type in its current half, and what the last step changed of each.
+/// A state: its tag, its model, the rows of each type in its current half, what the last step changed of each, and the indexes of its rows.
 #[derive(Drop)]
 pub(crate) struct Stand {
     pub(crate) tag: i64,
     pub(crate) model: Model,
     pub(crate) states: Vec<TypeState>,
     pub(crate) past: PastParts,
+    pub(crate) indexes: Vec<KeyIndex>,
 }
 
 impl std::marker::Model for Stand {
@@ -24,9 +30,9 @@ impl std::marker::Model for Stand {
 
     ghost coded = { position_code };
 
-    ghost view = { λ s. position_of s.tag s.model s.states.items s.past };
+    ghost view = { λ s. position_of s.tag s.model s.states.items s.past s.indexes.items };
 
-    ghost invariant = { λ s. IsStanding s.tag s.model s.states.items s.past };
+    ghost invariant = { λ s. IsStanding s.tag s.model s.states.items s.past s.indexes.items };
 }
 
 impl Stand {
@@ -36,5 +42,21 @@ impl Stand {
         ensures { AreGone self.now type_index result.now }
     {
         &self.past.get(type_index as usize).gone
+    }
+
+    /// Whether a type has a set with the element under the ordinal.
+    pub(crate) fn has(&self, type_index: u32, ordinal: u32, element: u32) -> bool
+        requires { type_index < length self.now.schemas }
+        ensures { IsTrue result ↔ Contains (elements_of (row_at (rows_now self.now) type_index ordinal)) element }
+    {
+        self.states[type_index as usize].has(ordinal, element)
+    }
+
+    /// The value beside the key in the map that a type has under the ordinal.
+    pub(crate) fn at(&self, type_index: u32, ordinal: u32, key: u32) -> Option<u32>
+        requires { type_index < length self.now.schemas }
+        ensures { FindsIn (pairs_of (row_at (rows_now self.now) type_index ordinal)) key result }
+    {
+        self.states[type_index as usize].at(ordinal, key)
     }
 }

@@ -1,35 +1,42 @@
 //! A step of a consumer: the rows of its state are moved by the parts of a delta.
-ghost use Rattle.std.specs.Prelude.{◌≡◌, ◌≤◌, All, Err, IfErr, IfOk, IfSome, OnErr, Some, map};
+ghost use Rattle.std.specs.Prelude.{◌≡◌, ◌≢◌, ◌+◌, ◌≤◌, All, Err, IfErr, IfOk, IfSome, OnErr, OnOk, Some, map, sum_by};
 ghost use Rattle.hol_io.specs.Causes.{Rose};
 ghost use Rattle.hol_io.specs.Store.{told};
-ghost use Rattle.blob_frame.specs.declared.fault.BlobFault.TheVariants.{Store as StoreFailed};
-ghost use Rattle.schema_model.specs.Table.{IsTableOf};
+ghost use Rattle.blob_frame.specs.declared.fault.BlobFault.TheVariants.{Memory as MemoryRefused, Store as StoreFailed};
+ghost use Rattle.schema_model.specs.Table.{IsClosed, IsTableOf};
 ghost use Rattle.type_state.specs.Views.{table_of};
 ghost use Rattle.delta_blob.specs.Reads.{IsWholePart};
+ghost use Rattle.read_engine.specs.Indexes.{CountsStep};
+ghost use Rattle.read_engine.specs.Kept.{IsKept, count_came, index_kept};
 ghost use Rattle.read_engine.specs.Moving.{RefusesParts, Refuses, StaysCurrent, TakesParts, TellsTaken};
 ghost use Rattle.read_engine.specs.Standing.{current_halves};
 ghost use Rattle.read_engine.specs.Taking.{TellsStep};
 
 use crate::TakeFault;
 use crate::coming::{check_closed, flip_named};
+use crate::keeping::{reserve_all, update_all};
 use crate::load::body_fault;
 use crate::moving::move_types;
 use crate::past::PastParts;
 use crate::stand::Stand;
 use blob_frame::{BlobFault, opened};
 use delta_blob::{PatchPart, read_patch};
-use hol_io::{BlobName, BlobStore};
+use hol_io::{BlobName, BlobStore, Steps};
+use key_index::KeyIndex;
+use key_index::laws::kept_key;
 use schema_model::Model;
 use std::alloc::Global;
+use std::sync::ledger::Ledger;
 use type_state::TypeState;
 use type_state::laws::{moved_rows_fit, one_move};
 
 /// Moves a state by the delta of a name. After a fault it is as before.
-pub(crate) fn step<S: BlobStore>(
+pub(crate) fn step<S: BlobStore, L: Ledger>(
     alloc: Global,
     stand: &mut Stand,
     store: &mut S,
     name: &BlobName,
+    steps: &mut Steps<L>,
 ) -> Result<(), TakeFault>
     ensures tells { IfSome (S.seen store.old).held
         (λ held. TellsStep name.now (told (S.seen store.old).held name.now) stand.old (Some stand.new) result) }
@@ -38,6 +45,8 @@ pub(crate) fn step<S: BlobStore>(
     ensures kept { (S.seen store.new).held ≡ (S.seen store.old).held }
     ensures later { (S.seen store.old).faults ≤ (S.seen store.new).faults }
     ensures unput { (S.seen store.new).puts ≡ (S.seen store.old).puts }
+    ensures counted { OnOk result (CountsStep stand.new steps.old steps.new) }
+    ensures uncounted { IfErr result (λ fault. fault ≢ TakeFault.Blob MemoryRefused → steps.new ≡ steps.old) }
 {
     one_move();
     let (header, mut cursor) = opened(alloc, store, name)?;
@@ -47,42 +56,64 @@ pub(crate) fn step<S: BlobStore>(
         return Err(TakeFault::Blob(fault));
     }
     match read_patch(alloc, &mut cursor, store, &stand.model) {
-        Ok(parts) => take(alloc, stand, parts.as_slice(), header.destination),
+        Ok(parts) => take(alloc, stand, parts.as_slice(), header.destination, steps),
         Err(fault) => Err(body_fault(fault)),
     }
 }
 
 // Moves a state by the parts of a patch, to this tag. After a fault it is as before.
-fn take(alloc: Global, stand: &mut Stand, parts: &[PatchPart], tag: i64) -> Result<(), TakeFault>
+fn take<L: Ledger>(
+    alloc: Global,
+    stand: &mut Stand,
+    parts: &[PatchPart],
+    tag: i64,
+    steps: &mut Steps<L>,
+) -> Result<(), TakeFault>
     requires { All (IsWholePart stand.old.schemas) parts.now }
     ensures tells { TellsTaken tag parts.now stand.old stand.new result }
     ensures refused { OnErr result (stand.new ≡ stand.old) }
+    ensures counted { OnOk result (CountsStep stand.new steps.old steps.new) }
+    ensures uncounted { IfErr result (λ fault. fault ≢ TakeFault.Blob MemoryRefused → steps.new ≡ steps.old) }
 {
-    let past = take_parts(alloc, &stand.model, stand.states.as_mut_slice(), parts)?;
+    let states = stand.states.as_mut_slice();
+    let indexes = stand.indexes.as_mut_slice();
+    let past = take_parts(alloc, &stand.model, states, parts, indexes, steps)?;
     stand.past = past;
     stand.tag = tag;
     Ok(())
 }
 
-// Moves the types into their next halves, tries whether the rows that come are closed, and makes their halves the current ones: nothing is
-// turned before all is tried.
-fn take_parts(
+// Moves the types into their next halves, tries whether the rows that come are closed, makes the indexes ready for them, and makes their halves
+// the current ones: nothing is turned before all is tried.
+fn take_parts<L: Ledger>(
     alloc: Global,
     model: &Model,
     states: &mut [TypeState],
     parts: &[PatchPart],
+    indexes: &mut [KeyIndex],
+    steps: &mut Steps<L>,
 ) -> Result<PastParts, TakeFault>
     requires named { map (λ state. state.schema) states.old ≡ model.now }
     requires fits { IsTableOf model.now (table_of (current_halves states.old)) }
+    requires closed { IsClosed model.now (table_of (current_halves states.old)) }
     requires whole { All (IsWholePart model.now) parts.now }
+    requires kept { All (IsKept model.now (table_of (current_halves states.old))) indexes.old }
     ensures takes { IfOk result (TakesParts model.now parts.now states.old states.new) }
+    ensures follow { OnOk result (All (IsKept model.now (table_of (current_halves states.new))) indexes.new) }
+    ensures same { map index_kept indexes.new ≡ map index_kept indexes.old }
+    ensures counted { IfOk result (λ past. steps.new ≡ steps.old + sum_by (λ kept. count_came past kept.type_index) indexes.old) }
     ensures stays { OnErr result (StaysCurrent states.old states.new) }
+    ensures unmoved { OnErr result (indexes.new ≡ indexes.old) }
     ensures refused { IfErr result (Refuses (RefusesParts model.now parts.now states.old)) }
+    ensures uncounted { IfErr result (λ fault. fault ≢ TakeFault.Blob MemoryRefused → steps.new ≡ steps.old) }
 {
     moved_rows_fit();
+    kept_key();
     let past = move_types(alloc, model.len(), states, parts)?;
     let kept = past.as_slice();
     check_closed(alloc, model, states, kept)?;
+    reserve_all(indexes, model, states, kept, steps)?;
     flip_named(states, kept);
+    update_all(indexes);
     Ok(past)
 }

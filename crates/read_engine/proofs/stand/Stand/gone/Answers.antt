@@ -7,10 +7,10 @@ use Rattle.read_engine.proofs.stand.Stand.gone.Goals as goal
 pub get-requires : goal.get-requires
 get-requires c =
     let known = subst (λ (p : Position). c.args.type_index < length p.schemas) (sym c.self.view_is) c.requires in
-    omega (arith, known, kept_length c.self.inside.tag c.self.inside.model c.self.inside.states.items c.self.inside.past c.self.invariant)
+    omega (arith, known, kept_length c.self.inside.tag c.self.inside.model c.self.inside.states.items c.self.inside.past c.self.inside.indexes.items c.self.invariant)
 
 pub returns : goal.returns
 returns c =
     let known = subst (λ (p : Position). c.args.type_index < length p.schemas) (sym c.self.view_is) c.requires in
     subst (λ (p : Position). AreGone p c.args.type_index c.get.result.now.gone) c.self.view_is
-    (gone_in c.self.inside.tag c.self.inside.model c.self.inside.states.items c.self.inside.past c.args.type_index c.get.result.now c.self.invariant known c.get.ensures)
+    (gone_in c.self.inside.tag c.self.inside.model c.self.inside.states.items c.self.inside.past c.self.inside.indexes.items c.args.type_index c.get.result.now c.self.invariant known c.get.ensures)
