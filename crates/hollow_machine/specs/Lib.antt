@@ -1,8 +1,12 @@
 pub mod Blobs
 pub mod CycleOrder
 pub mod Follow
+pub mod IndexOrder
 pub mod Kept
+pub mod KeyOrders
+pub mod KeyPaths
 pub mod LoadOrder
+pub mod MemberOrders
 pub mod ModelOrder
 pub mod Puts
 pub mod Records

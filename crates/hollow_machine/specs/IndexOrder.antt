@@ -1,0 +1,36 @@
+-- The order `index`: what it answers, and the machine behind it.
+use Rattle.std.specs.Prelude.{◌≡◌, ℕ, List, Option, Some, None, IsSomeAnd}
+use Rattle.schema_model.specs.declared.limit.Limit.TheVariants.{Indexes}
+use Rattle.schema_model.specs.declared.model.path.Path.{Path}
+use Rattle.schema_model.specs.declared.schema.name.Name.{Name}
+use Rattle.schema_model.specs.Parts.{index_of_type}
+use Rattle.read_engine.specs.Indexes.{CountsKeyed, HasNoRoom, KeepsIndex, index_by}
+use Rattle.read_engine.specs.Position.{Index, Position}
+use Rattle.hol_orders.specs.declared.refusal.Refusal.{Refusal}
+use Rattle.hol_orders.specs.declared.refusal.Refusal.TheVariants.{NoState, NoType, TooLarge}
+use Rattle.hol_orders.specs.declared.reply.Reply.{Reply}
+use Rattle.hol_orders.specs.declared.reply.Reply.TheVariants as reply
+use Rattle.hollow_machine.specs.KeyPaths.{AreKeyPaths, HasShape, IsObject, PathsRefusal}
+use Rattle.hollow_machine.specs.State.{Machine}
+
+-- Why no index of the type at an index is kept: there is no such key; or there is no room.
+abbrev pub RefusesIndex : Name → List (List ℕ) → Position → ℕ → Refusal → Type 0
+RefusesIndex name texts now t (TooLarge Indexes) =
+    HasShape IsObject now.schemas t × ((paths : List Path) × AreKeyPaths now.schemas t texts paths × HasNoRoom now (index_by t paths))
+RefusesIndex name texts now t refusal = PathsRefusal now.schemas t name texts refusal
+
+-- Why the order is refused: the consumer has no state, its model has no such type, or what there is to the type.
+abbrev pub IndexRefusal : Option Position → Name → List (List ℕ) → Refusal → Type 0
+IndexRefusal consumer name texts NoState = consumer ≡ None
+IndexRefusal consumer name texts (NoType other) = IsSomeAnd consumer (λ now. (index_of_type now.schemas name ≡ None) × (other ≡ name))
+IndexRefusal consumer name texts refusal =
+    IsSomeAnd consumer (λ now. IsSomeAnd (index_of_type now.schemas name) (λ t. RefusesIndex name texts now t refusal))
+
+-- The consumer keeps the index of the type by the paths, and so many live rows have a key; or the order is refused and all stays.
+abbrev pub IndexStep : Machine → Name → List (List ℕ) → Reply → Machine → Type 0
+IndexStep machine name texts (reply.Index keys) next =
+    IsSomeAnd machine.consumer (λ now. IsSomeAnd (index_of_type now.schemas name) (λ t. HasShape IsObject now.schemas t
+    × ((paths : List Path) × AreKeyPaths now.schemas t texts paths × CountsKeyed now (index_by t paths) keys
+    × ((after : List Index) × KeepsIndex now.indexes (index_by t paths) after × (next ≡ record machine { consumer = Some (record now { indexes = after }) })))))
+IndexStep machine name texts (reply.Refused refusal) next = IndexRefusal machine.consumer name texts refusal × (next ≡ machine)
+IndexStep machine name texts _ next = ⊥

@@ -1,0 +1,44 @@
+-- The orders `has` and `at`, which look into a set and into a map: what they answer of where a consumer stands.
+use Rattle.std.specs.Prelude.{◌≡◌, ◌↔◌, ℕ, List, Option, Contains, IsTrue}
+use Rattle.schema_model.specs.declared.schema.name.Name.{Name}
+use Rattle.schema_model.specs.declared.schema.Shape.{Shape}
+use Rattle.schema_model.specs.Table.{IsLive, row_at}
+use Rattle.bucket_codec.specs.Run.{FindsIn}
+use Rattle.type_state.specs.Lookup.{elements_of, pairs_of}
+use Rattle.read_engine.specs.Position.{Position, rows_now}
+use Rattle.hol_orders.specs.declared.refusal.Refusal.{Refusal}
+use Rattle.hol_orders.specs.declared.refusal.Refusal.TheVariants.{NoRow, WrongKind}
+use Rattle.hol_orders.specs.declared.reply.Reply.{Reply}
+use Rattle.hol_orders.specs.declared.reply.Reply.TheVariants as reply
+use Rattle.hollow_machine.specs.KeyPaths.{HasShape, IsMap, IsSet}
+use Rattle.hollow_machine.specs.RowOrders.{AnswersOf}
+
+-- Why a row of a type is not looked into: the rows of the type have another shape, or the ordinal is not live.
+abbrev pub MemberRefusal : (Shape → Type 0) → Name → ℕ → Position → ℕ → Refusal → Type 0
+MemberRefusal Is name ordinal now t (WrongKind other) = (other ≡ name) × ¬ HasShape Is now.schemas t
+MemberRefusal Is name ordinal now t (NoRow row) =
+    HasShape Is now.schemas t × (row.type_name ≡ name) × (row.ordinal ≡ ordinal) × ¬ IsLive (rows_now now) t ordinal
+MemberRefusal Is name ordinal now t _ = ⊥
+
+-- The row under an ordinal of a type is there, and has this shape.
+abbrev pub IsRowOf : (Shape → Type 0) → ℕ → Position → ℕ → Type 0
+IsRowOf Is ordinal now t = HasShape Is now.schemas t × IsLive (rows_now now) t ordinal
+
+-- What `has` answers of a type: whether the set under an ordinal has the element.
+abbrev pub TellsElement : Name → ℕ → ℕ → Position → ℕ → Reply → Type 0
+TellsElement name ordinal element now t (reply.Has there) =
+    IsRowOf IsSet ordinal now t × (IsTrue there ↔ Contains (elements_of (row_at (rows_now now) t ordinal)) element)
+TellsElement name ordinal element now t (reply.Refused refusal) = MemberRefusal IsSet name ordinal now t refusal
+TellsElement name ordinal element now t _ = ⊥
+
+abbrev pub HasReply : Option Position → Name → ℕ → ℕ → Reply → Type 0
+HasReply consumer name ordinal element answer = AnswersOf consumer name (TellsElement name ordinal element) answer
+
+-- What `at` answers of a type: the value that the map under an ordinal has beside the key, if it has the key.
+abbrev pub TellsValue : Name → ℕ → ℕ → Position → ℕ → Reply → Type 0
+TellsValue name ordinal key now t (reply.At value) = IsRowOf IsMap ordinal now t × FindsIn (pairs_of (row_at (rows_now now) t ordinal)) key value
+TellsValue name ordinal key now t (reply.Refused refusal) = MemberRefusal IsMap name ordinal now t refusal
+TellsValue name ordinal key now t _ = ⊥
+
+abbrev pub AtReply : Option Position → Name → ℕ → ℕ → Reply → Type 0
+AtReply consumer name ordinal key answer = AnswersOf consumer name (TellsValue name ordinal key) answer
