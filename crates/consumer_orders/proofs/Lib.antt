@@ -1,6 +1,10 @@
 mod Asking
+mod Indexing
+mod KeyTexts
+mod KeyWays
 mod LiveLists
 mod Loading
+mod LookingUp
 mod PastRows
 mod Refusing
 mod ShownRows

@@ -1,5 +1,5 @@
 //! The order `step`.
-ghost use Rattle.std.specs.Prelude.{◌≡◌, ◌≢◌, ◌≤◌, ◌<◌, IsErrOf, IsSome, OnErr};
+ghost use Rattle.std.specs.Prelude.{◌≡◌, ◌≤◌, ◌<◌, IsErrOf, IsSome, OnErr};
 ghost use Rattle.hol_io.specs.Causes.{Rose};
 ghost use Rattle.hollow_machine.specs.Kept.{MovesConsumer};
 ghost use Rattle.hollow_machine.specs.StepOrder.{StepStep, step_name};
@@ -22,7 +22,6 @@ pub fn step<S: BlobStore>(
     from: u64,
     to: u64,
 ) -> Result<Reply, OrderStop>
-    requires { from ≢ to }
     ensures step { MovesConsumer (λ machine reply next. StepStep machine (step_name from to) reply next) (S.seen store.old).held consumer.old consumer.new result }
     ensures stopped { OnErr result (consumer.new ≡ consumer.old) }
     ensures held { (S.seen store.new).held ≡ (S.seen store.old).held }

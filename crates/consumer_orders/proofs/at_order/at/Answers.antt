@@ -1,0 +1,7 @@
+use Rattle.std.proofs.Common.{subst}
+use Rattle.consumer_orders.specs.Asked.{TellsType}
+use Rattle.consumer_orders.proofs.Asking.{inside_model}
+use Rattle.consumer_orders.proofs.at_order.at.Goals as goal
+
+pub at_in-requires : goal.at_in-requires
+at_in-requires c = inside_model c.args.consumer.now c.args.name.now c.in-At.type_index (subst (TellsType c.args.consumer.now c.args.name.now) c.in-At.is c.in_ok-type_index.ensures)

@@ -1,0 +1,7 @@
+use Rattle.std.proofs.Common.{subst}
+use Rattle.consumer_orders.specs.Asked.{TellsType}
+use Rattle.consumer_orders.proofs.Asking.{inside_model}
+use Rattle.consumer_orders.proofs.get_order.get.Goals as goal
+
+pub get_at-requires : goal.get_at-requires
+get_at-requires c = inside_model c.args.consumer.now c.args.name.now c.in-At.type_index (subst (TellsType c.args.consumer.now c.args.name.now) c.in-At.is c.in_ok-type_index.ensures)

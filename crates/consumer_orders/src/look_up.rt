@@ -1,0 +1,72 @@
+//! Looking rows up by a key.
+ghost use Rattle.std.specs.Prelude.{◌≡◌, ◌<◌, All, IfOk, IsSomeAnd, length};
+ghost use Rattle.serde_json.specs.View.{view};
+ghost use Rattle.schema_model.specs.Key.{IsResolved};
+ghost use Rattle.consumer_orders.specs.Sought.{TellsAlong, TellsFound};
+
+use crate::key_paths::{KeyPaths, key_paths};
+use hol_orders::Refusal;
+use hol_varint::Ordinals;
+use json_rows::{JsonFault, key_from};
+use read_engine::Consumer;
+use schema_model::{Model, Name, Names, Paths};
+use serde_json::Value;
+use std::alloc::{AllocError, Global};
+
+/// What a look-up by a key finds.
+#[derive(Drop)]
+pub(crate) enum Found {
+    /// The ordinals of the rows that have the key, rising.
+    Ordinals(Ordinals),
+    /// No rows are looked up.
+    Refused(Refusal),
+}
+
+/// The rows of the type at an index, which has this name, that have the key of these values along the paths of the texts, and where there is no text along
+/// those of its primary key. Refused as `key_paths` refuses, then with `NoIndex` where no index is kept for the paths, and then with `BadKey` where the
+/// values are no key.
+pub(crate) fn look_up(
+    alloc: Global,
+    consumer: &Consumer,
+    name: &Name,
+    type_index: u32,
+    texts: &Names,
+    values: &Value,
+) -> Result<Found, AllocError>
+    requires { IsSomeAnd consumer.now (λ now. type_index < length now.schemas) }
+    ensures { IfOk result (λ found. IsSomeAnd consumer.now (λ now. TellsFound name.now texts.now (view values.now) now type_index found)) }
+{
+    let Some(model) = consumer.model() else {
+        unreachable!();
+    };
+    match key_paths(alloc, model, name, type_index, texts)? {
+        KeyPaths::Resolved(paths) => {
+            look_up_along(alloc, consumer, model, type_index, &paths, values)
+        }
+        KeyPaths::Refused(refusal) => Ok(Found::Refused(refusal)),
+    }
+}
+
+// The same along resolved paths of the type, where this is the consumer's model.
+fn look_up_along(
+    alloc: Global,
+    consumer: &Consumer,
+    model: &Model,
+    type_index: u32,
+    paths: &Paths,
+    values: &Value,
+) -> Result<Found, AllocError>
+    requires model { IsSomeAnd consumer.now (λ now. now.schemas ≡ model.now) }
+    requires resolved { All (IsResolved model.now type_index) paths.now }
+    ensures { IfOk result (λ found. IsSomeAnd consumer.now (λ now. TellsAlong paths.now (view values.now) now type_index found)) }
+{
+    let Some(index) = consumer.index_of(type_index, paths) else {
+        return Ok(Found::Refused(Refusal::NoIndex));
+    };
+    match key_from(alloc, model, paths, values) {
+        Ok(key) => Ok(Found::Ordinals(consumer.find(index, &key)?)),
+        Err(JsonFault::Shape) => Ok(Found::Refused(Refusal::BadKey)),
+        Err(JsonFault::Memory) => Err(AllocError),
+        Err(JsonFault::Rule(_, _) | JsonFault::Field(_)) => unreachable!(),
+    }
+}
