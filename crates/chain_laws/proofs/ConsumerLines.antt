@@ -3,12 +3,15 @@ use Rattle.std.proofs.Common.{◌≡◌, ℕ, ℤ, List, [], ◌∷◌, Bool, tr
 use Rattle.std.specs.Prelude.{IfSome}
 use Rattle.serde_json.specs.Data.{Data}
 use Rattle.serde_json.specs.View.{view}
+use Rattle.schema_model.specs.declared.schema.name.Name.{Name}
 use Rattle.hol_orders.specs.declared.order.Order.{Order}
 use Rattle.hol_orders.specs.declared.order.Order.TheVariants as order
 use Rattle.hol_orders.specs.declared.reply.Reply.{Reply}
 use Rattle.hol_orders.specs.declared.reply.Reply.TheVariants as reply
 use Rattle.read_engine.specs.Position.{Position}
 use Rattle.hollow_machine.specs.CycleOrder.{CycleStep, Succeeds}
+use Rattle.hollow_machine.specs.IndexOrder.{IndexStep}
+use Rattle.hollow_machine.specs.KeyPaths.{texts_of_array}
 use Rattle.hollow_machine.specs.LoadOrder.{LoadStep}
 use Rattle.hollow_machine.specs.ModelOrder.{ModelStep}
 use Rattle.hollow_machine.specs.Script.{LineStep, Script}
@@ -20,6 +23,7 @@ use Rattle.written_laws.specs.HoldsChain.{HoldsChain}
 use Rattle.chain_laws.specs.Consumers.{IsConsumerOf, IsIn}
 use Rattle.chain_laws.specs.Growth.{GrowsBy, GrowsAlong}
 use Rattle.chain_laws.specs.Producers.{IsProducerOf, KeepsChain}
+use Rattle.chain_laws.proofs.AddedIndexes.{index_added, still_indexes}
 use Rattle.chain_laws.proofs.ConsumerMoves.{loads_in, steps_in}
 use Rattle.chain_laws.proofs.ConsumerOrders.{step_named}
 use Rattle.chain_laws.proofs.Lines.{Extends, line_keeps}
@@ -66,11 +70,27 @@ module _ (machine : Machine) (chain : Chain) (holds : HoldsChain machine.store c
   step_moves from to (reply.Refused refusal) next step = as_before next step.1
   step_moves from to _ next step = absurd step
 
+  -- the consumer stands where it stood, and keeps the index
+  index_moves : (name : Name) (texts : List (List ℕ)) (answer : Reply) (next : Machine) → IndexStep machine name texts answer next → IsConsumerOf chain next.consumer
+  index_moves name texts (reply.Index keys) next step =
+      let added = index_added machine name texts keys next step in
+      let stood : IsIn chain added.now = subst (λ (consumer : Option Position). IfSome consumer (IsIn chain)) added.was of in
+      moved_to next (record added.now { indexes = added.after }) added.is record {
+        version = stood.version;
+        state = stood.state;
+        there = stood.there;
+        stands = record { tag = stood.stands.tag; model = stood.stands.model; rows = stood.stands.rows };
+        indexes = still_indexes added.now.schemas added.now.indexes added.after name texts added.index stood.indexes added.asks added.keeps;
+      }
+  index_moves name texts (reply.Refused refusal) next step = as_before next step.1
+  index_moves name texts _ next step = absurd step
+
   order_moves : (asked : Order) (answer : Reply) (next : Machine) → Step machine asked answer next → IsConsumerOf chain next.consumer
   order_moves (order.Model value) answer next step = model_moves (view value) answer next step
   order_moves (order.Cycle version tag add) answer next step = cycle_moves version tag (view add) answer next step
   order_moves (order.Load version) answer next step = load_moves version answer next step
   order_moves (order.Step from to) answer next step = step_moves from to answer next step
+  order_moves (order.Index name paths) answer next step = index_moves name (texts_of_array (view paths)) answer next step
   order_moves _ answer next step = as_before next step.1
 
   line_moves : (line : List ℕ) (answer : Reply) (next : Machine) → LineStep machine line answer next → IsConsumerOf chain next.consumer
@@ -81,7 +101,7 @@ module _ (machine : Machine) (chain : Chain) (holds : HoldsChain machine.store c
 -- a state of a chain is one of a longer chain
 still_in : (chain after : Chain) (consumer : Option Position) → Extends chain after → IsConsumerOf chain consumer → IsConsumerOf after consumer
 still_in chain after None extends of = tt
-still_in chain after (Some now) extends of = record { version = of.version; state = of.state; there = extends of.version of.state of.there; stands = of.stands }
+still_in chain after (Some now) extends of = record { version = of.version; state = of.state; there = extends of.version of.state of.there; stands = of.stands; indexes = of.indexes }
 
 pub line_keeps_both : (machine next : Machine) (line : List ℕ) (answer : Reply) (chain : Chain) → LineStep machine line answer next → KeepsChain machine.store chain → IsProducerOf chain machine.producer
     → IsConsumerOf chain machine.consumer → (after : Chain) × GrowsBy machine line answer chain after × KeepsChain next.store after × IsProducerOf after next.producer × IsConsumerOf after next.consumer

@@ -24,6 +24,8 @@ use Rattle.written_laws.specs.HoldsChain.{HoldsChain, IsStep, LeadsOn}
 use Rattle.written_laws.proofs.ChainSteps.{step_leads}
 use Rattle.written_laws.proofs.MovedOnce.{moved_once}
 use Rattle.chain_laws.specs.Consumers.{IsIn, StandsAt}
+use Rattle.chain_laws.specs.KeptIndexes.{AreIndexes}
+use Rattle.chain_laws.proofs.AddedIndexes.{no_indexes}
 use Rattle.chain_laws.proofs.NextPosition.{next_halves, next_table, next_count, next_others, next_named}
 
 module _ (store : Store) (chain : Chain) (holds : HoldsChain store chain) where
@@ -34,7 +36,7 @@ module _ (store : Store) (chain : Chain) (holds : HoldsChain store chain) where
 
   -- what is loaded of a version is its state
   pub loads_state : (version : ℕ) (state : ChainState) (blob : List ℕ) (position : Position) → HasVersion chain version state → get store (Snapshot version) ≡ Some blob → LoadsFrom blob position → StandsAt state position
-  loads_state version state blob position there at (head, accepted, tag_is, before) =
+  loads_state version state blob position there at (head, accepted, tag_is, before, none) =
       let (other, also, (its_head, its_tag, is)) = holds.each (Snapshot version) blob at in
       let same : other ≡ state = one version other state also there in
       let once = one_snapshot blob head its_head accepted.0 is.accepted.0 position.schemas other.model position.halves is.halves accepted.1 is.accepted.1 in
@@ -47,7 +49,13 @@ module _ (store : Store) (chain : Chain) (holds : HoldsChain store chain) where
   pub loads_in : (version : ℕ) (blob : List ℕ) (position : Position) → get store (Snapshot version) ≡ Some blob → LoadsFrom blob position → IsIn chain position
   loads_in version blob position at loads =
       let (state, there, is) = holds.each (Snapshot version) blob at in
-      record { version = version; state = state; there = there; stands = loads_state version state blob position there at loads }
+      record {
+        version = version;
+        state = state;
+        there = there;
+        stands = loads_state version state blob position there at loads;
+        indexes = subst (AreIndexes position.schemas) (sym loads.4) (no_indexes position.schemas);
+      }
 
   -- ---- steps
 
@@ -71,6 +79,7 @@ module _ (store : Store) (chain : Chain) (holds : HoldsChain store chain) where
           model = steps.model ∙ is.stands.model ∙ sym leads.model;
           rows = moved_once is.state.model steps.patch is.state.table (rows_now to) leads.next.table (names_once is.version is.state is.there) (rows_are is.version is.state is.there) moved leads.moved;
         };
+        indexes = subst (λ (m : List Schema). AreIndexes m to.indexes) (sym steps.model) (subst (AreIndexes now.schemas) (sym steps.indexes) is.indexes);
       }
 
   -- a delta of the chain from where the consumer stands is one that it can take
@@ -92,7 +101,7 @@ module _ (store : Store) (chain : Chain) (holds : HoldsChain store chain) where
       let count : length now.halves ≡ length now.schemas = sym (length-map now.halves (λ (half : Half). half.rows)) ∙ old_types in
       let halves = next_halves now.schemas once (FitsTable (rows_now now)) now.halves delta.parts patch delta.items.once delta.types fits.ordinals leads.next.table types count in
       let table : table_of halves ≡ leads.next.table = next_table now.schemas once (FitsTable (rows_now now)) now.halves delta.parts patch delta.items.once delta.types fits.ordinals leads.next.table types count in (
-        record { tag = destination; schemas = now.schemas; halves = halves; before = rows_now now },
+        record { tag = destination; schemas = now.schemas; halves = halves; before = rows_now now; indexes = now.indexes },
         record {
           patch = patch;
           is = delta;
@@ -106,5 +115,6 @@ module _ (store : Store) (chain : Chain) (holds : HoldsChain store chain) where
           layouts = next_named now.schemas once (FitsTable (rows_now now)) now.halves delta.parts patch delta.items.once delta.types fits.ordinals leads.next.table types count;
           others = next_others now.schemas once (FitsTable (rows_now now)) now.halves delta.parts patch delta.items.once delta.types fits.ordinals leads.next.table types count;
           before = refl;
+          indexes = refl;
         },
       )

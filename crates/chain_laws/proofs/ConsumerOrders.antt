@@ -1,5 +1,5 @@
 -- The orders that move a consumer over a store that holds a chain: which are taken, and that a step from another state is refused.
-use Rattle.std.proofs.Common.{◌≡◌, ◌≢◌, ℕ, ℤ, List, length, Bool, true, false, if◌then◌else◌, Option, Some, None, refl, sym, ap, subst, ◌∙◌, arith}
+use Rattle.std.proofs.Common.{◌≡◌, ◌≢◌, ℕ, ℤ, List, [], length, Bool, true, false, if◌then◌else◌, Option, Some, None, refl, sym, ap, subst, ◌∙◌, arith}
 use Rattle.std.specs.Prelude.{IsSomeAnd, nat_lt}
 use Rattle.std.specs.FinMap.{get}
 use Rattle.hol_io.specs.declared.name.BlobName.{BlobName}
@@ -154,13 +154,13 @@ module _ (machine : Machine) (name : BlobName) (now : Position) (origin : ℤ) (
 
 -- a snapshot that can be loaded is not refused
 pub no_load_refusal : (version : ℕ) (content : Option (List ℕ)) (blob : List ℕ) (position : Position) → content ≡ Some blob → LoadsFrom blob position → (refusal : Refusal) → SnapshotRefusal (Snapshot version) content refusal → ⊥
-no_load_refusal version content blob position at (head, accepted, tag, before) (BadBody other) (named, (its, x, has, at_x, none)) =
+no_load_refusal version content blob position at (head, accepted, tag, before, bare) (BadBody other) (named, (its, x, has, at_x, none)) =
     none head position.schemas position.halves (subst (λ (b : List ℕ). IsAccepted b head position.schemas position.halves) (some_one content blob x at at_x) accepted)
 no_load_refusal version content blob position at loads (NoBlob other) (named, none) = let no : Some blob ≡ None = sym at ∙ none in absurd cc
-no_load_refusal version content blob position at (head, accepted, tag, before) (BadBlob other place reason row) (x, at_x, its_short, stuck, named, row_is) =
+no_load_refusal version content blob position at (head, accepted, tag, before, bare) (BadBlob other place reason row) (x, at_x, its_short, stuck, named, row_is) =
     let (n, begin, short) = begins blob head position.schemas position.halves accepted in
     header.decided.apart x 0 head n place reason (subst (λ (b : List ℕ). HeaderIs b n head) (some_one content blob x at at_x) begin) stuck
-no_load_refusal version content blob position at (head, accepted, tag, before) (TooLarge what) (x, at_x, over, what_is) =
+no_load_refusal version content blob position at (head, accepted, tag, before, bare) (TooLarge what) (x, at_x, over, what_is) =
     let (n, begin, short) = begins blob head position.schemas position.halves accepted in
     let same : length blob ≡ length x = ap (λ (b : List ℕ). length b) (some_one content blob x at at_x) in omega (arith, short, over, same)
 no_load_refusal version content blob position at loads _ is = absurd is
@@ -170,7 +170,7 @@ module _ (machine : Machine) (chain : Chain) (version : ℕ) (state : ChainState
   can_load =
       let (blob, at) = found (get machine.store (Snapshot version)) whole in
       let (other, also, (head, tag, is)) = holds.each (Snapshot version) blob at in
-      (blob, record { tag = head.destination; schemas = other.model; halves = is.halves; before = table_of is.halves }, at, (head, is.accepted, refl, refl))
+      (blob, record { tag = head.destination; schemas = other.model; halves = is.halves; before = table_of is.halves; indexes = [] }, at, (head, is.accepted, refl, refl, refl))
 
   pub load_taken : (position : Position) × LoadStep machine version (reply.Load state.tag) (record machine { consumer = Some position })
   load_taken =
@@ -179,14 +179,14 @@ module _ (machine : Machine) (chain : Chain) (version : ℕ) (state : ChainState
       (position, (blob, position, at, loads, sym stands.tag, refl))
 
   pub load_only : (answer : Reply) (next : Machine) → LoadStep machine version answer next
-      → (position : Position) × StandsAt state position × (answer ≡ reply.Load state.tag) × (next ≡ record machine { consumer = Some position })
+      → (position : Position) × StandsAt state position × (position.indexes ≡ []) × (answer ≡ reply.Load state.tag) × (next ≡ record machine { consumer = Some position })
   load_only (reply.Load tag) next (blob, position, at, loads, tag_is, next_is) =
       let stands = loads_state machine.store chain holds version state blob position there at loads in
-      (position, stands, ap (λ (t : ℤ). reply.Load t) (tag_is ∙ stands.tag), next_is)
+      (position, stands, loads.4, ap (λ (t : ℤ). reply.Load t) (tag_is ∙ stands.tag), next_is)
   load_only (reply.Refused refusal) next step = let (blob, position, at, loads) = can_load in absurd (no_load_refusal version (get machine.store (Snapshot version)) blob position at loads refusal step.0)
   load_only _ next step = absurd step
 
-  pub load_fresh : (now : Position) (answer : Reply) (next : Machine) → machine.consumer ≡ Some now → now.tag ≡ state.tag → LoadStep machine version answer next → Fresh chain machine next
-  load_fresh now answer next was tag step =
-      let (position, stands, answer_is, next_is) = load_only answer next step in
-      record { now = now; was = was; version = version; state = state; there = there; tag = tag; position = position; stands = stands; is = next_is }
+  pub load_fresh : (now : Position) (answer : Reply) (next : Machine) → machine.consumer ≡ Some now → now.tag ≡ state.tag → now.indexes ≡ [] → LoadStep machine version answer next → Fresh chain machine next
+  load_fresh now answer next was tag bare step =
+      let (position, stands, none, answer_is, next_is) = load_only answer next step in
+      record { now = now; was = was; version = version; state = state; there = there; tag = tag; position = position; stands = stands; indexes = none ∙ sym bare; is = next_is }

@@ -23,7 +23,7 @@ use Rattle.chain_laws.specs.Consumers.{Fresh, IsConsumerOf, IsIn, StandsAt}
 
 module _ (now other : Position) (schemas : now.schemas ≡ other.schemas) (rows : rows_now now ≡ rows_now other) where
   -- what holds of the one model and rows holds of the other
-  carried : (Q : List Schema → Table → Type 0) → Q now.schemas (rows_now now) → Q other.schemas (rows_now other)
+  pub carried : (Q : List Schema → Table → Type 0) → Q now.schemas (rows_now now) → Q other.schemas (rows_now other)
   carried Q holds = subst (λ (s : List Schema). Q s (rows_now other)) schemas (subst (λ (t : Table). Q now.schemas t) rows holds)
 
   at_same : (name : Name) (Answers : Position → ℕ → Reply → Type 0) → ((t : ℕ) (answer : Reply) → Answers now t answer → Answers other t answer) → (found : Option ℕ) (answer : Reply)
@@ -31,7 +31,7 @@ module _ (now other : Position) (schemas : now.schemas ≡ other.schemas) (rows 
   at_same name Answers each None answer is = is
   at_same name Answers each (Some t) answer is = each t answer is
 
-  of_same : (name : Name) (Answers : Position → ℕ → Reply → Type 0) → ((t : ℕ) (answer : Reply) → Answers now t answer → Answers other t answer) → (answer : Reply)
+  pub of_same : (name : Name) (Answers : Position → ℕ → Reply → Type 0) → ((t : ℕ) (answer : Reply) → Answers now t answer → Answers other t answer) → (answer : Reply)
       → AnswersOf (Some now) name Answers answer → AnswersOf (Some other) name Answers answer
   of_same name Answers each answer is =
       subst (λ (found : Option ℕ). AnswersAt other found name Answers answer) (ap (λ (s : List Schema). index_of_type s name) schemas)
@@ -72,24 +72,24 @@ module _ (machine fresh : Machine) (chain : Chain) (sound : IsChain chain) (of :
       let same : stood.state ≡ afresh.state = cc in
       subst (λ (s : ChainState). StandsAt s afresh.now) same stood.stands
 
-  schemas : afresh.now.schemas ≡ afresh.position.schemas
-  schemas = stands.model ∙ sym afresh.stands.model
+  pub schemas_same : afresh.now.schemas ≡ afresh.position.schemas
+  schemas_same = stands.model ∙ sym afresh.stands.model
 
-  rows : rows_now afresh.now ≡ rows_now afresh.position
-  rows = stands.rows ∙ sym afresh.stands.rows
+  pub rows_same : rows_now afresh.now ≡ rows_now afresh.position
+  rows_same = stands.rows ∙ sym afresh.stands.rows
 
   consumer_is : fresh.consumer ≡ Some afresh.position
   consumer_is = ap (λ (m : Machine). m.consumer) afresh.is
 
   -- an answer about the one is one about the other
-  either : (P : Option Position → Type 0) → (P (Some afresh.now) → P (Some afresh.position)) → (P (Some afresh.position) → P (Some afresh.now)) → (P machine.consumer → P fresh.consumer) × (P fresh.consumer → P machine.consumer)
+  pub either : (P : Option Position → Type 0) → (P (Some afresh.now) → P (Some afresh.position)) → (P (Some afresh.position) → P (Some afresh.now)) → (P machine.consumer → P fresh.consumer) × (P fresh.consumer → P machine.consumer)
   either P there back = ((λ p. subst P (sym consumer_is) (there (subst P afresh.was p))), (λ p. subst P (sym afresh.was) (back (subst P consumer_is p))))
 
   pub live_afresh : (name : Name) (answer : Reply) → (LiveReply machine.consumer name answer → LiveReply fresh.consumer name answer) × (LiveReply fresh.consumer name answer → LiveReply machine.consumer name answer)
   live_afresh name answer =
-      either (λ consumer. LiveReply consumer name answer) (live_same afresh.now afresh.position schemas rows name answer) (live_same afresh.position afresh.now (sym schemas) (sym rows) name answer)
+      either (λ consumer. LiveReply consumer name answer) (live_same afresh.now afresh.position schemas_same rows_same name answer) (live_same afresh.position afresh.now (sym schemas_same) (sym rows_same) name answer)
 
   pub row_afresh : (name : Name) (ordinal : ℕ) (answer : Reply) → (RowReply machine.consumer name ordinal answer → RowReply fresh.consumer name ordinal answer) × (RowReply fresh.consumer name ordinal answer → RowReply machine.consumer name ordinal answer)
   row_afresh name ordinal answer =
-      either (λ consumer. RowReply consumer name ordinal answer) (row_same afresh.now afresh.position schemas rows name ordinal answer)
-      (row_same afresh.position afresh.now (sym schemas) (sym rows) name ordinal answer)
+      either (λ consumer. RowReply consumer name ordinal answer) (row_same afresh.now afresh.position schemas_same rows_same name ordinal answer)
+      (row_same afresh.position afresh.now (sym schemas_same) (sym rows_same) name ordinal answer)

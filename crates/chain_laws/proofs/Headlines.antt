@@ -1,18 +1,21 @@
 -- What is promised of each line of a script, over a store that keeps a chain.
-use Rattle.std.proofs.Common.{◌≡◌, ℕ, List, [], ◌∷◌, Bool, refl, sym, subst}
+use Rattle.std.proofs.Common.{ℕ, List, [], ◌∷◌, Bool, refl, sym, subst}
+use Rattle.serde_json.specs.View.{view}
 use Rattle.hol_orders.specs.declared.order.Order.{Order}
 use Rattle.hol_orders.specs.declared.order.Order.TheVariants as order
 use Rattle.hol_orders.specs.declared.reply.Reply.{Reply}
+use Rattle.hollow_machine.specs.KeyPaths.{texts_of_array}
 use Rattle.hollow_machine.specs.Script.{LineStep, Script}
 use Rattle.hollow_machine.specs.State.{Machine}
 use Rattle.hollow_machine.specs.Step.{Step}
 use Rattle.hollow_machine.specs.StepOrder.{step_name}
 use Rattle.written_laws.specs.Chain.{Chain}
-use Rattle.chain_laws.specs.Consumers.{Fresh, IsConsumerOf}
-use Rattle.chain_laws.specs.Headline.{AreTrueLines, IsAsFresh, IsTrueLine, IsTrueOrder, StandsOn}
+use Rattle.chain_laws.specs.Consumers.{IsConsumerOf}
+use Rattle.chain_laws.specs.Headline.{AreTrueLines, IsTrueLine, IsTrueOrder, StandsOn}
 use Rattle.chain_laws.proofs.ConsumerLines.{line_keeps_both}
 use Rattle.chain_laws.proofs.ConsumerOrders.{other_only, step_named, step_only}
 use Rattle.chain_laws.proofs.FreshAnswers.{live_afresh, row_afresh}
+use Rattle.chain_laws.proofs.FreshKeys.{at_afresh, find_afresh, get_afresh, has_afresh}
 
 module _ (machine : Machine) (chain : Chain) (stands : StandsOn chain machine) where
   true_order : (asked : Order) (answer : Reply) (next : Machine) → Step machine asked answer next → IsTrueOrder chain machine asked answer next
@@ -26,6 +29,22 @@ module _ (machine : Machine) (chain : Chain) (stands : StandsOn chain machine) w
   )
   true_order (order.Row name ordinal) answer next step = λ fresh afresh. (
     (row_afresh machine fresh chain stands.kept.holds.sound stands.consumer afresh name ordinal answer).0 step.0,
+    refl,
+  )
+  true_order (order.Has name ordinal element) answer next step = λ fresh afresh. (
+    (has_afresh machine fresh chain stands.kept.holds.sound stands.consumer afresh name ordinal element answer).0 step.0,
+    refl,
+  )
+  true_order (order.At name ordinal key) answer next step = λ fresh afresh. (
+    (at_afresh machine fresh chain stands.kept.holds.sound stands.consumer afresh name ordinal key answer).0 step.0,
+    refl,
+  )
+  true_order (order.Get name values) answer next step = λ fresh afresh. (
+    (get_afresh machine fresh chain stands.kept.holds.sound stands.consumer afresh name (view values) answer).0 step.0,
+    refl,
+  )
+  true_order (order.Find name paths values) answer next step = λ fresh afresh. (
+    (find_afresh machine fresh chain stands.kept.holds.sound stands.consumer afresh name (texts_of_array (view paths)) (view values) answer).0 step.0,
     refl,
   )
   true_order _ answer next step = tt

@@ -1,3 +1,4 @@
+mod AddedIndexes
 mod Answering
 mod BlobTags
 mod ConsumerLines
@@ -5,6 +6,8 @@ mod ConsumerMoves
 mod ConsumerOrders
 mod FewPaths
 mod FreshAnswers
+mod FreshIndexes
+mod FreshKeys
 mod Headlines
 mod Inserting
 mod LastState
@@ -14,7 +17,9 @@ mod NameOrder
 mod NewState
 mod NextPosition
 mod OneCycle
+mod OneKey
 mod OneLook
+mod OneMember
 mod OneModel
 mod OneMove
 mod OneScript
@@ -24,5 +29,6 @@ mod Putting
 mod SoundMachines
 mod StoreNames
 mod StoredRows
+mod TypedConsumers
 mod ValueTexts
 mod WrittenTags

@@ -7,6 +7,7 @@ use Rattle.serde_json.specs.Data.{Data}
 use Rattle.serde_json.specs.View.{view}
 use Rattle.serde_json.specs.declared.value.Value.{Value}
 use Rattle.hol_io.specs.Name.{IsVersion}
+use Rattle.schema_model.specs.declared.schema.name.Name.{Name}
 use Rattle.schema_model.specs.Table.{Table}
 use Rattle.hol_orders.specs.declared.order.Order.{Order}
 use Rattle.hol_orders.specs.declared.order.Order.TheVariants as order
@@ -19,7 +20,11 @@ use Rattle.read_engine.specs.Position.{Position}
 use Rattle.snapshot_blob.specs.Written.{IsWrittenSnapshot}
 use Rattle.hollow_machine.specs.CycleOrder.{CycleStep, Makes, Succeeds}
 use Rattle.hollow_machine.specs.Follow.{MayFollow}
+use Rattle.hollow_machine.specs.IndexOrder.{IndexStep}
+use Rattle.hollow_machine.specs.KeyOrders.{FindReply, GetReply}
+use Rattle.hollow_machine.specs.KeyPaths.{texts_of_array}
 use Rattle.hollow_machine.specs.LoadOrder.{LoadStep}
+use Rattle.hollow_machine.specs.MemberOrders.{AtReply, HasReply}
 use Rattle.hollow_machine.specs.ModelOrder.{ModelStep}
 use Rattle.hollow_machine.specs.Puts.{Put, AreBlobs, IsShort, puts_of, put_all}
 use Rattle.hollow_machine.specs.RowOrders.{LiveReply, Looks, PastReply, RowReply}
@@ -33,7 +38,8 @@ use Rattle.written_laws.specs.Chain.{Chain, ChainState, HasVersion}
 use Rattle.written_laws.specs.States.{IsWritableModel}
 use Rattle.chain_laws.specs.Growth.{AddsState, GrowsBy, GrowsAlong}
 use Rattle.chain_laws.specs.Producers.{IsOver, IsProducerOf, KeepsChain, state_behind}
-use Rattle.chain_laws.proofs.Answering.{IsNoCycle, unless_cycle, live_no_cycle, row_no_cycle, past_no_cycle}
+use Rattle.chain_laws.proofs.AddedIndexes.{index_added}
+use Rattle.chain_laws.proofs.Answering.{IsNoCycle, unless_cycle, at_no_cycle, find_no_cycle, get_no_cycle, has_no_cycle, live_no_cycle, row_no_cycle, past_no_cycle}
 use Rattle.chain_laws.proofs.FewPaths.{few_paths}
 use Rattle.chain_laws.proofs.PublishedState.{first_kept, later_kept, over_longer, versions_stay}
 use Rattle.chain_laws.proofs.StoreNames.{found_with}
@@ -144,6 +150,13 @@ module _ (machine : Machine) (line : List ℕ) (chain : Chain) (kept : KeepsChai
   step_keeps name (reply.Refused refusal) next step = same_keeps (reply.Refused refusal) next refl step.1
   step_keeps name _ next step = absurd step
 
+  index_keeps : (name : Name) (texts : List (List ℕ)) (answer : Reply) (next : Machine) → IndexStep machine name texts answer next → Keeps machine line answer chain next
+  index_keeps name texts (reply.Index keys) next step =
+      let added = index_added machine name texts keys next step in
+      beside_keeps (reply.Index keys) next (Some (record added.now { indexes = added.after })) refl added.is
+  index_keeps name texts (reply.Refused refusal) next step = same_keeps (reply.Refused refusal) next refl step.1
+  index_keeps name texts _ next step = absurd step
+
   looks_keep : (Answers : Option Position → Reply → Type 0) (answer : Reply) (next : Machine) → (Answers machine.consumer answer → IsNoCycle answer) → Looks Answers machine answer next → Keeps machine line answer chain next
   looks_keep Answers answer next none step = same_keeps answer next (unless_cycle machine line chain answer (none step.0)) step.1
 
@@ -152,8 +165,15 @@ module _ (machine : Machine) (line : List ℕ) (chain : Chain) (kept : KeepsChai
   order_keeps (order.Cycle version tag add) answer next orders step = cycle_keeps version tag add answer next orders step
   order_keeps (order.Load version) answer next orders step = load_keeps version answer next step
   order_keeps (order.Step from to) answer next orders step = step_keeps (step_name from to) answer next step
+  order_keeps (order.Index name paths) answer next orders step = index_keeps name (texts_of_array (view paths)) answer next step
+  order_keeps (order.Get name values) answer next orders step = looks_keep (λ consumer a. GetReply consumer name (view values) a) answer next (get_no_cycle machine.consumer name (view values) answer) step
+  order_keeps (order.Find name paths values) answer next orders step =
+      looks_keep (λ consumer a. FindReply consumer name (texts_of_array (view paths)) (view values) a) answer next (find_no_cycle machine.consumer name (texts_of_array (view paths)) (view values) answer) step
   order_keeps (order.Live name) answer next orders step = looks_keep (λ consumer a. LiveReply consumer name a) answer next (live_no_cycle machine.consumer name answer) step
   order_keeps (order.Row name ordinal) answer next orders step = looks_keep (λ consumer a. RowReply consumer name ordinal a) answer next (row_no_cycle machine.consumer name ordinal answer) step
+  order_keeps (order.Has name ordinal element) answer next orders step =
+      looks_keep (λ consumer a. HasReply consumer name ordinal element a) answer next (has_no_cycle machine.consumer name ordinal element answer) step
+  order_keeps (order.At name ordinal key) answer next orders step = looks_keep (λ consumer a. AtReply consumer name ordinal key a) answer next (at_no_cycle machine.consumer name ordinal key answer) step
   order_keeps (order.Past name) answer next orders step = looks_keep (λ consumer a. PastReply consumer name a) answer next (past_no_cycle machine.consumer name answer) step
   order_keeps _ answer next orders step = refused_keeps answer next _ step
 

@@ -1,6 +1,6 @@
 -- What is asked of a consumer has one answer line.
 use Rattle.std.proofs.Common.{◌≡◌, ◌<◌, ℕ, List, [], ◌∷◌, map, inl, inr, ◌⊎◌, Option, Some, None, refl, sym, ap, subst, ◌∙◌, arith}
-use Rattle.std.specs.Prelude.{Contains, ◌↔◌, codes}
+use Rattle.std.specs.Prelude.{Contains, IfSome, ◌↔◌, codes}
 use Rattle.std.specs.List.{AllZip}
 use Rattle.serde_json.specs.Data.{Data, array, string, object, no_members, member}
 use Rattle.serde_json.specs.View.{view, items_of}
@@ -24,6 +24,7 @@ use Rattle.read_engine.specs.Position.{Position, rows_now}
 use Rattle.hollow_machine.specs.RowOrders.{AnswersAt, AnswersOf, ListsLive, LiveReply, PastReply, RowRefusal, RowReply, ShowsGone, ShowsPast, ShowsRow, nodes_gone, record_at}
 use Rattle.chain_laws.specs.Answers.{SaysOne}
 use Rattle.chain_laws.proofs.PrintedOnce.{tree_once}
+use Rattle.chain_laws.proofs.TypedConsumers.{IsTyped}
 
 pub says : (one other : Reply) → one ≡ other → SaysOne one other
 says one other same = (ap reply_data same, ap is_refusal same)
@@ -39,9 +40,19 @@ module _ (name : Name) (Answers : Position → ℕ → Reply → Type 0) (each :
   one_at now None a b a_is b_is = says a b (a_is ∙ sym b_is)
   one_at now (Some t) a b a_is b_is = each now t a b a_is b_is
 
-  one_of : (consumer : Option Position) (a b : Reply) → AnswersOf consumer name Answers a → AnswersOf consumer name Answers b → SaysOne a b
+  pub one_of : (consumer : Option Position) (a b : Reply) → AnswersOf consumer name Answers a → AnswersOf consumer name Answers b → SaysOne a b
   one_of None a b a_is b_is = says a b (a_is ∙ sym b_is)
   one_of (Some now) a b a_is b_is = one_at now (index_of_type now.schemas name) a b a_is b_is
+
+-- the same where this is known of each type of a consumer whose rows are of its model
+pub one_typed : (name : Name) (Answers : Position → ℕ → Reply → Type 0) → ((now : Position) → IsTyped now → (t : ℕ) (a b : Reply) → Answers now t a → Answers now t b → SaysOne a b)
+    → (consumer : Option Position) (a b : Reply) → IfSome consumer IsTyped → AnswersOf consumer name Answers a → AnswersOf consumer name Answers b → SaysOne a b
+one_typed name Answers each None a b typed one other = says a b (one ∙ sym other)
+one_typed name Answers each (Some now) a b typed one other = by_type (index_of_type now.schemas name) one other
+  where
+    by_type : (found : Option ℕ) → AnswersAt now found name Answers a → AnswersAt now found name Answers b → SaysOne a b
+    by_type None p q = says a b (p ∙ sym q)
+    by_type (Some t) p q = each now typed t a b p q
 
 -- ---- live
 

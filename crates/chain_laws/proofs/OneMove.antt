@@ -39,6 +39,7 @@ use Rattle.chain_laws.proofs.BlobTags.{delta_begins}
 use Rattle.chain_laws.proofs.ConsumerOrders.{no_load_refusal, no_refusal, one_header, some_one}
 use Rattle.chain_laws.proofs.OneLook.{says}
 use Rattle.chain_laws.proofs.StoreNames.{found_with}
+use Rattle.chain_laws.proofs.TypedConsumers.{IsTyped}
 
 -- both answers say one line, and the machines behind them are one
 abbrev Alike : Reply → Machine → Reply → Machine → Type 0
@@ -91,11 +92,12 @@ module _ (name : BlobName) where
 -- ---- loads
 
 load_once : (blob : List ℕ) (a b : Position) → LoadsFrom blob a → LoadsFrom blob b → a ≡ b
-load_once blob a b (head, accepted, tag, before) (other, also, tag_too, before_too) =
+load_once blob a b (head, accepted, tag, before, none) (other, also, tag_too, before_too, none_too) =
     let once = one_snapshot blob head other accepted.0 also.0 a.schemas b.schemas a.halves b.halves accepted.1 also.1 in
     let tags = tag ∙ ap (λ (h : Header). h.destination) once.0 ∙ sym tag_too in
     let befores = before ∙ ap table_of once.3 ∙ sym before_too in
-    λ i. record { tag = tags i; schemas = once.2 i; halves = once.3 i; before = befores i }
+    let bare = none ∙ sym none_too in
+    λ i. record { tag = tags i; schemas = once.2 i; halves = once.3 i; before = befores i; indexes = bare i }
 
 module _ (name : BlobName) (content : Option (List ℕ)) where
   abbrev LoadKind : Refusal → Type 0
@@ -162,11 +164,6 @@ named_alike schemas apart xs bs (named ∷ patch) one other index =
           ]
     ]
 
--- a consumer whose rows are of its model, in which no name stands twice
-pub record IsTyped (now : Position) : Type 0 where
-  pub names : IsKept now.schemas DuplicateName
-  pub types : length (rows_now now) ≡ length now.schemas
-
 step_once : (blob : List ℕ) (now a b : Position) → IsTyped now → StepsBy blob now a → StepsBy blob now b → a ≡ b
 step_once blob now a b typed one other =
     let once = patch_once blob now.tag a.tag now.tag b.tag one.patch other.patch one.is other.is in
@@ -184,7 +181,8 @@ step_once blob now a b typed one other =
     ])) in
     let schemas = one.model ∙ sym other.model in
     let before = one.before ∙ sym other.before in
-    λ i. record { tag = once.1 i; schemas = schemas i; halves = halves i; before = before i }
+    let indexes = one.indexes ∙ sym other.indexes in
+    λ i. record { tag = once.1 i; schemas = schemas i; halves = halves i; before = before i; indexes = indexes i }
 
 module _ (name : BlobName) (content : Option (List ℕ)) (now : Position) where
   abbrev StepKind : Refusal → Type 0

@@ -1,16 +1,12 @@
 -- A script has one text and one verdict, and leaves one machine.
-use Rattle.std.proofs.Common.{◌≡◌, ◌++◌, ℕ, ℤ, pos, negsuc, List, [], ◌∷◌, length, Bool, true, false, if◌then◌else◌, Option, Some, None, inl, inr, refl, sym, ap, subst, ◌∙◌, arith}
+use Rattle.std.proofs.Common.{◌≡◌, ◌++◌, ℕ, ℤ, pos, negsuc, List, [], ◌∷◌, Bool, true, false, if◌then◌else◌, Option, Some, None, inl, inr, refl, sym, ap, subst, ◌∙◌, arith}
 use Rattle.std.specs.Prelude.{IfSome}
 use Rattle.serde_json.specs.Data.{Data, string}
 use Rattle.serde_json.specs.Find.{of_integer}
 use Rattle.serde_json.specs.View.{view}
 use Rattle.serde_json.specs.Written.{compact_text}
 use Rattle.serde_json.specs.declared.value.Value.{Value}
-use Rattle.schema_model.specs.declared.model.rule.Rule.TheVariants.{DuplicateName}
 use Rattle.schema_model.specs.declared.schema.name.Name.{Name}
-use Rattle.schema_model.specs.declared.schema.Schema.{Schema}
-use Rattle.schema_model.specs.Model.{IsKept}
-use Rattle.schema_model.specs.Table.{Table}
 use Rattle.hol_orders.specs.declared.kind.Kind.{Kind}
 use Rattle.hol_orders.specs.declared.order.Order.{Order}
 use Rattle.hol_orders.specs.declared.order.Order.TheVariants as order
@@ -18,11 +14,14 @@ use Rattle.hol_orders.specs.declared.refusal.Refusal.{Refusal}
 use Rattle.hol_orders.specs.declared.refusal.Refusal.TheVariants.{NotYet}
 use Rattle.hol_orders.specs.declared.reply.Reply.{Reply}
 use Rattle.hol_orders.specs.Order.{Orders, content_of, kind_of}
-use Rattle.hol_orders.specs.Parts.{cycle_data, pair, whole}
+use Rattle.hol_orders.specs.Parts.{cycle_data, pair, triple, whole}
 use Rattle.hol_io.specs.Store.{Store}
-use Rattle.read_engine.specs.Position.{Position}
 use Rattle.hollow_machine.specs.CycleOrder.{CycleStep}
+use Rattle.hollow_machine.specs.IndexOrder.{IndexStep}
+use Rattle.hollow_machine.specs.KeyOrders.{FindReply, GetReply}
+use Rattle.hollow_machine.specs.KeyPaths.{texts_of_array}
 use Rattle.hollow_machine.specs.LoadOrder.{LoadStep}
+use Rattle.hollow_machine.specs.MemberOrders.{AtReply, HasReply}
 use Rattle.hollow_machine.specs.ModelOrder.{ModelStep}
 use Rattle.hollow_machine.specs.RowOrders.{LiveReply, PastReply, RowReply}
 use Rattle.hollow_machine.specs.Script.{LineStep, Script}
@@ -30,16 +29,18 @@ use Rattle.hollow_machine.specs.State.{Machine, Published}
 use Rattle.hollow_machine.specs.Step.{Refuses, Step}
 use Rattle.hollow_machine.specs.StepOrder.{StepStep, step_name}
 use Rattle.written_laws.specs.Chain.{Chain}
-use Rattle.written_laws.specs.HoldsChain.{HoldsChain}
 use Rattle.chain_laws.specs.Answers.{SaysOne}
 use Rattle.chain_laws.specs.Consumers.{IsConsumerOf}
 use Rattle.chain_laws.specs.Producers.{IsProducerOf, KeepsChain}
 use Rattle.chain_laws.proofs.LastState.{last_is}
 use Rattle.chain_laws.proofs.OneCycle.{IsOnce, WrittenOnce, one_cycle}
+use Rattle.chain_laws.proofs.OneKey.{one_find, one_get, one_index}
+use Rattle.chain_laws.proofs.OneMember.{one_at, one_has}
 use Rattle.chain_laws.proofs.OneLook.{one_live, one_past, one_row, says}
 use Rattle.chain_laws.proofs.OneModel.{one_model}
-use Rattle.chain_laws.proofs.OneMove.{IsTyped, one_load, one_move}
+use Rattle.chain_laws.proofs.OneMove.{one_load, one_move}
 use Rattle.chain_laws.proofs.SoundMachines.{IsSoundMachine, line_sound}
+use Rattle.chain_laws.proofs.TypedConsumers.{IsTyped, typed_in}
 
 -- a line is one order at most
 abbrev pub OrderOnce : Type 0
@@ -55,23 +56,19 @@ pub known : (store : Store) (chain : Chain) (producer : Option Published) → Ke
 known store chain None kept over = tt
 known store chain (Some last) kept over = record { model = over.model; once = (last_is store chain last kept over).once }
 
-typed : (store : Store) (chain : Chain) (consumer : Option Position) → HoldsChain store chain → IsConsumerOf chain consumer → IfSome consumer IsTyped
-typed store chain None holds of = tt
-typed store chain (Some now) holds of =
-    let sound = holds.sound.sound of.version of.state of.there in
-    record {
-      names = subst (λ (m : List Schema). IsKept m DuplicateName) (sym of.stands.model) (sound.model DuplicateName);
-      types = ap (λ (t : Table). length t) of.stands.rows ∙ sound.rows.types ∙ ap (λ (m : List Schema). length m) (sym of.stands.model);
-    }
-
 -- the orders that the machine answers
 abbrev is_built : Kind → Bool
 is_built Kind.Model = true
 is_built Kind.Cycle = true
 is_built Kind.Load = true
 is_built Kind.Step = true
+is_built Kind.Index = true
+is_built Kind.Get = true
+is_built Kind.Find = true
 is_built Kind.Live = true
 is_built Kind.Row = true
+is_built Kind.Has = true
+is_built Kind.At = true
 is_built Kind.Past = true
 is_built _ = false
 
@@ -128,6 +125,64 @@ module _ (written : WrittenOnce) (machine : Machine) (producing : IfSome machine
       )
   of_row name ordinal _ kinds contents step step_too = absurd cc
 
+  of_index : (name : Name) (paths : Value) (b : Order) → Kind.Index ≡ kind_of b → pair (string name) (view paths) ≡ content_of b → IndexStep machine name (texts_of_array (view paths)) one next → Step machine b other after → Alike
+  of_index name paths (order.Index also paths_too) kinds contents step step_too =
+      let same : name ≡ also = cc in
+      let texts : view paths ≡ view paths_too = cc in
+      one_index machine name (texts_of_array (view paths)) standing one other next after step
+      (subst (λ (n : Name). IndexStep machine n (texts_of_array (view paths)) other after) (sym same) (subst (λ (d : Data). IndexStep machine also (texts_of_array d) other after) (sym texts) step_too))
+  of_index name paths _ kinds contents step step_too = absurd cc
+
+  of_get : (name : Name) (values : Value) (b : Order) → Kind.Get ≡ kind_of b → pair (string name) (view values) ≡ content_of b → GetReply machine.consumer name (view values) one × (next ≡ machine) → Step machine b other after → Alike
+  of_get name values (order.Get also values_too) kinds contents step step_too =
+      let same : name ≡ also = cc in
+      let key : view values ≡ view values_too = cc in (
+        one_get machine.consumer name (view values) one other standing step.0
+            (subst (λ (n : Name). GetReply machine.consumer n (view values) other) (sym same) (subst (λ (d : Data). GetReply machine.consumer also d other) (sym key) step_too.0)),
+        step.1 ∙ sym step_too.1,
+      )
+  of_get name values _ kinds contents step step_too = absurd cc
+
+  of_find : (name : Name) (paths values : Value) (b : Order) → Kind.Find ≡ kind_of b → triple (string name) (view paths) (view values) ≡ content_of b
+      → FindReply machine.consumer name (texts_of_array (view paths)) (view values) one × (next ≡ machine) → Step machine b other after → Alike
+  of_find name paths values (order.Find also paths_too values_too) kinds contents step step_too =
+      let same : name ≡ also = cc in
+      let texts : view paths ≡ view paths_too = cc in
+      let key : view values ≡ view values_too = cc in (
+        one_find machine.consumer name (texts_of_array (view paths)) (view values) one other standing step.0
+            (subst (λ (n : Name). FindReply machine.consumer n (texts_of_array (view paths)) (view values) other) (sym same)
+            (subst (λ (d : Data). FindReply machine.consumer also (texts_of_array d) (view values) other) (sym texts)
+            (subst (λ (d : Data). FindReply machine.consumer also (texts_of_array (view paths_too)) d other) (sym key) step_too.0))),
+        step.1 ∙ sym step_too.1,
+      )
+  of_find name paths values _ kinds contents step step_too = absurd cc
+
+  of_has : (name : Name) (ordinal element : ℕ) (b : Order) → Kind.Has ≡ kind_of b → triple (string name) (whole ordinal) (whole element) ≡ content_of b → HasReply machine.consumer name ordinal element one × (next ≡ machine)
+      → Step machine b other after → Alike
+  of_has name ordinal element (order.Has also o e) kinds contents step step_too =
+      let same : name ≡ also = cc in
+      let ordinals : ordinal ≡ o = cc in
+      let elements : element ≡ e = cc in (
+        one_has machine.consumer name ordinal element one other step.0
+            (subst (λ (n : Name). HasReply machine.consumer n ordinal element other) (sym same)
+            (subst (λ (k : ℕ). HasReply machine.consumer also k element other) (sym ordinals) (subst (λ (k : ℕ). HasReply machine.consumer also o k other) (sym elements) step_too.0))),
+        step.1 ∙ sym step_too.1,
+      )
+  of_has name ordinal element _ kinds contents step step_too = absurd cc
+
+  of_at : (name : Name) (ordinal key : ℕ) (b : Order) → Kind.At ≡ kind_of b → triple (string name) (whole ordinal) (whole key) ≡ content_of b → AtReply machine.consumer name ordinal key one × (next ≡ machine)
+      → Step machine b other after → Alike
+  of_at name ordinal key (order.At also o e) kinds contents step step_too =
+      let same : name ≡ also = cc in
+      let ordinals : ordinal ≡ o = cc in
+      let keys : key ≡ e = cc in (
+        one_at machine.consumer name ordinal key one other standing step.0
+            (subst (λ (n : Name). AtReply machine.consumer n ordinal key other) (sym same)
+            (subst (λ (k : ℕ). AtReply machine.consumer also k key other) (sym ordinals) (subst (λ (k : ℕ). AtReply machine.consumer also o k other) (sym keys) step_too.0))),
+        step.1 ∙ sym step_too.1,
+      )
+  of_at name ordinal key _ kinds contents step step_too = absurd cc
+
   of_past : (name : Name) (b : Order) → Kind.Past ≡ kind_of b → string name ≡ content_of b → PastReply machine.consumer name one × (next ≡ machine) → Step machine b other after → Alike
   of_past name (order.Past also) kinds contents step step_too =
       let same : name ≡ also = cc in
@@ -142,8 +197,13 @@ unbuilt machine (order.Model value) answer next not step = absurd cc
 unbuilt machine (order.Cycle version tag add) answer next not step = absurd cc
 unbuilt machine (order.Load version) answer next not step = absurd cc
 unbuilt machine (order.Step from to) answer next not step = absurd cc
+unbuilt machine (order.Index name paths) answer next not step = absurd cc
+unbuilt machine (order.Get name values) answer next not step = absurd cc
+unbuilt machine (order.Find name paths values) answer next not step = absurd cc
 unbuilt machine (order.Live name) answer next not step = absurd cc
 unbuilt machine (order.Row name ordinal) answer next not step = absurd cc
+unbuilt machine (order.Has name ordinal element) answer next not step = absurd cc
+unbuilt machine (order.At name ordinal key) answer next not step = absurd cc
 unbuilt machine (order.Past name) answer next not step = absurd cc
 unbuilt machine _ answer next not step = step
 
@@ -157,8 +217,13 @@ module _ (written : WrittenOnce) (orders : OrderOnce) (machine : Machine) (produ
   steps_one (order.Cycle version tag add) b kinds contents step step_too = of_cycle written machine producing standing one other next after version tag add b kinds contents step step_too
   steps_one (order.Load version) b kinds contents step step_too = of_load written machine producing standing one other next after version b kinds contents step step_too
   steps_one (order.Step from to) b kinds contents step step_too = of_step written machine producing standing one other next after from to b kinds contents step step_too
+  steps_one (order.Index name paths) b kinds contents step step_too = of_index written machine producing standing one other next after name paths b kinds contents step step_too
+  steps_one (order.Get name values) b kinds contents step step_too = of_get written machine producing standing one other next after name values b kinds contents step step_too
+  steps_one (order.Find name paths values) b kinds contents step step_too = of_find written machine producing standing one other next after name paths values b kinds contents step step_too
   steps_one (order.Live name) b kinds contents step step_too = of_live written machine producing standing one other next after name b kinds contents step step_too
   steps_one (order.Row name ordinal) b kinds contents step step_too = of_row written machine producing standing one other next after name ordinal b kinds contents step step_too
+  steps_one (order.Has name ordinal element) b kinds contents step step_too = of_has written machine producing standing one other next after name ordinal element b kinds contents step step_too
+  steps_one (order.At name ordinal key) b kinds contents step step_too = of_at written machine producing standing one other next after name ordinal key b kinds contents step step_too
   steps_one (order.Past name) b kinds contents step step_too = of_past written machine producing standing one other next after name b kinds contents step step_too
   steps_one a b kinds contents step step_too = of_unbuilt a b refl kinds step step_too
 
@@ -185,4 +250,4 @@ script_one written orders machine next after (line ∷ lines) text other refused
     )
 
 pub chain_sound : (machine : Machine) (chain : Chain) → KeepsChain machine.store chain → IsProducerOf chain machine.producer → IsConsumerOf chain machine.consumer → IsSoundMachine machine
-chain_sound machine chain kept over of = (known machine.store chain machine.producer kept over, typed machine.store chain machine.consumer kept.holds of)
+chain_sound machine chain kept over of = (known machine.store chain machine.producer kept over, typed_in chain machine.consumer kept.holds.sound of)

@@ -1,63 +1,34 @@
 -- What is known of the producer and the consumer of a run, over whichever store: it is so at the start, and after each line.
-use Rattle.std.proofs.Common.{◌≡◌, ℕ, ℤ, suc, List, [], ◌∷◌, length, Bool, true, false, Option, Some, inl, inr, refl, sym, ap, subst, ◌∙◌}
+use Rattle.std.proofs.Common.{◌≡◌, ℕ, ℤ, List, length, Bool, true, false, Option, Some, inl, inr, sym, subst}
 use Rattle.std.specs.Prelude.{IfSome}
-use Rattle.std.specs.List.{AllZip}
-use Rattle.std.proofs.lemmas.List.{length-map}
 use Rattle.serde_json.specs.Data.{Data}
 use Rattle.serde_json.specs.View.{view}
 use Rattle.hol_io.specs.declared.name.BlobName.{BlobName}
-use Rattle.schema_model.specs.declared.model.rule.Rule.TheVariants.{DuplicateName}
-use Rattle.schema_model.specs.declared.schema.Schema.{Schema}
-use Rattle.schema_model.specs.Model.{IsKept}
-use Rattle.type_state.specs.State.{Half}
+use Rattle.schema_model.specs.declared.schema.name.Name.{Name}
 use Rattle.write_engine.proofs.NextStates.{next_once}
-use Rattle.snapshot_blob.specs.declared.part.TypePart.{TypePart}
-use Rattle.snapshot_blob.specs.Stated.{TypeIs}
 use Rattle.hol_orders.specs.declared.order.Order.{Order}
 use Rattle.hol_orders.specs.declared.order.Order.TheVariants as order
 use Rattle.hol_orders.specs.declared.reply.Reply.{Reply}
 use Rattle.hol_orders.specs.declared.reply.Reply.TheVariants as reply
-use Rattle.read_engine.specs.Position.{Position, rows_now}
-use Rattle.read_engine.specs.Taking.{LoadsFrom, StepsBy}
+use Rattle.read_engine.specs.Position.{Position}
 use Rattle.hollow_machine.specs.CycleOrder.{CycleStep, Succeeds}
+use Rattle.hollow_machine.specs.IndexOrder.{IndexStep}
+use Rattle.hollow_machine.specs.KeyPaths.{texts_of_array}
 use Rattle.hollow_machine.specs.LoadOrder.{LoadStep}
 use Rattle.hollow_machine.specs.ModelOrder.{ModelStep}
 use Rattle.hollow_machine.specs.Script.{LineStep}
 use Rattle.hollow_machine.specs.State.{Machine, Published, new_producer}
 use Rattle.hollow_machine.specs.Step.{Step}
 use Rattle.hollow_machine.specs.StepOrder.{StepStep, step_name}
+use Rattle.chain_laws.proofs.AddedIndexes.{index_added}
 use Rattle.chain_laws.proofs.LastState.{none_once}
 use Rattle.chain_laws.proofs.OneCycle.{IsOnce}
-use Rattle.chain_laws.proofs.OneMove.{IsTyped}
+use Rattle.chain_laws.proofs.TypedConsumers.{IsTyped, load_typed, step_typed}
 use Rattle.chain_laws.proofs.StoreNames.{found_with}
 
 -- The producer, if there is one, has a model and no row twice; the rows of the consumer, if it has a state, are of a model.
 abbrev pub IsSoundMachine : Machine → Type 0
 IsSoundMachine machine = IfSome machine.producer IsOnce × IfSome machine.consumer IsTyped
-
-zip_count : {X Y : Type 0} (R : X → Y → Type 0) (xs : List X) (ys : List Y) → AllZip R xs ys → length xs ≡ length ys
-zip_count R [] [] are = refl
-zip_count R [] (y ∷ ys) are = absurd are
-zip_count R (x ∷ xs) [] are = absurd are
-zip_count R (x ∷ xs) (y ∷ ys) are = ap suc (zip_count R xs ys are.1)
-
-rows_count : (position : Position) → length (rows_now position) ≡ length position.halves
-rows_count position = length-map position.halves (λ (half : Half). half.rows)
-
-load_typed : (blob : List ℕ) (position : Position) → LoadsFrom blob position → IsTyped position
-load_typed blob position (head, accepted, tag, before) =
-    let state = accepted.1.state in
-    record {
-      names = state.model DuplicateName;
-      types = rows_count position ∙ sym (zip_count TypeIs accepted.0 position.halves state.types) ∙ sym (length-map accepted.0 (λ (part : TypePart). part.schema))
-          ∙ ap (λ (schemas : List Schema). length schemas) state.named;
-    }
-
-step_typed : (blob : List ℕ) (now to : Position) → IsTyped now → StepsBy blob now to → IsTyped to
-step_typed blob now to typed steps = record {
-  names = subst (λ (schemas : List Schema). IsKept schemas DuplicateName) (sym steps.model) typed.names;
-  types = rows_count to ∙ steps.types ∙ sym (rows_count now) ∙ typed.types ∙ ap (λ (schemas : List Schema). length schemas) (sym steps.model);
-}
 
 module _ (machine : Machine) (sound : IsSoundMachine machine) where
   as_before : (next : Machine) → next ≡ machine → IsSoundMachine next
@@ -100,11 +71,20 @@ module _ (machine : Machine) (sound : IsSoundMachine machine) where
   step_sound name (reply.Refused refusal) next step = as_before next step.1
   step_sound name _ next step = absurd step
 
+  index_sound : (name : Name) (texts : List (List ℕ)) (answer : Reply) (next : Machine) → IndexStep machine name texts answer next → IsSoundMachine next
+  index_sound name texts (reply.Index keys) next step =
+      let added = index_added machine name texts keys next step in
+      let typed = subst (λ (consumer : Option Position). IfSome consumer IsTyped) added.was sound.1 in
+      moved_sound next (record added.now { indexes = added.after }) added.is (record { names = typed.names; types = typed.types; rows = typed.rows })
+  index_sound name texts (reply.Refused refusal) next step = as_before next step.1
+  index_sound name texts _ next step = absurd step
+
   order_sound : (asked : Order) (answer : Reply) (next : Machine) → Step machine asked answer next → IsSoundMachine next
   order_sound (order.Model value) answer next step = model_sound (view value) answer next step
   order_sound (order.Cycle version tag add) answer next step = cycle_sound version tag (view add) answer next step
   order_sound (order.Load version) answer next step = load_sound version answer next step
   order_sound (order.Step from to) answer next step = step_sound (step_name from to) answer next step
+  order_sound (order.Index name paths) answer next step = index_sound name (texts_of_array (view paths)) answer next step
   order_sound _ answer next step = as_before next step.1
 
   pub line_sound : (line : List ℕ) (answer : Reply) (next : Machine) → LineStep machine line answer next → IsSoundMachine next

@@ -7,6 +7,7 @@ use Rattle.blob_frame.specs.Opened.{HasHeader}
 use Rattle.read_engine.specs.Position.{Position, rows_now}
 use Rattle.hollow_machine.specs.State.{Machine}
 use Rattle.written_laws.specs.Chain.{Chain, ChainState, HasVersion}
+use Rattle.chain_laws.specs.KeptIndexes.{AreIndexes}
 
 -- The consumer stands at the state: it has its tag, its model and its rows.
 pub record StandsAt (state : ChainState) (now : Position) : Type 0 where
@@ -14,12 +15,13 @@ pub record StandsAt (state : ChainState) (now : Position) : Type 0 where
   pub model : now.schemas ≡ state.model
   pub rows : rows_now now ≡ state.table
 
--- The consumer stands at a state of the chain.
+-- The consumer stands at a state of the chain, and keeps indexes of its model.
 pub record IsIn (chain : Chain) (now : Position) : Type 0 where
   pub version : ℕ
   pub state : ChainState
   pub there : HasVersion chain version state
   pub stands : StandsAt state now
+  pub indexes : AreIndexes now.schemas now.indexes
 
 -- There is no state that the consumer has, or it is one of the chain.
 abbrev pub IsConsumerOf : Chain → Option Position → Type 0
@@ -30,7 +32,7 @@ abbrev pub StartsAt : Store → BlobName → ℤ → Type 0
 StartsAt store name tag = (header : Header) × HasHeader (told (Some store) name) header × (header.origin ≡ tag)
 
 -- The machine is the same, but that its consumer, which has the tag of a version of the chain, has the state of that version afresh: its tag, model
--- and rows, in whichever layouts and with whichever rows before.
+-- and rows, in whichever layouts and with whichever rows before. It keeps the same indexes.
 pub record Fresh (chain : Chain) (machine fresh : Machine) : Type 0 where
   pub now : Position
   pub was : machine.consumer ≡ Some now
@@ -40,4 +42,5 @@ pub record Fresh (chain : Chain) (machine fresh : Machine) : Type 0 where
   pub tag : now.tag ≡ state.tag
   pub position : Position
   pub stands : StandsAt state position
+  pub indexes : position.indexes ≡ now.indexes
   pub is : fresh ≡ record machine { consumer = Some position }

@@ -1,6 +1,5 @@
 -- The headline: what a script over a store that holds a chain comes to, line by line.
 use Rattle.std.specs.Prelude.{◌≡◌, ◌≢◌, ℕ, ℤ, List, [], ◌∷◌, ◌++◌, Some}
-use Rattle.schema_model.specs.declared.schema.name.Name.{Name}
 use Rattle.hol_orders.specs.declared.order.Order.{Order}
 use Rattle.hol_orders.specs.declared.order.Order.TheVariants as order
 use Rattle.hol_orders.specs.declared.refusal.Refusal.TheVariants.{OtherOrigin}
@@ -26,7 +25,7 @@ pub record IsTrueStep (chain : Chain) (machine : Machine) (from to : ℕ) (answe
   pub other : (now : Position) (origin : ℤ) → machine.consumer ≡ Some now → StartsAt machine.store (step_name from to) origin → origin ≢ now.tag
       → (answer ≡ reply.Refused (OtherOrigin (step_name from to) origin now.tag)) × (next ≡ machine)
 
--- The answer is that of the consumer's state, loaded afresh.
+-- The answer is that of the consumer's state, loaded afresh, with the same indexes.
 abbrev pub IsAsFresh : Chain → Machine → Order → Reply → Type 0
 IsAsFresh chain machine asked answer = (fresh : Machine) → Fresh chain machine fresh → Step fresh asked answer fresh
 
@@ -35,6 +34,10 @@ abbrev pub IsTrueOrder : Chain → Machine → Order → Reply → Machine → T
 IsTrueOrder chain machine (order.Step from to) answer next = IsTrueStep chain machine from to answer next
 IsTrueOrder chain machine (order.Live name) answer next = IsAsFresh chain machine (order.Live name) answer
 IsTrueOrder chain machine (order.Row name ordinal) answer next = IsAsFresh chain machine (order.Row name ordinal) answer
+IsTrueOrder chain machine (order.Has name ordinal element) answer next = IsAsFresh chain machine (order.Has name ordinal element) answer
+IsTrueOrder chain machine (order.At name ordinal key) answer next = IsAsFresh chain machine (order.At name ordinal key) answer
+IsTrueOrder chain machine (order.Get name values) answer next = IsAsFresh chain machine (order.Get name values) answer
+IsTrueOrder chain machine (order.Find name paths values) answer next = IsAsFresh chain machine (order.Find name paths values) answer
 IsTrueOrder chain machine asked answer next = Unit {0}
 
 -- The store keeps the chain, the producer is new or at a published state of it, and the consumer at a state of it.

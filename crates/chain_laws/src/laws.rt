@@ -1,23 +1,28 @@
 //! Laws of chains.
-ghost use Rattle.std.specs.Prelude.{◌≡◌, ◌≢◌, ◌↔◌, ℕ, ℤ, List, Bool, Some, IfSome};
+ghost use Rattle.std.specs.Prelude.{◌≡◌, ◌≢◌, ◌↔◌, ℕ, ℤ, List, [], ◌∷◌, ◌++◌, Bool, Some, IfSome, Contains};
+ghost use Rattle.serde_json.specs.View.{view};
 ghost use Rattle.serde_json.specs.declared.value.Value.{Value};
+ghost use Rattle.schema_model.specs.declared.schema.name.Name.{Name};
 ghost use Rattle.hol_io.specs.declared.name.BlobName.TheVariants.{Snapshot};
 ghost use Rattle.hol_io.specs.Store.{Store};
 ghost use Rattle.hol_orders.specs.declared.order.Order.TheVariants as order;
 ghost use Rattle.hol_orders.specs.declared.refusal.Refusal.TheVariants.{OtherOrigin};
 ghost use Rattle.hol_orders.specs.declared.reply.Reply.{Reply};
 ghost use Rattle.hol_orders.specs.declared.reply.Reply.TheVariants as reply;
-ghost use Rattle.read_engine.specs.Position.{IsPosition, Position};
+ghost use Rattle.read_engine.specs.Position.{Index, IsPosition, Position};
+ghost use Rattle.hollow_machine.specs.KeyPaths.{texts_of_array};
 ghost use Rattle.hollow_machine.specs.Script.{LineStep, Script};
 ghost use Rattle.hollow_machine.specs.State.{Machine, started};
 ghost use Rattle.hollow_machine.specs.Step.{Step};
 ghost use Rattle.hollow_machine.specs.StepOrder.{step_name};
 ghost use Rattle.written_laws.specs.Chain.{Chain, ChainState, HasVersion};
 ghost use Rattle.written_laws.specs.HoldsChain.{HoldsChain, IsThere};
+ghost use Rattle.chain_laws.specs.Afresh.{AreAdded, AskForAll};
 ghost use Rattle.chain_laws.specs.Answers.{SaysOne};
 ghost use Rattle.chain_laws.specs.Consumers.{Fresh, IsConsumerOf, IsIn, StandsAt, StartsAt};
 ghost use Rattle.chain_laws.specs.Growth.{GrowsBy, GrowsAlong};
 ghost use Rattle.chain_laws.specs.Headline.{AreTrueLines, StandsOn};
+ghost use Rattle.chain_laws.specs.KeptIndexes.{AsksFor};
 ghost use Rattle.chain_laws.specs.Producers.{HoldsBytes, IsProducerOf, KeepsChain};
 
 use delta_blob::laws::one_written_delta;
@@ -48,7 +53,8 @@ pub fn script_keeps_chain()
         → (after : Chain) × GrowsAlong (started store) lines text chain next after × KeepsChain next.store after × IsProducerOf after next.producer }
 {}
 
-/// A consumer without a state, or at one of the chain that the store keeps, is so after each line, over the chain that the line made.
+/// A consumer without a state, or at one of the chain that the store keeps, is so after each line, over the chain that the line made. Its indexes are
+/// such as an order can ask for, and none is there twice.
 pub fn line_keeps_consumer()
     ensures { (machine next : Machine) (line : List ℕ) (reply : Reply) (chain : Chain)
         → LineStep machine line reply next → KeepsChain machine.store chain → IsProducerOf chain machine.producer → IsConsumerOf chain machine.consumer
@@ -86,17 +92,39 @@ pub fn other_origin_refused()
 {}
 
 /// Where the store has the snapshot of a version of the chain, loading it is not refused, and makes the consumer stand at the state of the
-/// version: where the consumer had its tag already, it has this state afresh.
+/// version, without an index: where the consumer had its tag already, and no index, it has this state afresh.
 pub fn chain_load_taken()
     ensures taken { (machine : Machine) (chain : Chain) (version : ℕ) (state : ChainState)
         → HoldsChain machine.store chain → HasVersion chain version state → IsThere machine.store (Snapshot version)
         → (position : Position) × Step machine (order.Load version) (reply.Load state.tag) (record machine { consumer = Some position }) }
     ensures only { (machine next : Machine) (chain : Chain) (version : ℕ) (state : ChainState) (answer : Reply)
         → HoldsChain machine.store chain → HasVersion chain version state → IsThere machine.store (Snapshot version) → Step machine (order.Load version) answer next
-        → (position : Position) × StandsAt state position × (answer ≡ reply.Load state.tag) × (next ≡ record machine { consumer = Some position }) }
+        → (position : Position) × StandsAt state position × (position.indexes ≡ []) × (answer ≡ reply.Load state.tag) × (next ≡ record machine { consumer = Some position }) }
     ensures fresh { (machine next : Machine) (chain : Chain) (version : ℕ) (state : ChainState) (now : Position) (answer : Reply)
         → HoldsChain machine.store chain → HasVersion chain version state → IsThere machine.store (Snapshot version) → machine.consumer ≡ Some now → now.tag ≡ state.tag
-        → Step machine (order.Load version) answer next → Fresh chain machine next }
+        → now.indexes ≡ [] → Step machine (order.Load version) answer next → Fresh chain machine next }
+{}
+
+/// An index that is asked for, and not refused, stands behind the others, or the machine is as it was where it was kept already.
+pub fn index_is_kept()
+    ensures new { (machine next : Machine) (now : Position) (name : Name) (paths : Value) (index : Index) (keys : ℕ)
+        → machine.consumer ≡ Some now → IsPosition now → AsksFor now.schemas name (texts_of_array (view paths)) index → (Contains now.indexes index → ⊥) → Step machine (order.Index name paths) (reply.Index keys) next
+        → next ≡ record machine { consumer = Some (record now { indexes = now.indexes ++ index ∷ [] }) } }
+    ensures kept { (machine next : Machine) (now : Position) (name : Name) (paths : Value) (index : Index) (keys : ℕ)
+        → machine.consumer ≡ Some now → IsPosition now → AsksFor now.schemas name (texts_of_array (view paths)) index → Contains now.indexes index → Step machine (order.Index name paths) (reply.Index keys) next
+        → next ≡ machine }
+{}
+
+/// A load of the state that the consumer has, and behind it an order `index` for each of its indexes, in their order, lead to the machine whose consumer
+/// has its state afresh, with the same indexes; and where the store has the snapshot, none of these orders is refused.
+pub fn fresh_indexes()
+    ensures there { (machine : Machine) (chain : Chain) (version : ℕ) (state : ChainState) (now : Position)
+        → HoldsChain machine.store chain → HasVersion chain version state → IsThere machine.store (Snapshot version) → machine.consumer ≡ Some now → now.tag ≡ state.tag → IsConsumerOf chain machine.consumer
+        → (loaded next : Machine) × (asked : List (Name × List (List ℕ)))
+        × Step machine (order.Load version) (reply.Load state.tag) loaded × AskForAll state.model asked now.indexes × AreAdded loaded asked next × Fresh chain machine next }
+    ensures all { (machine loaded next : Machine) (chain : Chain) (version : ℕ) (state : ChainState) (now : Position) (answer : Reply) (asked : List (Name × List (List ℕ)))
+        → HoldsChain machine.store chain → HasVersion chain version state → IsThere machine.store (Snapshot version) → machine.consumer ≡ Some now → now.tag ≡ state.tag → IsConsumerOf chain machine.consumer
+        → AskForAll state.model asked now.indexes → Step machine (order.Load version) answer loaded → AreAdded loaded asked next → Fresh chain machine next }
 {}
 
 /// What is asked of a consumer at a state of the chain is answered as where it has this state afresh: the answers are those of the state's model
@@ -108,14 +136,35 @@ pub fn fresh_answers()
     ensures row { (machine fresh : Machine) (chain : Chain) (name : List ℕ) (ordinal : ℕ) (answer : Reply)
         → HoldsChain machine.store chain → IsConsumerOf chain machine.consumer → Fresh chain machine fresh
         → Step machine (order.Row name ordinal) answer machine ↔ Step fresh (order.Row name ordinal) answer fresh }
+    ensures has { (machine fresh : Machine) (chain : Chain) (name : List ℕ) (ordinal element : ℕ) (answer : Reply)
+        → HoldsChain machine.store chain → IsConsumerOf chain machine.consumer → Fresh chain machine fresh
+        → Step machine (order.Has name ordinal element) answer machine ↔ Step fresh (order.Has name ordinal element) answer fresh }
+    ensures at { (machine fresh : Machine) (chain : Chain) (name : List ℕ) (ordinal key : ℕ) (answer : Reply)
+        → HoldsChain machine.store chain → IsConsumerOf chain machine.consumer → Fresh chain machine fresh
+        → Step machine (order.At name ordinal key) answer machine ↔ Step fresh (order.At name ordinal key) answer fresh }
+    ensures get { (machine fresh : Machine) (chain : Chain) (name : List ℕ) (values : Value) (answer : Reply)
+        → HoldsChain machine.store chain → IsConsumerOf chain machine.consumer → Fresh chain machine fresh
+        → Step machine (order.Get name values) answer machine ↔ Step fresh (order.Get name values) answer fresh }
+    ensures find { (machine fresh : Machine) (chain : Chain) (name : List ℕ) (paths values : Value) (answer : Reply)
+        → HoldsChain machine.store chain → IsConsumerOf chain machine.consumer → Fresh chain machine fresh
+        → Step machine (order.Find name paths values) answer machine ↔ Step fresh (order.Find name paths values) answer fresh }
 {}
 
-/// What is asked of a consumer has one answer line.
+/// What is asked of a consumer has one answer line. Where it is a key, or a key of a map, the rows are those of a model, as they are wherever
+/// its blobs came from.
 pub fn one_look()
     ensures live { (machine next after : Machine) (name : List ℕ) (answer other : Reply)
         → Step machine (order.Live name) answer next → Step machine (order.Live name) other after → SaysOne answer other × (next ≡ after) }
     ensures row { (machine next after : Machine) (name : List ℕ) (ordinal : ℕ) (answer other : Reply)
         → Step machine (order.Row name ordinal) answer next → Step machine (order.Row name ordinal) other after → SaysOne answer other × (next ≡ after) }
+    ensures has { (machine next after : Machine) (name : List ℕ) (ordinal element : ℕ) (answer other : Reply)
+        → Step machine (order.Has name ordinal element) answer next → Step machine (order.Has name ordinal element) other after → SaysOne answer other × (next ≡ after) }
+    ensures at { (machine next after : Machine) (name : List ℕ) (ordinal key : ℕ) (answer other : Reply) → IfSome machine.consumer IsPosition
+        → Step machine (order.At name ordinal key) answer next → Step machine (order.At name ordinal key) other after → SaysOne answer other × (next ≡ after) }
+    ensures get { (machine next after : Machine) (name : List ℕ) (values : Value) (answer other : Reply) → IfSome machine.consumer IsPosition
+        → Step machine (order.Get name values) answer next → Step machine (order.Get name values) other after → SaysOne answer other × (next ≡ after) }
+    ensures find { (machine next after : Machine) (name : List ℕ) (paths values : Value) (answer other : Reply) → IfSome machine.consumer IsPosition
+        → Step machine (order.Find name paths values) answer next → Step machine (order.Find name paths values) other after → SaysOne answer other × (next ≡ after) }
     ensures past { (machine next after : Machine) (name : List ℕ) (answer other : Reply)
         → Step machine (order.Past name) answer next → Step machine (order.Past name) other after → SaysOne answer other × (next ≡ after) }
 {}
@@ -127,6 +176,12 @@ pub fn one_move()
         → Step machine (order.Load version) answer next → Step machine (order.Load version) other after → SaysOne answer other × (next ≡ after) }
     ensures step { (machine next after : Machine) (from to : ℕ) (answer other : Reply) → IfSome machine.consumer IsPosition
         → Step machine (order.Step from to) answer next → Step machine (order.Step from to) other after → SaysOne answer other × (next ≡ after) }
+{}
+
+/// The order `index` has one answer line and leaves one machine, where the consumer's rows are those of a model.
+pub fn one_index()
+    ensures { (machine next after : Machine) (name : List ℕ) (paths : Value) (answer other : Reply) → IfSome machine.consumer IsPosition
+        → Step machine (order.Index name paths) answer next → Step machine (order.Index name paths) other after → SaysOne answer other × (next ≡ after) }
 {}
 
 /// Over a store that keeps a chain, with a producer of it, a cycle has one answer and leaves one machine: there is one next state, and it is written
@@ -161,7 +216,8 @@ pub fn one_script()
 }
 
 /// The headline: over a store of bytes that holds a chain, each line of a script is answered as is promised. A state that a cycle publishes follows in
-/// the chain; the consumer stands at a state of it behind each line; what `live` and `row` answer is what that state answers loaded afresh; a step
+/// the chain; the consumer stands at a state of it behind each line; what `live`, `row`, `has`, `at`, `get` and `find` answer is what that state
+/// answers loaded afresh, with the same indexes; a step
 /// along a blob of the store is taken where it starts at the consumer's tag, and else refused for its origin, and then nothing changes.
 pub fn true_script()
     ensures { (store : Store) (next : Machine) (lines : List (List ℕ)) (text : List ℕ) (refused : Bool) (chain : Chain)
