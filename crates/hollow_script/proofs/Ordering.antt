@@ -1,5 +1,5 @@
 -- What an order is answered, and what its line is.
-use Rattle.std.proofs.Common.{◌≡◌, inl, inr, List, ℕ, ℤ, Option, Some, None, Result, Ok, Err, IfOk, refl, sym, subst, to_z, of_z, FitsSigned}
+use Rattle.std.proofs.Common.{◌≡◌, ◌⊎◌, inl, inr, List, ℕ, ℤ, Option, Some, None, Result, Ok, Err, IfOk, refl, sym, subst, to_z, of_z, FitsSigned}
 use Rattle.std.specs.Int.{w64}
 use Rattle.std.proofs.lemmas.Int.{to_z-of_z}
 use Rattle.serde_json.specs.View.{view}
@@ -17,10 +17,12 @@ use Rattle.hol_orders.specs.declared.order.OrderFault.{OrderFault}
 use Rattle.hol_orders.specs.declared.order.OrderFault.TheVariants as order_fault
 use Rattle.hol_orders.specs.Order.{IsOrder, Orders, TellsOrder}
 use Rattle.hollow_machine.specs.CycleOrder.{CycleStep}
+use Rattle.hollow_machine.specs.IndexOrder.{IndexStep}
 use Rattle.hollow_machine.specs.Kept.{Moves, MovesConsumer, MovesProducer, machine_of}
+use Rattle.hollow_machine.specs.KeyPaths.{texts_of_array}
 use Rattle.hollow_machine.specs.LoadOrder.{LoadStep}
 use Rattle.hollow_machine.specs.ModelOrder.{ModelStep}
-use Rattle.hollow_machine.specs.RowOrders.{LiveReply, Looks, PastReply, RowReply}
+use Rattle.hollow_machine.specs.RowOrders.{Looks}
 use Rattle.hollow_machine.specs.Script.{ShortStep}
 use Rattle.hollow_machine.specs.State.{Machine}
 use Rattle.hollow_machine.specs.Step.{Step}
@@ -92,54 +94,28 @@ module _ (held held' : Option Store) (kept : Option Production) (consumer consum
   step_moves from to is same moves =
       asked_moves held held' kept kept consumer consumer' asked r (order.Step from to) is (consumer_moves (λ machine reply next. StepStep machine (step_name from to) reply next) same moves)
 
--- the orders that ask a consumer, which leave the machine as it was
-looks : (Answers : Option Position → Reply → Type 0) (held : Option Store) (kept : Option Production) (consumer : Option Position) (r : Result Reply OrderStop) → IfOk r (Answers consumer) →
-    Moves (λ machine reply next. Looks Answers machine reply next) held kept consumer held kept consumer r
-looks Answers None kept consumer r answers = tt
-looks Answers (Some store) kept consumer (Err stop) answers = tt
-looks Answers (Some store) kept consumer (Ok reply) answers = (store, refl, (answers, refl))
+  pub index_moves : (name : Name) (paths : Value) → asked ≡ order.Index name paths →
+      ((told : Option Store) → MovesConsumer (λ machine reply next. IndexStep machine name (texts_of_array (view paths)) reply next) told consumer consumer' r) →
+      Moves (λ machine reply next. Step machine asked reply next) held kept consumer held kept consumer' r
+  index_moves name paths is moves = asked_moves held held kept kept consumer consumer' asked r (order.Index name paths) is (moves held kept)
 
-module _ (held : Option Store) (kept : Option Production) (consumer : Option Position) (asked : Order) (r : Result Reply OrderStop) where
-  pub live_moves : (name : Name) → asked ≡ order.Live name → IfOk r (LiveReply consumer name) → Moves (λ machine reply next. Step machine asked reply next) held kept consumer held kept consumer r
-  live_moves name is answers = asked_moves held held kept kept consumer consumer asked r (order.Live name) is (looks (λ at answer. LiveReply at name answer) held kept consumer r answers)
+-- as an order that asks a consumer is answered, an order that is one moves the machine, which stays as it was
+pub looks : (Answers : Option Position → Reply → Type 0) (other : Order) → ((machine : Machine) (reply : Reply) (next : Machine) → Looks Answers machine reply next → Step machine other reply next) →
+    (held : Option Store) (kept : Option Production) (consumer : Option Position) (asked : Order) (r : Result Reply OrderStop) → asked ≡ other → IfOk r (Answers consumer) →
+    Moves (λ machine reply next. Step machine asked reply next) held kept consumer held kept consumer r
+looks Answers other is_look None kept consumer asked r is answers = tt
+looks Answers other is_look (Some store) kept consumer asked (Err stop) is answers = tt
+looks Answers other is_look (Some store) kept consumer asked (Ok reply) is answers =
+    let machine = machine_of store kept consumer in
+    (store, refl, subst (λ o. Step machine o reply machine) (sym is) (is_look machine reply machine (answers, refl)))
 
-  pub row_moves : (name : Name) (ordinal : ℕ) → asked ≡ order.Row name ordinal → IfOk r (RowReply consumer name ordinal) → Moves (λ machine reply next. Step machine asked reply next) held kept consumer held kept consumer r
-  row_moves name ordinal is answers = asked_moves held held kept kept consumer consumer asked r (order.Row name ordinal) is (looks (λ at answer. RowReply at name ordinal answer) held kept consumer r answers)
+-- an order that is not built is told so
+told_unbuilt : (asked : Order) → ((version : ℕ) × (asked ≡ order.Restore version)) ⊎ (((versions : List ℕ) × (asked ≡ order.Check versions)) ⊎ (asked ≡ order.Stat)) → (machine : Machine) →
+    Step machine asked (Refused NotYet) machine
+told_unbuilt asked (inl (version, is)) machine = subst (λ o. Step machine o (Refused NotYet) machine) (sym is) (refl, refl)
+told_unbuilt asked (inr (inl (versions, is))) machine = subst (λ o. Step machine o (Refused NotYet) machine) (sym is) (refl, refl)
+told_unbuilt asked (inr (inr is)) machine = subst (λ o. Step machine o (Refused NotYet) machine) (sym is) (refl, refl)
 
-  pub past_moves : (name : Name) → asked ≡ order.Past name → IfOk r (PastReply consumer name) → Moves (λ machine reply next. Step machine asked reply next) held kept consumer held kept consumer r
-  past_moves name is answers = asked_moves held held kept kept consumer consumer asked r (order.Past name) is (looks (λ at answer. PastReply at name answer) held kept consumer r answers)
-
--- an order that is not built
-abbrev pub IsUnbuilt : Order → Type 0
-IsUnbuilt (order.Model schemas) = ⊥
-IsUnbuilt (order.Cycle version tag add) = ⊥
-IsUnbuilt (order.Load version) = ⊥
-IsUnbuilt (order.Step from to) = ⊥
-IsUnbuilt (order.Live name) = ⊥
-IsUnbuilt (order.Row name ordinal) = ⊥
-IsUnbuilt (order.Past name) = ⊥
-IsUnbuilt _ = Unit {0}
-
--- an order that is none of those that are built
-pub not_built : (asked : Order) → ((schemas : Value) → asked ≡ order.Model schemas → ⊥) → ((version : ℕ) (tag : ℤ) (add : Value) → asked ≡ order.Cycle version tag add → ⊥) →
-    ((version : ℕ) → asked ≡ order.Load version → ⊥) → ((from to : ℕ) → asked ≡ order.Step from to → ⊥) → ((name : Name) → asked ≡ order.Live name → ⊥) →
-    ((name : Name) (ordinal : ℕ) → asked ≡ order.Row name ordinal → ⊥) → ((name : Name) → asked ≡ order.Past name → ⊥) → IsUnbuilt asked
-not_built (order.Model schemas) model cycle load step live row past = model schemas refl
-not_built (order.Cycle version tag add) model cycle load step live row past = cycle version tag add refl
-not_built (order.Load version) model cycle load step live row past = load version refl
-not_built (order.Step from to) model cycle load step live row past = step from to refl
-not_built (order.Live name) model cycle load step live row past = live name refl
-not_built (order.Row name ordinal) model cycle load step live row past = row name ordinal refl
-not_built (order.Past name) model cycle load step live row past = past name refl
-not_built _ model cycle load step live row past = tt
-
--- it is told so
-pub told_unbuilt : (asked : Order) → IsUnbuilt asked → (machine : Machine) → Step machine asked (Refused NotYet) machine
-told_unbuilt (order.Model schemas) is machine = absurd is
-told_unbuilt (order.Cycle version tag add) is machine = absurd is
-told_unbuilt (order.Load version) is machine = absurd is
-told_unbuilt (order.Step from to) is machine = absurd is
-told_unbuilt (order.Live name) is machine = absurd is
-told_unbuilt (order.Row name ordinal) is machine = absurd is
-told_unbuilt (order.Past name) is machine = absurd is
-told_unbuilt _ is machine = (refl, refl)
+pub not_built : (held : Option Store) (keep : Keep) (asked : Order) → ((version : ℕ) × (asked ≡ order.Restore version)) ⊎ (((versions : List ℕ) × (asked ≡ order.Check versions)) ⊎ (asked ≡ order.Stat)) →
+    MovesKept {E = OrderStop} (λ machine reply next. Step machine asked reply next) held keep held keep (Ok (Refused NotYet))
+not_built held keep asked unbuilt = stays (λ machine reply next. Step machine asked reply next) held keep (Refused NotYet) (told_unbuilt asked unbuilt)

@@ -8,7 +8,7 @@ ghost use Rattle.hollow_machine.specs.Step.{Step};
 ghost use Rattle.hollow_script.specs.Kept.{MovesKept};
 
 use crate::keep::Keep;
-use consumer_orders::{live, load, past, row, step};
+use consumer_orders::{at, find, get, has, index, live, load, past, row, step};
 use hol_io::BlobStore;
 use hol_orders::{Order, OrderFault, OrderStop, Refusal, Reply, order_of};
 use producer_orders::{cycle, model};
@@ -57,9 +57,26 @@ fn answer<S: BlobStore>(
         }
         Order::Load(version) => load(store, &mut keep.consumer, *version),
         Order::Step { from, to } => step(store, &mut keep.consumer, *from, *to),
+        Order::Index { type_name, paths } => index(alloc, &mut keep.consumer, type_name, paths),
+        Order::Get { type_name, values } => get(alloc, &keep.consumer, type_name, values),
+        Order::Find {
+            type_name,
+            paths,
+            values,
+        } => find(alloc, &keep.consumer, type_name, paths, values),
         Order::Live(type_name) => live(alloc, &keep.consumer, type_name),
         Order::Row { type_name, ordinal } => row(alloc, &keep.consumer, type_name, *ordinal),
+        Order::Has {
+            type_name,
+            ordinal,
+            element,
+        } => has(alloc, &keep.consumer, type_name, *ordinal, *element),
+        Order::At {
+            type_name,
+            ordinal,
+            key,
+        } => at(alloc, &keep.consumer, type_name, *ordinal, *key),
         Order::Past(type_name) => past(alloc, &keep.consumer, type_name),
-        _ => Ok(Reply::Refused(Refusal::NotYet)),
+        Order::Restore(_) | Order::Check(_) | Order::Stat => Ok(Reply::Refused(Refusal::NotYet)),
     }
 }

@@ -1,7 +1,10 @@
-use Rattle.hol_orders.specs.declared.refusal.Refusal.TheVariants.{NotYet}
-use Rattle.hol_orders.specs.declared.reply.Reply.TheVariants.{Refused}
-use Rattle.hollow_machine.specs.Step.{Step}
-use Rattle.hollow_script.proofs.Ordering.{cycle_moves, live_moves, load_moves, model_moves, not_built, past_moves, row_moves, stays, step_moves, told_unbuilt}
+use Rattle.serde_json.specs.View.{view}
+use Rattle.hol_orders.specs.declared.order.Order.TheVariants as order
+use Rattle.hollow_machine.specs.KeyOrders.{FindReply, GetReply}
+use Rattle.hollow_machine.specs.KeyPaths.{texts_of_array}
+use Rattle.hollow_machine.specs.MemberOrders.{AtReply, HasReply}
+use Rattle.hollow_machine.specs.RowOrders.{LiveReply, PastReply, RowReply}
+use Rattle.hollow_script.proofs.Ordering.{cycle_moves, index_moves, load_moves, looks, model_moves, not_built, step_moves}
 use Rattle.hollow_script.proofs.order.answer.Goals as goal
 
 pub returns-in-Model-clause-step : goal.returns-in-Model-clause-step
@@ -23,19 +26,45 @@ returns-in-Step-clause-step g c =
     step_moves (g.S.BlobStore.seen c.args.store.now).held (g.S.BlobStore.seen c.step.new.store).held c.args.keep.now.producer c.args.keep.now.consumer c.step.new.consumer c.args.order.now c.step.result
     c.in-Step.from c.in-Step.to c.in-Step.is c.step.ensures.held c.step.ensures.step
 
+pub returns-in-Index-clause-step : goal.returns-in-Index-clause-step
+returns-in-Index-clause-step g c =
+    index_moves (g.S.BlobStore.seen c.args.store.now).held (g.S.BlobStore.seen c.args.store.now).held c.args.keep.now.producer c.args.keep.now.consumer c.index.new.consumer c.args.order.now c.index.result
+    c.in-Index.type_name c.in-Index.paths c.in-Index.is c.index.ensures.step
+
+pub returns-in-Get-clause-step : goal.returns-in-Get-clause-step
+returns-in-Get-clause-step g c =
+    looks (λ at answer. GetReply at c.in-Get.type_name (view c.in-Get.values) answer) (order.Get c.in-Get.type_name c.in-Get.values) (λ machine reply next looked. looked) (g.S.BlobStore.seen c.args.store.now).held c.args.keep.now.producer c.args.keep.now.consumer c.args.order.now
+    c.get.result c.in-Get.is c.get.ensures.reply
+
+pub returns-in-Find-clause-step : goal.returns-in-Find-clause-step
+returns-in-Find-clause-step g c =
+    looks (λ at answer. FindReply at c.in-Find.type_name (texts_of_array (view c.in-Find.paths)) (view c.in-Find.values) answer) (order.Find c.in-Find.type_name c.in-Find.paths c.in-Find.values) (λ machine reply next looked. looked) (g.S.BlobStore.seen c.args.store.now).held c.args.keep.now.producer c.args.keep.now.consumer c.args.order.now
+    c.find.result c.in-Find.is c.find.ensures.reply
+
 pub returns-in-Live-clause-step : goal.returns-in-Live-clause-step
 returns-in-Live-clause-step g c =
-    live_moves (g.S.BlobStore.seen c.args.store.now).held c.args.keep.now.producer c.args.keep.now.consumer c.args.order.now c.live.result c.in-Live.type_name c.in-Live.is c.live.ensures.reply
+    looks (λ at answer. LiveReply at c.in-Live.type_name answer) (order.Live c.in-Live.type_name) (λ machine reply next looked. looked) (g.S.BlobStore.seen c.args.store.now).held c.args.keep.now.producer c.args.keep.now.consumer c.args.order.now
+    c.live.result c.in-Live.is c.live.ensures.reply
 
 pub returns-in-Row-clause-step : goal.returns-in-Row-clause-step
 returns-in-Row-clause-step g c =
-    row_moves (g.S.BlobStore.seen c.args.store.now).held c.args.keep.now.producer c.args.keep.now.consumer c.args.order.now c.row.result c.in-Row.type_name c.in-Row.ordinal c.in-Row.is c.row.ensures.reply
+    looks (λ at answer. RowReply at c.in-Row.type_name c.in-Row.ordinal answer) (order.Row c.in-Row.type_name c.in-Row.ordinal) (λ machine reply next looked. looked) (g.S.BlobStore.seen c.args.store.now).held c.args.keep.now.producer c.args.keep.now.consumer c.args.order.now
+    c.row.result c.in-Row.is c.row.ensures.reply
+
+pub returns-in-Has-clause-step : goal.returns-in-Has-clause-step
+returns-in-Has-clause-step g c =
+    looks (λ at answer. HasReply at c.in-Has.type_name c.in-Has.ordinal c.in-Has.element answer) (order.Has c.in-Has.type_name c.in-Has.ordinal c.in-Has.element) (λ machine reply next looked. looked) (g.S.BlobStore.seen c.args.store.now).held c.args.keep.now.producer c.args.keep.now.consumer c.args.order.now
+    c.has.result c.in-Has.is c.has.ensures.reply
+
+pub returns-in-At-clause-step : goal.returns-in-At-clause-step
+returns-in-At-clause-step g c =
+    looks (λ at answer. AtReply at c.in-At.type_name c.in-At.ordinal c.in-At.key answer) (order.At c.in-At.type_name c.in-At.ordinal c.in-At.key) (λ machine reply next looked. looked) (g.S.BlobStore.seen c.args.store.now).held c.args.keep.now.producer c.args.keep.now.consumer c.args.order.now
+    c.at.result c.in-At.is c.at.ensures.reply
 
 pub returns-in-Past-clause-step : goal.returns-in-Past-clause-step
 returns-in-Past-clause-step g c =
-    past_moves (g.S.BlobStore.seen c.args.store.now).held c.args.keep.now.producer c.args.keep.now.consumer c.args.order.now c.past.result c.in-Past.type_name c.in-Past.is c.past.ensures.reply
+    looks (λ at answer. PastReply at c.in-Past.type_name answer) (order.Past c.in-Past.type_name) (λ machine reply next looked. looked) (g.S.BlobStore.seen c.args.store.now).held c.args.keep.now.producer c.args.keep.now.consumer c.args.order.now
+    c.past.result c.in-Past.is c.past.ensures.reply
 
-pub returns-in_default-clause-step : goal.returns-in_default-clause-step
-returns-in_default-clause-step g c =
-    stays (λ machine reply next. Step machine c.args.order.now reply next) (g.S.BlobStore.seen c.args.store.now).held c.args.keep.now (Refused NotYet)
-    (told_unbuilt c.args.order.now (not_built c.args.order.now c.in_default.not-Model c.in_default.not-Cycle c.in_default.not-Load c.in_default.not-Step c.in_default.not-Live c.in_default.not-Row c.in_default.not-Past))
+pub returns-in-Restore-clause-step : goal.returns-in-Restore-clause-step
+returns-in-Restore-clause-step g c = not_built (g.S.BlobStore.seen c.args.store.now).held c.args.keep.now c.args.order.now c.in-Restore.is
