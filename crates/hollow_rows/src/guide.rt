@@ -1,8 +1,9 @@
-//! The guide: its script, and the commands that it shows behind it.
+//! The guide and the readme: the guide's script, and the commands that they show behind it.
 use crate::scene::pass;
 use std::test::Fail;
 
-/// The script that the guide walks through, its answers, and what `head` and `show` tell of the folder.
+/// The script that the guide walks through, its answers, what `head` and `show` tell of the folder, and a look-up after a step
+/// in a further run: the five commands of the readme.
 const GUIDE: &str = r#"# The guide's catalogue: its script, and the commands behind it.
 room 20000
 empty
@@ -24,6 +25,17 @@ input {"step":[3,2]}
 input {"past":"Film"}
 input {"row":["Film",1]}
 input {"step":[1,2]}
+input {"index":["Film",[]]}
+input {"get":["Film",[2]]}
+input {"index":["Film",["title.value"]]}
+input {"find":["Film",["title"],["Der blaue Engel"]]}
+input {"step":[2,3]}
+input {"get":["Film",[2]]}
+input {"find":["Film",["title"],["Der blaue Engel"]]}
+input {"get":["Film",[3]]}
+input {"find":["Film",["title"],["Metropolis"]]}
+input {"has":["Cast",0,2]}
+input {"has":["Cast",0,6]}
 go 1 run
 out {"ok":"model","types":3}
 out {"changed":["Film","Text","Cast"],"ok":"cycle","published":true,"version":1}
@@ -43,6 +55,17 @@ out {"ok":"step","tag":102}
 out {"ok":"past","rows":[]}
 out {"ok":"row","row":{"cast":[{"value":"Marlene Dietrich"}],"id":2,"title":{"value":"Der blaue Engel"}}}
 out {"blob":"delta-1-2","current":102,"error":20,"found":101,"name":"OtherOrigin"}
+out {"keys":3,"ok":"index"}
+out {"ok":"get","ordinal":1,"row":{"cast":[{"value":"Marlene Dietrich"}],"id":2,"title":{"value":"Der blaue Engel"}}}
+out {"keys":3,"ok":"index"}
+out {"ok":"find","ordinals":[1]}
+out {"ok":"step","tag":103}
+out {"error":25,"name":"NoMatch"}
+out {"ok":"find","ordinals":[]}
+out {"ok":"get","ordinal":2,"row":{"cast":[{"value":"Peter Lorre"}],"id":3,"title":{"value":"M"}}}
+out {"ok":"find","ordinals":[0]}
+out {"has":true,"ok":"has"}
+out {"has":false,"ok":"has"}
 go 0 head delta-1-2
 out {"destination":102,"format":1030,"ok":"head","origin":101,"schemas":["Film","Text","Cast"],"tags":[]}
 go 0 show snapshot-3
@@ -54,7 +77,18 @@ out {"ordinal":2,"row":{"value":"Gustav Fröhlich"},"type":"Text"}
 out {"ordinal":5,"row":{"value":"M"},"type":"Text"}
 out {"ordinal":6,"row":{"value":"Peter Lorre"},"type":"Text"}
 out {"ordinal":0,"row":[1,2],"type":"Cast"}
-out {"ordinal":2,"row":[6],"type":"Cast"}"#;
+out {"ordinal":2,"row":[6],"type":"Cast"}
+input {"load":1}
+input {"index":["Film",["title"]]}
+input {"find":["Film",["title"],["M"]]}
+input {"step":[1,2]}
+input {"find":["Film",["title"],["M"]]}
+go 0 run
+out {"ok":"load","tag":101}
+out {"keys":2,"ok":"index"}
+out {"ok":"find","ordinals":[]}
+out {"ok":"step","tag":102}
+out {"ok":"find","ordinals":[2]}"#;
 
 #[test]
 fn follows_the_guide(rt: HostRuntime) -> Result<(), Fail> {

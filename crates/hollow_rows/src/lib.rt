@@ -18,6 +18,8 @@ mod kinds;
 #[cfg(test)]
 mod limits;
 #[cfg(test)]
+mod lookups;
+#[cfg(test)]
 mod outside;
 #[cfg(test)]
 mod scene;
