@@ -22,7 +22,7 @@ pub use model::rule::Rule;
 pub use model::{Model, model_of, resolve};
 pub use reason::Reason;
 pub use rows::Rows;
-pub use rows::dangling::{Dangling, first_dangling};
+pub use rows::dangling::{Dangling, dangling_in, first_dangling, is_closed_at};
 pub use rows::lent::LentRow;
 pub use rows::packed::{Packed, PlaceFault};
 pub use rows::parts::{Parts, area_byte, area_size};

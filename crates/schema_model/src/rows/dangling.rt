@@ -32,8 +32,13 @@ pub fn first_dangling<R: Rows>(alloc: Global, rows: &R) -> Result<Option<Danglin
     Ok(None)
 }
 
-// The least ordinal of a type whose row names one that is not live.
-fn dangling_in<R: Rows>(alloc: Global, rows: &R, type_index: u32) -> Result<Option<u32>, AllocError>
+/// The least ordinal of a type whose row names one that is not live; `None` exactly where all rows of the type name live
+/// ordinals alone. The rows of a type that names no other are passed over.
+pub fn dangling_in<R: Rows>(
+    alloc: Global,
+    rows: &R,
+    type_index: u32,
+) -> Result<Option<u32>, AllocError>
     requires { type_index < length (R.schemas rows.now) }
     ensures { IfOk result (TellsType (R.schemas rows.now) (R.table rows.now) type_index) }
 {
@@ -66,9 +71,9 @@ fn is_plain_type(shape: &Shape) -> bool
     }
 }
 
-// Whether the row under an ordinal of a type of this shape names live ordinals alone, if there is such a row.
+/// Whether the row under an ordinal of a type of this shape names live ordinals alone, if there is such a row.
 #[tactic(auto, using(crate::proofs::Danglings::told_live))]
-fn is_closed_at<R: Rows>(
+pub fn is_closed_at<R: Rows>(
     alloc: Global,
     rows: &R,
     shape: &Shape,
