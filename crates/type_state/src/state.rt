@@ -4,6 +4,7 @@ ghost use Rattle.std.specs.List.{Contains};
 ghost use Rattle.std.specs.FinMap.{get, keys};
 ghost use Rattle.ordinal_set.specs.Ordinals.{bound_of};
 ghost use Rattle.hol_varint.specs.Yields.{Yields};
+ghost use Rattle.schema_model.specs.Lent.{lent_row};
 ghost use Rattle.schema_model.specs.Table.{RowMap};
 ghost use Rattle.bucket_codec.specs.Run.{FindsIn};
 ghost use Rattle.type_state.specs.Lookup.{elements_of, pairs_of};
@@ -21,7 +22,7 @@ use crate::outline::Outline;
 use crate::slots::Slots;
 use crate::{PatchSection, RowFault, Section};
 use hol_varint::Duplicate;
-use schema_model::{Row, Schema, Widths};
+use schema_model::{LentRow, Row, Schema, Widths};
 use std::alloc::{AllocError, Global};
 use std::marker::Model;
 use std::mem;
@@ -209,6 +210,17 @@ impl TypeState {
         }
     }
 
+    /// The row of the current state under a live ordinal, to look at where it stands.
+    pub fn lend(&self, _alloc: Global, ordinal: u32) -> Result<LentRow<'_>, AllocError>
+        requires { IsSome (get self.now.current.rows ordinal) }
+        ensures { IfOk result (λ lent. get self.now.current.rows ordinal ≡ Some (lent_row lent)) }
+    {
+        match self.rows.find(u64::from(ordinal)) {
+            Some(row) => Ok(LentRow::Kept(row)),
+            None => unreachable!(),
+        }
+    }
+
     /// Whether the current state has a set with the element under the ordinal. It takes no memory.
     pub fn has(&self, ordinal: u32, element: u32) -> bool
         ensures { IsTrue result ↔ Contains (elements_of (get self.now.current.rows ordinal)) element }
@@ -241,6 +253,17 @@ impl TypeState {
         }
     }
 
+    /// The row of the state before under an ordinal that was live, to look at where it stands.
+    pub fn lend_before(&self, _alloc: Global, ordinal: u32) -> Result<LentRow<'_>, AllocError>
+        requires { IsSome (get self.now.other.rows ordinal) }
+        ensures { IfOk result (λ lent. get self.now.other.rows ordinal ≡ Some (lent_row lent)) }
+    {
+        match self.others.find(&self.rows, ordinal) {
+            Some(row) => Ok(LentRow::Kept(row)),
+            None => unreachable!(),
+        }
+    }
+
     /// A copy of the row of the next half under an ordinal that is live there.
     pub fn next_row(&self, alloc: Global, ordinal: u32) -> Result<Row, AllocError>
         requires laid { IsLaidOut self.now.schema self.now.other }
@@ -249,6 +272,18 @@ impl TypeState {
     {
         match self.others.find(&self.rows, ordinal) {
             Some(row) => row.copy(alloc),
+            None => unreachable!(),
+        }
+    }
+
+    /// The row of the next half under an ordinal that is live there, to look at where it stands.
+    pub fn lend_next(&self, _alloc: Global, ordinal: u32) -> Result<LentRow<'_>, AllocError>
+        requires laid { IsLaidOut self.now.schema self.now.other }
+        requires live { IsSome (get self.now.other.rows ordinal) }
+        ensures { IfOk result (λ lent. get self.now.other.rows ordinal ≡ Some (lent_row lent)) }
+    {
+        match self.others.find(&self.rows, ordinal) {
+            Some(row) => Ok(LentRow::Kept(row)),
             None => unreachable!(),
         }
     }

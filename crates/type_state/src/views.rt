@@ -3,7 +3,7 @@ ghost use Rattle.std.specs.Prelude.{◌≡◌};
 ghost use Rattle.type_state.specs.Views.{AreNext, table_of, next_halves};
 
 use crate::TypeStates;
-use schema_model::{Model, Row, Rows};
+use schema_model::{LentRow, Model, Row, Rows};
 use std::alloc::{AllocError, Global};
 
 /// The rows that stand in the next halves of the types of a model.
@@ -67,5 +67,16 @@ impl<'a> Rows for NextRows<'a> {
         self.states
             .get(type_index as usize)
             .next_row(alloc, ordinal)
+    }
+
+    fn lend(
+        &self,
+        alloc: Global,
+        type_index: u32,
+        ordinal: u32,
+    ) -> Result<LentRow<'_>, AllocError> {
+        self.states
+            .get(type_index as usize)
+            .lend_next(alloc, ordinal)
     }
 }

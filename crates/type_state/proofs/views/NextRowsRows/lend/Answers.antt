@@ -1,0 +1,17 @@
+use Rattle.std.proofs.Common.{◌≡◌, Some, ap, sym, subst}
+use Rattle.std.specs.Prelude.{IfOk, IsSome}
+use Rattle.schema_model.specs.Lent.{lent_row}
+use Rattle.schema_model.specs.Table.{IsLive, row_at}
+use Rattle.type_state.proofs.NextStates.{row_of_state}
+use Rattle.type_state.proofs.views.NextRowsRows.lend.Goals as goal
+
+pub lend_next-requires-clause-live : goal.lend_next-requires-clause-live
+lend_next-requires-clause-live c =
+    let is = row_of_state c.self.inside.states.now c.args.type_index c.args.ordinal c.get.result.now c.get.ensures in
+    subst IsSome is (subst (λ table. IsLive table c.args.type_index c.args.ordinal) (sym (ap (λ rows. rows.table) c.self.view_is)) c.requires)
+
+pub returns : goal.returns
+returns c =
+    let is = row_of_state c.self.inside.states.now c.args.type_index c.args.ordinal c.get.result.now c.get.ensures in
+    subst (λ table. IfOk c.lend_next.result (λ lent. row_at table c.args.type_index c.args.ordinal ≡ Some (lent_row lent))) (ap (λ rows. rows.table) c.self.view_is)
+    (subst (λ found. IfOk c.lend_next.result (λ lent. found ≡ Some (lent_row lent))) (sym is) c.lend_next.ensures)
