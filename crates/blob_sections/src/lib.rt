@@ -11,6 +11,3 @@ pub use head::{TypeHead, type_head};
 pub use ordinals::population;
 pub use section::{PackedRows, max_ordinal, packed_rows, word_array};
 pub use widths::{field_widths, part_widths};
-
-#[cfg(test)]
-mod tests;

@@ -8,6 +8,3 @@ mod versions;
 pub use announcement::{Announcement, announced_version};
 pub use tags::is_tag_taken;
 pub use versions::{greatest_version, names_of};
-
-#[cfg(test)]
-mod tests;

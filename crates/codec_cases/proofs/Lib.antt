@@ -2,6 +2,8 @@ mod BucketRows
 mod Samples
 pub mod Columns
 pub mod EmptyRows
+pub mod EmptyTables
 pub mod OneState
 pub mod SmallTypes
+pub mod ThreePlaces
 pub mod TwoStates

@@ -6,7 +6,7 @@ use Rattle.schema_model.specs.Parts.{shape_key}
 use Rattle.schema_model.specs.Table.{IsBound, Table}
 use Rattle.schema_model.specs.declared.limit.Limit.{Limit}
 use Rattle.schema_model.specs.declared.schema.Schema.{Schema}
-use Rattle.list_codec.proofs.EmptyTables.{empty_table}
+use Rattle.codec_cases.proofs.EmptyTables.{empty_table}
 use Rattle.row_packing.specs.Chosen.{shape_at}
 use Rattle.row_packing.specs.States.{AreWritable}
 use Rattle.row_packing.specs.TypeLimit.{TellsLimit}

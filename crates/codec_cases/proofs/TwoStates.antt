@@ -7,7 +7,7 @@ use Rattle.schema_model.specs.declared.limit.Limit.{Limit}
 use Rattle.schema_model.specs.declared.rows.row.Row.{Row}
 use Rattle.schema_model.specs.declared.schema.Schema.{Schema}
 use Rattle.schema_model.specs.declared.schema.Shape.{Shape}
-use Rattle.list_codec.proofs.EmptyTables.{empty_table, nothing_live, not_live}
+use Rattle.codec_cases.proofs.EmptyTables.{empty_table, nothing_live, not_live}
 use Rattle.row_packing.specs.declared.chosen.Chosen.{Chosen}
 use Rattle.row_packing.specs.Chosen.{IsLiveInEither, KeepsCounts, IsChosen, Suits}
 use Rattle.row_packing.specs.Places.{Agree, AreAdded}

@@ -8,7 +8,11 @@ mod chosen;
 #[cfg(test)]
 mod empty;
 #[cfg(test)]
+mod lists;
+#[cfg(test)]
 mod packed;
+#[cfg(test)]
+mod records;
 #[cfg(test)]
 mod two_states;
 #[cfg(test)]

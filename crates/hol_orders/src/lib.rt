@@ -21,6 +21,3 @@ pub use plain::PlainValue;
 pub use refusal::{MAX_LINE_BYTES, Refusal, RowPlace};
 pub use refusal_json::refusal_value;
 pub use reply::{PastRows, Reply, put_reply, reply_line};
-
-#[cfg(test)]
-mod tests;

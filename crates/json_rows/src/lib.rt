@@ -23,6 +23,3 @@ pub use schema_shape::are_schemas;
 pub use schemas::schemas_from;
 pub use stored::row_value;
 pub use values::value_from;
-
-#[cfg(test)]
-mod tests;

@@ -1,5 +1,4 @@
 pub mod Answering
-pub mod EmptyTables
 pub mod Following
 pub mod KeptKeys
 pub mod PairLists

@@ -10,6 +10,3 @@ mod slot;
 
 pub use index::KeyIndex;
 pub use read::read_key;
-
-#[cfg(test)]
-mod tests;

@@ -2,4 +2,3 @@ pub mod Elements
 pub mod Spreads
 pub mod Written
 pub mod Places
-pub mod EmptyTables

@@ -9,6 +9,3 @@ mod place;
 pub use chosen::{total, widths};
 pub use packing::{pack, put_row};
 pub use place::read;
-
-#[cfg(test)]
-mod tests;

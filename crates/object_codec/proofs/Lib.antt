@@ -1,9 +1,7 @@
 pub mod FieldWidths
-pub mod EmptyTables
 pub mod FieldParts
 pub mod Fields
 pub mod LiveBytes
-pub mod PackedTests
 pub mod Places
 pub mod PlacesPacked
 pub mod RowPuts

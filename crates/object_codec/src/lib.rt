@@ -15,6 +15,3 @@ mod value;
 pub use chosen::{bytes, widths};
 pub use packing::{pack, put_row};
 pub use record::read;
-
-#[cfg(test)]
-mod tests;

@@ -8,6 +8,3 @@ mod slot;
 
 pub use fault::PutRowFault;
 pub use map::OrdinalMap;
-
-#[cfg(test)]
-mod tests;

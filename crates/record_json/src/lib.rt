@@ -13,6 +13,3 @@ mod trees;
 pub use print_fault::PrintFault;
 pub use printed::tree_value;
 pub use trees::tree_from;
-
-#[cfg(test)]
-mod tests;

@@ -5,6 +5,3 @@ mod key;
 pub mod laws;
 
 pub use key::{row_key, values_key};
-
-#[cfg(test)]
-mod tests;

@@ -17,6 +17,3 @@ pub use items::put_max;
 pub use ordinals::put_ordinals;
 pub use packed::put_packed;
 pub use types::{put_delta_type, put_snapshot_type};
-
-#[cfg(test)]
-mod tests;

@@ -1,19 +1,21 @@
-//! Worked cases of single crates, called with ample memory. Nothing stands on this crate.
+//! Worked cases of the crates of the model, of types in memory and of the producer, with ample memory. Nothing stands on this crate.
 #![tactic(auto)]
 
 #[cfg(test)]
-mod blobs;
-#[cfg(test)]
 mod copies;
+#[cfg(test)]
+mod cycles;
+#[cfg(test)]
+mod indexes;
+#[cfg(test)]
+mod keys;
 #[cfg(test)]
 mod models;
 #[cfg(test)]
-mod replies;
+mod ordinals;
 #[cfg(test)]
 mod runs;
 #[cfg(test)]
 mod sets;
-#[cfg(test)]
-mod snapshots;
 #[cfg(test)]
 mod two_states;

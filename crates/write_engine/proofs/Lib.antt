@@ -4,7 +4,6 @@ pub mod Gathering
 pub mod Members
 pub mod NextStates
 pub mod NoRoom
-pub mod Numbers
 pub mod OneState
 pub mod Parts
 pub mod Puts

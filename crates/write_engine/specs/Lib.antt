@@ -2,6 +2,5 @@ pub mod Agreement
 pub mod Cycle
 pub mod CycleLimit
 pub mod Leaf
-pub mod Numbers
 pub mod Production
 pub mod Soundness

@@ -12,6 +12,3 @@ mod views;
 
 pub use producer::{Closed, Producer};
 pub use views::{Current, Previous};
-
-#[cfg(test)]
-mod tests;

@@ -1,5 +1,5 @@
 use Rattle.std.proofs.Common.{sym, ◌∙◌}
-use Rattle.list_codec.proofs.EmptyTables.{empty_table}
+use Rattle.codec_cases.proofs.EmptyTables.{empty_table}
 use Rattle.row_packing.specs.Chosen.{shape_at}
 use Rattle.codec_cases.proofs.TwoStates.{agree_none, below_bound, counts_kept, suits_after_none}
 use Rattle.codec_cases.proofs.two_states.of_type.Goals as goal

@@ -1,6 +1,6 @@
 use Rattle.std.proofs.Common.{◌≡◌, ◌≤◌, ◌∙◌, List, length, sym, ap, subst, arith}
 use Rattle.schema_model.specs.declared.schema.Schema.{Schema}
-use Rattle.list_codec.proofs.EmptyTables.{empty_table}
+use Rattle.codec_cases.proofs.EmptyTables.{empty_table}
 use Rattle.row_packing.specs.States.{AreWritable}
 use Rattle.codec_cases.proofs.SmallTypes.{few_paths, writable}
 use Rattle.codec_cases.proofs.written.blobs_of.Goals as goal

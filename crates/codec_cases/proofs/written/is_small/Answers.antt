@@ -1,7 +1,7 @@
 use Rattle.std.proofs.Common.{◌≡◌, ◌∙◌, List, Some, sym, ap, subst}
 use Rattle.std.specs.Prelude.{slice_get}
 use Rattle.schema_model.specs.declared.schema.Schema.{Schema}
-use Rattle.list_codec.proofs.EmptyTables.{empty_table}
+use Rattle.codec_cases.proofs.EmptyTables.{empty_table}
 use Rattle.row_packing.specs.Chosen.{shape_at}
 use Rattle.row_packing.specs.TypeLimit.{TellsLimit}
 use Rattle.codec_cases.proofs.SmallTypes.{small_type}

@@ -1,5 +1,5 @@
 use Rattle.std.proofs.Common.{refl, inl}
-use Rattle.list_codec.proofs.EmptyTables.{not_live}
+use Rattle.codec_cases.proofs.EmptyTables.{not_live}
 use Rattle.codec_cases.proofs.two_states.NoRowsRows.bound.Goals as goal
 
 pub returns : goal.returns

@@ -1,4 +1,4 @@
-use Rattle.list_codec.proofs.EmptyTables.{not_live}
+use Rattle.codec_cases.proofs.EmptyTables.{not_live}
 use Rattle.codec_cases.proofs.two_states.NoRowsRows.is_live.Goals as goal
 
 pub returns : goal.returns

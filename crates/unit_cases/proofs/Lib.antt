@@ -1,0 +1,2 @@
+pub mod EmptyTables
+pub mod Numbers
