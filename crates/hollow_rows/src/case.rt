@@ -168,6 +168,11 @@ impl Bench {
         Ok(Vec::from_slice(self.alloc, self.blobs.0.as_slice())?)
     }
 
+    /// Its faulty twin.
+    pub fn faulty_blob(&self) -> Result<Vec<u8>, Fail> {
+        Ok(Vec::from_slice(self.alloc, self.blobs.1.as_slice())?)
+    }
+
     /// The status of a command line over a store that holds this blob. What it wrote is kept.
     pub fn answer(&mut self, words: &str, blob: &[u8]) -> Result<u8, Fail> {
         let reads = Vec::from_slice(self.alloc, self.fails.0.as_slice())?;
@@ -244,7 +249,7 @@ impl Bench {
     // The blob is shown, and its twin is refused.
     fn differs(&mut self) -> Result<bool, Fail> {
         let sound = self.blob()?;
-        let faulty = Vec::from_slice(self.alloc, self.blobs.1.as_slice())?;
+        let faulty = self.faulty_blob()?;
         let shown = self.answer("show snapshot-1", sound.as_slice())?;
         let refused = self.answer("show snapshot-1", faulty.as_slice())?;
         self.texts.1.extend_from_slice(BAD_BODY)?;

@@ -20,6 +20,8 @@ mod limits;
 #[cfg(test)]
 mod lookups;
 #[cfg(test)]
+mod moves;
+#[cfg(test)]
 mod outside;
 #[cfg(test)]
 mod scene;
