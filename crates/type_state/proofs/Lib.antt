@@ -1,6 +1,8 @@
 pub mod AddedRows
 pub mod Additions
 pub mod Bounds
+pub mod Changes
+pub mod Counting
 pub mod DifferingRows
 pub mod Entries
 pub mod Exchanges
@@ -17,5 +19,8 @@ pub mod PlacesUpTo
 pub mod Reading
 pub mod Removal
 pub mod Rising
+pub mod RowSums
 pub mod SectionRows
 pub mod SlotRows
+pub mod Takings
+pub mod Widening

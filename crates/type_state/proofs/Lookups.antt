@@ -72,7 +72,7 @@ found_below o limit (e ∷ es) small some = elim (cases_eq o e.0) [
 
 -- ---- a binary search
 
-keys_rise : {X : Type 0} (es : List (ℕ × X)) (i j : ℕ) (d : ℕ × X) → IsStrictlySortedBy nat_cmp (keys_of es) → i < j → j < length es → (get_or es i d).0 < (get_or es j d).0
+pub keys_rise : {X : Type 0} (es : List (ℕ × X)) (i j : ℕ) (d : ℕ × X) → IsStrictlySortedBy nat_cmp (keys_of es) → i < j → j < length es → (get_or es i d).0 < (get_or es j d).0
 keys_rise {X} es i j d sorted before inside =
     let low = get_or-map (λ (e : ℕ × X). e.0) es i d 0 (omega arith) in
     let high = get_or-map (λ (e : ℕ × X). e.0) es j d 0 inside in

@@ -1,5 +1,5 @@
 -- Where the rows of a type end, as they are laid out one after another: the end offset of each field of an OBJECT, and the items of the others.
-use Rattle.std.specs.Prelude.{◌≡◌, ℕ, ◌+◌, ◌^◌, ◌<◌, List, length, slice_get, slice_index}
+use Rattle.std.specs.Prelude.{◌≡◌, ℕ, ◌+◌, ◌-◌, ◌^◌, ◌<◌, List, length, slice_get, slice_index}
 use Rattle.std.specs.Option.{option_map_or}
 use Rattle.schema_model.specs.declared.schema.Shape.{Shape}
 use Rattle.schema_model.specs.declared.rows.row.Value.{Value}
@@ -11,6 +11,10 @@ use Rattle.type_state.specs.Holds.{FitsRow}
 -- The end offset of a field behind a record, by those before it.
 abbrev pub end_after : List ℕ → List Value → ℕ → ℕ
 end_after ends values f = slice_index ends f + option_map_or value_bytes (slice_get values f) 0
+
+-- The end offset of a field without a record, by that with it.
+abbrev pub end_before : List ℕ → List Value → ℕ → ℕ
+end_before ends values f = slice_index ends f - option_map_or value_bytes (slice_get values f) 0
 
 -- Each part of a row fits its width, behind rows that end at these offsets and have so many items.
 abbrev pub FitsBehind : Shape → List ℕ → List ℕ → ℕ → Row → Type 0

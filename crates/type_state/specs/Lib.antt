@@ -9,6 +9,7 @@ pub mod Moving
 pub mod Patches
 pub mod Slots
 pub mod State
+pub mod Totals
 pub mod Views
 pub mod WellFormed
 pub mod WordsHeld

@@ -1,11 +1,13 @@
 //! Where the rows of a type end, as they are laid out one behind the other.
-ghost use Rattle.std.specs.Prelude.{◌≡◌, ◌↔◌, ◌+◌, ◌≤◌, ℕ, IfOk, length, slice_index, IsTrue};
+ghost use Rattle.std.specs.Prelude.{◌≡◌, ◌↔◌, ◌+◌, ◌-◌, ◌≤◌, ℕ, IfOk, length, slice_index, IsTrue};
 ghost use Rattle.schema_model.specs.Parts.{shape_fields};
 ghost use Rattle.type_state.specs.Layout.{width_count, items_of_row};
 ghost use Rattle.type_state.specs.WordsHeld.{part_bytes};
 ghost use Rattle.type_state.specs.Ends.{FitsBehind, IsOfKind};
+ghost use Rattle.type_state.specs.Totals.{HasParts};
 
-use crate::fits::add_values;
+use crate::count::buckets;
+use crate::fits::{add_values, take_values};
 use crate::items::{add_list, add_map, add_set};
 use schema_model::{Row, Shape};
 use std::alloc::{AllocError, Global};
@@ -64,5 +66,27 @@ impl Ends {
             }
             _ => false,
         }
+    }
+    /// Takes off a row that is laid out.
+    pub(crate) fn take_off(&mut self, row: &Row)
+        requires { HasParts (length self.old.offsets.items) row.now }
+        ensures offsets { (f : ℕ) → slice_index self.new.offsets.items f ≡ slice_index self.old.offsets.items f - part_bytes f row.now }
+        ensures items { self.new.items ≡ self.old.items - items_of_row row.now }
+        ensures long { length self.new.offsets.items ≡ length self.old.offsets.items }
+    {
+        match row {
+            Row::Object(values) => take_values(values.as_slice(), &mut self.offsets),
+            Row::List(ordinals) => self.take_items(ordinals.len() as u64),
+            Row::Set(ordinals) => self.take_items(buckets(ordinals.len())),
+            Row::Map(pairs) => self.take_items(buckets(pairs.len())),
+        }
+    }
+
+    /// Takes off the items of a row.
+    fn take_items(&mut self, items: u64)
+        ensures items { self.new.items ≡ self.old.items - items }
+        ensures offsets { self.new.offsets ≡ self.old.offsets }
+    {
+        self.items = self.items.saturating_sub(items);
     }
 }

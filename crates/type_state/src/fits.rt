@@ -1,7 +1,7 @@
 //! Which records the widths of an OBJECT's fields can hold.
 ghost use Rattle.std.specs.Prelude.{◌≡◌, ◌↔◌, ◌+◌, ◌-◌, ◌^◌, ◌≤◌, ℕ, length, slice_index, IsTrue};
 ghost use Rattle.type_state.specs.Holds.{FitsWidth, FitsWidths};
-ghost use Rattle.type_state.specs.Ends.{end_after};
+ghost use Rattle.type_state.specs.Ends.{end_after, end_before};
 
 use crate::count::value_len;
 use bit_array::all_ones;
@@ -62,4 +62,14 @@ pub(crate) fn add_values(
         ends[index] = end;
     }
     true
+}
+
+/// Takes the bytes of each value off the end offset of its field.
+pub(crate) fn take_values(values: &[Value], ends: &mut [u64])
+    requires { length values.now ≤ length ends.old }
+    ensures { (f : ℕ) → slice_index ends.new f ≡ end_before ends.old values.now f }
+{
+    for (index, value) in values.iter().enumerate() {
+        ends[index] = ends[index].saturating_sub(value_len(value));
+    }
 }

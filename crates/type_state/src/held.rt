@@ -1,5 +1,5 @@
 //! Whether a layout holds its rows, and whether they keep the limits.
-ghost use Rattle.std.specs.Prelude.{◌≡◌, ◌≤◌, ℕ, [], IfErr, MatchResult, length, slice_index};
+ghost use Rattle.std.specs.Prelude.{◌≡◌, ◌≤◌, ℕ, [], IfErr, IfOk, MatchResult, length, slice_index};
 ghost use Rattle.std.specs.FinMap.{keys, values};
 ghost use Rattle.ordinal_set.specs.Ordinals.{bound_of};
 ghost use Rattle.schema_model.specs.Parts.{shape_fields};
@@ -8,13 +8,17 @@ ghost use Rattle.type_state.specs.Layout.{width_count};
 ghost use Rattle.type_state.specs.Holds.{HoldsRows};
 ghost use Rattle.type_state.specs.Loads.{IsLoadFault};
 ghost use Rattle.type_state.specs.Moving.{AreLaidOut, AreOfKind, IsHeld, UnlessMemory, layout_at};
+ghost use Rattle.type_state.specs.Totals.{AreTotals};
 
 use crate::RowFault;
+use crate::change::totals_by_change;
 use crate::count::row_len;
 use crate::ends::Ends;
 use crate::load::MOST_ITEMS;
 use crate::moving::Move;
+use crate::outline::Outline;
 use crate::slots::Slots;
+use crate::totals::Totals;
 use crate::words::fixed_words;
 use schema_model::{Limit, MAX_BYTES, MAX_WORDS, Reason, Row, Schema};
 use std::alloc::Global;
@@ -47,19 +51,15 @@ fn lay_out(schema: &Schema, next: &Move, rows: &Slots, ends: &mut Ends) -> Resul
     Ok(bytes)
 }
 
-/// Tests that the layout of a half holds its rows, laid out one behind the other, and that they keep the limits.
-pub(crate) fn test_held(
-    alloc: Global,
-    schema: &Schema,
-    next: &Move,
-    rows: &Slots,
-) -> Result<(), RowFault>
+/// Tests that the layout of a half holds its rows, laid out one behind the other, and that they keep the limits; gives what they add up to.
+fn test_all(alloc: Global, schema: &Schema, next: &Move, rows: &Slots) -> Result<Totals, RowFault>
     requires widths { length next.now.outline.widths ≡ width_count schema.now.shape }
     requires narrow { (part : ℕ) → slice_index next.now.outline.widths part ≤ 64 }
     requires kinds { AreOfKind schema.now.shape (rows_with rows.now.rows next.now.differences) }
     requires apart { AreApart next.now.differences }
     requires bound { next.now.outline.bound ≡ bound_of (keys (rows_with rows.now.rows next.now.differences)) }
     ensures tells { MatchResult result (λ _. IsHeld schema.now.shape (layout_at next.now.outline) (rows_with rows.now.rows next.now.differences)) (UnlessMemory (IsHeld schema.now.shape (layout_at next.now.outline) (rows_with rows.now.rows next.now.differences) → ⊥)) }
+    ensures totals { IfOk result (AreTotals (values (rows_with rows.now.rows next.now.differences))) }
     ensures kind { IfErr result IsLoadFault }
 {
     let mut ends = Ends::new(alloc, &schema.shape)?;
@@ -76,5 +76,33 @@ pub(crate) fn test_held(
     if bytes > MAX_BYTES {
         return Err(RowFault::Limit(Limit::Bytes));
     }
-    Ok(())
+    Ok(Totals { ends, bytes })
+}
+
+/// The same, where the current rows are laid out and add up to these totals: all rows are walked only where it is not told by those that come and
+/// go.
+pub(crate) fn test_held(
+    alloc: Global,
+    schema: &Schema,
+    current: &Outline,
+    totals: &Totals,
+    next: &Move,
+    rows: &Slots,
+) -> Result<Totals, RowFault>
+    requires widths { length next.now.outline.widths ≡ width_count schema.now.shape }
+    requires narrow { (part : ℕ) → slice_index next.now.outline.widths part ≤ 64 }
+    requires before { AreOfKind schema.now.shape rows.now.rows }
+    requires kinds { AreOfKind schema.now.shape (rows_with rows.now.rows next.now.differences) }
+    requires apart { AreApart next.now.differences }
+    requires bound { next.now.outline.bound ≡ bound_of (keys (rows_with rows.now.rows next.now.differences)) }
+    requires totals { AreTotals (values rows.now.rows) totals.now }
+    requires held { HoldsRows schema.now.shape current.now.widths [] (values rows.now.rows) }
+    ensures tells { MatchResult result (λ _. IsHeld schema.now.shape (layout_at next.now.outline) (rows_with rows.now.rows next.now.differences)) (UnlessMemory (IsHeld schema.now.shape (layout_at next.now.outline) (rows_with rows.now.rows next.now.differences) → ⊥)) }
+    ensures totals { IfOk result (AreTotals (values (rows_with rows.now.rows next.now.differences))) }
+    ensures kind { IfErr result IsLoadFault }
+{
+    match totals_by_change(alloc, schema, current, totals, next, rows)? {
+        Some(sums) => Ok(sums),
+        None => test_all(alloc, schema, next, rows),
+    }
 }

@@ -2,6 +2,7 @@
 #![tactic(auto)]
 
 mod added;
+mod change;
 mod count;
 mod differences;
 mod ends;
@@ -22,6 +23,7 @@ mod section;
 mod slots;
 mod state;
 mod states;
+mod totals;
 mod views;
 mod words;
 

@@ -4,13 +4,16 @@ ghost use Rattle.std.specs.FinMap.{entries, values};
 ghost use Rattle.std.specs.List.Sorted.{IsStrictlyIncreasing};
 ghost use Rattle.schema_model.specs.Parts.{shape_fields};
 ghost use Rattle.type_state.specs.Layout.{places_of, item_count};
+ghost use Rattle.type_state.specs.Totals.{AreTotals};
 ghost use Rattle.type_state.specs.WellFormed.{IsReadable};
+ghost use Rattle.type_state.specs.WordsHeld.{bytes_held, field_bytes};
 ghost use Rattle.type_state.specs.Loads.{IsLoadFault, Loads, RefusesLoad, TellsRow, AreRead, RefusesRows, layout_of};
 
 use crate::count::row_len;
 use crate::ends::Ends;
 use crate::kept::Kept;
 use crate::place::{buckets_at, read_place};
+use crate::totals::Totals;
 use crate::words::{fixed_words, places};
 use crate::{RowFault, Section};
 use hol_varint::Duplicate;
@@ -22,6 +25,13 @@ use std::alloc::Global;
 ///
 /// Elements of no bits take no words, and a run may stand at many places, so a short blob can have any number of both.
 pub(crate) const MOST_ITEMS: u64 = 64 * MAX_WORDS;
+
+/// The rows of a section, and what they add up to.
+#[derive(Debug, Drop)]
+pub(crate) struct Loaded {
+    pub(crate) half: Kept,
+    pub(crate) totals: Totals,
+}
 
 /// The row at the place of an ordinal.
 fn read_row(
@@ -50,14 +60,14 @@ fn read_row(
     }
 }
 
-/// The rows at the places of the listed ordinals, each read once, with their bytes counted as they come; the ends are at 0.
+/// The rows at the places of the listed ordinals, each read once, and their bytes, counted as they come; the ends are at 0.
 fn read_listed(
     alloc: Global,
     schema: &Schema,
     section: &Section,
     live: &[u32],
     ends: &mut Ends,
-) -> Result<Kept, RowFault>
+) -> Result<(Kept, u64), RowFault>
     requires readable { IsReadable schema.now.shape section.now }
     requires places { All (λ ordinal. ordinal < places_of section.now.max) section.now.live }
     requires live { live.now ≡ section.now.live }
@@ -65,9 +75,11 @@ fn read_listed(
     requires zero { (f : ℕ) → slice_index ends.old.offsets.items f ≡ 0 }
     requires long { length ends.old.offsets.items ≡ length (shape_fields schema.now.shape) }
     requires none { ends.old.items ≡ 0 }
-    ensures read { MatchResult result (λ half. AreRead schema.now.shape section.now (entries half.rows)) (RefusesRows schema.now.shape section.now) }
-    ensures items { IfOk result (λ half. ends.new.items ≡ item_count (values half.rows)) }
-    ensures layout { IfOk result (λ half. half.layout ≡ layout_of section.now) }
+    ensures read { MatchResult result (λ read. AreRead schema.now.shape section.now (entries read.0.rows)) (RefusesRows schema.now.shape section.now) }
+    ensures items { IfOk result (λ read. ends.new.items ≡ item_count (values read.0.rows)) }
+    ensures reached { IfOk result (λ read. (f : ℕ) → slice_index ends.new.offsets.items f ≡ field_bytes f (values read.0.rows)) }
+    ensures bytes { IfOk result (λ read. read.1 ≡ bytes_held (values read.0.rows)) }
+    ensures layout { IfOk result (λ read. read.0.layout ≡ layout_of section.now) }
     ensures kind { IfErr result IsLoadFault }
 {
     let widths = section.widths.as_slice();
@@ -92,14 +104,15 @@ fn read_listed(
         }
         half.push(*ordinal, row)?;
     }
-    Ok(half)
+    Ok((half, bytes))
 }
 
-/// The rows of a section, with its layout.
-pub(crate) fn load(alloc: Global, schema: &Schema, section: &Section) -> Result<Kept, RowFault>
+/// The rows of a section, with its layout and what they add up to.
+pub(crate) fn load(alloc: Global, schema: &Schema, section: &Section) -> Result<Loaded, RowFault>
     requires { IsReadable schema.now.shape section.now }
-    ensures tells { MatchResult result (λ half. Loads schema.now.shape section.now half.rows) (RefusesLoad schema.now.shape section.now) }
-    ensures layout { IfOk result (λ half. half.layout ≡ layout_of section.now) }
+    ensures tells { MatchResult result (λ loaded. Loads schema.now.shape section.now loaded.half.rows) (RefusesLoad schema.now.shape section.now) }
+    ensures layout { IfOk result (λ loaded. loaded.half.layout ≡ layout_of section.now) }
+    ensures totals { IfOk result (λ loaded. AreTotals (values loaded.half.rows) loaded.totals) }
     ensures kind { IfErr result IsLoadFault }
 {
     let places = places(section.max) as u32;
@@ -110,20 +123,22 @@ pub(crate) fn load(alloc: Global, schema: &Schema, section: &Section) -> Result<
 }
 
 /// The same, where no live ordinal is above the max ordinal.
-fn load_live(alloc: Global, schema: &Schema, section: &Section) -> Result<Kept, RowFault>
+fn load_live(alloc: Global, schema: &Schema, section: &Section) -> Result<Loaded, RowFault>
     requires readable { IsReadable schema.now.shape section.now }
     requires places { All (λ ordinal. ordinal < places_of section.now.max) section.now.live }
-    ensures tells { MatchResult result (λ half. Loads schema.now.shape section.now half.rows) (RefusesLoad schema.now.shape section.now) }
-    ensures layout { IfOk result (λ half. half.layout ≡ layout_of section.now) }
+    ensures tells { MatchResult result (λ loaded. Loads schema.now.shape section.now loaded.half.rows) (RefusesLoad schema.now.shape section.now) }
+    ensures layout { IfOk result (λ loaded. loaded.half.layout ≡ layout_of section.now) }
+    ensures totals { IfOk result (λ loaded. AreTotals (values loaded.half.rows) loaded.totals) }
     ensures kind { IfErr result IsLoadFault }
 {
     let ordinals = section.live.ordinals(alloc)?;
     let mut ends = Ends::new(alloc, &schema.shape)?;
-    let half = read_listed(alloc, schema, section, ordinals.as_slice(), &mut ends)?;
+    let (half, bytes) = read_listed(alloc, schema, section, ordinals.as_slice(), &mut ends)?;
     let widths = section.widths.as_slice();
     let words = fixed_words(&schema.shape, section.max, widths, ends.items);
     if words > u128::from(MAX_WORDS) {
         return Err(RowFault::Limit(Limit::Words));
     }
-    Ok(half)
+    let totals = Totals { ends, bytes };
+    Ok(Loaded { half, totals })
 }

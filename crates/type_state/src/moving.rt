@@ -1,11 +1,13 @@
 //! From the current rows of a type and a patch to its next rows.
-ghost use Rattle.std.specs.Prelude.{◌≡◌, ◌<◌, ◌≤◌, ◌-◌, ◌^◌, ℕ, List, None, IsSome, All, IfErr, IfOk, MatchResult, map};
-ghost use Rattle.std.specs.FinMap.{get, keys};
+ghost use Rattle.std.specs.Prelude.{◌≡◌, ◌<◌, ◌≤◌, ◌-◌, ◌^◌, ℕ, List, [], None, IsSome, All, IfErr, IfOk, MatchResult, map};
+ghost use Rattle.std.specs.FinMap.{get, keys, values};
 ghost use Rattle.ordinal_set.specs.Ordinals.{bound_of};
 ghost use Rattle.type_state.specs.Differences.{AreApart, AreBelow, removal, rows_with};
+ghost use Rattle.type_state.specs.Holds.{HoldsRows};
 ghost use Rattle.type_state.specs.Loads.{IsLoadFault};
 ghost use Rattle.type_state.specs.Patches.{IsMovedBy, IsReadablePatch, RefusesMove, patch_layout};
 ghost use Rattle.type_state.specs.Moving.{AreOfKind, IsDifferent, IsMoved, IsWithin, layout_at};
+ghost use Rattle.type_state.specs.Totals.{AreTotals};
 
 use crate::added::read_added;
 use crate::differences::{Difference, Differences};
@@ -13,6 +15,7 @@ use crate::held::test_held;
 use crate::ordinals::{test_added, test_removed};
 use crate::outline::Outline;
 use crate::slots::Slots;
+use crate::totals::Totals;
 use crate::words::places;
 use crate::{PatchSection, RowFault};
 use hol_varint::Duplicate;
@@ -24,6 +27,13 @@ use std::alloc::{AllocError, Global};
 pub(crate) struct Move {
     pub(crate) outline: Outline,
     pub(crate) differences: Differences,
+}
+
+/// A move whose layout holds the new rows, and what these add up to.
+#[derive(Debug, Drop)]
+pub(crate) struct CountedMove {
+    pub(crate) next: Move,
+    pub(crate) totals: Totals,
 }
 
 /// Under each of some ordinals no row.
@@ -125,26 +135,31 @@ fn differing(
     })
 }
 
-/// The rows that a patch moves others to, at its layout, which holds them within the limits; these have the bound.
+/// The rows that a patch moves others to, at its layout, which holds them within the limits, with what they add up to. The others have this
+/// outline and these totals.
 pub(crate) fn moved(
     alloc: Global,
     schema: &Schema,
-    bound: u32,
+    current: &Outline,
+    totals: &Totals,
     rows: &Slots,
     patch: &PatchSection,
-) -> Result<Move, RowFault>
+) -> Result<CountedMove, RowFault>
     requires readable { IsReadablePatch schema.now.shape patch.now }
-    requires bound { bound ≡ bound_of (keys rows.now.rows) }
+    requires bound { current.now.bound ≡ bound_of (keys rows.now.rows) }
     requires kinds { AreOfKind schema.now.shape rows.now.rows }
-    ensures tells { MatchResult result (λ next. IsMovedBy schema.now.shape patch.now rows.now.rows (rows_with rows.now.rows next.differences)) (RefusesMove schema.now.shape patch.now rows.now.rows) }
-    ensures kinds { IfOk result (λ next. AreOfKind schema.now.shape (rows_with rows.now.rows next.differences)) }
-    ensures layout { IfOk result (λ next. layout_at next.outline ≡ patch_layout patch.now) }
-    ensures bound { IfOk result (λ next. next.outline.bound ≡ bound_of (keys (rows_with rows.now.rows next.differences))) }
-    ensures apart { IfOk result (λ next. AreApart next.differences) }
-    ensures within { IfOk result (IsWithin bound) }
+    requires totals { AreTotals (values rows.now.rows) totals.now }
+    requires held { HoldsRows schema.now.shape current.now.widths [] (values rows.now.rows) }
+    ensures tells { MatchResult result (λ moved. IsMovedBy schema.now.shape patch.now rows.now.rows (rows_with rows.now.rows moved.next.differences)) (RefusesMove schema.now.shape patch.now rows.now.rows) }
+    ensures kinds { IfOk result (λ moved. AreOfKind schema.now.shape (rows_with rows.now.rows moved.next.differences)) }
+    ensures layout { IfOk result (λ moved. layout_at moved.next.outline ≡ patch_layout patch.now) }
+    ensures bound { IfOk result (λ moved. moved.next.outline.bound ≡ bound_of (keys (rows_with rows.now.rows moved.next.differences))) }
+    ensures apart { IfOk result (λ moved. AreApart moved.next.differences) }
+    ensures within { IfOk result (λ moved. IsWithin current.now.bound moved.next) }
+    ensures totals { IfOk result (λ moved. AreTotals (values (rows_with rows.now.rows moved.next.differences)) moved.totals) }
     ensures kind { IfErr result IsLoadFault }
 {
-    let next = differing(alloc, schema, bound, rows, patch)?;
-    test_held(alloc, schema, &next, rows)?;
-    Ok(next)
+    let next = differing(alloc, schema, current.bound, rows, patch)?;
+    let totals = test_held(alloc, schema, current, totals, &next, rows)?;
+    Ok(CountedMove { next, totals })
 }

@@ -15,11 +15,12 @@ ghost use Rattle.type_state.specs.Patches.{IsMovedBy, IsReadablePatch, TellsMove
 
 use crate::differences::Others;
 use crate::kept::Kept;
-use crate::load::load;
+use crate::load::{Loaded, load};
 use crate::lookup::{at, has};
-use crate::moving::{Move, moved};
+use crate::moving::{CountedMove, Move, moved};
 use crate::outline::Outline;
 use crate::slots::Slots;
+use crate::totals::Totals;
 use crate::{PatchSection, RowFault, Section};
 use hol_varint::Duplicate;
 use schema_model::{LentRow, Row, Schema, Widths};
@@ -36,8 +37,10 @@ pub struct TypeState {
     schema: Schema,
     rows: Slots,
     current: Outline,
+    totals: Totals,
     others: Others,
     other: Outline,
+    other_totals: Totals,
 }
 
 impl Model for TypeState {
@@ -51,7 +54,7 @@ impl Model for TypeState {
 
     ghost view = { λ s. record { schema = s.schema; current = half_of s.current s.rows.rows; other = half_of s.other (other_rows s.rows.rows s.others) } };
 
-    ghost invariant = { λ s. IsKept s.schema.shape s.rows s.current s.others s.other };
+    ghost invariant = { λ s. IsKept s.schema.shape s.rows s.current s.totals s.others s.other s.other_totals };
 }
 
 impl TypeState {
@@ -64,8 +67,10 @@ impl TypeState {
             schema,
             rows: Slots::new(alloc),
             current: Outline::new(None, Widths::new(alloc)),
+            totals: Totals::new(alloc),
             others: Others::Whole(Slots::new(alloc)),
             other: Outline::new(None, Widths::new(alloc)),
+            other_totals: Totals::new(alloc),
         }
     }
 
@@ -94,10 +99,12 @@ impl TypeState {
         ensures schema { self.new.schema ≡ self.old.schema }
         ensures current { self.new.current ≡ self.old.current }
     {
-        let next = load(self.alloc, &self.schema, section)?;
-        let Kept { outline, rows } = next;
+        let loaded = load(self.alloc, &self.schema, section)?;
+        let Loaded { half, totals } = loaded;
+        let Kept { outline, rows } = half;
         self.others = Others::Whole(rows);
         self.other = outline;
+        self.other_totals = totals;
         Ok(())
     }
 
@@ -120,7 +127,15 @@ impl TypeState {
         ensures current { self.new.current ≡ self.old.current }
     {
         let bound = self.current.bound;
-        let next = moved(self.alloc, &self.schema, bound, &self.rows, patch)?;
+        let counted = moved(
+            self.alloc,
+            &self.schema,
+            &self.current,
+            &self.totals,
+            &self.rows,
+            patch,
+        )?;
+        let CountedMove { next, totals } = counted;
         let Move {
             outline,
             differences,
@@ -128,6 +143,7 @@ impl TypeState {
         self.rows.grow(bound.max(outline.bound) as usize)?;
         self.others = Others::Differ(differences);
         self.other = outline;
+        self.other_totals = totals;
         Ok(())
     }
 
@@ -137,6 +153,7 @@ impl TypeState {
     {
         self.others = Others::Whole(Slots::new(self.alloc));
         self.other = Outline::new(None, Widths::new(self.alloc));
+        self.other_totals = Totals::new(self.alloc);
     }
 
     /// Makes the next half the current one, and the current one that of the state before. It takes no memory.
@@ -146,6 +163,7 @@ impl TypeState {
     {
         self.others.exchange(&mut self.rows);
         mem::swap(&mut self.current, &mut self.other);
+        mem::swap(&mut self.totals, &mut self.other_totals);
     }
 
     /// The greatest ordinal that has a place in the layout of the current state, none where there is no place.

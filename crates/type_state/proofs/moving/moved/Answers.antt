@@ -17,15 +17,15 @@ test_held-requires-clause-narrow c = λ part.
 pub test_held-requires-clause-kinds : goal.test_held-requires-clause-kinds
 test_held-requires-clause-kinds c = moved_kinds c.args.schema.now.shape c.args.patch.now c.args.rows.now.rows (rows_with c.args.rows.now.rows c.in_ok-next.next.differences) c.requires.readable c.in_ok-next.ensures.tells c.requires.kinds
 
-pub returns-in_err-test_held-clause-tells : goal.returns-in_err-test_held-clause-tells
-returns-in_err-test_held-clause-tells c =
-    let told : RefusesMove c.args.schema.now.shape c.args.patch.now c.args.rows.now.rows c.in_err-test_held.field-0.0 =
-    refuses_held c.args.schema.now.shape c.args.patch.now c.args.rows.now.rows (rows_with c.args.rows.now.rows c.in_ok-next.next.differences) (layout_at c.in_ok-next.next.outline) c.in_err-test_held.field-0.0 c.in_ok-next.ensures.layout c.in_ok-next.ensures.tells c.in_err-test_held.ensures.tells in
+pub returns-in_err-totals-clause-tells : goal.returns-in_err-totals-clause-tells
+returns-in_err-totals-clause-tells c =
+    let told : RefusesMove c.args.schema.now.shape c.args.patch.now c.args.rows.now.rows c.in_err-totals.field-0.0 =
+    refuses_held c.args.schema.now.shape c.args.patch.now c.args.rows.now.rows (rows_with c.args.rows.now.rows c.in_ok-next.next.differences) (layout_at c.in_ok-next.next.outline) c.in_err-totals.field-0.0 c.in_ok-next.ensures.layout c.in_ok-next.ensures.tells c.in_err-totals.ensures.tells in
     search rules
 
 pub returns-clause-tells : goal.returns-clause-tells
 returns-clause-tells c =
-    moved_by c.args.schema.now.shape c.args.patch.now c.args.rows.now.rows (rows_with c.args.rows.now.rows c.in_ok-next.next.differences) (layout_at c.in_ok-next.next.outline) c.in_ok-next.ensures.layout c.in_ok-next.ensures.tells c.in_ok-test_held.ensures.tells
+    moved_by c.args.schema.now.shape c.args.patch.now c.args.rows.now.rows (rows_with c.args.rows.now.rows c.in_ok-next.next.differences) (layout_at c.in_ok-next.next.outline) c.in_ok-next.ensures.layout c.in_ok-next.ensures.tells c.in_ok-totals.ensures.tells
 
 pub returns-clause-kinds : goal.returns-clause-kinds
 returns-clause-kinds c = moved_kinds c.args.schema.now.shape c.args.patch.now c.args.rows.now.rows (rows_with c.args.rows.now.rows c.in_ok-next.next.differences) c.requires.readable c.in_ok-next.ensures.tells c.requires.kinds

@@ -1,0 +1,155 @@
+-- Which rows fit where another fits, at widths that are no narrower than those that they fit.
+use Rattle.std.proofs.Common.{◌≡◌, ℕ, zero, suc, ◌^◌, ◌<◌, ◌≤◌, inl, inr, List, [], ◌∷◌, ◌++◌, length, get_or, Some, refl, sym, subst, ◌∙◌, append_assoc, arith}
+use Rattle.std.specs.Prelude.{slice_index, sum_by}
+use Rattle.std.specs.Ordering.{nat_cmp}
+use Rattle.std.specs.FinMap.{find}
+use Rattle.std.specs.Map.{values_of}
+use Rattle.std.proofs.Math.Pow.{pow_mono}
+use Rattle.std.proofs.lemmas.Bool.{cases_eq, cases_lt}
+use Rattle.std.proofs.lemmas.List.Sums.{sum_by-append, sum_by-cons, sum_by_push}
+use Rattle.std.proofs.lemmas.Option.{slice_get-get_or, slice_get_within}
+use Rattle.schema_model.specs.declared.schema.FieldKind.{FieldKind}
+use Rattle.schema_model.specs.declared.schema.Shape.{Shape}
+use Rattle.schema_model.specs.declared.rows.row.Value.{Value}
+use Rattle.schema_model.specs.declared.rows.row.Row.{Row}
+use Rattle.type_state.specs.Ends.{IsOfKind}
+use Rattle.type_state.specs.Holds.{FitsRow, FitsWidth, HoldsRows, IsBelowOnes}
+use Rattle.type_state.specs.Layout.{item_count, items_of_row}
+use Rattle.type_state.specs.WordsHeld.{field_bytes, part_bytes}
+use Rattle.type_state.specs.Totals.{FitsSomewhere, IsNoNarrower}
+use Rattle.type_state.proofs.Lookups.{found, skipped}
+
+abbrev Entry : Type 0
+Entry = ℕ × Row
+
+below_more_ones : (old new number : ℕ) → old ≤ new → IsBelowOnes old number → IsBelowOnes new number
+below_more_ones old new number le h = let top : 2 ^ old ≤ 2 ^ new = pow_mono {i = old} {j = new} le in omega arith
+
+below_more : (old new number : ℕ) → old ≤ new → number < 2 ^ old → number < 2 ^ new
+below_more old new number le h = let top : 2 ^ old ≤ 2 ^ new = pow_mono {i = old} {j = new} le in omega arith
+
+two_bits : (width end : ℕ) (value : Value) → FitsWidth FieldKind.Boolean width end value → width ≡ 2
+two_bits width end Value.Null h = h
+two_bits width end (Value.Bool flag) h = h
+two_bits width end _ h = absurd h
+
+-- A value fits a width that is no narrower, at an offset at which another value of the field fits.
+widened : (kind : FieldKind) (old new end top : ℕ) (value other : Value) → old ≤ new → FitsWidth kind old end value → FitsWidth kind new top other → FitsWidth kind new top value
+widened FieldKind.Text old new end top value other le was last = last
+widened FieldKind.Bytes old new end top value other le was last = last
+widened (FieldKind.Reference name) old new end top Value.Null other le was last = tt
+widened (FieldKind.Reference name) old new end top (Value.Ref o) other le was last = below_more_ones old new o le was
+widened (FieldKind.Reference name) old new end top _ other le was last = absurd was
+widened FieldKind.Int old new end top Value.Null other le was last = tt
+widened FieldKind.Int old new end top (Value.Int n) other le was last = below_more_ones old new _ le was
+widened FieldKind.Int old new end top _ other le was last = absurd was
+widened FieldKind.Long old new end top Value.Null other le was last = tt
+widened FieldKind.Long old new end top (Value.Long n) other le was last = below_more_ones old new _ le was
+widened FieldKind.Long old new end top _ other le was last = absurd was
+widened FieldKind.Boolean old new end top Value.Null other le was last = two_bits new top other last
+widened FieldKind.Boolean old new end top (Value.Bool flag) other le was last = two_bits new top other last
+widened FieldKind.Boolean old new end top _ other le was last = absurd was
+
+-- The same of rows.
+pub fits_beside : (shape : Shape) (old new : List ℕ) (ends tops : ℕ → ℕ) (items top : ℕ) (row last : Row) → IsOfKind shape last → IsNoNarrower old new → FitsRow shape old ends items row → FitsRow shape new tops top last → FitsRow shape new tops top row
+fits_beside (Shape.Object key fields) old new ends tops items top (Row.Object values) (Row.Object others) kind le was last =
+    λ f field value gf gv.
+    let inside = slice_get_within fields f field gf in
+    let there = slice_get-get_or others f Value.Null (omega (arith, kind, inside)) in
+    widened field.kind (slice_index old f) (slice_index new f) (ends f) (tops f) value (get_or others f Value.Null) (le f) (was f field value gf gv) (last f field (get_or others f Value.Null) gf there)
+fits_beside (Shape.Object key fields) old new ends tops items top (Row.Object values) _ kind le was last = absurd kind
+fits_beside (Shape.Object key fields) old new ends tops items top _ other kind le was last = absurd was
+fits_beside (Shape.List element) old new ends tops items top (Row.List ordinals) (Row.List others) kind le was last =
+    record { pointer = last.pointer; elements = λ k d inside. below_more (slice_index old 1) (slice_index new 1) (get_or ordinals k d) (le 1) (was.elements k d inside) }
+fits_beside (Shape.List element) old new ends tops items top (Row.List ordinals) _ kind le was last = absurd kind
+fits_beside (Shape.List element) old new ends tops items top _ other kind le was last = absurd was
+fits_beside (Shape.Set element) old new ends tops items top (Row.Set ordinals) (Row.Set others) kind le was last = record {
+  pointer = last.pointer;
+  size = below_more (slice_index old 1) (slice_index new 1) (length ordinals) (le 1) was.size;
+  elements = λ k d inside. below_more_ones (slice_index old 2) (slice_index new 2) (get_or ordinals k d) (le 2) (was.elements k d inside);
+}
+fits_beside (Shape.Set element) old new ends tops items top (Row.Set ordinals) _ kind le was last = absurd kind
+fits_beside (Shape.Set element) old new ends tops items top _ other kind le was last = absurd was
+fits_beside (Shape.Map key value) old new ends tops items top (Row.Map pairs) (Row.Map others) kind le was last = record {
+  pointer = last.pointer;
+  size = below_more (slice_index old 1) (slice_index new 1) (length pairs) (le 1) was.size;
+  parts = λ k d inside.
+      (let parts = was.parts k d inside in
+      (below_more_ones (slice_index old 2) (slice_index new 2) (get_or pairs k d).0 (le 2) parts.0, below_more (slice_index old 3) (slice_index new 3) (get_or pairs k d).1 (le 3) parts.1));
+}
+fits_beside (Shape.Map key value) old new ends tops items top (Row.Map pairs) _ kind le was last = absurd kind
+fits_beside (Shape.Map key value) old new ends tops items top _ other kind le was last = absurd was
+
+-- ---- rows that end before
+
+earlier : (kind : FieldKind) (width end top : ℕ) (value : Value) → end ≤ top → FitsWidth kind width top value → FitsWidth kind width end value
+earlier FieldKind.Text width end top value le h = omega arith
+earlier FieldKind.Bytes width end top value le h = omega arith
+earlier (FieldKind.Reference name) width end top Value.Null le h = tt
+earlier (FieldKind.Reference name) width end top (Value.Ref o) le h = h
+earlier (FieldKind.Reference name) width end top _ le h = absurd h
+earlier FieldKind.Int width end top Value.Null le h = tt
+earlier FieldKind.Int width end top (Value.Int n) le h = h
+earlier FieldKind.Int width end top _ le h = absurd h
+earlier FieldKind.Long width end top Value.Null le h = tt
+earlier FieldKind.Long width end top (Value.Long n) le h = h
+earlier FieldKind.Long width end top _ le h = absurd h
+earlier FieldKind.Boolean width end top Value.Null le h = h
+earlier FieldKind.Boolean width end top (Value.Bool flag) le h = h
+earlier FieldKind.Boolean width end top _ le h = absurd h
+
+-- A row that fits fits where it ends before.
+fits_before : (shape : Shape) (widths : List ℕ) (ends tops : ℕ → ℕ) (items top : ℕ) (row : Row) → ((f : ℕ) → ends f ≤ tops f) → items ≤ top → FitsRow shape widths tops top row → FitsRow shape widths ends items row
+fits_before (Shape.Object key fields) widths ends tops items top (Row.Object values) le few h = λ f field value gf gv. earlier field.kind (slice_index widths f) (ends f) (tops f) value (le f) (h f field value gf gv)
+fits_before (Shape.Object key fields) widths ends tops items top _ le few h = absurd h
+fits_before (Shape.List element) widths ends tops items top (Row.List ordinals) le few h = record { pointer = omega (arith, h.pointer); elements = h.elements }
+fits_before (Shape.List element) widths ends tops items top _ le few h = absurd h
+fits_before (Shape.Set element) widths ends tops items top (Row.Set ordinals) le few h = record { pointer = omega (arith, h.pointer); size = h.size; elements = h.elements }
+fits_before (Shape.Set element) widths ends tops items top _ le few h = absurd h
+fits_before (Shape.Map key value) widths ends tops items top (Row.Map pairs) le few h = record { pointer = omega (arith, h.pointer); size = h.size; parts = h.parts }
+fits_before (Shape.Map key value) widths ends tops items top _ le few h = absurd h
+
+-- The rows in front take no more than all.
+front : (measure : Row → ℕ) (before : List Row) (row : Row) (rest : List Row) → sum_by measure (before ++ row ∷ []) ≤ sum_by measure (before ++ row ∷ rest)
+front measure before row rest =
+    let one = sum_by_push measure before row in
+    let all = sum_by-append measure before (row ∷ rest) in
+    let first = sum_by-cons measure row rest in
+    omega (arith, one, all, first)
+
+-- Rows that all fit where the last one ends are held.
+pub all_held : (shape : Shape) (widths : List ℕ) (tops : ℕ → ℕ) (top : ℕ) (before : List Row) (es : List Entry) → ((k : ℕ) (d : Entry) → k < length es → FitsRow shape widths tops top (get_or es k d).1)
+    → ((f : ℕ) → field_bytes f (before ++ values_of es) ≤ tops f) → item_count (before ++ values_of es) ≤ top → HoldsRows shape widths before (values_of es)
+all_held shape widths tops top before [] fits ends items = tt
+all_held shape widths tops top before (e ∷ es) fits ends items =
+    let rest = values_of es in
+    let shift : (before ++ e.1 ∷ []) ++ rest ≡ before ++ e.1 ∷ rest = append_assoc before (e.1 ∷ []) rest in (
+      fits_before shape widths (λ f. field_bytes f (before ++ e.1 ∷ [])) tops (item_count (before ++ e.1 ∷ [])) top e.1
+          (λ f. let low = front (part_bytes f) before e.1 rest in let high = ends f in omega (arith, low, high)) (let low = front items_of_row before e.1 rest in omega (arith, low, items)) (fits 0 e (omega arith)),
+      all_held shape widths tops top (before ++ e.1 ∷ []) es (λ k d inside. fits (suc k) d (omega arith))
+          (λ f. subst (λ (rows : List Row). field_bytes f rows ≤ tops f) (sym shift) (ends f)) (subst (λ (rows : List Row). item_count rows ≤ top) (sym shift) items),
+    )
+
+-- Each row that is held fits somewhere.
+pub held_found : (shape : Shape) (widths : List ℕ) (before : List Row) (es : List Entry) (o : ℕ) (row : Row) → find nat_cmp o es ≡ Some row → HoldsRows shape widths before (values_of es) → FitsSomewhere shape widths row
+held_found shape widths before [] o row at h = absurd cc
+held_found shape widths before (e ∷ es) o row at h = elim (cases_eq o e.0) [
+  | inl same ↦
+      let is : Some e.1 ≡ Some row = sym (found o e es same) ∙ at in
+      let value : e.1 ≡ row = cc in
+      subst (FitsSomewhere shape widths) value record { ends = λ f. field_bytes f (before ++ e.1 ∷ []); items = item_count (before ++ e.1 ∷ []); fits = h.0 }
+  | inr other ↦ held_found shape widths (before ++ e.1 ∷ []) es o row (sym (skipped o e es other) ∙ at) h.1
+]
+
+-- ---- widths that are compared
+
+past : (numbers : List ℕ) (k : ℕ) → length numbers ≤ k → get_or numbers k 0 ≡ 0
+past [] k over = refl
+past (n ∷ numbers) zero over = absurd (omega arith)
+past (n ∷ numbers) (suc k) over = past numbers k (omega arith)
+
+pub all_compared : (before widths : List ℕ) (index : ℕ) → ((k : ℕ) → k < index → get_or before k 0 ≤ get_or widths k 0) → length before ≤ index → IsNoNarrower before widths
+all_compared before widths index below over = λ part. elim (cases_lt part index) [
+  | inl lt ↦ below part lt
+  | inr le ↦ (let none = past before part (omega arith) in omega (arith, none))
+]

@@ -1,0 +1,112 @@
+//! What the rows that others are moved to add up to, where that is told by the rows that come and go.
+ghost use Rattle.std.specs.Prelude.{◌≡◌, ◌+◌, ◌-◌, ◌<◌, ◌≤◌, ℕ, [], IfOk, IfSome, IsTrue, Some, length, slice_index};
+ghost use Rattle.std.specs.FinMap.{get, keys, values};
+ghost use Rattle.ordinal_set.specs.Ordinals.{bound_of};
+ghost use Rattle.schema_model.specs.declared.rows.row.Row.{Row as StoredRow};
+ghost use Rattle.schema_model.specs.Parts.{shape_fields};
+ghost use Rattle.schema_model.specs.Table.{RowMap};
+ghost use Rattle.type_state.specs.Differences.{AreApart, rows_with};
+ghost use Rattle.type_state.specs.Ends.{IsOfKind};
+ghost use Rattle.type_state.specs.Holds.{HoldsRows};
+ghost use Rattle.type_state.specs.Layout.{width_count};
+ghost use Rattle.type_state.specs.Moving.{AreOfKind, IsHeld, layout_at};
+ghost use Rattle.type_state.specs.Totals.{AreTotals, ComeFitting, HoldsLast, IsNoNarrower};
+
+use crate::load::MOST_ITEMS;
+use crate::moving::Move;
+use crate::outline::Outline;
+use crate::slots::Slots;
+use crate::totals::Totals;
+use crate::words::fixed_words;
+use schema_model::{MAX_WORDS, Row, Schema, Shape};
+use std::alloc::{AllocError, Global};
+
+/// Whether there are as many widths as before, and none is narrower.
+fn are_no_narrower(before: &[u32], widths: &[u32]) -> bool
+    ensures { IsTrue result → IsNoNarrower before.now widths.now }
+{
+    if before.len() != widths.len() {
+        return false;
+    }
+    for (part, width) in before.iter().enumerate() {
+        if *width > widths[part] {
+            return false;
+        }
+    }
+    true
+}
+
+/// Counts the rows that come and go, and tells whether each part of those that come fits its width and the bytes keep the limit.
+fn count_change(totals: &mut Totals, shape: &Shape, next: &Move, rows: &Slots) -> bool
+    requires widths { length next.now.outline.widths ≡ width_count shape.now }
+    requires narrow { (part : ℕ) → slice_index next.now.outline.widths part ≤ 64 }
+    requires long { length totals.old.ends.offsets.items ≡ length (shape_fields shape.now) }
+    requires before { AreOfKind shape.now rows.now.rows }
+    requires kinds { AreOfKind shape.now (rows_with rows.now.rows next.now.differences) }
+    requires apart { AreApart next.now.differences }
+    requires totals { AreTotals (values rows.now.rows) totals.old }
+    ensures totals { IsTrue result → AreTotals (values (rows_with rows.now.rows next.now.differences)) totals.new }
+    ensures fits { IsTrue result → ComeFitting shape.now next.now.outline.widths next.now.differences }
+    ensures long { IsTrue result → length totals.new.ends.offsets.items ≡ length (shape_fields shape.now) }
+{
+    let widths = next.outline.widths.as_slice();
+    if !totals.exchange(shape, widths, rows, next.differences.removed.as_slice()) {
+        return false;
+    }
+    totals.exchange(shape, widths, rows, next.differences.added.as_slice())
+}
+
+/// Lays out the last row again, behind all the others, and tells whether each part of it fits its width there and the limits are kept.
+fn holds_last(totals: &mut Totals, shape: &Shape, outline: &Outline, last: &Row) -> bool
+    requires widths { length outline.now.widths ≡ width_count shape.now }
+    requires narrow { (part : ℕ) → slice_index outline.now.widths part ≤ 64 }
+    requires long { length totals.old.ends.offsets.items ≡ length (shape_fields shape.now) }
+    requires kind { IsOfKind shape.now last.now }
+    ensures { IsTrue result → HoldsLast shape.now (layout_at outline.now) last.now totals.old totals.new }
+{
+    let widths = outline.widths.as_slice();
+    totals.take_off(last);
+    if !totals.add(shape, widths, last) {
+        return false;
+    }
+    let items = totals.ends.items;
+    items <= MOST_ITEMS && fixed_words(shape, outline.max, widths, items) <= u128::from(MAX_WORDS)
+}
+
+/// What the rows that others are moved to add up to, where no width is narrower than before and it is told by the rows that come and the last one
+/// that the layout holds them within the limits. None tells nothing.
+///
+/// The last row shows that the end offsets and the pointers fit, which are greatest there; of a row that stays, all else fits as it did.
+pub(crate) fn totals_by_change(
+    alloc: Global,
+    schema: &Schema,
+    current: &Outline,
+    totals: &Totals,
+    next: &Move,
+    rows: &Slots,
+) -> Result<Option<Totals>, AllocError>
+    requires widths { length next.now.outline.widths ≡ width_count schema.now.shape }
+    requires narrow { (part : ℕ) → slice_index next.now.outline.widths part ≤ 64 }
+    requires before { AreOfKind schema.now.shape rows.now.rows }
+    requires kinds { AreOfKind schema.now.shape (rows_with rows.now.rows next.now.differences) }
+    requires apart { AreApart next.now.differences }
+    requires totals { AreTotals (values rows.now.rows) totals.now }
+    requires held { HoldsRows schema.now.shape current.now.widths [] (values rows.now.rows) }
+    ensures held { IfOk result (λ told. IfSome told (λ sums. IsHeld schema.now.shape (layout_at next.now.outline) (rows_with rows.now.rows next.now.differences))) }
+    ensures totals { IfOk result (λ told. IfSome told (AreTotals (values (rows_with rows.now.rows next.now.differences)))) }
+{
+    if totals.ends.offsets.len() != schema.shape.fields().len() || next.outline.bound == 0 {
+        return Ok(None);
+    }
+    if !are_no_narrower(current.widths.as_slice(), next.outline.widths.as_slice()) {
+        return Ok(None);
+    }
+    let mut sums = totals.copy(alloc)?;
+    if !count_change(&mut sums, &schema.shape, next, rows) {
+        return Ok(None);
+    }
+    match next.differences.find(rows, next.outline.bound - 1) {
+        Some(last) if holds_last(&mut sums, &schema.shape, &next.outline, last) => Ok(Some(sums)),
+        _ => Ok(None),
+    }
+}
