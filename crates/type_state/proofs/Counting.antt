@@ -17,9 +17,6 @@ use Rattle.type_state.proofs.Lookups.{found, found_at, keys_rise, skipped}
 use Rattle.type_state.proofs.Rising.{from_sorted}
 use Rattle.type_state.proofs.RowSums.{differing_more, get_apart, totals_differ}
 
-abbrev none : Difference
-none = (0, None)
-
 -- The differences below an index are counted, and what comes by them fits.
 pub record Counting (shape : Shape) (widths : List ℕ) (rows : RowMap) (ds : List Difference) (initial now : Totals) (index : ℕ) : Type 0 where
   pub totals : (others : RowMap) → AreTotals (values others) initial → AgreeAt others rows ds → AreTotals (values (differing others (take index ds))) now

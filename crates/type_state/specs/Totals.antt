@@ -56,7 +56,7 @@ AgreeAt rows others differences = (ordinal : ℕ) → IsSome (find nat_cmp ordin
 pub record IsCounted (rows : RowMap) (differences : List Difference) (before after : Totals) : Type 0 where
   pub counted : (others : RowMap) → AreTotals (values others) before → AgreeAt others rows differences → AreTotals (values (differing others differences)) after
 
--- Each part of a row fits its width, wherever the row ends.
+-- Each part of a row fits its width, where the row ends at some offsets and behind some items.
 pub record FitsSomewhere (shape : Shape) (widths : List ℕ) (row : Row) : Type 0 where
   pub ends : ℕ → ℕ
   pub items : ℕ
@@ -66,10 +66,11 @@ pub record FitsSomewhere (shape : Shape) (widths : List ℕ) (row : Row) : Type 
 abbrev pub IsNoNarrower : List ℕ → List ℕ → Type 0
 IsNoNarrower before widths = (part : ℕ) → slice_index before part ≤ slice_index widths part
 
--- Each row of the differences fits the widths, wherever it ends.
+-- Each row that stands in the differences fits the widths somewhere.
 abbrev pub AreFitting : Shape → List ℕ → List Difference → Type 0
 AreFitting shape widths differences = (ordinal : ℕ) (row : Row) → find nat_cmp ordinal differences ≡ Some (Some row) → FitsSomewhere shape widths row
 
+-- The rows that a move brings fit the widths somewhere.
 pub record ComeFitting (shape : Shape) (widths : List ℕ) (differences : Differences) : Type 0 where
   pub removed : AreFitting shape widths differences.removed.items
   pub added : AreFitting shape widths differences.added.items

@@ -1,10 +1,7 @@
 //! What the rows that others are moved to add up to, where that is told by the rows that come and go.
-ghost use Rattle.std.specs.Prelude.{◌≡◌, ◌+◌, ◌-◌, ◌<◌, ◌≤◌, ℕ, [], IfOk, IfSome, IsTrue, Some, length, slice_index};
-ghost use Rattle.std.specs.FinMap.{get, keys, values};
-ghost use Rattle.ordinal_set.specs.Ordinals.{bound_of};
-ghost use Rattle.schema_model.specs.declared.rows.row.Row.{Row as StoredRow};
+ghost use Rattle.std.specs.Prelude.{◌≡◌, ◌≤◌, ℕ, [], IfOk, IfSome, IsTrue, length, slice_index};
+ghost use Rattle.std.specs.FinMap.{values};
 ghost use Rattle.schema_model.specs.Parts.{shape_fields};
-ghost use Rattle.schema_model.specs.Table.{RowMap};
 ghost use Rattle.type_state.specs.Differences.{AreApart, rows_with};
 ghost use Rattle.type_state.specs.Ends.{IsOfKind};
 ghost use Rattle.type_state.specs.Holds.{HoldsRows};

@@ -1,15 +1,13 @@
 //! What the rows of a half add up to.
-ghost use Rattle.std.specs.Prelude.{◌≡◌, ◌+◌, ◌-◌, ◌^◌, ◌<◌, ◌≤◌, ℕ, All, IfOk, IsSome, IsTrue, Some, [], length, slice_index};
-ghost use Rattle.std.specs.FinMap.{find, get, values};
+ghost use Rattle.std.specs.Prelude.{◌≡◌, ◌≤◌, ℕ, [], All, IfOk, IsTrue, Some, length, slice_index};
+ghost use Rattle.std.specs.FinMap.{find, get};
 ghost use Rattle.std.specs.List.Sorted.{IsStrictlySortedBy};
 ghost use Rattle.std.specs.Map.{keys_of};
 ghost use Rattle.std.specs.Ordering.{nat_cmp};
-ghost use Rattle.schema_model.specs.declared.limit.Limit.TheVariants.{Bytes, Words};
+ghost use Rattle.schema_model.specs.declared.limit.Limit.TheVariants.{Bytes};
 ghost use Rattle.schema_model.specs.declared.rows.row.Row.{Row as StoredRow};
 ghost use Rattle.schema_model.specs.Limit.{number_of_limit};
 ghost use Rattle.schema_model.specs.Parts.{shape_fields};
-ghost use Rattle.schema_model.specs.Table.{RowMap};
-ghost use Rattle.type_state.specs.Differences.{differing};
 ghost use Rattle.type_state.specs.Ends.{FitsBehind, IsOfKind};
 ghost use Rattle.type_state.specs.Layout.{width_count};
 ghost use Rattle.type_state.specs.Moving.{AreOfKind};
