@@ -1,4 +1,4 @@
--- Lemmas on the places of records of one field: they can be packed where the width holds each value.
+-- Lemmas on the places of records of one field, some without a row: they can be packed where the width holds each value.
 use Rattle.std.proofs.Common.{◌≡◌, ℕ, zero, suc, ◌-◌, ◌^◌, ◌<◌, ◌≤◌, List, [], ◌∷◌, ◌++◌, length, map, refl, sym, ap, ◌∙◌, subst, arith}
 use Rattle.std.specs.Prelude.{slice_get, slice_index, IfSome, Option, Some, None, All}
 use Rattle.std.proofs.lemmas.List.{length-map}
@@ -13,35 +13,40 @@ use Rattle.schema_model.specs.declared.rows.row.Value.{Value}
 use Rattle.object_codec.specs.ObjectPlace.{IsObject, IsFieldWidth, IsKindWidth}
 use Rattle.object_codec.specs.Packing.{HasBytes, HoldsValue, CanPack, IsWidthFor, values_of_place}
 use Rattle.object_codec.specs.Stored.{values_bytes, column}
-use Rattle.codec_cases.specs.Column.{places_of}
+use Rattle.codec_cases.specs.Column.{place_of, places_of, present}
 
-rows_fit : (key : Option (List (List ℕ))) (field : Field) (values : List Value) → All (FitsKind field.kind) values → (place : ℕ) (row : Row) → slice_get (places_of values) place ≡ Some (Some row)
+rows_fit : (key : Option (List (List ℕ))) (field : Field) (values : List (Option Value)) → All (λ v. IfSome v (FitsKind field.kind)) values → (place : ℕ) (row : Row) → slice_get (places_of values) place ≡ Some (Some row)
     → FitsShape (Shape.Object key (field ∷ [])) row
 rows_fit key field [] fits place row there = absurd cc
-rows_fit key field (value ∷ values) fits zero row there =
+rows_fit key field (None ∷ values) fits zero row there = absurd cc
+rows_fit key field (Some value ∷ values) fits zero row there =
     let same : Row.Object (value ∷ []) ≡ row = cc in
-    subst (λ (r : Row). FitsShape (Shape.Object key (field ∷ [])) r) same (All-head (FitsKind field.kind) value values fits, tt)
-rows_fit key field (value ∷ values) fits (suc place) row there = rows_fit key field values (All-tail (FitsKind field.kind) value values fits) place row there
+    subst (λ (r : Row). FitsShape (Shape.Object key (field ∷ [])) r) same (All-head (λ (v : Option Value). IfSome v (FitsKind field.kind)) (Some value) values fits, tt)
+rows_fit key field (value ∷ values) fits (suc place) row there = rows_fit key field values (All-tail (λ (v : Option Value). IfSome v (FitsKind field.kind)) value values fits) place row there
 
 one_held : (width : ℕ) (value : Value) → HoldsValue width value → (index : ℕ) → IfSome (slice_get (value ∷ []) index) (HoldsValue (slice_index (width ∷ []) index))
 one_held width value held zero = held
 one_held width value held (suc index) = tt
 
-rows_held : (width : ℕ) (values : List Value) → All (HoldsValue width) values → (place index : ℕ) (row : Option Row) → slice_get (places_of values) place ≡ Some row
+rows_held : (width : ℕ) (values : List (Option Value)) → All (λ v. IfSome v (HoldsValue width)) values → (place index : ℕ) (row : Option Row) → slice_get (places_of values) place ≡ Some row
     → IfSome (slice_get (values_of_place row) index) (HoldsValue (slice_index (width ∷ []) index))
 rows_held width [] held place index row there = absurd cc
-rows_held width (value ∷ values) held zero index row there =
+rows_held width (None ∷ values) held zero index row there =
+    let same : None ≡ row = cc in
+    subst (λ (r : Option Row). IfSome (slice_get (values_of_place r) index) (HoldsValue (slice_index (width ∷ []) index))) same tt
+rows_held width (Some value ∷ values) held zero index row there =
     let same : Some (Row.Object (value ∷ [])) ≡ row = cc in
     subst (λ (r : Option Row). IfSome (slice_get (values_of_place r) index) (HoldsValue (slice_index (width ∷ []) index))) same
-    (one_held width value (All-head (HoldsValue width) value values held) index)
-rows_held width (value ∷ values) held (suc place) index row there = rows_held width values (All-tail (HoldsValue width) value values held) place index row there
+    (one_held width value (All-head (λ (v : Option Value). IfSome v (HoldsValue width)) (Some value) values held) index)
+rows_held width (value ∷ values) held (suc place) index row there = rows_held width values (All-tail (λ (v : Option Value). IfSome v (HoldsValue width)) value values held) place index row there
 
 -- the values of the field are those that the records are of
-column_is : (values : List Value) → column 0 (map values_of_place (places_of values)) ≡ values
+column_is : (values : List (Option Value)) → column 0 (map values_of_place (places_of values)) ≡ present values
 column_is [] = refl
-column_is (value ∷ values) = ap (λ (rest : List Value). value ∷ rest) (column_is values)
+column_is (None ∷ values) = column_is values
+column_is (Some value ∷ values) = ap (λ (rest : List Value). value ∷ rest) (column_is values)
 
-rows_end : (field : Field) (width : ℕ) (values : List Value) → (HasBytes field.kind → length (values_bytes values) < 2 ^ (width - 1)) → (index : ℕ) (found : Field) → slice_get (field ∷ []) index ≡ Some found
+rows_end : (field : Field) (width : ℕ) (values : List (Option Value)) → (HasBytes field.kind → length (values_bytes (present values)) < 2 ^ (width - 1)) → (index : ℕ) (found : Field) → slice_get (field ∷ []) index ≡ Some found
     → HasBytes found.kind → length (values_bytes (column index (map values_of_place (places_of values)))) < 2 ^ (slice_index (width ∷ []) index - 1)
 rows_end field width values below zero found there has =
     let same : found ≡ field = cc in
@@ -53,12 +58,12 @@ wide_for [] field width is = is.0
 wide_for (row ∷ rows) field width is = is
 
 -- these places can be packed
-pub can_pack : (shape : Shape) (kind : FieldKind) (values : List Value) (widths : List ℕ) (width : ℕ) (rows : List (Option Row)) → IsObject shape → map (λ field. field.kind) (shape_fields shape) ≡ kind ∷ []
-    → widths ≡ width ∷ [] → rows ≡ places_of values → IsKindWidth kind width → width ≤ 64 → length values ≤ 2 ^ 32 → All (FitsKind kind) values → All (HoldsValue width) values
-    → (HasBytes kind → length (values_bytes values) < 2 ^ (width - 1)) → CanPack shape widths rows
+pub can_pack : (shape : Shape) (kind : FieldKind) (values : List (Option Value)) (widths : List ℕ) (width : ℕ) (rows : List (Option Row)) → IsObject shape → map (λ field. field.kind) (shape_fields shape) ≡ kind ∷ []
+    → widths ≡ width ∷ [] → rows ≡ places_of values → IsKindWidth kind width → width ≤ 64 → length values ≤ 2 ^ 32 → All (λ v. IfSome v (FitsKind kind)) values → All (λ v. IfSome v (HoldsValue width)) values
+    → (HasBytes kind → length (values_bytes (present values)) < 2 ^ (width - 1)) → CanPack shape widths rows
 can_pack (Shape.Object key (field ∷ [])) kind values widths width rows object one is are wide narrow few fits held below =
     let same : field.kind ≡ kind = cc in
-    let long = length-map values (λ (value : Value). Some (Row.Object (value ∷ []))) in
+    let long = length-map values place_of in
     subst (λ (ws : List ℕ). CanPack (Shape.Object key (field ∷ [])) ws rows) (sym is)
     (subst (λ (rs : List (Option Row)). CanPack (Shape.Object key (field ∷ [])) (width ∷ []) rs) (sym are)
     record {
@@ -66,9 +71,9 @@ can_pack (Shape.Object key (field ∷ [])) kind values widths width rows object 
       few = omega arith;
       wide = (wide_for (places_of values) field width (narrow, subst (λ (k : FieldKind). IsKindWidth k width) (sym same) wide), tt);
       places = omega (arith, long, few);
-      fit = rows_fit key field values (subst (λ (k : FieldKind). All (FitsKind k) values) (sym same) fits);
+      fit = rows_fit key field values (subst (λ (k : FieldKind). All (λ (v : Option Value). IfSome v (FitsKind k)) values) (sym same) fits);
       numbers = rows_held width values held;
-      ends = rows_end field width values (subst (λ (k : FieldKind). HasBytes k → length (values_bytes values) < 2 ^ (width - 1)) (sym same) below);
+      ends = rows_end field width values (subst (λ (k : FieldKind). HasBytes k → length (values_bytes (present values)) < 2 ^ (width - 1)) (sym same) below);
     })
 can_pack (Shape.Object key []) kind values widths width rows object one is are wide narrow few fits held below = absurd cc
 can_pack (Shape.Object key (field ∷ other ∷ fields)) kind values widths width rows object one is are wide narrow few fits held below = absurd cc

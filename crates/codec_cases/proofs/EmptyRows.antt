@@ -1,18 +1,20 @@
 -- Lemmas on an empty set and an empty map: each can be packed at widths of one bit.
-use Rattle.std.proofs.Common.{◌≡◌, ℕ, ◌<◌, ◌≤◌, List, [], ◌∷◌, length, Option, Some, refl, sym, subst, arith, rules, lit<}
+use Rattle.std.proofs.Common.{◌≡◌, ℕ, ◌<◌, ◌≤◌, List, [], ◌∷◌, length, Some, refl, sym, subst, arith, rules, lit<}
 use Rattle.std.specs.Prelude.{All}
 use Rattle.std.proofs.lemmas.List.Elements.{All-cons, All-nil}
 use Rattle.schema_model.specs.Row.{FitsShape}
 use Rattle.schema_model.specs.declared.schema.Shape.{Shape}
 use Rattle.schema_model.specs.declared.rows.row.Row.{Row}
 use Rattle.bucket_codec.specs.BucketCount.{bucket_count}
+use Rattle.bucket_codec.specs.BucketPlace.{IsWidthCount}
 use Rattle.bucket_codec.specs.Packed.{IsPackable, IsPackableRow}
 
-pub set_packable : (element widths : List ℕ) (rows : List (Option Row)) → widths ≡ 1 ∷ 1 ∷ 1 ∷ [] → rows ≡ Some (Row.Set []) ∷ [] → FitsShape (Shape.Set element) (Row.Set []) → IsPackable (Shape.Set element) widths rows
+pub set_packable : (shape : Shape) (widths ordinals : List ℕ) → IsWidthCount shape 3 → widths ≡ 1 ∷ 1 ∷ 1 ∷ [] → ordinals ≡ [] → IsPackable shape widths (Some (Row.Set ordinals) ∷ [])
 unfolding bucket_count
-set_packable element widths rows is those fits =
-    subst (λ (w : List ℕ). IsPackable (Shape.Set element) w rows) (sym is)
-    (subst (λ (r : List (Option Row)). IsPackable (Shape.Set element) (1 ∷ 1 ∷ 1 ∷ []) r) (sym those)
+set_packable (Shape.Set element) widths ordinals counted is those =
+    let fits : FitsShape (Shape.Set element) (Row.Set []) = search rules in
+    subst (λ (w : List ℕ). IsPackable (Shape.Set element) w (Some (Row.Set ordinals) ∷ [])) (sym is)
+    (subst (λ (os : List ℕ). IsPackable (Shape.Set element) (1 ∷ 1 ∷ 1 ∷ []) (Some (Row.Set os) ∷ [])) (sym those)
     record {
       counted = refl;
       narrow = search rules;
@@ -23,12 +25,14 @@ set_packable element widths rows is those fits =
       places = lit< tt;
       buckets = lit< tt;
     })
+set_packable _ widths ordinals counted is those = absurd (search rules)
 
-pub map_packable : (key value widths : List ℕ) (rows : List (Option Row)) → widths ≡ 1 ∷ 1 ∷ 1 ∷ 1 ∷ [] → rows ≡ Some (Row.Map []) ∷ [] → FitsShape (Shape.Map key value) (Row.Map []) → IsPackable (Shape.Map key value) widths rows
+pub map_packable : (shape : Shape) (widths : List ℕ) (pairs : List (ℕ × ℕ)) → IsWidthCount shape 4 → widths ≡ 1 ∷ 1 ∷ 1 ∷ 1 ∷ [] → pairs ≡ [] → IsPackable shape widths (Some (Row.Map pairs) ∷ [])
 unfolding bucket_count
-map_packable key value widths rows is those fits =
-    subst (λ (w : List ℕ). IsPackable (Shape.Map key value) w rows) (sym is)
-    (subst (λ (r : List (Option Row)). IsPackable (Shape.Map key value) (1 ∷ 1 ∷ 1 ∷ 1 ∷ []) r) (sym those)
+map_packable (Shape.Map key value) widths pairs counted is those =
+    let fits : FitsShape (Shape.Map key value) (Row.Map []) = search rules in
+    subst (λ (w : List ℕ). IsPackable (Shape.Map key value) w (Some (Row.Map pairs) ∷ [])) (sym is)
+    (subst (λ (ps : List (ℕ × ℕ)). IsPackable (Shape.Map key value) (1 ∷ 1 ∷ 1 ∷ 1 ∷ []) (Some (Row.Map ps) ∷ [])) (sym those)
     record {
       counted = refl;
       narrow = search rules;
@@ -39,3 +43,4 @@ map_packable key value widths rows is those fits =
       places = lit< tt;
       buckets = lit< tt;
     })
+map_packable _ widths pairs counted is those = absurd (search rules)

@@ -5,5 +5,4 @@ pub mod EmptyRows
 pub mod EmptyTables
 pub mod OneState
 pub mod SmallTypes
-pub mod ThreePlaces
 pub mod TwoStates

@@ -8,31 +8,32 @@ ghost use Rattle.bucket_codec.specs.Packed.{IsPackable};
 use bucket_codec::{at, buckets_for, has, hash_int, pack, read, total, widths};
 use hol_varint::{Duplicate, Ordinals};
 use schema_model::{
-    Areas, Fields, MAX_ITEMS, Model, Name, Packed, Pairs, PlaceFault, Places, Row, Rows, Schema,
-    Schemas, Shape, Widths, Words, model_of,
+    Areas, Fields, MAX_ITEMS, Model, Name, Packed, Pairs, Places, Row, Rows, Schema, Schemas,
+    Shape, Widths, Words, model_of,
 };
 use std::alloc::{AllocError, Global};
-use std::test::Fail;
 
 #[test]
-fn hashes_and_counts(rt: HostRuntime) {
-    for (ordinal, want) in [(0, 0xCAA3_CAA3), (1, 0x12D6_0BF6), (3, 0x3882_835C)] {
-        assert_eq!(rt; hash_int(ordinal), want, "at {ordinal}");
-    }
-    for (elements, want) in [
-        (0, 1),
-        (1, 2),
-        (2, 4),
-        (3, 4),
-        (100, 256),
-        (u32::MAX, 1 << 33),
-    ] {
-        assert_eq!(rt; buckets_for(elements), want, "at {elements}");
-    }
+fn hashes(rt: HostRuntime) {
+    let hashes = [hash_int(0), hash_int(1), hash_int(3)];
+    assert!(rt; hashes == [0xCAA3_CAA3, 0x12D6_0BF6, 0x3882_835C]);
+}
+
+#[test]
+fn counts(rt: HostRuntime) {
+    let few = [
+        buckets_for(0),
+        buckets_for(1),
+        buckets_for(2),
+        buckets_for(3),
+    ];
+    assert!(rt; few == [1, 2, 4, 4]);
+    let many = [buckets_for(100), buckets_for(u32::MAX)];
+    assert!(rt; many == [256, 1 << 33]);
 }
 
 /// A SET type.
-fn set_type(alloc: Global) -> Result<Schema, AllocError>
+pub(crate) fn set_type(alloc: Global) -> Result<Schema, AllocError>
     ensures { IfOk result (λ schema. IsWidthCount schema.shape 3) }
 {
     Ok(Schema {
@@ -42,7 +43,7 @@ fn set_type(alloc: Global) -> Result<Schema, AllocError>
 }
 
 /// A MAP type.
-fn map_type(alloc: Global) -> Result<Schema, AllocError>
+pub(crate) fn map_type(alloc: Global) -> Result<Schema, AllocError>
     ensures { IfOk result (λ schema. IsWidthCount schema.shape 4) }
 {
     Ok(Schema {
@@ -51,68 +52,87 @@ fn map_type(alloc: Global) -> Result<Schema, AllocError>
     })
 }
 
-/// What is read at place 0, of words with one word of pointers and one of at most 4 buckets.
-fn read_first(
-    alloc: Global,
-    schema: &Schema,
-    widths: Widths,
-    pointers: u64,
-    buckets: u64,
-) -> Result<Result<Row, PlaceFault>, AllocError>
-    requires counted { IsWidthCount schema.now.shape (length widths) }
-    requires narrow { All (λ width. width ≤ 8) widths }
+/// One word of pointers and one of buckets.
+fn words_of(alloc: Global, pointers: u64, buckets: u64) -> Result<Packed, AllocError>
+    ensures pointers { IfOk result (λ packed. length packed.first ≡ 1) }
+    ensures buckets { IfOk result (λ packed. length packed.second ≡ 1) }
 {
-    let packed = Packed {
+    Ok(Packed {
         first: Words::from_vec(vec![in alloc; pointers]?),
         second: Words::from_vec(vec![in alloc; buckets]?),
         areas: Areas::new(alloc),
-    };
-    Ok(read(alloc, schema, &widths, 4, &packed, 0))
+    })
+}
+
+/// What is read at place 0, as text, of words with one word of pointers and one of at most 4 buckets.
+fn read_first(
+    alloc: Global,
+    schema: &Schema,
+    widths: &Widths,
+    pointers: u64,
+    buckets: u64,
+) -> Result<String, AllocError>
+    requires counted { IsWidthCount schema.now.shape (length widths.now) }
+    requires narrow { All (λ width. width ≤ 8) widths.now }
+{
+    let packed = words_of(alloc, pointers, buckets)?;
+    let row = read(alloc, schema, widths, 4, &packed, 0);
+    format!(in alloc; "{row:?}\n")
 }
 
 /// What is read of a set, whose pointer has 3 bits, and its size and each of its buckets this width.
-fn read_set(
-    alloc: Global,
-    width: u32,
-    pointers: u64,
-    buckets: u64,
-) -> Result<Result<Row, PlaceFault>, AllocError>
+fn read_set(alloc: Global, width: u32, pointers: u64, buckets: u64) -> Result<String, AllocError>
     requires { width ≤ 8 }
 {
     let widths = Widths::from_vec(vec![in alloc; 3, width, width]?);
-    read_first(alloc, &set_type(alloc)?, widths, pointers, buckets)
+    read_first(alloc, &set_type(alloc)?, &widths, pointers, buckets)
+}
+
+/// What is read of sets.
+fn sets_read(alloc: Global) -> Result<String, AllocError> {
+    let mut text = read_set(alloc, 2, 0x14, 0x1F)?;
+    text.push_str(read_set(alloc, 1, 0x1, 0x1)?.as_str())?;
+    Ok(text)
+}
+
+/// What is read where no set stands.
+fn no_sets_read(alloc: Global) -> Result<String, AllocError> {
+    let mut text = read_set(alloc, 2, 0x0C, 0x1F)?;
+    text.push_str(read_set(alloc, 2, 0x14, 0x7C)?.as_str())?;
+    text.push_str(read_set(alloc, 2, 0x14, 0x0F)?.as_str())?;
+    text.push_str(read_set(alloc, 2, 0x13, 0x1F)?.as_str())?;
+    text.push_str(read_set(alloc, 2, 0x15, 0x1F)?.as_str())?;
+    text.push_str(read_set(alloc, 3, 0x24, 0x688)?.as_str())?;
+    Ok(text)
 }
 
 #[test]
-fn sets(rt: HostRuntime) -> Result<(), Fail> {
-    let alloc = rt.alloc();
-    let cases = [
-        (2, 0x14, 0x1F, "Ok(Set(List { items: [0, 1] }))"),
-        (1, 0x1, 0x1, "Ok(Set(List { items: [] }))"),
-        (2, 0x0C, 0x1F, "Err(Bad(BadBuckets))"),
-        (2, 0x14, 0x7C, "Err(Bad(BadBuckets))"),
-        (2, 0x14, 0x0F, "Err(Bad(BadBuckets))"),
-        (2, 0x13, 0x1F, "Err(Bad(BadBuckets))"),
-        (2, 0x15, 0x1F, "Err(Bad(BadPointers))"),
-        (3, 0x24, 0x688, "Err(Bad(BadBuckets))"),
-    ];
-    for (width, pointers, buckets, expected) in cases {
-        assert!(rt; width <= 8);
-        let row = read_set(alloc, width, pointers, buckets)?;
-        assert_eq!(rt; format!(in alloc; "{row:?}")?.as_str(), expected);
-    }
+fn sets(rt: HostRuntime) -> Result<(), AllocError> {
+    let text = sets_read(rt.alloc())?;
+    assert!(rt; text.as_str() == "Ok(Set(List { items: [0, 1] }))\nOk(Set(List { items: [] }))\n");
     Ok(())
 }
 
 #[test]
-fn maps(rt: HostRuntime) -> Result<(), Fail> {
-    let alloc = rt.alloc();
-    let widths = Widths::from_vec(vec![in alloc; 3, 2, 2, 2]?);
-    let row = read_first(alloc, &map_type(alloc)?, widths, 0x0A, 0x43)?;
-    assert_eq!(rt;
-        format!(in alloc; "{row:?}")?.as_str(),
-        "Ok(Map(List { items: [(0, 1)] }))"
+fn no_sets(rt: HostRuntime) -> Result<(), AllocError> {
+    let text = no_sets_read(rt.alloc())?;
+    assert!(rt;
+        text.as_str()
+            == "Err(Bad(BadBuckets))\nErr(Bad(BadBuckets))\nErr(Bad(BadBuckets))\nErr(Bad(BadBuckets))\nErr(Bad(BadPointers))\nErr(Bad(BadBuckets))\n"
     );
+    Ok(())
+}
+
+/// What is read of a map, whose pointer has 3 bits, and its size, each key and each value 2.
+fn map_read(alloc: Global) -> Result<String, AllocError> {
+    let widths = Widths::from_vec(vec![in alloc; 3, 2, 2, 2]?);
+    read_first(alloc, &map_type(alloc)?, &widths, 0x0A, 0x43)
+}
+
+#[test]
+fn maps(rt: HostRuntime) -> Result<(), AllocError> {
+    let text = map_read(rt.alloc())?;
+    assert!(rt; text.as_str() == "Ok(Map(List { items: [(0, 1)] }))\n");
     Ok(())
 }
 
@@ -130,38 +150,51 @@ fn look_ups(rt: HostRuntime) {
     assert_eq!(rt; at(&map, 0, 2, 2, 2, 1), None);
 }
 
+/// The words of the only place, which has this row, as text.
+pub(crate) fn packed_row(
+    alloc: Global,
+    schema: &Schema,
+    widths: &Widths,
+    row: Row,
+) -> Result<String, AllocError>
+    requires { IsPackable schema.now.shape widths.now (Some row ∷ []) }
+{
+    let rows = Places::from_vec(vec![in alloc; Some(row)]?);
+    let packed = pack(alloc, schema, widths, &rows)?;
+    format!(in alloc;
+        "{:?} {:?}",
+        packed.first.as_slice(),
+        packed.second.as_slice()
+    )
+}
+
 /// The packed words of the set of 0 and 1 alone.
-fn packed_set(alloc: Global) -> Result<Packed, AllocError> {
-    let schema = Schema {
-        name: Name::from_text(alloc, "S")?,
-        shape: Shape::Set(Name::from_text(alloc, "E")?),
-    };
+fn packed_set(alloc: Global) -> Result<String, AllocError> {
     let widths = Widths::from_vec(vec![in alloc; 3, 2, 2]?);
     let elements = Ordinals::from_vec(vec![in alloc; 0, 1]?);
-    let rows = Places::from_vec(vec![in alloc; Some(Row::Set(elements))]?);
-    pack(alloc, &schema, &widths, &rows)
+    packed_row(alloc, &set_type(alloc)?, &widths, Row::Set(elements))
 }
 
 #[test]
-fn packed_words(rt: HostRuntime) -> Result<(), Fail> {
-    let packed = packed_set(rt.alloc())?;
-    assert_eq!(rt; packed.first.as_slice(), [0x14].as_slice());
-    assert_eq!(rt; packed.second.as_slice(), [0x1F].as_slice());
+fn packed_words(rt: HostRuntime) -> Result<(), AllocError> {
+    let text = packed_set(rt.alloc())?;
+    assert!(rt; text.as_str() == "[20] [31]");
     Ok(())
 }
 
-/// What is read of the only place, once a row is packed there.
+/// What is read of the only place, as text, once a row is packed there.
 fn read_back(
     alloc: Global,
     schema: &Schema,
     widths: &Widths,
     row: Row,
-) -> Result<Result<Row, PlaceFault>, AllocError>
+) -> Result<String, AllocError>
     requires { IsPackable schema.now.shape widths.now (Some row ∷ []) }
 {
     let rows = Places::from_vec(vec![in alloc; Some(row)]?);
     let packed = pack(alloc, schema, widths, &rows)?;
-    Ok(read(alloc, schema, widths, u64::MAX, &packed, 0))
+    let row = read(alloc, schema, widths, u64::MAX, &packed, 0);
+    format!(in alloc; "{row:?}")
 }
 
 /// The ordinals below a number.
@@ -187,36 +220,44 @@ fn pairs_below(alloc: Global, count: u32) -> Result<Pairs, AllocError>
 }
 
 /// The set of the ordinals below a number, packed and read.
-fn set_back(alloc: Global, count: u32) -> Result<Result<Row, PlaceFault>, AllocError> {
+fn set_back(alloc: Global, count: u32) -> Result<String, AllocError> {
     let widths = Widths::from_vec(vec![in alloc; 34, 32, 33]?);
     let row = Row::Set(ordinals_below(alloc, count)?);
     read_back(alloc, &set_type(alloc)?, &widths, row)
 }
 
 /// The map of these pairs, packed and read.
-fn map_back(alloc: Global, count: u32) -> Result<Result<Row, PlaceFault>, AllocError> {
+fn map_back(alloc: Global, count: u32) -> Result<String, AllocError> {
     let widths = Widths::from_vec(vec![in alloc; 34, 32, 33, 32]?);
     let row = Row::Map(pairs_below(alloc, count)?);
     read_back(alloc, &map_type(alloc)?, &widths, row)
 }
 
-#[test]
-fn rows_read_back(rt: HostRuntime) -> Result<(), Fail> {
-    let alloc = rt.alloc();
+/// Whether the set of the ordinals below a number is read as it was packed.
+fn set_comes_back(alloc: Global, count: u32) -> Result<bool, AllocError> {
+    let elements = ordinals_below(alloc, count)?;
+    Ok(set_back(alloc, count)? == format!(in alloc; "Ok(Set({elements:?}))")?)
+}
+
+/// Whether the map of these pairs is.
+fn map_comes_back(alloc: Global, count: u32) -> Result<bool, AllocError> {
+    let pairs = pairs_below(alloc, count)?;
+    Ok(map_back(alloc, count)? == format!(in alloc; "Ok(Map({pairs:?}))")?)
+}
+
+/// Whether both come back at each of some sizes.
+fn all_come_back(alloc: Global) -> Result<bool, AllocError> {
     for count in [0, 1, 2, 100] {
-        let set = set_back(alloc, count)?;
-        let elements = ordinals_below(alloc, count)?;
-        assert_eq!(rt;
-            format!(in alloc; "{set:?}")?,
-            format!(in alloc; "Ok(Set({elements:?}))")?
-        );
-        let map = map_back(alloc, count)?;
-        let pairs = pairs_below(alloc, count)?;
-        assert_eq!(rt;
-            format!(in alloc; "{map:?}")?,
-            format!(in alloc; "Ok(Map({pairs:?}))")?
-        );
+        if !set_comes_back(alloc, count)? || !map_comes_back(alloc, count)? {
+            return Ok(false);
+        }
     }
+    Ok(true)
+}
+
+#[test]
+fn rows_read_back(rt: HostRuntime) -> Result<(), AllocError> {
+    assert!(rt; all_come_back(rt.alloc())?);
     Ok(())
 }
 
@@ -302,47 +343,96 @@ fn map_sample(alloc: Global, count: u32) -> Result<Sample, AllocError>
     sample_of(alloc, map_type(alloc)?, Some(row))
 }
 
-/// The widths of the first type over two states.
-fn widths_of(alloc: Global, old: &Sample, new: &Sample) -> Result<Widths, AllocError>
+/// The total and the widths of the first type over two states, as text.
+fn chosen(alloc: Global, old: &Sample, new: &Sample) -> Result<String, AllocError>
     requires { 0 < length old.now.0 }
 {
-    if total(alloc, old, new, 0)? > MAX_ITEMS {
+    let total = total(alloc, old, new, 0)?;
+    if total > MAX_ITEMS {
         return Err(AllocError);
     }
-    widths(alloc, old, new, 0)
+    let widths = widths(alloc, old, new, 0)?;
+    format!(in alloc; "{total} {:?}\n", widths.as_slice())
+}
+
+/// A state without sets.
+fn no_sets_sample(alloc: Global) -> Result<Sample, AllocError>
+    ensures { IfOk result (λ sample. 0 < length sample.0) }
+{
+    sample_of(alloc, set_type(alloc)?, None)
+}
+
+/// What is chosen where neither state has sets.
+fn chosen_of_no_sets(alloc: Global) -> Result<String, AllocError> {
+    let none = no_sets_sample(alloc)?;
+    chosen(alloc, &none, &none)
+}
+
+/// What is chosen for a set that both states have.
+fn chosen_of_kept_set(alloc: Global) -> Result<String, AllocError> {
+    let set = set_sample(alloc, 4)?;
+    chosen(alloc, &set, &set)
+}
+
+/// What is chosen for a set that comes.
+fn chosen_of_new_set(alloc: Global) -> Result<String, AllocError> {
+    let none = no_sets_sample(alloc)?;
+    let set = set_sample(alloc, 4)?;
+    chosen(alloc, &none, &set)
+}
+
+/// All of these.
+fn chosen_of_sets(alloc: Global) -> Result<String, AllocError> {
+    let mut text = chosen_of_no_sets(alloc)?;
+    text.push_str(chosen_of_kept_set(alloc)?.as_str())?;
+    text.push_str(chosen_of_new_set(alloc)?.as_str())?;
+    Ok(text)
 }
 
 #[test]
-fn chosen_for_sets(rt: HostRuntime) -> Result<(), Fail> {
-    let alloc = rt.alloc();
-    let none = sample_of(alloc, set_type(alloc)?, None)?;
-    assert_eq!(rt; total(alloc, &none, &none, 0)?, 0);
-    assert_eq!(rt;
-        widths_of(alloc, &none, &none)?.as_slice(),
-        [1, 1, 1].as_slice()
-    );
-    let set = set_sample(alloc, 4)?;
-    assert_eq!(rt; total(alloc, &set, &set, 0)?, 8);
-    assert_eq!(rt;
-        widths_of(alloc, &none, &set)?.as_slice(),
-        [4, 3, 3].as_slice()
-    );
+fn chosen_for_sets(rt: HostRuntime) -> Result<(), AllocError> {
+    let text = chosen_of_sets(rt.alloc())?;
+    assert!(rt; text.as_str() == "0 [1, 1, 1]\n8 [4, 3, 3]\n8 [4, 3, 3]\n");
     Ok(())
 }
 
-#[test]
-fn chosen_for_maps(rt: HostRuntime) -> Result<(), Fail> {
-    let alloc = rt.alloc();
-    let none = sample_of(alloc, map_type(alloc)?, None)?;
-    assert_eq!(rt;
-        widths_of(alloc, &none, &none)?.as_slice(),
-        [1, 1, 1, 1].as_slice()
-    );
+/// A state without maps.
+fn no_maps_sample(alloc: Global) -> Result<Sample, AllocError>
+    ensures { IfOk result (λ sample. 0 < length sample.0) }
+{
+    sample_of(alloc, map_type(alloc)?, None)
+}
+
+/// What is chosen where neither state has maps.
+fn chosen_of_no_maps(alloc: Global) -> Result<String, AllocError> {
+    let none = no_maps_sample(alloc)?;
+    chosen(alloc, &none, &none)
+}
+
+/// What is chosen for a map that both states have.
+fn chosen_of_kept_map(alloc: Global) -> Result<String, AllocError> {
     let map = map_sample(alloc, 9)?;
-    assert_eq!(rt; total(alloc, &none, &map, 0)?, 16);
-    assert_eq!(rt;
-        widths_of(alloc, &map, &map)?.as_slice(),
-        [5, 4, 4, 4].as_slice()
-    );
+    chosen(alloc, &map, &map)
+}
+
+/// What is chosen for a map that comes.
+fn chosen_of_new_map(alloc: Global) -> Result<String, AllocError> {
+    let none = no_maps_sample(alloc)?;
+    let map = map_sample(alloc, 9)?;
+    chosen(alloc, &none, &map)
+}
+
+/// All of these.
+fn chosen_of_maps(alloc: Global) -> Result<String, AllocError> {
+    let mut text = chosen_of_no_maps(alloc)?;
+    text.push_str(chosen_of_kept_map(alloc)?.as_str())?;
+    text.push_str(chosen_of_new_map(alloc)?.as_str())?;
+    Ok(text)
+}
+
+#[test]
+fn chosen_for_maps(rt: HostRuntime) -> Result<(), AllocError> {
+    let text = chosen_of_maps(rt.alloc())?;
+    assert!(rt; text.as_str() == "0 [1, 1, 1, 1]\n16 [5, 4, 4, 4]\n16 [5, 4, 4, 4]\n");
     Ok(())
 }

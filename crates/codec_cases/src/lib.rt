@@ -10,6 +10,8 @@ mod empty;
 #[cfg(test)]
 mod lists;
 #[cfg(test)]
+mod no_rows;
+#[cfg(test)]
 mod packed;
 #[cfg(test)]
 mod records;

@@ -1,15 +1,12 @@
 //! Lists at worked places, packed and read, and what is chosen where there are none.
-ghost use Rattle.std.specs.Prelude.{◌≤◌, ◌<◌, ◌^◌, length, All, IfOk};
+ghost use Rattle.std.specs.Prelude.{◌≡◌, ◌≤◌, ◌<◌, ◌^◌, length, All, IfOk};
 ghost use Rattle.list_codec.specs.ListPlace.{IsList};
 
-use crate::two_states::NoRows;
+use crate::no_rows::NoRows;
 use hol_varint::Ordinals;
 use list_codec::{pack, read, total, widths};
-use schema_model::{
-    Areas, Model, Name, Packed, PlaceFault, Places, Row, Schema, Shape, Widths, Words,
-};
+use schema_model::{Areas, Model, Name, Packed, Places, Row, Schema, Shape, Widths, Words};
 use std::alloc::{AllocError, Global};
-use std::test::Fail;
 
 /// A LIST type.
 fn list_type(alloc: Global) -> Result<Schema, AllocError>
@@ -21,74 +18,108 @@ fn list_type(alloc: Global) -> Result<Schema, AllocError>
     })
 }
 
-/// What is read at a place: pointers of 4 bits, elements of a width.
+/// One word of pointers and one of elements.
+fn words_of(alloc: Global, first: u64, second: u64) -> Result<Packed, AllocError>
+    ensures pointers { IfOk result (λ packed. length packed.first ≡ 1) }
+    ensures elements { IfOk result (λ packed. length packed.second ≡ 1) }
+{
+    Ok(Packed {
+        first: Words::from_vec(vec![in alloc; first]?),
+        second: Words::from_vec(vec![in alloc; second]?),
+        areas: Areas::new(alloc),
+    })
+}
+
+/// What is read at a place, as text: pointers of 4 bits, elements of a width.
 fn read_at(
     alloc: Global,
     first: u64,
     second: u64,
     width: u32,
     place: u64,
-) -> Result<Result<Row, PlaceFault>, AllocError>
+) -> Result<String, AllocError>
     requires width { width ≤ 64 }
     requires place { place < 16 }
 {
     let widths = Widths::from_vec(vec![in alloc; 4, width]?);
-    let packed = Packed {
-        first: Words::from_vec(vec![in alloc; first]?),
-        second: Words::from_vec(vec![in alloc; second]?),
-        areas: Areas::new(alloc),
-    };
-    Ok(read(alloc, &list_type(alloc)?, &widths, 3, &packed, place))
+    let packed = words_of(alloc, first, second)?;
+    let row = read(alloc, &list_type(alloc)?, &widths, 3, &packed, place);
+    format!(in alloc; "{row:?}\n")
+}
+
+/// What is read of lists, and where none stands.
+fn all_read(alloc: Global) -> Result<String, AllocError> {
+    let mut text = read_at(alloc, 0x33, 0x321, 4, 0)?;
+    text.push_str(read_at(alloc, 0x23, 0x321, 4, 1)?.as_str())?;
+    text.push_str(read_at(alloc, 0x43, 0x4321, 4, 1)?.as_str())?;
+    text.push_str(read_at(alloc, 0x21, 0, 0, 1)?.as_str())?;
+    text.push_str(read_at(alloc, 0x11, 0x1_0000_0000, 33, 0)?.as_str())?;
+    Ok(text)
 }
 
 #[test]
-fn lists_read(rt: HostRuntime) -> Result<(), Fail> {
-    let alloc = rt.alloc();
-    for (first, second, width, place, expected) in [
-        (0x33, 0x321, 4, 0, "Ok(List(List { items: [1, 2, 3] }))"),
-        (0x23, 0x321, 4, 1, "Err(Bad(BadPointers))"),
-        (0x43, 0x4321, 4, 1, "Err(Bad(BadPointers))"),
-        (0x21, 0, 0, 1, "Ok(List(List { items: [0] }))"),
-        (0x11, 0x1_0000_0000, 33, 0, "Err(Bad(BadValue))"),
-    ] {
-        assert!(rt; width <= 64 && place < 16);
-        let row = read_at(alloc, first, second, width, place)?;
-        assert_eq!(rt; format!(in alloc; "{row:?}")?.as_str(), expected);
-    }
+fn lists_read(rt: HostRuntime) -> Result<(), AllocError> {
+    let text = all_read(rt.alloc())?;
+    assert!(rt;
+        text.as_str()
+            == "Ok(List(List { items: [1, 2, 3] }))\nErr(Bad(BadPointers))\nErr(Bad(BadPointers))\nOk(List(List { items: [0] }))\nErr(Bad(BadValue))\n"
+    );
     Ok(())
 }
 
-/// The words of a place that has a list, and one that has no row.
-fn pack_one(alloc: Global, elements: Ordinals, width: u32) -> Result<Packed, AllocError>
+/// The words of a place that has a list, and one that has no row, as text.
+fn pack_one(alloc: Global, elements: Ordinals, width: u32) -> Result<String, AllocError>
     requires narrow { width ≤ 64 }
     requires few { length elements < 2 ^ width }
     requires small { All (λ element. element < 2 ^ width) elements }
 {
     let widths = Widths::from_vec(vec![in alloc; width, width]?);
     let rows = Places::from_vec(vec![in alloc; Some(Row::List(elements)), None]?);
-    pack(alloc, &list_type(alloc)?, &widths, &rows)
+    let packed = pack(alloc, &list_type(alloc)?, &widths, &rows)?;
+    format!(in alloc;
+        "{:?} {:?}",
+        packed.first.as_slice(),
+        packed.second.as_slice()
+    )
+}
+
+/// Of an empty list.
+fn empty_packed(alloc: Global) -> Result<String, AllocError> {
+    pack_one(alloc, Ordinals::new(alloc), 1)
+}
+
+/// And of one of two elements.
+fn two_packed(alloc: Global) -> Result<String, AllocError> {
+    pack_one(alloc, Ordinals::from_vec(vec![in alloc; 3, 1]?), 2)
 }
 
 #[test]
-fn lists_packed(rt: HostRuntime) -> Result<(), Fail> {
-    let alloc = rt.alloc();
-    let empty = pack_one(alloc, Ordinals::new(alloc), 1)?;
-    assert_eq!(rt; empty.first.as_slice(), [0].as_slice());
-    assert_eq!(rt; empty.second.len(), 0);
-    let two = pack_one(alloc, Ordinals::from_vec(vec![in alloc; 3, 1]?), 2)?;
-    assert_eq!(rt; two.first.as_slice(), [0b1010].as_slice());
-    assert_eq!(rt; two.second.as_slice(), [0b0111].as_slice());
+fn an_empty_list_packed(rt: HostRuntime) -> Result<(), AllocError> {
+    let text = empty_packed(rt.alloc())?;
+    assert!(rt; text.as_str() == "[0] []");
     Ok(())
 }
 
 #[test]
-fn widths_of_no_lists(rt: HostRuntime) -> Result<(), Fail> {
-    let alloc = rt.alloc();
+fn a_list_packed(rt: HostRuntime) -> Result<(), AllocError> {
+    let text = two_packed(rt.alloc())?;
+    assert!(rt; text.as_str() == "[10] [7]");
+    Ok(())
+}
+
+/// What is chosen where there are no lists: the widths, and the total.
+fn chosen_of_none(alloc: Global) -> Result<String, AllocError> {
     let rows = NoRows {
         model: Model::none(alloc),
     };
-    let chosen = widths(alloc, &rows, &rows, 0)?;
-    assert_eq!(rt; chosen.as_slice(), [1, 1].as_slice());
-    assert_eq!(rt; total(alloc, &rows, &rows, 0)?, 0);
+    let widths = widths(alloc, &rows, &rows, 0)?;
+    let total = total(alloc, &rows, &rows, 0)?;
+    format!(in alloc; "{:?} {total}", widths.as_slice())
+}
+
+#[test]
+fn chosen_for_no_lists(rt: HostRuntime) -> Result<(), AllocError> {
+    let text = chosen_of_none(rt.alloc())?;
+    assert!(rt; text.as_str() == "[1, 1] 0");
     Ok(())
 }

@@ -1,24 +1,15 @@
-//! Records of each kind of field that a place spells, and why there is none; fields packed, and what is chosen where there are no rows.
-ghost use Rattle.std.specs.Prelude.{◌≡◌, ◌<◌, ◌≤◌, ◌-◌, ◌^◌, ◌∷◌, [], length, map, Some, None, IfOk};
+//! Records of each kind of field that a place spells, and why there is none; what is chosen where there are no rows.
+ghost use Rattle.std.specs.Prelude.{◌≡◌, ◌<◌, ◌∷◌, [], length, IfOk};
 ghost use Rattle.std.specs.List.{AllZip};
-ghost use Rattle.schema_model.specs.Parts.{shape_fields};
-ghost use Rattle.schema_model.specs.Row.{FitsKind};
-ghost use Rattle.schema_model.specs.declared.schema.FieldKind.TheVariants.{Text};
-ghost use Rattle.schema_model.specs.declared.rows.row.Row.{Row as StoredRow};
-ghost use Rattle.schema_model.specs.declared.rows.row.Value.{Value as StoredValue};
-ghost use Rattle.object_codec.specs.ObjectPlace.{IsObject, IsKindWidth, IsFieldWidth};
-ghost use Rattle.object_codec.specs.Packing.{HasBytes, HoldsValue};
-ghost use Rattle.object_codec.specs.Stored.{value_bytes};
+ghost use Rattle.object_codec.specs.ObjectPlace.{IsFieldWidth};
 
-use crate::two_states::NoRows;
-use hol_varint::{Octets, Units};
-use object_codec::{bytes, pack, read, widths};
+use crate::no_rows::NoRows;
+use hol_varint::Octets;
+use object_codec::{bytes, read, widths};
 use schema_model::{
-    Areas, Field, FieldKind, Fields, Model, Name, Packed, Places, Row, Schema, Shape, Value,
-    Values, Widths, Words,
+    Areas, Field, FieldKind, Fields, Model, Name, Packed, Schema, Shape, Widths, Words,
 };
 use std::alloc::{AllocError, Global};
-use std::test::Fail;
 
 /// A field of each kind.
 fn fields(alloc: Global) -> Result<Fields, AllocError>
@@ -87,124 +78,64 @@ fn read_at(alloc: Global, word: u64, place: u64) -> Result<String, AllocError>
     let widths = Widths::from_vec(vec![in alloc; 2, 4, 5, 2, 4, 3]?);
     let packed = packed(alloc, word)?;
     let row = read(alloc, &schema, &widths, 0, &packed, place);
-    format!(in alloc; "{row:?}")
+    format!(in alloc; "{row:?}\n")
 }
 
-#[test]
-fn records(rt: HostRuntime) -> Result<(), Fail> {
-    let alloc = rt.alloc();
+/// Records of three places.
+fn records_read(alloc: Global) -> Result<String, AllocError> {
     let word = 0x0483_94B5_FFF2_4BEA;
-    let first = read_at(alloc, word, 0)?;
-    assert_eq!(rt;
-        first.as_str(),
-        "Ok(Object(List { items: [Ref(2), Int(5), Long(-8), Bool(true), Text(List { items: [72, 105] }), Bytes(List { items: [255] })] }))"
-    );
-    let nulls = read_at(alloc, word, 1)?;
-    assert_eq!(rt;
-        nulls.as_str(),
-        "Ok(Object(List { items: [Null, Null, Null, Null, Null, Null] }))"
-    );
-    let last = read_at(alloc, word, 2)?;
-    assert_eq!(rt;
-        last.as_str(),
-        "Ok(Object(List { items: [Ref(0), Int(-3), Long(7), Bool(false), Text(List { items: [233] }), Bytes(List { items: [0] })] }))"
+    let mut text = read_at(alloc, word, 0)?;
+    text.push_str(read_at(alloc, word, 1)?.as_str())?;
+    text.push_str(read_at(alloc, word, 2)?.as_str())?;
+    Ok(text)
+}
+
+#[test]
+fn records(rt: HostRuntime) -> Result<(), AllocError> {
+    let text = records_read(rt.alloc())?;
+    assert!(rt; text.as_str() == RECORDS);
+    Ok(())
+}
+
+/// Values of each kind, nulls, and others.
+const RECORDS: &str =
+    "Ok(Object(List { items: [Ref(2), Int(5), Long(-8), Bool(true), Text(List { items: [72, 105] }), Bytes(List { items: [255] })] }))
+Ok(Object(List { items: [Null, Null, Null, Null, Null, Null] }))
+Ok(Object(List { items: [Ref(0), Int(-3), Long(7), Bool(false), Text(List { items: [233] }), Bytes(List { items: [0] })] }))
+";
+
+/// What is read where no record stands.
+fn no_records_read(alloc: Global) -> Result<String, AllocError> {
+    let mut text = read_at(alloc, 0x253EA, 0)?;
+    text.push_str(read_at(alloc, 0x2ABEA, 0)?.as_str())?;
+    text.push_str(read_at(alloc, 0x0A_3FFF_24BEA, 1)?.as_str())?;
+    text.push_str(read_at(alloc, 0x26BEA, 0)?.as_str())?;
+    Ok(text)
+}
+
+#[test]
+fn refusals(rt: HostRuntime) -> Result<(), AllocError> {
+    let text = no_records_read(rt.alloc())?;
+    assert!(rt;
+        text.as_str()
+            == "Err(Bad(BadValue))\nErr(Bad(BadPointers))\nErr(Bad(BadPointers))\nErr(Bad(BadText))\n"
     );
     Ok(())
 }
 
-#[test]
-fn refusals(rt: HostRuntime) -> Result<(), Fail> {
-    let alloc = rt.alloc();
-    assert_eq!(rt; read_at(alloc, 0x253EA, 0)?.as_str(), "Err(Bad(BadValue))");
-    assert_eq!(rt;
-        read_at(alloc, 0x2ABEA, 0)?.as_str(),
-        "Err(Bad(BadPointers))"
-    );
-    assert_eq!(rt;
-        read_at(alloc, 0x0A_3FFF_24BEA, 1)?.as_str(),
-        "Err(Bad(BadPointers))"
-    );
-    assert_eq!(rt; read_at(alloc, 0x26BEA, 0)?.as_str(), "Err(Bad(BadText))");
-    Ok(())
-}
-
-/// An OBJECT type with one field.
-fn one_field(alloc: Global, kind: FieldKind) -> Result<Schema, AllocError>
-    ensures object { IfOk result (λ schema. IsObject schema.shape) }
-    ensures field { IfOk result (λ schema. map (λ field. field.kind) (shape_fields schema.shape) ≡ kind ∷ []) }
-{
-    let field = Field {
-        name: Name::from_text(alloc, "f")?,
-        kind,
-    };
-    Ok(Schema {
-        name: Name::from_text(alloc, "A")?,
-        shape: Shape::Object(None, Fields::from_vec(vec![in alloc; field]?)),
-    })
-}
-
-/// The places of a record with one value, of no row, and of a record with null.
-fn three_places(alloc: Global, value: Value) -> Result<Places, AllocError>
-    ensures { IfOk result (λ places. places ≡ Some (StoredRow.Object (value ∷ [])) ∷ None ∷ Some (StoredRow.Object (StoredValue.Null ∷ [])) ∷ []) }
-{
-    let record = Row::Object(Values::from_vec(vec![in alloc; value]?));
-    let null = Row::Object(Values::from_vec(vec![in alloc; Value::Null]?));
-    Ok(Places::from_vec(vec![in alloc; Some(record), None, Some(null)]?))
-}
-
-/// The words of these places for a type with one field of a width, and the bytes of the field, as text.
-fn packed_field(
-    alloc: Global,
-    kind: FieldKind,
-    width: u32,
-    value: Value,
-) -> Result<String, AllocError>
-    requires wide { IsKindWidth kind width }
-    requires narrow { width ≤ 64 }
-    requires fits { FitsKind kind value }
-    requires number { HoldsValue width value }
-    requires bytes { HasBytes kind → length (value_bytes value) < 2 ^ (width - 1) }
-{
-    let schema = one_field(alloc, kind)?;
-    let widths = Widths::from_vec(vec![in alloc; width]?);
-    let rows = three_places(alloc, value)?;
-    let packed = pack(alloc, &schema, &widths, &rows)?;
-    format!(in alloc;
-        "{:?} {:?}",
-        packed.first.as_slice(),
-        packed.areas.as_slice()
-    )
-}
-
-/// The text "Hi".
-fn text(alloc: Global) -> Result<Value, AllocError>
-    ensures fits { IfOk result (FitsKind Text) }
-    ensures number { IfOk result (HoldsValue 3) }
-    ensures bytes { IfOk result (λ value. length (value_bytes value) < 4) }
-{
-    let units = Units::from_vec(vec![in alloc; 0x48, 0x69]?);
-    Ok(Value::Text(units))
-}
-
-#[test]
-fn fields_packed(rt: HostRuntime) -> Result<(), Fail> {
-    let alloc = rt.alloc();
-    let number = packed_field(alloc, FieldKind::Int, 4, Value::Int(5))?;
-    assert_eq!(rt; number.as_str(), "[3850] [List { items: [] }]");
-    let least = packed_field(alloc, FieldKind::Int, 4, Value::Int(i32::MIN))?;
-    assert_eq!(rt; least.as_str(), "[3855] [List { items: [] }]");
-    let text = packed_field(alloc, FieldKind::Text, 3, text(alloc)?)?;
-    assert_eq!(rt; text.as_str(), "[402] [List { items: [72, 105] }]");
-    Ok(())
-}
-
-#[test]
-fn chosen_for_no_rows(rt: HostRuntime) -> Result<(), Fail> {
-    let alloc = rt.alloc();
+/// What is chosen where there are no rows: the widths, and the bytes.
+fn chosen_of_none(alloc: Global) -> Result<String, AllocError> {
     let rows = NoRows {
         model: Model::none(alloc),
     };
-    assert_eq!(rt; widths(alloc, &rows, &rows, 0)?.len(), 0);
-    assert_eq!(rt; bytes(alloc, &rows, 0)?, 0);
+    let widths = widths(alloc, &rows, &rows, 0)?;
+    let bytes = bytes(alloc, &rows, 0)?;
+    format!(in alloc; "{:?} {bytes}", widths.as_slice())
+}
+
+#[test]
+fn chosen_for_no_rows(rt: HostRuntime) -> Result<(), AllocError> {
+    let text = chosen_of_none(rt.alloc())?;
+    assert!(rt; text.as_str() == "[] 0");
     Ok(())
 }

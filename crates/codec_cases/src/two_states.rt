@@ -1,46 +1,14 @@
 //! Types of two states, the first of them without rows: what is chosen for them and packed.
 ghost use Rattle.std.specs.Prelude.{◌<◌, length};
 
+use crate::no_rows::NoRows;
 use hol_io::{BlobName, BlobStore, SureStore};
 use hol_varint::Ordinals;
 use row_packing::{choose, delta_rows, snapshot_rows, type_limit};
-use schema_model::{MAX_ORDINALS, Model, Row, Rows};
+use schema_model::{MAX_ORDINALS, Rows};
 use snapshot_blob::read_snapshot;
 use std::alloc::{AllocError, Global};
 use std::test::Fail;
-
-/// A state without rows.
-#[derive(Drop)]
-pub(crate) struct NoRows {
-    /// The model that the rows would be of.
-    pub(crate) model: Model,
-}
-
-impl Rows for NoRows {
-    ghost use Rattle.std.specs.Prelude.{map};
-    ghost use Rattle.std.specs.Ordering.{nat_cmp};
-    ghost use Rattle.std.specs.FinMap.{empty};
-
-    ghost schemas = { λ rows. rows.model };
-
-    ghost table = { λ rows. map (λ schema. empty {R = nat_cmp}) rows.model };
-
-    fn model(&self) -> &Model {
-        &self.model
-    }
-
-    fn bound(&self, _type_index: u32) -> u32 {
-        0
-    }
-
-    fn is_live(&self, _type_index: u32, _ordinal: u32) -> bool {
-        false
-    }
-
-    fn row(&self, _alloc: Global, _type_index: u32, _ordinal: u32) -> Result<Row, AllocError> {
-        Err(AllocError)
-    }
-}
 
 /// What is chosen for a type of a state before which there were no rows (the max ordinal, the widths, the total), the words of its rows, and those
 /// of the first row alone.

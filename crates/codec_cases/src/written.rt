@@ -3,7 +3,7 @@ ghost use Rattle.std.specs.Prelude.{◌≡◌, ◌<◌, ◌^◌, IfOk, IfSome, I
 ghost use Rattle.schema_model.specs.Parts.{shape_key};
 ghost use Rattle.codec_cases.specs.Small.{IsSmall};
 
-use crate::two_states::NoRows;
+use crate::no_rows::NoRows;
 use delta_blob::{read_delta, write_delta};
 use hol_io::{BlobName, BlobStore, SureStore};
 use row_packing::type_limit;

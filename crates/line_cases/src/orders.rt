@@ -6,54 +6,62 @@ use hol_orders::{
 use schema_model::Names;
 use serde_json::Value;
 use std::alloc::{AllocError, Global};
-use std::test::Fail;
-
-/// The text of a refusal's JSON object.
-fn refused(alloc: Global, refusal: &Refusal) -> Result<String, AllocError> {
-    refusal_value(alloc, refusal)?.to_string(alloc)
-}
 
 #[test]
-fn an_order(rt: HostRuntime) -> Result<(), Fail> {
+fn an_order(rt: HostRuntime) {
     let read = order_of(rt.alloc(), b"{\"step\":[1,2]}");
     assert!(rt; matches!(&read, Ok(Order::Step { from: 1, to: 2 })));
-    Ok(())
 }
 
 #[test]
-fn no_order(rt: HostRuntime) -> Result<(), Fail> {
+fn no_order(rt: HostRuntime) {
     let read = order_of(rt.alloc(), b"{\"step\":[1,1]}");
     assert!(rt; matches!(&read, Err(OrderFault::BadOrder)));
     assert!(rt; Kind::of_word("step") == Some(Kind::Step));
-    Ok(())
+}
+
+/// The text of a refusal's JSON object.
+fn refused(alloc: Global) -> Result<String, AllocError> {
+    refusal_value(alloc, &Refusal::TagUsed(-72))?.to_string(alloc)
 }
 
 #[test]
-fn a_refusal(rt: HostRuntime) -> Result<(), Fail> {
-    let text = refused(rt.alloc(), &Refusal::TagUsed(-72))?;
-    assert_eq!(rt;
-        text.as_str(),
-        "{\"error\":17,\"name\":\"TagUsed\",\"tag\":-72}"
-    );
+fn a_refusal(rt: HostRuntime) -> Result<(), AllocError> {
+    let text = refused(rt.alloc())?;
+    assert!(rt; text.as_str() == "{\"error\":17,\"name\":\"TagUsed\",\"tag\":-72}");
     Ok(())
 }
 
-#[test]
-fn lines(rt: HostRuntime) -> Result<(), Fail> {
-    let alloc = rt.alloc();
+/// The line of a cycle that changed nothing and published.
+fn cycle_line(alloc: Global) -> Result<String, AllocError> {
     let reply = Reply::Cycle {
         changed: Names::new(alloc),
         published: true,
         version: 1,
     };
-    let line = reply_line(alloc, reply)?;
-    assert_eq!(rt;
-        line.as_str(),
-        "{\"changed\":[],\"ok\":\"cycle\",\"published\":true,\"version\":1}\n"
+    reply_line(alloc, reply)
+}
+
+#[test]
+fn a_line(rt: HostRuntime) -> Result<(), AllocError> {
+    let line = cycle_line(rt.alloc())?;
+    assert!(rt;
+        line.as_str() == "{\"changed\":[],\"ok\":\"cycle\",\"published\":true,\"version\":1}\n"
     );
+    Ok(())
+}
+
+/// The lines of null and of a model of one type, one behind the other.
+fn two_lines(alloc: Global) -> Result<Vec<u8>, AllocError> {
     let mut out = Vec::new(alloc);
     put_line(alloc, &mut out, &Value::Null)?;
     put_reply(alloc, &mut out, Reply::Model(1))?;
+    Ok(out)
+}
+
+#[test]
+fn lines(rt: HostRuntime) -> Result<(), AllocError> {
+    let out = two_lines(rt.alloc())?;
     assert!(rt; out.as_slice() == b"null\n{\"ok\":\"model\",\"types\":1}\n".as_slice());
     Ok(())
 }

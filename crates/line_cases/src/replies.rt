@@ -2,22 +2,15 @@
 use hol_io::BlobName;
 use hol_orders::{Refusal, Reply, RowPlace, reply_line};
 use schema_model::{Limit, Name, Reason};
-use std::alloc::Global;
-use std::test::Fail;
+use std::alloc::{AllocError, Global};
 
-/// The line of a refusal.
-fn line(alloc: Global, refusal: Refusal) -> Result<String, Fail> {
-    Ok(reply_line(alloc, Reply::Refused(refusal))?)
+/// The line of a blob that is too large.
+fn too_large(alloc: Global) -> Result<String, AllocError> {
+    reply_line(alloc, Reply::Refused(Refusal::TooLarge(Limit::Blob)))
 }
 
-#[test]
-fn writes_refusals(rt: HostRuntime) -> Result<(), Fail> {
-    let alloc = rt.alloc();
-    let large = line(alloc, Refusal::TooLarge(Limit::Blob))?;
-    assert_eq!(rt;
-        large.as_str(),
-        "{\"error\":28,\"limit\":268435456,\"name\":\"TooLarge\",\"what\":\"blob\"}\n"
-    );
+/// The line of a blob with a row that no place spells.
+fn bad_row(alloc: Global) -> Result<String, AllocError> {
     let row = RowPlace {
         type_name: Name::from_text(alloc, "A")?,
         ordinal: 7,
@@ -28,9 +21,25 @@ fn writes_refusals(rt: HostRuntime) -> Result<(), Fail> {
         reason: Reason::FloatField,
         row: Some(row),
     };
-    assert_eq!(rt;
-        line(alloc, bad)?.as_str(),
-        "{\"at\":31,\"blob\":\"snapshot-1\",\"error\":19,\"name\":\"BadBlob\",\"ordinal\":7,\"reason\":45,\"type\":\"A\"}\n"
+    reply_line(alloc, Reply::Refused(bad))
+}
+
+#[test]
+fn a_limit(rt: HostRuntime) -> Result<(), AllocError> {
+    let line = too_large(rt.alloc())?;
+    assert!(rt;
+        line.as_str()
+            == "{\"error\":28,\"limit\":268435456,\"name\":\"TooLarge\",\"what\":\"blob\"}\n"
+    );
+    Ok(())
+}
+
+#[test]
+fn a_bad_blob(rt: HostRuntime) -> Result<(), AllocError> {
+    let line = bad_row(rt.alloc())?;
+    assert!(rt;
+        line.as_str()
+            == "{\"at\":31,\"blob\":\"snapshot-1\",\"error\":19,\"name\":\"BadBlob\",\"ordinal\":7,\"reason\":45,\"type\":\"A\"}\n"
     );
     Ok(())
 }

@@ -2,21 +2,25 @@
 use row_keys::{row_key, values_key};
 use schema_model::{Row, Value, Values};
 use std::alloc::{AllocError, Global};
-use std::test::Fail;
 
+/// True and null.
 fn two_values(alloc: Global) -> Result<Values, AllocError> {
-    let mut values = Values::new(alloc);
-    values.push(Value::Bool(true))?;
-    values.push(Value::Null)?;
-    Ok(values)
+    Ok(Values::from_vec(vec![in alloc; Value::Bool(true), Value::Null]?))
+}
+
+/// Whether the key of the values is these bytes.
+fn values_have_key(alloc: Global, bytes: &[u8]) -> Result<bool, AllocError> {
+    Ok(values_key(alloc, &two_values(alloc)?)?.as_slice() == bytes)
+}
+
+/// Whether the key of the record of them is.
+fn row_has_key(alloc: Global, bytes: &[u8]) -> Result<bool, AllocError> {
+    Ok(row_key(alloc, &Row::Object(two_values(alloc)?))?.as_slice() == bytes)
 }
 
 #[test]
-fn keys_begin_with_the_count(rt: HostRuntime) -> Result<(), Fail> {
-    let values = two_values(rt.alloc())?;
-    let key = values_key(rt.alloc(), &values)?;
-    assert!(rt; key.as_slice() == b"\x02\x03\x01\x00".as_slice());
-    let key = row_key(rt.alloc(), &Row::Object(values))?;
-    assert!(rt; key.as_slice() == b"\x00\x02\x03\x01\x00".as_slice());
+fn keys_begin_with_the_count(rt: HostRuntime) -> Result<(), AllocError> {
+    assert!(rt; values_have_key(rt.alloc(), b"\x02\x03\x01\x00")?);
+    assert!(rt; row_has_key(rt.alloc(), b"\x00\x02\x03\x01\x00")?);
     Ok(())
 }

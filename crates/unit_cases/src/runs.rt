@@ -8,7 +8,6 @@ use bucket_codec::hash_int;
 use ordinal_set::OrdinalSet;
 use schema_model::{Areas, Name, Reason, Schema, Shape, Widths, Words};
 use std::alloc::{AllocError, Global};
-use std::test::Fail;
 use type_state::{RowFault, Section, TypeState};
 
 /// A bucket of 16 bits: an element, or a key of 8 bits and behind it a value, which differs from it in one bit.
@@ -143,23 +142,33 @@ fn map_answers(
     Ok((true, all, state.at(0, u32::from(elements)).is_some()))
 }
 
-#[test]
-fn looked_up(rt: HostRuntime) -> Result<(), Fail> {
-    let alloc = rt.alloc();
+/// Whether sets and maps of some sizes say of each element that it is there, and of the next number that it is not.
+fn all_found(alloc: Global) -> Result<bool, AllocError> {
     for (elements, size) in [(0, 1), (1, 2), (2, 4), (100, 256)] {
-        let set = set_answers(alloc, elements, size)?;
-        assert!(rt; set == (true, true, false), "a set of {elements}");
-        let map = map_answers(alloc, elements, size)?;
-        assert!(rt; map == (true, true, false), "a map of {elements}");
+        if set_answers(alloc, elements, size)? != (true, true, false)
+            || map_answers(alloc, elements, size)? != (true, true, false)
+        {
+            return Ok(false);
+        }
     }
-    Ok(())
+    Ok(true)
 }
 
 #[test]
-fn full_run(rt: HostRuntime) -> Result<(), Fail> {
-    let alloc = rt.alloc();
+fn looked_up(rt: HostRuntime) -> Result<(), AllocError> {
+    assert!(rt; all_found(rt.alloc())?);
+    Ok(())
+}
+
+/// Whether a run that is full is refused for its buckets.
+fn full_is_refused(alloc: Global) -> Result<bool, AllocError> {
     let shape = Shape::Set(Name::from_text(alloc, "B")?);
     let full = loaded(alloc, shape, 4, 4)?;
-    assert!(rt; matches!(full, Err(RowFault::At(Reason::BadBuckets, 0))));
+    Ok(matches!(full, Err(RowFault::At(Reason::BadBuckets, 0))))
+}
+
+#[test]
+fn full_run(rt: HostRuntime) -> Result<(), AllocError> {
+    assert!(rt; full_is_refused(rt.alloc())?);
     Ok(())
 }

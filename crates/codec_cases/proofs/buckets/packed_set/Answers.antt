@@ -1,10 +1,11 @@
-use Rattle.std.proofs.Common.{◌≡◌, ℕ, ◌<◌, List, [], ◌∷◌, Option, Some, ◌+◌, arith, rules, refl, sym, ap, subst, get_or, lit<, ◌∙◌}
+use Rattle.std.proofs.Common.{◌≡◌, ℕ, ◌<◌, List, [], ◌∷◌, Some, ◌+◌, arith, rules, refl, sym, subst, get_or, lit<, ◌∙◌}
 use Rattle.std.proofs.lemmas.List.Kept.{AllPairs-from_increasing}
 use Rattle.std.proofs.lemmas.List.Elements.{All-cons, All-nil}
 use Rattle.schema_model.specs.Row.{Rises}
 use Rattle.schema_model.specs.declared.schema.Shape.{Shape}
 use Rattle.schema_model.specs.declared.rows.row.Row.{Row}
 use Rattle.bucket_codec.specs.BucketCount.{bucket_count}
+use Rattle.bucket_codec.specs.BucketPlace.{IsWidthCount}
 use Rattle.bucket_codec.specs.Packed.{IsPackable, IsPackableRow}
 use Rattle.codec_cases.proofs.buckets.packed_set.Goals as goal
 
@@ -12,11 +13,11 @@ rises_two : Rises (0 ∷ 1 ∷ [])
 rises_two = AllPairs-from_increasing (0 ∷ 1 ∷ []) (λ k below. let first : k ≡ 0 = omega arith in subst (λ i. get_or (0 ∷ 1 ∷ []) i 0 < get_or (0 ∷ 1 ∷ []) (i + 1) 0) (sym first) (lit< tt))
 
 -- the set of 0 and 1 can be packed at these widths
-set_packable : (element widths : List ℕ) (rows : List (Option Row)) → widths ≡ 3 ∷ 2 ∷ 2 ∷ [] → rows ≡ Some (Row.Set (0 ∷ 1 ∷ [])) ∷ [] → IsPackable (Shape.Set element) widths rows
+set_packable : (shape : Shape) (widths ordinals : List ℕ) → IsWidthCount shape 3 → widths ≡ 3 ∷ 2 ∷ 2 ∷ [] → ordinals ≡ 0 ∷ 1 ∷ [] → IsPackable shape widths (Some (Row.Set ordinals) ∷ [])
 unfolding bucket_count
-set_packable element widths rows is those =
-    subst (λ w. IsPackable (Shape.Set element) w rows) (sym is)
-    (subst (λ r. IsPackable (Shape.Set element) (3 ∷ 2 ∷ 2 ∷ []) r) (sym those)
+set_packable (Shape.Set element) widths ordinals counted is those =
+    subst (λ w. IsPackable (Shape.Set element) w (Some (Row.Set ordinals) ∷ [])) (sym is)
+    (subst (λ (os : List ℕ). IsPackable (Shape.Set element) (3 ∷ 2 ∷ 2 ∷ []) (Some (Row.Set os) ∷ [])) (sym those)
     record {
       counted = refl;
       narrow = search rules;
@@ -33,8 +34,9 @@ set_packable element widths rows is those =
       places = lit< tt;
       buckets = lit< tt;
     })
+set_packable _ widths ordinals counted is those = absurd (search rules)
 
-pub pack-requires : goal.pack-requires
-pack-requires c =
-    set_packable _ c.from_vec-widths.result c.from_vec-rows.result (c.from_vec-widths.ensures ∙ c.in_ok-vec.ensures.items)
-    (c.from_vec-rows.ensures ∙ c.in_ok-vec-3.ensures.items ∙ ap (λ l. Some (Row.Set l) ∷ []) (c.from_vec-elements.ensures ∙ c.in_ok-vec-2.ensures.items))
+pub packed_row-requires : goal.packed_row-requires
+packed_row-requires c =
+    set_packable _ c.from_vec-widths.result c.from_vec-elements.result c.in_ok-set_type.ensures (c.from_vec-widths.ensures ∙ c.in_ok-vec.ensures.items)
+    (c.from_vec-elements.ensures ∙ c.in_ok-vec-2.ensures.items)

@@ -2,7 +2,7 @@ use Rattle.std.specs.Ordering.{nat_cmp}
 use Rattle.std.specs.FinMap.{empty}
 use Rattle.std.proofs.lemmas.List.{length-map}
 use Rattle.codec_cases.proofs.EmptyTables.{nothing_live}
-use Rattle.codec_cases.proofs.two_states.NoRowsRows.model.Goals as goal
+use Rattle.codec_cases.proofs.no_rows.NoRowsRows.model.Goals as goal
 
 pub returns-clause-fits : goal.returns-clause-fits
 returns-clause-fits c = record {
