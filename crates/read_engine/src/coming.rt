@@ -1,17 +1,14 @@
 //! The rows that come in a step: the next rows of the types that it names, and the current ones of the others.
-ghost use Rattle.std.specs.Prelude.{◌≡◌, ◌↔◌, Ok, Err, IfOk, IsSome, IsTrue, MatchResult, Some, map};
+ghost use Rattle.std.specs.Prelude.{◌≡◌, ◌↔◌, IfOk, IsSome, IsTrue, Some, map};
 ghost use Rattle.std.specs.List.{AllZip};
 ghost use Rattle.std.specs.FinMap.{get};
 ghost use Rattle.schema_model.specs.Lent.{lent_row};
-ghost use Rattle.schema_model.specs.Table.{IsClosed};
-ghost use Rattle.type_state.specs.Views.{table_of};
-ghost use Rattle.read_engine.specs.Moving.{AreComing, IsComingLaid, Refuses, coming_half, coming_halves, coming_state};
+ghost use Rattle.read_engine.specs.Moving.{IsComingLaid, coming_half, coming_halves, coming_state};
 ghost use Rattle.read_engine.specs.Standing.{IsRowsBound, current_halves};
 
-use crate::TakeFault;
 use crate::past::PastPart;
 use crate::views::{part_at, state_at};
-use schema_model::{LentRow, Model, Row, Rows, first_dangling};
+use schema_model::{LentRow, Model, Row, Rows};
 use std::alloc::{AllocError, Global};
 use type_state::TypeState;
 
@@ -76,27 +73,6 @@ impl<'a> Rows for Coming<'a> {
             Some(state) => lend_to_come(alloc, state, part_at(self.past, type_index), ordinal),
             None => unreachable!(),
         }
-    }
-}
-
-/// Tries whether each ordinal that a row names that comes is live; `Body` comes where one is not.
-pub(crate) fn check_closed(
-    alloc: Global,
-    model: &Model,
-    states: &[TypeState],
-    past: &[PastPart],
-) -> Result<(), TakeFault>
-    requires { AreComing model.now states.now past.now }
-    ensures { MatchResult result (λ done. IsClosed model.now (table_of (coming_halves states.now past.now))) (Refuses (IsClosed model.now (table_of (coming_halves states.now past.now)) → ⊥)) }
-{
-    let rows = Coming {
-        model,
-        states,
-        past,
-    };
-    match first_dangling(alloc, &rows)? {
-        None => Ok(()),
-        Some(_) => Err(TakeFault::Body),
     }
 }
 
