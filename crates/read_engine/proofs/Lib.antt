@@ -1,6 +1,7 @@
 mod Answered
 mod Came
 mod Changed
+mod Closed
 mod Comings
 mod Flips
 mod Follow

@@ -1,5 +1,5 @@
 -- Tables by type: those of the current rows and of the rows before.
-use Rattle.std.proofs.Common.{◌≡◌, ◌<◌, inl, inr, ℕ, zero, suc, List, [], ◌∷◌, length, get_or, map, Bool, true, false, Option, Some, None, Result, refl, sym, ap, ◌∙◌, subst, arith}
+use Rattle.std.proofs.Common.{◌≡◌, ◌<◌, inl, inr, ℕ, zero, suc, List, [], ◌∷◌, length, get_or, map, Bool, false, Option, Some, None, Result, refl, sym, ap, ◌∙◌, subst, arith}
 use Rattle.std.specs.Prelude.{IsSome, IsTrue, IfOk, ◌↔◌, slice_get}
 use Rattle.std.specs.List.{AllZip}
 use Rattle.std.specs.declared.alloc.AllocError.{AllocError}
@@ -9,7 +9,9 @@ use Rattle.std.proofs.lemmas.Bool.{false≢true}
 use Rattle.std.proofs.lemmas.List.{length-map}
 use Rattle.std.proofs.lemmas.Option.{slice_get-get_or, slice_get-map, slice_get_within}
 use Rattle.schema_model.specs.declared.rows.row.Row.{Row}
+use Rattle.schema_model.specs.declared.rows.lent.LentRow.{LentRow}
 use Rattle.schema_model.specs.declared.schema.Schema.{Schema}
+use Rattle.schema_model.specs.Lent.{lent_row}
 use Rattle.schema_model.specs.Table.{RowMap, Table, row_at, IsLive, IsBound}
 use Rattle.type_state.specs.State.{Half, State}
 use Rattle.type_state.specs.Views.{table_of}
@@ -54,6 +56,9 @@ module _ (table : Table) (t : ℕ) where
 
   pub copy_at : (o : ℕ) (rows : RowMap) (answer : Result Row AllocError) → slice_get table t ≡ Some rows → IfOk answer (λ row. get rows o ≡ Some row) → IfOk answer (λ row. row_at table t o ≡ Some row)
   copy_at o rows answer is copied = subst (λ (found : Option Row). IfOk answer (λ row. found ≡ Some row)) (sym (row_of o rows is)) copied
+
+  pub lent_at : (o : ℕ) (rows : RowMap) (answer : Result LentRow AllocError) → slice_get table t ≡ Some rows → IfOk answer (λ lent. get rows o ≡ Some (lent_row lent)) → IfOk answer (λ lent. row_at table t o ≡ Some (lent_row lent))
+  lent_at o rows answer is lent = subst (λ (found : Option Row). IfOk answer (λ lent. found ≡ Some (lent_row lent))) (sym (row_of o rows is)) lent
 
 -- ---- the current rows
 

@@ -36,6 +36,17 @@ pub comes : FitsLaw → RangesLaw → (schemas : List Schema) (parts : List Patc
 comes fits_law ranges_law schemas parts before states past moved stays named was =
     are_coming fits_law ranges_law schemas parts states past moved (stays.schemas ∙ named) (subst (λ (halves : List Half). IsTableOf schemas (table_of halves)) (sym stays.halves) was)
 
+-- what is kept fits the rows that come
+pub all_fitting : (parts : List PatchPart) (states : List State) (past : List PastPart) → AreMoved parts states past → AllZip FitsPast (table_of (coming_halves states past)) past
+all_fitting parts states past moved = all_fit states past (all_changed parts states past moved)
+
+-- the rows before those that come are closed
+pub was_closed : (schemas : List Schema) (parts : List PatchPart) (before states : List State) (past : List PastPart) → AreMoved parts states past → StaysCurrent before states → IsClosed schemas (table_of (current_halves before))
+    → IsClosed schemas (table_before (table_of (coming_halves states past)) past)
+was_closed schemas parts before states past moved stays closed =
+    let same : table_before (table_of (coming_halves states past)) past ≡ table_of (current_halves before) = all_before states past (all_changed parts states past moved) ∙ ap table_of stays.halves in
+    subst (IsClosed schemas) (sym same) closed
+
 -- the rows that come follow each index
 pub all_ready : KeyLaw → FitsLaw → RangesLaw → (schemas : List Schema) (parts : List PatchPart) (before states : List State) (past : List PastPart) → AreMoved parts states past → StaysCurrent before states
     → map (λ (s : State). s.schema) before ≡ schemas → IsTableOf schemas (table_of (current_halves before)) → IsClosed schemas (table_of (current_halves before)) → IsClosed schemas (table_of (coming_halves states past))

@@ -1,3 +1,4 @@
+pub mod Closing
 pub mod Gone
 pub mod Indexes
 pub mod Kept

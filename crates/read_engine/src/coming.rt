@@ -1,16 +1,14 @@
 //! The rows that come in a step: the next rows of the types that it names, and the current ones of the others.
-ghost use Rattle.std.specs.Prelude.{◌≡◌, ◌↔◌, Ok, Err, IfOk, IsSome, IsTrue, MatchResult, Some, map};
+ghost use Rattle.std.specs.Prelude.{◌≡◌, ◌↔◌, IfOk, IsSome, IsTrue, Some, map};
 ghost use Rattle.std.specs.List.{AllZip};
 ghost use Rattle.std.specs.FinMap.{get};
-ghost use Rattle.schema_model.specs.Table.{IsClosed};
-ghost use Rattle.type_state.specs.Views.{table_of};
-ghost use Rattle.read_engine.specs.Moving.{AreComing, IsComingLaid, Refuses, coming_half, coming_halves, coming_state};
+ghost use Rattle.schema_model.specs.Lent.{lent_row};
+ghost use Rattle.read_engine.specs.Moving.{IsComingLaid, coming_half, coming_halves, coming_state};
 ghost use Rattle.read_engine.specs.Standing.{IsRowsBound, current_halves};
 
-use crate::TakeFault;
 use crate::past::PastPart;
 use crate::views::{part_at, state_at};
-use schema_model::{Model, Row, Rows, first_dangling};
+use schema_model::{LentRow, Model, Row, Rows};
 use std::alloc::{AllocError, Global};
 use type_state::TypeState;
 
@@ -64,26 +62,17 @@ impl<'a> Rows for Coming<'a> {
             None => unreachable!(),
         }
     }
-}
 
-/// Tries whether each ordinal that a row names that comes is live; `Body` comes where one is not.
-pub(crate) fn check_closed(
-    alloc: Global,
-    model: &Model,
-    states: &[TypeState],
-    past: &[PastPart],
-) -> Result<(), TakeFault>
-    requires { AreComing model.now states.now past.now }
-    ensures { MatchResult result (λ done. IsClosed model.now (table_of (coming_halves states.now past.now))) (Refuses (IsClosed model.now (table_of (coming_halves states.now past.now)) → ⊥)) }
-{
-    let rows = Coming {
-        model,
-        states,
-        past,
-    };
-    match first_dangling(alloc, &rows)? {
-        None => Ok(()),
-        Some(_) => Err(TakeFault::Body),
+    fn lend(
+        &self,
+        alloc: Global,
+        type_index: u32,
+        ordinal: u32,
+    ) -> Result<LentRow<'_>, AllocError> {
+        match state_at(self.states, type_index) {
+            Some(state) => lend_to_come(alloc, state, part_at(self.past, type_index), ordinal),
+            None => unreachable!(),
+        }
     }
 }
 
@@ -147,5 +136,23 @@ fn row_to_come(
         state.next_row(alloc, ordinal)
     } else {
         state.row(alloc, ordinal)
+    }
+}
+
+// The row that a type comes to have under an ordinal that comes to be live, where it stands.
+fn lend_to_come<'a>(
+    alloc: Global,
+    state: &'a TypeState,
+    part: &PastPart,
+    ordinal: u32,
+) -> Result<LentRow<'a>, AllocError>
+    requires laid { IsComingLaid state.now part.now }
+    requires live { IsSome (get (coming_half state.now part.now).rows ordinal) }
+    ensures { IfOk result (λ lent. get (coming_half state.now part.now).rows ordinal ≡ Some (lent_row lent)) }
+{
+    if part.named {
+        state.lend_next(alloc, ordinal)
+    } else {
+        state.lend(alloc, ordinal)
     }
 }

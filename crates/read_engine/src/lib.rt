@@ -1,6 +1,7 @@
 //! A consumer: the state that it loads from a snapshot and moves by deltas, and the indexes that it keeps over its rows.
 #![tactic(auto)]
 
+mod closing;
 mod coming;
 mod consumer;
 mod fault;

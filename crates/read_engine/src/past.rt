@@ -3,11 +3,12 @@ ghost use Rattle.std.specs.Prelude.{◌≡◌, ◌↔◌, ◌<◌, ℕ, Some, No
 ghost use Rattle.std.specs.List.Sorted.{IsStrictlyIncreasing};
 ghost use Rattle.std.specs.FinMap.{find, get};
 ghost use Rattle.std.specs.Ordering.{nat_cmp};
+ghost use Rattle.schema_model.specs.Lent.{lent_row};
 ghost use Rattle.read_engine.specs.Past.{FitsPast, is_new, left_rows, no_part, rows_before};
 ghost use Rattle.read_engine.specs.Standing.{IsRowsBound};
 
 use hol_varint::{Duplicate, List, Ordinals};
-use schema_model::Row;
+use schema_model::{LentRow, Row};
 use std::alloc::{AllocError, Global};
 use type_state::TypeState;
 
@@ -87,6 +88,23 @@ pub(crate) fn row_before(
     match part.left_row(ordinal) {
         Some(row) => row.copy(alloc),
         None => state.row(alloc, ordinal),
+    }
+}
+
+/// The row that the type had under an ordinal that was live before the step, where it stands.
+pub(crate) fn lend_before<'a>(
+    alloc: Global,
+    state: &'a TypeState,
+    part: &'a PastPart,
+    ordinal: u32,
+) -> Result<LentRow<'a>, AllocError>
+    requires fits { FitsPast state.now.current.rows part.now }
+    requires live { IsSome (get (rows_before state.now.current.rows part.now) ordinal) }
+    ensures { IfOk result (λ lent. get (rows_before state.now.current.rows part.now) ordinal ≡ Some (lent_row lent)) }
+{
+    match part.left_row(ordinal) {
+        Some(row) => Ok(LentRow::Kept(row)),
+        None => state.lend(alloc, ordinal),
     }
 }
 

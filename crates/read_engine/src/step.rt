@@ -13,7 +13,8 @@ ghost use Rattle.read_engine.specs.Standing.{current_halves};
 ghost use Rattle.read_engine.specs.Taking.{TellsStep};
 
 use crate::TakeFault;
-use crate::coming::{check_closed, flip_named};
+use crate::closing::check_closed;
+use crate::coming::flip_named;
 use crate::keeping::{reserve_all, update_all};
 use crate::load::body_fault;
 use crate::moving::move_types;

@@ -1,15 +1,16 @@
 //! The rows of a consumer's state, and those before its last step.
 ghost use Rattle.std.specs.Prelude.{◌≡◌, ◌↔◌, ◌<◌, Some, None, IfOk, IsTrue, MatchOption, length, slice_get};
 ghost use Rattle.std.specs.List.{AllZip};
+ghost use Rattle.schema_model.specs.Lent.{lent_row};
 ghost use Rattle.schema_model.specs.Table.{IsBound, IsLive, row_at};
 ghost use Rattle.type_state.specs.Views.{table_of};
 ghost use Rattle.read_engine.specs.Past.{FitsPast, table_before};
 ghost use Rattle.read_engine.specs.Position.{IsPosition, rows_now};
 ghost use Rattle.read_engine.specs.Standing.{current_halves};
 
-use crate::past::{PastPart, bound_before, row_before, was_live};
+use crate::past::{PastPart, bound_before, lend_before, row_before, was_live};
 use crate::stand::Stand;
-use schema_model::{Model, Row, Rows};
+use schema_model::{LentRow, Model, Row, Rows};
 use std::alloc::{AllocError, Global};
 use type_state::TypeState;
 
@@ -65,6 +66,16 @@ impl<'a> Rows for Now<'a> {
     fn row(&self, alloc: Global, type_index: u32, ordinal: u32) -> Result<Row, AllocError> {
         let stand: &Stand = self.stand;
         row_in(alloc, stand.states.as_slice(), type_index, ordinal)
+    }
+
+    fn lend(
+        &self,
+        alloc: Global,
+        type_index: u32,
+        ordinal: u32,
+    ) -> Result<LentRow<'_>, AllocError> {
+        let stand: &Stand = self.stand;
+        lend_in(alloc, stand.states.as_slice(), type_index, ordinal)
     }
 }
 
@@ -126,6 +137,17 @@ impl<'a> Rows for Before<'a> {
         let states = stand.states.as_slice();
         row_of_past(alloc, states, stand.past.as_slice(), type_index, ordinal)
     }
+
+    fn lend(
+        &self,
+        alloc: Global,
+        type_index: u32,
+        ordinal: u32,
+    ) -> Result<LentRow<'_>, AllocError> {
+        let stand: &Stand = self.stand;
+        let states = stand.states.as_slice();
+        lend_of_past(alloc, states, stand.past.as_slice(), type_index, ordinal)
+    }
 }
 
 // One past the greatest live ordinal of a type, 0 for none.
@@ -160,6 +182,22 @@ fn row_in(
 {
     match state_at(states, type_index) {
         Some(state) => state.row(alloc, ordinal),
+        None => unreachable!(),
+    }
+}
+
+// The row of a type under a live ordinal, where it stands.
+fn lend_in(
+    alloc: Global,
+    states: &[TypeState],
+    type_index: u32,
+    ordinal: u32,
+) -> Result<LentRow<'_>, AllocError>
+    requires { IsLive (table_of (current_halves states.now)) type_index ordinal }
+    ensures { IfOk result (λ lent. row_at (table_of (current_halves states.now)) type_index ordinal ≡ Some (lent_row lent)) }
+{
+    match state_at(states, type_index) {
+        Some(state) => state.lend(alloc, ordinal),
         None => unreachable!(),
     }
 }
@@ -200,6 +238,24 @@ fn row_of_past(
 {
     match state_at(states, type_index) {
         Some(state) => row_before(alloc, state, part_at(past, type_index), ordinal),
+        None => unreachable!(),
+    }
+}
+
+// The row that a type had under an ordinal that was live before the last step, where it stands.
+fn lend_of_past<'a>(
+    alloc: Global,
+    states: &'a [TypeState],
+    past: &'a [PastPart],
+    type_index: u32,
+    ordinal: u32,
+) -> Result<LentRow<'a>, AllocError>
+    requires fits { AllZip FitsPast (table_of (current_halves states.now)) past.now }
+    requires live { IsLive (table_before (table_of (current_halves states.now)) past.now) type_index ordinal }
+    ensures { IfOk result (λ lent. row_at (table_before (table_of (current_halves states.now)) past.now) type_index ordinal ≡ Some (lent_row lent)) }
+{
+    match state_at(states, type_index) {
+        Some(state) => lend_before(alloc, state, part_at(past, type_index), ordinal),
         None => unreachable!(),
     }
 }

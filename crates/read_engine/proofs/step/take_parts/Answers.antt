@@ -1,24 +1,35 @@
 use Rattle.std.proofs.Common.{ap, map, sym, subst, ◌∙◌, List}
 use Rattle.std.specs.Prelude.{All}
+use Rattle.std.specs.List.{AllZip}
 use Rattle.schema_model.specs.Table.{IsClosed}
 use Rattle.type_state.specs.State.{Half}
 use Rattle.type_state.specs.Views.{table_of}
 use Rattle.read_engine.specs.declared.past.PastPart.{PastPart}
 use Rattle.read_engine.specs.Kept.{FollowsPart, IsKept, index_kept}
 use Rattle.read_engine.specs.Moving.{AreComing, AreMoved, RefusesParts, coming_halves}
+use Rattle.read_engine.specs.Past.{FitsPast, table_before}
 use Rattle.read_engine.specs.Standing.{current_halves}
 use Rattle.read_engine.proofs.Follow.{all_moved, all_reserved, all_settled, same_indexes}
 use Rattle.read_engine.proofs.Moves.{on_err, refused_exit, refuses_as}
-use Rattle.read_engine.proofs.Taken.{all_ready, comes, whole_readable}
+use Rattle.read_engine.proofs.Taken.{all_fitting, all_ready, comes, was_closed, whole_readable}
 use Rattle.read_engine.proofs.step.take_parts.Goals as goal
 
 pub move_types-requires-clause-readable : goal.move_types-requires-clause-readable
 move_types-requires-clause-readable g c = whole_readable c.args.states.now c.args.model.now c.args.parts.now c.requires.named c.requires.whole
 
-pub check_closed-requires : goal.check_closed-requires
-check_closed-requires g c =
+pub check_closed-requires-clause-coming : goal.check_closed-requires-clause-coming
+check_closed-requires-clause-coming g c =
     subst (AreComing c.args.model.now c.move_types.new.states) (sym c.as_slice-kept.ensures)
     (comes c.moved_rows_fit.ensures.fits c.moved_rows_fit.ensures.ranges c.args.model.now c.args.parts.now c.args.states.now c.move_types.new.states c.in_ok-past.past c.in_ok-past.ensures.moved c.in_ok-past.ensures.stays c.requires.named c.requires.fits)
+
+pub check_closed-requires-clause-fits : goal.check_closed-requires-clause-fits
+check_closed-requires-clause-fits g c =
+    subst (λ (past : List PastPart). AllZip FitsPast (table_of (coming_halves c.move_types.new.states past)) past) (sym c.as_slice-kept.ensures) (all_fitting c.args.parts.now c.move_types.new.states c.in_ok-past.past c.in_ok-past.ensures.moved)
+
+pub check_closed-requires-clause-closed : goal.check_closed-requires-clause-closed
+check_closed-requires-clause-closed g c =
+    subst (λ (past : List PastPart). IsClosed c.args.model.now (table_before (table_of (coming_halves c.move_types.new.states past)) past)) (sym c.as_slice-kept.ensures)
+    (was_closed c.args.model.now c.args.parts.now c.args.states.now c.move_types.new.states c.in_ok-past.past c.in_ok-past.ensures.moved c.in_ok-past.ensures.stays c.requires.closed)
 
 pub returns-in_err-check_closed-clause-refused : goal.returns-in_err-check_closed-clause-refused
 returns-in_err-check_closed-clause-refused g c =
