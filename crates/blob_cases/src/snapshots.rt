@@ -1,7 +1,7 @@
 //! A snapshot of two rows that is read, and one that is not there.
 use blob_frame::BlobFault;
 use hol_io::{BlobName, BlobStore, SureStore};
-use schema_model::Rows;
+use row_model::Rows;
 use snapshot_blob::read_snapshot;
 use std::test::Fail;
 

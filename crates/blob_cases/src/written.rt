@@ -6,11 +6,9 @@ ghost use Rattle.schema_model.specs.Schema.{IsSpellable};
 use blob_sections::PackedRows;
 use hol_varint::{Octets, Ordinals};
 use ordinal_set::OrdinalSet;
+use row_model::{Areas, Packed, Widths, Words};
 use schema_model::laws::spellable_model;
-use schema_model::{
-    Areas, Field, FieldKind, Fields, Model, Name, Packed, Schema, Schemas, Shape, Widths, Words,
-    model_of,
-};
+use schema_model::{Field, FieldKind, Fields, Model, Name, Schema, Schemas, Shape, model_of};
 use section_writing::{
     put_delta_type, put_max, put_ordinals, put_packed, put_snapshot_type, put_type_head,
 };

@@ -10,7 +10,8 @@ use crate::cursor::Cursor;
 use crate::fault::BlobFault;
 use hol_io::BlobStore;
 use hol_varint::Octets;
-use schema_model::{Reason, Words};
+use row_model::Words;
+use schema_model::Reason;
 
 impl Cursor {
     /// The next byte. `Truncated` where the blob has none.

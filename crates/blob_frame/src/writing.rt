@@ -1,6 +1,6 @@
 //! Writing the header of a blob.
 ghost use Rattle.std.specs.Prelude.{◌≡◌, ◌<◌, ◌≤◌, ◌^◌, [], ◌++◌, length, All, OnOk, OnErr, IfOk};
-ghost use Rattle.schema_model.specs.Row.{Rises};
+ghost use Rattle.row_model.specs.Row.{Rises};
 ghost use Rattle.blob_frame.specs.Written.{schemas_at, schema_list_bytes, header_bytes};
 
 use crate::header::FORMAT;

@@ -10,7 +10,8 @@ use crate::widths::{field_widths, part_widths};
 use blob_frame::{BlobFault, Cursor, counted};
 use hol_io::BlobStore;
 use hol_varint::Octets;
-use schema_model::{Areas, Field, Packed, Reason, Shape, Widths, Words};
+use row_model::{Areas, Packed, Widths, Words};
+use schema_model::{Field, Reason, Shape};
 use type_state::words_needed;
 
 /// The rows of a type as they are packed in a blob.

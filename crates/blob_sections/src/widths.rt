@@ -10,7 +10,8 @@ ghost use Rattle.blob_sections.specs.Width.{field_width, part_width, part_widths
 
 use blob_frame::{BlobFault, Cursor};
 use hol_io::BlobStore;
-use schema_model::{Field, FieldKind, Reason, Shape, Widths};
+use row_model::Widths;
+use schema_model::{Field, FieldKind, Reason, Shape};
 
 // Whether a field of a kind may have a width where there are places.
 fn is_kind_width(kind: &FieldKind, width: u32) -> bool

@@ -7,7 +7,7 @@ use Rattle.std.proofs.lemmas.List.Sums.{sum_by_more}
 use Rattle.std.proofs.lemmas.Option.{slice_get-get_or, none-some, some_pair_parts}
 use Rattle.bit_array.specs.Element.{number_of, element_of}
 use Rattle.schema_model.specs.declared.schema.Shape.{Shape}
-use Rattle.schema_model.specs.declared.rows.row.Row.{Row}
+use Rattle.row_model.specs.declared.row.Row.{Row}
 use Rattle.bucket_codec.specs.BucketCount.{bucket_count}
 use Rattle.bucket_codec.specs.Run.{Bucket, bucket_at, bucket_in, value_in, run_in, IsZeroIfEmpty}
 use Rattle.bucket_codec.specs.BucketPlace.{pointer_width, size_width, key_width, value_width, place_width, bucket_width, start_at, end_at, size_at, IsRowOf}

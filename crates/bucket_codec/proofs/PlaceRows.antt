@@ -3,9 +3,9 @@ use Rattle.std.proofs.Common.{◌≡◌, ℕ, ◌-◌, ◌≤◌, List, [], ◌�
 use Rattle.std.proofs.lemmas.List.Sorted.{All-permutation, IsPermutation-sym, length_permutation}
 use Rattle.hol_varint.specs.Yields.{Yields}
 use Rattle.schema_model.specs.declared.schema.Shape.{Shape}
-use Rattle.schema_model.specs.declared.rows.row.Row.{Row}
+use Rattle.row_model.specs.declared.row.Row.{Row}
 use Rattle.schema_model.specs.declared.reason.Reason.{Reason}
-use Rattle.schema_model.specs.declared.rows.packed.PlaceFault.{PlaceFault}
+use Rattle.row_model.specs.declared.packed.PlaceFault.{PlaceFault}
 use Rattle.bucket_codec.specs.Taken.{HasBadValue, TellsPairs}
 use Rattle.bucket_codec.specs.Run.{Bucket, taken_of, IsPairInRange, SpellsRun}
 use Rattle.bucket_codec.specs.BucketPlace.{run_at, start_at, end_at, key_width, value_width, IsSpan, SpellsPairs, IsRowOf, SpellsBucketRow, FailsBucketRow, TellsBucketRow, TellsPlace, size_at, IsFreePlace}

@@ -9,9 +9,9 @@ use Rattle.std.proofs.lemmas.List.Sums.{sum_by_more, sum_by-take-le}
 use Rattle.std.proofs.lemmas.Option.{get_or_from_slice_get, slice_get_within}
 use Rattle.std.proofs.lemmas.List.{get_or_past, get_or_default, take_all}
 use Rattle.bit_array.specs.Element.{words_of}
-use Rattle.schema_model.specs.Row.{Rises, FitsShape}
+use Rattle.row_model.specs.Row.{Rises, FitsShape}
 use Rattle.schema_model.specs.declared.schema.Shape.{Shape}
-use Rattle.schema_model.specs.declared.rows.row.Row.{Row}
+use Rattle.row_model.specs.declared.row.Row.{Row}
 use Rattle.bucket_codec.specs.BucketCount.{IsBucketCount, bucket_count}
 use Rattle.bucket_codec.specs.Run.{run_in, keys_of, HoldsRun, IsPairInRange, IsZeroIfEmpty}
 use Rattle.bucket_codec.specs.Filled.{KeepsFront, KeepsBack, IsFilled}

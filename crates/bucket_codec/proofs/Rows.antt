@@ -4,8 +4,8 @@ use Rattle.std.specs.Int.{IsPowerOfTwo}
 use Rattle.std.proofs.Math.Nat.{mul-le-mul_right}
 use Rattle.std.proofs.lemmas.List.Sorted.{length_permutation}
 use Rattle.bit_array.specs.Element.{element_of}
-use Rattle.schema_model.specs.Row.{Rises}
-use Rattle.schema_model.specs.declared.rows.row.Row.{Row}
+use Rattle.row_model.specs.Row.{Rises}
+use Rattle.row_model.specs.declared.row.Row.{Row}
 use Rattle.bucket_codec.specs.BucketCount.{IsBucketCount, bucket_count}
 use Rattle.bucket_codec.specs.Run.{Bucket, bucket_at, bucket_in, value_in, run_in, taken_of, keys_of, IsPairInRange, IsZeroIfEmpty, SpellsRun}
 use Rattle.bucket_codec.specs.Filled.{KeepsFront, IsFilled}

@@ -3,9 +3,9 @@ use Rattle.std.proofs.Common.{◌≡◌, ℕ, List, length, All, Ok, Err, sym, a
 use Rattle.std.specs.Int.{IsPowerOfTwo}
 use Rattle.std.specs.List.Sorted.{IsPermutation, IsNonDecreasingBy}
 use Rattle.std.proofs.lemmas.List.Sorted.{length_permutation, All-permutation, IsPermutation-trans, IsPermutation-sym}
-use Rattle.schema_model.specs.Row.{Rises}
+use Rattle.row_model.specs.Row.{Rises}
 use Rattle.schema_model.specs.declared.reason.Reason.{Reason}
-use Rattle.schema_model.specs.declared.rows.packed.PlaceFault.{PlaceFault}
+use Rattle.row_model.specs.declared.packed.PlaceFault.{PlaceFault}
 use Rattle.bucket_codec.specs.Run.{Bucket, taken_of, keys_of, IsPairInRange}
 use Rattle.bucket_codec.specs.Streak.{IsOpen}
 use Rattle.bucket_codec.specs.Taken.{TellsPairs, TellsTaken}

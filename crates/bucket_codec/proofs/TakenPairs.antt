@@ -2,7 +2,7 @@
 use Rattle.std.proofs.Common.{◌≡◌, ℕ, ◌+◌, ◌<◌, List, [], ◌∷◌, ◌++◌, length, All, Some, None, Ok, Err, refl, sym, ap, subst, ◌∙◌}
 use Rattle.std.proofs.lemmas.List.Elements.{All-append, All-cons, All-nil, All-contains, filter_map-append}
 use Rattle.std.proofs.lemmas.List.FromFn.{map-range_with_len_more}
-use Rattle.schema_model.specs.declared.rows.packed.PlaceFault.{PlaceFault}
+use Rattle.row_model.specs.declared.packed.PlaceFault.{PlaceFault}
 use Rattle.bucket_codec.specs.Run.{Bucket, bucket_in, bucket_at, run_in, taken_of, IsPairInRange}
 use Rattle.bucket_codec.specs.Taken.{HasBadValue, TellsBucket, TellsTaken}
 use Rattle.bucket_codec.proofs.Buckets.{bucket_of_run}

@@ -2,9 +2,9 @@
 use Rattle.std.specs.Prelude.{◌≡◌, ℕ, zero, suc, ◌+◌, ◌-◌, ◌*◌, ◌^◌, ◌<◌, ◌≤◌, List, length, All, slice_index, Result, Ok, Err}
 use Rattle.bit_array.specs.Element.{element_of}
 use Rattle.schema_model.specs.declared.schema.Shape.{Shape}
-use Rattle.schema_model.specs.declared.rows.row.Row.{Row}
+use Rattle.row_model.specs.declared.row.Row.{Row}
 use Rattle.schema_model.specs.declared.reason.Reason.{Reason}
-use Rattle.schema_model.specs.declared.rows.packed.PlaceFault.{PlaceFault}
+use Rattle.row_model.specs.declared.packed.PlaceFault.{PlaceFault}
 use Rattle.bucket_codec.specs.Run.{Bucket, taken_of, keys_of, IsPairInRange, SpellsRun, run_in}
 use Rattle.bucket_codec.specs.Taken.{HasBadValue}
 

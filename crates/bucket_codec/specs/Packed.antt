@@ -2,9 +2,9 @@
 use Rattle.std.specs.Prelude.{◌≡◌, ℕ, ◌+◌, ◌-◌, ◌*◌, ◌^◌, ◌<◌, ◌≤◌, List, [], length, map, All, Option, None, Some, slice_get}
 use Rattle.std.specs.List.{sum_by}
 use Rattle.bit_array.specs.Element.{number_of, words_of}
-use Rattle.schema_model.specs.Row.{FitsShape, Rises}
+use Rattle.row_model.specs.Row.{FitsShape, Rises}
 use Rattle.schema_model.specs.declared.schema.Shape.{Shape}
-use Rattle.schema_model.specs.declared.rows.row.Row.{Row}
+use Rattle.row_model.specs.declared.row.Row.{Row}
 use Rattle.bucket_codec.specs.BucketCount.{bucket_count}
 use Rattle.bucket_codec.specs.Run.{keys_of, IsZeroIfEmpty}
 use Rattle.bucket_codec.specs.BucketPlace.{pointer_width, size_width, key_width, value_width, place_width, bucket_width, start_at, end_at, size_at, run_at, IsWidthCount, SpellsBucketRow, SpellsPairs}

@@ -4,7 +4,7 @@ use Rattle.std.specs.Int.{IsPowerOfTwo}
 use Rattle.std.specs.List.{slice_index_or, filter_map, range_with_len, Contains}
 use Rattle.std.specs.List.Sorted.{IsPermutation}
 use Rattle.bit_array.specs.Element.{element_of}
-use Rattle.schema_model.specs.Row.{Rises}
+use Rattle.row_model.specs.Row.{Rises}
 use Rattle.bucket_codec.specs.Hash.{hash_of}
 
 -- A bucket: empty, or taken by a key and its value. An element of a set is a key, with the value 0.

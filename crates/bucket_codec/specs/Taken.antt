@@ -1,7 +1,7 @@
 -- Runs of buckets: what each answer tells of those who read a run's pairs.
 use Rattle.std.specs.Prelude.{◌≡◌, ℕ, List, [], ◌∷◌, ◌++◌, length, All, Result, Ok, Err}
 use Rattle.schema_model.specs.declared.reason.Reason.{Reason}
-use Rattle.schema_model.specs.declared.rows.packed.PlaceFault.{PlaceFault}
+use Rattle.row_model.specs.declared.packed.PlaceFault.{PlaceFault}
 use Rattle.bucket_codec.specs.Run.{Bucket, taken_of, IsPairInRange, SpellsRun}
 
 -- An element, key or value of a taken bucket is no ordinal.

@@ -9,8 +9,9 @@ ghost use Rattle.bucket_codec.specs.Widths.{buckets_of_rows, values_of, widths_f
 use crate::hash::buckets_for_any;
 use crate::packing::size_of;
 use bit_array::digits;
+use row_model::{Row, Rows, Widths};
 use row_walk::RowWalk;
-use schema_model::{MAX_ITEMS, Row, Rows, Shape, Widths};
+use schema_model::{MAX_ITEMS, Shape};
 use std::alloc::{AllocError, Global};
 
 /// The widths, in bits, of the pointers, the sizes, and the elements of a SET type, or the keys and values of a MAP type: those that the rows of

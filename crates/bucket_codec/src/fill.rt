@@ -1,7 +1,7 @@
 //! Runs of buckets, written.
 ghost use Rattle.std.specs.Prelude.{◌≡◌, ◌≢◌, ◌+◌, ◌-◌, ◌*◌, ◌^◌, ◌<◌, ◌≤◌, ◌==◌, if◌then◌else◌, ℕ, List, [], ◌∷◌, ◌++◌, length, map, All, None, Some};
 ghost use Rattle.bucket_codec.specs.Run.{bucket_in, value_in, run_in, taken_of, HoldsRun, IsPairInRange, IsZeroIfEmpty};
-ghost use Rattle.schema_model.specs.declared.rows.row.Row.TheVariants.{Set};
+ghost use Rattle.row_model.specs.declared.row.Row.TheVariants.{Set};
 ghost use Rattle.bucket_codec.specs.Packed.{pairs_of, IsBuckets};
 ghost use Rattle.bucket_codec.specs.Filled.{KeepsFront, KeepsBack, FillsRun, IsFilled, IsFree};
 ghost use Rattle.bucket_codec.specs.Inserted.{with_pair};
@@ -9,7 +9,7 @@ ghost use Rattle.bucket_codec.specs.Inserted.{with_pair};
 use crate::hash::hash_int;
 use crate::run::{Run, round};
 use bit_array::{all_ones, set_element};
-use schema_model::Row;
+use row_model::Row;
 
 impl Run {
     /// Empties each bucket: its key is then all ones, and its value 0.

@@ -1,7 +1,7 @@
 //! Laws of the definitions: a place spells one row at most, and not both a row and a reason why there is none; rows are packed in one way.
 ghost use Rattle.std.specs.Prelude.{◌≡◌, ℕ, List, [], ◌∷◌, Option, Some, None};
 ghost use Rattle.schema_model.specs.declared.schema.Shape.{Shape};
-ghost use Rattle.schema_model.specs.declared.rows.row.Row.{Row};
+ghost use Rattle.row_model.specs.declared.row.Row.{Row};
 ghost use Rattle.schema_model.specs.declared.reason.Reason.{Reason};
 ghost use Rattle.bucket_codec.specs.Run.{Bucket, SpellsRun};
 ghost use Rattle.bucket_codec.specs.BucketPlace.{SpellsBucketRow, FailsBucketRow};

@@ -1,7 +1,7 @@
 //! Rows of sets and maps, packed.
 ghost use Rattle.std.specs.Prelude.{◌≡◌, ℕ, ◌+◌, ◌*◌, ◌^◌, ◌<◌, ◌≤◌, List, [], length, replicate, vec_len, All, Option, Some, None, slice_index_or, IfOk};
 ghost use Rattle.bit_array.specs.Element.{number_of, words_of};
-ghost use Rattle.schema_model.specs.declared.rows.row.Row.{Row as StoredRow};
+ghost use Rattle.row_model.specs.declared.row.Row.{Row as StoredRow};
 ghost use Rattle.bucket_codec.specs.Filled.{KeepsFront, KeepsBack};
 ghost use Rattle.bucket_codec.specs.Run.{IsZeroIfEmpty};
 ghost use Rattle.bucket_codec.specs.BucketPlace.{pointer_width, key_width, value_width, place_width, bucket_width, start_at, end_at, HoldsPointers};
@@ -11,7 +11,8 @@ use crate::hash::buckets_for;
 use crate::place::{map_value_width, place_bits, put_pointers};
 use crate::run::Run;
 use bit_array::words_for;
-use schema_model::{Areas, Packed, Places, Row, Schema, Widths, Words};
+use row_model::{Areas, Packed, Places, Row, Widths, Words};
+use schema_model::Schema;
 use std::alloc::{AllocError, Global};
 
 /// The words that spell these rows, place by place.

@@ -2,12 +2,13 @@
 ghost use Rattle.std.specs.Prelude.{◌≡◌, ◌<◌, length, MatchBool};
 ghost use Rattle.std.specs.Int.{IsPowerOfTwo};
 ghost use Rattle.std.specs.List.Sorted.{IsPermutation, IsNonDecreasingBy};
-ghost use Rattle.schema_model.specs.Row.{Rises};
+ghost use Rattle.row_model.specs.Row.{Rises};
 ghost use Rattle.bucket_codec.specs.Run.{keys_of, run_in, HoldsRun};
 ghost use Rattle.bucket_codec.specs.Taken.{TellsPairs};
 
 use crate::run::Run;
-use schema_model::{Pairs, PlaceFault, Reason};
+use row_model::{Pairs, PlaceFault};
+use schema_model::Reason;
 use std::alloc::Global;
 
 impl Run {

@@ -1,15 +1,16 @@
 //! Rows of sets and maps, read.
 ghost use Rattle.std.specs.Prelude.{◌≡◌, ◌*◌, ◌^◌, ◌<◌, ◌≤◌, length, IfOk, Ok, Err};
 ghost use Rattle.hol_varint.specs.Yields.{Yields};
-ghost use Rattle.schema_model.specs.declared.rows.row.Row.{Row as StoredRow};
+ghost use Rattle.row_model.specs.declared.row.Row.{Row as StoredRow};
 ghost use Rattle.schema_model.specs.declared.reason.Reason.{Reason};
-ghost use Rattle.schema_model.specs.declared.rows.packed.PlaceFault.TheVariants.{Bad};
+ghost use Rattle.row_model.specs.declared.packed.PlaceFault.TheVariants.{Bad};
 ghost use Rattle.bucket_codec.specs.Run.{keys_of};
 ghost use Rattle.bucket_codec.specs.BucketPlace.{HoldsPlace, HoldsPointers, SpellsBucketRow, FailsBucketRow, TellsBucketRow, TellsPlace, IsFreePlace};
 
 use crate::place::{bounded_run, size};
 use hol_varint::Ordinals;
-use schema_model::{Pairs, Parts, PlaceFault, Reason, Row, Schema, Shape, Widths};
+use row_model::{Pairs, Parts, PlaceFault, Row, Widths};
+use schema_model::{Reason, Schema, Shape};
 use std::alloc::{AllocError, Global};
 
 /// The set or map that the parts of a SET or MAP type spell at a place.

@@ -4,7 +4,8 @@ ghost use Rattle.bucket_codec.specs.Run.{bucket_at, run_in, HoldsRun};
 ghost use Rattle.bucket_codec.specs.Taken.{TellsBucket, TellsTaken};
 
 use crate::run::Run;
-use schema_model::{Pairs, PlaceFault, Reason};
+use row_model::{Pairs, PlaceFault};
+use schema_model::Reason;
 use std::alloc::Global;
 
 impl Run {

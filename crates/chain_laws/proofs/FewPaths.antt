@@ -9,7 +9,7 @@ use Rattle.schema_model.specs.declared.schema.Shape.{Shape}
 use Rattle.schema_model.specs.declared.schema.Shape.TheVariants.{Object, Set, List as ListShape, Map}
 use Rattle.schema_model.specs.Parts.{shape_key}
 use Rattle.schema_model.specs.Schema.{fields_bytes, kind_number, name_bytes, paths_bytes, schema_bytes, shape_bytes}
-use Rattle.schema_model.specs.Table.{Table}
+use Rattle.row_model.specs.Table.{Table}
 use Rattle.blob_frame.specs.Header.{format_number}
 use Rattle.blob_frame.specs.Written.{header_bytes, schema_list_bytes}
 use Rattle.section_writing.specs.Limits.{HaveFewPaths}

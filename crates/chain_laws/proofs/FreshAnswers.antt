@@ -7,9 +7,9 @@ use Rattle.schema_model.specs.declared.schema.Schema.{Schema}
 use Rattle.schema_model.specs.declared.schema.name.Name.{Name}
 use Rattle.schema_model.specs.Limit.{number_of_limit}
 use Rattle.schema_model.specs.Parts.{index_of_type}
-use Rattle.schema_model.specs.PlainTree.{node_count}
-use Rattle.schema_model.specs.Table.{Table, IsLive}
-use Rattle.schema_model.specs.Unfold.{unfold_row}
+use Rattle.row_model.specs.PlainTree.{node_count}
+use Rattle.row_model.specs.Table.{Table, IsLive}
+use Rattle.row_model.specs.Unfold.{unfold_row}
 use Rattle.record_json.specs.PrintTree.{PrintsTree}
 use Rattle.hol_orders.specs.declared.refusal.Refusal.{Refusal}
 use Rattle.hol_orders.specs.declared.refusal.Refusal.TheVariants.{NoRow, TooLarge}

@@ -11,11 +11,11 @@ use Rattle.schema_model.specs.declared.model.path.Path.{Path}
 use Rattle.schema_model.specs.declared.model.rule.Rule.TheVariants.{DuplicateName}
 use Rattle.schema_model.specs.declared.schema.Schema.{Schema}
 use Rattle.schema_model.specs.declared.schema.name.Name.{Name}
-use Rattle.schema_model.specs.Key.{AreKeyed, key_of}
+use Rattle.row_model.specs.Key.{AreKeyed, key_of}
 use Rattle.schema_model.specs.Limit.{number_of_limit}
 use Rattle.schema_model.specs.Model.{IsKept}
 use Rattle.schema_model.specs.Parts.{index_of_type}
-use Rattle.schema_model.specs.Table.{Table}
+use Rattle.row_model.specs.Table.{Table}
 use Rattle.row_walk.specs.BothStates.{rows_in}
 use Rattle.row_packing.proofs.LiveRows.{is_live, live_is, rising_keys}
 use Rattle.hol_orders.specs.declared.reply.Reply.{Reply}

@@ -5,15 +5,15 @@ use Rattle.serde_json.specs.Data.{Data}
 use Rattle.serde_json.specs.View.{view}
 use Rattle.schema_model.specs.declared.limit.Limit.TheVariants.{Nodes}
 use Rattle.schema_model.specs.declared.model.path.Path.{Path}
-use Rattle.schema_model.specs.declared.rows.row.Value.{Value}
+use Rattle.row_model.specs.declared.row.Value.{Value}
 use Rattle.schema_model.specs.declared.schema.Schema.{Schema}
 use Rattle.schema_model.specs.declared.schema.Shape.{Shape}
 use Rattle.schema_model.specs.declared.schema.name.Name.{Name}
-use Rattle.schema_model.specs.Key.{AreMatches}
+use Rattle.row_model.specs.Key.{AreMatches}
 use Rattle.schema_model.specs.Limit.{number_of_limit}
-use Rattle.schema_model.specs.PlainTree.{node_count}
-use Rattle.schema_model.specs.Table.{IsLive, Table, row_at}
-use Rattle.schema_model.specs.Unfold.{unfold_row}
+use Rattle.row_model.specs.PlainTree.{node_count}
+use Rattle.row_model.specs.Table.{IsLive, Table, row_at}
+use Rattle.row_model.specs.Unfold.{unfold_row}
 use Rattle.bucket_codec.specs.Run.{FindsIn}
 use Rattle.type_state.specs.Lookup.{elements_of, pairs_of}
 use Rattle.json_rows.specs.KeyFrom.{SpellsKey}

@@ -6,8 +6,8 @@ use Rattle.std.specs.FinMap.{get, get-empty}
 use Rattle.std.specs.Ordering.{nat_cmp}
 use Rattle.std.proofs.lemmas.Int.{ints}
 use Rattle.hol_io.specs.Store.{Store}
-use Rattle.schema_model.specs.declared.rows.row.Row.{Row}
-use Rattle.schema_model.specs.Table.{Table}
+use Rattle.row_model.specs.declared.row.Row.{Row}
+use Rattle.row_model.specs.Table.{Table}
 use Rattle.row_walk.proofs.RowsFrom.{get_in}
 use Rattle.write_engine.specs.Agreement.{HoldsOnce}
 use Rattle.write_engine.specs.Cycle.{no_rows, rows_in}

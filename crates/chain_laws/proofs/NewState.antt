@@ -5,9 +5,9 @@ use Rattle.std.specs.Int.{w64}
 use Rattle.std.specs.FinMap.{empty, get-empty, values}
 use Rattle.std.specs.Ordering.{nat_cmp}
 use Rattle.std.proofs.lemmas.Bool.{cases_lt}
-use Rattle.schema_model.specs.declared.rows.row.Row.{Row}
-use Rattle.schema_model.specs.PlainTree.{PlainTree}
-use Rattle.schema_model.specs.Table.{Table, row_at}
+use Rattle.row_model.specs.declared.row.Row.{Row}
+use Rattle.row_model.specs.PlainTree.{PlainTree}
+use Rattle.row_model.specs.Table.{Table, row_at}
 use Rattle.row_walk.specs.BothStates.{rows_in}
 use Rattle.row_walk.proofs.RowsFrom.{get_in, rows_past}
 use Rattle.row_packing.specs.Chosen.{IsLiveInEither}

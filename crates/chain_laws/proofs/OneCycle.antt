@@ -15,8 +15,8 @@ use Rattle.schema_model.specs.declared.reason.Reason.{Reason}
 use Rattle.schema_model.specs.declared.reason.Reason.TheVariants.{BadAnnounced}
 use Rattle.schema_model.specs.Model.{IsModel}
 use Rattle.schema_model.specs.Parts.{index_of_type}
-use Rattle.schema_model.specs.PlainTree.{PlainTree}
-use Rattle.schema_model.specs.Table.{Table}
+use Rattle.row_model.specs.PlainTree.{PlainTree}
+use Rattle.row_model.specs.Table.{Table}
 use Rattle.record_json.specs.ReadTree.{read_tree}
 use Rattle.row_packing.specs.Chosen.{shape_at}
 use Rattle.row_packing.specs.States.{AreWritable}

@@ -8,16 +8,16 @@ use Rattle.serde_json.specs.declared.value.Value.{Value}
 use Rattle.schema_model.specs.declared.limit.Limit.TheVariants.{Indexes, Nodes}
 use Rattle.schema_model.specs.declared.model.path.Path.{Path}
 use Rattle.schema_model.specs.declared.model.rule.Rule.TheVariants.{DuplicateName}
-use Rattle.schema_model.specs.declared.rows.row.Value as row_value
+use Rattle.row_model.specs.declared.row.Value as row_value
 use Rattle.schema_model.specs.declared.schema.FieldKind.{FieldKind}
 use Rattle.schema_model.specs.declared.schema.name.Name.{Name}
 use Rattle.schema_model.specs.declared.schema.Schema.{Schema}
-use Rattle.schema_model.specs.Key.{AreMatches}
+use Rattle.row_model.specs.Key.{AreMatches}
 use Rattle.schema_model.specs.Limit.{number_of_limit}
 use Rattle.schema_model.specs.Model.{IsKept}
 use Rattle.schema_model.specs.Parts.{index_of_type}
 use Rattle.schema_model.specs.Path.{Resolves}
-use Rattle.schema_model.specs.PlainTree.{node_count}
+use Rattle.row_model.specs.PlainTree.{node_count}
 use Rattle.schema_model.proofs.Ways.{one_path}
 use Rattle.json_rows.specs.KeyFrom.{AreKinds, SpellsKey, key_values}
 use Rattle.record_json.specs.PrintTree.{PrintsTree}

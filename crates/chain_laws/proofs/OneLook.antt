@@ -9,9 +9,9 @@ use Rattle.schema_model.specs.declared.limit.Limit.TheVariants.{Nodes}
 use Rattle.schema_model.specs.declared.schema.name.Name.{Name}
 use Rattle.schema_model.specs.Limit.{number_of_limit}
 use Rattle.schema_model.specs.Parts.{index_of_type}
-use Rattle.schema_model.specs.PlainTree.{node_count}
-use Rattle.schema_model.specs.Row.{Rises}
-use Rattle.schema_model.specs.Table.{IsLive}
+use Rattle.row_model.specs.PlainTree.{node_count}
+use Rattle.row_model.specs.Row.{Rises}
+use Rattle.row_model.specs.Table.{IsLive}
 use Rattle.write_engine.proofs.RisingLists.{one_set}
 use Rattle.hol_orders.specs.declared.refusal.Refusal.{Refusal}
 use Rattle.hol_orders.specs.declared.refusal.Refusal.TheVariants.{NoRow, TooLarge}

@@ -4,12 +4,12 @@ use Rattle.std.specs.Prelude.{Contains, IfSome, IsTrue, ◌↔◌, slice_get}
 use Rattle.std.specs.Option.{option_map}
 use Rattle.std.proofs.lemmas.Bool.{cases_order}
 use Rattle.std.proofs.lemmas.Option.{get_or_from_slice_get, slice_get-get_or, slice_get-map, slice_get_within}
-use Rattle.schema_model.specs.declared.rows.row.Row.{Row}
+use Rattle.row_model.specs.declared.row.Row.{Row}
 use Rattle.schema_model.specs.declared.schema.name.Name.{Name}
 use Rattle.schema_model.specs.declared.schema.Schema.{Schema}
 use Rattle.schema_model.specs.declared.schema.Shape.{Shape}
-use Rattle.schema_model.specs.Row.{FitsShape, Rises}
-use Rattle.schema_model.specs.Table.{IsLive, Table, row_at}
+use Rattle.row_model.specs.Row.{FitsShape, Rises}
+use Rattle.row_model.specs.Table.{IsLive, Table, row_at}
 use Rattle.bucket_codec.specs.Run.{FindsIn, keys_of}
 use Rattle.type_state.specs.Lookup.{elements_of, pairs_of}
 use Rattle.hol_orders.specs.declared.refusal.Refusal.{Refusal}

@@ -5,14 +5,14 @@ use Rattle.std.specs.Prelude.{slice_get, zip}
 use Rattle.serde_json.specs.Data.{Data, array, item, no_items, object as object_data, string}
 use Rattle.serde_json.specs.View.{items_of}
 use Rattle.hol_varint.proofs.Characters.{text_once}
-use Rattle.schema_model.specs.declared.rows.row.Value.{Value}
+use Rattle.row_model.specs.declared.row.Value.{Value}
 use Rattle.schema_model.specs.declared.schema.Field.{Field}
 use Rattle.schema_model.specs.declared.schema.FieldKind.{FieldKind}
 use Rattle.schema_model.specs.declared.schema.Schema.{Schema}
 use Rattle.schema_model.specs.declared.schema.Shape.{Shape}
 use Rattle.schema_model.specs.declared.schema.name.Name.{Name}
 use Rattle.schema_model.specs.Parts.{field_names, index_of_type}
-use Rattle.schema_model.specs.PlainTree.{PlainTree, leaf, object, list, set, map as map_tree, list_of_pairs, list_of_trees}
+use Rattle.row_model.specs.PlainTree.{PlainTree, leaf, object, list, set, map as map_tree, list_of_pairs, list_of_trees}
 use Rattle.json_rows.specs.StoredRow.{IsTextData, IsValueData, members_of_fields}
 use Rattle.record_json.specs.PrintTree.{PrintsAt, PrintsField, PrintsPair, PrintsReference, PrintsShape, PrintsTree, PrintsTyped, PrintsWithin}
 

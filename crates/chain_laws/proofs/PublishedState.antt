@@ -10,8 +10,8 @@ use Rattle.hol_io.specs.declared.name.BlobName.{BlobName}
 use Rattle.hol_io.specs.declared.name.BlobName.TheVariants.{Snapshot, Delta, Reverse, Announced}
 use Rattle.hol_io.specs.Name.{IsVersion}
 use Rattle.hol_io.specs.Store.{Store}
-use Rattle.schema_model.specs.PlainTree.{PlainTree}
-use Rattle.schema_model.specs.Table.{Table}
+use Rattle.row_model.specs.PlainTree.{PlainTree}
+use Rattle.row_model.specs.Table.{Table}
 use Rattle.write_engine.specs.Cycle.{Next}
 use Rattle.write_engine.specs.CycleLimit.{TellsTypes}
 use Rattle.chain_store.specs.Announced.{Announces, IsAnnounced}

@@ -4,13 +4,13 @@ use Rattle.std.specs.Prelude.{slice_set}
 use Rattle.std.specs.FinMap.{get, insert, get-empty}
 use Rattle.std.specs.Ordering.{nat_cmp}
 use Rattle.std.proofs.lemmas.Bool.{cases_eq}
-use Rattle.schema_model.specs.declared.rows.row.Row.{Row}
-use Rattle.schema_model.specs.declared.rows.row.Value.{Value}
+use Rattle.row_model.specs.declared.row.Row.{Row}
+use Rattle.row_model.specs.declared.row.Value.{Value}
 use Rattle.schema_model.specs.declared.schema.Field.{Field}
 use Rattle.schema_model.specs.declared.schema.Schema.{Schema}
-use Rattle.schema_model.specs.PlainTree.{PlainTree, PlainTrees, PlainPairs, leaf, object, list, set, map, no_trees, tree_then, no_pairs, pair_then}
-use Rattle.schema_model.specs.Row.{stored_value, is_least}
-use Rattle.schema_model.specs.Table.{Table, RowMap, row_at}
+use Rattle.row_model.specs.PlainTree.{PlainTree, PlainTrees, PlainPairs, leaf, object, list, set, map, no_trees, tree_then, no_pairs, pair_then}
+use Rattle.row_model.specs.Row.{stored_value, is_least}
+use Rattle.row_model.specs.Table.{Table, RowMap, row_at}
 use Rattle.typed_trees.specs.FitsTree.{IsLeafOr}
 use Rattle.ordinal_map.proofs.SlotRows.{get_inserted, get_beside}
 use Rattle.row_walk.proofs.RowsFrom.{get_in}

@@ -6,7 +6,7 @@ use Rattle.hol_io.specs.Store.{Store}
 use Rattle.blob_grammar.specs.Decided.{AreBytes}
 use Rattle.schema_model.specs.Model.{IsModel}
 use Rattle.schema_model.specs.Schema.{EachName}
-use Rattle.schema_model.specs.Table.{Table, EachRow}
+use Rattle.row_model.specs.Table.{Table, EachRow}
 use Rattle.row_packing.specs.Written.{IsStored}
 use Rattle.chain_store.specs.Tags.{IsTagTaken}
 use Rattle.hollow_machine.specs.State.{Published, new_producer}

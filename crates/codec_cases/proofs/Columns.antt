@@ -4,12 +4,12 @@ use Rattle.std.specs.Prelude.{slice_get, slice_index, IfSome, Option, Some, None
 use Rattle.std.proofs.lemmas.List.{length-map}
 use Rattle.std.proofs.lemmas.List.Elements.{All-head, All-tail}
 use Rattle.schema_model.specs.Parts.{shape_fields}
-use Rattle.schema_model.specs.Row.{FitsKind, FitsShape}
+use Rattle.row_model.specs.Row.{FitsKind, FitsShape}
 use Rattle.schema_model.specs.declared.schema.FieldKind.{FieldKind}
 use Rattle.schema_model.specs.declared.schema.Field.{Field}
 use Rattle.schema_model.specs.declared.schema.Shape.{Shape}
-use Rattle.schema_model.specs.declared.rows.row.Row.{Row}
-use Rattle.schema_model.specs.declared.rows.row.Value.{Value}
+use Rattle.row_model.specs.declared.row.Row.{Row}
+use Rattle.row_model.specs.declared.row.Value.{Value}
 use Rattle.object_codec.specs.ObjectPlace.{IsObject, IsFieldWidth, IsKindWidth}
 use Rattle.object_codec.specs.Packing.{HasBytes, HoldsValue, CanPack, IsWidthFor, values_of_place}
 use Rattle.object_codec.specs.Stored.{values_bytes, column}

@@ -4,8 +4,8 @@ use Rattle.std.specs.Prelude.{map, flat_map, IsSome}
 use Rattle.std.specs.Ordering.{nat_cmp}
 use Rattle.std.specs.FinMap.{empty, get-empty}
 use Rattle.schema_model.specs.declared.schema.Schema.{Schema}
-use Rattle.schema_model.specs.declared.rows.row.Row.{Row}
-use Rattle.schema_model.specs.Table.{Table, IsLive, row_at}
+use Rattle.row_model.specs.declared.row.Row.{Row}
+use Rattle.row_model.specs.Table.{Table, IsLive, row_at}
 use Rattle.row_walk.specs.BothStates.{rows_in, rows_added, rows_from, rows_of_both}
 use Rattle.row_walk.proofs.RowsFrom.{rows_past, get_in, added_none}
 use Rattle.object_codec.specs.Widths.{rows_bytes}

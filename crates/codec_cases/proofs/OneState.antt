@@ -4,8 +4,8 @@ use Rattle.std.specs.Prelude.{IsSome}
 use Rattle.std.specs.FinMap.{get}
 use Rattle.schema_model.specs.declared.limit.Limit.{Limit}
 use Rattle.schema_model.specs.Limit.{number_of_limit}
-use Rattle.schema_model.specs.declared.rows.row.Row.{Row}
-use Rattle.schema_model.specs.Table.{Table, row_at}
+use Rattle.row_model.specs.declared.row.Row.{Row}
+use Rattle.row_model.specs.Table.{Table, row_at}
 use Rattle.row_walk.specs.BothStates.{rows_in, rows_added, rows_from, rows_of_both}
 use Rattle.row_walk.proofs.RowsFrom.{rows_past, added_none, added_live}
 use Rattle.object_codec.specs.Widths.{live_rows, rows_bytes, bytes_for}

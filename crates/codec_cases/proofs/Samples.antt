@@ -8,9 +8,9 @@ use Rattle.std.specs.FinMap.{get, empty, get-empty, get-insert}
 use Rattle.std.proofs.lemmas.Bool.{ne_eqb}
 use Rattle.std.proofs.lemmas.List.{length-map, length-set}
 use Rattle.schema_model.specs.declared.schema.Schema.{Schema}
-use Rattle.schema_model.specs.declared.rows.row.Row.{Row}
-use Rattle.schema_model.specs.Row.{FitsShape, IsRowInRange}
-use Rattle.schema_model.specs.Table.{IsLive, IsTableOf, IsBound, row_at}
+use Rattle.row_model.specs.declared.row.Row.{Row}
+use Rattle.row_model.specs.Row.{FitsShape, IsRowInRange}
+use Rattle.row_model.specs.Table.{IsLive, IsTableOf, IsBound, row_at}
 use Rattle.codec_cases.specs.Sample.{sample_rows, sample_table, IsSample}
 
 -- the other types have no row

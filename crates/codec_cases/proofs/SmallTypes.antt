@@ -3,7 +3,7 @@ use Rattle.std.proofs.Common.{◌≡◌, ℕ, ◌+◌, ◌^◌, ◌<◌, ◌≤�
 use Rattle.std.specs.Prelude.{IfSome, MatchBool, is_some, length, slice_get}
 use Rattle.std.proofs.lemmas.Bool.{cases_lt}
 use Rattle.schema_model.specs.Parts.{shape_key}
-use Rattle.schema_model.specs.Table.{IsBound, Table}
+use Rattle.row_model.specs.Table.{IsBound, Table}
 use Rattle.schema_model.specs.declared.limit.Limit.{Limit}
 use Rattle.schema_model.specs.declared.schema.Schema.{Schema}
 use Rattle.codec_cases.proofs.EmptyTables.{empty_table}

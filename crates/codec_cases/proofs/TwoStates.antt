@@ -2,9 +2,9 @@
 use Rattle.std.proofs.Common.{◌≡◌, ℕ, ◌^◌, ◌<◌, ◌≤◌, inl, inr, List, [], ◌∷◌, Option, Some, None, Bool, true, false, arith, sym, subst}
 use Rattle.std.specs.Prelude.{All, is_some}
 use Rattle.std.proofs.lemmas.List.Elements.{All-cons, All-nil}
-use Rattle.schema_model.specs.Table.{Table, IsBound, IsLive, row_at}
+use Rattle.row_model.specs.Table.{Table, IsBound, IsLive, row_at}
 use Rattle.schema_model.specs.declared.limit.Limit.{Limit}
-use Rattle.schema_model.specs.declared.rows.row.Row.{Row}
+use Rattle.row_model.specs.declared.row.Row.{Row}
 use Rattle.schema_model.specs.declared.schema.Schema.{Schema}
 use Rattle.schema_model.specs.declared.schema.Shape.{Shape}
 use Rattle.codec_cases.proofs.EmptyTables.{empty_table, nothing_live, not_live}

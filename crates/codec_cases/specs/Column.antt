@@ -1,8 +1,8 @@
 -- The places of records of one field, for worked cases.
 use Rattle.std.specs.Prelude.{List, [], ◌∷◌, map, flat_map, Option, option_map}
 use Rattle.std.specs.Option.{option_to_list}
-use Rattle.schema_model.specs.declared.rows.row.Value.{Value}
-use Rattle.schema_model.specs.declared.rows.row.Row.{Row}
+use Rattle.row_model.specs.declared.row.Value.{Value}
+use Rattle.row_model.specs.declared.row.Row.{Row}
 
 -- A place that has a record of this value alone, or no row.
 abbrev pub place_of : Option Value → Option Row

@@ -4,9 +4,9 @@ use Rattle.std.specs.Option.{option_map_or}
 use Rattle.std.specs.Ordering.{nat_cmp}
 use Rattle.std.specs.FinMap.{empty, insert}
 use Rattle.schema_model.specs.declared.schema.Schema.{Schema}
-use Rattle.schema_model.specs.declared.rows.row.Row.{Row}
-use Rattle.schema_model.specs.Row.{FitsShape, IsRowInRange}
-use Rattle.schema_model.specs.Table.{RowMap, Table}
+use Rattle.row_model.specs.declared.row.Row.{Row}
+use Rattle.row_model.specs.Row.{FitsShape, IsRowInRange}
+use Rattle.row_model.specs.Table.{RowMap, Table}
 
 -- The rows of the first type.
 abbrev pub sample_rows : Option Row → RowMap

@@ -1,16 +1,14 @@
 //! Sets and maps as buckets: worked hashes and counts, rows that are packed and read, why there is none, and the widths of states.
 ghost use Rattle.std.specs.Prelude.{◌≡◌, ◌<◌, ◌≤◌, ◌∷◌, [], length, map, All, Some, IfOk, IfSome};
 ghost use Rattle.std.specs.List.{range_with_len};
-ghost use Rattle.schema_model.specs.Row.{FitsShape, IsRowInRange};
+ghost use Rattle.row_model.specs.Row.{FitsShape, IsRowInRange};
 ghost use Rattle.bucket_codec.specs.BucketPlace.{IsWidthCount};
 ghost use Rattle.bucket_codec.specs.Packed.{IsPackable};
 
 use bucket_codec::{at, buckets_for, has, hash_int, pack, read, total, widths};
 use hol_varint::{Duplicate, Ordinals};
-use schema_model::{
-    Areas, Fields, MAX_ITEMS, Model, Name, Packed, Pairs, Places, Row, Rows, Schema, Schemas,
-    Shape, Widths, Words, model_of,
-};
+use row_model::{Areas, Packed, Pairs, Places, Row, Rows, Widths, Words};
+use schema_model::{Fields, MAX_ITEMS, Model, Name, Schema, Schemas, Shape, model_of};
 use std::alloc::{AllocError, Global};
 
 #[test]
@@ -271,7 +269,7 @@ struct Sample {
 impl std::marker::Model for Sample {
     ghost use Rattle.std.specs.Prelude.{List, Option};
     ghost use Rattle.schema_model.specs.declared.schema.Schema.{Schema};
-    ghost use Rattle.schema_model.specs.declared.rows.row.Row.{Row};
+    ghost use Rattle.row_model.specs.declared.row.Row.{Row};
     ghost use Rattle.codec_cases.specs.Sample.{IsSample};
 
     ghost Value = { List Schema × Option Row };

@@ -2,7 +2,8 @@
 ghost use Rattle.std.specs.Prelude.{◌<◌, length};
 
 use hol_io::{BlobName, BlobStore, SureStore};
-use schema_model::{MAX_BYTES, MAX_ITEMS, Rows, Shape};
+use row_model::Rows;
+use schema_model::{MAX_BYTES, MAX_ITEMS, Shape};
 use snapshot_blob::read_snapshot;
 use std::alloc::{AllocError, Global};
 use std::test::Fail;

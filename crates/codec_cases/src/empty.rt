@@ -1,7 +1,7 @@
 //! An empty set and an empty map, packed as they were worked by hand.
 use crate::buckets::{map_type, packed_row, set_type};
 use hol_varint::Ordinals;
-use schema_model::{Pairs, Row, Widths};
+use row_model::{Pairs, Row, Widths};
 use std::alloc::{AllocError, Global};
 
 /// The packed words of an empty set, the only row of its type: its one bucket is empty.

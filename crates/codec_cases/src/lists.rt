@@ -5,7 +5,8 @@ ghost use Rattle.list_codec.specs.ListPlace.{IsList};
 use crate::no_rows::NoRows;
 use hol_varint::Ordinals;
 use list_codec::{pack, read, total, widths};
-use schema_model::{Areas, Model, Name, Packed, Places, Row, Schema, Shape, Widths, Words};
+use row_model::{Areas, Packed, Places, Row, Widths, Words};
+use schema_model::{Model, Name, Schema, Shape};
 use std::alloc::{AllocError, Global};
 
 /// A LIST type.

@@ -1,5 +1,6 @@
 //! A state without rows.
-use schema_model::{Model, Row, Rows};
+use row_model::{Row, Rows};
+use schema_model::Model;
 use std::alloc::{AllocError, Global};
 
 /// A state without rows.

@@ -1,7 +1,7 @@
 //! Places of records of one field, some without a row, that are packed as they were worked by hand.
 ghost use Rattle.std.specs.Prelude.{◌≡◌, ◌-◌, ◌^◌, ◌<◌, ◌≤◌, ◌∷◌, [], All, IfOk, IfSome, length, map};
 ghost use Rattle.schema_model.specs.Parts.{shape_fields};
-ghost use Rattle.schema_model.specs.Row.{FitsKind};
+ghost use Rattle.row_model.specs.Row.{FitsKind};
 ghost use Rattle.schema_model.specs.declared.schema.FieldKind.TheVariants.{Int as int_kind, Long as long_kind, Text as text_kind};
 ghost use Rattle.object_codec.specs.ObjectPlace.{IsObject, IsKindWidth};
 ghost use Rattle.object_codec.specs.Packing.{HasBytes, HoldsValue};
@@ -10,9 +10,8 @@ ghost use Rattle.codec_cases.specs.Column.{places_of, present};
 
 use hol_varint::{Units, units_len};
 use object_codec::pack;
-use schema_model::{
-    Field, FieldKind, Fields, Name, Places, Row, Schema, Shape, Value, Values, Widths,
-};
+use row_model::{Places, Row, Value, Values, Widths};
+use schema_model::{Field, FieldKind, Fields, Name, Schema, Shape};
 use std::alloc::{AllocError, Global};
 
 /// An OBJECT type with one field.

@@ -6,9 +6,8 @@ ghost use Rattle.object_codec.specs.ObjectPlace.{IsFieldWidth};
 use crate::no_rows::NoRows;
 use hol_varint::Octets;
 use object_codec::{bytes, read, widths};
-use schema_model::{
-    Areas, Field, FieldKind, Fields, Model, Name, Packed, Schema, Shape, Widths, Words,
-};
+use row_model::{Areas, Packed, Widths, Words};
+use schema_model::{Field, FieldKind, Fields, Model, Name, Schema, Shape};
 use std::alloc::{AllocError, Global};
 
 /// A field of each kind.

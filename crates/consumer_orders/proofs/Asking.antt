@@ -3,7 +3,7 @@ use Rattle.std.proofs.Common.{◌≡◌, ◌<◌, ℕ, List, Option, Some, None,
 use Rattle.std.specs.Prelude.{All, IsSomeAnd}
 use Rattle.std.proofs.lemmas.List.Elements.{Contains-get_or}
 use Rattle.schema_model.specs.declared.schema.Schema.{Schema}
-use Rattle.schema_model.specs.Table.{IsLive, Table}
+use Rattle.row_model.specs.Table.{IsLive, Table}
 use Rattle.schema_model.proofs.Ways.{type_inside}
 use Rattle.read_engine.specs.Gone.{AreGone}
 use Rattle.read_engine.specs.Position.{Position}

@@ -5,7 +5,7 @@ use Rattle.std.proofs.lemmas.Option.{slice_get_within}
 use Rattle.hol_io.specs.Store.{Store}
 use Rattle.schema_model.specs.declared.model.path.Path.{Path}
 use Rattle.schema_model.specs.declared.schema.Schema.{Schema}
-use Rattle.schema_model.specs.Key.{IsResolved}
+use Rattle.row_model.specs.Key.{IsResolved}
 use Rattle.read_engine.specs.Indexes.{AddsIndex, CountsKeyed, KeepsIndex, index_by}
 use Rattle.read_engine.specs.Position.{Index, Position}
 use Rattle.hol_orders.specs.declared.refusal.Refusal.{Refusal}

@@ -9,7 +9,7 @@ use Rattle.schema_model.specs.declared.schema.Schema.{Schema}
 use Rattle.schema_model.specs.declared.model.faults.PathFault.{PathFault}
 use Rattle.schema_model.specs.declared.model.faults.PathFault.TheVariants as path_fault
 use Rattle.schema_model.specs.Faults.{TellsPath}
-use Rattle.schema_model.specs.Key.{IsResolved}
+use Rattle.row_model.specs.Key.{IsResolved}
 use Rattle.schema_model.specs.Path.{Leads, Resolves, path_names}
 use Rattle.hol_orders.specs.declared.refusal.Refusal.TheVariants.{BadPath}
 use Rattle.hollow_machine.specs.KeyPaths.{AreKeyPaths, HasKeyTexts, HasShape, IsFirstLost, IsObject, key_texts}

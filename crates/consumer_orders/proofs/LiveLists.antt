@@ -4,8 +4,8 @@ use Rattle.std.specs.Prelude.{All, Contains}
 use Rattle.std.proofs.lemmas.Bool.{cases_lt}
 use Rattle.std.proofs.lemmas.List.Elements.{All-push, Contains-append_left, Contains-push, Contains-push_cases}
 use Rattle.std.proofs.lemmas.List.Quantifiers.{all_pairs_push}
-use Rattle.schema_model.specs.Row.{Rises}
-use Rattle.schema_model.specs.Table.{IsBound, IsLive, Table}
+use Rattle.row_model.specs.Row.{Rises}
+use Rattle.row_model.specs.Table.{IsBound, IsLive, Table}
 use Rattle.hollow_machine.specs.RowOrders.{AreLive}
 
 -- These are the live ordinals of a type that are below a limit, rising.

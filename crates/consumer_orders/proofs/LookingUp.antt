@@ -4,10 +4,10 @@ use Rattle.std.specs.Prelude.{Contains, IsSomeAnd, slice_get}
 use Rattle.std.proofs.lemmas.Option.{get_or_from_slice_get, slice_get_within}
 use Rattle.serde_json.specs.Data.{Data}
 use Rattle.schema_model.specs.declared.model.path.Path.{Path}
-use Rattle.schema_model.specs.declared.rows.row.Value.{Value}
+use Rattle.row_model.specs.declared.row.Value.{Value}
 use Rattle.schema_model.specs.declared.schema.Schema.{Schema}
-use Rattle.schema_model.specs.Key.{AreMatches}
-use Rattle.schema_model.specs.Table.{Table}
+use Rattle.row_model.specs.Key.{AreMatches}
+use Rattle.row_model.specs.Table.{Table}
 use Rattle.json_rows.specs.declared.fault.JsonFault.{JsonFault}
 use Rattle.json_rows.specs.declared.fault.JsonFault.TheVariants as json_fault
 use Rattle.json_rows.specs.KeyFrom.{SpellsKey, TellsKey}

@@ -10,9 +10,9 @@ use Rattle.serde_json.specs.declared.value.Value.{Value}
 use Rattle.schema_model.specs.declared.limit.Limit.TheVariants.{Nodes}
 use Rattle.schema_model.specs.declared.schema.Schema.{Schema}
 use Rattle.schema_model.specs.Limit.{number_of_limit}
-use Rattle.schema_model.specs.PlainTree.{node_count}
-use Rattle.schema_model.specs.Table.{Table}
-use Rattle.schema_model.specs.Unfold.{unfold_row}
+use Rattle.row_model.specs.PlainTree.{node_count}
+use Rattle.row_model.specs.Table.{Table}
+use Rattle.row_model.specs.Unfold.{unfold_row}
 use Rattle.record_json.specs.PrintTree.{PrintsTree}
 use Rattle.read_engine.specs.Gone.{AreGone}
 use Rattle.read_engine.specs.Position.{Position}

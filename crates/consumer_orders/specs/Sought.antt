@@ -3,10 +3,10 @@ use Rattle.std.specs.Prelude.{◌≡◌, ℕ, List, Option, Some, Contains}
 use Rattle.std.specs.List.{AllZip}
 use Rattle.serde_json.specs.Data.{Data}
 use Rattle.schema_model.specs.declared.model.path.Path.{Path}
-use Rattle.schema_model.specs.declared.rows.row.Value.{Value}
+use Rattle.row_model.specs.declared.row.Value.{Value}
 use Rattle.schema_model.specs.declared.schema.name.Name.{Name}
 use Rattle.schema_model.specs.declared.schema.Schema.{Schema}
-use Rattle.schema_model.specs.Key.{AreMatches}
+use Rattle.row_model.specs.Key.{AreMatches}
 use Rattle.schema_model.specs.Path.{Resolves}
 use Rattle.json_rows.specs.KeyFrom.{SpellsKey}
 use Rattle.read_engine.specs.Indexes.{CountsKeyed, KeepsIndex, index_by}

@@ -1,7 +1,7 @@
 //! The order `get`.
 ghost use Rattle.std.specs.Prelude.{◌≡◌, ◌<◌, [], ◌∷◌, IfErr, IfOk, IsSomeAnd, length};
 ghost use Rattle.schema_model.specs.declared.schema.name.Name.{Name as NameText};
-ghost use Rattle.schema_model.specs.Table.{IsClosed, IsLive};
+ghost use Rattle.row_model.specs.Table.{IsClosed, IsLive};
 ghost use Rattle.serde_json.specs.Data.{Data};
 ghost use Rattle.serde_json.specs.View.{view};
 ghost use Rattle.hollow_machine.specs.KeyOrders.{FindsUnder, GetReply, ShowsFound};
@@ -12,7 +12,8 @@ use crate::type_order::{Asked, type_of};
 use hol_orders::{OrderStop, PlainValue, Refusal, Reply};
 use read_engine::Consumer;
 use record_json::{PrintFault, tree_value};
-use schema_model::{Limit, MAX_NODES, Name, Names, Rows};
+use row_model::Rows;
+use schema_model::{Limit, MAX_NODES, Name, Names};
 use serde_json::Value;
 use std::alloc::Global;
 

@@ -6,7 +6,8 @@ use crate::type_order::{Asked, type_of};
 use hol_orders::{OrderStop, Refusal, Reply, RowPlace};
 use hol_varint::Duplicate;
 use read_engine::Consumer;
-use schema_model::{Name, Rows, Shape};
+use row_model::Rows;
+use schema_model::{Name, Shape};
 use std::alloc::Global;
 
 /// Tells whether the set under an ordinal has an element. Refused with `NoState`, `NoType`, `WrongKind` and `NoRow`, in this order.

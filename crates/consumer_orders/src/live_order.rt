@@ -6,7 +6,8 @@ use crate::type_order::{Asked, type_of};
 use hol_orders::{OrderStop, Reply};
 use hol_varint::Ordinals;
 use read_engine::Consumer;
-use schema_model::{Name, Rows};
+use row_model::Rows;
+use schema_model::Name;
 use std::alloc::{AllocError, Global};
 
 /// Tells the live ordinals of a type, rising. Refused with `NoState` and `NoType`, in this order.

@@ -1,7 +1,7 @@
 //! Looking rows up by a key.
 ghost use Rattle.std.specs.Prelude.{◌≡◌, ◌<◌, All, IfOk, IsSomeAnd, length};
 ghost use Rattle.serde_json.specs.View.{view};
-ghost use Rattle.schema_model.specs.Key.{IsResolved};
+ghost use Rattle.row_model.specs.Key.{IsResolved};
 ghost use Rattle.consumer_orders.specs.Sought.{TellsAlong, TellsFound};
 
 use crate::key_paths::{KeyPaths, key_paths};

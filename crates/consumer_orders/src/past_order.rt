@@ -1,6 +1,6 @@
 //! The order `past`.
 ghost use Rattle.std.specs.Prelude.{◌≡◌, ◌<◌, All, IfErr, IfOk, length};
-ghost use Rattle.schema_model.specs.Table.{IsClosed, IsLive};
+ghost use Rattle.row_model.specs.Table.{IsClosed, IsLive};
 ghost use Rattle.read_engine.specs.Gone.{AreGone};
 ghost use Rattle.read_engine.specs.Position.{Position};
 ghost use Rattle.hollow_machine.specs.RowOrders.{PastReply, ShowsPast};
@@ -9,7 +9,8 @@ use crate::type_order::{Asked, type_of};
 use hol_orders::{OrderStop, PastRows, PlainValue, Refusal, Reply};
 use read_engine::Consumer;
 use record_json::{PrintFault, tree_value};
-use schema_model::{Limit, MAX_NODES, Name, Rows};
+use row_model::Rows;
+use schema_model::{Limit, MAX_NODES, Name};
 use std::alloc::Global;
 
 /// Shows the records of the rows of a type that were live before the last step and are not now, by rising ordinal, as they were before it. Refused with

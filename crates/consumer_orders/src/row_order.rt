@@ -1,6 +1,6 @@
 //! The order `row`.
 ghost use Rattle.std.specs.Prelude.{◌≡◌, ◌<◌, IfErr, IfOk, length};
-ghost use Rattle.schema_model.specs.Table.{IsClosed};
+ghost use Rattle.row_model.specs.Table.{IsClosed};
 ghost use Rattle.read_engine.specs.Position.{Position, rows_now};
 ghost use Rattle.hollow_machine.specs.RowOrders.{RowReply, ShowsRow};
 
@@ -9,7 +9,8 @@ use hol_orders::{OrderStop, PlainValue, Refusal, Reply, RowPlace};
 use hol_varint::Duplicate;
 use read_engine::Consumer;
 use record_json::{PrintFault, tree_value};
-use schema_model::{Limit, MAX_NODES, Name, Rows};
+use row_model::Rows;
+use schema_model::{Limit, MAX_NODES, Name};
 use std::alloc::Global;
 
 /// Shows the record of a row. Refused with `NoState`, `NoType`, `NoRow` and `TooLarge`, in this order: the last where the record has more than `MAX_NODES`

@@ -10,9 +10,9 @@ use Rattle.std.proofs.lemmas.List.Elements.{Contains-append_cases, Contains-appe
 use Rattle.std.proofs.lemmas.List.Quantifiers.{all_pairs_push}
 use Rattle.std.proofs.lemmas.List.{get_or_default}
 use Rattle.ordinal_set.proofs.Members.{first_or_other, here, no_member, same_rising}
-use Rattle.schema_model.specs.Row.{Rises}
-use Rattle.schema_model.specs.Table.{IsBound, IsLive, RowMap, Table, row_at}
-use Rattle.schema_model.specs.declared.rows.row.Row.{Row}
+use Rattle.row_model.specs.Row.{Rises}
+use Rattle.row_model.specs.Table.{IsBound, IsLive, RowMap, Table, row_at}
+use Rattle.row_model.specs.declared.row.Row.{Row}
 use Rattle.row_walk.specs.BothStates.{rows_in}
 use Rattle.row_walk.proofs.RowsFrom.{get_in}
 use Rattle.row_packing.specs.Places.{Agree}

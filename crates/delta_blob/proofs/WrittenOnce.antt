@@ -8,8 +8,8 @@ use Rattle.std.proofs.lemmas.List.Kept.{IsStrictlyIncreasing-filter}
 use Rattle.ordinal_set.specs.Ordinals.{lacking}
 use Rattle.ordinal_set.proofs.Members.{Contains-filter}
 use Rattle.schema_model.specs.Model.{IsModel}
-use Rattle.schema_model.specs.Table.{Table, IsLive}
-use Rattle.schema_model.specs.declared.rows.packed.Packed.{Packed}
+use Rattle.row_model.specs.Table.{Table, IsLive}
+use Rattle.row_model.specs.declared.packed.Packed.{Packed}
 use Rattle.schema_model.specs.declared.schema.Schema.{Schema}
 use Rattle.schema_model.specs.declared.schema.Shape.{Shape}
 use Rattle.row_walk.specs.BothStates.{rows_in}

@@ -4,8 +4,8 @@ use Rattle.std.specs.FinMap.{keys}
 use Rattle.std.specs.List.{AllZip}
 use Rattle.ordinal_set.specs.Ordinals.{lacking}
 use Rattle.schema_model.specs.declared.schema.Schema.{Schema}
-use Rattle.schema_model.specs.Row.{Rises}
-use Rattle.schema_model.specs.Table.{Table}
+use Rattle.row_model.specs.Row.{Rises}
+use Rattle.row_model.specs.Table.{Table}
 use Rattle.row_walk.specs.BothStates.{rows_in}
 use Rattle.row_packing.specs.Chosen.{shape_at, IsChosen}
 use Rattle.row_packing.specs.Packs.{PacksPlaces}

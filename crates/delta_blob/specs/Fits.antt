@@ -1,7 +1,7 @@
 -- When a patch fits a table of a model: its ordinals can be removed and added, and the table that it moves to is closed and held.
 use Rattle.std.specs.Prelude.{ℕ, List}
 use Rattle.schema_model.specs.declared.schema.Schema.{Schema}
-use Rattle.schema_model.specs.Table.{Table, IsClosed}
+use Rattle.row_model.specs.Table.{Table, IsClosed}
 use Rattle.row_walk.specs.BothStates.{rows_in}
 use Rattle.type_state.specs.Holds.{Holds}
 use Rattle.type_state.specs.Patches.{FitsOrdinals}

@@ -1,7 +1,7 @@
 -- Which table a patch moves a table to: the one without the removed rows, and with the added ones.
 use Rattle.std.specs.Prelude.{◌≡◌, ◌<◌, ℕ, List, Some, All, length, slice_get}
 use Rattle.schema_model.specs.declared.schema.Schema.{Schema}
-use Rattle.schema_model.specs.Table.{Table}
+use Rattle.row_model.specs.Table.{Table}
 use Rattle.row_walk.specs.BothStates.{rows_in}
 use Rattle.type_state.specs.Patches.{MovesRows}
 use Rattle.delta_blob.specs.Patch.{TypePatch}

@@ -2,7 +2,7 @@
 use Rattle.std.specs.Prelude.{◌≡◌, ℕ, ℤ, List, length, map}
 use Rattle.std.specs.List.{AllZip}
 use Rattle.schema_model.specs.declared.model.rule.Rule.TheVariants.{DuplicateName}
-use Rattle.schema_model.specs.declared.rows.row.Row.{Row}
+use Rattle.row_model.specs.declared.row.Row.{Row}
 use Rattle.schema_model.specs.declared.schema.Schema.{Schema}
 use Rattle.schema_model.specs.Model.{IsKept}
 use Rattle.type_state.specs.Layout.{Layout}

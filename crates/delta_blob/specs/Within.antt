@@ -3,7 +3,7 @@ use Rattle.std.specs.Prelude.{◌≤◌, ℕ, List, All}
 use Rattle.schema_model.specs.declared.limit.Limit.TheVariants.{Ordinals, Items}
 use Rattle.schema_model.specs.declared.schema.Schema.{Schema}
 use Rattle.schema_model.specs.Limit.{number_of_limit}
-use Rattle.schema_model.specs.Table.{Table}
+use Rattle.row_model.specs.Table.{Table}
 use Rattle.row_walk.specs.BothStates.{rows_in}
 use Rattle.type_state.specs.Holds.{KeepsLimits}
 use Rattle.type_state.specs.Layout.{places_of}

@@ -9,7 +9,8 @@ use blob_frame::{BlobFault, Cursor, counted};
 use blob_sections::{PackedRows, field_widths, part_widths, word_array};
 use hol_io::BlobStore;
 use hol_varint::Octets;
-use schema_model::{Areas, Field, Packed, Shape, Words};
+use row_model::{Areas, Packed, Words};
+use schema_model::{Field, Shape};
 use type_state::words_needed;
 
 // How many words so many places of a type of this shape need, by the widths of their parts in bits.

@@ -7,7 +7,7 @@ ghost use Rattle.row_packing.specs.States.{AreWritable};
 ghost use Rattle.delta_blob.specs.Changes.{AreChanged, IsChanged};
 
 use hol_varint::Ordinals;
-use schema_model::Rows;
+use row_model::Rows;
 use std::alloc::{AllocError, Global};
 
 /// The indexes of the types whose rows differ between two states that agree, rising.

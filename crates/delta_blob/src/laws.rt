@@ -1,7 +1,7 @@
 //! Laws of deltas: the bytes allow one reading alone, and what is written is read as what it was.
 ghost use Rattle.std.specs.Prelude.{◌≡◌, ◌↔◌, ℕ, ℤ, List, Option, length};
 ghost use Rattle.schema_model.specs.Model.{IsModel};
-ghost use Rattle.schema_model.specs.Table.{Table};
+ghost use Rattle.row_model.specs.Table.{Table};
 ghost use Rattle.schema_model.specs.declared.reason.Reason.{Reason};
 ghost use Rattle.schema_model.specs.declared.schema.Schema.{Schema};
 ghost use Rattle.schema_model.specs.declared.schema.Shape.{Shape};

@@ -9,9 +9,9 @@ ghost use Rattle.delta_blob.specs.Written.{TypeChange, body_bytes, change_bytes}
 use crate::changed::changed_types;
 use blob_sections::PackedRows;
 use hol_varint::{Ordinals, put_vlong};
+use row_model::Rows;
 use row_packing::laws::one_packing_of_places;
 use row_packing::{Chosen, choose, delta_rows, live_ordinals};
-use schema_model::Rows;
 use schema_model::laws::spellable_model;
 use section_writing::{WriteFault, check_length, put_delta_type, put_limited_header};
 use std::alloc::{AllocError, Global};

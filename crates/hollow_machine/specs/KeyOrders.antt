@@ -4,11 +4,11 @@ use Rattle.serde_json.specs.Data.{Data}
 use Rattle.serde_json.specs.View.{view}
 use Rattle.schema_model.specs.declared.limit.Limit.TheVariants.{Nodes}
 use Rattle.schema_model.specs.declared.model.path.Path.{Path}
-use Rattle.schema_model.specs.declared.rows.row.Value.{Value}
+use Rattle.row_model.specs.declared.row.Value.{Value}
 use Rattle.schema_model.specs.declared.schema.name.Name.{Name}
-use Rattle.schema_model.specs.Key.{AreMatches}
+use Rattle.row_model.specs.Key.{AreMatches}
 use Rattle.schema_model.specs.Limit.{number_of_limit}
-use Rattle.schema_model.specs.PlainTree.{node_count}
+use Rattle.row_model.specs.PlainTree.{node_count}
 use Rattle.json_rows.specs.KeyFrom.{SpellsKey}
 use Rattle.record_json.specs.PrintTree.{PrintsTree}
 use Rattle.read_engine.specs.Indexes.{index_by}

@@ -2,7 +2,7 @@
 use Rattle.std.specs.Prelude.{◌≡◌, ◌↔◌, ℕ, List, Option, Contains, IsTrue}
 use Rattle.schema_model.specs.declared.schema.name.Name.{Name}
 use Rattle.schema_model.specs.declared.schema.Shape.{Shape}
-use Rattle.schema_model.specs.Table.{IsLive, row_at}
+use Rattle.row_model.specs.Table.{IsLive, row_at}
 use Rattle.bucket_codec.specs.Run.{FindsIn}
 use Rattle.type_state.specs.Lookup.{elements_of, pairs_of}
 use Rattle.read_engine.specs.Position.{Position, rows_now}

@@ -5,7 +5,7 @@ use Rattle.std.specs.FinMap.{insert}
 use Rattle.hol_io.specs.declared.name.BlobName.{BlobName}
 use Rattle.hol_io.specs.declared.name.BlobName.TheVariants.{Snapshot, Delta, Reverse, Announced}
 use Rattle.hol_io.specs.Store.{Store}
-use Rattle.schema_model.specs.Table.{Table}
+use Rattle.row_model.specs.Table.{Table}
 use Rattle.snapshot_blob.specs.Written.{IsWrittenSnapshot}
 use Rattle.delta_blob.specs.Changes.{IsDeltaBetween}
 use Rattle.hollow_machine.specs.State.{Published}

@@ -7,7 +7,7 @@ use Rattle.serde_json.specs.Find.{as_array, as_object, get}
 use Rattle.schema_model.specs.declared.reason.Reason.{Reason}
 use Rattle.schema_model.specs.declared.schema.Schema.{Schema}
 use Rattle.schema_model.specs.Parts.{index_of_type}
-use Rattle.schema_model.specs.PlainTree.{PlainTree}
+use Rattle.row_model.specs.PlainTree.{PlainTree}
 use Rattle.record_json.specs.ReadTree.{read_tree}
 
 -- A record of a cycle: the index of its type, its place among the records of the type, from 0, and its JSON.

@@ -7,10 +7,10 @@ use Rattle.schema_model.specs.declared.limit.Limit.TheVariants.{Nodes}
 use Rattle.schema_model.specs.declared.schema.name.Name.{Name}
 use Rattle.schema_model.specs.Limit.{number_of_limit}
 use Rattle.schema_model.specs.Parts.{index_of_type}
-use Rattle.schema_model.specs.PlainTree.{PlainTree, node_count}
-use Rattle.schema_model.specs.Row.{Rises}
-use Rattle.schema_model.specs.Table.{Table, IsLive}
-use Rattle.schema_model.specs.Unfold.{unfold_row}
+use Rattle.row_model.specs.PlainTree.{PlainTree, node_count}
+use Rattle.row_model.specs.Row.{Rises}
+use Rattle.row_model.specs.Table.{Table, IsLive}
+use Rattle.row_model.specs.Unfold.{unfold_row}
 use Rattle.record_json.specs.PrintTree.{PrintsTree}
 use Rattle.read_engine.specs.Position.{Position, rows_now}
 use Rattle.read_engine.specs.Gone.{AreGone}

@@ -2,10 +2,10 @@
 use Rattle.std.proofs.Common.{◌≡◌, ℕ, List, [], ◌∷◌, ◌++◌, Some, refl, sym, ◌∙◌, ap, subst, IfSome}
 use Rattle.std.specs.List.{slice_get}
 use Rattle.serde_json.specs.Written.{compact_text}
-use Rattle.schema_model.specs.declared.rows.row.Row.{Row}
+use Rattle.row_model.specs.declared.row.Row.{Row}
 use Rattle.schema_model.specs.declared.schema.Schema.{Schema}
-use Rattle.schema_model.specs.Row.{FitsShape}
-use Rattle.schema_model.specs.Table.{Table, row_at}
+use Rattle.row_model.specs.Row.{FitsShape}
+use Rattle.row_model.specs.Table.{Table, row_at}
 use Rattle.json_rows.specs.RowLine.{row_data, IsLineOf}
 use Rattle.json_rows.proofs.Printed.{row_prints}
 use Rattle.hollow_top.specs.RowLines.{IsRowLine}

@@ -7,12 +7,12 @@ use Rattle.hol_io.specs.declared.name.BlobName.{BlobName}
 use Rattle.hol_io.specs.declared.name.BlobName.TheVariants.{Snapshot}
 use Rattle.hol_io.specs.Store.{Store, told}
 use Rattle.schema_model.specs.declared.limit.Limit.TheVariants as limit
-use Rattle.schema_model.specs.declared.rows.row.Row.{Row}
+use Rattle.row_model.specs.declared.row.Row.{Row}
 use Rattle.schema_model.specs.declared.schema.Schema.{Schema}
 use Rattle.schema_model.specs.declared.schema.Shape.{Shape}
 use Rattle.schema_model.specs.Limit.{number_of_limit}
-use Rattle.schema_model.specs.Row.{FitsShape}
-use Rattle.schema_model.specs.Table.{RowMap}
+use Rattle.row_model.specs.Row.{FitsShape}
+use Rattle.row_model.specs.Table.{RowMap}
 use Rattle.type_state.specs.declared.section.Section.{Section}
 use Rattle.type_state.specs.Loads.{SectionIs}
 use Rattle.type_state.specs.State.{Half}

@@ -5,8 +5,8 @@ use Rattle.std.specs.List.{AllByRecursion}
 use Rattle.std.specs.Ordering.{nat_cmp}
 use Rattle.std.specs.FinMap.{find, is_sorted}
 use Rattle.std.proofs.lemmas.Bool.{and_parts, cases_order}
-use Rattle.schema_model.specs.declared.rows.row.Row.{Row}
-use Rattle.schema_model.proofs.RowEntries.{Entry, AreFrom, from_lower, from_none, from_below, skips, finds, finds_none}
+use Rattle.row_model.specs.declared.row.Row.{Row}
+use Rattle.row_model.proofs.RowEntries.{Entry, AreFrom, from_lower, from_none, from_below, skips, finds, finds_none}
 
 -- The entries that are walked, and those that are left: none of these is below the ordinal, and each row from it on is
 -- found among them.

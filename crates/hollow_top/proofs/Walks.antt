@@ -10,10 +10,10 @@ use Rattle.std.specs.Option.{option_and_then}
 use Rattle.std.specs.Ordering.{nat_cmp}
 use Rattle.std.specs.Prelude.{IsSome, IsErrAnd}
 use Rattle.std.specs.FinMap.{entries, entries_sorted, find, get, get-entries, is_sorted}
-use Rattle.schema_model.specs.declared.rows.row.Row.{Row}
+use Rattle.row_model.specs.declared.row.Row.{Row}
 use Rattle.schema_model.specs.declared.schema.Schema.{Schema}
-use Rattle.schema_model.specs.Row.{FitsShape}
-use Rattle.schema_model.specs.Table.{RowMap, Table, IsTableOf, IsBound, IsLive, row_at}
+use Rattle.row_model.specs.Row.{FitsShape}
+use Rattle.row_model.specs.Table.{RowMap, Table, IsTableOf, IsBound, IsLive, row_at}
 use Rattle.std.proofs.KnownBytes.{Appends-nil}
 use Rattle.hollow_top.specs.declared.stop.Stop.{Stop}
 use Rattle.hollow_top.specs.declared.stop.Stop.TheVariants.{Memory}

@@ -5,9 +5,9 @@ use Rattle.std.specs.FinMap.{entries}
 use Rattle.std.specs.Io.KnownBytes.{Appends}
 use Rattle.serde_json.specs.Data.{Data}
 use Rattle.serde_json.specs.Written.{compact_text}
-use Rattle.schema_model.specs.declared.rows.row.Row.{Row}
+use Rattle.row_model.specs.declared.row.Row.{Row}
 use Rattle.schema_model.specs.declared.schema.Schema.{Schema}
-use Rattle.schema_model.specs.Table.{RowMap, Table}
+use Rattle.row_model.specs.Table.{RowMap, Table}
 use Rattle.json_rows.specs.RowLine.{row_data}
 use Rattle.json_rows.specs.StoredRow.{IsRowData}
 use Rattle.hollow_top.specs.declared.stop.Stop.{Stop}

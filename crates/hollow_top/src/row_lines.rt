@@ -3,7 +3,7 @@ ghost use Rattle.std.specs.Prelude.{◌≡◌, ◌<◌, ◌≤◌, length, slice
 ghost use Rattle.std.specs.List.{zip};
 ghost use Rattle.hol_io.specs.Causes.{Rose};
 ghost use Rattle.schema_model.specs.Parts.{fields_of};
-ghost use Rattle.schema_model.specs.Table.{IsTableOf, IsLive, row_at};
+ghost use Rattle.row_model.specs.Table.{IsTableOf, IsLive, row_at};
 ghost use Rattle.json_rows.specs.FieldOrder.{IsByteOrder};
 ghost use Rattle.hollow_top.specs.HeldLines.{HoldsLines, LeavesText};
 ghost use Rattle.hollow_top.specs.RowLines.{IsRowLine, LeavesLines, rows_of_type, rows_in_order};
@@ -11,7 +11,7 @@ ghost use Rattle.hollow_top.specs.RowLines.{IsRowLine, LeavesLines, rows_of_type
 use crate::stop::Stop;
 use hol_io::{Sink, write_all};
 use json_rows::{field_order, row_line};
-use schema_model::Rows;
+use row_model::Rows;
 use std::alloc::{AllocError, Global};
 
 /// Lines wait until they are so many bytes.

@@ -9,12 +9,12 @@ use Rattle.serde_json.specs.Data.{Data, null, boolean, number, unsigned, string,
 use Rattle.serde_json.specs.Find.{of_integer}
 use Rattle.serde_json.specs.View.{items_of}
 use Rattle.serde_json.specs.Written.{has_float, items_have_float, members_have_float}
-use Rattle.schema_model.specs.declared.rows.row.Row.{Row}
-use Rattle.schema_model.specs.declared.rows.row.Value.{Value}
+use Rattle.row_model.specs.declared.row.Row.{Row}
+use Rattle.row_model.specs.declared.row.Value.{Value}
 use Rattle.schema_model.specs.declared.schema.Field.{Field}
 use Rattle.schema_model.specs.declared.schema.Shape.{Shape}
 use Rattle.schema_model.specs.Parts.{field_names}
-use Rattle.schema_model.specs.Row.{FitsShape}
+use Rattle.row_model.specs.Row.{FitsShape}
 use Rattle.json_rows.specs.StoredRow.{IsTextData, IsValueData, IsRecordData, IsRowData, members_of_fields, numbers_data, pairs_data}
 use Rattle.json_rows.proofs.TextKinds.{text_or_none}
 

@@ -5,10 +5,10 @@ use Rattle.std.specs.Prelude.{zip}
 use Rattle.std.proofs.lemmas.List.{take_all, take_more, length-take}
 use Rattle.std.proofs.lemmas.Slice.Zip.{AllZip-long, all_zipped_more}
 use Rattle.schema_model.specs.Parts.{field_names}
-use Rattle.schema_model.specs.Row.{FitsKind, FitsShape}
+use Rattle.row_model.specs.Row.{FitsKind, FitsShape}
 use Rattle.schema_model.specs.declared.schema.name.Name.{Name}
-use Rattle.schema_model.specs.declared.rows.row.Row.{Row}
-use Rattle.schema_model.specs.declared.rows.row.Value.{Value}
+use Rattle.row_model.specs.declared.row.Row.{Row}
+use Rattle.row_model.specs.declared.row.Value.{Value}
 use Rattle.schema_model.specs.declared.schema.Field.{Field}
 use Rattle.schema_model.specs.declared.schema.Shape.{Shape}
 use Rattle.serde_json.specs.Data.{Data, Members, put}

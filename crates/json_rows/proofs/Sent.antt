@@ -7,10 +7,10 @@ use Rattle.serde_json.specs.Data.{number, unsigned, array, item, no_items, Data,
 use Rattle.serde_json.specs.View.{items_of}
 use Rattle.serde_json.specs.Events.{items_len, members_len, SendsValue, SendsItems}
 use Rattle.schema_model.specs.Parts.{shape_fields}
-use Rattle.schema_model.specs.declared.rows.row.Row.{Row}
-use Rattle.schema_model.specs.declared.rows.row.Value.{Value}
+use Rattle.row_model.specs.declared.row.Row.{Row}
+use Rattle.row_model.specs.declared.row.Value.{Value}
 use Rattle.schema_model.specs.declared.schema.Shape.{Shape}
-use Rattle.schema_model.specs.Row.{FitsKind, FitsShape}
+use Rattle.row_model.specs.Row.{FitsKind, FitsShape}
 use Rattle.json_rows.specs.FieldOrder.{Order, members_at, AreBelow}
 use Rattle.json_rows.specs.RowLine.{SendsRecord, SendsRow, values_of}
 use Rattle.json_rows.specs.StoredRow.{numbers_data, pairs_data}

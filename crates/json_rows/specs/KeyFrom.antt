@@ -5,10 +5,10 @@ use Rattle.serde_json.specs.Data.{Data, array, Items, no_items, item}
 use Rattle.schema_model.specs.declared.model.path.Path.{Path}
 use Rattle.schema_model.specs.declared.schema.FieldKind.{FieldKind}
 use Rattle.schema_model.specs.declared.schema.Schema.{Schema}
-use Rattle.schema_model.specs.declared.rows.row.Value.{Value}
+use Rattle.row_model.specs.declared.row.Value.{Value}
 use Rattle.schema_model.specs.declared.reason.Reason.{Reason}
-use Rattle.schema_model.specs.Key.{kind_along, with_first}
-use Rattle.schema_model.specs.Row.{stored_value}
+use Rattle.row_model.specs.Key.{kind_along, with_first}
+use Rattle.row_model.specs.Row.{stored_value}
 use Rattle.json_rows.specs.declared.fault.JsonFault.{JsonFault}
 use Rattle.json_rows.specs.ReadValue.{read_value}
 

@@ -6,7 +6,7 @@ use Rattle.hol_varint.specs.TextUnits.{text_units}
 use Rattle.serde_json.specs.Data.{unsigned, negative, float, Data, null, boolean, number, string, array, Items, no_items, item}
 use Rattle.serde_json.specs.Find.{as_i64}
 use Rattle.schema_model.specs.declared.schema.FieldKind.{FieldKind}
-use Rattle.schema_model.specs.declared.rows.row.Value.{Value}
+use Rattle.row_model.specs.declared.row.Value.{Value}
 use Rattle.schema_model.specs.declared.reason.Reason.{Reason}
 use Rattle.schema_model.specs.declared.reason.Reason.TheVariants.{OtherKind, NumberOutOfRange, NotHexadecimal, UnitOutOfRange}
 use Rattle.json_rows.specs.declared.fault.JsonFault.{JsonFault}

@@ -5,12 +5,12 @@ use Rattle.serde.specs.Event.{Log}
 use Rattle.serde_json.specs.Data.{Data, number, unsigned, string, object, no_members, member}
 use Rattle.serde_json.specs.Events.{SendsValue}
 use Rattle.serde_json.specs.Written.{compact_text}
-use Rattle.schema_model.specs.declared.rows.row.Row.{Row}
-use Rattle.schema_model.specs.declared.rows.row.Value.{Value}
+use Rattle.row_model.specs.declared.row.Row.{Row}
+use Rattle.row_model.specs.declared.row.Value.{Value}
 use Rattle.schema_model.specs.declared.schema.Schema.{Schema}
 use Rattle.schema_model.specs.declared.schema.Shape.{Shape}
 use Rattle.schema_model.specs.Parts.{shape_fields}
-use Rattle.schema_model.specs.Row.{FitsShape}
+use Rattle.row_model.specs.Row.{FitsShape}
 use Rattle.json_rows.specs.FieldOrder.{Order, members_at, IsByteOrder}
 use Rattle.json_rows.specs.StoredRow.{IsRowData, IsValueData}
 

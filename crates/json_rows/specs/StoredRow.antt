@@ -4,8 +4,8 @@ use Rattle.std.specs.List.{AllZip, fold}
 use Rattle.hex.specs.Hex.{encode_lower}
 use Rattle.hol_varint.specs.TextUnits.{AreWellFormed, IsTextOf}
 use Rattle.schema_model.specs.declared.schema.name.Name.{Name}
-use Rattle.schema_model.specs.declared.rows.row.Row.{Row}
-use Rattle.schema_model.specs.declared.rows.row.Value.{Value}
+use Rattle.row_model.specs.declared.row.Row.{Row}
+use Rattle.row_model.specs.declared.row.Value.{Value}
 use Rattle.schema_model.specs.declared.schema.Field.{Field}
 use Rattle.schema_model.specs.declared.schema.Shape.{Shape}
 use Rattle.schema_model.specs.Parts.{field_names}

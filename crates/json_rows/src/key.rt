@@ -2,15 +2,16 @@
 ghost use Rattle.std.specs.Prelude.{◌≡◌, All, IsSomeAnd, Some};
 ghost use Rattle.serde_json.specs.Data.{array};
 ghost use Rattle.serde_json.specs.View.{view, items_view};
-ghost use Rattle.schema_model.specs.Dangling.{IsPlain};
-ghost use Rattle.schema_model.specs.Key.{IsResolved, kind_along};
-ghost use Rattle.schema_model.specs.Row.{stored_value};
+ghost use Rattle.row_model.specs.Dangling.{IsPlain};
+ghost use Rattle.row_model.specs.Key.{IsResolved, kind_along};
+ghost use Rattle.row_model.specs.Row.{stored_value};
 ghost use Rattle.json_rows.specs.KeyFrom.{TellsKey, TellsPart, if_stored, key_part};
 ghost use Rattle.json_rows.specs.ReadValue.{read_value};
 
 use crate::JsonFault;
 use crate::values::value_from;
-use schema_model::{FieldKind, Model, Path, Paths, Value as FieldValue, Values};
+use row_model::{Value as FieldValue, Values};
+use schema_model::{FieldKind, Model, Path, Paths};
 use serde_json::Value;
 use std::alloc::Global;
 

@@ -2,8 +2,8 @@
 ghost use Rattle.std.specs.Prelude.{◌≡◌, List};
 ghost use Rattle.serde_json.specs.Data.{Data};
 ghost use Rattle.schema_model.specs.declared.model.path.Path.{Path};
-ghost use Rattle.schema_model.specs.declared.rows.row.Row.{Row};
-ghost use Rattle.schema_model.specs.declared.rows.row.Value.{Value};
+ghost use Rattle.row_model.specs.declared.row.Row.{Row};
+ghost use Rattle.row_model.specs.declared.row.Value.{Value};
 ghost use Rattle.schema_model.specs.declared.schema.Shape.{Shape};
 ghost use Rattle.schema_model.specs.declared.schema.Schema.{Schema};
 ghost use Rattle.json_rows.specs.KeyFrom.{SpellsKey};

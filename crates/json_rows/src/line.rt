@@ -2,14 +2,15 @@
 ghost use Rattle.std.specs.Prelude.{length, IfOk, OnOk};
 ghost use Rattle.serde_json.specs.Events.{SendsValue};
 ghost use Rattle.schema_model.specs.Parts.{fields_of};
-ghost use Rattle.schema_model.specs.Row.{FitsShape};
+ghost use Rattle.row_model.specs.Row.{FitsShape};
 ghost use Rattle.json_rows.specs.FieldOrder.{AreBelow, IsByteOrder};
 ghost use Rattle.json_rows.specs.RowLine.{IsLineOf, SendsAll, SendsRecord, SendsRow, values_of};
 ghost use Rattle.json_rows.specs.StoredRow.{IsValueData, IsTextData, numbers_data};
 
 use crate::view::RowView;
 use hol_varint::{Units, text_of};
-use schema_model::{Row, Schema, Value};
+use row_model::{Row, Value};
+use schema_model::Schema;
 use serde::{Serialize, Serializer};
 use serde_json::Number;
 use std::alloc::{AllocError, Global};

@@ -1,11 +1,12 @@
 //! Stored rows as JSON values: each row alone, with ordinals in place of the records that it names.
 ghost use Rattle.std.specs.Prelude.{◌≡◌, ◌<◌, length, slice_get, IfOk, IfSome};
 ghost use Rattle.serde_json.specs.View.{view};
-ghost use Rattle.schema_model.specs.Row.{FitsShape};
+ghost use Rattle.row_model.specs.Row.{FitsShape};
 ghost use Rattle.json_rows.specs.StoredRow.{IsRowData, IsRecordData, IsValueData, IsTextData, numbers_data, pairs_data};
 
 use hol_varint::{Units, text_of};
-use schema_model::{Field, Model, Row, Shape, Value as FieldValue};
+use row_model::{Row, Value as FieldValue};
+use schema_model::{Field, Model, Shape};
 use serde_json::{Map, Value, json};
 use std::alloc::{AllocError, Global};
 

@@ -1,13 +1,14 @@
 //! The values of fields from their JSON.
 ghost use Rattle.std.specs.Prelude.{◌≡◌};
 ghost use Rattle.serde_json.specs.View.{view, items_view};
-ghost use Rattle.schema_model.specs.Dangling.{IsPlain};
+ghost use Rattle.row_model.specs.Dangling.{IsPlain};
 ghost use Rattle.json_rows.specs.ReadValue.{Tells, read_bytes, read_flag, read_kind, read_number, read_text, read_each, read_unit, read_value};
 
 use crate::JsonFault;
 use hex::FromHexError;
 use hol_varint::{Octets, Units, units_of};
-use schema_model::{FieldKind, Reason, Value as FieldValue};
+use row_model::Value as FieldValue;
+use schema_model::{FieldKind, Reason};
 use serde_json::Value;
 use std::alloc::Global;
 

@@ -5,7 +5,8 @@ ghost use Rattle.json_rows.specs.FieldOrder.{AreBelow};
 ghost use Rattle.json_rows.specs.RowLine.{values_of};
 
 use crate::line::send_row;
-use schema_model::{Row, Schema};
+use row_model::Row;
+use schema_model::Schema;
 use serde::{Described, Serialize, Serializer};
 use std::alloc::Global;
 

@@ -5,8 +5,8 @@ use Rattle.std.specs.FinMap.{get}
 use Rattle.std.proofs.lemmas.List.Elements.{All-contains_itself}
 use Rattle.std.proofs.lemmas.List.Kept.{AllPairs-cons, AllPairs-filter}
 use Rattle.std.proofs.lemmas.List.Sums.{length-filter}
-use Rattle.schema_model.specs.declared.rows.row.Value.{Value}
-use Rattle.schema_model.specs.Row.{Rises}
+use Rattle.row_model.specs.declared.row.Value.{Value}
+use Rattle.row_model.specs.Row.{Rises}
 use Rattle.row_keys.specs.RowKey.{values_key}
 use Rattle.row_keys.proofs.OneKey.{values_once}
 use Rattle.key_index.specs.Indexed.{AreUnder, CountsKeys}

@@ -11,12 +11,12 @@ use Rattle.std.proofs.lemmas.List.Quantifiers.{all_pairs_push}
 use Rattle.std.proofs.lemmas.List.Sums.{fold_more}
 use Rattle.std.proofs.lemmas.List.{length-append}
 use Rattle.schema_model.specs.declared.model.path.Path.{Path}
-use Rattle.schema_model.specs.declared.rows.row.Row.{Row}
-use Rattle.schema_model.specs.declared.rows.row.Value.{Value}
+use Rattle.row_model.specs.declared.row.Row.{Row}
+use Rattle.row_model.specs.declared.row.Value.{Value}
 use Rattle.schema_model.specs.declared.schema.Schema.{Schema}
-use Rattle.schema_model.specs.Key.{key_of}
-use Rattle.schema_model.specs.Row.{Rises}
-use Rattle.schema_model.specs.Table.{IsLive, Table, row_at}
+use Rattle.row_model.specs.Key.{key_of}
+use Rattle.row_model.specs.Row.{Rises}
+use Rattle.row_model.specs.Table.{IsLive, Table, row_at}
 use Rattle.key_index.specs.Indexed.{AreKeysOf, CountsLive, Follows, KeyMap}
 use Rattle.key_index.specs.Slots.{AreSettled, TwoStates, with_keys, without}
 use Rattle.key_index.proofs.PairLists.{contains_either, contains_first, contains_later, contains_none}

@@ -9,12 +9,12 @@ use Rattle.schema_model.specs.declared.schema.Field.{Field}
 use Rattle.schema_model.specs.declared.schema.FieldKind.{FieldKind}
 use Rattle.schema_model.specs.declared.schema.Schema.{Schema}
 use Rattle.schema_model.specs.declared.schema.Shape.{Shape}
-use Rattle.schema_model.specs.declared.rows.row.Value.{Value}
-use Rattle.schema_model.specs.declared.rows.row.Row.{Row}
-use Rattle.schema_model.specs.Key.{type_behind, target_of, ordinal_in, value_in, unless_null, value_along, with_first, key_of}
+use Rattle.row_model.specs.declared.row.Value.{Value}
+use Rattle.row_model.specs.declared.row.Row.{Row}
+use Rattle.row_model.specs.Key.{type_behind, target_of, ordinal_in, value_in, unless_null, value_along, with_first, key_of}
 use Rattle.schema_model.specs.Parts.{fields_of, shape_fields}
-use Rattle.schema_model.specs.Row.{references_of_value, references_of_row}
-use Rattle.schema_model.specs.Table.{RowMap, Table, IsClosed, IsLive, IsLiveByName, IsTableOf, row_at}
+use Rattle.row_model.specs.Row.{references_of_value, references_of_row}
+use Rattle.row_model.specs.Table.{RowMap, Table, IsClosed, IsLive, IsLiveByName, IsTableOf, row_at}
 use Rattle.key_index.specs.Indexed.{HaveOneRow}
 
 module _ (schemas : List Schema) (table : Table) where

@@ -8,7 +8,7 @@ use Rattle.std.specs.Cmp.{ranked, nat_cmp_is, nat_cmp_total}
 use Rattle.std.specs.FinMap.{get, find, insert, remove, empty, get-insert, get-remove, get-empty, get-from_entries, same_map, nat_cmp-IsAntisymmetric}
 use Rattle.std.proofs.lemmas.Bool.{cases_eq}
 use Rattle.std.proofs.lemmas.List.{get_or_default, replicate_more}
-use Rattle.schema_model.specs.declared.rows.row.Value.{Value}
+use Rattle.row_model.specs.declared.row.Value.{Value}
 use Rattle.key_index.specs.Indexed.{KeyMap}
 use Rattle.key_index.specs.Slots.{TwoStates, entries_from, free_slot, is_in, key_in, keys_of, read_at, with_flag, with_place, Widens}
 use Rattle.key_index.specs.declared.slot.Slot.{Slot}

@@ -2,7 +2,7 @@
 use Rattle.std.proofs.Common.{◌≡◌, ◌⊎◌, ◌↔◌, ℕ, ◌^◌, ◌<◌, List, Option, Some, None, length, refl, sym, ap, subst, ◌∙◌, inl, inr}
 use Rattle.std.specs.Prelude.{Contains, OnErr, OnOk, Result, Ok, Err, slice_set}
 use Rattle.std.proofs.lemmas.Bool.{cases_eq}
-use Rattle.schema_model.specs.declared.rows.row.Value.{Value}
+use Rattle.row_model.specs.declared.row.Value.{Value}
 use Rattle.row_keys.specs.RowKey.{values_key}
 use Rattle.key_index.specs.Pairs.{AddsKey, AreShort, DropsKey, HasBytes}
 use Rattle.key_index.specs.Slots.{ArePaired, Widens, read_at}

@@ -6,11 +6,11 @@ use Rattle.std.specs.Ordering.{nat_cmp}
 use Rattle.schema_model.specs.contracts.model.path.Path as path_contract
 use Rattle.schema_model.specs.contracts.rows.row.Value as value_contract
 use Rattle.schema_model.specs.declared.model.path.Path.{Path}
-use Rattle.schema_model.specs.declared.rows.row.Value.{Value}
+use Rattle.row_model.specs.declared.row.Value.{Value}
 use Rattle.schema_model.specs.declared.schema.Schema.{Schema}
-use Rattle.schema_model.specs.Key.{key_of}
-use Rattle.schema_model.specs.Row.{Rises}
-use Rattle.schema_model.specs.Table.{Table, IsLive, row_at}
+use Rattle.row_model.specs.Key.{key_of}
+use Rattle.row_model.specs.Row.{Rises}
+use Rattle.row_model.specs.Table.{Table, IsLive, row_at}
 
 -- under each indexed ordinal the key of its row, none where the row has none
 abbrev pub KeyMap : Type 0

@@ -1,6 +1,6 @@
 -- Pairs of a key's bytes and an ordinal.
 use Rattle.std.specs.Prelude.{◌≡◌, ◌↔◌, ◌⊎◌, ℕ, ◌<◌, ◌^◌, List, Option, Contains, IsSomeAnd}
-use Rattle.schema_model.specs.declared.rows.row.Value.{Value}
+use Rattle.row_model.specs.declared.row.Value.{Value}
 use Rattle.row_keys.specs.RowKey.{values_key}
 
 -- each ordinal is one of 32 bits

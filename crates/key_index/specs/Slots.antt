@@ -2,7 +2,7 @@
 use Rattle.std.specs.Prelude.{refl, ◌≡◌, ◌↔◌, ◌⊎◌, ◌+◌, ℕ, Bool, true, false, List, [], ◌∷◌, ◌++◌, Option, Some, None, Contains, slice_get, fold, replicate, option_and_then, if◌then◌else◌, ◌&&◌, is_some}
 use Rattle.std.specs.Coded.{Coded, code_by, coded×}
 use Rattle.std.specs.FinMap.{from_entries, get, insert, remove}
-use Rattle.schema_model.specs.declared.rows.row.Value.{Value}
+use Rattle.row_model.specs.declared.row.Value.{Value}
 use Rattle.key_index.specs.declared.slot.Slot.{Slot}
 use Rattle.key_index.specs.Indexed.{KeyMap, key_map_code}
 use Rattle.key_index.specs.Pairs.{HasBytes}

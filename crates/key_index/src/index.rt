@@ -1,8 +1,8 @@
 //! An index of the rows of a type by their keys, kept over the steps of a consumer.
 ghost use Rattle.std.specs.Prelude.{◌≡◌, ◌+◌, ◌≤◌, ◌<◌, ℕ, All, IfOk, IsSome, IsSomeAnd, None, OnOk, OnErr, length};
 ghost use Rattle.std.specs.FinMap.{get};
-ghost use Rattle.schema_model.specs.Key.{IsResolved, key_of};
-ghost use Rattle.schema_model.specs.Table.{IsClosed, IsLive};
+ghost use Rattle.row_model.specs.Key.{IsResolved, key_of};
+ghost use Rattle.row_model.specs.Table.{IsClosed, IsLive};
 ghost use Rattle.key_index.specs.Indexed.{AreKeysOf, AreUnder, CountsKeys, CountsLive, Follows, IsIndexBy};
 ghost use Rattle.key_index.specs.Slots.{AreSettled, with_keys, without};
 
@@ -10,7 +10,8 @@ use crate::key_slots::KeySlots;
 use crate::read::read_key;
 use hol_io::Steps;
 use hol_varint::Ordinals;
-use schema_model::{Paths, Rows, Values};
+use row_model::{Rows, Values};
+use schema_model::Paths;
 use std::alloc::{AllocError, Global};
 use std::marker::Model;
 use std::sync::ledger::Ledger;

@@ -1,6 +1,6 @@
 //! Pairs of a key's bytes and an ordinal, in their order: the ordinals under a key stand behind one another.
 ghost use Rattle.std.specs.Prelude.{◌≡◌, ◌↔◌, ◌⊎◌, ℕ, List, [], Contains, IfOk, OnOk, OnErr};
-ghost use Rattle.schema_model.specs.Row.{Rises};
+ghost use Rattle.row_model.specs.Row.{Rises};
 
 use hol_varint::Ordinals;
 use std::alloc::{AllocError, Global};

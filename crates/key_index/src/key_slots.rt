@@ -7,7 +7,7 @@ use crate::key_pairs::KeyPairs;
 use crate::slot::{Slot, clear, enter, has_row, make_room};
 use hol_varint::Ordinals;
 use row_keys::values_key;
-use schema_model::Values;
+use row_model::Values;
 use std::alloc::{AllocError, Global};
 use std::marker::Model;
 

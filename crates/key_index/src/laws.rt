@@ -2,8 +2,8 @@
 ghost use Rattle.std.specs.Prelude.{◌≡◌, ℕ, List, All};
 ghost use Rattle.schema_model.specs.declared.model.path.Path.{Path};
 ghost use Rattle.schema_model.specs.declared.schema.Schema.{Schema};
-ghost use Rattle.schema_model.specs.Key.{IsResolved, key_of};
-ghost use Rattle.schema_model.specs.Table.{IsClosed, IsLive, IsTableOf, Table};
+ghost use Rattle.row_model.specs.Key.{IsResolved, key_of};
+ghost use Rattle.row_model.specs.Table.{IsClosed, IsLive, IsTableOf, Table};
 ghost use Rattle.key_index.specs.Indexed.{HaveOneRow};
 
 /// A row that stays from one state to another that agrees with it has its key in both: each row that it names stays too.

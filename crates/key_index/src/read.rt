@@ -1,12 +1,13 @@
 //! Reading the key of a row.
 ghost use Rattle.std.specs.Prelude.{◌≡◌, ◌+◌, ◌<◌, IfOk, Some, length};
-ghost use Rattle.schema_model.specs.Key.{key_of, type_behind as type_led_to, unless_null, value_along as value_at, value_in as field_value};
+ghost use Rattle.row_model.specs.Key.{key_of, type_behind as type_led_to, unless_null, value_along as value_at, value_in as field_value};
 ghost use Rattle.std.specs.Option.{option_copied};
-ghost use Rattle.schema_model.specs.Table.{IsClosed, IsLive};
+ghost use Rattle.row_model.specs.Table.{IsClosed, IsLive};
 
 use hol_io::Steps;
 use hol_varint::Duplicate;
-use schema_model::{FieldKind, Model, Paths, Row, Rows, Value, Values};
+use row_model::{Row, Rows, Value, Values};
+use schema_model::{FieldKind, Model, Paths};
 use std::alloc::{AllocError, Global};
 use std::sync::ledger::Ledger;
 

@@ -5,7 +5,7 @@ ghost use Rattle.key_index.specs.Slots.{ArePaired, Widens, free_slot, key_in, re
 
 use crate::key_pairs::KeyPairs;
 use row_keys::values_key;
-use schema_model::Values;
+use row_model::Values;
 use std::alloc::{AllocError, Global};
 
 /// What stands under an ordinal: a key, and which of the two states, called even and odd, have a row with it there.

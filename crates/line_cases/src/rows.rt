@@ -1,14 +1,14 @@
 //! The texts of rows and of their lines; schemas, values of fields and keys that are read, and their faults.
-ghost use Rattle.schema_model.specs.Dangling.{IsPlain};
-ghost use Rattle.schema_model.specs.Row.{FitsShape};
+ghost use Rattle.row_model.specs.Dangling.{IsPlain};
+ghost use Rattle.row_model.specs.Row.{FitsShape};
 
 use hol_varint::Ordinals;
 use json_rows::{
     are_schemas, field_order, key_from, row_line, row_value, schemas_from, value_from,
 };
+use row_model::{Pairs, Row, Values};
 use schema_model::{
-    FieldKind, Fields, Model, Name, Pairs, Paths, Row, Schema, Schemas, Shape, Values, model_of,
-    resolve,
+    FieldKind, Fields, Model, Name, Paths, Schema, Schemas, Shape, model_of, resolve,
 };
 use serde_json::Value;
 use std::alloc::{AllocError, Global};

@@ -11,8 +11,8 @@ use Rattle.std.proofs.lemmas.List.FromFn.{length-map-range_with_len}
 use Rattle.std.proofs.lemmas.Option.{unwrap_or-slice_get}
 use Rattle.bit_array.specs.Element.{number_of, element_of, words_of}
 use Rattle.schema_model.specs.declared.schema.Shape.{Shape}
-use Rattle.schema_model.specs.declared.rows.row.Row.{Row}
-use Rattle.schema_model.specs.Row.{FitsShape}
+use Rattle.row_model.specs.declared.row.Row.{Row}
+use Rattle.row_model.specs.Row.{FitsShape}
 use Rattle.list_codec.specs.ListPlace.{pointer_width, element_width, start_at, end_at, IsList, SpellsList, SpellsListRow}
 use Rattle.list_codec.specs.Widths.{elements_of_row}
 use Rattle.list_codec.specs.Packing.{HasRoom, CanPack, IsPacked, WordsOf, SpellsPlace, elements_of_place, elements_of_places}

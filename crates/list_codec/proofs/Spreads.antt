@@ -3,9 +3,9 @@ use Rattle.std.proofs.Common.{◌≡◌, ℕ, ◌+◌, ◌-◌, ◌^◌, ◌<◌
 use Rattle.std.specs.Prelude.{flat_map, option_map, Option, Some, None}
 use Rattle.std.proofs.Math.Seq.{drop-cons}
 use Rattle.std.proofs.lemmas.List.{length-append, drop_all}
-use Rattle.schema_model.specs.declared.rows.row.Row.{Row}
-use Rattle.schema_model.specs.declared.rows.lent.LentRow.{LentRow}
-use Rattle.schema_model.specs.Lent.{lent_row}
+use Rattle.row_model.specs.declared.row.Row.{Row}
+use Rattle.row_model.specs.declared.lent.LentRow.{LentRow}
+use Rattle.row_model.specs.Lent.{lent_row}
 use Rattle.row_walk.specs.BothStates.{Takes}
 use Rattle.list_codec.specs.Widths.{elements_of_row, greatest}
 

@@ -2,8 +2,8 @@
 use Rattle.std.specs.Prelude.{◌≡◌, ℕ, ◌+◌, ◌*◌, ◌^◌, ◌<◌, ◌≤◌, List, [], length, flat_map, slice_get, slice_index_or, All, Option, Some, None}
 use Rattle.bit_array.specs.Element.{number_of, words_of}
 use Rattle.schema_model.specs.declared.schema.Shape.{Shape}
-use Rattle.schema_model.specs.declared.rows.row.Row.{Row}
-use Rattle.schema_model.specs.Row.{FitsShape}
+use Rattle.row_model.specs.declared.row.Row.{Row}
+use Rattle.row_model.specs.Row.{FitsShape}
 use Rattle.list_codec.specs.ListPlace.{pointer_width, element_width, start_at, end_at, IsList, SpellsList, SpellsListRow}
 use Rattle.list_codec.specs.Widths.{elements_of_row}
 

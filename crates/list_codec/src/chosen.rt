@@ -1,11 +1,12 @@
 //! The widths and the total that the writer chooses, over the rows of two states.
 ghost use Rattle.std.specs.Prelude.{ℕ, List, ◌≡◌, ◌<◌, ◌+◌, ◌-◌, ◌^◌, length, min, max, flat_map, IfOk};
-ghost use Rattle.schema_model.specs.declared.rows.row.Row.{Row as StoredRow};
+ghost use Rattle.row_model.specs.declared.row.Row.{Row as StoredRow};
 ghost use Rattle.list_codec.specs.Widths.{elements_of_row, elements_of_both, greatest as greatest_of, widths_for, total_for};
 
 use bit_array::digits;
+use row_model::{Row, Rows, Widths};
 use row_walk::RowWalk;
-use schema_model::{MAX_ITEMS, Row, Rows, Widths};
+use schema_model::MAX_ITEMS;
 use std::alloc::{AllocError, Global};
 
 /// The widths, in bits, of the pointers and the elements of a LIST type: those that the lists of both states need, and one at least.

@@ -1,6 +1,6 @@
 //! Laws of the definitions: a place spells one row at most, and not both a row and a reason why there is none.
 ghost use Rattle.std.specs.Prelude.{◌≡◌, ℕ, List};
-ghost use Rattle.schema_model.specs.declared.rows.row.Row.{Row};
+ghost use Rattle.row_model.specs.declared.row.Row.{Row};
 ghost use Rattle.schema_model.specs.declared.reason.Reason.{Reason};
 ghost use Rattle.list_codec.specs.ListPlace.{SpellsListRow, FailsListRow};
 

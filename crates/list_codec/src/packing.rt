@@ -6,7 +6,8 @@ ghost use Rattle.list_codec.specs.Packing.{HasRoom, CanPack, IsPacked, WordsOf, 
 
 use crate::chosen::elements_of;
 use bit_array::{set_element, words_for};
-use schema_model::{Areas, Packed, Places, Row, Schema, Widths, Words};
+use row_model::{Areas, Packed, Places, Row, Widths, Words};
+use schema_model::Schema;
 use std::alloc::{AllocError, Global};
 
 /// The packed words of the lists of a LIST type, place by place; a place without a row repeats the pointer before it.

@@ -1,14 +1,15 @@
 //! The list that stands at a place.
 ghost use Rattle.std.specs.Prelude.{◌≡◌, ◌+◌, ◌*◌, ◌≤◌, ◌↔◌, length, IsTrue, Ok, Err};
 ghost use Rattle.hol_varint.specs.Yields.{Yields};
-ghost use Rattle.schema_model.specs.declared.rows.row.Row.{Row as StoredRow};
+ghost use Rattle.row_model.specs.declared.row.Row.{Row as StoredRow};
 ghost use Rattle.schema_model.specs.declared.reason.Reason.{Reason};
-ghost use Rattle.schema_model.specs.declared.rows.packed.PlaceFault.TheVariants.{Bad};
+ghost use Rattle.row_model.specs.declared.packed.PlaceFault.TheVariants.{Bad};
 ghost use Rattle.list_codec.specs.ListPlace.{IsList, HoldsListPlace, SpellsListRow, FailsListRow, IsFreePlace, TellsListRow, TellsElements, pointer_before};
 
 use bit_array::element_at;
 use hol_varint::Ordinals;
-use schema_model::{Parts, PlaceFault, Reason, Row, Schema, Widths};
+use row_model::{Parts, PlaceFault, Row, Widths};
+use schema_model::{Reason, Schema};
 use std::alloc::Global;
 
 /// The list that the parts of a LIST type spell at a place.

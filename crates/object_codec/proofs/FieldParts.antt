@@ -5,11 +5,11 @@ use Rattle.std.specs.List.{AllZip, enumerate_from}
 use Rattle.std.proofs.lemmas.List.{length-append, take-append-le, drop-append-le, length-drop}
 use Rattle.std.proofs.lemmas.List.Sums.{sum_by-cons}
 use Rattle.bit_array.specs.Element.{element_of}
-use Rattle.schema_model.specs.Areas.{area_of}
-use Rattle.schema_model.specs.Row.{stored_value}
+use Rattle.row_model.specs.Areas.{area_of}
+use Rattle.row_model.specs.Row.{stored_value}
 use Rattle.schema_model.specs.declared.schema.FieldKind.{FieldKind}
 use Rattle.schema_model.specs.declared.schema.Field.{Field}
-use Rattle.schema_model.specs.declared.rows.row.Value.{Value}
+use Rattle.row_model.specs.declared.row.Value.{Value}
 use Rattle.object_codec.specs.ObjectPlace.{element_at, start_at, part_at, parts_from, SpellsFields}
 use Rattle.object_codec.specs.Part.{FieldPart, IsSpan, span_of, offset_in, SpellsValue, SpellsText, SpellsBytes}
 use Rattle.object_codec.specs.Packing.{IsGap, PacksPart}

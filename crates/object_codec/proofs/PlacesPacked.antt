@@ -11,14 +11,14 @@ use Rattle.std.proofs.lemmas.Nat.{pow_pos}
 use Rattle.std.proofs.lemmas.Option.{slice_get_read, slice_get_within, get_or_from_slice_get}
 use Rattle.std.proofs.lemmas.Slice.Zip.{AllZip-long}
 use Rattle.bit_array.specs.Element.{number_of, words_of}
-use Rattle.schema_model.specs.Areas.{area_of}
+use Rattle.row_model.specs.Areas.{area_of}
 use Rattle.schema_model.specs.Parts.{shape_fields}
-use Rattle.schema_model.specs.Row.{FitsKind, FitsShape, stored_row}
+use Rattle.row_model.specs.Row.{FitsKind, FitsShape, stored_row}
 use Rattle.schema_model.specs.declared.schema.FieldKind.{FieldKind}
 use Rattle.schema_model.specs.declared.schema.Field.{Field}
 use Rattle.schema_model.specs.declared.schema.Shape.{Shape}
-use Rattle.schema_model.specs.declared.rows.row.Row.{Row}
-use Rattle.schema_model.specs.declared.rows.row.Value.{Value}
+use Rattle.row_model.specs.declared.row.Row.{Row}
+use Rattle.row_model.specs.declared.row.Value.{Value}
 use Rattle.object_codec.specs.ObjectPlace.{IsFieldWidth}
 use Rattle.object_codec.specs.Packing.{HasBytes, PacksPlace, HasRoom, IsRowPut, StartsAtEnds, CanPack, IsPacked, values_of_place, areas_with, areas_for, IsWidthFor}
 use Rattle.object_codec.specs.Stored.{value_at, value_bytes, values_bytes, column}

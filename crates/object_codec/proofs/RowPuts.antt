@@ -10,14 +10,14 @@ use Rattle.std.proofs.lemmas.Option.{unwrap_or-slice_get}
 use Rattle.std.proofs.lemmas.Slice.Zip.{AllZip-long}
 use Rattle.bit_array.specs.Element.{element_of, number_of, SetsBlock}
 use Rattle.bit_array.proofs.Blocks.{block_bits}
-use Rattle.schema_model.specs.Areas.{area_of}
+use Rattle.row_model.specs.Areas.{area_of}
 use Rattle.schema_model.specs.Parts.{shape_fields}
-use Rattle.schema_model.specs.Row.{FitsKind, FitsShape, stored_value}
+use Rattle.row_model.specs.Row.{FitsKind, FitsShape, stored_value}
 use Rattle.schema_model.specs.declared.schema.FieldKind.{FieldKind}
 use Rattle.schema_model.specs.declared.schema.Field.{Field}
 use Rattle.schema_model.specs.declared.schema.Shape.{Shape}
-use Rattle.schema_model.specs.declared.rows.row.Row.{Row}
-use Rattle.schema_model.specs.declared.rows.row.Value.{Value}
+use Rattle.row_model.specs.declared.row.Row.{Row}
+use Rattle.row_model.specs.declared.row.Value.{Value}
 use Rattle.object_codec.specs.Encoded.{IsTaken}
 use Rattle.object_codec.specs.ObjectPlace.{element_at, start_at, part_at, parts_of, IsObject, HoldsPlace, SpellsFields, SpellsObjectRow}
 use Rattle.object_codec.specs.Packing.{HasBytes, IsGap, PacksPart, PacksPlace, HoldsValue, HasRoom, IsRowPut, StartsAtEnds, values_of_place, areas_with}

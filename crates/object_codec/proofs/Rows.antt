@@ -3,9 +3,9 @@ use Rattle.std.proofs.Common.{◌≡◌, ℕ, List, Result, Ok, Err, ap, subst, 
 use Rattle.hol_varint.specs.Yields.{Yields}
 use Rattle.schema_model.specs.Parts.{shape_fields}
 use Rattle.schema_model.specs.declared.schema.Shape.{Shape}
-use Rattle.schema_model.specs.declared.rows.row.Row.{Row}
+use Rattle.row_model.specs.declared.row.Row.{Row}
 use Rattle.schema_model.specs.declared.reason.Reason.{Reason}
-use Rattle.schema_model.specs.declared.rows.packed.PlaceFault.{PlaceFault}
+use Rattle.row_model.specs.declared.packed.PlaceFault.{PlaceFault}
 use Rattle.object_codec.specs.ObjectPlace.{parts_of, SpellsObjectRow, FailsObjectRow, TellsObjectRow, IsFreePlace}
 use Rattle.object_codec.proofs.Values.{spelled_once, spelled_or_failed, failed_once}
 

@@ -11,8 +11,8 @@ use Rattle.bit_array.specs.Digits.{digit_count}
 use Rattle.bit_array.proofs.DigitCounts.{digit_count-holds}
 use Rattle.schema_model.specs.declared.schema.Field.{Field}
 use Rattle.schema_model.specs.declared.schema.FieldKind.{FieldKind}
-use Rattle.schema_model.specs.declared.rows.row.Row.{Row}
-use Rattle.schema_model.specs.declared.rows.row.Value.{Value}
+use Rattle.row_model.specs.declared.row.Row.{Row}
+use Rattle.row_model.specs.declared.row.Value.{Value}
 use Rattle.row_walk.specs.BothStates.{Takes}
 use Rattle.object_codec.specs.declared.chosen.Spread.{Spread}
 use Rattle.object_codec.specs.Stored.{values_of_row, value_at, column, stored_number, value_bytes, values_bytes}

@@ -7,9 +7,9 @@ use Rattle.std.proofs.lemmas.Nat.{pow_pos, mod_low}
 use Rattle.std.proofs.lemmas.List.{length-append, take_all, drop_at}
 use Rattle.hol_varint.specs.TextUnits.{AreUnits, units_bytes}
 use Rattle.hol_varint.specs.Zigzag.{zigzag, unzigzag}
-use Rattle.schema_model.specs.Row.{FitsKind, is_least, stored_value}
+use Rattle.row_model.specs.Row.{FitsKind, is_least, stored_value}
 use Rattle.schema_model.specs.declared.schema.FieldKind.{FieldKind}
-use Rattle.schema_model.specs.declared.rows.row.Value.{Value}
+use Rattle.row_model.specs.declared.row.Value.{Value}
 use Rattle.object_codec.specs.Encoded.{end_element, element_for, gap_element, IsTaken}
 use Rattle.object_codec.specs.ObjectPlace.{IsKindWidth}
 use Rattle.object_codec.specs.Packing.{HasBytes, HoldsValue, PacksPart}

@@ -6,7 +6,7 @@ use Rattle.hol_varint.proofs.Runs.{codes_once}
 use Rattle.hol_varint.proofs.VarWriting.{varint_code}
 use Rattle.schema_model.specs.declared.schema.FieldKind.{FieldKind}
 use Rattle.schema_model.specs.declared.schema.Field.{Field}
-use Rattle.schema_model.specs.declared.rows.row.Value.{Value}
+use Rattle.row_model.specs.declared.row.Value.{Value}
 use Rattle.schema_model.specs.declared.reason.Reason.{Reason}
 use Rattle.object_codec.specs.Part.{FieldPart, IsSpan, SpellsInt, SpellsLong, SpellsReference, SpellsBoolean, SpellsText, SpellsBytes, SpellsValue, HasBadPointers, HasBadText, HasBadValue, FailsValue}
 use Rattle.object_codec.specs.ObjectPlace.{SpellsFields, FirstFails}

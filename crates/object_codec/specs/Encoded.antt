@@ -2,7 +2,7 @@
 use Rattle.std.specs.Prelude.{◌≡◌, ℕ, ◌+◌, ◌-◌, ◌^◌, ◌<◌, List, ◌++◌, length, Option, unwrap_or}
 use Rattle.std.specs.Option.{option_to_list}
 use Rattle.schema_model.specs.declared.schema.FieldKind.{FieldKind}
-use Rattle.schema_model.specs.declared.rows.row.Value.{Value}
+use Rattle.row_model.specs.declared.row.Value.{Value}
 use Rattle.object_codec.specs.Packing.{HasBytes, PacksPart}
 use Rattle.object_codec.specs.Part.{offset_in}
 use Rattle.object_codec.specs.Stored.{stored_number, values_bytes}

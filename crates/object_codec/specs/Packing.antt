@@ -2,14 +2,14 @@
 use Rattle.std.specs.Prelude.{◌∷◌, ◌≡◌, ℕ, ◌+◌, ◌-◌, ◌*◌, ◌^◌, ◌<◌, ◌≤◌, List, [], ◌++◌, length, map, sum, slice_get, slice_index, Option, Some, None, IfSome}
 use Rattle.std.specs.List.{AllZip, enumerate_from}
 use Rattle.bit_array.specs.Element.{number_of, words_of}
-use Rattle.schema_model.specs.Areas.{area_of}
+use Rattle.row_model.specs.Areas.{area_of}
 use Rattle.schema_model.specs.Parts.{shape_fields}
-use Rattle.schema_model.specs.Row.{FitsShape, stored_value, stored_row}
+use Rattle.row_model.specs.Row.{FitsShape, stored_value, stored_row}
 use Rattle.schema_model.specs.declared.schema.FieldKind.{FieldKind}
 use Rattle.schema_model.specs.declared.schema.Field.{Field}
 use Rattle.schema_model.specs.declared.schema.Shape.{Shape}
-use Rattle.schema_model.specs.declared.rows.row.Row.{Row}
-use Rattle.schema_model.specs.declared.rows.row.Value.{Value}
+use Rattle.row_model.specs.declared.row.Row.{Row}
+use Rattle.row_model.specs.declared.row.Value.{Value}
 use Rattle.object_codec.specs.ObjectPlace.{parts_of, IsObject, IsFieldWidth, HoldsPlace, SpellsObjectRow}
 use Rattle.object_codec.specs.Part.{FieldPart, SpellsValue}
 use Rattle.object_codec.specs.Stored.{values_of_row, value_at, column, stored_number, values_bytes}

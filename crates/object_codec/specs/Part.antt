@@ -3,9 +3,9 @@ use Rattle.std.specs.Prelude.{◌≡◌, ℕ, ◌-◌, ◌%◌, ◌^◌, ◌<◌
 use Rattle.hol_varint.specs.Zigzag.{unzigzag}
 use Rattle.hol_varint.specs.TextUnits.{AreUnitsIn, IsBadText}
 use Rattle.schema_model.specs.declared.schema.FieldKind.{FieldKind}
-use Rattle.schema_model.specs.declared.rows.row.Value.{Value}
+use Rattle.row_model.specs.declared.row.Value.{Value}
 use Rattle.schema_model.specs.declared.reason.Reason.{Reason}
-use Rattle.schema_model.specs.declared.rows.packed.PlaceFault.{PlaceFault}
+use Rattle.row_model.specs.declared.packed.PlaceFault.{PlaceFault}
 
 -- What a field has at a place: the width of its element in bits, the element, where its bytes start, and the bytes of the field at all places.
 pub record FieldPart : Type 0 where

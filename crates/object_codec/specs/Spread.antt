@@ -1,7 +1,7 @@
 -- What the values of each field of an OBJECT type take, as they are gathered.
 use Rattle.std.specs.Prelude.{◌≡◌, ℕ, ◌+◌, ◌-◌, ◌^◌, ◌<◌, List, length, max, min, slice_index_or}
-use Rattle.schema_model.specs.declared.rows.row.Row.{Row}
-use Rattle.schema_model.specs.declared.rows.row.Value.{Value}
+use Rattle.row_model.specs.declared.row.Row.{Row}
+use Rattle.row_model.specs.declared.row.Value.{Value}
 use Rattle.object_codec.specs.declared.chosen.Spread.{Spread}
 use Rattle.object_codec.specs.Stored.{column}
 use Rattle.object_codec.specs.Widths.{most_bits, byte_count, records_of}

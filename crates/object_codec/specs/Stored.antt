@@ -3,9 +3,9 @@ use Rattle.std.specs.Prelude.{ℕ, ◌-◌, ◌^◌, List, [], flat_map, if◌th
 use Rattle.std.specs.Option.{option_to_list}
 use Rattle.hol_varint.specs.Zigzag.{zigzag}
 use Rattle.hol_varint.specs.TextUnits.{units_bytes}
-use Rattle.schema_model.specs.Row.{stored_value}
-use Rattle.schema_model.specs.declared.rows.row.Value.{Value}
-use Rattle.schema_model.specs.declared.rows.row.Row.{Row}
+use Rattle.row_model.specs.Row.{stored_value}
+use Rattle.row_model.specs.declared.row.Value.{Value}
+use Rattle.row_model.specs.declared.row.Row.{Row}
 
 -- The values of a record, none of a row of another kind.
 abbrev pub values_of_row : Row → List Value

@@ -6,13 +6,13 @@ use Rattle.bit_array.specs.Digits.{digit_count}
 use Rattle.row_walk.specs.BothStates.{rows_in, rows_from}
 use Rattle.schema_model.specs.Limit.{number_of_limit}
 use Rattle.schema_model.specs.Parts.{fields_of}
-use Rattle.schema_model.specs.Table.{Table}
+use Rattle.row_model.specs.Table.{Table}
 use Rattle.schema_model.specs.declared.limit.Limit.{Limit}
 use Rattle.schema_model.specs.declared.schema.Field.{Field}
 use Rattle.schema_model.specs.declared.schema.FieldKind.{FieldKind}
 use Rattle.schema_model.specs.declared.schema.Schema.{Schema}
-use Rattle.schema_model.specs.declared.rows.row.Row.{Row}
-use Rattle.schema_model.specs.declared.rows.row.Value.{Value}
+use Rattle.row_model.specs.declared.row.Row.{Row}
+use Rattle.row_model.specs.declared.row.Value.{Value}
 use Rattle.object_codec.specs.Stored.{values_of_row, column, stored_number, values_bytes}
 
 -- The fields of a type, none where there is no such type.

@@ -1,8 +1,8 @@
 //! The widths that the writer chooses, over the rows of two states, and the variable bytes of one.
 ghost use Rattle.std.specs.Prelude.{ℕ, List, ◌≡◌, ◌<◌, ◌≤◌, ◌+◌, ◌-◌, ◌^◌, length, min, max, IfOk};
 ghost use Rattle.std.specs.Option.{option_to_list};
-ghost use Rattle.schema_model.specs.declared.rows.row.Value.{Value as StoredValue};
-ghost use Rattle.schema_model.specs.Table.{row_at};
+ghost use Rattle.row_model.specs.declared.row.Value.{Value as StoredValue};
+ghost use Rattle.row_model.specs.Table.{row_at};
 ghost use Rattle.row_walk.specs.BothStates.{rows_of_both};
 ghost use Rattle.object_codec.specs.Stored.{values_of_row, value_at, value_bytes, values_bytes};
 ghost use Rattle.object_codec.specs.Widths.{fields_at, value_bits, most_bits, byte_count, width_for, widths_for, rows_bytes, live_rows, bytes_for};
@@ -10,8 +10,9 @@ ghost use Rattle.object_codec.specs.Spread.{spread_at, IsSpreadWith, AreSpreads}
 
 use crate::stored::{stored_number, value_bytes, values_of};
 use bit_array::digits;
+use row_model::{Rows, Value, Widths};
 use row_walk::RowWalk;
-use schema_model::{Field, FieldKind, MAX_BYTES, Rows, Value, Widths};
+use schema_model::{Field, FieldKind, MAX_BYTES};
 use std::alloc::{AllocError, Global};
 
 /// The widths, in bits, of the fields of an OBJECT type, those of the new state's model: what the values of both states need.

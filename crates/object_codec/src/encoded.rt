@@ -1,8 +1,8 @@
 //! The element and the bytes of one value, as they are written.
 ghost use Rattle.std.specs.Prelude.{ℕ, List, ◌≡◌, ◌+◌, ◌-◌, ◌^◌, ◌<◌, ◌≤◌, ◌++◌, length, slice_get, IfOk, IfSome, OnOk};
 ghost use Rattle.hol_varint.specs.TextUnits.{AreUnits};
-ghost use Rattle.schema_model.specs.Row.{FitsKind};
-ghost use Rattle.schema_model.specs.declared.rows.row.Value.{Value as StoredValue};
+ghost use Rattle.row_model.specs.Row.{FitsKind};
+ghost use Rattle.row_model.specs.declared.row.Value.{Value as StoredValue};
 ghost use Rattle.object_codec.specs.ObjectPlace.{IsKindWidth};
 ghost use Rattle.object_codec.specs.Stored.{stored_number as number_of_stored, greatest_number, value_at, value_bytes, values_bytes};
 ghost use Rattle.object_codec.specs.Packing.{HasBytes, HoldsValue};
@@ -11,7 +11,8 @@ ghost use Rattle.object_codec.specs.Encoded.{end_element as end_of_value, elemen
 use crate::stored::stored_number;
 use bit_array::all_ones;
 use hol_varint::{Octets, put_units};
-use schema_model::{FieldKind, Value};
+use row_model::Value;
+use schema_model::FieldKind;
 use std::alloc::{AllocError, Global};
 use std::mem;
 

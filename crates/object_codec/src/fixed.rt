@@ -4,7 +4,7 @@ ghost use Rattle.object_codec.specs.Part.{SpellsInt, SpellsLong, SpellsReference
 
 use bit_array::all_ones;
 use hol_varint::{unzigzag32, unzigzag64};
-use schema_model::Value;
+use row_model::Value;
 
 /// The value of an INT: null for ones alone, else the number whose zigzag number the element is. None where that is no INT.
 pub fn int_value(width: u32, element: u64) -> Option<Value>

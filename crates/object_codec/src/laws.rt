@@ -1,7 +1,7 @@
 //! Laws of the definitions: a place spells one row at most, and not both a row and a reason why there is none.
 ghost use Rattle.std.specs.Prelude.{◌≡◌, ℕ, List};
 ghost use Rattle.schema_model.specs.declared.schema.Shape.{Shape};
-ghost use Rattle.schema_model.specs.declared.rows.row.Row.{Row};
+ghost use Rattle.row_model.specs.declared.row.Row.{Row};
 ghost use Rattle.schema_model.specs.declared.reason.Reason.{Reason};
 ghost use Rattle.object_codec.specs.ObjectPlace.{SpellsObjectRow, FailsObjectRow};
 

@@ -8,7 +8,8 @@ use crate::encoded::take_value;
 use crate::stored::values_of;
 use bit_array::{set_element, total_width, words_for};
 use hol_varint::Octets;
-use schema_model::{Areas, Packed, Places, Row, Schema, Value, Widths, Words};
+use row_model::{Areas, Packed, Places, Row, Value, Widths, Words};
+use schema_model::Schema;
 use std::alloc::{AllocError, Global};
 
 /// The packed words and bytes of the records of an OBJECT type, place by place; the least INT and LONG are packed as null. At a place without a

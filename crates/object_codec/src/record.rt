@@ -2,15 +2,16 @@
 ghost use Rattle.std.specs.Prelude.{Ok, Err};
 ghost use Rattle.hol_varint.specs.Yields.{Yields};
 ghost use Rattle.schema_model.specs.Parts.{shape_fields};
-ghost use Rattle.schema_model.specs.declared.rows.row.Row.{Row as StoredRow};
+ghost use Rattle.row_model.specs.declared.row.Row.{Row as StoredRow};
 ghost use Rattle.schema_model.specs.declared.reason.Reason.{Reason};
-ghost use Rattle.schema_model.specs.declared.rows.packed.PlaceFault.TheVariants.{Bad};
+ghost use Rattle.row_model.specs.declared.packed.PlaceFault.TheVariants.{Bad};
 ghost use Rattle.object_codec.specs.ObjectPlace.{IsObject, HoldsPlace, SpellsObjectRow, FailsObjectRow, IsFreePlace, TellsObject, TellsObjectRow};
 
 use crate::cell::Cell;
 use crate::value::value;
 use bit_array::total_width;
-use schema_model::{Field, Parts, PlaceFault, Row, Schema, Values, Widths};
+use row_model::{Parts, PlaceFault, Row, Values, Widths};
+use schema_model::{Field, Schema};
 use std::alloc::Global;
 
 /// The record that the parts of an OBJECT type spell at a place.

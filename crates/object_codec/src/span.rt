@@ -1,13 +1,14 @@
 //! The variable bytes of a STRING or BYTES.
 ghost use Rattle.std.specs.Prelude.{◌≡◌, ◌-◌, ◌≤◌, length, take, drop, IfOk};
-ghost use Rattle.schema_model.specs.Areas.{area_of};
+ghost use Rattle.row_model.specs.Areas.{area_of};
 ghost use Rattle.object_codec.specs.Cell.{IsWithin};
 ghost use Rattle.object_codec.specs.Part.{TellsSpan};
 ghost use Rattle.object_codec.specs.ObjectPlace.{element_at, part_at};
 
 use crate::cell::Cell;
 use hol_varint::Octets;
-use schema_model::{Parts, PlaceFault, Reason};
+use row_model::{Parts, PlaceFault};
+use schema_model::Reason;
 use std::alloc::{AllocError, Global};
 
 /// The bytes of a field's area from `start` up to `end`.

@@ -1,10 +1,10 @@
 //! The values of a record as they are written.
 ghost use Rattle.std.specs.Prelude.{◌≡◌, ◌≤◌, ◌-◌, ◌^◌, length, min, IfSome};
-ghost use Rattle.schema_model.specs.declared.rows.row.Value.{Value as StoredValue};
+ghost use Rattle.row_model.specs.declared.row.Value.{Value as StoredValue};
 ghost use Rattle.object_codec.specs.Stored.{values_of_row, stored_number as number_of_stored, greatest_number, value_bytes as bytes_of_value};
 
 use hol_varint::{units_len, zigzag32, zigzag64};
-use schema_model::{Row, Value};
+use row_model::{Row, Value};
 
 /// The values of a record, none of a row of another kind.
 pub(crate) fn values_of(row: &Row) -> &[Value]

@@ -1,6 +1,6 @@
 //! The value of a field, by its kind.
 ghost use Rattle.std.specs.Prelude.{◌≡◌, ◌≤◌};
-ghost use Rattle.schema_model.specs.Areas.{area_of};
+ghost use Rattle.row_model.specs.Areas.{area_of};
 ghost use Rattle.schema_model.specs.declared.schema.FieldKind.TheVariants.{Text, Bytes};
 ghost use Rattle.object_codec.specs.Cell.{IsWithin};
 ghost use Rattle.object_codec.specs.Part.{TellsValue};
@@ -10,7 +10,8 @@ use crate::cell::Cell;
 use crate::fixed::{boolean_value, int_value, long_value, reference_value};
 use crate::span::span;
 use hol_varint::{UnitsFault, get_units};
-use schema_model::{FieldKind, Parts, PlaceFault, Reason, Value};
+use row_model::{Parts, PlaceFault, Value};
+use schema_model::{FieldKind, Reason};
 use std::alloc::Global;
 
 /// The value of a field of a kind, whose element stands in the cell.

@@ -4,8 +4,8 @@ use Rattle.std.specs.Prelude.{Result, Ok, Err, IsSome, is_some}
 use Rattle.std.specs.FinMap.{get, insert}
 use Rattle.std.proofs.lemmas.Bool.{cases_order, cases_eq}
 use Rattle.hol_varint.specs.Yields.{Yields}
-use Rattle.schema_model.specs.declared.rows.row.Row.{Row}
-use Rattle.schema_model.specs.Table.{RowMap}
+use Rattle.row_model.specs.declared.row.Row.{Row}
+use Rattle.row_model.specs.Table.{RowMap}
 use Rattle.ordinal_map.specs.Assign.{Agree, Holds, IsFreePut, IsLeast, IsPut, IsTaken, TellsPut}
 use Rattle.ordinal_map.proofs.SlotRows.{get_inserted, get_beside}
 use Rattle.ordinal_map.specs.States.{States}

@@ -5,9 +5,9 @@ use Rattle.std.specs.Ordering.{nat_cmp}
 use Rattle.std.specs.Cmp.{nat_cmp_total}
 use Rattle.std.specs.FinMap.{get, find, insert, empty, get-insert, get-empty, get-from_entries, same_map, nat_cmp-IsAntisymmetric}
 use Rattle.std.proofs.lemmas.Bool.{cases_eq}
-use Rattle.schema_model.specs.declared.rows.row.Row.{Row}
-use Rattle.schema_model.specs.Table.{RowMap}
-use Rattle.schema_model.proofs.RowEntries.{skips, finds}
+use Rattle.row_model.specs.declared.row.Row.{Row}
+use Rattle.row_model.specs.Table.{RowMap}
+use Rattle.row_model.proofs.RowEntries.{skips, finds}
 use Rattle.ordinal_map.specs.Slots.{rows_of, row_in, entries_from, with_place, any_row, previous_row, current_row, entered, advanced, undone}
 use Rattle.ordinal_map.specs.declared.slot.Slot.{Slot}
 use Rattle.ordinal_map.specs.declared.slot.Slot.TheVariants.{Free, Previous, Current, Both}

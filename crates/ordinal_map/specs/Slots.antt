@@ -3,8 +3,8 @@ use Rattle.std.specs.Prelude.{List, [], ◌∷◌, ◌++◌, ◌⊎◌, ℕ, ◌
 use Rattle.std.specs.FinMap.{from_entries}
 use Rattle.std.specs.Map.{lookup}
 use Rattle.std.specs.Str.{bytes_eq}
-use Rattle.schema_model.specs.declared.rows.row.Row.{Row}
-use Rattle.schema_model.specs.Table.{RowMap}
+use Rattle.row_model.specs.declared.row.Row.{Row}
+use Rattle.row_model.specs.Table.{RowMap}
 use Rattle.ordinal_map.specs.Assign.{IsPast}
 use Rattle.row_keys.specs.RowKey.{row_key}
 use Rattle.ordinal_map.specs.declared.slot.Slot.{Slot}

@@ -12,7 +12,8 @@ use crate::slot::{
     undo_all,
 };
 use row_keys::row_key;
-use schema_model::{MAX_ORDINALS, Row};
+use row_model::Row;
+use schema_model::MAX_ORDINALS;
 use std::alloc::{AllocError, Global};
 use std::marker::Model;
 

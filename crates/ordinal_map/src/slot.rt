@@ -4,7 +4,7 @@ ghost use Rattle.std.specs.List.{list_any};
 ghost use Rattle.ordinal_map.specs.Slots.{any_row, previous_row, current_row, row_in, changed, Extends, advanced, undone};
 ghost use Rattle.std.specs.Option.{option_copied};
 
-use schema_model::Row;
+use row_model::Row;
 use std::alloc::AllocError;
 use std::mem;
 

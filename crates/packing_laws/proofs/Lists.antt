@@ -6,7 +6,7 @@ use Rattle.std.proofs.lemmas.List.Concat.{flat_map-append}
 use Rattle.std.proofs.lemmas.List.FromFn.{length-map-range_with_len, get_or-map-range_with_len}
 use Rattle.std.proofs.lemmas.Option.{slice_get-get_or}
 use Rattle.bit_array.specs.Element.{number_of, element_of}
-use Rattle.schema_model.specs.declared.rows.row.Row.{Row}
+use Rattle.row_model.specs.declared.row.Row.{Row}
 use Rattle.list_codec.specs.ListPlace.{pointer_width, element_width, start_at, end_at}
 use Rattle.list_codec.specs.Packing.{elements_of_place, elements_of_places, SpellsPlace, IsPacked}
 use Rattle.bucket_codec.proofs.SameWords.{same_number, same_words}

@@ -6,7 +6,7 @@ use Rattle.std.proofs.lemmas.List.{length-take, length-drop}
 use Rattle.std.proofs.lemmas.Nat.{pow_pos, shr_split, le-div, div_below}
 use Rattle.hol_varint.specs.Zigzag.{zigzag, unzigzag}
 use Rattle.schema_model.specs.declared.schema.FieldKind.{FieldKind}
-use Rattle.schema_model.specs.declared.rows.row.Value.{Value}
+use Rattle.row_model.specs.declared.row.Value.{Value}
 use Rattle.object_codec.specs.Part.{FieldPart, HasNullBit, IsSpan, span_of, end_of, SpellsValue}
 use Rattle.object_codec.specs.Packing.{IsGap}
 

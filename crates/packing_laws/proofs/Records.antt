@@ -9,11 +9,11 @@ use Rattle.std.proofs.lemmas.Slice.Zip.{AllZip-long}
 use Rattle.bit_array.specs.Element.{number_of, element_of}
 use Rattle.bit_array.proofs.Elements.{element_of-lt, element_of_no_width}
 use Rattle.schema_model.specs.Parts.{shape_fields}
-use Rattle.schema_model.specs.Row.{stored_value}
+use Rattle.row_model.specs.Row.{stored_value}
 use Rattle.schema_model.specs.declared.schema.Field.{Field}
 use Rattle.schema_model.specs.declared.schema.Shape.{Shape}
-use Rattle.schema_model.specs.declared.rows.row.Row.{Row}
-use Rattle.schema_model.specs.declared.rows.row.Value.{Value}
+use Rattle.row_model.specs.declared.row.Row.{Row}
+use Rattle.row_model.specs.declared.row.Value.{Value}
 use Rattle.object_codec.specs.Part.{offset_in, SpellsValue}
 use Rattle.object_codec.specs.ObjectPlace.{element_at, start_at, parts_from, SpellsFields}
 use Rattle.object_codec.specs.Stored.{values_bytes, column}

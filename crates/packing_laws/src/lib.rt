@@ -3,7 +3,7 @@
 
 ghost use Rattle.std.specs.Prelude.{◌≡◌, ℕ, List, Option};
 ghost use Rattle.schema_model.specs.declared.schema.Shape.{Shape};
-ghost use Rattle.schema_model.specs.declared.rows.row.Row.{Row};
+ghost use Rattle.row_model.specs.declared.row.Row.{Row};
 ghost use Rattle.list_codec.specs.Packing.{IsPacked as IsPackedList};
 ghost use Rattle.object_codec.specs.Packing.{CanPack, IsPacked};
 ghost use Rattle.bucket_codec.specs.Packed.{AreWords};

@@ -5,12 +5,12 @@ use Rattle.std.specs.Result.{is_ok}
 use Rattle.std.proofs.lemmas.List.Elements.{All-cons, All-nil}
 use Rattle.std.specs.List.{All, AllZip, flat_map}
 use Rattle.serde_json.specs.Data.{Data}
-use Rattle.schema_model.specs.PlainTree.{PlainTree}
-use Rattle.schema_model.specs.Table.{Table}
+use Rattle.row_model.specs.PlainTree.{PlainTree}
+use Rattle.row_model.specs.Table.{Table}
 use Rattle.schema_model.specs.declared.reason.Reason.{Reason}
 use Rattle.schema_model.specs.declared.schema.Schema.{Schema}
-use Rattle.schema_model.specs.Tree.{plain}
-use Rattle.schema_model.specs.declared.rows.tree.Tree.{Tree}
+use Rattle.row_model.specs.Tree.{plain}
+use Rattle.row_model.specs.declared.tree.Tree.{Tree}
 use Rattle.json_rows.specs.declared.fault.JsonFault.{JsonFault}
 use Rattle.json_rows.specs.declared.fault.JsonFault.TheVariants as field_fault
 use Rattle.record_json.specs.ReadTree.{TellsAs, read_tree}

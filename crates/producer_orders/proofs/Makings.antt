@@ -5,7 +5,7 @@ use Rattle.std.specs.FinMap.{empty}
 use Rattle.std.proofs.lemmas.Bool.{cases_lt}
 use Rattle.std.proofs.lemmas.List.Elements.{Contains-get_or}
 use Rattle.serde_json.specs.Data.{Data}
-use Rattle.schema_model.specs.Table.{Table}
+use Rattle.row_model.specs.Table.{Table}
 use Rattle.write_engine.specs.Cycle.{rows_in}
 use Rattle.write_engine.specs.CycleLimit.{TellsCycle}
 use Rattle.write_engine.specs.Production.{AreChanged, Production}

@@ -2,7 +2,7 @@
 use Rattle.std.proofs.Common.{◌≡◌, ◌≤◌, ◌^◌, inl, inr, ℕ, ℤ, List, [], ◌∷◌, All, subst, length, arith}
 use Rattle.std.proofs.lemmas.List.Elements.{All-head, All-tail}
 use Rattle.hol_io.specs.declared.name.BlobName.TheVariants as name
-use Rattle.schema_model.specs.Table.{Table}
+use Rattle.row_model.specs.Table.{Table}
 use Rattle.section_writing.specs.declared.fault.WriteFault.{WriteFault}
 use Rattle.section_writing.specs.declared.fault.WriteFault.TheVariants.{Large, Memory}
 use Rattle.section_writing.specs.Limits.{MeansLarge}

@@ -3,7 +3,7 @@ use Rattle.std.specs.Prelude.{◌≡◌, ◌<◌, ◌↔◌, ℕ, ℤ, List, All
 use Rattle.serde_json.specs.Data.{Data}
 use Rattle.hol_io.specs.Store.{Store}
 use Rattle.schema_model.specs.declared.limit.Limit.TheVariants as limit
-use Rattle.schema_model.specs.Table.{Table}
+use Rattle.row_model.specs.Table.{Table}
 use Rattle.write_engine.specs.CycleLimit.{TellsCycle, TellsTypes}
 use Rattle.write_engine.specs.Production.{Production}
 use Rattle.write_engine.specs.declared.producer.Closed.{Closed}

@@ -3,8 +3,8 @@ use Rattle.std.specs.Prelude.{◌<◌, ◌≤◌, ℕ, ℤ, List, length, Bool, 
 use Rattle.serde_json.specs.Data.{Data}
 use Rattle.hol_io.specs.Store.{Store}
 use Rattle.schema_model.specs.declared.schema.Schema.{Schema}
-use Rattle.schema_model.specs.PlainTree.{PlainTree}
-use Rattle.schema_model.specs.Table.{Table}
+use Rattle.row_model.specs.PlainTree.{PlainTree}
+use Rattle.row_model.specs.Table.{Table}
 use Rattle.write_engine.specs.Cycle.{Next}
 use Rattle.hol_orders.specs.declared.refusal.Refusal.{Refusal}
 use Rattle.hollow_machine.specs.Follow.{MayFollow, MayNotFollow}

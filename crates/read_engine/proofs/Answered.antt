@@ -9,11 +9,11 @@ use Rattle.std.proofs.lemmas.List.Elements.{All-append, All-cons, All-nil}
 use Rattle.std.proofs.lemmas.Option.{get_or_from_slice_get, slice_get-map, slice_get_within}
 use Rattle.schema_model.specs.declared.limit.Limit.TheVariants.{Indexes}
 use Rattle.schema_model.specs.declared.model.path.Path.{Path}
-use Rattle.schema_model.specs.declared.rows.row.Value.{Value}
+use Rattle.row_model.specs.declared.row.Value.{Value}
 use Rattle.schema_model.specs.declared.schema.Schema.{Schema}
-use Rattle.schema_model.specs.Key.{AreKeyed, AreMatches, IsResolved, key_of}
+use Rattle.row_model.specs.Key.{AreKeyed, AreMatches, IsResolved, key_of}
 use Rattle.schema_model.specs.Limit.{number_of_limit}
-use Rattle.schema_model.specs.Table.{IsLive, Table}
+use Rattle.row_model.specs.Table.{IsLive, Table}
 use Rattle.type_state.specs.State.{State}
 use Rattle.type_state.specs.Views.{table_of}
 use Rattle.key_index.specs.Indexed.{AreKeysOf, AreUnder, CountsKeys, Indexed, IsIndexBy}

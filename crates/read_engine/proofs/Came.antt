@@ -11,8 +11,8 @@ use Rattle.std.proofs.lemmas.List.Elements.{All-head, All-tail}
 use Rattle.std.proofs.lemmas.List.Kept.{AllPairs-from_increasing}
 use Rattle.std.proofs.lemmas.List.Sums.{sum_by-cons}
 use Rattle.std.proofs.lemmas.Option.{slice_get-get_or, slice_get_within}
-use Rattle.schema_model.specs.declared.rows.row.Row.{Row}
-use Rattle.schema_model.specs.Table.{RowMap, Table, IsLive, row_at}
+use Rattle.row_model.specs.declared.row.Row.{Row}
+use Rattle.row_model.specs.Table.{RowMap, Table, IsLive, row_at}
 use Rattle.key_index.specs.Indexed.{HaveOneRow, Indexed}
 use Rattle.read_engine.specs.declared.past.PastPart.{PastPart}
 use Rattle.read_engine.specs.Indexes.{AreNew, CountsNew}

@@ -10,12 +10,12 @@ use Rattle.std.specs.Option.{option_map}
 use Rattle.std.proofs.lemmas.Bool.{cases_order, false≢true}
 use Rattle.std.proofs.lemmas.List.{get_or_default, length-map}
 use Rattle.std.proofs.lemmas.Option.{slice_get-map, slice_get_within, slice_get-get_or}
-use Rattle.schema_model.specs.declared.rows.row.Row.{Row}
+use Rattle.row_model.specs.declared.row.Row.{Row}
 use Rattle.schema_model.specs.declared.schema.Schema.{Schema}
 use Rattle.schema_model.specs.declared.schema.Shape.{Shape}
-use Rattle.schema_model.specs.Row.{FitsShape, IsRowInRange}
-use Rattle.schema_model.specs.Table.{RowMap, IsTableOf, row_at}
-use Rattle.schema_model.proofs.RowEntries.{skips, finds}
+use Rattle.row_model.specs.Row.{FitsShape, IsRowInRange}
+use Rattle.row_model.specs.Table.{RowMap, IsTableOf, row_at}
+use Rattle.row_model.proofs.RowEntries.{skips, finds}
 use Rattle.type_state.specs.declared.patch.PatchSection.{PatchSection}
 use Rattle.type_state.specs.Patches.{IsMovedBy, IsWellFormedPatch, MovesRows}
 use Rattle.type_state.specs.State.{Half, State}

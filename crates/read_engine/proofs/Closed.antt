@@ -10,12 +10,12 @@ use Rattle.schema_model.specs.declared.schema.Field.{Field}
 use Rattle.schema_model.specs.declared.schema.FieldKind.{FieldKind}
 use Rattle.schema_model.specs.declared.schema.Schema.{Schema}
 use Rattle.schema_model.specs.declared.schema.Shape.{Shape}
-use Rattle.schema_model.specs.declared.rows.row.Row.{Row}
-use Rattle.schema_model.specs.declared.rows.row.Value.{Value}
-use Rattle.schema_model.specs.Dangling.{IsClosedAt, TellsType}
+use Rattle.row_model.specs.declared.row.Row.{Row}
+use Rattle.row_model.specs.declared.row.Value.{Value}
+use Rattle.row_model.specs.Dangling.{IsClosedAt, TellsType}
 use Rattle.schema_model.specs.Parts.{index_of_type, referenced, referenced_names, shape_names}
-use Rattle.schema_model.specs.Row.{references_of_row, references_of_value}
-use Rattle.schema_model.specs.Table.{IsClosed, IsLive, IsLiveByName, RowMap, Table, row_at}
+use Rattle.row_model.specs.Row.{references_of_row, references_of_value}
+use Rattle.row_model.specs.Table.{IsClosed, IsLive, IsLiveByName, RowMap, Table, row_at}
 use Rattle.read_engine.specs.declared.past.PastPart.{PastPart}
 use Rattle.read_engine.specs.Closing.{HasKept, IsTypeClosed, KeepsNamed, NamesKept}
 use Rattle.read_engine.specs.Past.{FitsPast, no_part, table_before}

@@ -9,10 +9,10 @@ use Rattle.std.proofs.lemmas.List.Elements.{All-cons, All-head, All-nil, All-tai
 use Rattle.std.proofs.lemmas.List.Kept.{AllPairs-from_increasing}
 use Rattle.std.proofs.lemmas.Option.{slice_get-get_or}
 use Rattle.schema_model.specs.declared.model.path.Path.{Path}
-use Rattle.schema_model.specs.declared.rows.row.Row.{Row}
+use Rattle.row_model.specs.declared.row.Row.{Row}
 use Rattle.schema_model.specs.declared.schema.Schema.{Schema}
-use Rattle.schema_model.specs.Key.{IsResolved, key_of}
-use Rattle.schema_model.specs.Table.{IsClosed, IsLive, IsTableOf, RowMap, Table, row_at}
+use Rattle.row_model.specs.Key.{IsResolved, key_of}
+use Rattle.row_model.specs.Table.{IsClosed, IsLive, IsTableOf, RowMap, Table, row_at}
 use Rattle.key_index.specs.Indexed.{AreKeysOf, HaveOneRow, Indexed, KeyMap}
 use Rattle.read_engine.specs.declared.past.PastPart.{PastPart}
 use Rattle.read_engine.specs.Kept.{FollowsPart, IsKept, IsReserved, index_kept, moved_on, settled}

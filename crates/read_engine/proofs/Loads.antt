@@ -9,7 +9,7 @@ use Rattle.hol_io.specs.Store.{Store, told}
 use Rattle.schema_model.specs.declared.limit.Limit.TheVariants as limit
 use Rattle.schema_model.specs.Limit.{number_of_limit}
 use Rattle.schema_model.specs.Model.{IsModel}
-use Rattle.schema_model.specs.Table.{RowMap, Table}
+use Rattle.row_model.specs.Table.{RowMap, Table}
 use Rattle.type_state.specs.State.{State}
 use Rattle.type_state.specs.Views.{next_halves, table_of}
 use Rattle.blob_frame.specs.declared.fault.BlobFault.{BlobFault}

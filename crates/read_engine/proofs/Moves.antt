@@ -9,9 +9,9 @@ use Rattle.std.proofs.lemmas.List.{take_more, length-set}
 use Rattle.std.proofs.lemmas.List.Elements.{All-cons, All-nil, All-head, All-tail}
 use Rattle.std.proofs.lemmas.Option.{slice_get-map, slice_get_within, slice_get-get_or, get_or_from_slice_get}
 use Rattle.ordinal_set.specs.Ordinals.{bound_of}
-use Rattle.schema_model.specs.declared.rows.row.Row.{Row}
+use Rattle.row_model.specs.declared.row.Row.{Row}
 use Rattle.schema_model.specs.declared.schema.Schema.{Schema}
-use Rattle.schema_model.specs.Table.{RowMap}
+use Rattle.row_model.specs.Table.{RowMap}
 use Rattle.type_state.specs.Patches.{IsMovedBy, IsReadablePatch}
 use Rattle.type_state.specs.State.{Half, State}
 use Rattle.blob_frame.specs.declared.fault.BlobFault.TheVariants as fault

@@ -13,9 +13,9 @@ use Rattle.std.proofs.lemmas.List.Sorted.{searched}
 use Rattle.std.proofs.lemmas.Option.{get_or_from_slice_get, slice_get-get_or}
 use Rattle.std.proofs.lemmas.Map.Keys.{below_from_sorted, sorted_from_strictly_increasing}
 use Rattle.ordinal_set.specs.Ordinals.{bound_of}
-use Rattle.schema_model.specs.declared.rows.row.Row.{Row}
-use Rattle.schema_model.specs.Table.{RowMap}
-use Rattle.schema_model.proofs.RowEntries.{skips, finds}
+use Rattle.row_model.specs.declared.row.Row.{Row}
+use Rattle.row_model.specs.Table.{RowMap}
+use Rattle.row_model.proofs.RowEntries.{skips, finds}
 use Rattle.type_state.specs.State.{State}
 use Rattle.type_state.proofs.NextStates.{bound_of_state}
 use Rattle.read_engine.specs.declared.past.PastPart.{PastPart}

@@ -15,7 +15,7 @@ use Rattle.schema_model.specs.declared.limit.Limit.TheVariants.{Ordinals}
 use Rattle.schema_model.specs.Limit.{number_of_limit}
 use Rattle.schema_model.specs.Model.{IsKept}
 use Rattle.schema_model.specs.Parts.{index_of_type, type_names}
-use Rattle.schema_model.specs.Table.{IsClosed, RowMap, Table}
+use Rattle.row_model.specs.Table.{IsClosed, RowMap, Table}
 use Rattle.schema_model.proofs.ModelFacts.{index_at}
 use Rattle.row_walk.specs.BothStates.{rows_in}
 use Rattle.type_state.specs.Holds.{Holds, KeepsLimits}

@@ -12,12 +12,12 @@ use Rattle.hol_io.specs.declared.name.BlobName.{BlobName}
 use Rattle.hol_io.specs.Store.{Store, told}
 use Rattle.schema_model.specs.declared.limit.Limit.TheVariants.{Blob, Ordinals}
 use Rattle.schema_model.specs.declared.model.rule.Rule.TheVariants.{DuplicateName}
-use Rattle.schema_model.specs.declared.rows.row.Row.{Row}
+use Rattle.row_model.specs.declared.row.Row.{Row}
 use Rattle.schema_model.specs.declared.schema.Schema.{Schema}
 use Rattle.schema_model.specs.declared.schema.Shape.{Shape}
 use Rattle.schema_model.specs.Limit.{number_of_limit}
 use Rattle.schema_model.specs.Model.{IsKept}
-use Rattle.schema_model.specs.Table.{IsClosed, RowMap, Table}
+use Rattle.row_model.specs.Table.{IsClosed, RowMap, Table}
 use Rattle.row_walk.specs.BothStates.{rows_in}
 use Rattle.type_state.specs.declared.patch.PatchSection.{PatchSection}
 use Rattle.type_state.specs.Holds.{Holds, KeepsLimits}

@@ -8,11 +8,11 @@ use Rattle.std.specs.Option.{option_and_then, option_map}
 use Rattle.std.proofs.lemmas.Bool.{false≢true}
 use Rattle.std.proofs.lemmas.List.{length-map}
 use Rattle.std.proofs.lemmas.Option.{slice_get-get_or, slice_get-map, slice_get_within}
-use Rattle.schema_model.specs.declared.rows.row.Row.{Row}
-use Rattle.schema_model.specs.declared.rows.lent.LentRow.{LentRow}
+use Rattle.row_model.specs.declared.row.Row.{Row}
+use Rattle.row_model.specs.declared.lent.LentRow.{LentRow}
 use Rattle.schema_model.specs.declared.schema.Schema.{Schema}
-use Rattle.schema_model.specs.Lent.{lent_row}
-use Rattle.schema_model.specs.Table.{RowMap, Table, row_at, IsLive, IsBound}
+use Rattle.row_model.specs.Lent.{lent_row}
+use Rattle.row_model.specs.Table.{RowMap, Table, row_at, IsLive, IsBound}
 use Rattle.type_state.specs.State.{Half, State}
 use Rattle.type_state.specs.Views.{table_of}
 use Rattle.read_engine.specs.declared.past.PastPart.{PastPart}

@@ -5,7 +5,7 @@ use Rattle.std.specs.List.{AllZip}
 use Rattle.schema_model.specs.declared.schema.Schema.{Schema}
 use Rattle.schema_model.specs.declared.limit.Limit.TheVariants.{Indexes}
 use Rattle.schema_model.specs.Limit.{number_of_limit}
-use Rattle.schema_model.specs.Table.{IsClosed, IsTableOf, Table}
+use Rattle.row_model.specs.Table.{IsClosed, IsTableOf, Table}
 use Rattle.type_state.specs.Patches.{IsReadablePatch}
 use Rattle.type_state.specs.State.{Half, State}
 use Rattle.type_state.specs.Views.{table_of}

@@ -1,7 +1,7 @@
 -- The rows that left in the last step.
 use Rattle.std.specs.Prelude.{◌↔◌, ℕ, List, Contains}
-use Rattle.schema_model.specs.Row.{Rises}
-use Rattle.schema_model.specs.Table.{IsLive}
+use Rattle.row_model.specs.Row.{Rises}
+use Rattle.row_model.specs.Table.{IsLive}
 use Rattle.read_engine.specs.Position.{Position, rows_now}
 
 -- These are the ordinals of a type that were live in the state before and are not live now, rising.

@@ -2,10 +2,10 @@
 use Rattle.std.specs.Prelude.{◌≡◌, ◌↔◌, ◌≤◌, ◌<◌, ◌+◌, ◌⊎◌, ℕ, List, [], ◌∷◌, ◌++◌, Some, Contains, length, slice_get}
 use Rattle.schema_model.specs.declared.limit.Limit.TheVariants.{Indexes}
 use Rattle.schema_model.specs.declared.model.path.Path.{Path}
-use Rattle.schema_model.specs.Key.{AreKeyed}
+use Rattle.row_model.specs.Key.{AreKeyed}
 use Rattle.schema_model.specs.Limit.{number_of_limit}
-use Rattle.schema_model.specs.Row.{Rises}
-use Rattle.schema_model.specs.Table.{IsLive}
+use Rattle.row_model.specs.Row.{Rises}
+use Rattle.row_model.specs.Table.{IsLive}
 use Rattle.key_index.specs.Indexed.{CountsLive}
 use Rattle.read_engine.specs.Position.{Index, Position, rows_now}
 

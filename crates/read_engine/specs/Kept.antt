@@ -2,7 +2,7 @@
 use Rattle.std.specs.Prelude.{◌≡◌, ℕ, List, None, Some, IsSomeAnd, length, slice_get, unwrap_or}
 use Rattle.std.specs.Option.{option_map_or}
 use Rattle.schema_model.specs.declared.schema.Schema.{Schema}
-use Rattle.schema_model.specs.Table.{Table}
+use Rattle.row_model.specs.Table.{Table}
 use Rattle.key_index.specs.Indexed.{AreKeysOf, Follows, Indexed}
 use Rattle.read_engine.specs.declared.past.PastPart.{PastPart}
 use Rattle.read_engine.specs.Position.{Index, IsIndexOf}

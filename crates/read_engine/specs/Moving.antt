@@ -4,7 +4,7 @@ use Rattle.std.specs.Prelude.{◌≡◌, ◌<◌, ◌-◌, ◌^◌, ℕ, ℤ, Li
 use Rattle.std.specs.List.{AllZip}
 use Rattle.std.specs.FinMap.{get}
 use Rattle.schema_model.specs.declared.schema.Schema.{Schema}
-use Rattle.schema_model.specs.Table.{RowMap, IsClosed, IsTableOf}
+use Rattle.row_model.specs.Table.{RowMap, IsClosed, IsTableOf}
 use Rattle.type_state.specs.declared.patch.PatchSection.{PatchSection}
 use Rattle.type_state.specs.Patches.{IsMovedBy, IsReadablePatch, IsWellFormedPatch, patch_layout}
 use Rattle.type_state.specs.State.{Half, State, IsLaidOut}

@@ -8,10 +8,10 @@ use Rattle.schema_model.specs.declared.schema.Schema.{Schema}
 use Rattle.schema_model.specs.contracts.model.path.Path as path_contract
 use Rattle.schema_model.specs.contracts.schema.Schema as schema_contract
 use Rattle.schema_model.specs.contracts.rows.row.Row as row_contract
-use Rattle.schema_model.specs.Key.{IsResolved}
+use Rattle.row_model.specs.Key.{IsResolved}
 use Rattle.schema_model.specs.Limit.{number_of_limit}
 use Rattle.schema_model.specs.Model.{IsModel}
-use Rattle.schema_model.specs.Table.{Table, IsClosed, IsTableOf}
+use Rattle.row_model.specs.Table.{Table, IsClosed, IsTableOf}
 use Rattle.type_state.specs.State.{Half, half_code}
 use Rattle.type_state.specs.Views.{table_of}
 

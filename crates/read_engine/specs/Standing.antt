@@ -3,7 +3,7 @@ use Rattle.std.specs.Prelude.{◌≡◌, ◌+◌, ◌<◌, ◌⊎◌, ℕ, ℤ, 
 use Rattle.std.specs.List.{AllZip}
 use Rattle.std.specs.FinMap.{get}
 use Rattle.schema_model.specs.declared.schema.Schema.{Schema}
-use Rattle.schema_model.specs.Table.{RowMap}
+use Rattle.row_model.specs.Table.{RowMap}
 use Rattle.type_state.specs.State.{Half, State}
 use Rattle.type_state.specs.Views.{table_of}
 use Rattle.key_index.specs.Indexed.{Indexed}

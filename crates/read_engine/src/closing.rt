@@ -2,9 +2,9 @@
 //! names; and each row that came is tried.
 ghost use Rattle.std.specs.Prelude.{◌≡◌, ◌↔◌, ◌<◌, Ok, Err, All, IfOk, IfSome, IsSomeAnd, IsTrue, MatchResult, length, slice_get};
 ghost use Rattle.std.specs.List.{AllZip};
-ghost use Rattle.schema_model.specs.Dangling.{IsClosedAt};
+ghost use Rattle.row_model.specs.Dangling.{IsClosedAt};
 ghost use Rattle.schema_model.specs.Parts.{referenced};
-ghost use Rattle.schema_model.specs.Table.{IsClosed};
+ghost use Rattle.row_model.specs.Table.{IsClosed};
 ghost use Rattle.type_state.specs.Views.{table_of};
 ghost use Rattle.read_engine.specs.Closing.{HasKept, IsTypeClosed, KeepsNamed, NamesKept};
 ghost use Rattle.read_engine.specs.Moving.{AreComing, Refuses, coming_halves};
@@ -14,7 +14,8 @@ use crate::TakeFault;
 use crate::coming::Coming;
 use crate::past::PastPart;
 use crate::views::part_at;
-use schema_model::{Field, FieldKind, Model, Name, Rows, Shape, dangling_in, is_closed_at};
+use row_model::{Rows, dangling_in, is_closed_at};
+use schema_model::{Field, FieldKind, Model, Name, Shape};
 use std::alloc::{AllocError, Global};
 use type_state::TypeState;
 

@@ -2,13 +2,14 @@
 ghost use Rattle.std.specs.Prelude.{◌≡◌, ◌↔◌, IfOk, IsSome, IsTrue, Some, map};
 ghost use Rattle.std.specs.List.{AllZip};
 ghost use Rattle.std.specs.FinMap.{get};
-ghost use Rattle.schema_model.specs.Lent.{lent_row};
+ghost use Rattle.row_model.specs.Lent.{lent_row};
 ghost use Rattle.read_engine.specs.Moving.{IsComingLaid, coming_half, coming_halves, coming_state};
 ghost use Rattle.read_engine.specs.Standing.{IsRowsBound, current_halves};
 
 use crate::past::PastPart;
 use crate::views::{part_at, state_at};
-use schema_model::{LentRow, Model, Row, Rows};
+use row_model::{LentRow, Row, Rows};
+use schema_model::Model;
 use std::alloc::{AllocError, Global};
 use type_state::TypeState;
 

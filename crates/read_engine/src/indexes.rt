@@ -1,6 +1,6 @@
 //! The indexes that a consumer keeps over the rows of its state.
 ghost use Rattle.std.specs.Prelude.{◌≡◌, ◌<◌, ◌^◌, ◌↔◌, All, Contains, Err, IfOk, IsSomeAnd, IsTrue, MatchOption, OnErr, OnOk, length, map, slice_get};
-ghost use Rattle.schema_model.specs.Key.{AreMatches, IsResolved};
+ghost use Rattle.row_model.specs.Key.{AreMatches, IsResolved};
 ghost use Rattle.key_index.specs.Indexed.{CountsLive};
 ghost use Rattle.read_engine.specs.Indexes.{AddsIndex, CountsAdded, CountsKeyed, HasNoRoom, index_by};
 ghost use Rattle.read_engine.specs.Kept.{IsKept, index_kept};
@@ -11,7 +11,8 @@ use crate::{IndexFault, Now};
 use hol_io::Steps;
 use hol_varint::Ordinals;
 use key_index::KeyIndex;
-use schema_model::{MAX_INDEXES, Path, Paths, Values};
+use row_model::Values;
+use schema_model::{MAX_INDEXES, Path, Paths};
 use std::alloc::{AllocError, Global};
 use std::sync::ledger::Ledger;
 

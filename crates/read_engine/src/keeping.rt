@@ -1,6 +1,6 @@
 //! Keeping the indexes over a step: each is made ready for the rows that come before any type is turned, and follows behind it.
 ghost use Rattle.std.specs.Prelude.{◌≡◌, ◌+◌, All, IsSome, OnErr, OnOk, map, sum_by};
-ghost use Rattle.schema_model.specs.Table.{IsClosed};
+ghost use Rattle.row_model.specs.Table.{IsClosed};
 ghost use Rattle.type_state.specs.Views.{table_of};
 ghost use Rattle.read_engine.specs.Kept.{FollowsPart, IsReserved, count_came, moved_on, settled};
 ghost use Rattle.read_engine.specs.Moving.{AreComing, coming_halves};

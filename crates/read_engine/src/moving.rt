@@ -2,7 +2,7 @@
 ghost use Rattle.std.specs.Prelude.{◌≡◌, ◌<◌, ◌^◌, All, IfErr, IfOk, IsSome, OnOk, Some, length, replicate};
 ghost use Rattle.std.specs.FinMap.{get};
 ghost use Rattle.std.specs.List.{AllZip};
-ghost use Rattle.schema_model.specs.Table.{RowMap};
+ghost use Rattle.row_model.specs.Table.{RowMap};
 ghost use Rattle.type_state.specs.Patches.{FitsOrdinals, IsMovedBy, IsReadablePatch, patch_layout};
 ghost use Rattle.read_engine.specs.Moving.{AreMoved, IsReadableIn, IsStuck, KeepsPatch, MovesState, Refuses, StaysCurrent};
 ghost use Rattle.read_engine.specs.Past.{no_part};
@@ -13,7 +13,7 @@ use crate::past::{PastPart, PastParts};
 use blob_frame::BlobFault;
 use delta_blob::PatchPart;
 use hol_varint::{List, Ordinals};
-use schema_model::Row;
+use row_model::Row;
 use std::alloc::{AllocError, Global};
 use type_state::{PatchSection, RowFault, TypeState};
 

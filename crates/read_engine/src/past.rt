@@ -3,12 +3,12 @@ ghost use Rattle.std.specs.Prelude.{◌≡◌, ◌↔◌, ◌<◌, ℕ, Some, No
 ghost use Rattle.std.specs.List.Sorted.{IsStrictlyIncreasing};
 ghost use Rattle.std.specs.FinMap.{find, get};
 ghost use Rattle.std.specs.Ordering.{nat_cmp};
-ghost use Rattle.schema_model.specs.Lent.{lent_row};
+ghost use Rattle.row_model.specs.Lent.{lent_row};
 ghost use Rattle.read_engine.specs.Past.{FitsPast, is_new, left_rows, no_part, rows_before};
 ghost use Rattle.read_engine.specs.Standing.{IsRowsBound};
 
 use hol_varint::{Duplicate, List, Ordinals};
-use schema_model::{LentRow, Row};
+use row_model::{LentRow, Row};
 use std::alloc::{AllocError, Global};
 use type_state::TypeState;
 

@@ -1,6 +1,6 @@
 //! Where a consumer stands that has a state.
 ghost use Rattle.std.specs.Prelude.{◌<◌, ◌↔◌, Contains, IsTrue, length};
-ghost use Rattle.schema_model.specs.Table.{row_at};
+ghost use Rattle.row_model.specs.Table.{row_at};
 ghost use Rattle.bucket_codec.specs.Run.{FindsIn};
 ghost use Rattle.type_state.specs.Lookup.{elements_of, pairs_of};
 ghost use Rattle.read_engine.specs.Gone.{AreGone};

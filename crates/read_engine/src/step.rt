@@ -3,7 +3,7 @@ ghost use Rattle.std.specs.Prelude.{◌≡◌, ◌≢◌, ◌+◌, ◌≤◌, Al
 ghost use Rattle.hol_io.specs.Causes.{Rose};
 ghost use Rattle.hol_io.specs.Store.{told};
 ghost use Rattle.blob_frame.specs.declared.fault.BlobFault.TheVariants.{Memory as MemoryRefused, Store as StoreFailed};
-ghost use Rattle.schema_model.specs.Table.{IsClosed, IsTableOf};
+ghost use Rattle.row_model.specs.Table.{IsClosed, IsTableOf};
 ghost use Rattle.type_state.specs.Views.{table_of};
 ghost use Rattle.delta_blob.specs.Reads.{IsWholePart};
 ghost use Rattle.read_engine.specs.Indexes.{CountsStep};

@@ -1,8 +1,8 @@
 //! The rows of a consumer's state, and those before its last step.
 ghost use Rattle.std.specs.Prelude.{◌≡◌, ◌↔◌, ◌<◌, Some, None, IfOk, IsTrue, MatchOption, length, slice_get};
 ghost use Rattle.std.specs.List.{AllZip};
-ghost use Rattle.schema_model.specs.Lent.{lent_row};
-ghost use Rattle.schema_model.specs.Table.{IsBound, IsLive, row_at};
+ghost use Rattle.row_model.specs.Lent.{lent_row};
+ghost use Rattle.row_model.specs.Table.{IsBound, IsLive, row_at};
 ghost use Rattle.type_state.specs.Views.{table_of};
 ghost use Rattle.read_engine.specs.Past.{FitsPast, table_before};
 ghost use Rattle.read_engine.specs.Position.{IsPosition, rows_now};
@@ -10,7 +10,8 @@ ghost use Rattle.read_engine.specs.Standing.{current_halves};
 
 use crate::past::{PastPart, bound_before, lend_before, row_before, was_live};
 use crate::stand::Stand;
-use schema_model::{LentRow, Model, Row, Rows};
+use row_model::{LentRow, Row, Rows};
+use schema_model::Model;
 use std::alloc::{AllocError, Global};
 use type_state::TypeState;
 

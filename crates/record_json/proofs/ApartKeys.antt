@@ -3,7 +3,7 @@ use Rattle.std.proofs.Common.{◌≡◌, ◌↔◌, ℕ, zero, suc, ◌+◌, ◌
 use Rattle.std.specs.Prelude.{slice_index_or, All, AllPairs, Any}
 use Rattle.std.proofs.lemmas.List.{drop_all, get_or_default}
 use Rattle.std.proofs.lemmas.List.Kept.{AllPairs-cons}
-use Rattle.schema_model.specs.PlainTree.{PlainTree, SameTree, pairs_of_list}
+use Rattle.row_model.specs.PlainTree.{PlainTree, SameTree, pairs_of_list}
 use Rattle.typed_trees.specs.FitsTree.{AreKeysApart}
 use Rattle.same_trees.proofs.Arms.{of_pairs}
 use Rattle.same_trees.proofs.Passing.{left_at, yes, no}

@@ -9,12 +9,12 @@ use Rattle.schema_model.specs.declared.schema.FieldKind.{FieldKind}
 use Rattle.schema_model.specs.declared.schema.Schema.{Schema}
 use Rattle.schema_model.specs.declared.schema.Shape.{Shape}
 use Rattle.schema_model.specs.declared.model.rule.Rule.TheVariants.{UnknownType}
-use Rattle.schema_model.specs.declared.rows.row.Value.{Value}
+use Rattle.row_model.specs.declared.row.Value.{Value}
 use Rattle.schema_model.specs.declared.reason.Reason.{Reason}
 use Rattle.schema_model.specs.declared.reason.Reason.TheVariants.{UnknownField}
 use Rattle.schema_model.specs.Model.{IsModel}
 use Rattle.schema_model.specs.Parts.{index_of_type, shape_names}
-use Rattle.schema_model.specs.PlainTree.{PlainTree, PlainPairs, leaf, object, list, set, map, trees_of_list, pairs_of_list}
+use Rattle.row_model.specs.PlainTree.{PlainTree, PlainPairs, leaf, object, list, set, map, trees_of_list, pairs_of_list}
 use Rattle.typed_trees.specs.FitsTree.{FitsLeaf, IsLeafOr, AreKeysApart, FitsTree, FitFields, FitAll, FitPairs}
 use Rattle.typed_trees.specs.Types.{object_fields, list_element, set_element, map_types, referred, shape_at}
 use Rattle.same_trees.proofs.Deciding.{keys_apart_or_not}

@@ -14,10 +14,10 @@ use Rattle.schema_model.specs.declared.schema.Field.{Field}
 use Rattle.schema_model.specs.declared.schema.FieldKind.{FieldKind}
 use Rattle.schema_model.specs.declared.schema.Schema.{Schema}
 use Rattle.schema_model.specs.declared.schema.Shape.{Shape}
-use Rattle.schema_model.specs.declared.rows.row.Row.{Row}
-use Rattle.schema_model.specs.declared.rows.row.Value.{Value}
+use Rattle.row_model.specs.declared.row.Row.{Row}
+use Rattle.row_model.specs.declared.row.Value.{Value}
 use Rattle.schema_model.specs.Parts.{field_names, index_of_type}
-use Rattle.schema_model.specs.PlainTree.{PlainTree, leaf, object, list, set, map as map_tree, list_of_trees, list_of_pairs}
+use Rattle.row_model.specs.PlainTree.{PlainTree, leaf, object, list, set, map as map_tree, list_of_trees, list_of_pairs}
 use Rattle.json_rows.specs.StoredRow.{IsValueData}
 use Rattle.json_rows.proofs.Printed.{row_has_none}
 use Rattle.record_json.specs.PrintTree.{PrintsAt, PrintsField, PrintsPair, PrintsReference, PrintsShape, PrintsTyped, PrintsWithin}

@@ -10,12 +10,12 @@ use Rattle.schema_model.specs.declared.schema.Field.{Field}
 use Rattle.schema_model.specs.declared.schema.FieldKind.{FieldKind}
 use Rattle.schema_model.specs.declared.schema.Schema.{Schema}
 use Rattle.schema_model.specs.declared.schema.Shape.{Shape}
-use Rattle.schema_model.specs.declared.rows.row.Row.{Row}
-use Rattle.schema_model.specs.declared.rows.row.Value.{Value}
+use Rattle.row_model.specs.declared.row.Row.{Row}
+use Rattle.row_model.specs.declared.row.Value.{Value}
 use Rattle.schema_model.specs.Model.{HasChain, named_indexes, type_graph}
 use Rattle.schema_model.specs.Parts.{index_of_type, referenced, referenced_names, shape_names}
-use Rattle.schema_model.specs.Row.{FitsKind, FitsShape, references_of_row, references_of_value}
-use Rattle.schema_model.specs.Table.{Table, IsClosed, IsLive, IsTableOf, row_at}
+use Rattle.row_model.specs.Row.{FitsKind, FitsShape, references_of_row, references_of_value}
+use Rattle.row_model.specs.Table.{Table, IsClosed, IsLive, IsTableOf, row_at}
 use Rattle.same_trees.proofs.Passing.{any_is_some}
 use Rattle.record_json.specs.Printing.{CanPrint, CanPrintPair, CanPrintValue, IsShallow}
 

@@ -11,12 +11,12 @@ use Rattle.schema_model.specs.declared.schema.Field.{Field}
 use Rattle.schema_model.specs.declared.schema.FieldKind.{FieldKind}
 use Rattle.schema_model.specs.declared.schema.Schema.{Schema}
 use Rattle.schema_model.specs.declared.schema.Shape.{Shape}
-use Rattle.schema_model.specs.declared.rows.row.Row.{Row}
-use Rattle.schema_model.specs.declared.rows.row.Value.{Value}
+use Rattle.row_model.specs.declared.row.Row.{Row}
+use Rattle.row_model.specs.declared.row.Value.{Value}
 use Rattle.schema_model.specs.Parts.{field_names, index_of_type}
-use Rattle.schema_model.specs.PlainTree.{PlainTree, leaf, object, list, set, map as map_tree, list_of_trees, list_of_pairs, node_count, node_count_of_trees, node_count_of_pairs, pairs_of_list, trees_of_list}
-use Rattle.schema_model.specs.Table.{Table, IsLive}
-use Rattle.schema_model.specs.Unfold.{tree_of_row, tree_of_type, tree_of_value, unfold_within}
+use Rattle.row_model.specs.PlainTree.{PlainTree, leaf, object, list, set, map as map_tree, list_of_trees, list_of_pairs, node_count, node_count_of_trees, node_count_of_pairs, pairs_of_list, trees_of_list}
+use Rattle.row_model.specs.Table.{Table, IsLive}
+use Rattle.row_model.specs.Unfold.{tree_of_row, tree_of_type, tree_of_value, unfold_within}
 use Rattle.schema_model.proofs.Ways.{deep_enough, type_inside}
 use Rattle.json_rows.specs.StoredRow.{members_of_fields}
 use Rattle.json_rows.proofs.Records.{put_last}

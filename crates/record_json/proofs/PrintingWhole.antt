@@ -8,7 +8,7 @@ use Rattle.serde_json.specs.declared.value.Value.{Value as Json}
 use Rattle.schema_model.specs.declared.model.rule.Rule.TheVariants.{TooDeep}
 use Rattle.schema_model.specs.declared.schema.Schema.{Schema}
 use Rattle.schema_model.specs.Model.{IsModel}
-use Rattle.schema_model.specs.PlainTree.{PlainTree, node_count}
+use Rattle.row_model.specs.PlainTree.{PlainTree, node_count}
 use Rattle.record_json.specs.PrintTree.{PrintsTree, PrintsWithin}
 use Rattle.record_json.specs.Printing.{IsFreePrint, IsShallow, TellsPrinted}
 use Rattle.record_json.specs.declared.print_fault.PrintFault.{PrintFault}

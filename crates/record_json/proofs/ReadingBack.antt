@@ -14,13 +14,13 @@ use Rattle.schema_model.specs.declared.schema.Field.{Field}
 use Rattle.schema_model.specs.declared.schema.FieldKind.{FieldKind}
 use Rattle.schema_model.specs.declared.schema.Schema.{Schema}
 use Rattle.schema_model.specs.declared.schema.Shape.{Shape}
-use Rattle.schema_model.specs.declared.rows.row.Value.{Value}
+use Rattle.row_model.specs.declared.row.Value.{Value}
 use Rattle.schema_model.specs.declared.model.rule.Rule.TheVariants.{DuplicateName}
 use Rattle.schema_model.specs.declared.reason.Reason.{Reason}
 use Rattle.schema_model.specs.declared.reason.Reason.TheVariants.{UnknownField}
 use Rattle.schema_model.specs.Model.{IsModel}
 use Rattle.schema_model.specs.Parts.{field_names, fields_of, index_of_type, shape_fields}
-use Rattle.schema_model.specs.PlainTree.{PlainTree, PlainTrees, PlainPairs, leaf, object, list, set, map as map_tree, no_trees, tree_then, no_pairs, pair_then, list_of_trees, list_of_pairs, pairs_of_list, trees_of_list}
+use Rattle.row_model.specs.PlainTree.{PlainTree, PlainTrees, PlainPairs, leaf, object, list, set, map as map_tree, no_trees, tree_then, no_pairs, pair_then, list_of_trees, list_of_pairs, pairs_of_list, trees_of_list}
 use Rattle.schema_model.proofs.Ways.{one_field}
 use Rattle.typed_trees.specs.FitsTree.{AreKeysApart, FitAll, FitFields, FitPairs, FitsLeaf, FitsTree, IsLeafOr}
 use Rattle.typed_trees.specs.Types.{list_element, map_types, object_fields, referred, set_element}

@@ -12,7 +12,7 @@ use Rattle.serde_json.specs.declared.value.Value.{Value}
 use Rattle.schema_model.specs.declared.reason.Reason.{Reason}
 use Rattle.schema_model.specs.declared.schema.name.Name.{Name}
 use Rattle.schema_model.specs.declared.schema.Field.{Field}
-use Rattle.schema_model.specs.PlainTree.{PlainTree}
+use Rattle.row_model.specs.PlainTree.{PlainTree}
 use Rattle.json_rows.specs.ReadValue.{before}
 use Rattle.record_json.specs.ReadTree.{is_field, are_fields, read_field, read_fields}
 use Rattle.json_rows.proofs.ReadingEach.{joined}

@@ -10,15 +10,15 @@ use Rattle.schema_model.specs.declared.schema.Field.{Field}
 use Rattle.schema_model.specs.declared.schema.FieldKind.{FieldKind}
 use Rattle.schema_model.specs.declared.schema.Schema.{Schema}
 use Rattle.schema_model.specs.declared.schema.Shape.{Shape}
-use Rattle.schema_model.specs.declared.rows.row.Row.{Row}
-use Rattle.schema_model.specs.declared.rows.row.Value.{Value}
+use Rattle.row_model.specs.declared.row.Row.{Row}
+use Rattle.row_model.specs.declared.row.Value.{Value}
 use Rattle.schema_model.specs.declared.model.rule.Rule.TheVariants.{UnknownType}
 use Rattle.schema_model.specs.Model.{IsModel}
 use Rattle.schema_model.specs.Parts.{index_of_type}
-use Rattle.schema_model.specs.PlainTree.{PlainTree, leaf, object, list, set, map as map_tree, pairs_of_list, trees_of_list}
-use Rattle.schema_model.specs.Row.{FitsKind, FitsShape, references_of_row}
-use Rattle.schema_model.specs.Table.{IsClosed, IsLive, IsTableOf, Table, row_at}
-use Rattle.schema_model.specs.Unfold.{tree_of_live, tree_of_row, tree_of_type, tree_of_value, unfold_within}
+use Rattle.row_model.specs.PlainTree.{PlainTree, leaf, object, list, set, map as map_tree, pairs_of_list, trees_of_list}
+use Rattle.row_model.specs.Row.{FitsKind, FitsShape, references_of_row}
+use Rattle.row_model.specs.Table.{IsClosed, IsLive, IsTableOf, Table, row_at}
+use Rattle.row_model.specs.Unfold.{tree_of_live, tree_of_row, tree_of_type, tree_of_value, unfold_within}
 use Rattle.schema_model.proofs.Ways.{deep_enough}
 use Rattle.typed_trees.specs.FitsTree.{FitAll, FitFields, FitPairs, FitsTree}
 use Rattle.typed_trees.specs.Types.{list_element, map_types, object_fields, set_element}

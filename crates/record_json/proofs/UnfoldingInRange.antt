@@ -7,12 +7,12 @@ use Rattle.schema_model.specs.declared.schema.Field.{Field}
 use Rattle.schema_model.specs.declared.schema.FieldKind.{FieldKind}
 use Rattle.schema_model.specs.declared.schema.Schema.{Schema}
 use Rattle.schema_model.specs.declared.schema.Shape.{Shape}
-use Rattle.schema_model.specs.declared.rows.row.Row.{Row}
-use Rattle.schema_model.specs.declared.rows.row.Value.{Value}
+use Rattle.row_model.specs.declared.row.Row.{Row}
+use Rattle.row_model.specs.declared.row.Value.{Value}
 use Rattle.schema_model.specs.Parts.{index_of_type}
-use Rattle.schema_model.specs.PlainTree.{PlainTree, pairs_of_list, trees_of_list}
-use Rattle.schema_model.specs.Table.{EachRow, Table, row_at}
-use Rattle.schema_model.specs.Unfold.{tree_of_live, tree_of_row, tree_of_type, tree_of_value, unfold_within}
+use Rattle.row_model.specs.PlainTree.{PlainTree, pairs_of_list, trees_of_list}
+use Rattle.row_model.specs.Table.{EachRow, Table, row_at}
+use Rattle.row_model.specs.Unfold.{tree_of_live, tree_of_row, tree_of_type, tree_of_value, unfold_within}
 use Rattle.record_json.specs.InRange.{ArePairsInRange, AreTreesInRange, HasValuesInRange, IsLeafInRange, IsTreeInRange}
 
 module _ (follow : Name → ℕ → PlainTree) (each : (name : Name) (ordinal : ℕ) → IsTreeInRange (follow name ordinal)) where

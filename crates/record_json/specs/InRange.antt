@@ -1,10 +1,10 @@
 -- When the values of a tree or of a row are in range: an INT of 32 bits, a LONG of 64, the units of a STRING below 2^16, and bytes below 2^8.
 use Rattle.std.specs.Prelude.{All}
 use Rattle.hex.specs.Hex.{IsBytes}
-use Rattle.schema_model.specs.declared.rows.row.Row.{Row}
-use Rattle.schema_model.specs.declared.rows.row.Value.{Value}
-use Rattle.schema_model.specs.PlainTree.{PlainTree, PlainTrees, PlainPairs, leaf, object, list, set, map, no_trees, tree_then, no_pairs, pair_then}
-use Rattle.schema_model.specs.Row.{IsValueInRange}
+use Rattle.row_model.specs.declared.row.Row.{Row}
+use Rattle.row_model.specs.declared.row.Value.{Value}
+use Rattle.row_model.specs.PlainTree.{PlainTree, PlainTrees, PlainPairs, leaf, object, list, set, map, no_trees, tree_then, no_pairs, pair_then}
+use Rattle.row_model.specs.Row.{IsValueInRange}
 
 -- a value is in range, and so is each of its bytes
 abbrev pub IsLeafInRange : Value → Type 0

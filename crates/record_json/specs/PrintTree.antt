@@ -8,9 +8,9 @@ use Rattle.schema_model.specs.declared.schema.Field.{Field}
 use Rattle.schema_model.specs.declared.schema.FieldKind.{FieldKind}
 use Rattle.schema_model.specs.declared.schema.Schema.{Schema}
 use Rattle.schema_model.specs.declared.schema.Shape.{Shape}
-use Rattle.schema_model.specs.declared.rows.row.Value.{Value}
+use Rattle.row_model.specs.declared.row.Value.{Value}
 use Rattle.schema_model.specs.Parts.{field_names, index_of_type}
-use Rattle.schema_model.specs.PlainTree.{PlainTree, leaf, object, list, set, map, list_of_trees, list_of_pairs}
+use Rattle.row_model.specs.PlainTree.{PlainTree, leaf, object, list, set, map, list_of_trees, list_of_pairs}
 use Rattle.json_rows.specs.StoredRow.{IsValueData, members_of_fields}
 
 -- What a REFERENCE prints as, given what each record prints as by its type's name: null, or the record that it refers to.

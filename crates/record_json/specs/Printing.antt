@@ -7,13 +7,13 @@ use Rattle.schema_model.specs.declared.schema.name.Name.{Name}
 use Rattle.schema_model.specs.declared.schema.Field.{Field}
 use Rattle.schema_model.specs.declared.schema.FieldKind.{FieldKind}
 use Rattle.schema_model.specs.declared.schema.Schema.{Schema}
-use Rattle.schema_model.specs.declared.rows.row.Value.{Value}
+use Rattle.row_model.specs.declared.row.Value.{Value}
 use Rattle.schema_model.specs.Model.{HasChain, type_graph}
 use Rattle.schema_model.specs.Parts.{field_names, index_of_type}
-use Rattle.schema_model.specs.PlainTree.{PlainTree, node_count}
-use Rattle.schema_model.specs.Row.{FitsKind, references_of_value}
-use Rattle.schema_model.specs.Table.{Table, IsLive}
-use Rattle.schema_model.specs.Unfold.{tree_of_type, tree_of_value, unfold_within}
+use Rattle.row_model.specs.PlainTree.{PlainTree, node_count}
+use Rattle.row_model.specs.Row.{FitsKind, references_of_value}
+use Rattle.row_model.specs.Table.{Table, IsLive}
+use Rattle.row_model.specs.Unfold.{tree_of_type, tree_of_value, unfold_within}
 use Rattle.json_rows.specs.StoredRow.{members_of_fields}
 use Rattle.record_json.specs.PrintTree.{PrintsAt, PrintsField, PrintsWithin}
 use Rattle.record_json.specs.declared.print_fault.PrintFault.{PrintFault}

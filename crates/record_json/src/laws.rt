@@ -2,9 +2,9 @@
 ghost use Rattle.std.specs.Prelude.{◌≡◌, ℕ, List, Ok};
 ghost use Rattle.serde_json.specs.Data.{Data};
 ghost use Rattle.schema_model.specs.Model.{IsModel};
-ghost use Rattle.schema_model.specs.PlainTree.{PlainTree, SameTree};
-ghost use Rattle.schema_model.specs.Table.{EachRow, IsClosed, IsLive, IsTableOf, Table};
-ghost use Rattle.schema_model.specs.Unfold.{unfold_row};
+ghost use Rattle.row_model.specs.PlainTree.{PlainTree, SameTree};
+ghost use Rattle.row_model.specs.Table.{EachRow, IsClosed, IsLive, IsTableOf, Table};
+ghost use Rattle.row_model.specs.Unfold.{unfold_row};
 ghost use Rattle.schema_model.specs.declared.schema.Schema.{Schema};
 ghost use Rattle.typed_trees.specs.FitsTree.{FitsTree};
 ghost use Rattle.record_json.specs.InRange.{HasValuesInRange, IsTreeInRange};

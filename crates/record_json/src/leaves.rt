@@ -4,7 +4,7 @@ ghost use Rattle.serde_json.specs.View.{view};
 ghost use Rattle.json_rows.specs.StoredRow.{IsTextData, IsValueData, numbers_data};
 
 use hol_varint::{Units, text_of};
-use schema_model::Value as FieldValue;
+use row_model::Value as FieldValue;
 use serde_json::Value;
 use std::alloc::{AllocError, Global};
 

@@ -3,16 +3,17 @@ ghost use Rattle.std.specs.Prelude.{◌≡◌, ◌+◌, ◌<◌, suc, Err, lengt
 ghost use Rattle.hol_varint.specs.Yields.{Yields};
 ghost use Rattle.serde_json.specs.View.{view};
 ghost use Rattle.serde_json.specs.Written.{has_float};
-ghost use Rattle.schema_model.specs.PlainTree.{node_count};
-ghost use Rattle.schema_model.specs.Row.{FitsShape, references_of_row};
-ghost use Rattle.schema_model.specs.Table.{IsClosed, IsLive, IsTableOf};
-ghost use Rattle.schema_model.specs.Unfold.{tree_of_row, tree_of_value, unfold_row, unfold_within};
+ghost use Rattle.row_model.specs.PlainTree.{node_count};
+ghost use Rattle.row_model.specs.Row.{FitsShape, references_of_row};
+ghost use Rattle.row_model.specs.Table.{IsClosed, IsLive, IsTableOf};
+ghost use Rattle.row_model.specs.Unfold.{tree_of_row, tree_of_value, unfold_row, unfold_within};
 ghost use Rattle.record_json.specs.PrintTree.{PrintsField, PrintsPair, PrintsShape, PrintsTree, PrintsWithin};
 ghost use Rattle.record_json.specs.Printing.{CanPrint, CanPrintPair, CanPrintValue, IsFreePrint, IsShallow, PrintsItems, PrintsNamed, PrintsValued, TellsPrinted, count_of, count_pair, tree_of_field, unfold_named, unfold_pair};
 
 use crate::PrintFault;
 use crate::leaves::leaf_value;
-use schema_model::{Field, FieldKind, Name, Row, Rows, Shape, Value as FieldValue};
+use row_model::{Row, Rows, Value as FieldValue};
+use schema_model::{Field, FieldKind, Name, Shape};
 use serde_json::{Map, Value};
 use std::alloc::Global;
 

@@ -1,13 +1,14 @@
 //! Trees made of parts that were read.
 ghost use Rattle.std.specs.Prelude.{List, Ok, Result};
-ghost use Rattle.schema_model.specs.PlainTree.{PlainTree, list, object, set, trees_of_list};
-ghost use Rattle.schema_model.specs.Tree.{plain, plain_pair, plain_pairs, plain_trees};
+ghost use Rattle.row_model.specs.PlainTree.{PlainTree, list, object, set, trees_of_list};
+ghost use Rattle.row_model.specs.Tree.{plain, plain_pair, plain_pairs, plain_trees};
 ghost use Rattle.schema_model.specs.declared.reason.Reason.{Reason};
 ghost use Rattle.record_json.specs.ReadTree.{TellsAs, key_then, made, read_map};
 
 use crate::keys::are_keys_apart;
 use json_rows::JsonFault;
-use schema_model::{Reason, Tree, TreePairs, Trees};
+use row_model::{Tree, TreePairs, Trees};
+use schema_model::Reason;
 
 /// The record with these parts.
 #[tactic(auto, using(crate::proofs::TreeParts::object_made, crate::proofs::TreeParts::made_not))]

@@ -5,8 +5,8 @@ use Rattle.hol_varint.specs.Varint.{varint_bytes}
 use Rattle.hol_varint.specs.Zigzag.{zigzag}
 use Rattle.hol_varint.proofs.VarWriting.{varint_is}
 use Rattle.hol_varint.proofs.Varints.{varint_once}
-use Rattle.schema_model.specs.declared.rows.row.Value.{Value}
-use Rattle.schema_model.specs.declared.rows.row.Row.{Row}
+use Rattle.row_model.specs.declared.row.Value.{Value}
+use Rattle.row_model.specs.declared.row.Row.{Row}
 use Rattle.row_keys.specs.RowKey.{flag_byte, numbers_key, value_key, values_key, pair_key, row_key}
 
 -- a key tells the value and where it ends

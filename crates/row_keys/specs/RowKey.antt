@@ -2,8 +2,8 @@
 use Rattle.std.specs.Prelude.{List, [], ◌∷◌, ◌++◌, ℕ, Bool, true, false, length, flat_map}
 use Rattle.hol_varint.specs.Varint.{varint_bytes}
 use Rattle.hol_varint.specs.Zigzag.{zigzag}
-use Rattle.schema_model.specs.declared.rows.row.Value.{Value}
-use Rattle.schema_model.specs.declared.rows.row.Row.{Row}
+use Rattle.row_model.specs.declared.row.Value.{Value}
+use Rattle.row_model.specs.declared.row.Row.{Row}
 
 -- a flag as a byte
 abbrev pub flag_byte : Bool → ℕ

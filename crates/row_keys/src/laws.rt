@@ -1,8 +1,8 @@
 //! Laws of keys.
 ghost use Rattle.std.specs.Prelude.{◌≡◌, List};
 ghost use Rattle.row_keys.specs.RowKey.{row_key, values_key};
-ghost use Rattle.schema_model.specs.declared.rows.row.Row.{Row};
-ghost use Rattle.schema_model.specs.declared.rows.row.Value.{Value};
+ghost use Rattle.row_model.specs.declared.row.Row.{Row};
+ghost use Rattle.row_model.specs.declared.row.Value.{Value};
 
 /// Rows with one key are one row.
 pub fn one_row()

@@ -7,9 +7,9 @@ use Rattle.std.proofs.lemmas.List.Elements.{All-cons, All-map, All-push}
 use Rattle.std.proofs.lemmas.List.Sums.{get_or-le-sum_by}
 use Rattle.bit_array.specs.Digits.{digit_count}
 use Rattle.bit_array.proofs.DigitCounts.{digit_count-holds, digit_count-le}
-use Rattle.schema_model.specs.Row.{FitsShape}
-use Rattle.schema_model.specs.Table.{Table, row_at}
-use Rattle.schema_model.specs.declared.rows.row.Row.{Row}
+use Rattle.row_model.specs.Row.{FitsShape}
+use Rattle.row_model.specs.Table.{Table, row_at}
+use Rattle.row_model.specs.declared.row.Row.{Row}
 use Rattle.schema_model.specs.declared.schema.Shape.{Shape}
 use Rattle.row_walk.specs.BothStates.{rows_of_both}
 use Rattle.bucket_codec.specs.BucketCount.{bucket_count}

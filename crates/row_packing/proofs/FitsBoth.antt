@@ -4,10 +4,10 @@ use Rattle.std.specs.Prelude.{All, IfSome, flat_map, map, slice_get, slice_index
 use Rattle.std.proofs.lemmas.List.{length-map}
 use Rattle.std.proofs.lemmas.List.Concat.{length-flat_map}
 use Rattle.bit_array.specs.Digits.{digit_count}
-use Rattle.schema_model.specs.Row.{FitsKind, stored_value}
-use Rattle.schema_model.specs.Table.{Table}
-use Rattle.schema_model.specs.declared.rows.row.Row.{Row}
-use Rattle.schema_model.specs.declared.rows.row.Value.{Value}
+use Rattle.row_model.specs.Row.{FitsKind, stored_value}
+use Rattle.row_model.specs.Table.{Table}
+use Rattle.row_model.specs.declared.row.Row.{Row}
+use Rattle.row_model.specs.declared.row.Value.{Value}
 use Rattle.schema_model.specs.declared.schema.Field.{Field}
 use Rattle.schema_model.specs.declared.schema.FieldKind.{FieldKind}
 use Rattle.schema_model.specs.declared.schema.Shape.{Shape}

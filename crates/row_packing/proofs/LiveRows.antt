@@ -12,8 +12,8 @@ use Rattle.std.proofs.lemmas.List.Elements.{All-map}
 use Rattle.ordinal_set.specs.Ordinals.{with_ordinal}
 use Rattle.ordinal_set.specs.Population.{AreUpTo}
 use Rattle.ordinal_set.proofs.Members.{no_member, same_rising, rising-with_ordinal, Contains-with_ordinal_cases, Contains-with_ordinal_itself, Contains-with_ordinal_kept}
-use Rattle.schema_model.proofs.RowEntries.{Entry, from_below}
-use Rattle.schema_model.specs.Table.{IsBound, IsLive, RowMap, Table}
+use Rattle.row_model.proofs.RowEntries.{Entry, from_below}
+use Rattle.row_model.specs.Table.{IsBound, IsLive, RowMap, Table}
 use Rattle.row_walk.specs.BothStates.{rows_in}
 use Rattle.row_walk.proofs.RowsFrom.{get_in}
 use Rattle.row_packing.specs.Chosen.{IsGreatestOrdinal}

@@ -9,10 +9,10 @@ use Rattle.std.proofs.lemmas.List.Elements.{All-append, All-cons, All-head, All-
 use Rattle.std.proofs.lemmas.Slice.Zip.{AllZip-right}
 use Rattle.bit_array.specs.Digits.{digit_count}
 use Rattle.bit_array.proofs.DigitCounts.{digit_count-holds, digit_count-le}
-use Rattle.schema_model.specs.Row.{FitsKind, IsValueInRange, is_least}
-use Rattle.schema_model.specs.Table.{Table, row_at}
-use Rattle.schema_model.specs.declared.rows.row.Row.{Row}
-use Rattle.schema_model.specs.declared.rows.row.Value.{Value}
+use Rattle.row_model.specs.Row.{FitsKind, IsValueInRange, is_least}
+use Rattle.row_model.specs.Table.{Table, row_at}
+use Rattle.row_model.specs.declared.row.Row.{Row}
+use Rattle.row_model.specs.declared.row.Value.{Value}
 use Rattle.schema_model.specs.declared.schema.Field.{Field}
 use Rattle.schema_model.specs.declared.schema.FieldKind.{FieldKind}
 use Rattle.schema_model.specs.declared.schema.Shape.{Shape}

@@ -1,6 +1,6 @@
 -- The words and bytes of packed places are determined by the widths, by the law of each kind.
 use Rattle.std.proofs.Common.{◌≡◌, ℕ, List, Option, sym, ◌∙◌}
-use Rattle.schema_model.specs.declared.rows.row.Row.{Row}
+use Rattle.row_model.specs.declared.row.Row.{Row}
 use Rattle.schema_model.specs.declared.schema.Shape.{Shape}
 use Rattle.object_codec.specs.Packing as object
 use Rattle.bucket_codec.specs.Packed.{AreWords}

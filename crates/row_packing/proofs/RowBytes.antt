@@ -4,8 +4,8 @@ use Rattle.std.specs.Prelude.{map, slice_get, sum_by}
 use Rattle.std.specs.Option.{option_map_or, option_to_list}
 use Rattle.std.proofs.lemmas.List.Concat.{length-flat_map}
 use Rattle.std.proofs.lemmas.List.Sums.{sum_by-cons, sum_by-le-sum_by}
-use Rattle.schema_model.specs.declared.rows.row.Row.{Row}
-use Rattle.schema_model.specs.declared.rows.row.Value.{Value}
+use Rattle.row_model.specs.declared.row.Row.{Row}
+use Rattle.row_model.specs.declared.row.Value.{Value}
 use Rattle.object_codec.specs.Packing.{values_of_place}
 use Rattle.object_codec.specs.Stored.{values_of_row, value_at, column, values_bytes, value_bytes as bytes_of_value}
 use Rattle.object_codec.specs.Widths.{byte_count, records_of, rows_bytes}

@@ -10,9 +10,9 @@ use Rattle.std.proofs.lemmas.List.{map-append, take_more}
 use Rattle.std.proofs.lemmas.List.FromFn.{map-range_with_len_more}
 use Rattle.std.proofs.lemmas.List.Sums.{sum_by-append, sum_by-cons}
 use Rattle.std.proofs.lemmas.List.Elements.{All-append, All-cons, All-head, All-map, All-tail}
-use Rattle.schema_model.specs.declared.rows.row.Row.{Row}
-use Rattle.schema_model.proofs.RowEntries.{Entry, AreFrom, skips, finds, from_below, finds_none}
-use Rattle.schema_model.specs.Table.{RowMap, Table, row_at}
+use Rattle.row_model.specs.declared.row.Row.{Row}
+use Rattle.row_model.proofs.RowEntries.{Entry, AreFrom, skips, finds, from_below, finds_none}
+use Rattle.row_model.specs.Table.{RowMap, Table, row_at}
 use Rattle.row_walk.specs.BothStates.{rows_in, rows_added, rows_from, rows_of_both}
 use Rattle.row_walk.proofs.RowsFrom.{rows_skip, rows_take, rows_past, get_in, added_some, added_none, added_live}
 use Rattle.row_packing.specs.Places.{places_under, Agree}

@@ -10,9 +10,9 @@ use Rattle.std.proofs.lemmas.List.Elements.{All-head, All-tail}
 use Rattle.std.proofs.lemmas.List.Kept.{AllPairs-from_increasing}
 use Rattle.schema_model.specs.Model.{IsModel}
 use Rattle.schema_model.specs.Parts.{fields_of, shape_fields}
-use Rattle.schema_model.specs.Table.{Table, IsLive, IsTableOf, row_at}
+use Rattle.row_model.specs.Table.{Table, IsLive, IsTableOf, row_at}
 use Rattle.schema_model.specs.declared.model.rule.Rule.TheVariants.{TooMany}
-use Rattle.schema_model.specs.declared.rows.row.Row.{Row}
+use Rattle.row_model.specs.declared.row.Row.{Row}
 use Rattle.schema_model.specs.declared.schema.Field.{Field}
 use Rattle.schema_model.specs.declared.schema.Schema.{Schema}
 use Rattle.schema_model.specs.declared.schema.Shape.{Shape}

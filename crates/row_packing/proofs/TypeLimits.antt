@@ -4,8 +4,8 @@ use Rattle.std.specs.Prelude.{All, is_some, slice_get, sum_by}
 use Rattle.bit_array.specs.Element.{words_of}
 use Rattle.std.specs.FinMap.{get}
 use Rattle.std.proofs.lemmas.List.Sums.{sum_by-cons}
-use Rattle.schema_model.specs.Table.{Table, IsTableOf, row_at}
-use Rattle.schema_model.specs.declared.rows.row.Row.{Row}
+use Rattle.row_model.specs.Table.{Table, IsTableOf, row_at}
+use Rattle.row_model.specs.declared.row.Row.{Row}
 use Rattle.schema_model.specs.declared.schema.Schema.{Schema}
 use Rattle.schema_model.specs.declared.schema.Shape.{Shape}
 use Rattle.row_walk.specs.BothStates.{rows_in, rows_added, rows_from, rows_of_both}

@@ -10,8 +10,8 @@ use Rattle.std.proofs.lemmas.List.FromFn.{length-enumerate_from, length-range_wi
 use Rattle.std.proofs.lemmas.Option.{slice_get-map}
 use Rattle.bit_array.specs.Element.{words_of}
 use Rattle.schema_model.specs.Parts.{shape_fields}
-use Rattle.schema_model.specs.Table.{RowMap, Table, row_at}
-use Rattle.schema_model.specs.declared.rows.row.Row.{Row}
+use Rattle.row_model.specs.Table.{RowMap, Table, row_at}
+use Rattle.row_model.specs.declared.row.Row.{Row}
 use Rattle.schema_model.specs.declared.schema.Field.{Field}
 use Rattle.schema_model.specs.declared.schema.Shape.{Shape}
 use Rattle.row_walk.specs.BothStates.{rows_in, rows_from, rows_of_both}

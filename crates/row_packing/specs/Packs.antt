@@ -1,6 +1,6 @@
 -- The rows of places as they are packed, by the codec of the kind.
 use Rattle.std.specs.Prelude.{◌≡◌, ℕ, List, [], Option}
-use Rattle.schema_model.specs.declared.rows.row.Row.{Row}
+use Rattle.row_model.specs.declared.row.Row.{Row}
 use Rattle.schema_model.specs.declared.schema.Shape.{Shape}
 use Rattle.object_codec.specs.Packing as object
 use Rattle.list_codec.specs.Packing as list

@@ -2,8 +2,8 @@
 use Rattle.std.specs.Prelude.{◌≡◌, ℕ, List, map, Option, Some, All}
 use Rattle.std.specs.List.{range_with_len}
 use Rattle.std.specs.List.Sorted.{IsStrictlyIncreasing}
-use Rattle.schema_model.specs.declared.rows.row.Row.{Row}
-use Rattle.schema_model.specs.Table.{Table, IsLive, row_at}
+use Rattle.row_model.specs.declared.row.Row.{Row}
+use Rattle.row_model.specs.Table.{Table, IsLive, row_at}
 use Rattle.type_state.specs.Layout.{places_of}
 
 -- Each place has the row under its ordinal, and none where no row is live there.

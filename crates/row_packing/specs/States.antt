@@ -1,7 +1,7 @@
 -- Two states of one model whose rows a writer can lay out together.
 use Rattle.std.specs.Prelude.{◌<◌, ℕ, List, length}
 use Rattle.schema_model.specs.declared.schema.Schema.{Schema}
-use Rattle.schema_model.specs.Table.{Table}
+use Rattle.row_model.specs.Table.{Table}
 use Rattle.row_packing.specs.Chosen.{shape_at, KeepsCounts}
 use Rattle.row_packing.specs.Places.{Agree}
 

@@ -4,7 +4,7 @@ use Rattle.schema_model.specs.declared.limit.Limit.{Limit}
 use Rattle.schema_model.specs.declared.limit.Limit.TheVariants.{Items, Words, Bytes}
 use Rattle.schema_model.specs.declared.schema.Shape.{Shape}
 use Rattle.schema_model.specs.Limit.{number_of_limit}
-use Rattle.schema_model.specs.Table.{Table}
+use Rattle.row_model.specs.Table.{Table}
 use Rattle.row_walk.specs.BothStates.{rows_of_both}
 use Rattle.object_codec.specs.Widths.{live_rows}
 use Rattle.type_state.specs.Layout.{Layout, fixed_words}

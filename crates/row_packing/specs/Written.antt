@@ -2,9 +2,9 @@
 use Rattle.std.specs.Prelude.{◌≡◌, ◌≤◌, ℕ, List, All, length}
 use Rattle.std.specs.FinMap.{keys}
 use Rattle.schema_model.specs.Parts.{shape_fields}
-use Rattle.schema_model.specs.Row.{stored_row}
-use Rattle.schema_model.specs.Table.{Table}
-use Rattle.schema_model.specs.declared.rows.row.Row.{Row}
+use Rattle.row_model.specs.Row.{stored_row}
+use Rattle.row_model.specs.Table.{Table}
+use Rattle.row_model.specs.declared.row.Row.{Row}
 use Rattle.schema_model.specs.declared.schema.Shape.{Shape}
 use Rattle.row_walk.specs.BothStates.{rows_in, rows_of_both}
 use Rattle.type_state.specs.declared.section.Section.{Section}

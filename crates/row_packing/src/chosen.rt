@@ -3,7 +3,8 @@ ghost use Rattle.std.specs.Prelude.{◌≡◌, ◌<◌, ℕ, length, slice_get, 
 ghost use Rattle.row_walk.specs.BothStates.{rows_of_both};
 ghost use Rattle.row_packing.specs.Chosen.{shape_at, chosen_widths, chosen_total, IsGreatestOrdinal, KeepsCounts, IsChosen};
 
-use schema_model::{Rows, Shape, Widths};
+use row_model::{Rows, Widths};
+use schema_model::Shape;
 use std::alloc::{AllocError, Global};
 
 /// What a writer chooses for a type: how its places are laid out in a blob.

@@ -3,9 +3,9 @@ ghost use Rattle.std.specs.Prelude.{◌≡◌, ◌≤◌, ℕ, List, Option, Som
 ghost use Rattle.std.specs.FinMap.{values};
 ghost use Rattle.schema_model.specs.declared.limit.Limit.TheVariants.{Words};
 ghost use Rattle.schema_model.specs.Limit.{number_of_limit};
-ghost use Rattle.schema_model.specs.declared.rows.row.Row.{Row};
+ghost use Rattle.row_model.specs.declared.row.Row.{Row};
 ghost use Rattle.schema_model.specs.declared.schema.Shape.{Shape};
-ghost use Rattle.schema_model.specs.Table.{Table, row_at};
+ghost use Rattle.row_model.specs.Table.{Table, row_at};
 ghost use Rattle.row_walk.specs.BothStates.{rows_in};
 ghost use Rattle.bucket_codec.specs.Packed.{AreWords};
 ghost use Rattle.type_state.specs.declared.section.Section.{Section};

@@ -10,7 +10,8 @@ ghost use Rattle.row_packing.specs.TypeLimit.{TellsLimit};
 
 use crate::chosen::{Chosen, choose, total};
 use bit_array::words_for;
-use schema_model::{Limit, MAX_BYTES, MAX_ITEMS, MAX_WORDS, Rows, Shape};
+use row_model::Rows;
+use schema_model::{Limit, MAX_BYTES, MAX_ITEMS, MAX_WORDS, Shape};
 use std::alloc::{AllocError, Global};
 use type_state::words_needed;
 

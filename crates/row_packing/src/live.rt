@@ -4,7 +4,7 @@ ghost use Rattle.std.specs.FinMap.{keys};
 ghost use Rattle.row_walk.specs.BothStates.{rows_in};
 
 use ordinal_set::OrdinalSet;
-use schema_model::Rows;
+use row_model::Rows;
 use std::alloc::{AllocError, Global};
 
 /// The ordinals under which a type of a state has rows.

@@ -1,14 +1,15 @@
 //! The rows of a type packed place by place, for a snapshot and for a delta.
 ghost use Rattle.std.specs.Prelude.{◌≡◌, ◌<◌, ◌≤◌, ◌^◌, ℕ, length, IfOk};
 ghost use Rattle.type_state.specs.Layout.{places_of};
-ghost use Rattle.schema_model.specs.Table.{row_at};
+ghost use Rattle.row_model.specs.Table.{row_at};
 ghost use Rattle.row_packing.specs.Chosen.{shape_at, Suits};
 ghost use Rattle.row_packing.specs.Packs.{CanPackPlaces, PacksPlaces};
 ghost use Rattle.row_packing.specs.Places.{places_under, snapshot_places, AreAdded};
 
 use crate::Chosen;
 use hol_varint::Ordinals;
-use schema_model::{Packed, Places, Row, Rows, Schema, Shape, Widths};
+use row_model::{Packed, Places, Row, Rows, Widths};
+use schema_model::{Schema, Shape};
 use std::alloc::{AllocError, Global};
 
 /// The rows of a type of a state, packed for a snapshot: place `k` has the row under ordinal `k`, for each ordinal up to the max ordinal.

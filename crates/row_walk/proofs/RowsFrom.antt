@@ -7,9 +7,9 @@ use Rattle.std.specs.declared.cmp.Ordering.TheVariants.{Equal}
 use Rattle.std.specs.Cmp.{ranked}
 use Rattle.std.specs.FinMap.{find, is_sorted, entries, entries_sorted, get, get-entries, get-empty, get-retain_keys, empty}
 use Rattle.std.proofs.lemmas.Bool.{and_parts, cases_lt, cases_order, cond-true, cond-false, le-leb, lt-leb}
-use Rattle.schema_model.specs.declared.rows.row.Row.{Row}
-use Rattle.schema_model.proofs.RowEntries.{Entry, skips, finds, from_below, finds_none}
-use Rattle.schema_model.specs.Table.{RowMap, Table, row_at}
+use Rattle.row_model.specs.declared.row.Row.{Row}
+use Rattle.row_model.proofs.RowEntries.{Entry, skips, finds, from_below, finds_none}
+use Rattle.row_model.specs.Table.{RowMap, Table, row_at}
 use Rattle.row_walk.specs.BothStates.{rows_in, rows_added, rows_from}
 
 -- ---- a look-up in entries

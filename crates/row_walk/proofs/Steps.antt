@@ -3,10 +3,10 @@ use Rattle.std.proofs.Common.{◌≡◌, ◌+◌, ℕ, List, [], ◌∷◌, ◌+
 use Rattle.std.specs.Prelude.{if◌then◌else◌, Result, Ok, Err, IfOk}
 use Rattle.std.specs.FinMap.{get}
 use Rattle.std.specs.Option.{option_map}
-use Rattle.schema_model.specs.declared.rows.row.Row.{Row}
-use Rattle.schema_model.specs.declared.rows.lent.LentRow.{LentRow}
-use Rattle.schema_model.specs.Lent.{lent_row}
-use Rattle.schema_model.specs.Table.{Table, IsLive, row_at}
+use Rattle.row_model.specs.declared.row.Row.{Row}
+use Rattle.row_model.specs.declared.lent.LentRow.{LentRow}
+use Rattle.row_model.specs.Lent.{lent_row}
+use Rattle.row_model.specs.Table.{Table, IsLive, row_at}
 use Rattle.row_walk.specs.declared.walk.RowWalk.{RowWalk}
 use Rattle.row_walk.specs.BothStates.{rows_in, rows_added, rows_from, rows_left, Takes, TellsLive}
 use Rattle.row_walk.proofs.RowsFrom.{rows_skip, rows_take, rows_past, get_in, added_none, added_live, added_some}

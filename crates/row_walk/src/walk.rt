@@ -1,11 +1,11 @@
 //! A walk over the rows of a type in two states.
 ghost use Rattle.std.specs.Prelude.{ℕ, ◌≡◌, true, IfOk};
 ghost use Rattle.std.specs.Option.{option_map};
-ghost use Rattle.schema_model.specs.Lent.{lent_row};
-ghost use Rattle.schema_model.specs.Table.{Table};
+ghost use Rattle.row_model.specs.Lent.{lent_row};
+ghost use Rattle.row_model.specs.Table.{Table};
 ghost use Rattle.row_walk.specs.BothStates.{rows_left, rows_of_both, Takes, TellsLive};
 
-use schema_model::{LentRow, Rows};
+use row_model::{LentRow, Rows};
 use std::alloc::{AllocError, Global};
 
 /// How far a walk over the rows of a type in an old and a new state has come: it takes those of the old one by rising ordinal, and then those

@@ -1,16 +1,16 @@
 -- Trees of one kind are the same where their parts are.
 use Rattle.std.proofs.Common.{◌≡◌, ◌↔◌, inl, inr, suc, List, [], ◌∷◌, length, map, Bool, IsTrue, refl, sym, ap, subst, ◌∙◌}
 use Rattle.std.specs.Prelude.{All, Any}
-use Rattle.schema_model.specs.PlainTree.{PlainTree, PlainTrees, PlainPairs, object, list, set, map as map_tree, SameTree, SameTrees, EachAmong, IsAmongTrees, EachPairAmong, IsAmongPairs, trees_of_list, pairs_of_list, list_of_trees, list_of_pairs}
-use Rattle.schema_model.specs.declared.rows.tree.Tree
-use Rattle.schema_model.specs.declared.rows.tree.Tree.TheFolds.{fold-roll-Tree}
-use Rattle.schema_model.specs.declared.rows.tree.Trees.{fold-Trees, fold_out-Trees}
-use Rattle.schema_model.specs.declared.rows.tree.TreePairs.{fold-TreePairs, fold_out-TreePairs}
-use Rattle.schema_model.specs.declared.rows.tree.Tree.TheVariants.{rolls-Object, rolls-List, rolls-Set, rolls-Map}
-use Rattle.schema_model.specs.declared.rows.tree.Tree.{Tree}
-use Rattle.schema_model.specs.declared.rows.tree.Trees.{Trees}
-use Rattle.schema_model.specs.declared.rows.tree.TreePairs.{TreePairs}
-use Rattle.schema_model.specs.Tree.{plain_layer, plain, plain_pair, trees, tree_pairs}
+use Rattle.row_model.specs.PlainTree.{PlainTree, PlainTrees, PlainPairs, object, list, set, map as map_tree, SameTree, SameTrees, EachAmong, IsAmongTrees, EachPairAmong, IsAmongPairs, trees_of_list, pairs_of_list, list_of_trees, list_of_pairs}
+use Rattle.row_model.specs.declared.tree.Tree
+use Rattle.row_model.specs.declared.tree.Tree.TheFolds.{fold-roll-Tree}
+use Rattle.row_model.specs.declared.tree.Trees.{fold-Trees, fold_out-Trees}
+use Rattle.row_model.specs.declared.tree.TreePairs.{fold-TreePairs, fold_out-TreePairs}
+use Rattle.row_model.specs.declared.tree.Tree.TheVariants.{rolls-Object, rolls-List, rolls-Set, rolls-Map}
+use Rattle.row_model.specs.declared.tree.Tree.{Tree}
+use Rattle.row_model.specs.declared.tree.Trees.{Trees}
+use Rattle.row_model.specs.declared.tree.TreePairs.{TreePairs}
+use Rattle.row_model.specs.Tree.{plain_layer, plain, plain_pair, trees, tree_pairs}
 use Rattle.same_trees.proofs.Passing.{IsEach, IsSome}
 
 of_parts : (parts : Trees) → fold-Trees PlainTree PlainPairs PlainTrees plain_layer (λ ps. pairs_of_list ps.items.items) (λ ps. trees_of_list ps.items.items) parts ≡ trees_of_list (map plain (trees parts))

@@ -8,9 +8,9 @@ use Rattle.std.specs.Str.{bytes_eq}
 use Rattle.std.proofs.lemmas.Bool.Decides.{Decides-eqb, Decides-int_eq, not_from_Decides}
 use Rattle.std.proofs.lemmas.List.Kept.{AllPairs-cons}
 use Rattle.std.proofs.lemmas.Slice.Eq.{bytes_eq-Decides}
-use Rattle.schema_model.specs.declared.rows.row.Value.{Value}
-use Rattle.schema_model.specs.PlainTree.{PlainTree, PlainTrees, PlainPairs, leaf, object, list, set, map, no_trees, tree_then, no_pairs, pair_then, SameTree, SameTrees, EachAmong, IsAmongTrees, EachPairAmong, IsAmongPairs, list_of_trees, list_of_pairs}
-use Rattle.schema_model.specs.Row.{stored_value}
+use Rattle.row_model.specs.declared.row.Value.{Value}
+use Rattle.row_model.specs.PlainTree.{PlainTree, PlainTrees, PlainPairs, leaf, object, list, set, map, no_trees, tree_then, no_pairs, pair_then, SameTree, SameTrees, EachAmong, IsAmongTrees, EachPairAmong, IsAmongPairs, list_of_trees, list_of_pairs}
+use Rattle.row_model.specs.Row.{stored_value}
 use Rattle.same_trees.proofs.Passing.{IsEach, IsSome, all_is_each, any_is_some}
 
 -- as a test says

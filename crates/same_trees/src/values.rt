@@ -1,11 +1,11 @@
 //! When two trees are both values, and the same.
 ghost use Rattle.std.specs.Prelude.{◌≡◌, ◌↔◌, IsTrue};
-ghost use Rattle.schema_model.specs.PlainTree.{IsLeafAnd};
-ghost use Rattle.schema_model.specs.Row.{stored_value};
-ghost use Rattle.schema_model.specs.Tree.{plain};
-ghost use Rattle.schema_model.specs.declared.rows.row.Value.{Value};
+ghost use Rattle.row_model.specs.PlainTree.{IsLeafAnd};
+ghost use Rattle.row_model.specs.Row.{stored_value};
+ghost use Rattle.row_model.specs.Tree.{plain};
+ghost use Rattle.row_model.specs.declared.row.Value.{Value};
 
-use schema_model::Tree;
+use row_model::Tree;
 
 /// Whether both are values, and the same once the least INT and LONG count as null.
 pub(crate) fn same_value(tree: &Tree, other: &Tree) -> bool

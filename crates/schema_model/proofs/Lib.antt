@@ -1,4 +1,3 @@
-pub mod Danglings
 pub mod FirstBroken
 pub mod Fronts
 pub mod Images
@@ -8,7 +7,6 @@ pub mod KindNames
 pub mod ModelFacts
 pub mod NamedTypes
 pub mod ReferenceChains
-pub mod RowEntries
 pub mod RuleTests
 pub mod Spellable
 pub mod Spellings

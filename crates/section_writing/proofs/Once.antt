@@ -3,9 +3,9 @@ use Rattle.std.proofs.Common.{◌≡◌, ℕ, ◌<◌, inl, inr, length, List, [
 use Rattle.std.specs.Prelude.{slice_get}
 use Rattle.std.proofs.lemmas.Option.{slice_get_cases}
 use Rattle.bucket_codec.specs.Packed.{AreWords}
-use Rattle.schema_model.specs.Table.{Table}
-use Rattle.schema_model.specs.declared.rows.packed.Packed.{Packed}
-use Rattle.schema_model.specs.declared.rows.row.Row.{Row}
+use Rattle.row_model.specs.Table.{Table}
+use Rattle.row_model.specs.declared.packed.Packed.{Packed}
+use Rattle.row_model.specs.declared.row.Row.{Row}
 use Rattle.schema_model.specs.declared.schema.Schema.{Schema}
 use Rattle.schema_model.specs.declared.schema.Shape.{Shape}
 use Rattle.row_packing.specs.Chosen.{IsGreatestOrdinal}

@@ -3,7 +3,7 @@ use Rattle.std.specs.Prelude.{◌-◌, ◌^◌, ℕ, List, [], ◌∷◌, ◌++�
 use Rattle.std.specs.Int.{w64, to_be_bytes}
 use Rattle.hol_varint.specs.Varint.{varint_bytes}
 use Rattle.ordinal_set.specs.Gaps.{gap_bytes}
-use Rattle.schema_model.specs.declared.rows.packed.Packed.{Packed}
+use Rattle.row_model.specs.declared.packed.Packed.{Packed}
 use Rattle.schema_model.specs.declared.schema.Schema.{Schema}
 use Rattle.schema_model.specs.declared.schema.Shape.{Shape}
 use Rattle.schema_model.specs.Schema.{schema_bytes}

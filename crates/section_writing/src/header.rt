@@ -1,6 +1,6 @@
 //! The header of a blob, and the limit on its bytes.
 ghost use Rattle.std.specs.Prelude.{◌≡◌, ◌<◌, ◌≤◌, ◌^◌, ◌++◌, All, IfErr, IfOk, MatchBool, MatchResult, OnOk, length};
-ghost use Rattle.schema_model.specs.Row.{Rises};
+ghost use Rattle.row_model.specs.Row.{Rises};
 ghost use Rattle.blob_frame.specs.Written.{schemas_at, schema_list_bytes, header_bytes};
 ghost use Rattle.section_writing.specs.Limits.{HaveFewPaths, MeansLarge};
 

@@ -6,7 +6,8 @@ ghost use Rattle.section_writing.specs.Written.{records_bytes, runs_bytes, packe
 use crate::items::{or_undone, push_areas, push_widths, push_words};
 use blob_sections::PackedRows;
 use hol_varint::put_vlong;
-use schema_model::{Packed, Shape};
+use row_model::Packed;
+use schema_model::Shape;
 use std::alloc::AllocError;
 
 /// Writes the packed rows of a type of this shape at the end: their widths; of an OBJECT the words of the records and the

@@ -5,10 +5,10 @@ use Rattle.std.specs.List.{AllZip}
 use Rattle.std.proofs.lemmas.List.{take_more, take_all, map-append, length-map}
 use Rattle.std.proofs.lemmas.Slice.Zip.{all_zipped_more}
 use Rattle.schema_model.specs.declared.schema.Schema.{Schema}
-use Rattle.schema_model.specs.declared.rows.row.Row.{Row}
+use Rattle.row_model.specs.declared.row.Row.{Row}
 use Rattle.schema_model.specs.Model.{IsModel}
-use Rattle.schema_model.specs.Row.{FitsShape, IsRowInRange}
-use Rattle.schema_model.specs.Table.{EachRow, IsClosed}
+use Rattle.row_model.specs.Row.{FitsShape, IsRowInRange}
+use Rattle.row_model.specs.Table.{EachRow, IsClosed}
 use Rattle.type_state.specs.State.{State, IsLaidOut, empty_half}
 use Rattle.type_state.specs.Views.{AreNext, next_halves, table_of}
 use Rattle.type_state.proofs.SectionRows.{rows_fit, rows_range}

@@ -14,7 +14,7 @@ use Rattle.schema_model.specs.declared.model.rule.Rule.TheVariants.{TooMany}
 use Rattle.schema_model.specs.Model.{IsModel, IsFirstBroken}
 use Rattle.schema_model.specs.Faults.{TellsFault}
 use Rattle.schema_model.specs.Parts.{fields_of}
-use Rattle.schema_model.specs.Table.{RowMap, IsClosed}
+use Rattle.row_model.specs.Table.{RowMap, IsClosed}
 use Rattle.type_state.specs.State.{Half}
 use Rattle.type_state.specs.Views.{table_of}
 use Rattle.type_state.specs.WellFormed.{IsReadable, IsWellFormed}

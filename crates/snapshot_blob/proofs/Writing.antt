@@ -7,10 +7,10 @@ use Rattle.std.proofs.lemmas.List.FromFn.{length-range_with_len, get_or-range_wi
 use Rattle.std.proofs.lemmas.List.Kept.{AllPairs-from_increasing}
 use Rattle.ordinal_set.specs.Population.{IsPopulation}
 use Rattle.ordinal_set.proofs.Members.{rising-range}
-use Rattle.schema_model.specs.Row.{Rises}
-use Rattle.schema_model.specs.declared.rows.packed.Packed.{Packed}
+use Rattle.row_model.specs.Row.{Rises}
+use Rattle.row_model.specs.declared.packed.Packed.{Packed}
 use Rattle.schema_model.specs.declared.schema.Schema.{Schema}
-use Rattle.schema_model.specs.Table.{Table}
+use Rattle.row_model.specs.Table.{Table}
 use Rattle.row_walk.specs.BothStates.{rows_in}
 use Rattle.row_packing.specs.declared.chosen.Chosen.{Chosen}
 use Rattle.row_packing.specs.Chosen.{shape_at, IsChosen}

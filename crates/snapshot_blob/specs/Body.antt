@@ -3,7 +3,7 @@
 use Rattle.std.specs.Prelude.{◌≡◌, ◌⊎◌, ℕ, List, Result, Ok, Err, length, All, IsErrAnd}
 use Rattle.schema_model.specs.declared.reason.Reason.{Reason}
 use Rattle.schema_model.specs.declared.schema.Schema.{Schema}
-use Rattle.schema_model.specs.Table.{IsClosed}
+use Rattle.row_model.specs.Table.{IsClosed}
 use Rattle.type_state.specs.State.{Half, empty_half}
 use Rattle.type_state.specs.Views.{AreNext, next_halves, table_of}
 use Rattle.blob_frame.specs.declared.fault.BlobFault.{BlobFault}

@@ -6,7 +6,7 @@ use Rattle.schema_model.specs.declared.limit.Limit.TheVariants.{Ordinals, Items,
 use Rattle.schema_model.specs.declared.schema.Schema.{Schema}
 use Rattle.schema_model.specs.Limit.{number_of_limit}
 use Rattle.schema_model.specs.Model.{IsModel}
-use Rattle.schema_model.specs.Table.{RowMap, IsClosed}
+use Rattle.row_model.specs.Table.{RowMap, IsClosed}
 use Rattle.type_state.specs.State.{Half, State, IsLaidOut, empty_half}
 use Rattle.type_state.specs.Layout.{places_of}
 use Rattle.type_state.specs.Loads.{SectionIs, Loads, layout_of}

@@ -4,7 +4,7 @@ ghost use Rattle.schema_model.specs.declared.limit.Limit.TheVariants.{Blob};
 ghost use Rattle.schema_model.specs.declared.schema.Schema.{Schema};
 ghost use Rattle.schema_model.specs.Limit.{number_of_limit};
 ghost use Rattle.schema_model.specs.Model.{IsModel};
-ghost use Rattle.schema_model.specs.Table.{Table};
+ghost use Rattle.row_model.specs.Table.{Table};
 ghost use Rattle.row_packing.specs.States.{AreWritable};
 ghost use Rattle.type_state.specs.State.{Half};
 ghost use Rattle.type_state.specs.Views.{next_halves};

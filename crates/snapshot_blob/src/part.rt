@@ -9,7 +9,8 @@ use blob_frame::{BlobFault, Cursor};
 use blob_sections::{PackedRows, TypeHead, max_ordinal, packed_rows, population, type_head};
 use hol_io::BlobStore;
 use hol_varint::List;
-use schema_model::{Packed, Schema, Shape};
+use row_model::Packed;
+use schema_model::{Schema, Shape};
 use std::alloc::Global;
 use type_state::Section;
 

@@ -2,7 +2,7 @@
 ghost use Rattle.std.specs.Prelude.{◌≡◌, List, All, IfOk, MatchResult, length};
 ghost use Rattle.std.specs.List.{AllZip};
 ghost use Rattle.schema_model.specs.Model.{IsModel};
-ghost use Rattle.schema_model.specs.Table.{RowMap, IsClosed};
+ghost use Rattle.row_model.specs.Table.{RowMap, IsClosed};
 ghost use Rattle.type_state.specs.Views.{AreNext, next_halves, table_of};
 ghost use Rattle.type_state.specs.WellFormed.{IsReadable, IsWellFormed};
 ghost use Rattle.snapshot_blob.specs.Body.{IsWholeBody};
@@ -12,9 +12,8 @@ use crate::body::Body;
 use crate::part::{TypePart, TypeParts};
 use blob_frame::BlobFault;
 use hol_varint::{Duplicate, GapList};
-use schema_model::{
-    Limit, MAX_ITEMS, MAX_ORDINALS, Model, ModelFault, Reason, Schemas, first_dangling, model_of,
-};
+use row_model::first_dangling;
+use schema_model::{Limit, MAX_ITEMS, MAX_ORDINALS, Model, ModelFault, Reason, Schemas, model_of};
 use std::alloc::{AllocError, Global};
 use type_state::{NextRows, RowFault, TypeState, TypeStates};
 

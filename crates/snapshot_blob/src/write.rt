@@ -8,10 +8,11 @@ ghost use Rattle.snapshot_blob.specs.Written.{AreCarriedOf, IsCarriedOf, IsWritt
 
 use blob_sections::PackedRows;
 use hol_varint::{Ordinals, put_vlong};
+use row_model::Rows;
 use row_packing::laws::one_packing_of_places;
 use row_packing::{Chosen, choose, live_ordinals, snapshot_rows};
+use schema_model::Model;
 use schema_model::laws::spellable_model;
-use schema_model::{Model, Rows};
 use section_writing::{WriteFault, check_length, put_limited_header, put_snapshot_type};
 use std::alloc::{AllocError, Global};
 

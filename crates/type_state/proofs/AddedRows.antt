@@ -5,7 +5,7 @@ use Rattle.std.specs.Map.{keys_of, values_of}
 use Rattle.std.proofs.lemmas.List.{take_more, take_all, map-append, length-map, length-take}
 use Rattle.std.proofs.lemmas.Option.{slice_get-get_or}
 use Rattle.schema_model.specs.declared.schema.Shape.{Shape}
-use Rattle.schema_model.specs.declared.rows.row.Row.{Row}
+use Rattle.row_model.specs.declared.row.Row.{Row}
 use Rattle.type_state.specs.declared.patch.PatchSection.{PatchSection}
 use Rattle.type_state.specs.Loads.{Spells, IsSpelledIn}
 use Rattle.type_state.specs.Patches.{AddsRows, places_in}

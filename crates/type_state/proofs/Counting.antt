@@ -8,8 +8,8 @@ use Rattle.std.specs.Map.{keys_of}
 use Rattle.std.proofs.lemmas.Bool.{cases_eq, cases_lt}
 use Rattle.std.proofs.lemmas.List.{get_or-take, length-take, take_all}
 use Rattle.schema_model.specs.declared.schema.Shape.{Shape}
-use Rattle.schema_model.specs.declared.rows.row.Row.{Row}
-use Rattle.schema_model.specs.Table.{RowMap}
+use Rattle.row_model.specs.declared.row.Row.{Row}
+use Rattle.row_model.specs.Table.{RowMap}
 use Rattle.type_state.specs.declared.totals.Totals.{Totals}
 use Rattle.type_state.specs.Differences.{Difference, differ_at, differing}
 use Rattle.type_state.specs.Totals.{AgreeAt, AreFitting, AreLess, AreMore, AreTotals, FitsSomewhere, IsCounted}

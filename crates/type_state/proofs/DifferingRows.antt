@@ -7,8 +7,8 @@ use Rattle.std.specs.FinMap.{find, get}
 use Rattle.std.specs.List.Sorted.{IsStrictlySortedBy}
 use Rattle.std.specs.Map.{keys_of}
 use Rattle.std.proofs.lemmas.Bool.{cases_eq, false≢true}
-use Rattle.schema_model.specs.declared.rows.row.Row.{Row}
-use Rattle.schema_model.specs.Table.{RowMap}
+use Rattle.row_model.specs.declared.row.Row.{Row}
+use Rattle.row_model.specs.Table.{RowMap}
 use Rattle.type_state.specs.declared.differences.Differences.{Differences}
 use Rattle.type_state.specs.Differences.{AreApart, AreBelow, AreTold, Difference, differ_at, differing, leading_back, rows_with}
 use Rattle.type_state.proofs.Rising.{RiseFrom, from_sorted}

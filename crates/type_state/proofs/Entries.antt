@@ -10,9 +10,9 @@ use Rattle.std.specs.FinMap.{empty, entries, entries-insert, entries_sorted, get
 use Rattle.std.specs.FinMap.Entries.{by_order, put}
 use Rattle.std.specs.Map.{keys_of}
 use Rattle.ordinal_set.specs.Ordinals.{bound_of}
-use Rattle.schema_model.specs.declared.rows.row.Row.{Row}
-use Rattle.schema_model.specs.Table.{RowMap}
-use Rattle.schema_model.proofs.RowEntries.{AreFrom, Entry, from_below, from_none}
+use Rattle.row_model.specs.declared.row.Row.{Row}
+use Rattle.row_model.specs.Table.{RowMap}
+use Rattle.row_model.proofs.RowEntries.{AreFrom, Entry, from_below, from_none}
 use Rattle.type_state.proofs.Rising.{RiseFrom}
 use Rattle.type_state.proofs.NextStates.{found_live, greatest, live_below, live_found}
 

@@ -5,8 +5,8 @@ use Rattle.std.specs.Map.{keys_of}
 use Rattle.std.specs.Ordering.{nat_cmp}
 use Rattle.std.specs.List.Sorted.{IsStrictlySortedBy}
 use Rattle.std.proofs.lemmas.List.{at_drop_more, drop_all}
-use Rattle.schema_model.specs.declared.rows.row.Row.{Row}
-use Rattle.schema_model.specs.Table.{RowMap}
+use Rattle.row_model.specs.declared.row.Row.{Row}
+use Rattle.row_model.specs.Table.{RowMap}
 use Rattle.type_state.specs.Differences.{AreBelow, Difference, differ_at, differing, leading_back}
 use Rattle.type_state.proofs.Rising.{RiseFrom, from_sorted}
 use Rattle.type_state.proofs.SlotRows.{differs_there}

@@ -4,8 +4,8 @@ use Rattle.std.specs.Ordering.{nat_cmp}
 use Rattle.std.specs.FinMap.{empty, entries, get-empty, values}
 use Rattle.std.specs.Map.{values_of}
 use Rattle.schema_model.specs.declared.schema.Shape.{Shape}
-use Rattle.schema_model.specs.Table.{RowMap}
-use Rattle.schema_model.specs.declared.rows.row.Row.{Row}
+use Rattle.row_model.specs.Table.{RowMap}
+use Rattle.row_model.specs.declared.row.Row.{Row}
 use Rattle.type_state.specs.declared.totals.Totals.{Totals}
 use Rattle.type_state.specs.Holds.{HoldsRows}
 use Rattle.type_state.specs.Moving.{AreOfKind}

@@ -9,9 +9,9 @@ use Rattle.std.proofs.lemmas.List.{append-nil, map-append}
 use Rattle.std.proofs.lemmas.List.Sums.{sum_by-append}
 use Rattle.ordinal_set.specs.Ordinals.{bound_of}
 use Rattle.schema_model.specs.Parts.{shape_fields}
-use Rattle.schema_model.specs.Table.{RowMap}
+use Rattle.row_model.specs.Table.{RowMap}
 use Rattle.schema_model.specs.declared.schema.Shape.{Shape}
-use Rattle.schema_model.specs.declared.rows.row.Row.{Row}
+use Rattle.row_model.specs.declared.row.Row.{Row}
 use Rattle.type_state.specs.WordsHeld.{row_bytes, part_bytes}
 use Rattle.type_state.specs.Layout.{items_of_row}
 use Rattle.type_state.specs.Holds.{HoldsRows}

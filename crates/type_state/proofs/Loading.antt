@@ -8,12 +8,12 @@ use Rattle.hol_varint.specs.Yields.{Yields}
 use Rattle.ordinal_set.specs.Ordinals.{TellsNext}
 use Rattle.schema_model.specs.declared.limit.Limit.TheVariants.{Items, Bytes, Words}
 use Rattle.schema_model.specs.Limit.{number_of_limit}
-use Rattle.schema_model.specs.Table.{RowMap}
+use Rattle.row_model.specs.Table.{RowMap}
 use Rattle.schema_model.specs.declared.schema.Shape.{Shape}
-use Rattle.schema_model.specs.declared.rows.row.Row.{Row}
+use Rattle.row_model.specs.declared.row.Row.{Row}
 use Rattle.bit_array.specs.Element.{words_of}
 use Rattle.object_codec.proofs.Rows.{row_once}
-use Rattle.schema_model.specs.declared.rows.packed.PlaceFault.{PlaceFault}
+use Rattle.row_model.specs.declared.packed.PlaceFault.{PlaceFault}
 use Rattle.bucket_codec.specs.BucketPlace.{TellsBucketRow}
 use Rattle.bucket_codec.specs.Run.{keys_of as keys_of_pairs}
 use Rattle.bucket_codec.proofs.PlaceRows as buckets
@@ -25,7 +25,7 @@ use Rattle.type_state.specs.Ends.{FitsBehind, IsOfKind}
 use Rattle.type_state.specs.WellFormed.{IsReadable}
 use Rattle.std.proofs.lemmas.List.{length-map}
 use Rattle.schema_model.specs.declared.schema.Field.{Field}
-use Rattle.schema_model.specs.declared.rows.row.Value.{Value}
+use Rattle.row_model.specs.declared.row.Value.{Value}
 use Rattle.object_codec.specs.Part.{FieldPart}
 use Rattle.object_codec.specs.ObjectPlace.{parts_of, SpellsFields}
 use Rattle.type_state.specs.Loads.{Spells, IsSpelledIn, Loads, AreRead, TellsPlace, TellsRow, RefusesRows, RefusesLoad, TellsLoad, IsFreeRow, layout_of}

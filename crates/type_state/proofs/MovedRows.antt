@@ -6,9 +6,9 @@ use Rattle.std.specs.FinMap.{entries, keys, get, get-entries, same_map, nat_cmp-
 use Rattle.std.proofs.lemmas.Option.{slice_get-get_or, slice_get_within}
 use Rattle.hol_varint.specs.Yields.{Yields}
 use Rattle.schema_model.specs.declared.schema.Shape.{Shape}
-use Rattle.schema_model.specs.declared.rows.row.Row.{Row}
-use Rattle.schema_model.specs.Row.{FitsShape, IsRowInRange}
-use Rattle.schema_model.specs.Table.{RowMap}
+use Rattle.row_model.specs.declared.row.Row.{Row}
+use Rattle.row_model.specs.Row.{FitsShape, IsRowInRange}
+use Rattle.row_model.specs.Table.{RowMap}
 use Rattle.type_state.specs.declared.fault.RowFault.{RowFault}
 use Rattle.type_state.specs.declared.patch.PatchSection.{PatchSection}
 use Rattle.type_state.specs.Layout.{Layout}

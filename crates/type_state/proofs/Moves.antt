@@ -13,8 +13,8 @@ use Rattle.std.proofs.lemmas.Map.Keys.{sorted_from_strictly_increasing}
 use Rattle.std.proofs.lemmas.Option.{slice_get_within, slice_get-get_or, slice_get-map}
 use Rattle.ordinal_set.specs.Ordinals.{bound_of}
 use Rattle.schema_model.specs.declared.schema.Shape.{Shape}
-use Rattle.schema_model.specs.declared.rows.row.Row.{Row}
-use Rattle.schema_model.specs.Table.{RowMap}
+use Rattle.row_model.specs.declared.row.Row.{Row}
+use Rattle.row_model.specs.Table.{RowMap}
 use Rattle.type_state.specs.declared.differences.Differences.{Differences}
 use Rattle.type_state.specs.declared.moving.Move.{Move}
 use Rattle.type_state.specs.declared.patch.PatchSection.{PatchSection}

@@ -7,8 +7,8 @@ use Rattle.std.specs.declared.cmp.Ordering.TheVariants.{Less, Equal, Greater}
 use Rattle.std.specs.FinMap.{find, entries, keys, get, get-entries, nat_cmp-IsAntisymmetric}
 use Rattle.std.proofs.lemmas.Bool.{cases_lt, false≢true}
 use Rattle.ordinal_set.specs.Ordinals.{bound_of}
-use Rattle.schema_model.specs.declared.rows.row.Row.{Row}
-use Rattle.schema_model.specs.Table.{RowMap, row_at, IsLive, IsBound}
+use Rattle.row_model.specs.declared.row.Row.{Row}
+use Rattle.row_model.specs.Table.{RowMap, row_at, IsLive, IsBound}
 use Rattle.type_state.specs.State.{State}
 use Rattle.type_state.specs.Views.{table_of, next_halves}
 

@@ -11,7 +11,7 @@ use Rattle.schema_model.specs.declared.limit.Limit.TheVariants.{Bytes}
 use Rattle.schema_model.specs.Limit.{number_of_limit}
 use Rattle.schema_model.specs.Parts.{shape_fields}
 use Rattle.schema_model.specs.declared.schema.Shape.{Shape}
-use Rattle.schema_model.specs.declared.rows.row.Row.{Row}
+use Rattle.row_model.specs.declared.row.Row.{Row}
 use Rattle.ordinal_set.specs.Ordinals.{bound_of}
 use Rattle.type_state.specs.WordsHeld.{row_bytes, part_bytes, field_bytes, bytes_held}
 use Rattle.type_state.specs.Layout.{items_of_row, item_count}

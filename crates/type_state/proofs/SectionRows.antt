@@ -8,10 +8,10 @@ use Rattle.std.specs.FinMap.{find, entries, get, get-entries, same_entries_map}
 use Rattle.schema_model.specs.declared.schema.FieldKind.{FieldKind}
 use Rattle.schema_model.specs.declared.schema.Field.{Field}
 use Rattle.schema_model.specs.declared.schema.Shape.{Shape}
-use Rattle.schema_model.specs.declared.rows.row.Value.{Value}
-use Rattle.schema_model.specs.declared.rows.row.Row.{Row}
-use Rattle.schema_model.specs.Row.{Rises, FitsKind, FitsShape, IsValueInRange, IsRowInRange}
-use Rattle.schema_model.specs.Table.{RowMap}
+use Rattle.row_model.specs.declared.row.Value.{Value}
+use Rattle.row_model.specs.declared.row.Row.{Row}
+use Rattle.row_model.specs.Row.{Rises, FitsKind, FitsShape, IsValueInRange, IsRowInRange}
+use Rattle.row_model.specs.Table.{RowMap}
 use Rattle.object_codec.specs.Part.{FieldPart, SpellsValue}
 use Rattle.object_codec.specs.ObjectPlace.{SpellsFields, parts_of, parts_from, part_at, element_at}
 use Rattle.bucket_codec.specs.Run.{keys_of, IsPairInRange}

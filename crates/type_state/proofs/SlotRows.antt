@@ -7,9 +7,9 @@ use Rattle.std.specs.Cmp.{nat_cmp_total}
 use Rattle.std.specs.FinMap.{find, get, empty, get-empty, get-insert, get-remove, get-from_entries, same_map, nat_cmp-IsAntisymmetric}
 use Rattle.std.proofs.lemmas.Bool.{cases_eq, false≢true}
 use Rattle.std.proofs.lemmas.Option.{slice_get-get_or}
-use Rattle.schema_model.specs.declared.rows.row.Row.{Row}
-use Rattle.schema_model.specs.Table.{RowMap}
-use Rattle.schema_model.proofs.RowEntries.{AreFrom, from_lower, skips, finds, finds_none}
+use Rattle.row_model.specs.declared.row.Row.{Row}
+use Rattle.row_model.specs.Table.{RowMap}
+use Rattle.row_model.proofs.RowEntries.{AreFrom, from_lower, skips, finds, finds_none}
 use Rattle.type_state.proofs.Lookups.{same_key, other_key}
 use Rattle.type_state.specs.Slots.{entries_from, rows_in}
 use Rattle.type_state.specs.Differences.{differ_at}

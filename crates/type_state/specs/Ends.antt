@@ -2,8 +2,8 @@
 use Rattle.std.specs.Prelude.{◌≡◌, ℕ, ◌+◌, ◌-◌, ◌^◌, ◌<◌, List, length, slice_get, slice_index}
 use Rattle.std.specs.Option.{option_map_or}
 use Rattle.schema_model.specs.declared.schema.Shape.{Shape}
-use Rattle.schema_model.specs.declared.rows.row.Value.{Value}
-use Rattle.schema_model.specs.declared.rows.row.Row.{Row}
+use Rattle.row_model.specs.declared.row.Value.{Value}
+use Rattle.row_model.specs.declared.row.Row.{Row}
 use Rattle.type_state.specs.Layout.{items_of_row}
 use Rattle.type_state.specs.WordsHeld.{value_bytes, part_bytes}
 use Rattle.type_state.specs.Holds.{FitsRow}

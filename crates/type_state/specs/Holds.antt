@@ -4,12 +4,12 @@ use Rattle.std.specs.FinMap.{keys, values}
 use Rattle.hol_varint.specs.Zigzag.{zigzag}
 use Rattle.schema_model.specs.declared.limit.Limit.TheVariants.{Words, Bytes}
 use Rattle.schema_model.specs.Limit.{number_of_limit}
-use Rattle.schema_model.specs.Table.{RowMap}
+use Rattle.row_model.specs.Table.{RowMap}
 use Rattle.schema_model.specs.declared.schema.FieldKind.{FieldKind}
 use Rattle.schema_model.specs.declared.schema.Field.{Field}
 use Rattle.schema_model.specs.declared.schema.Shape.{Shape}
-use Rattle.schema_model.specs.declared.rows.row.Value.{Value}
-use Rattle.schema_model.specs.declared.rows.row.Row.{Row}
+use Rattle.row_model.specs.declared.row.Value.{Value}
+use Rattle.row_model.specs.declared.row.Row.{Row}
 use Rattle.list_codec.specs.ListPlace.{pointer_width, element_width}
 use Rattle.bucket_codec.specs.BucketPlace.{size_width, key_width, value_width}
 use Rattle.type_state.specs.Layout.{Layout, places_of, item_count, fixed_words}

@@ -2,7 +2,7 @@
 use Rattle.std.specs.Prelude.{ℕ, ◌+◌, ◌*◌, List, ◌∷◌, Option, None, Some, length, sum, sum_by}
 use Rattle.bit_array.specs.Element.{words_of}
 use Rattle.schema_model.specs.declared.schema.Shape.{Shape}
-use Rattle.schema_model.specs.declared.rows.row.Row.{Row}
+use Rattle.row_model.specs.declared.row.Row.{Row}
 use Rattle.bucket_codec.specs.BucketCount.{bucket_count}
 
 pub record Layout : Type 0 where

@@ -5,10 +5,10 @@ use Rattle.std.specs.Map.{keys_of, values_of}
 use Rattle.schema_model.specs.declared.limit.Limit.{Limit}
 use Rattle.schema_model.specs.declared.limit.Limit.TheVariants.{Words, Bytes}
 use Rattle.schema_model.specs.Limit.{number_of_limit}
-use Rattle.schema_model.specs.Table.{RowMap}
+use Rattle.row_model.specs.Table.{RowMap}
 use Rattle.schema_model.specs.declared.schema.Shape.{Shape}
-use Rattle.schema_model.specs.declared.rows.row.Row.{Row}
-use Rattle.schema_model.specs.declared.rows.packed.PlaceFault.{PlaceFault}
+use Rattle.row_model.specs.declared.row.Row.{Row}
+use Rattle.row_model.specs.declared.packed.PlaceFault.{PlaceFault}
 use Rattle.object_codec.specs.ObjectPlace.{SpellsObjectRow}
 use Rattle.list_codec.specs.ListPlace.{SpellsListRow}
 use Rattle.bucket_codec.specs.BucketPlace.{SpellsBucketRow}

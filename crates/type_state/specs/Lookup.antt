@@ -1,6 +1,6 @@
 -- What a set or map has that may stand under an ordinal.
 use Rattle.std.specs.Prelude.{ℕ, List, [], Option, Some}
-use Rattle.schema_model.specs.declared.rows.row.Row.{Row}
+use Rattle.row_model.specs.declared.row.Row.{Row}
 
 -- The elements of a set; there are none where there is no set.
 abbrev pub elements_of : Option Row → List ℕ

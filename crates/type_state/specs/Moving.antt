@@ -4,9 +4,9 @@ use Rattle.std.specs.List.Sorted.{IsStrictlyIncreasing}
 use Rattle.std.specs.FinMap.{get, values}
 use Rattle.std.specs.Map.{keys_of, values_of}
 use Rattle.schema_model.specs.Parts.{shape_fields}
-use Rattle.schema_model.specs.Table.{RowMap}
+use Rattle.row_model.specs.Table.{RowMap}
 use Rattle.schema_model.specs.declared.schema.Shape.{Shape}
-use Rattle.schema_model.specs.declared.rows.row.Row.{Row}
+use Rattle.row_model.specs.declared.row.Row.{Row}
 use Rattle.type_state.specs.declared.fault.RowFault.{RowFault}
 use Rattle.type_state.specs.declared.differences.Differences.{Differences}
 use Rattle.type_state.specs.declared.moving.Move.{Move}

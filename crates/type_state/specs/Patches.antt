@@ -6,9 +6,9 @@ use Rattle.bit_array.specs.Element.{words_of}
 use Rattle.schema_model.specs.declared.limit.Limit.TheVariants.{Ordinals, Items}
 use Rattle.schema_model.specs.Limit.{number_of_limit}
 use Rattle.schema_model.specs.Parts.{shape_fields}
-use Rattle.schema_model.specs.Table.{RowMap}
+use Rattle.row_model.specs.Table.{RowMap}
 use Rattle.schema_model.specs.declared.schema.Shape.{Shape}
-use Rattle.schema_model.specs.declared.rows.row.Row.{Row}
+use Rattle.row_model.specs.declared.row.Row.{Row}
 use Rattle.type_state.specs.declared.fault.RowFault.{RowFault}
 use Rattle.type_state.specs.declared.patch.PatchSection.{PatchSection}
 use Rattle.type_state.specs.declared.section.Section.{Section}

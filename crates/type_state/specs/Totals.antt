@@ -7,8 +7,8 @@ use Rattle.bit_array.specs.Element.{words_of}
 use Rattle.schema_model.specs.declared.limit.Limit.TheVariants.{Words, Bytes}
 use Rattle.schema_model.specs.Limit.{number_of_limit}
 use Rattle.schema_model.specs.declared.schema.Shape.{Shape}
-use Rattle.schema_model.specs.declared.rows.row.Row.{Row}
-use Rattle.schema_model.specs.Table.{RowMap}
+use Rattle.row_model.specs.declared.row.Row.{Row}
+use Rattle.row_model.specs.Table.{RowMap}
 use Rattle.type_state.specs.declared.differences.Differences.{Differences}
 use Rattle.type_state.specs.declared.totals.Totals.{Totals}
 use Rattle.type_state.specs.Differences.{Difference, differing}

@@ -2,8 +2,8 @@
 use Rattle.std.specs.Prelude.{ℕ, List, length, slice_get, sum_by}
 use Rattle.std.specs.Option.{option_map_or}
 use Rattle.hol_varint.specs.TextUnits.{units_bytes}
-use Rattle.schema_model.specs.declared.rows.row.Value.{Value}
-use Rattle.schema_model.specs.declared.rows.row.Row.{Row}
+use Rattle.row_model.specs.declared.row.Value.{Value}
+use Rattle.row_model.specs.declared.row.Row.{Row}
 
 -- The variable bytes of a value: those of a STRING or BYTES.
 abbrev pub value_bytes : Value → ℕ

@@ -1,6 +1,6 @@
 //! The rows that a patch adds.
 ghost use Rattle.std.specs.Prelude.{◌<◌, List, All, IfErr, MatchResult, length};
-ghost use Rattle.schema_model.specs.declared.rows.row.Row.{Row as StoredRow};
+ghost use Rattle.row_model.specs.declared.row.Row.{Row as StoredRow};
 ghost use Rattle.std.specs.List.Sorted.{IsStrictlyIncreasing};
 ghost use Rattle.type_state.specs.Layout.{places_of};
 ghost use Rattle.type_state.specs.Loads.{IsLoadFault, TellsPlace};
@@ -10,7 +10,8 @@ ghost use Rattle.type_state.specs.Moving.{AreAdded, UnlessMemory};
 use crate::differences::Difference;
 use crate::place::read_place;
 use crate::{PatchSection, RowFault};
-use schema_model::{PlaceFault, Row, Schema};
+use row_model::{PlaceFault, Row};
+use schema_model::Schema;
 use std::alloc::Global;
 
 /// The row at a place of a patch.

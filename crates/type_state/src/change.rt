@@ -15,7 +15,8 @@ use crate::outline::Outline;
 use crate::slots::Slots;
 use crate::totals::Totals;
 use crate::words::fixed_words;
-use schema_model::{MAX_WORDS, Row, Schema, Shape};
+use row_model::Row;
+use schema_model::{MAX_WORDS, Schema, Shape};
 use std::alloc::{AllocError, Global};
 
 /// Whether there are as many widths as before, and none is narrower.

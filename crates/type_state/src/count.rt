@@ -5,7 +5,7 @@ ghost use Rattle.type_state.specs.WordsHeld.{value_bytes, row_bytes};
 
 use bucket_codec::buckets_for;
 use hol_varint::units_len;
-use schema_model::{Row, Value};
+use row_model::{Row, Value};
 
 /// How many variable bytes a value has; the greatest number where they are more.
 pub(crate) fn value_len(value: &Value) -> u64

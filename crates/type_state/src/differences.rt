@@ -7,7 +7,7 @@ ghost use Rattle.std.specs.Ordering.{nat_cmp};
 ghost use Rattle.type_state.specs.Differences.{AreApart, AreBelow, AreOthers, AreTold, differing, leading_back, other_rows, rows_with};
 
 use crate::slots::Slots;
-use schema_model::Row;
+use row_model::Row;
 use std::mem;
 
 /// What stands under an ordinal: a row or none.

@@ -9,7 +9,8 @@ ghost use Rattle.type_state.specs.Totals.{HasParts};
 use crate::count::buckets;
 use crate::fits::{add_values, take_values};
 use crate::items::{add_list, add_map, add_set};
-use schema_model::{Row, Shape};
+use row_model::Row;
+use schema_model::Shape;
 use std::alloc::{AllocError, Global};
 
 /// Where some rows of a type end.

@@ -6,7 +6,8 @@ ghost use Rattle.type_state.specs.Ends.{end_after, end_before};
 use crate::count::value_len;
 use bit_array::all_ones;
 use hol_varint::{zigzag32, zigzag64};
-use schema_model::{Field, FieldKind, Value};
+use row_model::Value;
+use schema_model::{Field, FieldKind};
 
 /// The top bit of a width, 1 for none.
 fn null_bit(width: u32) -> u64

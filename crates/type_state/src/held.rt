@@ -20,7 +20,8 @@ use crate::outline::Outline;
 use crate::slots::Slots;
 use crate::totals::Totals;
 use crate::words::fixed_words;
-use schema_model::{Limit, MAX_BYTES, MAX_WORDS, Reason, Row, Schema};
+use row_model::Row;
+use schema_model::{Limit, MAX_BYTES, MAX_WORDS, Reason, Schema};
 use std::alloc::Global;
 
 /// Lays out rows one behind the other, tests that each part of them fits its width, and counts their bytes; the ends are at 0.

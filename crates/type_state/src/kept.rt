@@ -5,7 +5,7 @@ ghost use Rattle.ordinal_set.specs.Ordinals.{bound_of};
 
 use crate::outline::Outline;
 use crate::slots::Slots;
-use schema_model::{Row, Widths};
+use row_model::{Row, Widths};
 use std::alloc::{AllocError, Global};
 use std::marker::Model;
 

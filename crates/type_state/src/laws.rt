@@ -3,9 +3,9 @@
 ghost use Rattle.std.specs.Prelude.{◌≡◌, ℕ, Some};
 ghost use Rattle.std.specs.FinMap.{get};
 ghost use Rattle.schema_model.specs.declared.schema.Shape.{Shape};
-ghost use Rattle.schema_model.specs.declared.rows.row.Row.{Row};
-ghost use Rattle.schema_model.specs.Row.{FitsShape, IsRowInRange};
-ghost use Rattle.schema_model.specs.Table.{RowMap};
+ghost use Rattle.row_model.specs.declared.row.Row.{Row};
+ghost use Rattle.row_model.specs.Row.{FitsShape, IsRowInRange};
+ghost use Rattle.row_model.specs.Table.{RowMap};
 ghost use Rattle.type_state.specs.declared.section.Section.{Section};
 ghost use Rattle.type_state.specs.declared.patch.PatchSection.{PatchSection};
 ghost use Rattle.type_state.specs.WellFormed.{IsWellFormed};

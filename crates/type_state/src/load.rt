@@ -17,7 +17,8 @@ use crate::totals::Totals;
 use crate::words::{fixed_words, places};
 use crate::{RowFault, Section};
 use hol_varint::Duplicate;
-use schema_model::{Limit, MAX_BYTES, MAX_WORDS, PlaceFault, Reason, Row, Schema};
+use row_model::{PlaceFault, Row};
+use schema_model::{Limit, MAX_BYTES, MAX_WORDS, Reason, Schema};
 use std::alloc::Global;
 
 /// The most elements that the rows of a type may have to be kept, and the most buckets that are walked to read them: as many as the limit on

@@ -4,7 +4,7 @@ ghost use Rattle.std.specs.List.{Contains};
 ghost use Rattle.bucket_codec.specs.Run.{FindsIn};
 ghost use Rattle.type_state.specs.Lookup.{elements_of, pairs_of};
 
-use schema_model::Row;
+use row_model::Row;
 
 /// Whether a set has an element.
 pub(crate) fn has(row: &Row, element: u32) -> bool

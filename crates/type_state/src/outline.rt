@@ -1,7 +1,7 @@
 //! What is known of a half beside its rows.
 ghost use Rattle.std.specs.Prelude.{◌≡◌};
 
-use schema_model::Widths;
+use row_model::Widths;
 
 /// The layout of a half, and where its rows end.
 #[derive(Debug, Drop)]

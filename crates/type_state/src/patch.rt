@@ -1,6 +1,6 @@
 //! One type's part of a delta, before its rows are read.
 use hol_varint::GapList;
-use schema_model::{Areas, Parts, Widths, Words, area_byte, area_size};
+use row_model::{Areas, Parts, Widths, Words, area_byte, area_size};
 
 /// One type's part of a delta, as it stands in the blob. The places are those of the added ordinals, in their order.
 #[derive(Debug, Drop)]

@@ -7,7 +7,8 @@ ghost use Rattle.type_state.specs.Loads.{TellsPlace, parts_up_to};
 
 use crate::Section;
 use bucket_codec::run_length;
-use schema_model::{Parts, PlaceFault, Row, Schema, Shape, Widths};
+use row_model::{Parts, PlaceFault, Row, Widths};
+use schema_model::{Schema, Shape};
 use std::alloc::Global;
 
 /// The row that a place of the parts of a type spells.

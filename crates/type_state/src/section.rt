@@ -1,6 +1,6 @@
 //! One type's part of a snapshot, before its rows are read.
 use ordinal_set::OrdinalSet;
-use schema_model::{Areas, Parts, Widths, Words, area_byte, area_size};
+use row_model::{Areas, Parts, Widths, Words, area_byte, area_size};
 
 /// One type's part of a snapshot, as it stands in the blob.
 #[derive(Debug, Drop)]

@@ -3,7 +3,7 @@ ghost use Rattle.std.specs.Prelude.{◌≡◌, ◌<◌, ◌≤◌, ℕ, None, So
 ghost use Rattle.std.specs.FinMap.{empty, get, insert};
 ghost use Rattle.type_state.specs.Differences.{differ_at};
 
-use schema_model::Row;
+use row_model::Row;
 use std::alloc::{AllocError, Global};
 use std::marker::Model;
 use std::mem;

@@ -5,7 +5,7 @@ ghost use Rattle.std.specs.List.Sorted.{IsStrictlySortedBy};
 ghost use Rattle.std.specs.Map.{keys_of};
 ghost use Rattle.std.specs.Ordering.{nat_cmp};
 ghost use Rattle.schema_model.specs.declared.limit.Limit.TheVariants.{Bytes};
-ghost use Rattle.schema_model.specs.declared.rows.row.Row.{Row as StoredRow};
+ghost use Rattle.row_model.specs.declared.row.Row.{Row as StoredRow};
 ghost use Rattle.schema_model.specs.Limit.{number_of_limit};
 ghost use Rattle.schema_model.specs.Parts.{shape_fields};
 ghost use Rattle.type_state.specs.Ends.{FitsBehind, IsOfKind};
@@ -17,7 +17,8 @@ use crate::count::row_len;
 use crate::differences::Difference;
 use crate::ends::Ends;
 use crate::slots::Slots;
-use schema_model::{MAX_BYTES, Row, Shape};
+use row_model::Row;
+use schema_model::{MAX_BYTES, Shape};
 use std::alloc::{AllocError, Global};
 
 /// What some rows of a type add up to: where they end when they are laid out one behind the other, and how many variable bytes they have.

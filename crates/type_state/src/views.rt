@@ -3,7 +3,8 @@ ghost use Rattle.std.specs.Prelude.{◌≡◌};
 ghost use Rattle.type_state.specs.Views.{AreNext, table_of, next_halves};
 
 use crate::TypeStates;
-use schema_model::{LentRow, Model, Row, Rows};
+use row_model::{LentRow, Row, Rows};
+use schema_model::Model;
 use std::alloc::{AllocError, Global};
 
 /// The rows that stand in the next halves of the types of a model.

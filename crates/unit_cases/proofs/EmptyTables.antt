@@ -4,8 +4,8 @@ use Rattle.std.specs.Prelude.{IsSome, map}
 use Rattle.std.specs.Ordering.{nat_cmp}
 use Rattle.std.specs.FinMap.{empty, get-empty}
 use Rattle.schema_model.specs.declared.schema.Schema.{Schema}
-use Rattle.schema_model.specs.declared.rows.row.Row.{Row}
-use Rattle.schema_model.specs.Table.{Table, IsClosed, IsLive, row_at}
+use Rattle.row_model.specs.declared.row.Row.{Row}
+use Rattle.row_model.specs.Table.{Table, IsClosed, IsLive, row_at}
 
 -- a table without rows, for each type
 abbrev pub empty_table : List Schema → Table

@@ -3,8 +3,8 @@ use Rattle.std.proofs.Common.{ℤ, List, [], ◌∷◌, Option, Some, None, refl
 use Rattle.std.specs.Prelude.{slice_get, option_map, option_and_then, IsSomeAnd}
 use Rattle.schema_model.specs.declared.schema.Field.{Field}
 use Rattle.schema_model.specs.declared.schema.Schema.{Schema}
-use Rattle.schema_model.specs.declared.rows.row.Value.{Value}
-use Rattle.schema_model.specs.PlainTree.{leaf, no_trees, tree_then}
+use Rattle.row_model.specs.declared.row.Value.{Value}
+use Rattle.row_model.specs.PlainTree.{leaf, no_trees, tree_then}
 use Rattle.typed_trees.specs.FitsTree.{FitFields, FitsLeaf, FitsTree}
 use Rattle.unit_cases.specs.Numbers.{AreNumbers, IsOneInt, TakesNumbers, number_tree}
 use Rattle.typed_trees.specs.Types.{object_fields}

@@ -3,8 +3,8 @@ use Rattle.std.specs.Prelude.{List, [], ◌∷◌, ◌≡◌, ℤ, slice_get, Is
 use Rattle.schema_model.specs.declared.schema.Field.{Field}
 use Rattle.schema_model.specs.declared.schema.FieldKind.{FieldKind}
 use Rattle.schema_model.specs.declared.schema.Schema.{Schema}
-use Rattle.schema_model.specs.declared.rows.row.Value.{Value}
-use Rattle.schema_model.specs.PlainTree.{PlainTree, leaf, object, no_trees, tree_then}
+use Rattle.row_model.specs.declared.row.Value.{Value}
+use Rattle.row_model.specs.PlainTree.{PlainTree, leaf, object, no_trees, tree_then}
 use Rattle.typed_trees.specs.Types.{object_fields}
 
 -- a record of one number

@@ -1,6 +1,7 @@
 //! Copies of what no worked case of the program copies: tags, words and bytes of packed rows, and trees.
 use hol_varint::{Duplicate, Octets};
-use schema_model::{Areas, Name, NamePairs, Tree, TreePairs, Trees, Words};
+use row_model::{Areas, Tree, TreePairs, Trees, Words};
+use schema_model::{Name, NamePairs};
 use std::alloc::{AllocError, Global};
 
 /// Whether the copy of a tag k = k has its value.

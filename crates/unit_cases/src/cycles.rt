@@ -1,12 +1,12 @@
 //! Records are added over three cycles, with ample memory.
 ghost use Rattle.std.specs.Prelude.{◌≡◌, IfOk, OnOk, false};
-ghost use Rattle.schema_model.specs.Tree.{plain};
+ghost use Rattle.row_model.specs.Tree.{plain};
 ghost use Rattle.unit_cases.specs.Numbers.{AreNumbers, TakesNumbers, number_tree};
 
 use ordinal_map::PutRowFault;
+use row_model::{Rows, Tree, Trees};
 use schema_model::{
-    Field, FieldKind, Fields, Model, ModelFault, Name, Rows, Schema, Schemas, Shape, Tree, Trees,
-    model_of,
+    Field, FieldKind, Fields, Model, ModelFault, Name, Schema, Schemas, Shape, model_of,
 };
 use std::alloc::{AllocError, Global};
 use std::test::Fail;

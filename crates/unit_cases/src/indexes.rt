@@ -7,9 +7,8 @@ ghost use Rattle.key_index.specs.Indexed.{IsIndexBy};
 use hol_io::Steps;
 use hol_varint::Ordinals;
 use key_index::KeyIndex;
-use schema_model::{
-    Fields, Model, Name, Paths, Row, Rows, Schema, Schemas, Shape, Values, model_of,
-};
+use row_model::{Row, Rows, Values};
+use schema_model::{Fields, Model, Name, Paths, Schema, Schemas, Shape, model_of};
 use std::alloc::{AllocError, Global};
 use std::marker::Brand;
 use std::sync::ledger::{Blank, Ledger};

@@ -1,6 +1,6 @@
 //! The keys of two values and of a row of them, with ample memory.
 use row_keys::{row_key, values_key};
-use schema_model::{Row, Value, Values};
+use row_model::{Row, Value, Values};
 use std::alloc::{AllocError, Global};
 
 /// True and null.

@@ -1,7 +1,7 @@
 //! Rows are put with ample memory, over two states.
 use hol_varint::Ordinals;
 use ordinal_map::{OrdinalMap, PutRowFault};
-use schema_model::Row;
+use row_model::Row;
 use std::alloc::{AllocError, Global};
 use std::test::Fail;
 

@@ -6,7 +6,8 @@ ghost use Rattle.bucket_codec.specs.BucketPlace.{IsWidthCount};
 
 use bucket_codec::hash_int;
 use ordinal_set::OrdinalSet;
-use schema_model::{Areas, Name, Reason, Schema, Shape, Widths, Words};
+use row_model::{Areas, Widths, Words};
+use schema_model::{Name, Reason, Schema, Shape};
 use std::alloc::{AllocError, Global};
 use type_state::{RowFault, Section, TypeState};
 

@@ -7,7 +7,8 @@ ghost use Rattle.type_state.specs.State.{IsLaidOut};
 
 use hol_varint::Octets;
 use ordinal_set::OrdinalSet;
-use schema_model::{Areas, Field, FieldKind, Fields, Name, Schema, Shape, Widths, Words};
+use row_model::{Areas, Widths, Words};
+use schema_model::{Field, FieldKind, Fields, Name, Schema, Shape};
 use std::alloc::{AllocError, Global};
 use type_state::{RowFault, Section, TypeState};
 

@@ -4,8 +4,8 @@ use Rattle.std.specs.Prelude.{All, Contains}
 use Rattle.std.specs.FinMap.{empty}
 use Rattle.std.proofs.lemmas.List.Elements.{All-push, Contains-append_left, Contains-push, Contains-push_cases}
 use Rattle.std.proofs.lemmas.List.Quantifiers.{all_pairs_push}
-use Rattle.schema_model.specs.Row.{Rises}
-use Rattle.schema_model.specs.Table.{RowMap}
+use Rattle.row_model.specs.Row.{Rises}
+use Rattle.row_model.specs.Table.{RowMap}
 use Rattle.ordinal_map.specs.States.{States}
 use Rattle.write_engine.specs.Cycle.{rows_in}
 use Rattle.write_engine.specs.Production.{AreChanged, current_of, previous_of}

@@ -8,17 +8,17 @@ use Rattle.std.proofs.lemmas.Bool.{cases_eq}
 use Rattle.std.proofs.lemmas.List.{length-replicate}
 use Rattle.std.proofs.lemmas.List.Elements.{All-nil, All-cons, All-weaker, All-map, All-append}
 use Rattle.std.proofs.lemmas.Option.{slice_get_within}
-use Rattle.schema_model.specs.declared.rows.row.Row.{Row}
-use Rattle.schema_model.specs.declared.rows.row.Value.{Value}
+use Rattle.row_model.specs.declared.row.Row.{Row}
+use Rattle.row_model.specs.declared.row.Value.{Value}
 use Rattle.schema_model.specs.declared.schema.name.Name.{Name}
 use Rattle.schema_model.specs.declared.schema.Field.{Field}
 use Rattle.schema_model.specs.declared.schema.FieldKind.{FieldKind}
 use Rattle.schema_model.specs.declared.schema.Schema.{Schema}
 use Rattle.schema_model.specs.declared.schema.Shape.{Shape}
 use Rattle.schema_model.specs.Parts.{index_of_type}
-use Rattle.schema_model.specs.PlainTree.{PlainTree, PlainTrees, PlainPairs, leaf, object, list, set, map, no_trees, tree_then, no_pairs, pair_then}
-use Rattle.schema_model.specs.Row.{FitsKind, FitsShape, IsValueInRange, IsRowInRange, references_of_row, references_of_value, stored_value, is_least}
-use Rattle.schema_model.specs.Table.{Table, RowMap, row_at, IsLive, IsLiveByName}
+use Rattle.row_model.specs.PlainTree.{PlainTree, PlainTrees, PlainPairs, leaf, object, list, set, map, no_trees, tree_then, no_pairs, pair_then}
+use Rattle.row_model.specs.Row.{FitsKind, FitsShape, IsValueInRange, IsRowInRange, references_of_row, references_of_value, stored_value, is_least}
+use Rattle.row_model.specs.Table.{Table, RowMap, row_at, IsLive, IsLiveByName}
 use Rattle.ordinal_map.proofs.SlotRows.{get_inserted, get_beside}
 use Rattle.write_engine.specs.Cycle.{Adds, AddsFields, AddsAll, AddsPairs, AddsRecords, Next, PutsRow, no_rows, rows_in, with_row}
 use Rattle.typed_trees.specs.FitsTree.{FitsLeaf, IsLeafOr}

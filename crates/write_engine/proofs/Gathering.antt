@@ -8,7 +8,7 @@ use Rattle.std.specs.Ordering.{nat_cmp, is_eq}
 use Rattle.std.proofs.lemmas.Map.Keys.{below_from_sorted}
 use Rattle.std.proofs.lemmas.Map.Made.{is_member-Decides}
 use Rattle.std.specs.Cmp.{unsigned_Decides}
-use Rattle.schema_model.specs.Row.{Rises}
+use Rattle.row_model.specs.Row.{Rises}
 use Rattle.write_engine.specs.Cycle.{IsSetOf, IsMapOf}
 use Rattle.std.proofs.lemmas.Bool.{cases_eq, cond-true, cond-false}
 use Rattle.write_engine.proofs.Members.{same_test, apart_test}

@@ -4,12 +4,12 @@ use Rattle.std.specs.Prelude.{slice_set, IsSome, is_some}
 use Rattle.std.specs.FinMap.{get, insert, empty, get-empty}
 use Rattle.std.specs.Ordering.{nat_cmp}
 use Rattle.std.proofs.lemmas.Bool.{cases_eq}
-use Rattle.schema_model.specs.declared.rows.row.Row.{Row}
-use Rattle.schema_model.specs.declared.rows.row.Value.{Value}
+use Rattle.row_model.specs.declared.row.Row.{Row}
+use Rattle.row_model.specs.declared.row.Value.{Value}
 use Rattle.schema_model.specs.declared.schema.Field.{Field}
 use Rattle.schema_model.specs.declared.schema.Schema.{Schema}
-use Rattle.schema_model.specs.PlainTree.{PlainTree, PlainTrees, PlainPairs, leaf, object, list, set, map, no_trees, tree_then, no_pairs, pair_then}
-use Rattle.schema_model.specs.Table.{Table, RowMap}
+use Rattle.row_model.specs.PlainTree.{PlainTree, PlainTrees, PlainPairs, leaf, object, list, set, map, no_trees, tree_then, no_pairs, pair_then}
+use Rattle.row_model.specs.Table.{Table, RowMap}
 use Rattle.ordinal_map.specs.Assign.{Agree, Holds, IsTaken}
 use Rattle.ordinal_map.proofs.Puts.{agree_put}
 use Rattle.write_engine.specs.Agreement.{HoldsOnce, TablesAgree}

@@ -3,15 +3,15 @@ use Rattle.std.proofs.Common.{◌≡◌, ℕ, ◌+◌, List, [], ◌∷◌, ◌+
 use Rattle.std.specs.Prelude.{slice_get, option_map, option_and_then, Result, Ok, Err, IsErrAnd}
 use Rattle.ordinal_map.specs.declared.fault.PutRowFault.{PutRowFault}
 use Rattle.ordinal_map.specs.declared.fault.PutRowFault.TheVariants.{TooMany}
-use Rattle.schema_model.specs.declared.rows.row.Row.{Row}
-use Rattle.schema_model.specs.declared.rows.row.Value.{Value}
+use Rattle.row_model.specs.declared.row.Row.{Row}
+use Rattle.row_model.specs.declared.row.Value.{Value}
 use Rattle.schema_model.specs.declared.schema.Field.{Field}
 use Rattle.schema_model.specs.declared.schema.Schema.{Schema}
 use Rattle.schema_model.specs.declared.schema.Shape.{Shape}
 use Rattle.schema_model.specs.declared.schema.name.Name.{Name}
 use Rattle.schema_model.specs.Parts.{index_of_type}
-use Rattle.schema_model.specs.PlainTree.{PlainTree, PlainTrees, PlainPairs, object, list, set, map as of_map, trees_of_list, pairs_of_list, tree_then, pair_then}
-use Rattle.schema_model.specs.Table.{Table}
+use Rattle.row_model.specs.PlainTree.{PlainTree, PlainTrees, PlainPairs, object, list, set, map as of_map, trees_of_list, pairs_of_list, tree_then, pair_then}
+use Rattle.row_model.specs.Table.{Table}
 use Rattle.typed_trees.specs.Types.{object_fields, list_element, set_element, map_types, referred, shape_at}
 use Rattle.write_engine.specs.Agreement.{TablesAgree}
 use Rattle.write_engine.specs.Cycle.{Adds, AddsFields, AddsAll, AddsPairs, IsMapOf, IsSetOf, PutsRow}

@@ -1,11 +1,11 @@
 -- A tree is added in one way, and records make one next state.
 use Rattle.std.proofs.Common.{◌≡◌, ℕ, List, [], ◌∷◌, length, Option, Some, sym, ap, subst, ◌∙◌}
-use Rattle.schema_model.specs.declared.rows.row.Row.{Row}
-use Rattle.schema_model.specs.declared.rows.row.Value.{Value}
+use Rattle.row_model.specs.declared.row.Row.{Row}
+use Rattle.row_model.specs.declared.row.Value.{Value}
 use Rattle.schema_model.specs.declared.schema.Field.{Field}
 use Rattle.schema_model.specs.declared.schema.Schema.{Schema}
-use Rattle.schema_model.specs.PlainTree.{PlainTree, PlainTrees, PlainPairs, leaf, object, list, set, map, no_trees, tree_then, no_pairs, pair_then}
-use Rattle.schema_model.specs.Table.{Table}
+use Rattle.row_model.specs.PlainTree.{PlainTree, PlainTrees, PlainPairs, leaf, object, list, set, map, no_trees, tree_then, no_pairs, pair_then}
+use Rattle.row_model.specs.Table.{Table}
 use Rattle.ordinal_map.specs.Assign.{IsPut}
 use Rattle.ordinal_map.proofs.Puts.{put_once}
 use Rattle.write_engine.specs.Agreement.{HoldsOnce, TablesAgree}

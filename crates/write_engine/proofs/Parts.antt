@@ -3,21 +3,21 @@ use Rattle.std.proofs.Common.{◌≡◌, ℕ, zero, suc, ◌+◌, ◌<◌, ◌�
 use Rattle.std.specs.Prelude.{slice_get, slice_index_or, option_map, option_and_then, IsSome, IsSomeAnd, Result, Ok, Err, IfOk}
 use Rattle.std.proofs.lemmas.List.{append-nil}
 use Rattle.std.proofs.lemmas.Option.{slice_get_read, slice_get-map, slice_get_within}
-use Rattle.schema_model.specs.declared.rows.row.Value.{Value}
+use Rattle.row_model.specs.declared.row.Value.{Value}
 use Rattle.schema_model.specs.declared.schema.Field.{Field}
 use Rattle.schema_model.specs.declared.schema.FieldKind.{FieldKind}
 use Rattle.schema_model.specs.declared.schema.Schema.{Schema}
-use Rattle.schema_model.specs.PlainTree.{PlainTree, PlainPairs, leaf, object, list, set, map as of_map, trees_of_list, pairs_of_list}
-use Rattle.schema_model.specs.Table.{Table}
+use Rattle.row_model.specs.PlainTree.{PlainTree, PlainPairs, leaf, object, list, set, map as of_map, trees_of_list, pairs_of_list}
+use Rattle.row_model.specs.Table.{Table}
 use Rattle.write_engine.specs.Cycle.{Adds, AddsFields, AddsAll, AddsPairs, IsMapOf, PutsRow}
 use Rattle.ordinal_map.specs.declared.fault.PutRowFault.{PutRowFault}
-use Rattle.schema_model.specs.Row.{IsValueInRange, stored_value}
+use Rattle.row_model.specs.Row.{IsValueInRange, stored_value}
 use Rattle.write_engine.specs.Leaf.{TellsLeaf}
 use Rattle.typed_trees.specs.FitsTree.{FitsTree, FitFields, FitAll, FitPairs, IsConsAnd, IsLeafOr, FitsLeaf}
 use Rattle.typed_trees.specs.Types.{object_fields, list_element, set_element, map_types, referred, shape_at}
 use Rattle.schema_model.specs.declared.schema.Shape.{Shape}
 use Rattle.schema_model.specs.declared.schema.name.Name.{Name}
-use Rattle.schema_model.specs.declared.rows.row.Row.{Row}
+use Rattle.row_model.specs.declared.row.Row.{Row}
 use Rattle.schema_model.specs.Parts.{index_of_type}
 
 pub drop_at : {A : Type 0} (xs : List A) (k : ℕ) (x : A) → slice_get xs k ≡ Some x → drop k xs ≡ x ∷ drop (k + 1) xs

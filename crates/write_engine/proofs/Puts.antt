@@ -2,8 +2,8 @@
 use Rattle.std.proofs.Common.{◌≡◌, ℕ, zero, suc, ◌<◌, ◌^◌, List, [], ◌∷◌, length, get_or, map, refl, sym, ap, subst, ◌∙◌, arith, slice_set}
 use Rattle.std.specs.Prelude.{Result, Ok, Err, IfOk, slice_index_or}
 use Rattle.std.specs.FinMap.{insert}
-use Rattle.schema_model.specs.declared.rows.row.Row.{Row}
-use Rattle.schema_model.specs.Table.{Table, RowMap}
+use Rattle.row_model.specs.declared.row.Row.{Row}
+use Rattle.row_model.specs.Table.{Table, RowMap}
 use Rattle.ordinal_map.specs.Assign.{IsPut, TellsPut}
 use Rattle.ordinal_map.proofs.Puts.{put_once}
 use Rattle.ordinal_map.specs.States.{States}

@@ -3,7 +3,7 @@ use Rattle.std.proofs.Common.{◌≡◌, ℕ, zero, suc, ◌<◌, ◌≤◌, Lis
 use Rattle.std.specs.Prelude.{nat_eq, Contains}
 use Rattle.std.specs.Map.{lookup}
 use Rattle.std.proofs.lemmas.Bool.{cases_eq, cases_order, cond-true, cond-false}
-use Rattle.schema_model.specs.Row.{Rises}
+use Rattle.row_model.specs.Row.{Rises}
 use Rattle.write_engine.specs.Cycle.{IsSetOf, IsMapOf}
 use Rattle.write_engine.proofs.Members.{same_test, apart_test, rises_tail}
 

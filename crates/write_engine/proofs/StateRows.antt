@@ -4,8 +4,8 @@ use Rattle.std.specs.Prelude.{slice_get, option_map, option_and_then, IsSome, Re
 use Rattle.std.specs.FinMap.{get}
 use Rattle.std.specs.declared.alloc.AllocError.{AllocError}
 use Rattle.std.proofs.lemmas.Option.{slice_get-map}
-use Rattle.schema_model.specs.declared.rows.row.Row.{Row}
-use Rattle.schema_model.specs.Table.{RowMap, IsLive, row_at}
+use Rattle.row_model.specs.declared.row.Row.{Row}
+use Rattle.row_model.specs.Table.{RowMap, IsLive, row_at}
 use Rattle.ordinal_map.specs.Assign.{Agree, Holds}
 use Rattle.ordinal_map.specs.States.{States}
 use Rattle.std.proofs.lemmas.Bool.{false≢true}

@@ -4,9 +4,9 @@ use Rattle.std.specs.Prelude.{slice_get, option_and_then, IsSome}
 use Rattle.std.specs.Option.{unwrap_or}
 use Rattle.std.specs.FinMap.{get, empty}
 use Rattle.std.proofs.lemmas.Bool.{false≢true}
-use Rattle.schema_model.specs.declared.rows.row.Row.{Row}
+use Rattle.row_model.specs.declared.row.Row.{Row}
 use Rattle.schema_model.specs.declared.schema.Schema.{Schema}
-use Rattle.schema_model.specs.Table.{RowMap, Table}
+use Rattle.row_model.specs.Table.{RowMap, Table}
 use Rattle.row_packing.specs.Chosen.{IsLiveInEither, KeepsCounts, shape_at}
 use Rattle.row_packing.specs.Places.{Agree}
 use Rattle.row_packing.specs.States.{AreWritable}

@@ -1,8 +1,8 @@
 -- What the previous state and the rows of a cycle so far have to do with one another.
 use Rattle.std.specs.Prelude.{ℕ, ◌≡◌, ◌<◌, ◌^◌, Some, IsSome}
 use Rattle.std.specs.FinMap.{get}
-use Rattle.schema_model.specs.declared.rows.row.Row.{Row}
-use Rattle.schema_model.specs.Table.{Table}
+use Rattle.row_model.specs.declared.row.Row.{Row}
+use Rattle.row_model.specs.Table.{Table}
 use Rattle.ordinal_map.specs.Assign.{Agree}
 use Rattle.write_engine.specs.Cycle.{rows_in}
 

@@ -6,11 +6,11 @@ use Rattle.std.specs.FinMap.{insert, empty}
 use Rattle.std.specs.Map.{lookup}
 use Rattle.schema_model.specs.declared.schema.Field.{Field}
 use Rattle.schema_model.specs.declared.schema.Schema.{Schema}
-use Rattle.schema_model.specs.declared.rows.row.Value.{Value}
-use Rattle.schema_model.specs.declared.rows.row.Row.{Row}
-use Rattle.schema_model.specs.Row.{IsValueInRange, Rises, stored_value}
-use Rattle.schema_model.specs.Table.{Table, RowMap}
-use Rattle.schema_model.specs.PlainTree.{PlainTree, PlainTrees, PlainPairs, leaf, object, list, set, map, no_trees, tree_then, no_pairs, pair_then}
+use Rattle.row_model.specs.declared.row.Value.{Value}
+use Rattle.row_model.specs.declared.row.Row.{Row}
+use Rattle.row_model.specs.Row.{IsValueInRange, Rises, stored_value}
+use Rattle.row_model.specs.Table.{Table, RowMap}
+use Rattle.row_model.specs.PlainTree.{PlainTree, PlainTrees, PlainPairs, leaf, object, list, set, map, no_trees, tree_then, no_pairs, pair_then}
 use Rattle.ordinal_map.specs.Assign.{IsPut}
 use Rattle.typed_trees.specs.FitsTree.{FitsLeaf, IsLeafOr}
 use Rattle.typed_trees.specs.Types.{object_fields, list_element, set_element, map_types, referred, shape_at}

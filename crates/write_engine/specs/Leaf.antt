@@ -1,8 +1,8 @@
 -- What a reading of a tree's own value tells.
 use Rattle.std.specs.Prelude.{◌≡◌, Option, Some, None}
-use Rattle.schema_model.specs.declared.rows.row.Value.{Value}
-use Rattle.schema_model.specs.Row.{IsValueInRange, stored_value}
-use Rattle.schema_model.specs.PlainTree.{PlainTree, IsLeafAnd}
+use Rattle.row_model.specs.declared.row.Value.{Value}
+use Rattle.row_model.specs.Row.{IsValueInRange, stored_value}
+use Rattle.row_model.specs.PlainTree.{PlainTree, IsLeafAnd}
 use Rattle.typed_trees.specs.FitsTree.{IsLeafOr}
 
 -- the tree is a value, of which a blob holds this one; or it is a row

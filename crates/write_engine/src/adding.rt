@@ -1,10 +1,10 @@
 //! Trees are added to the rows of their types, children first.
 ghost use Rattle.std.specs.Prelude.{◌≡◌, ◌<◌, ℕ, List, length, map, Err, IfOk, Some, IsSome};
 ghost use Rattle.schema_model.specs.Parts.{index_of_type};
-ghost use Rattle.schema_model.specs.PlainTree.{trees_of_list, pairs_of_list};
-ghost use Rattle.schema_model.specs.Tree.{plain, plain_pair};
-ghost use Rattle.schema_model.specs.declared.rows.row.Value.{Value as RowValue};
-ghost use Rattle.schema_model.specs.Table.{Table};
+ghost use Rattle.row_model.specs.PlainTree.{trees_of_list, pairs_of_list};
+ghost use Rattle.row_model.specs.Tree.{plain, plain_pair};
+ghost use Rattle.row_model.specs.declared.row.Value.{Value as RowValue};
+ghost use Rattle.row_model.specs.Table.{Table};
 ghost use Rattle.write_engine.specs.Agreement.{TablesAgree};
 ghost use Rattle.write_engine.specs.Cycle.{PutsRow, Adds, AddsFields, AddsAll, AddsPairs};
 ghost use Rattle.typed_trees.specs.FitsTree.{FitsTree, FitFields, FitAll, FitPairs};
@@ -15,7 +15,8 @@ use crate::gather::{map_of, set_of};
 use crate::leaf::leaf_value;
 use hol_varint::Ordinals;
 use ordinal_map::{OrdinalMap, PutRowFault};
-use schema_model::{Field, FieldKind, Model, Name, Pairs, Row, Shape, Tree, Value, Values};
+use row_model::{Pairs, Row, Tree, Value, Values};
+use schema_model::{Field, FieldKind, Model, Name, Shape};
 use std::alloc::Global;
 
 /// Adds a tree to a type: the rows that it refers to, and then its own, whose ordinal it gives.

@@ -3,7 +3,7 @@ ghost use Rattle.std.specs.Prelude.{◌≡◌, IfOk};
 ghost use Rattle.write_engine.specs.Cycle.{IsSetOf, IsMapOf};
 
 use hol_varint::Ordinals;
-use schema_model::Pairs;
+use row_model::Pairs;
 use std::alloc::{AllocError, Global};
 use std::collections::{BTreeMap, BTreeSet};
 

@@ -1,10 +1,10 @@
 //! Laws of the definitions.
 ghost use Rattle.std.specs.Prelude.{ℕ, List, ◌≡◌, ◌++◌, ◌∷◌, [], Some, None, length};
 ghost use Rattle.std.specs.FinMap.{get};
-ghost use Rattle.schema_model.specs.declared.rows.row.Row.{Row};
+ghost use Rattle.row_model.specs.declared.row.Row.{Row};
 ghost use Rattle.schema_model.specs.declared.schema.Schema.{Schema};
-ghost use Rattle.schema_model.specs.PlainTree.{PlainTree};
-ghost use Rattle.schema_model.specs.Table.{Table};
+ghost use Rattle.row_model.specs.PlainTree.{PlainTree};
+ghost use Rattle.row_model.specs.Table.{Table};
 ghost use Rattle.row_packing.specs.States.{AreWritable};
 ghost use Rattle.write_engine.specs.Agreement.{HoldsOnce, TablesAgree};
 ghost use Rattle.write_engine.specs.Soundness.{IsClosedTableOf};

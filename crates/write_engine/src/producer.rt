@@ -1,7 +1,7 @@
 //! A producer: the previous state, and the cycle that makes the next one.
 ghost use Rattle.std.specs.Prelude.{◌≡◌, ◌↔◌, ℕ, Err, IfOk, IsTrue, OnErr, OnOk, true, false, length};
-ghost use Rattle.schema_model.specs.Table.{Table};
-ghost use Rattle.schema_model.specs.Tree.{plain};
+ghost use Rattle.row_model.specs.Table.{Table};
+ghost use Rattle.row_model.specs.Tree.{plain};
 ghost use Rattle.write_engine.specs.Agreement.{TablesAgree};
 ghost use Rattle.write_engine.specs.Cycle.{Adds, no_rows};
 ghost use Rattle.write_engine.specs.CycleLimit.{TellsCycle};
@@ -15,7 +15,8 @@ use crate::states::{advance_all, changed_types, make_states, undo_all};
 use crate::views::{Current, Previous};
 use hol_varint::Ordinals;
 use ordinal_map::{OrdinalMap, PutRowFault};
-use schema_model::{Limit, Model, Tree};
+use row_model::Tree;
+use schema_model::{Limit, Model};
 use std::alloc::{AllocError, Global};
 
 /// What a closed cycle has changed.

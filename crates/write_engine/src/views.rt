@@ -1,11 +1,12 @@
 //! The two states of a producer, each seen alone as rows.
 ghost use Rattle.std.specs.Prelude.{◌≡◌};
-ghost use Rattle.schema_model.specs.Table.{IsTableOf};
+ghost use Rattle.row_model.specs.Table.{IsTableOf};
 ghost use Rattle.write_engine.specs.Production.{current_of, previous_of};
 
 use hol_varint::Duplicate;
 use ordinal_map::OrdinalMap;
-use schema_model::{LentRow, Model, Row, Rows};
+use row_model::{LentRow, Row, Rows};
+use schema_model::Model;
 use std::alloc::{AllocError, Global};
 
 /// The rows of a producer's previous state.
@@ -16,7 +17,7 @@ pub struct Previous<'a> {
 }
 
 impl<'a> std::marker::Model for Previous<'a> {
-    ghost use Rattle.schema_model.specs.Table.{IsTableOf};
+    ghost use Rattle.row_model.specs.Table.{IsTableOf};
     ghost use Rattle.write_engine.specs.Production.{Content, content_code, previous_of};
 
     ghost Value = { Content };
@@ -84,7 +85,7 @@ pub struct Current<'a> {
 }
 
 impl<'a> std::marker::Model for Current<'a> {
-    ghost use Rattle.schema_model.specs.Table.{IsTableOf};
+    ghost use Rattle.row_model.specs.Table.{IsTableOf};
     ghost use Rattle.write_engine.specs.Production.{Content, content_code, current_of};
 
     ghost Value = { Content };

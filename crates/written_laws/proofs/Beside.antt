@@ -4,7 +4,7 @@ use Rattle.std.specs.Prelude.{◌≤◌, Contains, slice_get, flat_map, zip}
 use Rattle.std.specs.List.{All, AllZip, cons_option, filter_map, range_with_len}
 use Rattle.std.proofs.lemmas.List.Elements.{All-cons, All-nil, All-head, All-tail}
 use Rattle.ordinal_set.proofs.Members.{first_or_other, no_member}
-use Rattle.schema_model.specs.Table.{RowMap, Table}
+use Rattle.row_model.specs.Table.{RowMap, Table}
 use Rattle.row_walk.specs.BothStates.{rows_in}
 use Rattle.section_writing.specs.Placed.{placed}
 

@@ -3,10 +3,10 @@ use Rattle.std.proofs.Common.{◌≡◌, ◌<◌, ◌*◌, ◌^◌, ℕ, List, [
 use Rattle.std.specs.Prelude.{All, is_some}
 use Rattle.std.specs.FinMap.{keys}
 use Rattle.bit_array.specs.Element.{words_of}
-use Rattle.schema_model.specs.declared.rows.row.Row.{Row}
+use Rattle.row_model.specs.declared.row.Row.{Row}
 use Rattle.schema_model.specs.declared.schema.Field.{Field}
 use Rattle.schema_model.specs.declared.schema.Shape.{Shape}
-use Rattle.schema_model.specs.Table.{Table, IsLive}
+use Rattle.row_model.specs.Table.{Table, IsLive}
 use Rattle.row_walk.specs.BothStates.{rows_from, rows_in, rows_of_both}
 use Rattle.row_walk.proofs.RowsFrom.{get_in}
 use Rattle.type_state.specs.Holds.{FitsRow, Holds, HoldsRows}

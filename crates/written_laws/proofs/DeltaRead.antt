@@ -9,7 +9,7 @@ use Rattle.hol_varint.specs.Varint.{varint_bytes}
 use Rattle.schema_model.specs.declared.model.rule.Rule.TheVariants.{DuplicateName}
 use Rattle.schema_model.specs.declared.schema.Schema.{Schema}
 use Rattle.schema_model.specs.Model.{IsKept}
-use Rattle.schema_model.specs.Table.{Table}
+use Rattle.row_model.specs.Table.{Table}
 use Rattle.row_walk.specs.BothStates.{rows_in}
 use Rattle.row_packing.proofs.Greatest.{all_gives, all_images}
 use Rattle.blob_frame.specs.Written.{header_bytes}

@@ -8,7 +8,7 @@ use Rattle.ordinal_set.specs.Gaps.{gap_bytes}
 use Rattle.hol_varint.specs.Varint.{varint_bytes}
 use Rattle.schema_model.specs.declared.schema.Schema.{Schema}
 use Rattle.schema_model.specs.declared.schema.Shape.{Shape}
-use Rattle.schema_model.specs.Table.{Table, IsLive, row_at}
+use Rattle.row_model.specs.Table.{Table, IsLive, row_at}
 use Rattle.row_walk.specs.BothStates.{rows_in, rows_of_both}
 use Rattle.row_walk.proofs.RowsFrom.{get_in}
 use Rattle.type_state.specs.Holds.{Holds}

@@ -11,8 +11,8 @@ use Rattle.std.proofs.lemmas.Option.{slice_get-map}
 use Rattle.std.proofs.lemmas.List.Folds.{Any-from_list_any, list_any-from_Any}
 use Rattle.ordinal_set.specs.Ordinals.{lacking}
 use Rattle.ordinal_set.proofs.Members.{passes-from_filter, Contains-kept}
-use Rattle.schema_model.specs.Table.{Table, IsLive, RowMap, row_at}
-use Rattle.schema_model.specs.declared.rows.row.Row.{Row}
+use Rattle.row_model.specs.Table.{Table, IsLive, RowMap, row_at}
+use Rattle.row_model.specs.declared.row.Row.{Row}
 use Rattle.row_walk.specs.BothStates.{rows_in}
 use Rattle.row_walk.proofs.RowsFrom.{get_in}
 use Rattle.row_packing.specs.Places.{Agree}

@@ -9,7 +9,7 @@ use Rattle.schema_model.specs.declared.model.rule.Rule.TheVariants.{DuplicateNam
 use Rattle.schema_model.specs.declared.schema.Schema.{Schema}
 use Rattle.schema_model.specs.Model.{IsKept, StandsEarlier}
 use Rattle.schema_model.specs.Parts.{type_names}
-use Rattle.schema_model.specs.Row.{Rises}
+use Rattle.row_model.specs.Row.{Rises}
 use Rattle.schema_model.proofs.Indexing.{item_name}
 use Rattle.delta_blob.proofs.Indexed.{one_index, zip_beside}
 

@@ -6,7 +6,7 @@ use Rattle.ordinal_set.specs.Population.{IsPopulation}
 use Rattle.schema_model.specs.declared.schema.Schema.{Schema}
 use Rattle.schema_model.specs.declared.schema.Shape.{Shape}
 use Rattle.schema_model.specs.Schema.{EachName, IsSpellable}
-use Rattle.schema_model.specs.Table.{Table}
+use Rattle.row_model.specs.Table.{Table}
 use Rattle.row_walk.specs.BothStates.{rows_in, rows_of_both}
 use Rattle.type_state.specs.declared.section.Section.{Section}
 use Rattle.type_state.specs.Layout.{places_of}

@@ -1,7 +1,7 @@
 -- Two states between which a producer writes are such either way.
 use Rattle.std.proofs.Common.{◌≤◌, ◌<◌, ◌^◌, ℕ, List, [], length, refl, Option, Some, None, inl, inr, subst}
 use Rattle.schema_model.specs.declared.schema.Schema.{Schema}
-use Rattle.schema_model.specs.Table.{Table}
+use Rattle.row_model.specs.Table.{Table}
 use Rattle.row_walk.specs.BothStates.{rows_of_both}
 use Rattle.object_codec.specs.Widths.{live_rows}
 use Rattle.type_state.specs.Layout.{fixed_words}

@@ -5,11 +5,11 @@ use Rattle.std.specs.Ordering.{nat_cmp}
 use Rattle.std.specs.FinMap.{FinMap, get, values}
 use Rattle.hol_io.specs.Name.{IsVersion}
 use Rattle.schema_model.specs.declared.limit.Limit.TheVariants.{Ordinals, Bytes}
-use Rattle.schema_model.specs.declared.rows.row.Row.{Row}
+use Rattle.row_model.specs.declared.row.Row.{Row}
 use Rattle.schema_model.specs.declared.schema.Schema.{Schema}
 use Rattle.schema_model.specs.Limit.{number_of_limit}
 use Rattle.schema_model.specs.Model.{IsModel}
-use Rattle.schema_model.specs.Table.{Table, IsClosed, IsLive, IsTableOf, row_at}
+use Rattle.row_model.specs.Table.{Table, IsClosed, IsLive, IsTableOf, row_at}
 use Rattle.row_walk.specs.BothStates.{rows_in}
 use Rattle.row_packing.specs.Places.{Agree}
 use Rattle.type_state.specs.WordsHeld.{bytes_held}

@@ -3,7 +3,7 @@ use Rattle.std.specs.Prelude.{◌≤◌, ℕ, ℤ, List, length}
 use Rattle.schema_model.specs.declared.limit.Limit.TheVariants.{Blob}
 use Rattle.schema_model.specs.declared.schema.Schema.{Schema}
 use Rattle.schema_model.specs.Limit.{number_of_limit}
-use Rattle.schema_model.specs.Table.{Table}
+use Rattle.row_model.specs.Table.{Table}
 use Rattle.delta_blob.specs.Fits.{Fits}
 use Rattle.delta_blob.specs.Moved.{Moved}
 use Rattle.delta_blob.specs.Patch.{TypePatch, DeltaIs}

@@ -4,7 +4,7 @@ use Rattle.std.specs.Str.{IsUtf8}
 use Rattle.schema_model.specs.declared.schema.Schema.{Schema}
 use Rattle.schema_model.specs.Model.{IsModel}
 use Rattle.schema_model.specs.Schema.{EachName}
-use Rattle.schema_model.specs.Table.{Table, EachRow, IsClosed, IsTableOf}
+use Rattle.row_model.specs.Table.{Table, EachRow, IsClosed, IsTableOf}
 use Rattle.row_packing.specs.Chosen.{shape_at}
 use Rattle.row_packing.specs.States.{AreWritable}
 use Rattle.row_packing.specs.TypeLimit.{KeepsWords}

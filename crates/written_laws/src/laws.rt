@@ -7,7 +7,7 @@ ghost use Rattle.hol_io.specs.Store.{Store};
 ghost use Rattle.schema_model.specs.declared.model.rule.Rule.TheVariants.{DuplicateName};
 ghost use Rattle.schema_model.specs.declared.schema.Schema.{Schema};
 ghost use Rattle.schema_model.specs.Model.{IsKept};
-ghost use Rattle.schema_model.specs.Table.{Table};
+ghost use Rattle.row_model.specs.Table.{Table};
 ghost use Rattle.snapshot_blob.specs.Written.{IsWrittenSnapshot};
 ghost use Rattle.delta_blob.specs.Changes.{IsDeltaBetween};
 ghost use Rattle.written_laws.specs.States.{AreStates};

@@ -1,8 +1,8 @@
 use Rattle.std.proofs.Common.{◌≤◌, arith, subst, sym}
 use Rattle.serde_json.specs.View.{view}
 use Rattle.serde_json.specs.declared.value.Value.{Value}
-use Rattle.schema_model.specs.PlainTree.{node_count}
-use Rattle.schema_model.specs.Unfold.{unfold_row}
+use Rattle.row_model.specs.PlainTree.{node_count}
+use Rattle.row_model.specs.Unfold.{unfold_row}
 use Rattle.record_json.specs.PrintTree.{PrintsTree}
 use Rattle.consumer_orders.proofs.ShownRows.{is_found}
 use Rattle.consumer_orders.proofs.get_order.show_found.Goals as goal

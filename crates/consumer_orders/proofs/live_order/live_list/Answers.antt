@@ -1,5 +1,5 @@
 use Rattle.std.proofs.Common.{◌≡◌, ◌+◌, sym, subst, arith}
-use Rattle.schema_model.specs.Table.{IsBound}
+use Rattle.row_model.specs.Table.{IsBound}
 use Rattle.consumer_orders.proofs.LiveLists.{AreLiveBelow, all_listed, one_listed, one_passed}
 use Rattle.consumer_orders.proofs.live_order.live_list.Goals.{then-is_live+in_ok-push, else-is_live}
 use Rattle.consumer_orders.proofs.live_order.live_list.Goals as goal

@@ -1,6 +1,6 @@
 use Rattle.consumer_orders.specs.Asked.{TellsType}
 use Rattle.std.proofs.Common.{ℕ, List, All, subst, sym}
-use Rattle.schema_model.specs.Table.{IsLive}
+use Rattle.row_model.specs.Table.{IsLive}
 use Rattle.read_engine.specs.Gone.{AreGone}
 use Rattle.consumer_orders.proofs.Asking.{inside, inside_model, past_answers, were_live}
 use Rattle.consumer_orders.proofs.past_order.past.Goals as goal

@@ -1,7 +1,7 @@
 use Rattle.std.proofs.Common.{◌≤◌, ℕ, Err, ap, arith, get_or, length, refl, subst, sym}
 use Rattle.serde_json.specs.View.{view}
 use Rattle.serde_json.specs.declared.value.Value.{Value}
-use Rattle.schema_model.specs.Unfold.{unfold_row}
+use Rattle.row_model.specs.Unfold.{unfold_row}
 use Rattle.record_json.specs.PrintTree.{PrintsTree}
 use Rattle.consumer_orders.proofs.PastRows.{is_over, is_past, one_shown, too_many}
 use Rattle.consumer_orders.proofs.past_order.show_past.Goals as goal

@@ -1,9 +1,9 @@
 use Rattle.std.proofs.Common.{rules, ◌≤◌, arith, subst, sym}
 use Rattle.serde_json.specs.View.{view}
 use Rattle.serde_json.specs.declared.value.Value.{Value}
-use Rattle.schema_model.specs.PlainTree.{node_count}
-use Rattle.schema_model.specs.Table.{IsLive}
-use Rattle.schema_model.specs.Unfold.{unfold_row}
+use Rattle.row_model.specs.PlainTree.{node_count}
+use Rattle.row_model.specs.Table.{IsLive}
+use Rattle.row_model.specs.Unfold.{unfold_row}
 use Rattle.record_json.specs.PrintTree.{PrintsTree}
 use Rattle.consumer_orders.proofs.ShownRows.{is_shown}
 use Rattle.consumer_orders.proofs.row_order.show_row.Goals as goal

@@ -1,7 +1,7 @@
 use Rattle.std.proofs.Common.{◌≡◌, ◌∙◌, ◌<◌, ◌≤◌, sym, ap, arith, length}
 use Rattle.serde_json.specs.Data.{array}
 use Rattle.serde_json.specs.View.{items_view}
-use Rattle.schema_model.specs.Key.{kind_along}
+use Rattle.row_model.specs.Key.{kind_along}
 use Rattle.json_rows.proofs.KeyParts.{all_taken, none_of_number, passed_on, path_ends, stops, taken_more}
 use Rattle.json_rows.proofs.key.parts_from.Goals as goal
 

@@ -1,5 +1,5 @@
 use Rattle.std.proofs.Common.{List, ℕ, arith, subst, sym, ◌∙◌}
-use Rattle.schema_model.specs.Key.{key_of}
+use Rattle.row_model.specs.Key.{key_of}
 use Rattle.key_index.specs.Slots.{AreSettled}
 use Rattle.key_index.proofs.Following.{entered_more, settled_more}
 use Rattle.key_index.proofs.index.enter_all.Goals as goal

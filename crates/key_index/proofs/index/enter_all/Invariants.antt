@@ -1,5 +1,5 @@
 use Rattle.std.proofs.Common.{◌≡◌, ◌+◌, take}
-use Rattle.schema_model.specs.Key.{key_of}
+use Rattle.row_model.specs.Key.{key_of}
 use Rattle.key_index.specs.Slots.{AreSettled, with_keys}
 use Rattle.key_index.proofs.index.enter_all.Given as goal
 

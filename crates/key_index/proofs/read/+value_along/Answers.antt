@@ -1,11 +1,11 @@
 use Rattle.std.proofs.Common.{arith, ap, sym, ◌∙◌, ◌≡◌, Some, Option, List}
 use Rattle.std.specs.Option.{option_copied}
 use Rattle.std.specs.Prelude.{slice_index_or}
-use Rattle.schema_model.specs.declared.rows.row.Row.{Row}
-use Rattle.schema_model.specs.declared.rows.row.Value.{Value}
+use Rattle.row_model.specs.declared.row.Row.{Row}
+use Rattle.row_model.specs.declared.row.Value.{Value}
 use Rattle.schema_model.specs.declared.schema.Schema.{Schema}
-use Rattle.schema_model.specs.Key.{ordinal_in, type_behind, value_in}
-use Rattle.schema_model.specs.Table.{IsLive, row_at}
+use Rattle.row_model.specs.Key.{ordinal_in, type_behind, value_in}
+use Rattle.row_model.specs.Table.{IsLive, row_at}
 use Rattle.key_index.proofs.KeptKeys.{live_type, named_live}
 use Rattle.key_index.proofs.read.+value_along.Goals as goal
 

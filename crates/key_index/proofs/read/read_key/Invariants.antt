@@ -1,8 +1,8 @@
 use Rattle.std.proofs.Common.{◌≡◌, ◌++◌, drop, List, Option}
 use Rattle.std.specs.Option.{option_map}
 use Rattle.schema_model.specs.declared.model.path.Path.{Path}
-use Rattle.schema_model.specs.declared.rows.row.Value.{Value}
-use Rattle.schema_model.specs.Key.{key_of}
+use Rattle.row_model.specs.declared.row.Value.{Value}
+use Rattle.row_model.specs.Key.{key_of}
 use Rattle.key_index.proofs.read.read_key.Given as goal
 
 abbrev pub invariant-loop-path : goal.invariant-loop-path

@@ -1,5 +1,5 @@
 use Rattle.std.proofs.Common.{List, Option, ap, subst, sym}
-use Rattle.schema_model.specs.declared.rows.row.Value.{Value}
+use Rattle.row_model.specs.declared.row.Value.{Value}
 use Rattle.key_index.specs.Pairs.{DropsKey}
 use Rattle.key_index.specs.declared.slot.Slot.{Slot}
 use Rattle.key_index.proofs.SlotKeys.{read_index}

@@ -3,7 +3,7 @@ use Rattle.std.specs.Prelude.{All}
 use Rattle.std.proofs.lemmas.List.Elements.{All-cons, All-nil}
 use Rattle.schema_model.specs.declared.model.path.Path.{Path}
 use Rattle.schema_model.specs.declared.schema.Schema.{Schema}
-use Rattle.schema_model.specs.Key.{IsResolved}
+use Rattle.row_model.specs.Key.{IsResolved}
 use Rattle.schema_model.specs.Path.{Leads, Resolves, path_names}
 use Rattle.line_cases.proofs.rows.read_key.Goals as goal
 

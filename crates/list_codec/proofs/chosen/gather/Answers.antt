@@ -1,6 +1,6 @@
 use Rattle.std.proofs.Common.{ap}
 use Rattle.std.specs.Option.{option_map}
-use Rattle.schema_model.specs.Lent.{lent_row}
+use Rattle.row_model.specs.Lent.{lent_row}
 use Rattle.list_codec.proofs.Spreads.{gathered_more, gathered_all}
 use Rattle.list_codec.proofs.chosen.gather.Goals as goal
 

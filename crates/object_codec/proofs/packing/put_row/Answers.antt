@@ -1,6 +1,6 @@
 use Rattle.std.proofs.Common.{◌≡◌, ◌+◌, ◌*◌, ◌^◌, ◌<◌, ◌-◌, ℕ, List, get_or, length, subst, sym, ◌∙◌, arith, refl, Fits, w64, set}
 use Rattle.std.specs.Prelude.{slice_get}
-use Rattle.schema_model.specs.Areas.{area_of}
+use Rattle.row_model.specs.Areas.{area_of}
 use Rattle.object_codec.specs.Encoded.{IsTaken}
 use Rattle.object_codec.specs.Stored.{value_at, values_bytes}
 use Rattle.object_codec.proofs.FieldWidths.{record_fits, place_fits, widths_long, within, wide_at}

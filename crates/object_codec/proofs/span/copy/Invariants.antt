@@ -1,5 +1,5 @@
 use Rattle.std.proofs.Common.{◌≡◌, ◌-◌, take, drop}
-use Rattle.schema_model.specs.Areas.{area_of}
+use Rattle.row_model.specs.Areas.{area_of}
 use Rattle.object_codec.proofs.span.copy.Given as goal
 
 abbrev pub invariant-loop-at : goal.invariant-loop-at

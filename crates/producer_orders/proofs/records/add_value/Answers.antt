@@ -1,6 +1,6 @@
 use Rattle.std.proofs.Common.{Ok, Err, ap}
 use Rattle.serde_json.specs.View.{view}
-use Rattle.schema_model.specs.Tree.{plain}
+use Rattle.row_model.specs.Tree.{plain}
 use Rattle.producer_orders.proofs.AddingRecords.{bad_reads, same_reads, value_added, value_bad, value_passed, value_too_many}
 use Rattle.producer_orders.proofs.records.add_value.Goals as goal
 

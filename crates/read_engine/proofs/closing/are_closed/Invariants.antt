@@ -1,6 +1,6 @@
 use Rattle.std.proofs.Common.{take}
 use Rattle.std.specs.Prelude.{All}
-use Rattle.schema_model.specs.Dangling.{IsClosedAt}
+use Rattle.row_model.specs.Dangling.{IsClosedAt}
 use Rattle.read_engine.proofs.closing.are_closed.Given as goal
 
 abbrev pub invariant-loop-ordinal : goal.invariant-loop-ordinal

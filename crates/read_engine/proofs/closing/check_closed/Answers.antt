@@ -1,6 +1,6 @@
 use Rattle.std.proofs.Common.{arith, sym, ◌∙◌}
 use Rattle.std.proofs.lemmas.Bool.{false≢true}
-use Rattle.schema_model.proofs.Danglings.{types_done, types_more}
+use Rattle.row_model.proofs.Danglings.{types_done, types_more}
 use Rattle.type_state.specs.Views.{table_of}
 use Rattle.read_engine.specs.Moving.{coming_halves}
 use Rattle.read_engine.proofs.closing.check_closed.Goals as goal

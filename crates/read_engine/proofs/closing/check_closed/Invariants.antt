@@ -1,5 +1,5 @@
 use Rattle.std.proofs.Common.{ℕ, ◌<◌}
-use Rattle.schema_model.specs.Dangling.{IsClosedAt}
+use Rattle.row_model.specs.Dangling.{IsClosedAt}
 use Rattle.type_state.specs.Views.{table_of}
 use Rattle.read_engine.specs.Moving.{coming_halves}
 use Rattle.read_engine.proofs.closing.check_closed.Given as goal

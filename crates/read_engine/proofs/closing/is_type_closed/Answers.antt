@@ -1,7 +1,7 @@
 use Rattle.std.proofs.Common.{◌≡◌, ℕ, List, Some, arith, subst, sym}
 use Rattle.std.specs.Prelude.{All, slice_get, ◌↔◌}
 use Rattle.schema_model.specs.declared.schema.Schema.{Schema}
-use Rattle.schema_model.specs.Dangling.{IsClosedAt}
+use Rattle.row_model.specs.Dangling.{IsClosedAt}
 use Rattle.read_engine.specs.Closing.{IsTypeClosed, NamesKept}
 use Rattle.read_engine.proofs.Closed.{came_closed, searched_closed, tells_same}
 use Rattle.read_engine.proofs.Tables.{past_length}

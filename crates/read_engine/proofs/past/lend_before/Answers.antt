@@ -1,6 +1,6 @@
 use Rattle.std.proofs.Common.{◌≡◌, Some, sym, subst}
 use Rattle.std.specs.Prelude.{IfOk}
-use Rattle.schema_model.specs.Lent.{lent_row}
+use Rattle.row_model.specs.Lent.{lent_row}
 use Rattle.read_engine.proofs.PastRows.{before_left, live_kept}
 use Rattle.read_engine.proofs.past.lend_before.Goals as goal
 

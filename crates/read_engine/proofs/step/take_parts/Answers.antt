@@ -1,7 +1,7 @@
 use Rattle.std.proofs.Common.{ap, map, sym, subst, ◌∙◌, List}
 use Rattle.std.specs.Prelude.{All}
 use Rattle.std.specs.List.{AllZip}
-use Rattle.schema_model.specs.Table.{IsClosed}
+use Rattle.row_model.specs.Table.{IsClosed}
 use Rattle.type_state.specs.State.{Half}
 use Rattle.type_state.specs.Views.{table_of}
 use Rattle.read_engine.specs.declared.past.PastPart.{PastPart}

@@ -1,4 +1,4 @@
-use Rattle.schema_model.specs.Unfold.{unfold_row}
+use Rattle.row_model.specs.Unfold.{unfold_row}
 use Rattle.record_json.proofs.PrintingWhole.{model_shallow}
 use Rattle.record_json.proofs.UnfoldingFits.{known_type, within_fits}
 use Rattle.record_json.proofs.laws.unfold_fits.Goals as goal

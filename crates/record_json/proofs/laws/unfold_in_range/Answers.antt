@@ -1,4 +1,4 @@
-use Rattle.schema_model.specs.Unfold.{unfold_row}
+use Rattle.row_model.specs.Unfold.{unfold_row}
 use Rattle.record_json.proofs.UnfoldingInRange.{within_in_range}
 use Rattle.record_json.proofs.laws.unfold_in_range.Goals as goal
 

@@ -6,10 +6,10 @@ use Rattle.serde_json.specs.View.{view, items_of, members_view}
 use Rattle.serde_json.proofs.Views.{view-Array, view-Object}
 use Rattle.schema_model.specs.declared.schema.Field.{Field}
 use Rattle.schema_model.specs.declared.schema.Schema.{Schema}
-use Rattle.schema_model.specs.declared.rows.row.Value.{Value}
+use Rattle.row_model.specs.declared.row.Value.{Value}
 use Rattle.schema_model.specs.Parts.{field_names, index_of_type}
-use Rattle.schema_model.specs.PlainTree.{node_count}
-use Rattle.schema_model.specs.Row.{references_of_row}
+use Rattle.row_model.specs.PlainTree.{node_count}
+use Rattle.row_model.specs.Row.{references_of_row}
 use Rattle.json_rows.specs.StoredRow.{members_of_fields}
 use Rattle.json_rows.proofs.Records.{fits_long}
 use Rattle.record_json.specs.PrintTree.{PrintsField, PrintsPair}

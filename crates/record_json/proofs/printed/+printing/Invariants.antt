@@ -3,7 +3,7 @@ use Rattle.std.proofs.Common.{◌≡◌, ◌+◌, ◌*◌, List, map, take, zip,
 use Rattle.serde_json.specs.Data.{Data}
 use Rattle.serde_json.specs.View.{view, members_view}
 use Rattle.schema_model.specs.Parts.{field_names}
-use Rattle.schema_model.specs.PlainTree.{node_count}
+use Rattle.row_model.specs.PlainTree.{node_count}
 use Rattle.json_rows.specs.StoredRow.{members_of_fields}
 use Rattle.record_json.specs.PrintTree.{PrintsField, PrintsPair}
 use Rattle.record_json.specs.Printing.{PrintsNamed, count_pair, tree_of_field, unfold_named, unfold_pair}

@@ -1,6 +1,6 @@
 use Rattle.std.proofs.Common.{◌≡◌, Some, slice_get, subst}
 use Rattle.schema_model.specs.Model.{IsModel}
-use Rattle.schema_model.specs.Unfold.{unfold_row, unfold_within}
+use Rattle.row_model.specs.Unfold.{unfold_row, unfold_within}
 use Rattle.record_json.proofs.PrintingWhole.{answer_nodes, answer_plain, answer_prints, answer_spends, model_shallow}
 use Rattle.record_json.proofs.printed.tree_value.Goals as goal
 

@@ -1,6 +1,6 @@
 use Rattle.std.proofs.Common.{subst, List}
 use Rattle.schema_model.specs.declared.schema.Schema.{Schema}
-use Rattle.schema_model.specs.Table.{IsTableOf}
+use Rattle.row_model.specs.Table.{IsTableOf}
 use Rattle.row_packing.proofs.Suiting.{rows_known}
 use Rattle.row_packing.proofs.chosen.choose.Goals as goal
 

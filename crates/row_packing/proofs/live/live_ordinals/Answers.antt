@@ -1,5 +1,5 @@
 use Rattle.std.proofs.Common.{◌≡◌, ◌+◌, sym, subst, arith}
-use Rattle.schema_model.specs.Table.{IsBound}
+use Rattle.row_model.specs.Table.{IsBound}
 use Rattle.row_packing.proofs.LiveRows.{IsLiveBelow, one_put, one_passed, all_live}
 use Rattle.row_packing.proofs.live.live_ordinals.Goals.{then-is_live+in_ok-insert, else-is_live}
 use Rattle.row_packing.proofs.live.live_ordinals.Goals as goal

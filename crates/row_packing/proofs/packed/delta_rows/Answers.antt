@@ -1,6 +1,6 @@
 use Rattle.std.proofs.Common.{sym, ap, ◌∙◌, subst, slice_get, List, Option}
 use Rattle.schema_model.specs.Model.{IsModel}
-use Rattle.schema_model.specs.declared.rows.row.Row.{Row}
+use Rattle.row_model.specs.declared.row.Row.{Row}
 use Rattle.schema_model.specs.declared.schema.Schema.{Schema}
 use Rattle.row_packing.specs.Places.{places_under}
 use Rattle.row_packing.specs.Packs.{CanPackPlaces}

@@ -1,5 +1,5 @@
 use Rattle.std.proofs.Common.{◌≡◌, ◌<◌, ◌≤◌, ℕ, None}
-use Rattle.schema_model.specs.Table.{row_at}
+use Rattle.row_model.specs.Table.{row_at}
 use Rattle.row_walk.proofs.walk.next_live.Given as goal
 
 abbrev pub invariant-loop-ordinal : goal.invariant-loop-ordinal

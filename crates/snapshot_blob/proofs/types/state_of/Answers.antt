@@ -1,7 +1,7 @@
 use Rattle.std.proofs.Common.{◌∙◌, List, ap, subst, rules}
 use Rattle.std.specs.List.{All, AllZip}
 use Rattle.schema_model.specs.Model.{IsModel}
-use Rattle.schema_model.specs.Table.{RowMap, IsClosed}
+use Rattle.row_model.specs.Table.{RowMap, IsClosed}
 use Rattle.type_state.specs.Views.{next_halves, table_of}
 use Rattle.snapshot_blob.specs.declared.body.Body.{Body}
 use Rattle.snapshot_blob.specs.declared.part.TypePart.{TypePart}

@@ -1,6 +1,6 @@
 use Rattle.std.proofs.Common.{Ok, Err, arith, subst}
 use Rattle.type_state.specs.Loads.{TellsPlace}
-use Rattle.schema_model.specs.declared.rows.packed.PlaceFault.{PlaceFault}
+use Rattle.row_model.specs.declared.packed.PlaceFault.{PlaceFault}
 use Rattle.type_state.proofs.PlacesUpTo.{readable_at, tells_place}
 use Rattle.type_state.proofs.load.read_row.Goals as goal
 

@@ -1,9 +1,9 @@
-use Rattle.schema_model.specs.PlainTree.{trees_of_list}
+use Rattle.row_model.specs.PlainTree.{trees_of_list}
 use Rattle.std.proofs.Common.{rules, refl, ◌∙◌, ap, sym, subst, arith, map, max, ◌≡◌, ◌+◌, ◌*◌}
 use denote.Param.Weighed.{at_most, most}
-use Rattle.schema_model.proofs.rows.tree.Tree.TheLaws.{the_size}
-use Rattle.schema_model.specs.Tree.{plain, plain_pair}
-use Rattle.schema_model.specs.PlainTree.{pairs_of_list}
+use Rattle.row_model.proofs.tree.Tree.TheLaws.{the_size}
+use Rattle.row_model.specs.Tree.{plain, plain_pair}
+use Rattle.row_model.specs.PlainTree.{pairs_of_list}
 use Rattle.write_engine.specs.Production.{previous_of}
 use Rattle.std.specs.Prelude.{IsSome, Some, IfOk}
 use Rattle.write_engine.specs.Cycle.{Adds, AddsFields, AddsPairs, IsMapOf, IsSetOf}

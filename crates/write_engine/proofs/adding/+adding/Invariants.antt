@@ -1,8 +1,8 @@
 use Rattle.std.proofs.Common.{◌≡◌, ◌+◌, ◌*◌, ◌++◌, List, ℕ, drop, map}
-use Rattle.schema_model.specs.PlainTree.{trees_of_list, pairs_of_list}
-use Rattle.schema_model.specs.Table.{Table}
-use Rattle.schema_model.specs.Tree.{plain, plain_pair}
-use Rattle.schema_model.specs.declared.rows.row.Value.{Value}
+use Rattle.row_model.specs.PlainTree.{trees_of_list, pairs_of_list}
+use Rattle.row_model.specs.Table.{Table}
+use Rattle.row_model.specs.Tree.{plain, plain_pair}
+use Rattle.row_model.specs.declared.row.Value.{Value}
 use Rattle.write_engine.specs.Cycle.{AddsFields, AddsAll, AddsPairs}
 use Rattle.typed_trees.specs.FitsTree.{FitFields, FitAll, FitPairs}
 use Rattle.write_engine.specs.Agreement.{TablesAgree}

@@ -1,5 +1,5 @@
 use Rattle.std.proofs.Common.{rules, sym, subst, ◌∙◌, Err}
-use Rattle.schema_model.specs.Row.{Rises}
+use Rattle.row_model.specs.Row.{Rises}
 use Rattle.bucket_codec.specs.Run.{keys_of, run_in}
 use Rattle.bucket_codec.specs.Taken.{TellsPairs}
 use Rattle.bucket_codec.proofs.Buckets.{length-run_in}

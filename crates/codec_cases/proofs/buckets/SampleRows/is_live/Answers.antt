@@ -1,7 +1,7 @@
 use Rattle.std.proofs.Common.{List, Option, ◌↔◌, IsTrue, subst, arith}
 use Rattle.schema_model.specs.declared.schema.Schema.{Schema}
-use Rattle.schema_model.specs.declared.rows.row.Row.{Row}
-use Rattle.schema_model.specs.Table.{IsLive}
+use Rattle.row_model.specs.declared.row.Row.{Row}
+use Rattle.row_model.specs.Table.{IsLive}
 use Rattle.codec_cases.specs.Sample.{sample_table}
 use Rattle.codec_cases.proofs.Samples.{sample_told, no_sample}
 use Rattle.codec_cases.proofs.buckets.SampleRows.is_live.Goals as goal

@@ -1,6 +1,6 @@
 use Rattle.std.proofs.Common.{subst, List, Option}
 use Rattle.schema_model.specs.declared.schema.Schema.{Schema}
-use Rattle.schema_model.specs.declared.rows.row.Row.{Row}
+use Rattle.row_model.specs.declared.row.Row.{Row}
 use Rattle.codec_cases.specs.Sample.{IsSample}
 use Rattle.codec_cases.proofs.Samples.{sample_fits}
 use Rattle.codec_cases.proofs.buckets.SampleRows.model.Goals as goal

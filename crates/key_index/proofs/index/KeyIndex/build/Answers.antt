@@ -1,6 +1,6 @@
 use Rattle.std.proofs.Common.{List, ℕ, ◌+◌, ap, arith, refl, subst, sym, true, false, ◌∙◌, ◌≡◌, ◌<◌}
 use Rattle.std.specs.FinMap.{insert}
-use Rattle.schema_model.specs.Table.{IsLive}
+use Rattle.row_model.specs.Table.{IsLive}
 use Rattle.key_index.specs.Slots.{AreSettled, TwoStates}
 use Rattle.key_index.proofs.Following.{IsBuilt, built_count, built_dead, built_keys, built_live, built_none, built_settled}
 use Rattle.key_index.proofs.index.KeyIndex.build.Goals.{then-is_live+in_ok-key+in_ok-put, else-is_live}

@@ -1,6 +1,6 @@
 use Rattle.std.proofs.Common.{List, Option, ℕ, ap, subst, sym, ◌∙◌}
-use Rattle.schema_model.specs.declared.rows.row.Value.{Value}
-use Rattle.schema_model.specs.Key.{key_of}
+use Rattle.row_model.specs.declared.row.Value.{Value}
+use Rattle.row_model.specs.Key.{key_of}
 use Rattle.key_index.specs.Indexed.{AreKeysOf, Follows, Indexed, KeyMap}
 use Rattle.key_index.specs.Slots.{with_keys, without}
 use Rattle.key_index.proofs.Following.{next_keys}

@@ -1,7 +1,7 @@
 use Rattle.std.proofs.Common.{List, ℕ, ◌↔◌, ap, sym, subst, ◌∙◌, ◌≡◌, arith, refl}
 use Rattle.std.specs.Prelude.{Contains}
 use Rattle.std.specs.Range.{range_inclusive_start, range_inclusive_end}
-use Rattle.schema_model.specs.Row.{Rises}
+use Rattle.row_model.specs.Row.{Rises}
 use Rattle.key_index.specs.Pairs.{AreShort}
 use Rattle.key_index.proofs.PairLists.{drained, ranged_are, ranged_rise, runs_forward}
 use Rattle.key_index.proofs.key_pairs.KeyPairs.under.Goals as goal

@@ -1,5 +1,5 @@
 use Rattle.std.proofs.Common.{ap, subst}
-use Rattle.schema_model.specs.Table.{Table, IsBound}
+use Rattle.row_model.specs.Table.{Table, IsBound}
 use Rattle.type_state.specs.Views.{Content, table_of}
 use Rattle.read_engine.specs.Moving.{coming_half, coming_halves}
 use Rattle.read_engine.proofs.Comings.{coming_at, coming_off, laid_at, part_there}

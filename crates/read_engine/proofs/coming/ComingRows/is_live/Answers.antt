@@ -1,6 +1,6 @@
 use Rattle.std.proofs.Common.{false, ap, subst}
 use Rattle.std.specs.Prelude.{IsTrue, ◌↔◌}
-use Rattle.schema_model.specs.Table.{Table, IsLive}
+use Rattle.row_model.specs.Table.{Table, IsLive}
 use Rattle.type_state.specs.Views.{Content, table_of}
 use Rattle.read_engine.specs.Moving.{coming_half, coming_halves}
 use Rattle.read_engine.proofs.Comings.{coming_at, coming_off, laid_at, part_there}

@@ -1,6 +1,6 @@
 use Rattle.std.proofs.Common.{◌≡◌, Some, ap, sym, subst}
 use Rattle.std.specs.Prelude.{IfOk}
-use Rattle.schema_model.specs.Table.{Table, IsLive, row_at}
+use Rattle.row_model.specs.Table.{Table, IsLive, row_at}
 use Rattle.type_state.specs.Views.{Content, table_of}
 use Rattle.read_engine.specs.Moving.{coming_half, coming_halves}
 use Rattle.read_engine.proofs.Comings.{coming_at, coming_off, laid_at, part_there}

@@ -1,6 +1,6 @@
 use Rattle.std.proofs.Common.{◌<◌, Option, length, sym, subst}
-use Rattle.schema_model.specs.declared.rows.row.Row.{Row}
-use Rattle.schema_model.specs.Table.{row_at}
+use Rattle.row_model.specs.declared.row.Row.{Row}
+use Rattle.row_model.specs.Table.{row_at}
 use Rattle.bucket_codec.specs.Run.{FindsIn}
 use Rattle.type_state.specs.Lookup.{pairs_of}
 use Rattle.read_engine.specs.Position.{Position, rows_now}

@@ -1,7 +1,7 @@
 use Rattle.std.proofs.Common.{List, sym, subst}
 use Rattle.std.specs.Prelude.{All}
 use Rattle.schema_model.specs.declared.schema.Schema.{Schema}
-use Rattle.schema_model.specs.Key.{IsResolved}
+use Rattle.row_model.specs.Key.{IsResolved}
 use Rattle.read_engine.proofs.Answered.{built}
 use Rattle.read_engine.proofs.stand.Stand.build_index.Goals as goal
 

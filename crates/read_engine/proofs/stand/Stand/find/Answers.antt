@@ -1,7 +1,7 @@
 use Rattle.std.proofs.Common.{◌<◌, length, map, sym, subst, arith}
 use Rattle.std.proofs.lemmas.List.{length-map}
 use Rattle.std.specs.Prelude.{IfOk, IsSomeAnd, slice_get}
-use Rattle.schema_model.specs.Key.{AreMatches}
+use Rattle.row_model.specs.Key.{AreMatches}
 use Rattle.read_engine.specs.Position.{Position, rows_now}
 use Rattle.read_engine.specs.Kept.{index_kept}
 use Rattle.read_engine.proofs.Tables.{read_there}

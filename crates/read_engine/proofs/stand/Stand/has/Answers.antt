@@ -1,7 +1,7 @@
 use Rattle.std.proofs.Common.{◌<◌, Option, length, sym, subst}
 use Rattle.std.specs.Prelude.{Contains, IsTrue, ◌↔◌}
-use Rattle.schema_model.specs.declared.rows.row.Row.{Row}
-use Rattle.schema_model.specs.Table.{row_at}
+use Rattle.row_model.specs.declared.row.Row.{Row}
+use Rattle.row_model.specs.Table.{row_at}
 use Rattle.type_state.specs.Lookup.{elements_of}
 use Rattle.read_engine.specs.Position.{Position, rows_now}
 use Rattle.read_engine.proofs.Tables.{row_now}

@@ -1,4 +1,4 @@
-use Rattle.schema_model.specs.Lent.{lent_row}
+use Rattle.row_model.specs.Lent.{lent_row}
 use Rattle.row_walk.proofs.Steps.{took_old, ended_old, takes_same}
 use Rattle.row_walk.proofs.walk.RowWalk.next.Goals as goal
 

@@ -1,5 +1,5 @@
 use Rattle.std.proofs.Common.{None, subst, ◌∙◌}
-use Rattle.schema_model.specs.Lent.{lent_row}
+use Rattle.row_model.specs.Lent.{lent_row}
 use Rattle.row_walk.specs.BothStates.{TellsLive}
 use Rattle.row_walk.proofs.Steps.{passed_both, took_added, ended_added}
 use Rattle.row_walk.proofs.walk.RowWalk.next_added.Goals as goal

@@ -1,7 +1,7 @@
 use Rattle.std.proofs.Common.{◌≡◌, ◌≤◌, ap, sym, subst, ◌∙◌}
 use Rattle.std.specs.FinMap.{entries, insert, keys}
 use Rattle.ordinal_set.specs.Ordinals.{bound_of}
-use Rattle.schema_model.specs.Table.{RowMap}
+use Rattle.row_model.specs.Table.{RowMap}
 use Rattle.type_state.proofs.Entries.{inserted_bound, inserted_last}
 use Rattle.type_state.proofs.kept.Kept.push.Goals as goal
 

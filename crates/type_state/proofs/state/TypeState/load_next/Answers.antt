@@ -1,7 +1,7 @@
 use Rattle.std.proofs.Common.{[], Ok, subst, sym}
 use Rattle.std.specs.FinMap.{values}
 use Rattle.hol_varint.specs.Yields.{Yields}
-use Rattle.schema_model.specs.Table.{RowMap}
+use Rattle.row_model.specs.Table.{RowMap}
 use Rattle.type_state.specs.Holds.{HoldsRows}
 use Rattle.type_state.specs.Layout.{Layout}
 use Rattle.type_state.specs.Totals.{AreTotals}

@@ -1,6 +1,6 @@
 use Rattle.std.proofs.Common.{rules, Ok, subst, sym}
 use Rattle.hol_varint.specs.Yields.{Yields}
-use Rattle.schema_model.specs.Table.{RowMap}
+use Rattle.row_model.specs.Table.{RowMap}
 use Rattle.type_state.specs.Differences.{rows_with}
 use Rattle.type_state.specs.State.{State, half_of}
 use Rattle.type_state.specs.Loads.{IsFreeRow}

@@ -1,5 +1,5 @@
 use Rattle.std.proofs.Common.{ap, subst, arith}
-use Rattle.schema_model.specs.Table.{IsBound}
+use Rattle.row_model.specs.Table.{IsBound}
 use Rattle.type_state.proofs.NextStates.{bound_of_state, bound_of_none}
 use Rattle.type_state.proofs.views.NextRowsRows.bound.Goals as goal
 

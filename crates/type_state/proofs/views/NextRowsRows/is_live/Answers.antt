@@ -1,7 +1,7 @@
 use Rattle.std.proofs.Common.{◌↔◌, ap, sym, subst, arith}
 use Rattle.std.specs.Prelude.{IsSome, IsTrue}
 use Rattle.std.proofs.lemmas.Bool.{false≢true}
-use Rattle.schema_model.specs.Table.{IsLive}
+use Rattle.row_model.specs.Table.{IsLive}
 use Rattle.type_state.proofs.NextStates.{row_of_state, no_row}
 use Rattle.type_state.proofs.views.NextRowsRows.is_live.Goals as goal
 

@@ -1,6 +1,6 @@
 use Rattle.std.proofs.Common.{◌≡◌, Some, ap, sym, subst}
 use Rattle.std.specs.Prelude.{IfOk, IsSome}
-use Rattle.schema_model.specs.Table.{IsLive, row_at}
+use Rattle.row_model.specs.Table.{IsLive, row_at}
 use Rattle.type_state.proofs.NextStates.{row_of_state}
 use Rattle.type_state.proofs.views.NextRowsRows.row.Goals as goal
 

@@ -1,7 +1,7 @@
 use Rattle.std.proofs.Common.{◌≡◌, ◌∙◌, get_or, ap, sym, subst, refl, length, Some}
 use Rattle.std.specs.Prelude.{slice_get, IfOk}
 use Rattle.std.proofs.lemmas.Option.{slice_get_read}
-use Rattle.schema_model.specs.Table.{IsLive, row_at}
+use Rattle.row_model.specs.Table.{IsLive, row_at}
 use Rattle.write_engine.proofs.StateRows.{copied, previous_row_of, within}
 use Rattle.write_engine.proofs.views.PreviousRows.row.Goals as goal
 

@@ -1,0 +1,2 @@
+pub mod Danglings
+pub mod RowEntries

@@ -1,0 +1,9 @@
+pub mod Areas
+pub mod Dangling
+pub mod Key
+pub mod Lent
+pub mod PlainTree
+pub mod Row
+pub mod Table
+pub mod Tree
+pub mod Unfold

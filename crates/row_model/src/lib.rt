@@ -1,0 +1,20 @@
+//! Rows, the tables that they stand in, and trees: what the types of a model hold, and what it means.
+#![tactic(auto)]
+
+mod dangling;
+mod lent;
+mod lists;
+mod packed;
+mod parts;
+mod row;
+mod rows;
+mod tree;
+
+pub use dangling::{Dangling, dangling_in, first_dangling, is_closed_at};
+pub use lent::LentRow;
+pub use lists::{Areas, Pairs, Places, Values, Widths, Words};
+pub use packed::{Packed, PlaceFault};
+pub use parts::{Parts, area_byte, area_size};
+pub use row::{Row, Value};
+pub use rows::Rows;
+pub use tree::{Tree, TreePairs, Trees};
