@@ -4,7 +4,7 @@ use Rattle.std.specs.Prelude.{All, AllPairs, Contains, ◌≢◌}
 use Rattle.schema_model.specs.declared.schema.name.Name.{Name}
 use Rattle.schema_model.specs.declared.schema.Schema.{Schema}
 use Rattle.schema_model.specs.Parts.{index_of_type}
-use Rattle.hol_orders.specs.declared.reply.Reply.TheVariants as reply
+use Rattle.hol_answers.specs.declared.reply.Reply.TheVariants as reply
 use Rattle.read_engine.specs.Indexes.{KeepsIndex}
 use Rattle.read_engine.specs.Position.{Index, Position}
 use Rattle.hollow_machine.specs.IndexOrder.{IndexStep}

@@ -3,9 +3,9 @@ use Rattle.std.proofs.Common.{ℕ, List, Option, Some, None, refl, sym, subst}
 use Rattle.serde_json.specs.Data.{Data}
 use Rattle.schema_model.specs.declared.schema.name.Name.{Name}
 use Rattle.schema_model.specs.Parts.{index_of_type}
-use Rattle.hol_orders.specs.declared.refusal.Refusal.TheVariants.{NoState, NoType}
-use Rattle.hol_orders.specs.declared.reply.Reply.{Reply}
-use Rattle.hol_orders.specs.declared.reply.Reply.TheVariants as reply
+use Rattle.hol_answers.specs.declared.refusal.Refusal.TheVariants.{NoState, NoType}
+use Rattle.hol_answers.specs.declared.reply.Reply.{Reply}
+use Rattle.hol_answers.specs.declared.reply.Reply.TheVariants as reply
 use Rattle.hollow_machine.specs.KeyOrders.{FindReply, GetReply, ListsFound, ShowsFound}
 use Rattle.hollow_machine.specs.MemberOrders.{AtReply, HasReply, TellsElement, TellsValue}
 use Rattle.hollow_machine.specs.RowOrders.{AnswersAt, AnswersOf, ListsLive, LiveReply, PastReply, RowReply, ShowsPast, ShowsRow}

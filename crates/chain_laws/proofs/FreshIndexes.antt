@@ -18,8 +18,8 @@ use Rattle.schema_model.specs.Parts.{index_of_type}
 use Rattle.row_model.specs.Table.{Table}
 use Rattle.row_walk.specs.BothStates.{rows_in}
 use Rattle.row_packing.proofs.LiveRows.{is_live, live_is, rising_keys}
-use Rattle.hol_orders.specs.declared.reply.Reply.{Reply}
-use Rattle.hol_orders.specs.declared.reply.Reply.TheVariants as reply
+use Rattle.hol_answers.specs.declared.reply.Reply.{Reply}
+use Rattle.hol_answers.specs.declared.reply.Reply.TheVariants as reply
 use Rattle.read_engine.specs.Indexes.{KeepsIndex, index_by}
 use Rattle.read_engine.specs.Position.{Index, Position, rows_now}
 use Rattle.hollow_machine.specs.IndexOrder.{IndexStep}

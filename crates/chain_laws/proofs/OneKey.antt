@@ -21,10 +21,10 @@ use Rattle.row_model.specs.PlainTree.{node_count}
 use Rattle.schema_model.proofs.Ways.{one_path}
 use Rattle.json_rows.specs.KeyFrom.{AreKinds, SpellsKey, key_values}
 use Rattle.record_json.specs.PrintTree.{PrintsTree}
-use Rattle.hol_orders.specs.declared.refusal.Refusal.{Refusal}
-use Rattle.hol_orders.specs.declared.refusal.Refusal.TheVariants.{Ambiguous, BadKey, BadPath, NoIndex, NoMatch, NoState, NoType, TooLarge, WrongKind}
-use Rattle.hol_orders.specs.declared.reply.Reply.{Reply}
-use Rattle.hol_orders.specs.declared.reply.Reply.TheVariants as reply
+use Rattle.hol_answers.specs.declared.refusal.Refusal.{Refusal}
+use Rattle.hol_answers.specs.declared.refusal.Refusal.TheVariants.{Ambiguous, BadKey, BadPath, NoIndex, NoMatch, NoState, NoType, TooLarge, WrongKind}
+use Rattle.hol_answers.specs.declared.reply.Reply.{Reply}
+use Rattle.hol_answers.specs.declared.reply.Reply.TheVariants as reply
 use Rattle.hol_orders.specs.Parts.{whole}
 use Rattle.read_engine.specs.Indexes.{CountsKeyed, HasNoRoom, KeepsIndex, index_by}
 use Rattle.read_engine.specs.Position.{Index, Position, rows_now}

@@ -13,12 +13,12 @@ use Rattle.row_model.specs.PlainTree.{node_count}
 use Rattle.row_model.specs.Row.{Rises}
 use Rattle.row_model.specs.Table.{IsLive}
 use Rattle.write_engine.proofs.RisingLists.{one_set}
-use Rattle.hol_orders.specs.declared.refusal.Refusal.{Refusal}
-use Rattle.hol_orders.specs.declared.refusal.Refusal.TheVariants.{NoRow, TooLarge}
-use Rattle.hol_orders.specs.declared.reply.Reply.{Reply}
-use Rattle.hol_orders.specs.declared.reply.Reply.TheVariants as reply
+use Rattle.hol_answers.specs.declared.refusal.Refusal.{Refusal}
+use Rattle.hol_answers.specs.declared.refusal.Refusal.TheVariants.{NoRow, TooLarge}
+use Rattle.hol_answers.specs.declared.reply.Reply.{Reply}
+use Rattle.hol_answers.specs.declared.reply.Reply.TheVariants as reply
 use Rattle.hol_orders.specs.Parts.{pair, whole}
-use Rattle.hol_orders.specs.Reply.{is_refusal, past_item, reply_data}
+use Rattle.hol_answers.specs.Reply.{is_refusal, past_item, reply_data}
 use Rattle.read_engine.specs.Gone.{AreGone}
 use Rattle.read_engine.specs.Position.{Position, rows_now}
 use Rattle.hollow_machine.specs.RowOrders.{AnswersAt, AnswersOf, ListsLive, LiveReply, PastReply, RowRefusal, RowReply, ShowsGone, ShowsPast, ShowsRow, nodes_gone, record_at}

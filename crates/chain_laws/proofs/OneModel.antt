@@ -11,10 +11,10 @@ use Rattle.json_rows.specs.declared.fault.JsonFault.TheVariants as fault
 use Rattle.json_rows.specs.SchemaJson.{HasText, StandsFor}
 use Rattle.json_rows.specs.SchemasFrom.{IsRefused}
 use Rattle.json_rows.proofs.OneSchemaList.{one_list, rule_exactly}
-use Rattle.hol_orders.specs.declared.refusal.Refusal.{Refusal}
-use Rattle.hol_orders.specs.declared.refusal.Refusal.TheVariants as refused
-use Rattle.hol_orders.specs.declared.reply.Reply.{Reply}
-use Rattle.hol_orders.specs.declared.reply.Reply.TheVariants as reply
+use Rattle.hol_answers.specs.declared.refusal.Refusal.{Refusal}
+use Rattle.hol_answers.specs.declared.refusal.Refusal.TheVariants as refused
+use Rattle.hol_answers.specs.declared.reply.Reply.{Reply}
+use Rattle.hol_answers.specs.declared.reply.Reply.TheVariants as reply
 use Rattle.hollow_machine.specs.ModelOrder.{BreaksRule, IsNamed, ModelRefusal, ModelStep}
 use Rattle.hollow_machine.specs.State.{Machine, new_producer}
 

@@ -8,8 +8,8 @@ use Rattle.schema_model.specs.declared.schema.name.Name.{Name}
 use Rattle.write_engine.proofs.NextStates.{next_once}
 use Rattle.hol_orders.specs.declared.order.Order.{Order}
 use Rattle.hol_orders.specs.declared.order.Order.TheVariants as order
-use Rattle.hol_orders.specs.declared.reply.Reply.{Reply}
-use Rattle.hol_orders.specs.declared.reply.Reply.TheVariants as reply
+use Rattle.hol_answers.specs.declared.reply.Reply.{Reply}
+use Rattle.hol_answers.specs.declared.reply.Reply.TheVariants as reply
 use Rattle.read_engine.specs.Position.{Position}
 use Rattle.hollow_machine.specs.CycleOrder.{CycleStep, Succeeds}
 use Rattle.hollow_machine.specs.IndexOrder.{IndexStep}

@@ -1,7 +1,7 @@
 -- Answers that say one line.
 use Rattle.std.specs.Prelude.{◌≡◌}
-use Rattle.hol_orders.specs.declared.reply.Reply.{Reply}
-use Rattle.hol_orders.specs.Reply.{is_refusal, reply_data}
+use Rattle.hol_answers.specs.declared.reply.Reply.{Reply}
+use Rattle.hol_answers.specs.Reply.{is_refusal, reply_data}
 
 -- Both are one JSON object, and a refusal or none.
 abbrev pub SaysOne : Reply → Reply → Type 0

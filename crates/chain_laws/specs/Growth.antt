@@ -8,10 +8,10 @@ use Rattle.row_model.specs.PlainTree.{PlainTree}
 use Rattle.row_model.specs.Table.{Table}
 use Rattle.write_engine.specs.Cycle.{Next}
 use Rattle.hol_orders.specs.declared.order.Order.TheVariants as order
-use Rattle.hol_orders.specs.declared.reply.Reply.{Reply}
-use Rattle.hol_orders.specs.declared.reply.Reply.TheVariants.{Cycle}
+use Rattle.hol_answers.specs.declared.reply.Reply.{Reply}
+use Rattle.hol_answers.specs.declared.reply.Reply.TheVariants.{Cycle}
 use Rattle.hol_orders.specs.Order.{Orders}
-use Rattle.hol_orders.specs.Reply.{line_of}
+use Rattle.hol_answers.specs.Reply.{line_of}
 use Rattle.hollow_machine.specs.Records.{AreRead, entries}
 use Rattle.hollow_machine.specs.Script.{LineStep}
 use Rattle.hollow_machine.specs.State.{Machine, Published}

@@ -8,7 +8,7 @@ use Rattle.schema_model.proofs.Ways.{type_inside}
 use Rattle.read_engine.specs.Gone.{AreGone}
 use Rattle.read_engine.specs.Position.{Position}
 use Rattle.hol_orders.specs.declared.order_stop.OrderStop.{OrderStop}
-use Rattle.hol_orders.specs.declared.reply.Reply.{Reply}
+use Rattle.hol_answers.specs.declared.reply.Reply.{Reply}
 use Rattle.hollow_machine.specs.RowOrders.{AnswersAt, PastReply, ShowsPast}
 use Rattle.consumer_orders.specs.Asked.{TellsType}
 use Rattle.consumer_orders.specs.declared.type_order.Asked.TheVariants.{At}

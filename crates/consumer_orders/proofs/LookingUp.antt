@@ -13,10 +13,10 @@ use Rattle.json_rows.specs.declared.fault.JsonFault.TheVariants as json_fault
 use Rattle.json_rows.specs.KeyFrom.{SpellsKey, TellsKey}
 use Rattle.read_engine.specs.Indexes.{index_by}
 use Rattle.read_engine.specs.Position.{Index, Position, rows_now}
-use Rattle.hol_orders.specs.declared.refusal.Refusal.{Refusal}
-use Rattle.hol_orders.specs.declared.refusal.Refusal.TheVariants as refusal
-use Rattle.hol_orders.specs.declared.reply.Reply.{Reply}
-use Rattle.hol_orders.specs.declared.reply.Reply.TheVariants as reply
+use Rattle.hol_answers.specs.declared.refusal.Refusal.{Refusal}
+use Rattle.hol_answers.specs.declared.refusal.Refusal.TheVariants as refusal
+use Rattle.hol_answers.specs.declared.reply.Reply.{Reply}
+use Rattle.hol_answers.specs.declared.reply.Reply.TheVariants as reply
 use Rattle.hollow_machine.specs.KeyOrders.{FindReply, FindsUnder, ListsFound, LookUpRefusal, ShowsFound}
 use Rattle.hollow_machine.specs.RowOrders.{AnswersAt}
 use Rattle.consumer_orders.specs.Asked.{TellsType}

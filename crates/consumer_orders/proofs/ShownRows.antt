@@ -11,7 +11,7 @@ use Rattle.row_model.specs.Table.{Table, IsLive}
 use Rattle.row_model.specs.Unfold.{unfold_row}
 use Rattle.record_json.specs.PrintTree.{PrintsTree}
 use Rattle.read_engine.specs.Position.{Position, rows_now}
-use Rattle.hol_orders.specs.declared.reply.Reply.TheVariants as reply
+use Rattle.hol_answers.specs.declared.reply.Reply.TheVariants as reply
 use Rattle.hollow_machine.specs.KeyOrders.{FindsUnder, ShowsFound}
 use Rattle.hollow_machine.specs.RowOrders.{ShowsRow}
 

@@ -11,9 +11,9 @@ use Rattle.schema_model.specs.Path.{Resolves}
 use Rattle.json_rows.specs.KeyFrom.{SpellsKey}
 use Rattle.read_engine.specs.Indexes.{CountsKeyed, KeepsIndex, index_by}
 use Rattle.read_engine.specs.Position.{Index, Position, rows_now}
-use Rattle.hol_orders.specs.declared.refusal.Refusal.TheVariants.{BadKey, BadPath, NoIndex}
-use Rattle.hol_orders.specs.declared.reply.Reply.{Reply}
-use Rattle.hol_orders.specs.declared.reply.Reply.TheVariants as reply
+use Rattle.hol_answers.specs.declared.refusal.Refusal.TheVariants.{BadKey, BadPath, NoIndex}
+use Rattle.hol_answers.specs.declared.reply.Reply.{Reply}
+use Rattle.hol_answers.specs.declared.reply.Reply.TheVariants as reply
 use Rattle.hollow_machine.specs.IndexOrder.{RefusesIndex}
 use Rattle.hollow_machine.specs.KeyOrders.{FindsUnder, LookUpRefusal}
 use Rattle.hollow_machine.specs.KeyPaths.{AreKeyPaths, HasShape, IsFirstLost, IsObject, PathsRefusal}

@@ -3,7 +3,8 @@ ghost use Rattle.std.specs.Prelude.{◌≡◌, IfErr, IfOk};
 ghost use Rattle.hollow_machine.specs.RowOrders.{AreLive, LiveReply};
 
 use crate::type_order::{Asked, type_of};
-use hol_orders::{OrderStop, Reply};
+use hol_answers::Reply;
+use hol_orders::OrderStop;
 use hol_varint::Ordinals;
 use read_engine::Consumer;
 use row_model::Rows;

@@ -6,7 +6,8 @@ ghost use Rattle.hollow_machine.specs.LoadOrder.{LoadStep};
 
 use crate::take_refusal::take_refusal;
 use hol_io::{BlobName, BlobStore};
-use hol_orders::{OrderStop, Reply};
+use hol_answers::Reply;
+use hol_orders::OrderStop;
 use read_engine::Consumer;
 
 /// The consumer becomes the state of a version's snapshot, and the answer tells its tag; or the snapshot is refused, with the first cause: `NoBlob`,

@@ -6,6 +6,3 @@ mod OfKind
 mod Words
 mod Told
 mod Walks
-mod Floats
-mod Pasts
-pub mod ThirdBytes

@@ -1,10 +1,6 @@
 pub mod Kind
-pub mod Marks
 pub mod Order
 pub mod Parts
-pub mod Plain
-pub mod Refusal
-pub mod Reply
 pub mod Shapes
 pub mod Stops
 pub mod Taken

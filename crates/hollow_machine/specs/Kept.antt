@@ -5,7 +5,7 @@ use Rattle.hol_io.specs.Store.{Store}
 use Rattle.write_engine.specs.Cycle.{no_rows}
 use Rattle.write_engine.specs.Production.{Production}
 use Rattle.read_engine.specs.Position.{Position}
-use Rattle.hol_orders.specs.declared.reply.Reply.{Reply}
+use Rattle.hol_answers.specs.declared.reply.Reply.{Reply}
 use Rattle.hollow_machine.specs.State.{Machine, Published}
 
 -- The producer that is kept, as it is between two cycles.

@@ -4,8 +4,8 @@ use Rattle.hol_io.specs.declared.name.BlobName.TheVariants.{Snapshot}
 use Rattle.hol_io.specs.Store.{told}
 use Rattle.read_engine.specs.Position.{Position}
 use Rattle.read_engine.specs.Taking.{LoadsFrom}
-use Rattle.hol_orders.specs.declared.reply.Reply.{Reply}
-use Rattle.hol_orders.specs.declared.reply.Reply.TheVariants.{Load, Refused}
+use Rattle.hol_answers.specs.declared.reply.Reply.{Reply}
+use Rattle.hol_answers.specs.declared.reply.Reply.TheVariants.{Load, Refused}
 use Rattle.hollow_machine.specs.Blobs.{SnapshotRefusal}
 use Rattle.hollow_machine.specs.State.{Machine}
 

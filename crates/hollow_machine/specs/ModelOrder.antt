@@ -7,10 +7,10 @@ use Rattle.schema_model.specs.declared.schema.Schema.{Schema}
 use Rattle.schema_model.specs.Model.{IsModel, IsFirstBroken}
 use Rattle.json_rows.specs.SchemaJson.{HasText, StandsFor}
 use Rattle.json_rows.specs.SchemasFrom.{IsRefused}
-use Rattle.hol_orders.specs.declared.refusal.Refusal.{Refusal}
-use Rattle.hol_orders.specs.declared.refusal.Refusal.TheVariants.{BadModel, ModelFixed}
-use Rattle.hol_orders.specs.declared.reply.Reply.{Reply}
-use Rattle.hol_orders.specs.declared.reply.Reply.TheVariants.{Model, Refused}
+use Rattle.hol_answers.specs.declared.refusal.Refusal.{Refusal}
+use Rattle.hol_answers.specs.declared.refusal.Refusal.TheVariants.{BadModel, ModelFixed}
+use Rattle.hol_answers.specs.declared.reply.Reply.{Reply}
+use Rattle.hol_answers.specs.declared.reply.Reply.TheVariants.{Model, Refused}
 use Rattle.hollow_machine.specs.State.{Machine, new_producer}
 
 -- The schemas that the value stands for break this rule first, and the type at this index is the first that breaks it. A

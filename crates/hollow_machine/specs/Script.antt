@@ -1,10 +1,10 @@
 -- What the machine answers to the lines of a script, one after another.
 use Rattle.std.specs.Prelude.{◌≡◌, ◌<◌, ◌≤◌, ◌⊎◌, ◌^◌, ℕ, List, [], ◌∷◌, ◌++◌, length, Bool, true, false, if◌then◌else◌}
 use Rattle.hol_orders.specs.declared.order.Order.{Order}
-use Rattle.hol_orders.specs.declared.refusal.Refusal.TheVariants.{BadOrder, LineTooLong}
-use Rattle.hol_orders.specs.declared.reply.Reply.{Reply}
+use Rattle.hol_answers.specs.declared.refusal.Refusal.TheVariants.{BadOrder, LineTooLong}
+use Rattle.hol_answers.specs.declared.reply.Reply.{Reply}
 use Rattle.hol_orders.specs.Order.{Orders}
-use Rattle.hol_orders.specs.Reply.{is_refusal, line_of}
+use Rattle.hol_answers.specs.Reply.{is_refusal, line_of}
 use Rattle.hollow_machine.specs.State.{Machine}
 use Rattle.hollow_machine.specs.Step.{Refuses, Step}
 

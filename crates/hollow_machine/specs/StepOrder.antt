@@ -7,10 +7,10 @@ use Rattle.blob_frame.specs.declared.header.Header.{Header}
 use Rattle.blob_frame.specs.Opened.{HasHeader}
 use Rattle.read_engine.specs.Position.{Position}
 use Rattle.read_engine.specs.Taking.{StepsBy}
-use Rattle.hol_orders.specs.declared.refusal.Refusal.{Refusal}
-use Rattle.hol_orders.specs.declared.refusal.Refusal.TheVariants.{BadBody, NoState, OtherOrigin}
-use Rattle.hol_orders.specs.declared.reply.Reply.{Reply}
-use Rattle.hol_orders.specs.declared.reply.Reply.TheVariants.{Refused, Step}
+use Rattle.hol_answers.specs.declared.refusal.Refusal.{Refusal}
+use Rattle.hol_answers.specs.declared.refusal.Refusal.TheVariants.{BadBody, NoState, OtherOrigin}
+use Rattle.hol_answers.specs.declared.reply.Reply.{Reply}
+use Rattle.hol_answers.specs.declared.reply.Reply.TheVariants.{Refused, Step}
 use Rattle.hollow_machine.specs.Blobs.{HeadRefusal}
 use Rattle.hollow_machine.specs.State.{Machine}
 

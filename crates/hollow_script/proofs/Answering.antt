@@ -5,8 +5,8 @@ use Rattle.std.specs.Io.KnownBytes.{Appends}
 use Rattle.std.proofs.KnownBytes.{Appends-nil, Appends-trans, Consumes-nil, Consumes-trans}
 use Rattle.hol_io.specs.Lines.{IsAhead, Reading, Takes, cut, starts}
 use Rattle.hol_io.specs.Store.{Store}
-use Rattle.hol_orders.specs.declared.reply.Reply.{Reply}
-use Rattle.hol_orders.specs.Reply.{is_refusal, line_of}
+use Rattle.hol_answers.specs.declared.reply.Reply.{Reply}
+use Rattle.hol_answers.specs.Reply.{is_refusal, line_of}
 use Rattle.hollow_machine.specs.Kept.{machine_of}
 use Rattle.hollow_machine.specs.Script.{LineStep, Script, ShortStep, longest_line}
 use Rattle.hollow_machine.specs.State.{Machine, started}

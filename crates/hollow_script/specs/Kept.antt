@@ -1,7 +1,7 @@
 -- What a run keeps from one order to the next, and the machine that it stands for.
 use Rattle.std.specs.Prelude.{◌≡◌, Option, None, Result}
 use Rattle.hol_io.specs.Store.{Store}
-use Rattle.hol_orders.specs.declared.reply.Reply.{Reply}
+use Rattle.hol_answers.specs.declared.reply.Reply.{Reply}
 use Rattle.hollow_machine.specs.Kept.{Moves, machine_of}
 use Rattle.hollow_machine.specs.State.{Machine}
 use Rattle.hollow_script.specs.declared.keep.Keep.{Keep}

@@ -4,8 +4,8 @@ use Rattle.std.specs.Prelude.{◌≡◌, ◌<◌, ◌≤◌, ◌^◌, ℕ, List,
 use Rattle.std.specs.Io.KnownBytes.{Appends, Consumes}
 use Rattle.hol_io.specs.Lines.{Reading, Moves, cut}
 use Rattle.hol_io.specs.Store.{Store}
-use Rattle.hol_orders.specs.declared.reply.Reply.{Reply}
-use Rattle.hol_orders.specs.declared.reply.Reply.TheVariants.{Cycle}
+use Rattle.hol_answers.specs.declared.reply.Reply.{Reply}
+use Rattle.hol_answers.specs.declared.reply.Reply.TheVariants.{Cycle}
 use Rattle.hollow_machine.specs.Script.{LineStep, Script, longest_line}
 use Rattle.hollow_machine.specs.State.{started}
 use Rattle.hol_orders.specs.declared.order_stop.OrderStop.{OrderStop}

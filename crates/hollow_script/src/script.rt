@@ -5,7 +5,7 @@ ghost use Rattle.hol_io.specs.Causes.{Rose};
 ghost use Rattle.hol_io.specs.Lines.{Takes};
 ghost use Rattle.hol_io.specs.Store.{Store};
 ghost use Rattle.hol_io.specs.Turn.{HasLimits};
-ghost use Rattle.hol_orders.specs.Reply.{line_of};
+ghost use Rattle.hol_answers.specs.Reply.{line_of};
 ghost use Rattle.hollow_machine.specs.Kept.{IsResting};
 ghost use Rattle.hollow_script.specs.Kept.{KeepsNothing};
 ghost use Rattle.hollow_script.specs.Scripted.{AllAnswered, AllWritten, AnswersNext, Gains, HasGiven, IsAnswered, MayPut, PutsAnswer, ServesNext, TakesPast, longest_input};
@@ -14,7 +14,7 @@ use crate::keep::Keep;
 use crate::order::answer_line;
 use crate::script_stop::ScriptStop;
 use hol_io::{BlobStore, Lines, Sink, Source, Turn, write_all};
-use hol_orders::{MAX_LINE_BYTES, Refusal, Reply, put_reply};
+use hol_answers::{MAX_LINE_BYTES, Refusal, Reply, put_reply};
 use std::alloc::Global;
 
 /// How many bytes an input has at most.

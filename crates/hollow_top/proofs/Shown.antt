@@ -19,16 +19,16 @@ use Rattle.type_state.specs.Views.{table_of, next_halves}
 use Rattle.snapshot_blob.specs.declared.body.Body.{Body}
 use Rattle.snapshot_blob.specs.Body.{TellsBody}
 use Rattle.snapshot_blob.specs.Snapshot.{IsAccepted, IsRefused}
-use Rattle.hol_orders.specs.declared.refusal.Refusal.{Refusal}
-use Rattle.hol_orders.specs.declared.refusal.Refusal.TheVariants.{BadBody}
-use Rattle.hol_orders.specs.declared.reply.Reply.{Reply}
-use Rattle.hol_orders.specs.declared.reply.Reply.TheVariants.{Refused}
+use Rattle.hol_answers.specs.declared.refusal.Refusal.{Refusal}
+use Rattle.hol_answers.specs.declared.refusal.Refusal.TheVariants.{BadBody}
+use Rattle.hol_answers.specs.declared.reply.Reply.{Reply}
+use Rattle.hol_answers.specs.declared.reply.Reply.TheVariants.{Refused}
 use Rattle.hollow_top.specs.declared.stop.Stop.{Stop}
 use Rattle.hollow_top.specs.declared.stop.Stop.TheVariants.{Memory, Sink, Store as StoreFailed}
 use Rattle.hollow_top.specs.Command.{IsLineOf}
 use Rattle.hollow_machine.specs.Blobs.{HeadRefusal, SnapshotRefusal}
 use Rattle.hollow_top.specs.Head.{refusal_of}
-use Rattle.hol_orders.specs.Reply.{is_refusal, line_of}
+use Rattle.hol_answers.specs.Reply.{is_refusal, line_of}
 use Rattle.hollow_top.specs.RowLines.{AreLinesOf, Listed, LeavesLines, rows_in_order}
 use Rattle.hollow_top.specs.Show.{ShowsContent, ShowsRows, Shows, body_refusal_of}
 use Rattle.hollow_top.specs.Stopping.{GainsFront, Leaves}

@@ -5,9 +5,9 @@ use Rattle.hol_io.specs.Lines.{cut}
 use Rattle.hol_io.specs.declared.name.BlobName.{BlobName}
 use Rattle.hol_io.specs.Store.{Store, told}
 use Rattle.blob_grammar.specs.Decided.{AreBytes}
-use Rattle.hol_orders.specs.declared.refusal.Refusal.TheVariants.{NotYet}
-use Rattle.hol_orders.specs.declared.reply.Reply.{Reply}
-use Rattle.hol_orders.specs.declared.reply.Reply.TheVariants.{Refused}
+use Rattle.hol_answers.specs.declared.refusal.Refusal.TheVariants.{NotYet}
+use Rattle.hol_answers.specs.declared.reply.Reply.{Reply}
+use Rattle.hol_answers.specs.declared.reply.Reply.TheVariants.{Refused}
 use Rattle.hollow_machine.specs.Script.{Script}
 use Rattle.hollow_machine.specs.State.{Machine, started}
 use Rattle.hollow_script.specs.Scripted.{longest_input}
@@ -16,7 +16,7 @@ use Rattle.hollow_top.specs.declared.stop.Stop.TheVariants.{Memory, Sink, Store 
 use Rattle.hollow_top.specs.declared.words.Command.{Command}
 use Rattle.hollow_top.specs.declared.words.Command.TheVariants.{Run, Head, Show, Make}
 use Rattle.hollow_top.specs.Head.{HeadReply}
-use Rattle.hol_orders.specs.Reply.{is_refusal, line_of}
+use Rattle.hol_answers.specs.Reply.{is_refusal, line_of}
 use Rattle.hollow_top.specs.Show.{Shows}
 use Rattle.hollow_top.specs.Stopping.{GainsPart}
 

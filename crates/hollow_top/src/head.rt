@@ -6,7 +6,7 @@ ghost use Rattle.hollow_top.specs.Stopping.{StopsBefore};
 use crate::stop::Stop;
 use blob_frame::{BlobFault, opened};
 use hol_io::{BlobName, BlobStore};
-use hol_orders::{Refusal, Reply};
+use hol_answers::{Refusal, Reply};
 use std::alloc::Global;
 
 /// The header of a blob of the store, or the refusal of it: `NoBlob` where the store has no such

@@ -21,7 +21,7 @@ use crate::stop::Stop;
 use crate::words::{Command, command_of};
 use chain_laws::laws::true_script;
 use hol_io::{BlobStore, Sink, Source};
-use hol_orders::{Refusal, Reply};
+use hol_answers::{Refusal, Reply};
 use hollow_script::{Keep, ScriptStop, run_script};
 use std::alloc::Global;
 

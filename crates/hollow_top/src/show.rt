@@ -10,7 +10,7 @@ use crate::row_lines::show_rows;
 use crate::stop::Stop;
 use blob_frame::{BlobFault, opened};
 use hol_io::{BlobName, BlobStore, Sink};
-use hol_orders::{Refusal, Reply};
+use hol_answers::{Refusal, Reply};
 use snapshot_blob::laws::header_and_body;
 use snapshot_blob::read_body;
 use std::alloc::Global;

@@ -1,8 +1,6 @@
 //! Orders that are read, and lines of answers.
-use hol_orders::{
-    Kind, Order, OrderFault, Refusal, Reply, order_of, put_line, put_reply, refusal_value,
-    reply_line,
-};
+use hol_answers::{Refusal, Reply, put_line, put_reply, refusal_value, reply_line};
+use hol_orders::{Kind, Order, OrderFault, order_of};
 use schema_model::Names;
 use serde_json::Value;
 use std::alloc::{AllocError, Global};

@@ -1,6 +1,6 @@
 //! The lines of refusals.
 use hol_io::BlobName;
-use hol_orders::{Refusal, Reply, RowPlace, reply_line};
+use hol_answers::{Refusal, Reply, RowPlace, reply_line};
 use schema_model::{Limit, Name, Reason};
 use std::alloc::{AllocError, Global};
 

@@ -12,9 +12,9 @@ use Rattle.json_rows.specs.SchemaJson.{HasText, IsSchema, ItemsAre}
 use Rattle.json_rows.specs.SchemasFrom.{TellsSchemas}
 use Rattle.json_rows.specs.declared.fault.JsonFault.{JsonFault}
 use Rattle.json_rows.specs.declared.fault.JsonFault.TheVariants as rule_fault
-use Rattle.hol_orders.specs.declared.refusal.Refusal.TheVariants.{BadModel}
-use Rattle.hol_orders.specs.declared.reply.Reply.{Reply}
-use Rattle.hol_orders.specs.declared.reply.Reply.TheVariants.{Refused}
+use Rattle.hol_answers.specs.declared.refusal.Refusal.TheVariants.{BadModel}
+use Rattle.hol_answers.specs.declared.reply.Reply.{Reply}
+use Rattle.hol_answers.specs.declared.reply.Reply.TheVariants.{Refused}
 use Rattle.hollow_machine.specs.ModelOrder.{BreaksRule, IsNamed, ModelStep}
 use Rattle.hollow_machine.specs.State.{Machine}
 use Rattle.hol_orders.specs.declared.order_stop.OrderStop.{OrderStop}

@@ -1,6 +1,7 @@
 //! Why a cycle ends before its state is published.
 use hol_io::PutFault;
-use hol_orders::{OrderStop, Refusal};
+use hol_answers::Refusal;
+use hol_orders::OrderStop;
 use schema_model::Limit;
 use section_writing::WriteFault;
 use std::alloc::AllocError;

@@ -1,6 +1,6 @@
 use Rattle.std.proofs.Common.{rules}
-use Rattle.hol_orders.specs.declared.refusal.Refusal.TheVariants.{BadOrder}
-use Rattle.hol_orders.specs.declared.reply.Reply.TheVariants.{Refused}
+use Rattle.hol_answers.specs.declared.refusal.Refusal.TheVariants.{BadOrder}
+use Rattle.hol_answers.specs.declared.reply.Reply.TheVariants.{Refused}
 use Rattle.hollow_machine.specs.Script.{ShortStep}
 use Rattle.hollow_script.proofs.Ordering.{no_order_steps, order_moves, stays}
 use Rattle.hollow_script.proofs.order.answer_line.Goals as goal

@@ -1,0 +1,145 @@
+-- Answer lines have no number with a fraction or an exponent, so that their text is the one that they are stated by.
+use Rattle.std.proofs.Common.{codes, ◌≡◌, ℕ, ℤ, List, [], ◌∷◌, ◌++◌, map, Bool, true, false, ◌||◌, Option, None, Some, Result, Ok, Err, String, Global, string_bytes, refl, ap, subst, ◌∙◌}
+use Rattle.std.specs.Prelude.{IfOk, OnOk}
+use Rattle.serde_json.specs.Data.{Data}
+use Rattle.serde_json.specs.View.{view, items_of, items_view}
+use Rattle.serde_json.specs.declared.value.Value.{Value}
+use Rattle.serde_json.specs.Written.{has_float, items_have_float, compact_text}
+use Rattle.json_rows.proofs.Printed.{items_have_float-items_of, integer_has_none}
+use Rattle.hol_answers.specs.declared.reply.Reply.{Reply}
+use Rattle.hol_answers.specs.declared.reply.Reply.TheVariants.{Head, Model, Cycle, Load, Step, Index, Get, Find, Live, Row, Has, At, Past, Refused}
+use Rattle.hol_answers.specs.declared.refusal.Refusal.{Refusal}
+use Rattle.hol_answers.specs.declared.refusal.Refusal.TheVariants.{BadOrder, LineTooLong, BadModel, NoModel, ModelFixed, BadRecord, BadVersion, TagUsed, NoBlob, BadBlob, OtherOrigin, NoState, NoType, NoRow, BadPath, NoMatch, Ambiguous, Mismatch, TooLarge, DuplicateRow, OtherModel, NotLast, NoIndex, WrongKind, BadKey, NotYet, BadBody}
+use Rattle.schema_model.specs.declared.schema.name.Name.{Name}
+use Rattle.blob_frame.specs.declared.header.Header.{Header}
+use Rattle.hol_orders.specs.Parts.{whole}
+use Rattle.hol_answers.specs.Plain.{IsPlain}
+use Rattle.hol_answers.specs.Refusal.{refusal_data}
+use Rattle.hol_answers.specs.Reply.{reply_data, head_data, cycle_data, tag_data, get_data, ordinals_data, at_data, row_data, past_item, texts_data, names_data, tags_data, line_of}
+
+-- a refusal has none
+has_float-refusal_data : (refusal : Refusal) → has_float (refusal_data refusal) ≡ false
+has_float-refusal_data BadOrder = refl
+has_float-refusal_data LineTooLong = refl
+has_float-refusal_data (BadModel rule type_name) = refl
+has_float-refusal_data NoModel = refl
+has_float-refusal_data ModelFixed = refl
+has_float-refusal_data (BadRecord type_name index reason) = refl
+has_float-refusal_data (BadVersion last) = refl
+has_float-refusal_data (TagUsed tag) = rw (integer_has_none tag) refl
+has_float-refusal_data (NoBlob blob) = refl
+has_float-refusal_data (BadBlob blob at reason None) = refl
+has_float-refusal_data (BadBlob blob at reason (Some row)) = refl
+has_float-refusal_data (OtherOrigin blob found current) = rw (integer_has_none found, integer_has_none current) refl
+has_float-refusal_data NoState = refl
+has_float-refusal_data (NoType name) = refl
+has_float-refusal_data (NoRow row) = refl
+has_float-refusal_data (BadPath path) = refl
+has_float-refusal_data NoMatch = refl
+has_float-refusal_data (Ambiguous first second) = refl
+has_float-refusal_data (Mismatch version None None) = refl
+has_float-refusal_data (Mismatch version None (Some ordinal)) = refl
+has_float-refusal_data (Mismatch version (Some type_name) None) = refl
+has_float-refusal_data (Mismatch version (Some type_name) (Some ordinal)) = refl
+has_float-refusal_data (TooLarge limit) = refl
+has_float-refusal_data (DuplicateRow type_name first second) = refl
+has_float-refusal_data (OtherModel blob type_name) = refl
+has_float-refusal_data (NotLast announced) = refl
+has_float-refusal_data NoIndex = refl
+has_float-refusal_data (WrongKind name) = refl
+has_float-refusal_data BadKey = refl
+has_float-refusal_data NotYet = refl
+has_float-refusal_data (BadBody blob) = refl
+
+-- the other answers have none: those that hold no JSON value
+pub has_float-head_data : (header : Header) → has_float (head_data header) ≡ false
+has_float-head_data header =
+    let schemas : has_float (names_data header.schemas) ≡ false = items_have_float-items_of _ (λ schema. refl) header.schemas in
+    let tags : has_float (tags_data header.tags) ≡ false = items_have_float-items_of _ (λ tag. refl) header.tags in
+    rw (integer_has_none header.destination, integer_has_none header.origin, schemas, tags) refl
+
+pub has_float-cycle_data : (changed : List Name) (published : Bool) (version : ℕ) → has_float (cycle_data changed published version) ≡ false
+has_float-cycle_data changed published version =
+    let texts : has_float (texts_data changed) ≡ false = items_have_float-items_of _ (λ name. refl) changed in
+    rw texts refl
+
+pub has_float-tag_data : (word : List ℕ) (tag : ℤ) → has_float (tag_data word tag) ≡ false
+has_float-tag_data word tag = rw (integer_has_none tag) refl
+
+pub has_float-ordinals_data : (word ordinals : List ℕ) → has_float (ordinals_data word ordinals) ≡ false
+has_float-ordinals_data word ordinals =
+    let numbers : items_have_float (items_of (map whole ordinals)) ≡ false = items_have_float-items_of _ (λ n. refl) ordinals in
+    rw numbers refl
+
+pub has_float-at_data : (value : Option ℕ) → has_float (at_data value) ≡ false
+has_float-at_data None = refl
+has_float-at_data (Some ordinal) = refl
+
+-- an answer that holds no JSON value
+abbrev pub IsBare : Reply → Type 0
+IsBare (Get ordinal row) = ⊥
+IsBare (Row row) = ⊥
+IsBare (Past entries) = ⊥
+IsBare _ = Unit {0}
+
+has_float-reply_data : (reply : Reply) → IsBare reply → has_float (reply_data reply) ≡ false
+has_float-reply_data (Head header) is = has_float-head_data header
+has_float-reply_data (Model types) is = refl
+has_float-reply_data (Cycle changed published version) is = has_float-cycle_data changed published version
+has_float-reply_data (Load tag) is = has_float-tag_data (codes "load") tag
+has_float-reply_data (Step tag) is = has_float-tag_data (codes "step") tag
+has_float-reply_data (Index keys) is = refl
+has_float-reply_data (Get ordinal row) is = absurd is
+has_float-reply_data (Find ordinals) is = has_float-ordinals_data (codes "find") ordinals
+has_float-reply_data (Live ordinals) is = has_float-ordinals_data (codes "live") ordinals
+has_float-reply_data (Row row) is = absurd is
+has_float-reply_data (Has there) is = refl
+has_float-reply_data (At value) is = has_float-at_data value
+has_float-reply_data (Past entries) is = absurd is
+has_float-reply_data (Refused refusal) is = has_float-refusal_data refusal
+
+pub plain_answer : {E : Type 0} (reply : Reply) (r : Result Value E) → IsBare reply → IfOk r (λ value. view value ≡ reply_data reply) → IfOk r IsPlain
+plain_answer reply (Ok value) bare is = ap has_float is ∙ has_float-reply_data reply bare
+plain_answer reply (Err refused) bare is = tt
+
+-- a found record's answer has none where the record has none
+pub plain_found : {E : Type 0} (ordinal : ℕ) (row : Value) (r : Result Value E) → IsPlain row → IfOk r (λ value. view value ≡ get_data ordinal row) → IfOk r IsPlain
+plain_found ordinal row (Ok value) plain is = ap has_float is ∙ rw plain refl
+plain_found ordinal row (Err refused) plain is = tt
+
+-- a row's answer has none where the row has none
+pub plain_row : {E : Type 0} (row : Value) (r : Result Value E) → IsPlain row → IfOk r (λ value. view value ≡ row_data row) → IfOk r IsPlain
+plain_row row (Ok value) plain is = ap has_float is ∙ rw plain refl
+plain_row row (Err refused) plain is = tt
+
+-- the same of a row that left
+pub plain_entry : {E : Type 0} (ordinal : ℕ) (row : Value) (r : Result Value E) → IsPlain row → IfOk r (λ value. view value ≡ past_item (ordinal, row)) → IfOk r IsPlain
+plain_entry ordinal row (Ok value) plain is = ap has_float is ∙ rw plain refl
+plain_entry ordinal row (Err refused) plain is = tt
+
+-- one more item without
+pub items_more : (values : List Value) (value : Value) → items_have_float (items_view values) ≡ false → IsPlain value → items_have_float (items_view (values ++ value ∷ [])) ≡ false
+items_more [] value none plain = rw plain refl
+items_more (v ∷ values) value none plain =
+    let here : has_float (view v) ≡ false = first_false _ _ none in
+    let rest : items_have_float (items_view values) ≡ false = second_false _ _ none in
+    rw here (items_more values value rest plain)
+  where
+    first_false : (a b : Bool) → (a || b) ≡ false → a ≡ false
+    first_false true b e = e
+    first_false false b e = refl
+
+    second_false : (a b : Bool) → (a || b) ≡ false → b ≡ false
+    second_false true b e = cc
+    second_false false b e = e
+
+-- the text of an answer's JSON and a newline are its line
+pub is_line : {E : Type 0} (reply : Reply) (value : Value) (r : Result (String Global) E) → view value ≡ reply_data reply → IsPlain value →
+    IfOk r (λ text. has_float (view value) ≡ false → string_bytes text ≡ compact_text (view value) ++ 10 ∷ []) → IfOk r (λ line. string_bytes line ≡ line_of reply)
+is_line reply value (Ok text) is plain told = told plain ∙ ap (λ d. compact_text d ++ 10 ∷ []) is
+is_line reply value (Err refused) is plain told = tt
+
+-- the same of a line that is appended
+pub is_put : {T E : Type 0} (reply : Reply) (value : Data) (before after : List ℕ) (r : Result T E) → value ≡ reply_data reply →
+    OnOk r (after ≡ before ++ (compact_text value ++ 10 ∷ [])) → OnOk r (after ≡ before ++ line_of reply)
+is_put reply value before after r is told = subst (λ d. OnOk r (after ≡ before ++ (compact_text d ++ 10 ∷ []))) is told

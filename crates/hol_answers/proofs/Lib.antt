@@ -1,0 +1,3 @@
+mod Floats
+mod Pasts
+pub mod ThirdBytes

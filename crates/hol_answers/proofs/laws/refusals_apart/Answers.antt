@@ -1,0 +1,5 @@
+use Rattle.hol_answers.proofs.ThirdBytes.{apart}
+use Rattle.hol_answers.proofs.laws.refusals_apart.Goals as goal
+
+pub returns : goal.returns
+returns c = apart

@@ -1,0 +1,5 @@
+use Rattle.hol_answers.proofs.ThirdBytes.{marked}
+use Rattle.hol_answers.proofs.laws.refusals_marked.Goals as goal
+
+pub returns : goal.returns
+returns c = marked

@@ -1,0 +1,268 @@
+//! What a command or an order answers in one line, and the line of each answer.
+ghost use Rattle.std.specs.Prelude.{◌≡◌, ◌++◌, IfOk, OnOk, OnErr, string_bytes};
+ghost use Rattle.serde_json.specs.View.{view};
+ghost use Rattle.hol_answers.specs.Plain.{IsPlain};
+ghost use Rattle.hol_answers.specs.Reply.{reply_data, head_data, model_data, cycle_data, load_data, step_data, tag_data, index_data, get_data, ordinals_data, row_data, has_data, at_data, past_data, past_item, texts_data, names_data, tags_data, is_refusal, line_of};
+
+use crate::line::{line_text, put_line};
+use crate::plain::PlainValue;
+use crate::refusal::Refusal;
+use crate::refusal_json::refusal_value;
+use blob_frame::Header;
+use hol_varint::{List, Ordinals};
+use schema_model::{NamePairs, Names, Schemas};
+use serde_json::{Value, json};
+use std::alloc::{AllocError, Global};
+
+/// Rows that left, each by its ordinal and as its record.
+pub type PastRows = List<(u32, PlainValue)>;
+
+/// What a command or an order answers in one line.
+#[derive(Debug, Drop)]
+pub enum Reply {
+    /// The header of a blob.
+    Head(Header),
+    /// A new producer, of so many types.
+    Model(u32),
+    /// The next state of the producer.
+    Cycle {
+        /// The names of the types that changed, in model order.
+        changed: Names,
+        /// Whether blobs were put.
+        published: bool,
+        /// The version that was asked for.
+        version: u64,
+    },
+    /// The consumer became the state with this tag.
+    Load(i64),
+    /// The consumer moved to the state with this tag.
+    Step(i64),
+    /// The consumer keeps an index, in which so many rows have a key.
+    Index(u64),
+    /// The record that has a primary key.
+    Get {
+        /// Its ordinal.
+        ordinal: u32,
+        /// The record.
+        row: PlainValue,
+    },
+    /// The ordinals of the rows that have a key, rising.
+    Find(Ordinals),
+    /// The live ordinals of a type, rising.
+    Live(Ordinals),
+    /// The record of a row.
+    Row(PlainValue),
+    /// Whether a set has an element.
+    Has(bool),
+    /// The value beside a key of a map; none where the map has no such key.
+    At(Option<u32>),
+    /// The records of a type that left in the last step, by rising ordinal.
+    Past(PastRows),
+    /// Why the command or the order is refused.
+    Refused(Refusal),
+}
+
+impl Reply {
+    /// Whether the command or the order is refused.
+    pub fn is_refusal(&self) -> bool
+        ensures { result ≡ is_refusal self.now }
+    {
+        matches!(self, Reply::Refused(_))
+    }
+}
+
+/// The line of an answer: one JSON object without spaces, its members in byte order of their names,
+/// and a newline.
+pub fn reply_line(alloc: Global, reply: Reply) -> Result<String, AllocError>
+    ensures { IfOk result (λ line. string_bytes line ≡ line_of reply) }
+{
+    let value = reply_value(alloc, reply)?;
+    line_text(alloc, &value)
+}
+
+/// Appends the line of an answer. Where memory is refused `out` stays as it was.
+pub fn put_reply(alloc: Global, out: &mut Vec<u8>, reply: Reply) -> Result<(), AllocError>
+    ensures put { OnOk result (out.new.items ≡ out.old.items ++ line_of reply) }
+    ensures err { OnErr result (out.new.items ≡ out.old.items) }
+{
+    let value = reply_value(alloc, reply)?;
+    put_line(alloc, out, &value)
+}
+
+// The JSON object of an answer, which has no number with a fraction or an exponent.
+fn reply_value(alloc: Global, reply: Reply) -> Result<Value, AllocError>
+    ensures value { IfOk result (λ value. view value ≡ reply_data reply) }
+    ensures plain { IfOk result IsPlain }
+{
+    match reply {
+        Reply::Head(header) => head_value(alloc, &header),
+        Reply::Model(types) => model_value(alloc, types),
+        Reply::Cycle {
+            changed,
+            published,
+            version,
+        } => cycle_value(alloc, &changed, published, version),
+        Reply::Load(tag) => tag_value(alloc, "load", tag),
+        Reply::Step(tag) => tag_value(alloc, "step", tag),
+        Reply::Index(keys) => index_value(alloc, keys),
+        Reply::Get { ordinal, row } => get_value(alloc, ordinal, row),
+        Reply::Find(ordinals) => ordinals_value(alloc, "find", &ordinals),
+        Reply::Live(ordinals) => ordinals_value(alloc, "live", &ordinals),
+        Reply::Row(row) => row_value(alloc, row),
+        Reply::Has(there) => has_value(alloc, there),
+        Reply::At(value) => at_value(alloc, value),
+        Reply::Past(rows) => past_value(alloc, rows),
+        Reply::Refused(refusal) => refusal_value(alloc, &refusal),
+    }
+}
+
+fn head_value(alloc: Global, header: &Header) -> Result<Value, AllocError>
+    ensures { IfOk result (λ value. view value ≡ head_data header.now) }
+{
+    let schemas = names_value(alloc, &header.schemas)?;
+    let tags = tags_value(alloc, &header.tags)?;
+    json!(in alloc; {
+        "destination": (header.destination),
+        "format": 1030u64,
+        "ok": "head",
+        "origin": (header.origin),
+        "schemas": schemas,
+        "tags": tags
+    })
+}
+
+fn model_value(alloc: Global, types: u32) -> Result<Value, AllocError>
+    ensures { IfOk result (λ value. view value ≡ model_data types) }
+{
+    json!(in alloc; {"ok": "model", "types": types})
+}
+
+fn cycle_value(
+    alloc: Global,
+    changed: &Names,
+    published: bool,
+    version: u64,
+) -> Result<Value, AllocError>
+    ensures { IfOk result (λ value. view value ≡ cycle_data changed.now published version) }
+{
+    let changed = texts_value(alloc, changed)?;
+    json!(in alloc; {
+        "changed": changed,
+        "ok": "cycle",
+        "published": published,
+        "version": version
+    })
+}
+
+// A consumer that is now at this tag.
+fn tag_value(alloc: Global, word: &str, tag: i64) -> Result<Value, AllocError>
+    ensures { IfOk result (λ value. view value ≡ tag_data word.now tag) }
+{
+    json!(in alloc; {"ok": word, "tag": tag})
+}
+
+fn index_value(alloc: Global, keys: u64) -> Result<Value, AllocError>
+    ensures { IfOk result (λ value. view value ≡ index_data keys) }
+{
+    json!(in alloc; {"keys": keys, "ok": "index"})
+}
+
+#[tactic(auto, using(crate::proofs::Floats::plain_found))]
+fn get_value(alloc: Global, ordinal: u32, row: PlainValue) -> Result<Value, AllocError>
+    ensures value { IfOk result (λ value. view value ≡ get_data ordinal row) }
+    ensures plain { IfOk result IsPlain }
+{
+    let row = row.into_value();
+    json!(in alloc; {"ok": "get", "ordinal": ordinal, "row": row})
+}
+
+fn has_value(alloc: Global, there: bool) -> Result<Value, AllocError>
+    ensures { IfOk result (λ value. view value ≡ has_data there) }
+{
+    json!(in alloc; {"has": there, "ok": "has"})
+}
+
+fn at_value(alloc: Global, value: Option<u32>) -> Result<Value, AllocError>
+    ensures { IfOk result (λ json. view json ≡ at_data value) }
+{
+    match value {
+        Some(ordinal) => json!(in alloc; {"ok": "at", "value": ordinal}),
+        None => json!(in alloc; {"ok": "at", "value": null}),
+    }
+}
+
+// Ordinals of a type, in their order.
+fn ordinals_value(alloc: Global, word: &str, ordinals: &Ordinals) -> Result<Value, AllocError>
+    ensures { IfOk result (λ value. view value ≡ ordinals_data word.now ordinals.now) }
+{
+    let mut numbers = Vec::new(alloc);
+    for ordinal in ordinals.as_slice() {
+        numbers.push(Value::from(*ordinal))?;
+    }
+    let numbers = Value::Array(numbers);
+    json!(in alloc; {"ok": word, "ordinals": numbers})
+}
+
+#[tactic(auto, using(crate::proofs::Floats::plain_row))]
+fn row_value(alloc: Global, row: PlainValue) -> Result<Value, AllocError>
+    ensures value { IfOk result (λ value. view value ≡ row_data row) }
+    ensures plain { IfOk result IsPlain }
+{
+    let row = row.into_value();
+    json!(in alloc; {"ok": "row", "row": row})
+}
+
+fn past_value(alloc: Global, rows: PastRows) -> Result<Value, AllocError>
+    ensures value { IfOk result (λ value. view value ≡ past_data rows) }
+    ensures plain { IfOk result IsPlain }
+{
+    let mut entries = Vec::new(alloc);
+    for (ordinal, row) in rows.into_vec() {
+        entries.push(past_entry(alloc, ordinal, row)?)?;
+    }
+    let entries = Value::Array(entries);
+    json!(in alloc; {"ok": "past", "rows": entries})
+}
+
+// A row that left: its ordinal and its record.
+#[tactic(auto, using(crate::proofs::Floats::plain_entry))]
+fn past_entry(alloc: Global, ordinal: u32, row: PlainValue) -> Result<Value, AllocError>
+    ensures value { IfOk result (λ value. view value ≡ past_item (ordinal, row)) }
+    ensures plain { IfOk result IsPlain }
+{
+    let row = row.into_value();
+    json!(in alloc; [ordinal, row])
+}
+
+// Names, in their order.
+fn texts_value(alloc: Global, names: &Names) -> Result<Value, AllocError>
+    ensures { IfOk result (λ value. view value ≡ texts_data names.now) }
+{
+    let mut texts = Vec::new(alloc);
+    for name in names.as_slice() {
+        texts.push(Value::try_from_str(alloc, name.text())?)?;
+    }
+    Ok(Value::Array(texts))
+}
+
+// The names of schemas, in their order.
+fn names_value(alloc: Global, schemas: &Schemas) -> Result<Value, AllocError>
+    ensures { IfOk result (λ value. view value ≡ names_data schemas.now) }
+{
+    let mut names = Vec::new(alloc);
+    for schema in schemas.as_slice() {
+        names.push(Value::try_from_str(alloc, schema.name.text())?)?;
+    }
+    Ok(Value::Array(names))
+}
+
+// The pairs of a header, in their order.
+fn tags_value(alloc: Global, tags: &NamePairs) -> Result<Value, AllocError>
+    ensures { IfOk result (λ value. view value ≡ tags_data tags.now) }
+{
+    let mut pairs = Vec::new(alloc);
+    for tag in tags.as_slice() {
+        pairs.push(json!(in alloc; [(tag.0.text()), (tag.1.text())])?)?;
+    }
+    Ok(Value::Array(pairs))
+}
