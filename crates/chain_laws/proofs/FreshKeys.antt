@@ -16,7 +16,7 @@ use Rattle.row_model.specs.Table.{IsLive, Table, row_at}
 use Rattle.row_model.specs.Unfold.{unfold_row}
 use Rattle.bucket_codec.specs.Run.{FindsIn}
 use Rattle.type_state.specs.Lookup.{elements_of, pairs_of}
-use Rattle.json_rows.specs.KeyFrom.{SpellsKey}
+use Rattle.json_values.specs.KeyFrom.{SpellsKey}
 use Rattle.record_json.specs.PrintTree.{PrintsTree}
 use Rattle.hol_answers.specs.declared.refusal.Refusal.{Refusal}
 use Rattle.hol_answers.specs.declared.refusal.Refusal.TheVariants.{Ambiguous, BadKey, BadPath, NoIndex, NoMatch, NoRow, TooLarge, WrongKind}

@@ -19,7 +19,7 @@ use Rattle.schema_model.specs.Parts.{index_of_type}
 use Rattle.schema_model.specs.Path.{Resolves}
 use Rattle.row_model.specs.PlainTree.{node_count}
 use Rattle.schema_model.proofs.Ways.{one_path}
-use Rattle.json_rows.specs.KeyFrom.{AreKinds, SpellsKey, key_values}
+use Rattle.json_values.specs.KeyFrom.{AreKinds, SpellsKey, key_values}
 use Rattle.record_json.specs.PrintTree.{PrintsTree}
 use Rattle.hol_answers.specs.declared.refusal.Refusal.{Refusal}
 use Rattle.hol_answers.specs.declared.refusal.Refusal.TheVariants.{Ambiguous, BadKey, BadPath, NoIndex, NoMatch, NoState, NoType, TooLarge, WrongKind}

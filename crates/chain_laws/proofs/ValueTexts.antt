@@ -17,7 +17,7 @@ use Rattle.schema_model.specs.declared.schema.Schema.{Schema}
 use Rattle.schema_model.specs.declared.schema.Shape.{Shape}
 use Rattle.schema_model.specs.declared.schema.name.Name.{Name}
 use Rattle.schema_model.specs.Schema.{EachName, EachNameOfField, EachNameOfKind, EachNameOfShape}
-use Rattle.json_rows.specs.SchemaJson.{HasKey, HasParts, HasTarget, HasText, IsArrayOf, IsField, IsKindName, IsSchema, IsText, ItemsAre, StandsFor}
+use Rattle.json_values.specs.SchemaJson.{HasKey, HasParts, HasTarget, HasText, IsArrayOf, IsField, IsKindName, IsSchema, IsText, ItemsAre, StandsFor}
 
 -- a text is UTF-8, and what an array or an object holds are values
 abbrev IsShown : Data → Type 0

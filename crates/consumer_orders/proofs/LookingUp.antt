@@ -8,9 +8,9 @@ use Rattle.row_model.specs.declared.row.Value.{Value}
 use Rattle.schema_model.specs.declared.schema.Schema.{Schema}
 use Rattle.row_model.specs.Key.{AreMatches}
 use Rattle.row_model.specs.Table.{Table}
-use Rattle.json_rows.specs.declared.fault.JsonFault.{JsonFault}
-use Rattle.json_rows.specs.declared.fault.JsonFault.TheVariants as json_fault
-use Rattle.json_rows.specs.KeyFrom.{SpellsKey, TellsKey}
+use Rattle.json_values.specs.declared.fault.JsonFault.{JsonFault}
+use Rattle.json_values.specs.declared.fault.JsonFault.TheVariants as json_fault
+use Rattle.json_values.specs.KeyFrom.{SpellsKey, TellsKey}
 use Rattle.read_engine.specs.Indexes.{index_by}
 use Rattle.read_engine.specs.Position.{Index, Position, rows_now}
 use Rattle.hol_answers.specs.declared.refusal.Refusal.{Refusal}

@@ -8,7 +8,7 @@ use Rattle.schema_model.specs.declared.schema.name.Name.{Name}
 use Rattle.schema_model.specs.declared.schema.Schema.{Schema}
 use Rattle.row_model.specs.Key.{AreMatches}
 use Rattle.schema_model.specs.Path.{Resolves}
-use Rattle.json_rows.specs.KeyFrom.{SpellsKey}
+use Rattle.json_values.specs.KeyFrom.{SpellsKey}
 use Rattle.read_engine.specs.Indexes.{CountsKeyed, KeepsIndex, index_by}
 use Rattle.read_engine.specs.Position.{Index, Position, rows_now}
 use Rattle.hol_answers.specs.declared.refusal.Refusal.TheVariants.{BadKey, BadPath, NoIndex}

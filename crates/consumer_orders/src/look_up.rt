@@ -7,7 +7,7 @@ ghost use Rattle.consumer_orders.specs.Sought.{TellsAlong, TellsFound};
 use crate::key_paths::{KeyPaths, key_paths};
 use hol_answers::Refusal;
 use hol_varint::Ordinals;
-use json_rows::{JsonFault, key_from};
+use json_values::{JsonFault, key_from};
 use read_engine::Consumer;
 use schema_model::{Model, Name, Names, Paths};
 use serde_json::Value;

@@ -5,7 +5,7 @@ use Rattle.std.specs.Int.{w64}
 use Rattle.serde_json.specs.Data.{Data, string}
 use Rattle.serde_json.specs.View.{view}
 use Rattle.hol_io.specs.Name.{IsVersion}
-use Rattle.json_rows.specs.SchemaJson.{AreSchemas}
+use Rattle.json_values.specs.SchemaJson.{AreSchemas}
 use Rattle.hol_orders.specs.declared.json.KeyValues.{KeyValues}
 use Rattle.hol_orders.specs.declared.json.NextState.{NextState}
 use Rattle.hol_orders.specs.declared.json.Paths.{Paths}

@@ -5,7 +5,7 @@ use Rattle.serde_json.specs.Data.{Data, string, object, boolean, no_members, mem
 use Rattle.serde_json.specs.Read.{read}
 use Rattle.serde_json.specs.View.{view}
 use Rattle.hol_io.specs.Name.{IsVersion}
-use Rattle.json_rows.specs.SchemaJson.{AreSchemas}
+use Rattle.json_values.specs.SchemaJson.{AreSchemas}
 use Rattle.hol_orders.specs.declared.kind.Kind.{Kind}
 use Rattle.hol_orders.specs.declared.order.Order.{Order}
 use Rattle.hol_orders.specs.declared.order.Order.TheVariants.{Model, Cycle, Restore, Load, Step, Index, Get, Find, Live, Row, Has, At, Past, Check, Stat}

@@ -8,7 +8,7 @@ ghost use Rattle.hol_orders.specs.Shapes.{ArePaths, AreTexts, AreRecords, AreArr
 ghost use Rattle.hol_orders.specs.Taken.{TellsItems, TellsMember, TellsNext, TellsThree};
 
 use crate::order::{OrderFault, Versions};
-use json_rows::are_schemas;
+use json_values::are_schemas;
 use schema_model::Name;
 use serde_json::{Map, Value};
 use std::alloc::Global;
@@ -172,7 +172,7 @@ impl FromJson for Records {
 
 impl FromJson for SchemaList {
     ghost use Rattle.serde_json.specs.View.{view};
-    ghost use Rattle.json_rows.specs.SchemaJson.{AreSchemas};
+    ghost use Rattle.json_values.specs.SchemaJson.{AreSchemas};
 
     ghost fits = { λ schemas. AreSchemas (view schemas.0) };
 

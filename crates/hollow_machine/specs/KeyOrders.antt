@@ -9,7 +9,7 @@ use Rattle.schema_model.specs.declared.schema.name.Name.{Name}
 use Rattle.row_model.specs.Key.{AreMatches}
 use Rattle.schema_model.specs.Limit.{number_of_limit}
 use Rattle.row_model.specs.PlainTree.{node_count}
-use Rattle.json_rows.specs.KeyFrom.{SpellsKey}
+use Rattle.json_values.specs.KeyFrom.{SpellsKey}
 use Rattle.record_json.specs.PrintTree.{PrintsTree}
 use Rattle.read_engine.specs.Indexes.{index_by}
 use Rattle.read_engine.specs.Position.{Position, rows_now}

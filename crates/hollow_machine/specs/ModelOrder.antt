@@ -5,8 +5,8 @@ use Rattle.serde_json.specs.Find.{at}
 use Rattle.schema_model.specs.declared.model.rule.Rule.{Rule}
 use Rattle.schema_model.specs.declared.schema.Schema.{Schema}
 use Rattle.schema_model.specs.Model.{IsModel, IsFirstBroken}
-use Rattle.json_rows.specs.SchemaJson.{HasText, StandsFor}
-use Rattle.json_rows.specs.SchemasFrom.{IsRefused}
+use Rattle.json_values.specs.SchemaJson.{HasText, StandsFor}
+use Rattle.json_values.specs.SchemasFrom.{IsRefused}
 use Rattle.hol_answers.specs.declared.refusal.Refusal.{Refusal}
 use Rattle.hol_answers.specs.declared.refusal.Refusal.TheVariants.{BadModel, ModelFixed}
 use Rattle.hol_answers.specs.declared.reply.Reply.{Reply}

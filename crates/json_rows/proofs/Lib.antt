@@ -4,9 +4,3 @@ pub mod TextKinds
 pub mod Printed
 pub mod Orders
 pub mod Sent
-pub mod ItemLists
-pub mod SchemaShapes
-pub mod Refusals
-pub mod OneSchemaList
-pub mod ReadingEach
-pub mod KeyParts

@@ -1,7 +1,7 @@
 //! A map that is read, and maps of which two keys are the same.
 ghost use Rattle.std.specs.Prelude.{◌<◌, length};
 
-use json_rows::{JsonFault, schemas_from};
+use json_values::{JsonFault, schemas_from};
 use record_json::tree_from;
 use schema_model::{Model, model_of};
 use serde_json::Value;

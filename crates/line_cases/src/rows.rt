@@ -3,9 +3,8 @@ ghost use Rattle.row_model.specs.Dangling.{IsPlain};
 ghost use Rattle.row_model.specs.Row.{FitsShape};
 
 use hol_varint::Ordinals;
-use json_rows::{
-    are_schemas, field_order, key_from, row_line, row_value, schemas_from, value_from,
-};
+use json_rows::{field_order, row_line, row_value};
+use json_values::{are_schemas, key_from, schemas_from, value_from};
 use row_model::{Pairs, Row, Values};
 use schema_model::{
     FieldKind, Fields, Model, Name, Paths, Schema, Schemas, Shape, model_of, resolve,

@@ -11,8 +11,8 @@ use Rattle.schema_model.specs.declared.reason.Reason.{Reason}
 use Rattle.schema_model.specs.declared.schema.Schema.{Schema}
 use Rattle.row_model.specs.Tree.{plain}
 use Rattle.row_model.specs.declared.tree.Tree.{Tree}
-use Rattle.json_rows.specs.declared.fault.JsonFault.{JsonFault}
-use Rattle.json_rows.specs.declared.fault.JsonFault.TheVariants as field_fault
+use Rattle.json_values.specs.declared.fault.JsonFault.{JsonFault}
+use Rattle.json_values.specs.declared.fault.JsonFault.TheVariants as field_fault
 use Rattle.record_json.specs.ReadTree.{TellsAs, read_tree}
 use Rattle.write_engine.specs.Agreement.{HoldsOnce, TablesAgree}
 use Rattle.write_engine.specs.Cycle.{Adds, AddsRecords, no_rows}

@@ -8,10 +8,10 @@ use Rattle.schema_model.specs.declared.model.rule.Rule.{Rule}
 use Rattle.schema_model.specs.declared.model.rule.Rule.TheVariants as rule
 use Rattle.schema_model.specs.declared.schema.FieldKind.{FieldKind}
 use Rattle.schema_model.specs.declared.schema.Schema.{Schema}
-use Rattle.json_rows.specs.SchemaJson.{HasText, IsSchema, ItemsAre}
-use Rattle.json_rows.specs.SchemasFrom.{TellsSchemas}
-use Rattle.json_rows.specs.declared.fault.JsonFault.{JsonFault}
-use Rattle.json_rows.specs.declared.fault.JsonFault.TheVariants as rule_fault
+use Rattle.json_values.specs.SchemaJson.{HasText, IsSchema, ItemsAre}
+use Rattle.json_values.specs.SchemasFrom.{TellsSchemas}
+use Rattle.json_values.specs.declared.fault.JsonFault.{JsonFault}
+use Rattle.json_values.specs.declared.fault.JsonFault.TheVariants as rule_fault
 use Rattle.hol_answers.specs.declared.refusal.Refusal.TheVariants.{BadModel}
 use Rattle.hol_answers.specs.declared.reply.Reply.{Reply}
 use Rattle.hol_answers.specs.declared.reply.Reply.TheVariants.{Refused}

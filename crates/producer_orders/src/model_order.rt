@@ -2,14 +2,14 @@
 ghost use Rattle.std.specs.Prelude.{◌≡◌, ℕ, List, Option, IfOk, IfErr, IfSome};
 ghost use Rattle.serde_json.specs.View.{view};
 ghost use Rattle.hol_io.specs.Store.{Store};
-ghost use Rattle.json_rows.specs.SchemaJson.{AreSchemas};
+ghost use Rattle.json_values.specs.SchemaJson.{AreSchemas};
 ghost use Rattle.read_engine.specs.Position.{Position};
 ghost use Rattle.hollow_machine.specs.Kept.{IsResting, machine_of};
 ghost use Rattle.hollow_machine.specs.ModelOrder.{BreaksRule, IsNamed, ModelStep};
 
 use hol_answers::{Refusal, Reply};
 use hol_orders::OrderStop;
-use json_rows::{JsonFault, schemas_from};
+use json_values::{JsonFault, schemas_from};
 use schema_model::{ModelFault, Name, Rule, model_of};
 use serde_json::Value;
 use std::alloc::Global;

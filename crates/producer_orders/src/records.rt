@@ -10,7 +10,7 @@ ghost use Rattle.hollow_machine.specs.Records.{Entry, entries, entries_at, value
 ghost use Rattle.producer_orders.specs.Parts.{AreAdded, TellsAdded, TellsRecords};
 
 use crate::record_fault::RecordFault;
-use json_rows::JsonFault;
+use json_values::JsonFault;
 use ordinal_map::PutRowFault;
 use record_json::laws::read_tree_fits;
 use record_json::tree_from;

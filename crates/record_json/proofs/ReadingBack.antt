@@ -25,7 +25,7 @@ use Rattle.schema_model.proofs.Ways.{one_field}
 use Rattle.typed_trees.specs.FitsTree.{AreKeysApart, FitAll, FitFields, FitPairs, FitsLeaf, FitsTree, IsLeafOr}
 use Rattle.typed_trees.specs.Types.{list_element, map_types, object_fields, referred, set_element}
 use Rattle.same_trees.proofs.Deciding.{keys_apart_or_not}
-use Rattle.json_rows.specs.ReadValue.{before, read_each}
+use Rattle.json_values.specs.ReadValue.{before, read_each}
 use Rattle.json_rows.specs.StoredRow.{members_of_fields}
 use Rattle.record_json.specs.InRange.{ArePairsInRange, AreTreesInRange, IsTreeInRange}
 use Rattle.record_json.specs.PrintTree.{PrintsAt, PrintsField, PrintsFields, PrintsPair, PrintsShape, PrintsTyped, PrintsWithin}

@@ -13,9 +13,9 @@ use Rattle.schema_model.specs.declared.reason.Reason.{Reason}
 use Rattle.schema_model.specs.declared.schema.name.Name.{Name}
 use Rattle.schema_model.specs.declared.schema.Field.{Field}
 use Rattle.row_model.specs.PlainTree.{PlainTree}
-use Rattle.json_rows.specs.ReadValue.{before}
+use Rattle.json_values.specs.ReadValue.{before}
 use Rattle.record_json.specs.ReadTree.{is_field, are_fields, read_field, read_fields}
-use Rattle.json_rows.proofs.ReadingEach.{joined}
+use Rattle.json_values.proofs.ReadingEach.{joined}
 
 joined_before : {A : Type 0} (xs : List A) (x : A) (rest : Result (List A) Reason) → joined xs (before (Ok x) rest) ≡ joined (xs ++ x ∷ []) rest
 joined_before xs x (Ok ys) = ap Ok (sym (append_assoc xs (x ∷ []) ys))

@@ -21,7 +21,7 @@ use Rattle.same_trees.proofs.Arms.{object_plain, list_plain, set_plain, map_plai
 use Rattle.same_trees.proofs.Deciding.{keys_apart_or_not}
 use Rattle.same_trees.proofs.Passing.{refuted}
 use Rattle.typed_trees.specs.FitsTree.{AreKeysApart}
-use Rattle.json_rows.specs.declared.fault.JsonFault.{JsonFault}
+use Rattle.json_values.specs.declared.fault.JsonFault.{JsonFault}
 use Rattle.record_json.specs.ReadTree.{TellsAs, made, map_apart, key_then, are_fields, read_both, read_fields, read_map, read_members, read_named, read_shape, read_within}
 
 pub made_not : {A B S U : Type 0} (seen : A → B) (seen' : S → U) (make : B → U) (read : Result B Reason) (fault : JsonFault) → TellsAs {A = A} seen read (Err fault) → TellsAs {A = S} seen' (made make read) (Err fault)

@@ -16,8 +16,8 @@ use Rattle.schema_model.specs.Parts.{index_of_type}
 use Rattle.row_model.specs.PlainTree.{PlainTree, PlainPairs, leaf, object, list, set, map, trees_of_list, pairs_of_list}
 use Rattle.same_trees.proofs.Deciding.{keys_apart_or_not}
 use Rattle.typed_trees.specs.FitsTree.{AreKeysApart}
-use Rattle.json_rows.specs.ReadValue.{before, read_each, read_value}
-use Rattle.json_rows.specs.declared.fault.JsonFault.{JsonFault}
+use Rattle.json_values.specs.ReadValue.{before, read_each, read_value}
+use Rattle.json_values.specs.declared.fault.JsonFault.{JsonFault}
 
 -- what is made of what was read
 abbrev pub made : {A B : Type 0} → (A → B) → Result A Reason → Result B Reason

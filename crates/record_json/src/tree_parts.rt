@@ -6,7 +6,7 @@ ghost use Rattle.schema_model.specs.declared.reason.Reason.{Reason};
 ghost use Rattle.record_json.specs.ReadTree.{TellsAs, key_then, made, read_map};
 
 use crate::keys::are_keys_apart;
-use json_rows::JsonFault;
+use json_values::JsonFault;
 use row_model::{Tree, TreePairs, Trees};
 use schema_model::Reason;
 

@@ -5,9 +5,9 @@ ghost use Rattle.row_model.specs.Dangling.{IsPlain};
 ghost use Rattle.row_model.specs.PlainTree.{leaf};
 ghost use Rattle.row_model.specs.Tree.{plain};
 ghost use Rattle.record_json.specs.ReadTree.{TellsAs, are_fields, is_field, made};
-ghost use Rattle.json_rows.specs.ReadValue.{read_value};
+ghost use Rattle.json_values.specs.ReadValue.{read_value};
 
-use json_rows::{JsonFault, value_from};
+use json_values::{JsonFault, value_from};
 use row_model::{Tree, Value as FieldValue};
 use schema_model::{Field, FieldKind};
 use serde_json::{Map, Value};

@@ -4,11 +4,11 @@ ghost use Rattle.serde_json.specs.View.{view, items_view, members_view};
 ghost use Rattle.row_model.specs.PlainTree.{leaf};
 ghost use Rattle.row_model.specs.Tree.{plain, plain_pair, plain_pairs, plain_trees};
 ghost use Rattle.record_json.specs.ReadTree.{TellsAs, read_field, read_fields, read_named, read_both, read_pair, read_tree, read_within};
-ghost use Rattle.json_rows.specs.ReadValue.{read_each, read_kind};
+ghost use Rattle.json_values.specs.ReadValue.{read_each, read_kind};
 
 use crate::tree_parts::{list_of, map_of, object_of, pair_of, set_of};
 use crate::tree_values::{are_all_fields, value_tree};
-use json_rows::JsonFault;
+use json_values::JsonFault;
 use row_model::{Tree, TreePairs, Trees};
 use schema_model::{Field, FieldKind, Model, Name, Reason, Shape};
 use serde_json::Value;

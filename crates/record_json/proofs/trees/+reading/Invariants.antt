@@ -3,7 +3,7 @@ use Rattle.std.proofs.Common.{◌+◌, ◌*◌}
 use Rattle.serde_json.specs.View.{view}
 use Rattle.row_model.specs.Tree.{plain_trees, plain_pairs}
 use Rattle.record_json.specs.ReadTree.{read_named, read_pair}
-use Rattle.json_rows.proofs.ReadingEach.{WasRead}
+use Rattle.json_values.proofs.ReadingEach.{WasRead}
 use Rattle.record_json.proofs.ReadingTrees.{WasReadOf}
 use Rattle.record_json.proofs.trees.+reading.Given as goal
 

@@ -1,6 +1,0 @@
-use Rattle.serde_json.specs.View.{view}
-use Rattle.json_rows.proofs.OneSchemaList.{rule_exactly}
-use Rattle.json_rows.proofs.schemas.schemas_from.Goals as goal
-
-pub returns-clause-rule : goal.returns-clause-rule
-returns-clause-rule c = rule_exactly (view c.args.value.now) c.read_schemas.result c.read_schemas.ensures

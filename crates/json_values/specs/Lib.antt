@@ -1,0 +1,4 @@
+pub mod KeyFrom
+pub mod SchemaJson
+pub mod SchemasFrom
+pub mod ReadValue
