@@ -4,7 +4,7 @@ use Rattle.std.specs.Coded.{Coded, code_by, coded×, coded_ℕ, coded_list, code
 use Rattle.std.specs.FinMap.{FinMap, code, get}
 use Rattle.std.specs.Ordering.{nat_cmp}
 use Rattle.schema_model.specs.contracts.model.path.Path as path_contract
-use Rattle.schema_model.specs.contracts.rows.row.Value as value_contract
+use Rattle.row_model.specs.contracts.row.Value as value_contract
 use Rattle.schema_model.specs.declared.model.path.Path.{Path}
 use Rattle.row_model.specs.declared.row.Value.{Value}
 use Rattle.schema_model.specs.declared.schema.Schema.{Schema}

@@ -2,7 +2,7 @@
 use Rattle.std.specs.Prelude.{refl}
 use Rattle.std.specs.Coded.{Coded, code_by, coded×, coded_ℕ}
 use Rattle.std.specs.FinMap.{code}
-use Rattle.schema_model.specs.contracts.rows.row.Row as row_contract
+use Rattle.row_model.specs.contracts.row.Row as row_contract
 use Rattle.row_model.specs.Table.{RowMap}
 
 pub record States : Type 0 where

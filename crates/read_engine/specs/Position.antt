@@ -7,7 +7,7 @@ use Rattle.schema_model.specs.declared.model.path.Path.{Path}
 use Rattle.schema_model.specs.declared.schema.Schema.{Schema}
 use Rattle.schema_model.specs.contracts.model.path.Path as path_contract
 use Rattle.schema_model.specs.contracts.schema.Schema as schema_contract
-use Rattle.schema_model.specs.contracts.rows.row.Row as row_contract
+use Rattle.row_model.specs.contracts.row.Row as row_contract
 use Rattle.row_model.specs.Key.{IsResolved}
 use Rattle.schema_model.specs.Limit.{number_of_limit}
 use Rattle.schema_model.specs.Model.{IsModel}

@@ -3,7 +3,7 @@ use Rattle.std.specs.Prelude.{ℕ, ◌+◌, List, [], ◌∷◌, Option, None, S
 use Rattle.std.specs.Coded.{Coded, code_by, coded×, coded_ℕ}
 use Rattle.std.specs.FinMap.{code, from_entries}
 use Rattle.row_model.specs.declared.row.Row.{Row}
-use Rattle.schema_model.specs.contracts.rows.row.Row as row_contract
+use Rattle.row_model.specs.contracts.row.Row as row_contract
 use Rattle.row_model.specs.Table.{RowMap}
 
 -- The rows of some slots, each with its ordinal; the first slot is that of a given ordinal.

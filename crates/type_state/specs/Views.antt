@@ -4,7 +4,7 @@ use Rattle.std.specs.Coded.{Coded, code_by, coded×, coded_ℕ, coded_list}
 use Rattle.std.specs.FinMap.{code}
 use Rattle.schema_model.specs.declared.schema.Schema.{Schema}
 use Rattle.schema_model.specs.contracts.schema.Schema as schema_contract
-use Rattle.schema_model.specs.contracts.rows.row.Row as row_contract
+use Rattle.row_model.specs.contracts.row.Row as row_contract
 use Rattle.row_model.specs.Table.{Table, IsTableOf}
 use Rattle.type_state.specs.State.{Half, State, IsLaidOut}
 

@@ -6,7 +6,7 @@ use Rattle.schema_model.specs.declared.limit.Limit.{Limit}
 use Rattle.schema_model.specs.declared.schema.Schema.{Schema}
 use Rattle.schema_model.specs.contracts.limit.Limit as limit_contract
 use Rattle.schema_model.specs.contracts.schema.Schema as schema_contract
-use Rattle.schema_model.specs.contracts.rows.row.Row as row_contract
+use Rattle.row_model.specs.contracts.row.Row as row_contract
 use Rattle.row_model.specs.Row.{Rises}
 use Rattle.row_model.specs.Table.{Table}
 use Rattle.ordinal_map.specs.States.{States}
