@@ -1,7 +1,8 @@
 //! Items, texts, lists, schemas and headers of blobs that are read, and a header that is written.
 ghost use Rattle.std.specs.Prelude.{◌≡◌, [], ◌∷◌, IfOk, codes};
 
-use blob_frame::{BlobFault, Cursor, counted, put_header};
+use blob_cursor::{Cursor, counted};
+use blob_frame::{BlobFault, put_header};
 use hol_io::{BlobName, BlobStore, SureStore};
 use hol_varint::Ordinals;
 use schema_model::{

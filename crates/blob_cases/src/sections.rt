@@ -1,5 +1,5 @@
 //! The part of a type in a snapshot, read item by item.
-use blob_frame::Cursor;
+use blob_cursor::Cursor;
 use blob_sections::{max_ordinal, packed_rows, population, type_head};
 use hol_io::{BlobName, BlobStore, SureStore};
 use std::test::Fail;

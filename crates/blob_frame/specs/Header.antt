@@ -1,6 +1,8 @@
 -- The header of a blob: the format, the tags of the state before and of this state, the schemas, and pairs of texts.
-use Rattle.std.specs.Prelude.{◌≡◌, ◌≢◌, ℕ, List, []}
+use Rattle.std.specs.Prelude.{◌≡◌, ◌≢◌, ◌≤◌, ℕ, List, [], length, Option, Some}
 use Rattle.std.specs.Int.{w16, w32}
+use Rattle.schema_model.specs.declared.limit.Limit.TheVariants.{Blob}
+use Rattle.schema_model.specs.Limit.{number_of_limit}
 use Rattle.schema_model.specs.declared.reason.Reason.{Reason}
 use Rattle.schema_model.specs.declared.reason.Reason.TheVariants.{OtherFormat}
 use Rattle.schema_model.specs.declared.schema.Schema.{Schema}
@@ -55,3 +57,7 @@ HeaderIs blob n h = header.Stands blob 0 h n
 -- The header of the blob cannot be read past this place, for this reason.
 abbrev pub StuckInHeader : List ℕ → ℕ → Reason → Type 0
 StuckInHeader blob place why = header.Stuck blob 0 place why
+
+-- What a name holds begins with this header, and is not too large.
+abbrev pub HasHeader : Option (List ℕ) → Header → Type 0
+HasHeader content header = (blob : List ℕ) × (n : ℕ) × (content ≡ Some blob) × (length blob ≤ number_of_limit Blob) × HeaderIs blob n header

@@ -1,8 +1,8 @@
 //! The header of a blob.
 use schema_model::{NamePairs, Schemas};
 
-/// The number of the blob format.
-pub(crate) const FORMAT: u32 = 1030;
+/// The number of the blob format, with which each header begins.
+pub const FORMAT: u32 = 1030;
 
 /// What stands in front of a blob's types.
 #[derive(Debug, Drop)]

@@ -1,22 +1,11 @@
-//! The bytes of a blob, item by item: a cursor over a blob of a store, and its header.
+//! What stands in a blob, item by item: its items, its schemas and its header; the header written, and the laws of both.
 #![tactic(auto)]
 
-mod cursor;
 mod fault;
 mod header;
-mod items;
 pub mod laws;
-mod opening;
-mod readable;
-mod reading;
-mod schema;
-mod texts;
-mod varints;
 mod writing;
 
-pub use cursor::Cursor;
 pub use fault::BlobFault;
-pub use header::Header;
-pub use opening::opened;
-pub use readable::{Readable, counted};
+pub use header::{FORMAT, Header};
 pub use writing::put_header;

@@ -6,9 +6,9 @@ use Rattle.std.proofs.lemmas.Slice.Zip.{all_zipped_more}
 use Rattle.blob_grammar.specs.Form.{Form, each_of}
 use Rattle.blob_frame.specs.declared.fault.BlobFault.{BlobFault}
 use Rattle.blob_frame.specs.declared.fault.BlobFault.TheVariants as fault
-use Rattle.blob_frame.specs.Scene.{Scene, Stays, IsOver, Reads}
-use Rattle.blob_frame.proofs.Chain.{reads_then, reads_stops, reads_nothing, reads_free, stays_here, stays_then}
-use Rattle.blob_frame.proofs.Counting.{prefixed, prefixed_none, prefixed_more}
+use Rattle.blob_cursor.specs.Scene.{Scene, Stays, IsOver, Reads}
+use Rattle.blob_cursor.proofs.Chain.{reads_then, reads_stops, reads_nothing, reads_free, stays_here, stays_then}
+use Rattle.blob_cursor.proofs.Counting.{prefixed, prefixed_none, prefixed_more}
 
 module _ {A B : Type 0} (f : A → Form B) (P : A → B → Type 0) where
   -- what some of them call for is read, and what is read for the others belongs behind it

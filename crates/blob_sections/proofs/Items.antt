@@ -9,7 +9,7 @@ use Rattle.type_state.specs.Layout.{words_needed, width_count}
 use Rattle.blob_grammar.specs.Form.{repeated, each_of}
 use Rattle.blob_frame.specs.declared.fault.BlobFault.{BlobFault}
 use Rattle.blob_frame.specs.Item.{counted_run}
-use Rattle.blob_frame.specs.Scene.{Scene, Reads}
+use Rattle.blob_cursor.specs.Scene.{Scene, Reads}
 use Rattle.blob_sections.specs.declared.section.PackedRows.{PackedRows}
 use Rattle.blob_sections.specs.Section.{max_of, word_array, packed_records, packed_runs, packed_rows}
 use Rattle.blob_sections.specs.Width.{field_width, part_width, field_widths, part_widths}

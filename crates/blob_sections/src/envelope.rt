@@ -1,8 +1,9 @@
 //! The shard envelope of a type.
-ghost use Rattle.blob_frame.specs.Scene.{IsAbove, Leads};
+ghost use Rattle.blob_cursor.specs.Scene.{IsAbove, Leads};
 ghost use Rattle.blob_sections.specs.Envelope.{shards, listed_shards, shard_envelope};
 
-use blob_frame::{BlobFault, Cursor};
+use blob_cursor::Cursor;
+use blob_frame::BlobFault;
 use hol_io::BlobStore;
 use schema_model::Reason;
 

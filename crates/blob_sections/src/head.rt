@@ -1,9 +1,10 @@
 //! What stands in front of a type's section.
-ghost use Rattle.blob_frame.specs.Scene.{IsAbove, Leads};
+ghost use Rattle.blob_cursor.specs.Scene.{IsAbove, Leads};
 ghost use Rattle.blob_sections.specs.Head.{type_head};
 
 use crate::envelope::shard_envelope;
-use blob_frame::{BlobFault, Cursor};
+use blob_cursor::Cursor;
+use blob_frame::BlobFault;
 use hol_io::BlobStore;
 use schema_model::Schema;
 

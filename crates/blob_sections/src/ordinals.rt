@@ -1,8 +1,9 @@
 //! The population of a type in a snapshot.
-ghost use Rattle.blob_frame.specs.Scene.{IsAbove, Leads};
+ghost use Rattle.blob_cursor.specs.Scene.{IsAbove, Leads};
 ghost use Rattle.blob_sections.specs.Population.{population};
 
-use blob_frame::{BlobFault, Cursor};
+use blob_cursor::Cursor;
+use blob_frame::BlobFault;
 use hol_io::BlobStore;
 use ordinal_set::OrdinalSet;
 

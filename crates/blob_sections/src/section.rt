@@ -3,11 +3,12 @@ ghost use Rattle.std.specs.Prelude.{◌≡◌, ◌≤◌, ◌*◌, ◌^◌, [], 
 ghost use Rattle.schema_model.specs.Parts.{shape_fields};
 ghost use Rattle.object_codec.specs.ObjectPlace.{IsObject};
 ghost use Rattle.type_state.specs.WellFormed.{IsWellFormed};
-ghost use Rattle.blob_frame.specs.Scene.{IsAbove, Leads};
+ghost use Rattle.blob_cursor.specs.Scene.{IsAbove, Leads};
 ghost use Rattle.blob_sections.specs.Section.{max_ordinal, at_least, word_array, packed_records, packed_runs, packed_rows, section_with};
 
 use crate::widths::{field_widths, part_widths};
-use blob_frame::{BlobFault, Cursor, counted};
+use blob_cursor::{Cursor, counted};
+use blob_frame::BlobFault;
 use hol_io::BlobStore;
 use hol_varint::Octets;
 use row_model::{Areas, Packed, Widths, Words};

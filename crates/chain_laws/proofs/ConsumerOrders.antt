@@ -7,7 +7,7 @@ use Rattle.hol_io.specs.declared.name.BlobName.TheVariants.{Snapshot, Delta, Rev
 use Rattle.type_state.specs.Views.{table_of}
 use Rattle.blob_frame.specs.declared.header.Header.{Header}
 use Rattle.blob_frame.specs.Header.{HeaderIs, header}
-use Rattle.blob_frame.specs.Opened.{HasHeader}
+use Rattle.blob_frame.specs.Header.{HasHeader}
 use Rattle.snapshot_blob.specs.Snapshot.{IsAccepted}
 use Rattle.snapshot_blob.proofs.Whole.{begins}
 use Rattle.delta_blob.specs.Patch.{TypePatch, DeltaIs}

@@ -3,7 +3,7 @@ use Rattle.std.specs.Prelude.{◌≡◌, ℕ, ℤ, Option, Some, IfSome}
 use Rattle.hol_io.specs.declared.name.BlobName.{BlobName}
 use Rattle.hol_io.specs.Store.{Store, told}
 use Rattle.blob_frame.specs.declared.header.Header.{Header}
-use Rattle.blob_frame.specs.Opened.{HasHeader}
+use Rattle.blob_frame.specs.Header.{HasHeader}
 use Rattle.read_engine.specs.Position.{Position, rows_now}
 use Rattle.hollow_machine.specs.State.{Machine}
 use Rattle.written_laws.specs.Chain.{Chain, ChainState, HasVersion}

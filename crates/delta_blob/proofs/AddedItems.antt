@@ -13,7 +13,7 @@ use Rattle.type_state.specs.Layout.{width_count}
 use Rattle.type_state.specs.Patches.{IsWellFormedPatch}
 use Rattle.type_state.specs.WellFormed.{IsWidth}
 use Rattle.blob_frame.specs.declared.fault.BlobFault.{BlobFault}
-use Rattle.blob_frame.specs.Scene.{Scene, Reads}
+use Rattle.blob_cursor.specs.Scene.{Scene, Reads}
 use Rattle.blob_sections.specs.declared.section.PackedRows.{PackedRows}
 use Rattle.blob_sections.specs.Section.{word_array}
 use Rattle.blob_sections.proofs.Formed.{field_widths_are, part_widths_are, no_fields}

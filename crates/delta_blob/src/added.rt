@@ -2,10 +2,11 @@
 ghost use Rattle.std.specs.Prelude.{◌≡◌, IfOk};
 ghost use Rattle.schema_model.specs.Parts.{shape_fields};
 ghost use Rattle.object_codec.specs.ObjectPlace.{IsObject};
-ghost use Rattle.blob_frame.specs.Scene.{IsAbove, Leads};
+ghost use Rattle.blob_cursor.specs.Scene.{IsAbove, Leads};
 ghost use Rattle.delta_blob.specs.Added.{ArePlaced, added_records, added_rows, added_runs, words_for};
 
-use blob_frame::{BlobFault, Cursor, counted};
+use blob_cursor::{Cursor, counted};
+use blob_frame::BlobFault;
 use blob_sections::{PackedRows, field_widths, part_widths, word_array};
 use hol_io::BlobStore;
 use hol_varint::Octets;

@@ -1,9 +1,10 @@
 //! The ordinals that a delta removes from a type, or adds to it.
 ghost use Rattle.std.specs.Prelude.{◌≤◌, ◌^◌, IfOk, length};
-ghost use Rattle.blob_frame.specs.Scene.{IsAbove, Leads};
+ghost use Rattle.blob_cursor.specs.Scene.{IsAbove, Leads};
 ghost use Rattle.delta_blob.specs.Ordinals.{gap_run, ordinals};
 
-use blob_frame::{BlobFault, Cursor};
+use blob_cursor::Cursor;
+use blob_frame::BlobFault;
 use hol_io::BlobStore;
 use hol_varint::GapList;
 use ordinal_set::{GapFault, read_gaps};

@@ -2,12 +2,13 @@
 ghost use Rattle.std.specs.Prelude.{All, IfOk};
 ghost use Rattle.type_state.specs.Patches.{IsWellFormedPatch};
 ghost use Rattle.blob_grammar.specs.Form.{repeated};
-ghost use Rattle.blob_frame.specs.Scene.{IsAbove, Leads};
+ghost use Rattle.blob_cursor.specs.Scene.{IsAbove, Leads};
 ghost use Rattle.delta_blob.specs.Parts.{IsWellFormedPart, body, patch_part, patch_section};
 
 use crate::added::added_rows;
 use crate::ordinals::ordinals;
-use blob_frame::{BlobFault, Cursor};
+use blob_cursor::Cursor;
+use blob_frame::BlobFault;
 use blob_sections::{PackedRows, TypeHead, max_ordinal, type_head};
 use hol_io::BlobStore;
 use hol_varint::List;

@@ -2,13 +2,14 @@
 ghost use Rattle.std.specs.Prelude.{◌≡◌, ◌≤◌, All, Err, IfOk, IfSome, OnOk, length};
 ghost use Rattle.hol_io.specs.Causes.{Rose};
 ghost use Rattle.hol_io.specs.Store.{told};
-ghost use Rattle.blob_frame.specs.Scene.{IsAbove};
+ghost use Rattle.blob_cursor.specs.Scene.{IsAbove};
 ghost use Rattle.delta_blob.specs.Reads.{IsWholePart, StopsPatch, TellsDelta, TellsPatch};
 
 use crate::of_model::parts_of;
 use crate::part::body;
 use crate::patch::{Patch, PatchParts};
-use blob_frame::{BlobFault, Cursor, opened};
+use blob_cursor::{Cursor, opened};
+use blob_frame::BlobFault;
 use hol_io::{BlobName, BlobStore};
 use schema_model::Model;
 use std::alloc::Global;

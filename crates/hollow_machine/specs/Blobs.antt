@@ -5,7 +5,7 @@ use Rattle.schema_model.specs.declared.limit.Limit.TheVariants as limit
 use Rattle.schema_model.specs.Limit.{number_of_limit}
 use Rattle.blob_frame.specs.declared.header.Header.{Header}
 use Rattle.blob_frame.specs.Header.{StuckInHeader}
-use Rattle.blob_frame.specs.Opened.{HasHeader}
+use Rattle.blob_frame.specs.Header.{HasHeader}
 use Rattle.snapshot_blob.specs.Snapshot.{IsRefused}
 use Rattle.hol_answers.specs.declared.refusal.Refusal.{Refusal}
 use Rattle.hol_answers.specs.declared.refusal.Refusal.TheVariants.{NoBlob, BadBlob, BadBody, TooLarge}

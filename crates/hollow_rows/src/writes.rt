@@ -3,7 +3,7 @@ ghost use Rattle.std.specs.Prelude.{◌<◌, ◌^◌, length, IfSome, MatchBool}
 ghost use Rattle.schema_model.specs.Parts.{shape_key};
 
 use crate::case::Bench;
-use blob_frame::Cursor;
+use blob_cursor::Cursor;
 use hol_io::{BlobName, BlobStore, MemStore};
 use schema_model::laws::spellable_model;
 use schema_model::{Model, Shape, model_of, put_schema};

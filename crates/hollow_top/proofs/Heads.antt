@@ -8,9 +8,9 @@ use Rattle.schema_model.specs.Limit.{number_of_limit}
 use Rattle.blob_frame.specs.declared.fault.BlobFault.{BlobFault}
 use Rattle.blob_frame.specs.declared.fault.BlobFault.TheVariants as fault
 use Rattle.blob_frame.specs.declared.header.Header.{Header}
-use Rattle.blob_frame.specs.Opened.{TellsHeader}
-use Rattle.blob_frame.specs.Scene.{Place, IsFree}
-use Rattle.blob_frame.specs.Starting.{Starts}
+use Rattle.blob_cursor.specs.Opened.{TellsHeader}
+use Rattle.blob_cursor.specs.Scene.{Place, IsFree}
+use Rattle.blob_cursor.specs.Starting.{Starts}
 use Rattle.hol_answers.specs.declared.refusal.Refusal.{Refusal}
 use Rattle.hol_answers.specs.declared.refusal.Refusal.TheVariants.{NoBlob, BadBlob, TooLarge}
 use Rattle.hollow_machine.specs.Blobs.{HeadRefusal}

@@ -18,7 +18,7 @@ use Rattle.type_state.specs.Views.{table_of}
 use Rattle.blob_frame.specs.declared.header.Header.{Header}
 use Rattle.blob_grammar.specs.Decided.{IsDecided}
 use Rattle.blob_frame.specs.Header.{header, HeaderIs}
-use Rattle.blob_frame.specs.Opened.{HasHeader}
+use Rattle.blob_frame.specs.Header.{HasHeader}
 use Rattle.snapshot_blob.specs.declared.part.TypePart.{TypePart}
 use Rattle.snapshot_blob.specs.Snapshot.{SnapshotIs, IsAccepted}
 use Rattle.json_rows.specs.StoredRow.{IsRowData}

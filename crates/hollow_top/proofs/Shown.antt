@@ -9,8 +9,8 @@ use Rattle.blob_frame.specs.declared.fault.BlobFault.{BlobFault}
 use Rattle.blob_frame.specs.declared.fault.BlobFault.TheVariants as fault
 use Rattle.blob_frame.specs.declared.header.Header.{Header}
 use Rattle.blob_frame.specs.Header.{HeaderIs}
-use Rattle.blob_frame.specs.Opened.{TellsHeader}
-use Rattle.blob_frame.specs.Scene.{Place, IsFree}
+use Rattle.blob_cursor.specs.Opened.{TellsHeader}
+use Rattle.blob_cursor.specs.Scene.{Place, IsFree}
 use Rattle.schema_model.specs.declared.limit.Limit.TheVariants as limit
 use Rattle.schema_model.specs.declared.schema.Schema.{Schema}
 use Rattle.schema_model.specs.Limit.{number_of_limit}

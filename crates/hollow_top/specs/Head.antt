@@ -4,7 +4,7 @@ use Rattle.hol_io.specs.declared.name.BlobName.{BlobName}
 use Rattle.hol_io.specs.Store.{Store, told}
 use Rattle.blob_frame.specs.declared.fault.BlobFault.{BlobFault}
 use Rattle.blob_frame.specs.declared.fault.BlobFault.TheVariants as fault
-use Rattle.blob_frame.specs.Opened.{HasHeader}
+use Rattle.blob_frame.specs.Header.{HasHeader}
 use Rattle.hol_answers.specs.declared.refusal.Refusal.{Refusal}
 use Rattle.hol_answers.specs.declared.refusal.Refusal.TheVariants.{NoBlob, BadBlob, TooLarge}
 use Rattle.hol_answers.specs.declared.reply.Reply.{Reply}

@@ -4,7 +4,8 @@ ghost use Rattle.hollow_top.specs.Head.{HeadReply, refusal_of};
 ghost use Rattle.hollow_top.specs.Stopping.{StopsBefore};
 
 use crate::stop::Stop;
-use blob_frame::{BlobFault, opened};
+use blob_cursor::opened;
+use blob_frame::BlobFault;
 use hol_io::{BlobName, BlobStore};
 use hol_answers::{Refusal, Reply};
 use std::alloc::Global;

@@ -16,8 +16,8 @@ use Rattle.blob_frame.specs.declared.fault.BlobFault.{BlobFault}
 use Rattle.blob_frame.specs.declared.fault.BlobFault.TheVariants as fault
 use Rattle.blob_frame.specs.declared.header.Header.{Header}
 use Rattle.blob_frame.specs.Header.{HeaderIs}
-use Rattle.blob_frame.specs.Opened.{TellsHeader}
-use Rattle.blob_frame.specs.Scene.{Place, IsFree}
+use Rattle.blob_cursor.specs.Opened.{TellsHeader}
+use Rattle.blob_cursor.specs.Scene.{Place, IsFree}
 use Rattle.snapshot_blob.specs.declared.body.Body.{Body}
 use Rattle.snapshot_blob.specs.Body.{IsWholeBody, TellsBody}
 use Rattle.snapshot_blob.specs.Snapshot.{IsAccepted, IsRefused}

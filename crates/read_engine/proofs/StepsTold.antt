@@ -29,8 +29,8 @@ use Rattle.blob_grammar.specs.Form.{◌>>=◌, nothing, both}
 use Rattle.blob_frame.specs.declared.fault.BlobFault.{BlobFault}
 use Rattle.blob_frame.specs.declared.fault.BlobFault.TheVariants as fault
 use Rattle.blob_frame.specs.declared.header.Header.{Header}
-use Rattle.blob_frame.specs.Opened.{TellsHeader}
-use Rattle.blob_frame.specs.Scene.{Place}
+use Rattle.blob_cursor.specs.Opened.{TellsHeader}
+use Rattle.blob_cursor.specs.Scene.{Place}
 use Rattle.blob_frame.specs.Header.{header, HeaderIs}
 use Rattle.delta_blob.specs.declared.part.DeltaPart.{DeltaPart}
 use Rattle.delta_blob.specs.declared.patch.PatchPart.{PatchPart}

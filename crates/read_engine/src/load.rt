@@ -15,7 +15,8 @@ ghost use Rattle.read_engine.specs.Taking.{TellsStand, body_fault_of, loaded_pos
 use crate::TakeFault;
 use crate::past::{PastPart, PastParts};
 use crate::stand::Stand;
-use blob_frame::{BlobFault, opened};
+use blob_cursor::opened;
+use blob_frame::BlobFault;
 use hol_io::{BlobName, BlobStore};
 use snapshot_blob::laws::header_and_body;
 use snapshot_blob::{Body, read_body};

@@ -10,7 +10,7 @@ use Rattle.blob_grammar.specs.Form.{◌>>=◌, nothing}
 use Rattle.blob_frame.specs.declared.fault.BlobFault.{BlobFault}
 use Rattle.blob_frame.specs.declared.fault.BlobFault.TheVariants as fault
 use Rattle.blob_frame.specs.Item.{end}
-use Rattle.blob_frame.specs.Scene.{IsFree, IsItemFault, Tells}
+use Rattle.blob_cursor.specs.Scene.{IsFree, IsItemFault, Tells}
 use Rattle.snapshot_blob.specs.declared.body.Body.{Body}
 use Rattle.snapshot_blob.specs.declared.part.TypePart.{TypePart}
 use Rattle.snapshot_blob.specs.Body.{IsBody, HasNoState, IsBodyFault, TellsBody, ReadsBody}

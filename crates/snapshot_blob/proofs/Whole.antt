@@ -16,9 +16,9 @@ use Rattle.blob_frame.specs.declared.fault.BlobFault.{BlobFault}
 use Rattle.blob_frame.specs.declared.fault.BlobFault.TheVariants as fault
 use Rattle.blob_frame.specs.declared.header.Header.{Header}
 use Rattle.blob_frame.specs.Header.{header, HeaderIs}
-use Rattle.blob_frame.specs.Scene.{Place, Scene, IsFree, Reads, Stays, Tells}
-use Rattle.blob_frame.specs.Starting.{Starts, IsStart, IsStartFault}
-use Rattle.blob_frame.proofs.Chain.{told_stays}
+use Rattle.blob_cursor.specs.Scene.{Place, Scene, IsFree, Reads, Stays, Tells}
+use Rattle.blob_cursor.specs.Starting.{Starts, IsStart, IsStartFault}
+use Rattle.blob_cursor.proofs.Chain.{told_stays}
 use Rattle.snapshot_blob.specs.declared.body.Body.{Body}
 use Rattle.snapshot_blob.specs.declared.loaded.Loaded.{Loaded}
 use Rattle.snapshot_blob.specs.declared.part.TypePart.{TypePart}

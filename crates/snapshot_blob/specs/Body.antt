@@ -8,7 +8,7 @@ use Rattle.type_state.specs.State.{Half, empty_half}
 use Rattle.type_state.specs.Views.{AreNext, next_halves, table_of}
 use Rattle.blob_frame.specs.declared.fault.BlobFault.{BlobFault}
 use Rattle.blob_frame.specs.declared.fault.BlobFault.TheVariants as fault
-use Rattle.blob_frame.specs.Scene.{IsFree}
+use Rattle.blob_cursor.specs.Scene.{IsFree}
 use Rattle.snapshot_blob.specs.declared.body.Body.{Body}
 use Rattle.snapshot_blob.specs.declared.part.TypePart.{TypePart}
 use Rattle.snapshot_blob.specs.Parts.{body}

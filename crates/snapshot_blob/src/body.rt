@@ -3,12 +3,13 @@ ghost use Rattle.std.specs.Prelude.{◌≡◌, ◌≤◌, Err, IfErr, IfOk, IfSo
 ghost use Rattle.hol_io.specs.Causes.{Rose};
 ghost use Rattle.hol_io.specs.Store.{told};
 ghost use Rattle.type_state.specs.Views.{table_of, next_halves};
-ghost use Rattle.blob_frame.specs.Scene.{IsAbove};
+ghost use Rattle.blob_cursor.specs.Scene.{IsAbove};
 ghost use Rattle.snapshot_blob.specs.Body.{IsBodyFault, IsWholeBody, ReadsBody, TellsBody};
 
 use crate::part::body;
 use crate::types::state_of;
-use blob_frame::{BlobFault, Cursor};
+use blob_cursor::Cursor;
+use blob_frame::BlobFault;
 use hol_io::BlobStore;
 use schema_model::Model;
 use std::alloc::Global;

@@ -12,7 +12,7 @@ ghost use Rattle.blob_grammar.specs.Decided.{EachPlace, IsDecided};
 ghost use Rattle.blob_frame.specs.declared.fault.BlobFault.{BlobFault};
 ghost use Rattle.blob_frame.specs.declared.header.Header.{Header};
 ghost use Rattle.blob_frame.specs.Header.{HeaderIs};
-ghost use Rattle.blob_frame.specs.Scene.{IsFree};
+ghost use Rattle.blob_cursor.specs.Scene.{IsFree};
 ghost use Rattle.snapshot_blob.specs.declared.body.Body.{Body};
 ghost use Rattle.snapshot_blob.specs.declared.part.TypePart.{TypePart};
 ghost use Rattle.snapshot_blob.specs.Body.{TellsBody};

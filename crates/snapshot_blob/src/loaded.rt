@@ -7,7 +7,8 @@ ghost use Rattle.snapshot_blob.specs.Body.{IsWholeBody};
 ghost use Rattle.snapshot_blob.specs.Snapshot.{IsSnapshotFault, ReadsExactly, TellsSnapshot};
 
 use crate::body::{Body, read_body};
-use blob_frame::{BlobFault, Cursor, Header};
+use blob_cursor::Cursor;
+use blob_frame::{BlobFault, Header};
 use hol_io::{BlobName, BlobStore};
 use schema_model::Model;
 use std::alloc::Global;

@@ -2,10 +2,11 @@
 ghost use Rattle.std.specs.Prelude.{All, IfOk};
 ghost use Rattle.type_state.specs.WellFormed.{IsWellFormed};
 ghost use Rattle.blob_grammar.specs.Form.{repeated};
-ghost use Rattle.blob_frame.specs.Scene.{IsAbove, Leads};
+ghost use Rattle.blob_cursor.specs.Scene.{IsAbove, Leads};
 ghost use Rattle.snapshot_blob.specs.Parts.{section_of, type_part, body};
 
-use blob_frame::{BlobFault, Cursor};
+use blob_cursor::Cursor;
+use blob_frame::BlobFault;
 use blob_sections::{PackedRows, TypeHead, max_ordinal, packed_rows, population, type_head};
 use hol_io::BlobStore;
 use hol_varint::List;

@@ -1,5 +1,5 @@
 use Rattle.std.proofs.Common.{rules}
-use Rattle.blob_frame.proofs.Chain.{reads_then, reads_stops}
+use Rattle.blob_cursor.proofs.Chain.{reads_then, reads_stops}
 use Rattle.blob_sections.specs.Envelope.{listed_shards}
 use Rattle.blob_sections.proofs.envelope.listed_shards.Goals as goal
 

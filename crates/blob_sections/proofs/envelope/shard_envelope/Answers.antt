@@ -1,7 +1,7 @@
 use Rattle.std.proofs.Common.{rules, refl}
 use Rattle.blob_grammar.specs.Form.{envelope}
-use Rattle.blob_frame.proofs.Chain.{reads_then, reads_stops}
-use Rattle.blob_frame.proofs.Envelopes.{reads_unlisted, reads_listed}
+use Rattle.blob_cursor.proofs.Chain.{reads_then, reads_stops}
+use Rattle.blob_cursor.proofs.Envelopes.{reads_unlisted, reads_listed}
 use Rattle.blob_sections.specs.Envelope.{listed_shards, shard_envelope}
 use Rattle.blob_sections.proofs.envelope.shard_envelope.Goals as goal
 

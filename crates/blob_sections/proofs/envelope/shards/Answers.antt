@@ -1,7 +1,7 @@
 use Rattle.std.proofs.Common.{rules, ap, refl, Err}
 use Rattle.blob_frame.specs.declared.fault.BlobFault.TheVariants.{Bad}
 use Rattle.schema_model.specs.declared.reason.Reason.TheVariants.{Sharded}
-use Rattle.blob_frame.proofs.Chain.{reads_judged, reads_unread, reads_refused}
+use Rattle.blob_cursor.proofs.Chain.{reads_judged, reads_unread, reads_refused}
 use Rattle.blob_sections.specs.Envelope.{shards}
 use Rattle.blob_sections.proofs.envelope.shards.Goals as goal
 

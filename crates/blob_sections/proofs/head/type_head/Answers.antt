@@ -1,5 +1,5 @@
 use Rattle.std.proofs.Common.{rules, refl}
-use Rattle.blob_frame.proofs.Chain.{reads_then, reads_stops, reads_value}
+use Rattle.blob_cursor.proofs.Chain.{reads_then, reads_stops, reads_value}
 use Rattle.blob_sections.specs.Head.{type_head}
 use Rattle.blob_sections.proofs.Heads.{reads_here}
 use Rattle.blob_sections.proofs.head.type_head.Goals as goal

@@ -1,7 +1,7 @@
 use Rattle.std.proofs.Common.{rules, refl, ap, Ok, ◌∙◌}
 use Rattle.ordinal_set.specs.Population.{population_of}
-use Rattle.blob_frame.proofs.Chain.{reads_made, reads_unmade}
-use Rattle.blob_frame.proofs.Counting.{reads_counted, reads_uncounted}
+use Rattle.blob_cursor.proofs.Chain.{reads_made, reads_unmade}
+use Rattle.blob_cursor.proofs.Counting.{reads_counted, reads_uncounted}
 use Rattle.std.specs.Int.{w64}
 use Rattle.blob_frame.specs.Item.{fixed}
 use Rattle.blob_sections.specs.Population.{population}

@@ -1,7 +1,7 @@
 use Rattle.std.proofs.Common.{rules, arith, ap, refl, Err}
 use Rattle.blob_frame.specs.declared.fault.BlobFault.TheVariants.{Bad}
 use Rattle.schema_model.specs.declared.reason.Reason.TheVariants.{BadLength}
-use Rattle.blob_frame.proofs.Chain.{reads_judged, reads_unread, reads_refused}
+use Rattle.blob_cursor.proofs.Chain.{reads_judged, reads_unread, reads_refused}
 use Rattle.blob_sections.specs.Section.{at_least}
 use Rattle.blob_sections.proofs.section.at_least.Goals as goal
 

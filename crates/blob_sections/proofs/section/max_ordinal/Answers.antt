@@ -1,5 +1,5 @@
 use Rattle.std.proofs.Common.{rules}
-use Rattle.blob_frame.proofs.Chain.{reads_judged, reads_unread}
+use Rattle.blob_cursor.proofs.Chain.{reads_judged, reads_unread}
 use Rattle.blob_sections.specs.Section.{max_ordinal}
 use Rattle.blob_sections.proofs.Items.{max_none, max_some}
 use Rattle.blob_sections.proofs.section.max_ordinal.Goals as goal

@@ -1,5 +1,5 @@
 use Rattle.std.proofs.Common.{rules, refl}
-use Rattle.blob_frame.proofs.Chain.{reads_then, reads_stops, reads_value}
+use Rattle.blob_cursor.proofs.Chain.{reads_then, reads_stops, reads_value}
 use Rattle.blob_sections.specs.Section.{packed_records}
 use Rattle.blob_sections.proofs.Items.{words_as_needed, reads_field_widths, reads_areas}
 use Rattle.blob_sections.proofs.Formed.{records_well}

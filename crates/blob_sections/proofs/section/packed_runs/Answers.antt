@@ -1,5 +1,5 @@
 use Rattle.std.proofs.Common.{rules, refl}
-use Rattle.blob_frame.proofs.Chain.{reads_then, reads_stops, reads_value}
+use Rattle.blob_cursor.proofs.Chain.{reads_then, reads_stops, reads_value}
 use Rattle.blob_sections.specs.Section.{packed_runs}
 use Rattle.blob_sections.proofs.Items.{words_as_needed}
 use Rattle.blob_sections.proofs.Formed.{runs_well}

@@ -1,5 +1,5 @@
 use Rattle.std.proofs.Common.{rules, refl}
-use Rattle.blob_frame.proofs.Counting.{reads_counted, reads_uncounted}
+use Rattle.blob_cursor.proofs.Counting.{reads_counted, reads_uncounted}
 use Rattle.std.specs.Int.{w64}
 use Rattle.blob_frame.specs.Item.{fixed}
 use Rattle.blob_sections.specs.Section.{word_array}

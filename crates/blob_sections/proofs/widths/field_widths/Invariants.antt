@@ -1,6 +1,6 @@
 use Rattle.schema_model.specs.declared.schema.Field.{Field}
 use Rattle.type_state.specs.WellFormed.{IsWidth}
-use Rattle.blob_frame.specs.Scene.{scene}
+use Rattle.blob_cursor.specs.Scene.{scene}
 use Rattle.blob_sections.specs.Width.{field_width}
 use Rattle.blob_sections.proofs.Each.{Walks}
 use Rattle.blob_sections.proofs.widths.field_widths.Given as goal

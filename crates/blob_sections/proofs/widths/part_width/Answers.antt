@@ -1,7 +1,7 @@
 use Rattle.std.proofs.Common.{rules, arith, ap, refl, Err}
 use Rattle.blob_frame.specs.declared.fault.BlobFault.TheVariants.{Bad}
 use Rattle.schema_model.specs.declared.reason.Reason.TheVariants.{BadWidth}
-use Rattle.blob_frame.proofs.Chain.{reads_judged, reads_unread, reads_refused}
+use Rattle.blob_cursor.proofs.Chain.{reads_judged, reads_unread, reads_refused}
 use Rattle.blob_sections.specs.Width.{part_width}
 use Rattle.blob_sections.proofs.widths.part_width.Goals as goal
 

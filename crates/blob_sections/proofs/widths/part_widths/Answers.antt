@@ -1,8 +1,8 @@
 use Rattle.std.proofs.Common.{◌≤◌, ℕ, List, length, ap, subst, sym, rules, arith}
 use Rattle.std.specs.List.{All}
 use Rattle.std.proofs.lemmas.List.Elements.{All-nil, All-push}
-use Rattle.blob_frame.proofs.Counting.{counts_more, counts_stops, counts_free, counts_done, counts_start}
-use Rattle.blob_frame.proofs.Runs.{one_longer}
+use Rattle.blob_cursor.proofs.Counting.{counts_more, counts_stops, counts_free, counts_done, counts_start}
+use Rattle.blob_cursor.proofs.Runs.{one_longer}
 use Rattle.blob_sections.proofs.Items.{reads_part_widths}
 use Rattle.blob_sections.proofs.widths.part_widths.Goals as goal
 

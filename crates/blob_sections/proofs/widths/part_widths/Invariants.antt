@@ -1,7 +1,7 @@
 use Rattle.std.proofs.Common.{◌≡◌, ◌≤◌, length}
 use Rattle.std.specs.List.{All}
-use Rattle.blob_frame.specs.Scene.{scene}
-use Rattle.blob_frame.proofs.Counting.{Counts}
+use Rattle.blob_cursor.specs.Scene.{scene}
+use Rattle.blob_cursor.proofs.Counting.{Counts}
 use Rattle.blob_sections.specs.Width.{part_width}
 use Rattle.blob_sections.proofs.widths.part_widths.Given as goal
 

@@ -1,5 +1,5 @@
 use Rattle.std.proofs.Common.{rules, refl}
-use Rattle.blob_frame.proofs.Chain.{reads_then, reads_stops, reads_value}
+use Rattle.blob_cursor.proofs.Chain.{reads_then, reads_stops, reads_value}
 use Rattle.delta_blob.specs.Added.{added_records}
 use Rattle.blob_sections.proofs.Items.{reads_field_widths, reads_areas}
 use Rattle.delta_blob.proofs.AddedItems.{records_placed, words_as_placed}

@@ -1,5 +1,5 @@
 use Rattle.std.proofs.Common.{rules, refl}
-use Rattle.blob_frame.proofs.Chain.{reads_then, reads_stops, reads_value}
+use Rattle.blob_cursor.proofs.Chain.{reads_then, reads_stops, reads_value}
 use Rattle.delta_blob.specs.Added.{added_runs}
 use Rattle.delta_blob.proofs.AddedItems.{runs_placed, words_as_placed}
 use Rattle.delta_blob.proofs.added.added_runs.Goals as goal

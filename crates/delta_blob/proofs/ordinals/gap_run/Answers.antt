@@ -2,7 +2,7 @@ use Rattle.std.proofs.Common.{List, ℕ, length, Err, ap, refl, rules, arith, su
 use Rattle.schema_model.specs.declared.reason.Reason.TheVariants.{BadVarint}
 use Rattle.ordinal_set.specs.Gaps.{Gaps}
 use Rattle.blob_frame.specs.declared.fault.BlobFault.TheVariants.{Bad}
-use Rattle.blob_frame.proofs.Chain.{reads_judged, reads_unread, reads_refused}
+use Rattle.blob_cursor.proofs.Chain.{reads_judged, reads_unread, reads_refused}
 use Rattle.delta_blob.specs.Ordinals.{gap_run}
 use Rattle.delta_blob.proofs.AddedItems.{gaps_short, no_gaps}
 use Rattle.delta_blob.proofs.ordinals.gap_run.Goals as goal

@@ -1,5 +1,5 @@
 use Rattle.std.proofs.Common.{rules}
-use Rattle.blob_frame.proofs.Chain.{reads_then, reads_stops}
+use Rattle.blob_cursor.proofs.Chain.{reads_then, reads_stops}
 use Rattle.delta_blob.specs.Ordinals.{ordinals}
 use Rattle.delta_blob.proofs.ordinals.ordinals.Goals as goal
 

@@ -1,7 +1,7 @@
 use Rattle.std.proofs.Common.{List, subst, sym, rules, arith}
 use Rattle.std.specs.List.{All}
 use Rattle.std.proofs.lemmas.List.Elements.{All-nil, All-push}
-use Rattle.blob_frame.proofs.Counting.{counts_more, counts_stops, counts_free, counts_done, counts_start}
+use Rattle.blob_cursor.proofs.Counting.{counts_more, counts_stops, counts_free, counts_done, counts_start}
 use Rattle.delta_blob.specs.Parts.{IsWellFormedPart}
 use Rattle.delta_blob.specs.declared.part.DeltaPart.{DeltaPart}
 use Rattle.delta_blob.proofs.part.delta_parts.Goals as goal

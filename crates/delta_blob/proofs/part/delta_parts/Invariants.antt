@@ -1,6 +1,6 @@
 use Rattle.std.specs.List.{All}
-use Rattle.blob_frame.specs.Scene.{scene}
-use Rattle.blob_frame.proofs.Counting.{Counts}
+use Rattle.blob_cursor.specs.Scene.{scene}
+use Rattle.blob_cursor.proofs.Counting.{Counts}
 use Rattle.delta_blob.specs.Parts.{IsWellFormedPart, patch_part}
 use Rattle.delta_blob.proofs.part.delta_parts.Given as goal
 

@@ -1,5 +1,5 @@
 use Rattle.std.proofs.Common.{rules, refl}
-use Rattle.blob_frame.proofs.Chain.{reads_then, reads_stops, reads_value}
+use Rattle.blob_cursor.proofs.Chain.{reads_then, reads_stops, reads_value}
 use Rattle.delta_blob.specs.Parts.{patch_section}
 use Rattle.delta_blob.proofs.AddedItems.{placed_well, reads_as_many}
 use Rattle.delta_blob.proofs.part.section.Goals as goal

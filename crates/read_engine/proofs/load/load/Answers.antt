@@ -2,7 +2,7 @@ use Rattle.std.proofs.Common.{◌≡◌, ℤ, Ok, Err, ap, ◌∙◌, w64, of_z,
 use Rattle.std.proofs.lemmas.Int.{ints, to_z-of_z}
 use Rattle.hol_io.specs.declared.name.BlobName.TheVariants.{Snapshot}
 use Rattle.blob_frame.specs.declared.header.Header.{Header}
-use Rattle.blob_frame.specs.Scene.{Place}
+use Rattle.blob_cursor.specs.Scene.{Place}
 use Rattle.read_engine.specs.Taking.{loaded_position}
 use Rattle.read_engine.proofs.Loads.{is_read, body_told, load_told}
 use Rattle.read_engine.proofs.load.load.Goals as goal

@@ -1,6 +1,6 @@
 use Rattle.std.proofs.Common.{rules, refl}
-use Rattle.blob_frame.proofs.Chain.{reads_then, reads_stops, reads_nothing}
-use Rattle.blob_frame.proofs.Counting.{reads_counted, reads_uncounted}
+use Rattle.blob_cursor.proofs.Chain.{reads_then, reads_stops, reads_nothing}
+use Rattle.blob_cursor.proofs.Counting.{reads_counted, reads_uncounted}
 use Rattle.snapshot_blob.specs.Parts.{type_part, body}
 use Rattle.snapshot_blob.proofs.part.body.Goals as goal
 

@@ -1,5 +1,5 @@
 use Rattle.std.proofs.Common.{rules, refl}
-use Rattle.blob_frame.proofs.Chain.{reads_then, reads_stops, reads_value}
+use Rattle.blob_cursor.proofs.Chain.{reads_then, reads_stops, reads_value}
 use Rattle.snapshot_blob.specs.Parts.{type_part}
 use Rattle.snapshot_blob.proofs.part.type_part.Goals as goal
 

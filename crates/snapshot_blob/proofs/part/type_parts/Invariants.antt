@@ -1,7 +1,7 @@
 use Rattle.std.specs.List.{All}
 use Rattle.type_state.specs.WellFormed.{IsWellFormed}
-use Rattle.blob_frame.specs.Scene.{scene}
-use Rattle.blob_frame.proofs.Counting.{Counts}
+use Rattle.blob_cursor.specs.Scene.{scene}
+use Rattle.blob_cursor.proofs.Counting.{Counts}
 use Rattle.snapshot_blob.specs.Parts.{type_part}
 use Rattle.snapshot_blob.specs.declared.part.TypePart.{TypePart}
 use Rattle.snapshot_blob.proofs.part.type_parts.Given as goal

@@ -1,0 +1,11 @@
+pub mod Ahead
+pub mod Openings
+pub mod Chain
+pub mod Fixed
+pub mod Runs
+pub mod Seeking
+pub mod Numbers
+pub mod TextReading
+pub mod Counting
+pub mod Envelopes
+pub mod Decided

@@ -1,0 +1,18 @@
+use Rattle.std.proofs.Common.{rules, ap, refl, Err}
+use Rattle.blob_frame.specs.declared.fault.BlobFault.TheVariants.{Bad}
+use Rattle.schema_model.specs.declared.reason.Reason.TheVariants.{OtherFormat}
+use Rattle.blob_frame.specs.Header.{format}
+use Rattle.blob_cursor.proofs.Chain.{reads_judged, reads_unread, reads_refused}
+use Rattle.blob_cursor.proofs.cursor.Cursor.format.Goals as goal
+
+pub returns-in_err-number : goal.returns-in_err-number
+unfolding format
+returns-in_err-number g c = record { reads = reads_unread _ _ _ c.in_err-number.ensures.reads (search rules) }
+
+pub returns-then-number-ne-FORMAT : goal.returns-then-number-ne-FORMAT
+unfolding format
+returns-then-number-ne-FORMAT g c = record { reads = reads_refused _ _ _ c.in_ok-number.ensures.reads (search rules, refl) (ap (λ at. Err (Bad at OtherFormat)) c.at-at.ensures) }
+
+pub returns : goal.returns
+unfolding format
+returns g c = record { reads = reads_judged _ _ _ c.in_ok-number.ensures.reads (search rules) }

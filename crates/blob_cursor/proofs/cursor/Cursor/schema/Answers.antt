@@ -1,0 +1,5 @@
+use Rattle.blob_cursor.proofs.Decided.{exactly_told}
+use Rattle.blob_cursor.proofs.cursor.Cursor.schema.Goals as goal
+
+pub returns-clause-exact : goal.returns-clause-exact
+returns-clause-exact g c = exactly_told _ _ _ _ _ c.whole_schema.ensures.reads.tells

@@ -1,0 +1,4 @@
+pub mod Scene
+pub mod Filling
+pub mod Starting
+pub mod Opened

@@ -1,9 +1,0 @@
-use Rattle.std.proofs.Common.{◌≡◌, length}
-use Rattle.blob_frame.specs.Scene.{scene}
-use Rattle.blob_frame.proofs.Counting.{Counts}
-use Rattle.blob_frame.proofs.readable.counted.Given as goal
-
-abbrev pub invariant-loop-item : goal.invariant-loop-item
-invariant-loop-item g l = Counts g.T.Readable.form l.count l._item (scene (g.S.BlobStore.seen l.initial.store) l.initial.cursor)
-    (scene (g.S.BlobStore.seen l.store) l.cursor) l.list
-    × (length l.list ≡ l._item)
