@@ -5,8 +5,8 @@ use Rattle.schema_model.specs.declared.schema.Field.{Field}
 use Rattle.schema_model.specs.declared.schema.Shape.{Shape}
 use Rattle.schema_model.specs.Parts.{shape_fields}
 use Rattle.object_codec.specs.ObjectPlace.{IsObject}
-use Rattle.type_state.specs.Layout.{words_needed, width_count}
-use Rattle.type_state.specs.WellFormed.{IsWidth, AreWidths, IsWellFormed}
+use Rattle.type_rows.specs.Layout.{words_needed, width_count}
+use Rattle.type_rows.specs.WellFormed.{IsWidth, AreWidths, IsWellFormed}
 use Rattle.blob_sections.specs.declared.section.PackedRows.{PackedRows}
 use Rattle.blob_sections.specs.Section.{section_with}
 

@@ -5,7 +5,7 @@ use Rattle.schema_model.specs.declared.schema.Field.{Field}
 use Rattle.schema_model.specs.declared.schema.Shape.{Shape}
 use Rattle.schema_model.specs.Parts.{shape_fields}
 use Rattle.object_codec.specs.ObjectPlace.{IsObject}
-use Rattle.type_state.specs.Layout.{words_needed, width_count}
+use Rattle.type_rows.specs.Layout.{words_needed, width_count}
 use Rattle.blob_grammar.specs.Form.{repeated, each_of}
 use Rattle.blob_frame.specs.declared.fault.BlobFault.{BlobFault}
 use Rattle.blob_frame.specs.Item.{counted_run}

@@ -4,8 +4,8 @@ use Rattle.std.specs.Int.{w64}
 use Rattle.schema_model.specs.declared.reason.Reason.TheVariants.{BadLength}
 use Rattle.schema_model.specs.declared.schema.Shape.{Shape}
 use Rattle.schema_model.specs.Parts.{shape_fields}
-use Rattle.type_state.specs.declared.section.Section.{Section}
-use Rattle.type_state.specs.Layout.{words_needed}
+use Rattle.type_rows.specs.declared.section.Section.{Section}
+use Rattle.type_rows.specs.Layout.{words_needed}
 use Rattle.blob_grammar.specs.Deciding.{judge_as, judge_at_least}
 use Rattle.blob_grammar.specs.Form.{Form, ◌>>=◌, nothing, judged, repeated, counted}
 use Rattle.blob_frame.specs.Item.{fixed, vint, vlong, counted_run}

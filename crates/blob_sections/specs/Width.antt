@@ -7,8 +7,8 @@ use Rattle.schema_model.specs.declared.schema.FieldKind.{FieldKind}
 use Rattle.schema_model.specs.declared.schema.Shape.{Shape}
 use Rattle.schema_model.specs.Parts.{shape_fields}
 use Rattle.object_codec.specs.ObjectPlace.{IsKindWidth}
-use Rattle.type_state.specs.Layout.{width_count}
-use Rattle.type_state.specs.WellFormed.{IsWidth}
+use Rattle.type_rows.specs.Layout.{width_count}
+use Rattle.type_rows.specs.WellFormed.{IsWidth}
 use Rattle.blob_grammar.specs.Deciding.{judge_rule, not_below, below_or}
 use Rattle.blob_grammar.specs.Form.{Form, judged, repeated, each_of}
 use Rattle.blob_frame.specs.Item.{vint}

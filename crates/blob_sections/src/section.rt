@@ -2,7 +2,7 @@
 ghost use Rattle.std.specs.Prelude.{◌≡◌, ◌≤◌, ◌*◌, ◌^◌, [], IfOk, length};
 ghost use Rattle.schema_model.specs.Parts.{shape_fields};
 ghost use Rattle.object_codec.specs.ObjectPlace.{IsObject};
-ghost use Rattle.type_state.specs.WellFormed.{IsWellFormed};
+ghost use Rattle.type_rows.specs.WellFormed.{IsWellFormed};
 ghost use Rattle.blob_cursor.specs.Scene.{IsAbove, Leads};
 ghost use Rattle.blob_sections.specs.Section.{max_ordinal, at_least, word_array, packed_records, packed_runs, packed_rows, section_with};
 
@@ -13,7 +13,7 @@ use hol_io::BlobStore;
 use hol_varint::Octets;
 use row_model::{Areas, Packed, Widths, Words};
 use schema_model::{Field, Reason, Shape};
-use type_state::words_needed;
+use type_rows::words_needed;
 
 /// The rows of a type as they are packed in a blob.
 #[derive(Debug, Drop)]

@@ -2,10 +2,10 @@
 ghost use Rattle.std.specs.Prelude.{◌≡◌, ◌≤◌, ◌↔◌, All, IfOk, IsTrue, length};
 ghost use Rattle.std.specs.List.{AllZip};
 ghost use Rattle.object_codec.specs.ObjectPlace.{IsKindWidth};
-ghost use Rattle.type_state.specs.WellFormed.{IsWidth};
+ghost use Rattle.type_rows.specs.WellFormed.{IsWidth};
 ghost use Rattle.blob_grammar.specs.Form.{each_of};
 ghost use Rattle.blob_cursor.specs.Scene.{IsAbove, Leads};
-ghost use Rattle.type_state.specs.Layout.{width_count};
+ghost use Rattle.type_rows.specs.Layout.{width_count};
 ghost use Rattle.blob_sections.specs.Width.{field_width, part_width, part_widths};
 
 use blob_cursor::Cursor;

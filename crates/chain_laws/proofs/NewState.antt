@@ -12,7 +12,7 @@ use Rattle.row_walk.specs.BothStates.{rows_in}
 use Rattle.row_walk.proofs.RowsFrom.{get_in, rows_past}
 use Rattle.row_packing.specs.Chosen.{IsLiveInEither}
 use Rattle.row_packing.proofs.RowsUnder.{values_all}
-use Rattle.type_state.specs.WordsHeld.{bytes_held}
+use Rattle.type_rows.specs.WordsHeld.{bytes_held}
 use Rattle.write_engine.specs.Agreement.{HoldsOnce, TablesAgree}
 use Rattle.write_engine.specs.Cycle.{Next}
 use Rattle.write_engine.specs.CycleLimit.{TellsTypes}

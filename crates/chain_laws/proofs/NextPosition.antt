@@ -11,7 +11,7 @@ use Rattle.schema_model.specs.declared.model.rule.Rule.TheVariants.{DuplicateNam
 use Rattle.schema_model.specs.declared.schema.Schema.{Schema}
 use Rattle.schema_model.specs.Model.{IsKept}
 use Rattle.row_model.specs.Table.{Table}
-use Rattle.type_state.specs.Layout.{Layout}
+use Rattle.type_rows.specs.Layout.{Layout}
 use Rattle.type_state.specs.State.{Half}
 use Rattle.type_state.specs.Views.{table_of}
 use Rattle.delta_blob.specs.declared.part.DeltaPart.{DeltaPart}

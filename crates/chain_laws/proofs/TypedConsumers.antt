@@ -15,11 +15,11 @@ use Rattle.row_model.specs.Row.{FitsShape}
 use Rattle.row_model.specs.Table.{EachRow, RowMap, Table, row_at}
 use Rattle.row_walk.specs.BothStates.{rows_in}
 use Rattle.row_walk.proofs.RowsFrom.{get_in}
-use Rattle.type_state.specs.Patches.{AddsRows, MovesRows}
+use Rattle.type_rows.specs.Patches.{AddsRows, MovesRows}
 use Rattle.type_state.specs.State.{Half}
 use Rattle.type_state.specs.Views.{table_of}
-use Rattle.type_state.proofs.MovedRows.{moved_all}
-use Rattle.type_state.proofs.SectionRows.{row_fits, rows_fit}
+use Rattle.type_rows.proofs.MovedRows.{moved_all}
+use Rattle.type_rows.proofs.SectionRows.{row_fits, rows_fit}
 use Rattle.snapshot_blob.specs.declared.part.TypePart.{TypePart}
 use Rattle.snapshot_blob.specs.Stated.{TypeIs, schemas_of}
 use Rattle.delta_blob.specs.declared.part.DeltaPart.{DeltaPart}

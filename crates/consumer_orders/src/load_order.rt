@@ -5,8 +5,8 @@ ghost use Rattle.hollow_machine.specs.Kept.{MovesConsumer};
 ghost use Rattle.hollow_machine.specs.LoadOrder.{LoadStep};
 
 use crate::take_refusal::take_refusal;
-use hol_io::{BlobName, BlobStore};
 use hol_answers::Reply;
+use hol_io::{BlobName, BlobStore};
 use hol_orders::OrderStop;
 use read_engine::Consumer;
 

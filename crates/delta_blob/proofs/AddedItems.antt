@@ -9,9 +9,9 @@ use Rattle.schema_model.specs.declared.schema.Field.{Field}
 use Rattle.schema_model.specs.declared.schema.Shape.{Shape}
 use Rattle.schema_model.specs.Parts.{shape_fields}
 use Rattle.object_codec.specs.ObjectPlace.{IsObject}
-use Rattle.type_state.specs.Layout.{width_count}
-use Rattle.type_state.specs.Patches.{IsWellFormedPatch}
-use Rattle.type_state.specs.WellFormed.{IsWidth}
+use Rattle.type_rows.specs.Layout.{width_count}
+use Rattle.type_rows.specs.Patches.{IsWellFormedPatch}
+use Rattle.type_rows.specs.WellFormed.{IsWidth}
 use Rattle.blob_frame.specs.declared.fault.BlobFault.{BlobFault}
 use Rattle.blob_cursor.specs.Scene.{Scene, Reads}
 use Rattle.blob_sections.specs.declared.section.PackedRows.{PackedRows}

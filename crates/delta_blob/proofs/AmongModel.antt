@@ -15,7 +15,7 @@ use Rattle.schema_model.specs.declared.schema.Schema.{Schema}
 use Rattle.schema_model.specs.Faults.{TellsFault}
 use Rattle.schema_model.specs.Model.{IsFirstBroken, IsModel}
 use Rattle.schema_model.specs.Parts.{fields_of}
-use Rattle.type_state.specs.Patches.{IsReadablePatch}
+use Rattle.type_rows.specs.Patches.{IsReadablePatch}
 use Rattle.blob_frame.specs.declared.fault.BlobFault.{BlobFault}
 use Rattle.blob_frame.specs.declared.fault.BlobFault.TheVariants as fault
 use Rattle.delta_blob.specs.declared.part.DeltaPart.{DeltaPart}

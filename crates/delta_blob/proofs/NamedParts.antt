@@ -7,7 +7,7 @@ use Rattle.schema_model.specs.declared.limit.Limit.TheVariants.{Items, Ordinals}
 use Rattle.schema_model.specs.declared.schema.Schema.{Schema}
 use Rattle.schema_model.specs.Limit.{number_of_limit}
 use Rattle.row_model.specs.Table.{Table}
-use Rattle.type_state.specs.Layout.{Layout, places_of}
+use Rattle.type_rows.specs.Layout.{Layout, places_of}
 use Rattle.blob_frame.specs.Header.{HeaderIs}
 use Rattle.delta_blob.specs.declared.part.DeltaPart.{DeltaPart}
 use Rattle.delta_blob.specs.declared.patch.PatchPart.{PatchPart}

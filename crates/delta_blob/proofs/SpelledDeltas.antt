@@ -9,7 +9,7 @@ use Rattle.hol_varint.specs.Varint.{varint_bytes}
 use Rattle.ordinal_set.specs.Gaps.{gap_bytes}
 use Rattle.schema_model.specs.declared.schema.Field.{Field}
 use Rattle.schema_model.specs.declared.schema.Shape.{Shape}
-use Rattle.type_state.specs.Layout.{width_count}
+use Rattle.type_rows.specs.Layout.{width_count}
 use Rattle.blob_frame.specs.Written.{schema_list_bytes, header_bytes}
 use Rattle.blob_frame.proofs.Spelling.{Spells, spells_same, spells_then, spells_last, spells_judged, spells_varint}
 use Rattle.blob_frame.proofs.SpelledSchemas.{IsWritten}
@@ -22,7 +22,7 @@ use Rattle.section_writing.proofs.Placing.{SpellsAt, anywhere, at_then}
 use Rattle.section_writing.proofs.SpelledItems.{spells_value, spells_max, spells_field_widths, spells_part_widths, spells_words, spells_run, spells_areas}
 use Rattle.section_writing.proofs.SpelledTypes.{records_alone, runs_alone, spells_head}
 use Rattle.section_writing.proofs.WrittenGaps.{gaps_stand}
-use Rattle.type_state.specs.declared.patch.PatchSection.{PatchSection}
+use Rattle.type_rows.specs.declared.patch.PatchSection.{PatchSection}
 use Rattle.delta_blob.specs.Added.{words_for, added_records, added_runs, added_rows}
 use Rattle.delta_blob.specs.Ordinals.{gap_run, ordinals}
 use Rattle.delta_blob.specs.Parts.{patch_with, patch_section, patch_part, body, delta}

@@ -4,8 +4,8 @@ use Rattle.std.specs.Prelude.{◌≡◌, ◌≤◌, ◌<◌, ◌*◌, ◌^◌, �
 use Rattle.bit_array.specs.Element.{words_of}
 use Rattle.schema_model.specs.declared.schema.Shape.{Shape}
 use Rattle.schema_model.specs.Parts.{shape_fields}
-use Rattle.type_state.specs.Layout.{place_bits}
-use Rattle.type_state.specs.WellFormed.{AreWidths}
+use Rattle.type_rows.specs.Layout.{place_bits}
+use Rattle.type_rows.specs.WellFormed.{AreWidths}
 use Rattle.blob_grammar.specs.Form.{Form, ◌>>=◌, nothing, repeated}
 use Rattle.blob_frame.specs.Item.{vlong, counted_run}
 use Rattle.blob_sections.specs.declared.section.PackedRows.{PackedRows}

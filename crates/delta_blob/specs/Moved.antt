@@ -3,7 +3,7 @@ use Rattle.std.specs.Prelude.{◌≡◌, ◌<◌, ℕ, List, Some, All, length, 
 use Rattle.schema_model.specs.declared.schema.Schema.{Schema}
 use Rattle.row_model.specs.Table.{Table}
 use Rattle.row_walk.specs.BothStates.{rows_in}
-use Rattle.type_state.specs.Patches.{MovesRows}
+use Rattle.type_rows.specs.Patches.{MovesRows}
 use Rattle.delta_blob.specs.Patch.{TypePatch}
 
 -- The patch of a type is of the type at this index: its schema is the model's there.

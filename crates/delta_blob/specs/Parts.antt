@@ -8,8 +8,8 @@ use Rattle.blob_frame.specs.Header.{header}
 use Rattle.blob_sections.specs.declared.section.PackedRows.{PackedRows}
 use Rattle.blob_sections.specs.Head.{type_head}
 use Rattle.blob_sections.specs.Section.{max_ordinal}
-use Rattle.type_state.specs.declared.patch.PatchSection.{PatchSection}
-use Rattle.type_state.specs.Patches.{IsWellFormedPatch}
+use Rattle.type_rows.specs.declared.patch.PatchSection.{PatchSection}
+use Rattle.type_rows.specs.Patches.{IsWellFormedPatch}
 use Rattle.delta_blob.specs.declared.part.DeltaPart.{DeltaPart}
 use Rattle.delta_blob.specs.Added.{added_rows}
 use Rattle.delta_blob.specs.Ordinals.{ordinals}

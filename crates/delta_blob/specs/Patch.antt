@@ -5,8 +5,8 @@ use Rattle.schema_model.specs.declared.model.rule.Rule.TheVariants.{DuplicateNam
 use Rattle.row_model.specs.declared.row.Row.{Row}
 use Rattle.schema_model.specs.declared.schema.Schema.{Schema}
 use Rattle.schema_model.specs.Model.{IsKept}
-use Rattle.type_state.specs.Layout.{Layout}
-use Rattle.type_state.specs.Patches.{AddsRows, patch_layout}
+use Rattle.type_rows.specs.Layout.{Layout}
+use Rattle.type_rows.specs.Patches.{AddsRows, patch_layout}
 use Rattle.blob_frame.specs.declared.header.Header.{Header}
 use Rattle.delta_blob.specs.declared.part.DeltaPart.{DeltaPart}
 use Rattle.delta_blob.specs.Parts.{delta}

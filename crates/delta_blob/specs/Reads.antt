@@ -6,8 +6,8 @@ use Rattle.schema_model.specs.declared.limit.Limit.TheVariants.{Blob, Ordinals, 
 use Rattle.schema_model.specs.declared.reason.Reason.{Reason}
 use Rattle.schema_model.specs.declared.schema.Schema.{Schema}
 use Rattle.schema_model.specs.Limit.{number_of_limit}
-use Rattle.type_state.specs.Layout.{places_of}
-use Rattle.type_state.specs.Patches.{IsReadablePatch}
+use Rattle.type_rows.specs.Layout.{places_of}
+use Rattle.type_rows.specs.Patches.{IsReadablePatch}
 use Rattle.blob_frame.specs.declared.fault.BlobFault.{BlobFault}
 use Rattle.blob_frame.specs.declared.fault.BlobFault.TheVariants as fault
 use Rattle.blob_frame.specs.declared.header.Header.{Header}

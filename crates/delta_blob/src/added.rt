@@ -12,7 +12,7 @@ use hol_io::BlobStore;
 use hol_varint::Octets;
 use row_model::{Areas, Packed, Words};
 use schema_model::{Field, Shape};
-use type_state::words_needed;
+use type_rows::words_needed;
 
 // How many words so many places of a type of this shape need, by the widths of their parts in bits.
 fn words_for(shape: &Shape, places: u32, widths: &[u32]) -> u128

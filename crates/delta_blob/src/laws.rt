@@ -5,7 +5,7 @@ ghost use Rattle.row_model.specs.Table.{Table};
 ghost use Rattle.schema_model.specs.declared.reason.Reason.{Reason};
 ghost use Rattle.schema_model.specs.declared.schema.Schema.{Schema};
 ghost use Rattle.schema_model.specs.declared.schema.Shape.{Shape};
-ghost use Rattle.type_state.specs.Layout.{places_of};
+ghost use Rattle.type_rows.specs.Layout.{places_of};
 ghost use Rattle.row_packing.specs.States.{AreWritable};
 ghost use Rattle.blob_grammar.specs.Decided.{EachPlace, IsDecided};
 ghost use Rattle.blob_frame.specs.declared.header.Header.{Header};

@@ -1,6 +1,6 @@
 //! The types of a delta as they stand in the blob.
 ghost use Rattle.std.specs.Prelude.{All, IfOk};
-ghost use Rattle.type_state.specs.Patches.{IsWellFormedPatch};
+ghost use Rattle.type_rows.specs.Patches.{IsWellFormedPatch};
 ghost use Rattle.blob_grammar.specs.Form.{repeated};
 ghost use Rattle.blob_cursor.specs.Scene.{IsAbove, Leads};
 ghost use Rattle.delta_blob.specs.Parts.{IsWellFormedPart, body, patch_part, patch_section};
@@ -15,7 +15,7 @@ use hol_varint::List;
 use row_model::Packed;
 use schema_model::{Schema, Shape};
 use std::alloc::Global;
-use type_state::PatchSection;
+use type_rows::PatchSection;
 
 /// A type as it stands in a delta.
 #[derive(Debug, Drop)]

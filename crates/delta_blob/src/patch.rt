@@ -1,6 +1,6 @@
 //! A delta that was read against a model.
 use hol_varint::List;
-use type_state::PatchSection;
+use type_rows::PatchSection;
 
 /// What a delta changes of one type of a model.
 #[derive(Debug, Drop)]

@@ -13,8 +13,8 @@ use Rattle.schema_model.specs.declared.schema.Shape.{Shape}
 use Rattle.schema_model.specs.Limit.{number_of_limit}
 use Rattle.row_model.specs.Row.{FitsShape}
 use Rattle.row_model.specs.Table.{RowMap}
-use Rattle.type_state.specs.declared.section.Section.{Section}
-use Rattle.type_state.specs.Loads.{SectionIs}
+use Rattle.type_rows.specs.declared.section.Section.{Section}
+use Rattle.type_rows.specs.Loads.{SectionIs}
 use Rattle.type_state.specs.State.{Half}
 use Rattle.type_state.specs.Views.{table_of}
 use Rattle.blob_grammar.specs.Decided.{AreBytes, IsDecided}

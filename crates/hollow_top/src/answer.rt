@@ -5,8 +5,8 @@ ghost use Rattle.hollow_top.specs.Command.{IsLineOf};
 ghost use Rattle.hollow_top.specs.Stopping.{IsVerdict, Leaves};
 
 use crate::stop::Stop;
-use hol_io::{Sink, write_all};
 use hol_answers::{Reply, reply_line};
+use hol_io::{Sink, write_all};
 use std::alloc::Global;
 
 /// Writes the line of an answer, and tells whether it is a refusal.

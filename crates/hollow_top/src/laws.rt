@@ -11,7 +11,7 @@ use crate::words::command_of;
 use blob_frame::laws::one_header;
 use json_rows::laws::one_row_value;
 use snapshot_blob::laws::{header_and_body, one_snapshot};
-use type_state::laws::rows_fit;
+use type_rows::laws::rows_fit;
 
 /// The words ask for one command at most.
 pub fn one_command(words: &[String])

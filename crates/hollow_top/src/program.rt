@@ -20,8 +20,8 @@ use crate::show::show;
 use crate::stop::Stop;
 use crate::words::{Command, command_of};
 use chain_laws::laws::true_script;
-use hol_io::{BlobStore, Sink, Source};
 use hol_answers::{Refusal, Reply};
+use hol_io::{BlobStore, Sink, Source};
 use hollow_script::{Keep, ScriptStop, run_script};
 use std::alloc::Global;
 

@@ -1,6 +1,6 @@
 //! Why a cycle ends before its state is published.
-use hol_io::PutFault;
 use hol_answers::Refusal;
+use hol_io::PutFault;
 use hol_orders::OrderStop;
 use schema_model::Limit;
 use section_writing::WriteFault;

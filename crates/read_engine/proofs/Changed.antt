@@ -16,8 +16,8 @@ use Rattle.schema_model.specs.declared.schema.Shape.{Shape}
 use Rattle.row_model.specs.Row.{FitsShape, IsRowInRange}
 use Rattle.row_model.specs.Table.{RowMap, IsTableOf, row_at}
 use Rattle.row_model.proofs.RowEntries.{skips, finds}
-use Rattle.type_state.specs.declared.patch.PatchSection.{PatchSection}
-use Rattle.type_state.specs.Patches.{IsMovedBy, IsWellFormedPatch, MovesRows}
+use Rattle.type_rows.specs.declared.patch.PatchSection.{PatchSection}
+use Rattle.type_rows.specs.Patches.{IsMovedBy, IsWellFormedPatch, MovesRows}
 use Rattle.type_state.specs.State.{Half, State}
 use Rattle.type_state.specs.Views.{table_of}
 use Rattle.delta_blob.specs.declared.patch.PatchPart.{PatchPart}

@@ -12,7 +12,7 @@ use Rattle.ordinal_set.specs.Ordinals.{bound_of}
 use Rattle.row_model.specs.declared.row.Row.{Row}
 use Rattle.schema_model.specs.declared.schema.Schema.{Schema}
 use Rattle.row_model.specs.Table.{RowMap}
-use Rattle.type_state.specs.Patches.{IsMovedBy, IsReadablePatch}
+use Rattle.type_rows.specs.Patches.{IsMovedBy, IsReadablePatch}
 use Rattle.type_state.specs.State.{Half, State}
 use Rattle.blob_frame.specs.declared.fault.BlobFault.TheVariants as fault
 use Rattle.delta_blob.specs.declared.patch.PatchPart.{PatchPart}

@@ -18,9 +18,9 @@ use Rattle.schema_model.specs.Parts.{index_of_type, type_names}
 use Rattle.row_model.specs.Table.{IsClosed, RowMap, Table}
 use Rattle.schema_model.proofs.ModelFacts.{index_at}
 use Rattle.row_walk.specs.BothStates.{rows_in}
-use Rattle.type_state.specs.Holds.{Holds, KeepsLimits}
-use Rattle.type_state.specs.Layout.{places_of}
-use Rattle.type_state.specs.Patches.{AddsRows, FitsOrdinals, MovesRows, patch_layout}
+use Rattle.type_rows.specs.Holds.{Holds, KeepsLimits}
+use Rattle.type_rows.specs.Layout.{places_of}
+use Rattle.type_rows.specs.Patches.{AddsRows, FitsOrdinals, MovesRows, patch_layout}
 use Rattle.type_state.specs.State.{Half, State}
 use Rattle.type_state.specs.Views.{table_of}
 use Rattle.delta_blob.specs.declared.part.DeltaPart.{DeltaPart}

@@ -10,10 +10,10 @@ use Rattle.row_model.specs.declared.row.Row.{Row}
 use Rattle.schema_model.specs.declared.schema.Schema.{Schema}
 use Rattle.schema_model.specs.Model.{IsKept}
 use Rattle.row_walk.specs.BothStates.{rows_in}
-use Rattle.type_state.specs.Patches.{places_in}
+use Rattle.type_rows.specs.Patches.{places_in}
 use Rattle.type_state.specs.State.{Half}
 use Rattle.type_state.specs.Views.{table_of}
-use Rattle.type_state.proofs.Loading.{one_row}
+use Rattle.type_rows.proofs.Loading.{one_row}
 use Rattle.blob_frame.specs.declared.header.Header.{Header}
 use Rattle.snapshot_blob.proofs.Zipped.{zip_once}
 use Rattle.delta_blob.specs.declared.part.DeltaPart.{DeltaPart}

@@ -19,10 +19,10 @@ use Rattle.schema_model.specs.Limit.{number_of_limit}
 use Rattle.schema_model.specs.Model.{IsKept}
 use Rattle.row_model.specs.Table.{IsClosed, RowMap, Table}
 use Rattle.row_walk.specs.BothStates.{rows_in}
-use Rattle.type_state.specs.declared.patch.PatchSection.{PatchSection}
-use Rattle.type_state.specs.Holds.{Holds, KeepsLimits}
-use Rattle.type_state.specs.Layout.{Layout, places_of}
-use Rattle.type_state.specs.Patches.{AddsRows, FitsOrdinals, IsMovedBy, MovesRows, patch_layout}
+use Rattle.type_rows.specs.declared.patch.PatchSection.{PatchSection}
+use Rattle.type_rows.specs.Holds.{Holds, KeepsLimits}
+use Rattle.type_rows.specs.Layout.{Layout, places_of}
+use Rattle.type_rows.specs.Patches.{AddsRows, FitsOrdinals, IsMovedBy, MovesRows, patch_layout}
 use Rattle.type_state.specs.State.{Half, State, empty_half}
 use Rattle.type_state.specs.Views.{table_of}
 use Rattle.blob_grammar.specs.Form.{◌>>=◌, nothing, both}

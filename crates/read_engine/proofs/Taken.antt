@@ -6,7 +6,7 @@ use Rattle.schema_model.specs.declared.schema.Schema.{Schema}
 use Rattle.schema_model.specs.declared.limit.Limit.TheVariants.{Indexes}
 use Rattle.schema_model.specs.Limit.{number_of_limit}
 use Rattle.row_model.specs.Table.{IsClosed, IsTableOf, Table}
-use Rattle.type_state.specs.Patches.{IsReadablePatch}
+use Rattle.type_rows.specs.Patches.{IsReadablePatch}
 use Rattle.type_state.specs.State.{Half, State}
 use Rattle.type_state.specs.Views.{table_of}
 use Rattle.delta_blob.specs.declared.patch.PatchPart.{PatchPart}

@@ -5,8 +5,8 @@ use Rattle.std.specs.List.{AllZip}
 use Rattle.std.specs.FinMap.{get}
 use Rattle.schema_model.specs.declared.schema.Schema.{Schema}
 use Rattle.row_model.specs.Table.{RowMap, IsClosed, IsTableOf}
-use Rattle.type_state.specs.declared.patch.PatchSection.{PatchSection}
-use Rattle.type_state.specs.Patches.{IsMovedBy, IsReadablePatch, IsWellFormedPatch, patch_layout}
+use Rattle.type_rows.specs.declared.patch.PatchSection.{PatchSection}
+use Rattle.type_rows.specs.Patches.{IsMovedBy, IsReadablePatch, IsWellFormedPatch, patch_layout}
 use Rattle.type_state.specs.State.{Half, State, IsLaidOut}
 use Rattle.type_state.specs.Views.{table_of}
 use Rattle.blob_frame.specs.declared.fault.BlobFault.TheVariants as fault

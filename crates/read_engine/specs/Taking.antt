@@ -6,7 +6,7 @@ use Rattle.hol_io.specs.declared.name.BlobName.{BlobName}
 use Rattle.hol_io.specs.declared.name.BlobName.TheVariants.{Delta, Reverse}
 use Rattle.schema_model.specs.declared.limit.Limit.TheVariants.{Blob}
 use Rattle.schema_model.specs.Limit.{number_of_limit}
-use Rattle.type_state.specs.Layout.{Layout}
+use Rattle.type_rows.specs.Layout.{Layout}
 use Rattle.type_state.specs.State.{Half}
 use Rattle.blob_frame.specs.declared.fault.BlobFault.{BlobFault}
 use Rattle.blob_frame.specs.declared.fault.BlobFault.TheVariants as fault

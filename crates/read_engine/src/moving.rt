@@ -3,7 +3,7 @@ ghost use Rattle.std.specs.Prelude.{◌≡◌, ◌<◌, ◌^◌, All, IfErr, IfO
 ghost use Rattle.std.specs.FinMap.{get};
 ghost use Rattle.std.specs.List.{AllZip};
 ghost use Rattle.row_model.specs.Table.{RowMap};
-ghost use Rattle.type_state.specs.Patches.{FitsOrdinals, IsMovedBy, IsReadablePatch, patch_layout};
+ghost use Rattle.type_rows.specs.Patches.{FitsOrdinals, IsMovedBy, IsReadablePatch, patch_layout};
 ghost use Rattle.read_engine.specs.Moving.{AreMoved, IsReadableIn, IsStuck, KeepsPatch, MovesState, Refuses, StaysCurrent};
 ghost use Rattle.read_engine.specs.Past.{no_part};
 
@@ -15,7 +15,8 @@ use delta_blob::PatchPart;
 use hol_varint::{List, Ordinals};
 use row_model::Row;
 use std::alloc::{AllocError, Global};
-use type_state::{PatchSection, RowFault, TypeState};
+use type_rows::{PatchSection, RowFault};
+use type_state::TypeState;
 
 /// Moves the types, of which there are so many, by the parts of a patch, each into its next half, and answers what is to be kept of each type. The current halves stay as
 /// they are. `Body` comes where a part moves the rows of its type to no rows.

@@ -29,8 +29,8 @@ use key_index::laws::kept_key;
 use schema_model::Model;
 use std::alloc::Global;
 use std::sync::ledger::Ledger;
+use type_rows::laws::{moved_rows_fit, one_move};
 use type_state::TypeState;
-use type_state::laws::{moved_rows_fit, one_move};
 
 /// Moves a state by the delta of a name. After a fault it is as before.
 pub(crate) fn step<S: BlobStore, L: Ledger>(

@@ -20,9 +20,9 @@ use Rattle.list_codec.specs.Widths.{elements_of_row, elements_of_both, greatest,
 use Rattle.bucket_codec.specs.BucketCount.{bucket_count}
 use Rattle.bucket_codec.specs.Packed.{set_pair}
 use Rattle.bucket_codec.specs.Widths.{buckets_of_rows, set_widths, widths_for as bucket_widths}
-use Rattle.type_state.specs.Holds.{FitsWidth, FitsRow}
-use Rattle.type_state.specs.Layout.{items_of_row, item_count}
-use Rattle.type_state.specs.WordsHeld.{field_bytes}
+use Rattle.type_rows.specs.Holds.{FitsWidth, FitsRow}
+use Rattle.type_rows.specs.Layout.{items_of_row, item_count}
+use Rattle.type_rows.specs.WordsHeld.{field_bytes}
 use Rattle.row_packing.specs.Chosen.{IsRowOf}
 use Rattle.row_packing.specs.Written.{IsStored}
 use Rattle.row_packing.proofs.Greatest.{all_gives, all_parts, all_images, sum_typed, width_holds, zip_at}

@@ -7,9 +7,9 @@ use Rattle.row_model.specs.declared.row.Row.{Row}
 use Rattle.row_model.specs.declared.row.Value.{Value}
 use Rattle.schema_model.specs.declared.schema.FieldKind.{FieldKind}
 use Rattle.schema_model.specs.declared.schema.Shape.{Shape}
-use Rattle.type_state.specs.Holds.{FitsWidth, FitsRow, HoldsRows}
-use Rattle.type_state.specs.Layout.{items_of_row, item_count}
-use Rattle.type_state.specs.WordsHeld.{part_bytes, field_bytes}
+use Rattle.type_rows.specs.Holds.{FitsWidth, FitsRow, HoldsRows}
+use Rattle.type_rows.specs.Layout.{items_of_row, item_count}
+use Rattle.type_rows.specs.WordsHeld.{part_bytes, field_bytes}
 
 -- a value that fits with an end offset fits with a lesser one
 width_less : (kind : FieldKind) (width end less : ℕ) (value : Value) → less ≤ end → FitsWidth kind width end value → FitsWidth kind width less value

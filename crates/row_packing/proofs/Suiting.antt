@@ -22,8 +22,8 @@ use Rattle.row_walk.proofs.RowsFrom.{get_in}
 use Rattle.object_codec.specs.Widths.{fields_at, rows_bytes, widths_for as object_widths}
 use Rattle.list_codec.specs.Widths.{elements_of_row, widths_for as list_widths, total_for as list_total}
 use Rattle.bucket_codec.specs.Widths.{buckets_of_rows, widths_for as bucket_widths, total_for as bucket_total}
-use Rattle.type_state.specs.Layout.{places_of}
-use Rattle.type_state.specs.WordsHeld.{row_bytes, bytes_held}
+use Rattle.type_rows.specs.Layout.{places_of}
+use Rattle.type_rows.specs.WordsHeld.{row_bytes, bytes_held}
 use Rattle.row_packing.specs.declared.chosen.Chosen.{Chosen}
 use Rattle.row_packing.specs.Chosen.{shape_at, IsLiveInEither, IsGreatestOrdinal, chosen_widths, chosen_total, IsRowOf, KeepsCounts, IsChosen, Suits}
 use Rattle.row_packing.specs.Packs.{CanPackPlaces}

@@ -20,12 +20,12 @@ use Rattle.object_codec.specs.ObjectPlace.{SpellsObjectRow}
 use Rattle.list_codec.specs.ListPlace.{SpellsListRow}
 use Rattle.list_codec.specs.Packing.{elements_of_places}
 use Rattle.bucket_codec.specs.Packed.{bucket_total}
-use Rattle.type_state.specs.declared.section.Section.{Section}
-use Rattle.type_state.specs.Holds.{FitsRow, HoldsRows, Holds}
-use Rattle.type_state.specs.Layout.{places_of, place_bits, items_of_row, item_count, fixed_words}
-use Rattle.type_state.specs.Loads.{Spells, SectionIs, Loads, layout_of}
-use Rattle.type_state.specs.WellFormed.{AreWidths, IsReadable}
-use Rattle.type_state.specs.WordsHeld.{part_bytes, field_bytes, bytes_held}
+use Rattle.type_rows.specs.declared.section.Section.{Section}
+use Rattle.type_rows.specs.Holds.{FitsRow, HoldsRows, Holds}
+use Rattle.type_rows.specs.Layout.{places_of, place_bits, items_of_row, item_count, fixed_words}
+use Rattle.type_rows.specs.Loads.{Spells, SectionIs, Loads, layout_of}
+use Rattle.type_rows.specs.WellFormed.{AreWidths, IsReadable}
+use Rattle.type_rows.specs.WordsHeld.{part_bytes, field_bytes, bytes_held}
 use Rattle.row_packing.specs.declared.chosen.Chosen.{Chosen}
 use Rattle.row_packing.specs.Chosen.{IsGreatestOrdinal, IsLiveInEither, chosen_widths, chosen_total, IsRowOf, KeepsCounts}
 use Rattle.row_packing.specs.Packs.{PacksPlaces}

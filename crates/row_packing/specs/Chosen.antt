@@ -12,7 +12,7 @@ use Rattle.row_walk.specs.BothStates.{rows_of_both}
 use Rattle.object_codec.specs.Widths.{live_rows, widths_for as object_widths}
 use Rattle.list_codec.specs.Widths.{elements_of_row, widths_for as list_widths, total_for as list_total}
 use Rattle.bucket_codec.specs.Widths.{widths_for as bucket_widths, total_for as bucket_total}
-use Rattle.type_state.specs.WordsHeld.{bytes_held}
+use Rattle.type_rows.specs.WordsHeld.{bytes_held}
 use Rattle.row_packing.specs.declared.chosen.Chosen.{Chosen}
 use Rattle.row_packing.specs.Places.{Agree}
 

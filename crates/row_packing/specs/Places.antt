@@ -4,7 +4,7 @@ use Rattle.std.specs.List.{range_with_len}
 use Rattle.std.specs.List.Sorted.{IsStrictlyIncreasing}
 use Rattle.row_model.specs.declared.row.Row.{Row}
 use Rattle.row_model.specs.Table.{Table, IsLive, row_at}
-use Rattle.type_state.specs.Layout.{places_of}
+use Rattle.type_rows.specs.Layout.{places_of}
 
 -- Each place has the row under its ordinal, and none where no row is live there.
 abbrev pub places_under : Table → ℕ → List ℕ → List (Option Row)

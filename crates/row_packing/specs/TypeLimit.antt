@@ -7,8 +7,8 @@ use Rattle.schema_model.specs.Limit.{number_of_limit}
 use Rattle.row_model.specs.Table.{Table}
 use Rattle.row_walk.specs.BothStates.{rows_of_both}
 use Rattle.object_codec.specs.Widths.{live_rows}
-use Rattle.type_state.specs.Layout.{Layout, fixed_words}
-use Rattle.type_state.specs.WordsHeld.{bytes_held}
+use Rattle.type_rows.specs.Layout.{Layout, fixed_words}
+use Rattle.type_rows.specs.WordsHeld.{bytes_held}
 use Rattle.row_packing.specs.Chosen.{IsGreatestOrdinal, chosen_widths, chosen_total}
 
 -- The elements or buckets of both states, a row that both have counted once.

@@ -3,7 +3,7 @@ ghost use Rattle.std.specs.Prelude.{◌≡◌, ◌<◌, ◌≤◌, ◌-◌, ◌^
 ghost use Rattle.schema_model.specs.declared.limit.Limit.TheVariants.{Items, Ordinals};
 ghost use Rattle.schema_model.specs.Limit.{number_of_limit};
 ghost use Rattle.object_codec.specs.Widths.{live_rows};
-ghost use Rattle.type_state.specs.Layout.{item_bits, item_count, fixed_words};
+ghost use Rattle.type_rows.specs.Layout.{item_bits, item_count, fixed_words};
 ghost use Rattle.row_packing.specs.Chosen.{shape_at, IsLiveInEither};
 ghost use Rattle.row_packing.specs.Places.{Agree};
 ghost use Rattle.row_packing.specs.TypeLimit.{TellsLimit};
@@ -13,7 +13,7 @@ use bit_array::words_for;
 use row_model::Rows;
 use schema_model::{Limit, MAX_BYTES, MAX_ITEMS, MAX_WORDS, Shape};
 use std::alloc::{AllocError, Global};
-use type_state::words_needed;
+use type_rows::words_needed;
 
 /// The first of the limits on items, bytes and words that a type passes in an old and a new state, none where it keeps them.
 ///

@@ -1,6 +1,6 @@
 //! The rows of a type packed place by place, for a snapshot and for a delta.
 ghost use Rattle.std.specs.Prelude.{◌≡◌, ◌<◌, ◌≤◌, ◌^◌, ℕ, length, IfOk};
-ghost use Rattle.type_state.specs.Layout.{places_of};
+ghost use Rattle.type_rows.specs.Layout.{places_of};
 ghost use Rattle.row_model.specs.Table.{row_at};
 ghost use Rattle.row_packing.specs.Chosen.{shape_at, Suits};
 ghost use Rattle.row_packing.specs.Packs.{CanPackPlaces, PacksPlaces};

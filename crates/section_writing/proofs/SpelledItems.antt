@@ -10,8 +10,8 @@ use Rattle.ordinal_set.specs.Population.{population_of, population_words, IsPopu
 use Rattle.schema_model.specs.declared.schema.Field.{Field}
 use Rattle.schema_model.specs.declared.schema.FieldKind.{FieldKind}
 use Rattle.schema_model.specs.declared.schema.Shape.{Shape}
-use Rattle.type_state.specs.Layout.{width_count}
-use Rattle.type_state.specs.WellFormed.{IsWidth}
+use Rattle.type_rows.specs.Layout.{width_count}
+use Rattle.type_rows.specs.WellFormed.{IsWidth}
 use Rattle.blob_grammar.specs.Form.{Form, repeated, each_of, envelope, behind_number}
 use Rattle.blob_frame.specs.Item.{fixed, run, counted_run}
 use Rattle.blob_frame.proofs.Spelling.{Spells, spells_same, spells_then, spells_last, spells_made, spells_judged, spells_repeated, spells_counted, spells_fixed, spells_varint, spells_nothing, spells_skipped_none}

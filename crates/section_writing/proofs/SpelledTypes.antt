@@ -8,7 +8,7 @@ use Rattle.schema_model.specs.declared.schema.Field.{Field}
 use Rattle.schema_model.specs.declared.schema.Schema.{Schema}
 use Rattle.schema_model.specs.declared.schema.Shape.{Shape}
 use Rattle.schema_model.specs.Schema.{EachName, IsSpellable}
-use Rattle.type_state.specs.Layout.{places_of, width_count, words_needed}
+use Rattle.type_rows.specs.Layout.{places_of, width_count, words_needed}
 use Rattle.blob_frame.proofs.Spelling.{Spells, spells_then, spells_last, spells_varint}
 use Rattle.blob_frame.proofs.SpelledSchemas.{spells_schema}
 use Rattle.blob_sections.specs.declared.section.PackedRows.{PackedRows}

@@ -4,8 +4,8 @@ use Rattle.std.specs.Prelude.{◌≡◌, ◌≤◌, ◌<◌, ◌-◌, ◌*◌, �
 use Rattle.bit_array.specs.Element.{words_of}
 use Rattle.ordinal_set.specs.Gaps.{gap_bytes}
 use Rattle.schema_model.specs.declared.schema.Shape.{Shape}
-use Rattle.type_state.specs.Layout.{place_bits}
-use Rattle.type_state.specs.WellFormed.{AreWidths}
+use Rattle.type_rows.specs.Layout.{place_bits}
+use Rattle.type_rows.specs.WellFormed.{AreWidths}
 use Rattle.blob_sections.specs.declared.section.PackedRows.{PackedRows}
 
 -- The greatest ordinal is not the number that is read as none.

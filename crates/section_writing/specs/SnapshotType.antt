@@ -1,5 +1,5 @@
 -- A type of a snapshot: its head, and behind it its section.
-use Rattle.type_state.specs.declared.section.Section.{Section}
+use Rattle.type_rows.specs.declared.section.Section.{Section}
 use Rattle.blob_grammar.specs.Form.{Form, ◌>>=◌, nothing}
 use Rattle.blob_sections.specs.declared.head.TypeHead.{TypeHead}
 use Rattle.blob_sections.specs.Head.{type_head}

@@ -7,7 +7,7 @@ ghost use Rattle.ordinal_set.specs.Population.{IsPopulation};
 ghost use Rattle.schema_model.specs.declared.schema.Schema.{Schema};
 ghost use Rattle.schema_model.specs.declared.schema.Shape.{Shape};
 ghost use Rattle.schema_model.specs.Schema.{EachName, IsSpellable};
-ghost use Rattle.type_state.specs.Layout.{places_of};
+ghost use Rattle.type_rows.specs.Layout.{places_of};
 ghost use Rattle.blob_frame.specs.Item.{counted_run};
 ghost use Rattle.blob_sections.specs.declared.section.PackedRows.{PackedRows};
 ghost use Rattle.blob_sections.specs.Head.{type_head};

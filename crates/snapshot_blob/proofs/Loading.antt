@@ -11,7 +11,7 @@ use Rattle.row_model.specs.Row.{FitsShape, IsRowInRange}
 use Rattle.row_model.specs.Table.{EachRow, IsClosed}
 use Rattle.type_state.specs.State.{State, IsLaidOut, empty_half}
 use Rattle.type_state.specs.Views.{AreNext, next_halves, table_of}
-use Rattle.type_state.proofs.SectionRows.{rows_fit, rows_range}
+use Rattle.type_rows.proofs.SectionRows.{rows_fit, rows_range}
 use Rattle.snapshot_blob.specs.declared.part.TypePart.{TypePart}
 use Rattle.snapshot_blob.specs.Body.{IsWholeBody}
 use Rattle.snapshot_blob.specs.Stated.{AreAccepted, IsLoadedFrom, KeepsTypeLimits, TypeIs, schemas_of}

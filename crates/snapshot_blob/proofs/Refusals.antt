@@ -17,8 +17,8 @@ use Rattle.schema_model.specs.Parts.{fields_of}
 use Rattle.row_model.specs.Table.{RowMap, IsClosed}
 use Rattle.type_state.specs.State.{Half}
 use Rattle.type_state.specs.Views.{table_of}
-use Rattle.type_state.specs.WellFormed.{IsReadable, IsWellFormed}
-use Rattle.type_state.proofs.SectionRows.{one_state}
+use Rattle.type_rows.specs.WellFormed.{IsReadable, IsWellFormed}
+use Rattle.type_rows.proofs.SectionRows.{one_state}
 use Rattle.blob_frame.specs.declared.fault.BlobFault.{BlobFault}
 use Rattle.blob_frame.specs.declared.fault.BlobFault.TheVariants as fault
 use Rattle.snapshot_blob.specs.declared.part.TypePart.{TypePart}

@@ -1,7 +1,7 @@
 -- The bytes of a snapshot: its header, and behind it for each type its head and its section.
 use Rattle.std.specs.Prelude.{List}
 use Rattle.schema_model.specs.declared.schema.Shape.{Shape}
-use Rattle.type_state.specs.declared.section.Section.{Section}
+use Rattle.type_rows.specs.declared.section.Section.{Section}
 use Rattle.blob_grammar.specs.Form.{Form, ◌>>=◌, nothing, at_most, counted, both}
 use Rattle.blob_frame.specs.declared.header.Header.{Header}
 use Rattle.blob_frame.specs.Item.{vint, end}

@@ -8,11 +8,11 @@ use Rattle.schema_model.specs.Limit.{number_of_limit}
 use Rattle.schema_model.specs.Model.{IsModel}
 use Rattle.row_model.specs.Table.{RowMap, IsClosed}
 use Rattle.type_state.specs.State.{Half, State, IsLaidOut, empty_half}
-use Rattle.type_state.specs.Layout.{places_of}
-use Rattle.type_state.specs.Loads.{SectionIs, Loads, layout_of}
-use Rattle.type_state.specs.Holds.{Holds, KeepsLimits}
+use Rattle.type_rows.specs.Layout.{places_of}
+use Rattle.type_rows.specs.Loads.{SectionIs, Loads, layout_of}
+use Rattle.type_rows.specs.Holds.{Holds, KeepsLimits}
 use Rattle.type_state.specs.Views.{table_of}
-use Rattle.type_state.specs.WellFormed.{IsReadable}
+use Rattle.type_rows.specs.WellFormed.{IsReadable}
 use Rattle.blob_frame.specs.declared.fault.BlobFault.{BlobFault}
 use Rattle.blob_frame.specs.declared.fault.BlobFault.TheVariants as fault
 use Rattle.snapshot_blob.specs.declared.part.TypePart.{TypePart}

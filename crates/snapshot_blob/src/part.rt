@@ -1,6 +1,6 @@
 //! The types of a snapshot as they stand in the blob.
 ghost use Rattle.std.specs.Prelude.{All, IfOk};
-ghost use Rattle.type_state.specs.WellFormed.{IsWellFormed};
+ghost use Rattle.type_rows.specs.WellFormed.{IsWellFormed};
 ghost use Rattle.blob_grammar.specs.Form.{repeated};
 ghost use Rattle.blob_cursor.specs.Scene.{IsAbove, Leads};
 ghost use Rattle.snapshot_blob.specs.Parts.{section_of, type_part, body};
@@ -13,7 +13,7 @@ use hol_varint::List;
 use row_model::Packed;
 use schema_model::{Schema, Shape};
 use std::alloc::Global;
-use type_state::Section;
+use type_rows::Section;
 
 /// A type as it stands in a snapshot.
 #[derive(Debug, Drop)]

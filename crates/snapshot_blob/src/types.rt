@@ -4,7 +4,7 @@ ghost use Rattle.std.specs.List.{AllZip};
 ghost use Rattle.schema_model.specs.Model.{IsModel};
 ghost use Rattle.row_model.specs.Table.{RowMap, IsClosed};
 ghost use Rattle.type_state.specs.Views.{AreNext, next_halves, table_of};
-ghost use Rattle.type_state.specs.WellFormed.{IsReadable, IsWellFormed};
+ghost use Rattle.type_rows.specs.WellFormed.{IsReadable, IsWellFormed};
 ghost use Rattle.snapshot_blob.specs.Body.{IsWholeBody};
 ghost use Rattle.snapshot_blob.specs.Stated.{AreAccepted, HasState, IsLoadedFrom, KeepsCounts, LoadsPart, Refuses, schemas_of};
 
@@ -15,7 +15,8 @@ use hol_varint::{Duplicate, GapList};
 use row_model::first_dangling;
 use schema_model::{Limit, MAX_ITEMS, MAX_ORDINALS, Model, ModelFault, Reason, Schemas, model_of};
 use std::alloc::{AllocError, Global};
-use type_state::{NextRows, RowFault, TypeState, TypeStates};
+use type_rows::RowFault;
+use type_state::{NextRows, TypeState, TypeStates};
 
 /// The state of a snapshot's types: their model, which their schemas are, the rows of each in the next half of its
 /// state, all within the limits, and each ordinal that a row names live.

@@ -6,11 +6,12 @@ use Rattle.std.proofs.lemmas.List.{take_more, take_all, map-append, length-map, 
 use Rattle.std.proofs.lemmas.Option.{slice_get-get_or}
 use Rattle.schema_model.specs.declared.schema.Shape.{Shape}
 use Rattle.row_model.specs.declared.row.Row.{Row}
-use Rattle.type_state.specs.declared.patch.PatchSection.{PatchSection}
-use Rattle.type_state.specs.Loads.{Spells, IsSpelledIn}
-use Rattle.type_state.specs.Patches.{AddsRows, places_in}
+use Rattle.type_rows.specs.declared.patch.PatchSection.{PatchSection}
+use Rattle.type_rows.specs.Loads.{Spells, IsSpelledIn}
+use Rattle.type_rows.specs.Patches.{AddsRows, places_in}
+use Rattle.type_rows.specs.Slots.{Difference}
 use Rattle.type_state.specs.Moving.{AreAdded}
-use Rattle.type_state.specs.Differences.{Difference, present}
+use Rattle.type_state.specs.Differences.{present}
 
 -- The rows of the places before this one are read.
 pub record AreRead (shape : Shape) (patch : PatchSection) (place : ℕ) (differences : List Difference) : Type 0 where

@@ -5,10 +5,10 @@ use Rattle.std.specs.Ordering.{nat_cmp}
 use Rattle.std.specs.FinMap.{find, get, keys}
 use Rattle.ordinal_set.specs.Ordinals.{bound_of}
 use Rattle.row_model.specs.Table.{RowMap}
+use Rattle.type_rows.proofs.Entries.{below_bound}
 use Rattle.type_state.specs.declared.differences.Differences.{Differences}
 use Rattle.type_state.specs.Differences.{AreApart, AreBelow, rows_with}
 use Rattle.type_state.proofs.DifferingRows.{with_neither}
-use Rattle.type_state.proofs.Entries.{below_bound}
 use Rattle.type_state.proofs.Lookups.{found_below}
 
 -- Above both parts of the differences, and above the old rows, none stands.

@@ -12,19 +12,21 @@ use Rattle.schema_model.specs.Parts.{shape_fields}
 use Rattle.schema_model.specs.declared.schema.Shape.{Shape}
 use Rattle.row_model.specs.declared.row.Row.{Row}
 use Rattle.row_model.specs.Table.{RowMap}
+use Rattle.type_rows.specs.declared.totals.Totals.{Totals}
+use Rattle.type_rows.specs.Slots.{Difference}
+use Rattle.type_rows.specs.Ends.{IsOfKind, AreOfKind}
+use Rattle.type_rows.specs.Holds.{FitsRow, HoldsRows}
+use Rattle.type_rows.specs.Layout.{Layout, item_bits, items_of_row, words_needed}
+use Rattle.type_rows.specs.WordsHeld.{part_bytes, row_bytes}
+use Rattle.type_rows.specs.Totals.{AreTotals, HasParts}
+use Rattle.type_rows.proofs.Entries.{entries_rise}
+use Rattle.type_rows.proofs.Rising.{RiseFrom, from_sorted, none_is_not}
 use Rattle.type_state.specs.declared.differences.Differences.{Differences}
-use Rattle.type_state.specs.declared.totals.Totals.{Totals}
-use Rattle.type_state.specs.Differences.{AreApart, Difference, differing, rows_with}
-use Rattle.type_state.specs.Ends.{IsOfKind}
-use Rattle.type_state.specs.Holds.{FitsRow, HoldsRows}
-use Rattle.type_state.specs.Layout.{Layout, item_bits, items_of_row, words_needed}
-use Rattle.type_state.specs.Moving.{AreOfKind, IsHeld}
-use Rattle.type_state.specs.WordsHeld.{part_bytes, row_bytes}
-use Rattle.type_state.specs.Totals.{AgreeAt, AreTotals, ComeFitting, FitsSomewhere, HasParts, HoldsLast, IsComing, IsCounted, IsNoNarrower}
+use Rattle.type_state.specs.Differences.{AreApart, differing, rows_with}
+use Rattle.type_state.specs.Moving.{IsHeld}
+use Rattle.type_state.specs.Counted.{AgreeAt, ComeFitting, FitsSomewhere, HoldsLast, IsComing, IsCounted, IsNoNarrower}
 use Rattle.type_state.proofs.DifferingRows.{either, get_differing, with_added, with_neither, with_removed}
-use Rattle.type_state.proofs.Entries.{entries_rise}
 use Rattle.type_state.proofs.Lookups.{found_at}
-use Rattle.type_state.proofs.Rising.{RiseFrom, from_sorted, none_is_not}
 use Rattle.type_state.proofs.RowSums.{no_more}
 use Rattle.type_state.proofs.Widening.{all_held, fits_beside, held_found}
 

@@ -9,11 +9,12 @@ use Rattle.std.specs.Map.{keys_of}
 use Rattle.std.proofs.lemmas.Bool.{cases_eq, false≢true}
 use Rattle.row_model.specs.declared.row.Row.{Row}
 use Rattle.row_model.specs.Table.{RowMap}
+use Rattle.type_rows.specs.Slots.{Difference, differ_at}
+use Rattle.type_rows.proofs.Rising.{RiseFrom, from_sorted}
+use Rattle.type_rows.proofs.SlotRows.{differs_here, differs_there, same_rows}
 use Rattle.type_state.specs.declared.differences.Differences.{Differences}
-use Rattle.type_state.specs.Differences.{AreApart, AreBelow, AreTold, Difference, differ_at, differing, leading_back, rows_with}
-use Rattle.type_state.proofs.Rising.{RiseFrom, from_sorted}
+use Rattle.type_state.specs.Differences.{AreApart, AreBelow, AreTold, differing, leading_back, rows_with}
 use Rattle.type_state.proofs.Lookups.{found, none_below, skipped}
-use Rattle.type_state.proofs.SlotRows.{differs_here, differs_there, same_rows}
 
 -- what stands under an ordinal: what a difference says, and else what stood there
 abbrev pub either : Option (Option Row) → Option Row → Option Row

@@ -7,9 +7,10 @@ use Rattle.std.specs.List.Sorted.{IsStrictlySortedBy}
 use Rattle.std.proofs.lemmas.List.{at_drop_more, drop_all}
 use Rattle.row_model.specs.declared.row.Row.{Row}
 use Rattle.row_model.specs.Table.{RowMap}
-use Rattle.type_state.specs.Differences.{AreBelow, Difference, differ_at, differing, leading_back}
-use Rattle.type_state.proofs.Rising.{RiseFrom, from_sorted}
-use Rattle.type_state.proofs.SlotRows.{differs_there}
+use Rattle.type_rows.specs.Slots.{Difference, differ_at}
+use Rattle.type_rows.proofs.Rising.{RiseFrom, from_sorted}
+use Rattle.type_rows.proofs.SlotRows.{differs_there}
+use Rattle.type_state.specs.Differences.{AreBelow, differing, leading_back}
 
 -- The differences, of which the first ones lead back.
 unfoldable pub first_back : ℕ → RowMap → List Difference → List Difference

@@ -6,11 +6,11 @@ use Rattle.std.specs.Map.{values_of}
 use Rattle.schema_model.specs.declared.schema.Shape.{Shape}
 use Rattle.row_model.specs.Table.{RowMap}
 use Rattle.row_model.specs.declared.row.Row.{Row}
-use Rattle.type_state.specs.declared.totals.Totals.{Totals}
-use Rattle.type_state.specs.Holds.{HoldsRows}
-use Rattle.type_state.specs.Moving.{AreOfKind}
-use Rattle.type_state.specs.Totals.{AreTotals}
-use Rattle.type_state.proofs.Entries.{no_entry}
+use Rattle.type_rows.specs.declared.totals.Totals.{Totals}
+use Rattle.type_rows.specs.Holds.{HoldsRows}
+use Rattle.type_rows.specs.Ends.{AreOfKind}
+use Rattle.type_rows.specs.Totals.{AreTotals}
+use Rattle.type_rows.proofs.Entries.{no_entry}
 
 -- There are none in an empty map.
 pub empty_kinds : (shape : Shape) (rows : RowMap) → rows ≡ empty → AreOfKind shape rows

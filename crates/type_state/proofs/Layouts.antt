@@ -12,15 +12,15 @@ use Rattle.schema_model.specs.Parts.{shape_fields}
 use Rattle.row_model.specs.Table.{RowMap}
 use Rattle.schema_model.specs.declared.schema.Shape.{Shape}
 use Rattle.row_model.specs.declared.row.Row.{Row}
-use Rattle.type_state.specs.WordsHeld.{row_bytes, part_bytes}
-use Rattle.type_state.specs.Layout.{items_of_row}
-use Rattle.type_state.specs.Holds.{HoldsRows}
-use Rattle.type_state.specs.Ends.{FitsBehind}
+use Rattle.type_rows.specs.WordsHeld.{row_bytes, part_bytes}
+use Rattle.type_rows.specs.Layout.{items_of_row}
+use Rattle.type_rows.specs.Holds.{HoldsRows}
+use Rattle.type_rows.specs.Ends.{FitsBehind}
+use Rattle.type_rows.proofs.Reading.{held_more, held_at, more_bytes, more_items, holds_row, fits_row}
+use Rattle.type_rows.proofs.Entries.{below_bound, entries_rise}
+use Rattle.type_rows.proofs.Rising.{RiseFrom, none_is_not}
 use Rattle.type_state.specs.Moving.{AreLaidOut}
-use Rattle.type_state.proofs.Reading.{held_more, held_at, more_bytes, more_items, holds_row, fits_row}
-use Rattle.type_state.proofs.Entries.{below_bound, entries_rise}
 use Rattle.type_state.proofs.Lookups.{found, none_below, skipped}
-use Rattle.type_state.proofs.Rising.{RiseFrom, none_is_not}
 
 abbrev pub Entry : Type 0
 Entry = ℕ × Row

@@ -1,5 +1,5 @@
 -- Look-ups among entries of any kind whose ordinals rise.
-use Rattle.std.proofs.Common.{◌≡◌, ℕ, zero, suc, ◌+◌, ◌-◌, ◌<◌, ◌≤◌, inl, inr, List, [], ◌∷◌, length, get_or, cond, true, false, None, Some, Ok, Err, refl, ap, sym, subst, ◌∙◌, arith}
+use Rattle.std.proofs.Common.{◌≡◌, ℕ, zero, suc, ◌+◌, ◌-◌, ◌<◌, ◌≤◌, inl, inr, List, [], ◌∷◌, length, get_or, cond, true, None, Some, Ok, Err, refl, ap, sym, subst, ◌∙◌, arith}
 use Rattle.std.specs.Prelude.{All, is_some, IsSome, slice_get}
 use Rattle.std.specs.Ordering.{nat_cmp, eq_by_cmp, ordering_index}
 use Rattle.std.specs.FinMap.{find}
@@ -12,13 +12,8 @@ use Rattle.std.proofs.lemmas.List.{get_or-map, length-map}
 use Rattle.std.proofs.lemmas.List.Sorted.{IsNonDecreasingBy-from_default}
 use Rattle.std.proofs.lemmas.Map.Keys.{below_from_sorted}
 use Rattle.std.proofs.lemmas.Option.{get_or_from_slice_get}
-use Rattle.type_state.proofs.Rising.{RiseFrom, from_sorted}
-
-pub same_key : (q : ℕ) → eq_by_cmp nat_cmp q q ≡ true
-same_key q = grind arith
-
-pub other_key : (q o : ℕ) → (q ≡ o → ⊥) → eq_by_cmp nat_cmp q o ≡ false
-other_key q o other = grind arith
+use Rattle.type_rows.proofs.Rising.{RiseFrom, from_sorted}
+use Rattle.type_rows.proofs.SlotRows.{other_key, same_key}
 
 -- A look-up skips another key, and finds an equal one.
 pub skipped : {X : Type 0} (q : ℕ) (e : ℕ × X) (es : List (ℕ × X)) → (q ≡ e.0 → ⊥) → find nat_cmp q (e ∷ es) ≡ find nat_cmp q es

@@ -15,19 +15,20 @@ use Rattle.ordinal_set.specs.Ordinals.{bound_of}
 use Rattle.schema_model.specs.declared.schema.Shape.{Shape}
 use Rattle.row_model.specs.declared.row.Row.{Row}
 use Rattle.row_model.specs.Table.{RowMap}
+use Rattle.type_rows.specs.declared.patch.PatchSection.{PatchSection}
+use Rattle.type_rows.specs.Slots.{Difference}
+use Rattle.type_rows.specs.Layout.{places_of}
+use Rattle.type_rows.specs.Patches.{IsMovedBy, MovesRows}
+use Rattle.type_rows.proofs.Entries.{below_bound}
+use Rattle.type_rows.proofs.MovedRows.{one_result}
+use Rattle.type_rows.proofs.Removal.{has_or}
+use Rattle.type_rows.proofs.Rising.{RiseFrom, none_is_not, from_sorted}
 use Rattle.type_state.specs.declared.differences.Differences.{Differences}
 use Rattle.type_state.specs.declared.moving.Move.{Move}
-use Rattle.type_state.specs.declared.patch.PatchSection.{PatchSection}
-use Rattle.type_state.specs.Differences.{AreApart, AreBelow, Difference, present, removal, rows_with}
-use Rattle.type_state.specs.Layout.{places_of}
-use Rattle.type_state.specs.Patches.{IsMovedBy, MovesRows}
+use Rattle.type_state.specs.Differences.{AreApart, AreBelow, present, removal, rows_with}
 use Rattle.type_state.specs.Moving.{IsDifferent, IsMoved, IsWithin}
 use Rattle.type_state.proofs.DifferingRows.{either, get_with}
-use Rattle.type_state.proofs.Entries.{below_bound}
 use Rattle.type_state.proofs.Lookups.{found, skipped}
-use Rattle.type_state.proofs.MovedRows.{one_result}
-use Rattle.type_state.proofs.Removal.{has_or}
-use Rattle.type_state.proofs.Rising.{RiseFrom, none_is_not, from_sorted}
 
 -- ---- what is found among the added rows
 

@@ -13,13 +13,14 @@ use Rattle.std.proofs.lemmas.List.{take_more}
 use Rattle.std.proofs.lemmas.List.Sums.{sum_by-cons}
 use Rattle.row_model.specs.declared.row.Row.{Row}
 use Rattle.row_model.specs.Table.{RowMap}
-use Rattle.type_state.specs.declared.totals.Totals.{Totals}
-use Rattle.type_state.specs.Differences.{Difference, differ_at, differing}
-use Rattle.type_state.specs.Layout.{items_of_row}
-use Rattle.type_state.specs.WordsHeld.{part_bytes, row_bytes}
-use Rattle.type_state.specs.Totals.{AreLess, AreMore, AreTotals}
+use Rattle.type_rows.specs.declared.totals.Totals.{Totals}
+use Rattle.type_rows.specs.Slots.{Difference, differ_at}
+use Rattle.type_rows.specs.Layout.{items_of_row}
+use Rattle.type_rows.specs.WordsHeld.{part_bytes, row_bytes}
+use Rattle.type_rows.specs.Totals.{AreLess, AreMore, AreTotals}
+use Rattle.type_rows.proofs.SlotRows.{differs_here, differs_there, same_rows}
+use Rattle.type_state.specs.Differences.{differing}
 use Rattle.type_state.proofs.Lookups.{found, skipped}
-use Rattle.type_state.proofs.SlotRows.{differs_here, differs_there, same_rows}
 
 abbrev pub Entry : Type 0
 Entry = ℕ × Row

@@ -12,11 +12,11 @@ use Rattle.schema_model.specs.declared.schema.FieldKind.{FieldKind}
 use Rattle.schema_model.specs.declared.schema.Shape.{Shape}
 use Rattle.row_model.specs.declared.row.Value.{Value}
 use Rattle.row_model.specs.declared.row.Row.{Row}
-use Rattle.type_state.specs.Ends.{IsOfKind}
-use Rattle.type_state.specs.Holds.{FitsRow, FitsWidth, HoldsRows, IsBelowOnes}
-use Rattle.type_state.specs.Layout.{item_count, items_of_row}
-use Rattle.type_state.specs.WordsHeld.{field_bytes, part_bytes}
-use Rattle.type_state.specs.Totals.{FitsSomewhere, IsNoNarrower}
+use Rattle.type_rows.specs.Ends.{IsOfKind}
+use Rattle.type_rows.specs.Holds.{FitsRow, FitsWidth, HoldsRows, IsBelowOnes}
+use Rattle.type_rows.specs.Layout.{item_count, items_of_row}
+use Rattle.type_rows.specs.WordsHeld.{field_bytes, part_bytes}
+use Rattle.type_state.specs.Counted.{FitsSomewhere, IsNoNarrower}
 use Rattle.type_state.proofs.Lookups.{found, skipped}
 
 abbrev Entry : Type 0

@@ -1,17 +1,14 @@
 -- Rows that are told by their differences from other rows.
 use Rattle.std.specs.Prelude.{◌≡◌, ℕ, ◌<◌, List, [], ◌∷◌, Option, None, Some, IsSome, All, map}
 use Rattle.std.specs.Ordering.{nat_cmp}
-use Rattle.std.specs.FinMap.{find, get, insert, remove}
+use Rattle.std.specs.FinMap.{find, get}
 use Rattle.std.specs.List.Sorted.{IsStrictlySortedBy}
 use Rattle.std.specs.Map.{keys_of}
 use Rattle.row_model.specs.declared.row.Row.{Row}
 use Rattle.row_model.specs.Table.{RowMap}
+use Rattle.type_rows.specs.Slots.{Difference, differ_at}
 use Rattle.type_state.specs.declared.differences.Differences.{Differences}
 use Rattle.type_state.specs.declared.differences.Others.{Others}
-
--- An ordinal, and the row that is to stand under it, if one is.
-abbrev pub Difference : Type 0
-Difference = ℕ × Option Row
 
 -- No row is to stand under the ordinal.
 abbrev pub removal : ℕ → Difference
@@ -20,11 +17,6 @@ removal ordinal = (ordinal, None)
 -- A row is there.
 abbrev pub present : Row → Option Row
 present row = Some row
-
--- The rows with this difference.
-abbrev pub differ_at : RowMap → Difference → RowMap
-differ_at rows (ordinal, None) = remove rows ordinal
-differ_at rows (ordinal, Some row) = insert rows ordinal row
 
 -- The rows with each of these differences.
 unfoldable pub differing : RowMap → List Difference → RowMap

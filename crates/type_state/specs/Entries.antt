@@ -3,15 +3,15 @@ use Rattle.std.specs.Prelude.{◌≡◌, []}
 use Rattle.std.specs.FinMap.{keys, values}
 use Rattle.ordinal_set.specs.Ordinals.{bound_of}
 use Rattle.schema_model.specs.declared.schema.Shape.{Shape}
+use Rattle.type_rows.specs.declared.outline.Outline.{Outline}
+use Rattle.type_rows.specs.declared.totals.Totals.{Totals}
+use Rattle.type_rows.specs.Holds.{HoldsRows}
+use Rattle.type_rows.specs.Slots.{Stored}
+use Rattle.type_rows.specs.Totals.{AreTotals}
 use Rattle.type_state.specs.declared.differences.Others.{Others}
-use Rattle.type_state.specs.declared.outline.Outline.{Outline}
-use Rattle.type_state.specs.declared.totals.Totals.{Totals}
 use Rattle.type_state.specs.Differences.{AreOthers, other_rows}
-use Rattle.type_state.specs.Holds.{HoldsRows}
 use Rattle.type_state.specs.Moving.{HasKind}
-use Rattle.type_state.specs.Slots.{Stored}
 use Rattle.type_state.specs.State.{half_of}
-use Rattle.type_state.specs.Totals.{AreTotals}
 
 -- Both halves of a type are of its kind, the outline of each has the bound of its rows and widths that hold them, the totals of each are those of
 -- its rows, and the other one is told beside the current one.

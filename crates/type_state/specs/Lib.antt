@@ -1,15 +1,7 @@
+pub mod Counted
 pub mod Differences
-pub mod Ends
 pub mod Entries
-pub mod Holds
-pub mod Layout
-pub mod Loads
 pub mod Lookup
 pub mod Moving
-pub mod Patches
-pub mod Slots
 pub mod State
-pub mod Totals
 pub mod Views
-pub mod WellFormed
-pub mod WordsHeld

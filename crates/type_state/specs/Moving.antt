@@ -1,5 +1,5 @@
 -- The parts of a move: which rows stay, which are added, and what the two make together.
-use Rattle.std.specs.Prelude.{◌≡◌, ℕ, ◌-◌, ◌^◌, ◌<◌, List, [], Option, None, Some, IsSome, All, length, map, min, slice_index}
+use Rattle.std.specs.Prelude.{◌≡◌, ℕ, ◌-◌, ◌^◌, ◌<◌, List, [], Option, None, IsSome, All, length, map, min, slice_index}
 use Rattle.std.specs.List.Sorted.{IsStrictlyIncreasing}
 use Rattle.std.specs.FinMap.{get, values}
 use Rattle.std.specs.Map.{keys_of, values_of}
@@ -7,27 +7,22 @@ use Rattle.schema_model.specs.Parts.{shape_fields}
 use Rattle.row_model.specs.Table.{RowMap}
 use Rattle.schema_model.specs.declared.schema.Shape.{Shape}
 use Rattle.row_model.specs.declared.row.Row.{Row}
-use Rattle.type_state.specs.declared.fault.RowFault.{RowFault}
+use Rattle.type_rows.specs.declared.fault.RowFault.{RowFault}
+use Rattle.type_rows.specs.declared.patch.PatchSection.{PatchSection}
+use Rattle.type_rows.specs.Layout.{Layout, item_count, places_of}
+use Rattle.type_rows.specs.WordsHeld.{field_bytes, bytes_held}
+use Rattle.type_rows.specs.Holds.{HoldsRows, KeepsLimits}
+use Rattle.type_rows.specs.Ends.{AreOfKind}
+use Rattle.type_rows.specs.Patches.{AddsRows, FitsOrdinals, MovesRows, patch_layout}
 use Rattle.type_state.specs.declared.differences.Differences.{Differences}
 use Rattle.type_state.specs.declared.moving.Move.{Move}
-use Rattle.type_state.specs.declared.outline.Outline.{Outline}
-use Rattle.type_state.specs.declared.patch.PatchSection.{PatchSection}
 use Rattle.type_state.specs.Differences.{AreBelow, present, removal}
-use Rattle.type_state.specs.Layout.{Layout, item_count, places_of}
 use Rattle.type_state.specs.State.{Half}
-use Rattle.type_state.specs.WordsHeld.{field_bytes, bytes_held}
-use Rattle.type_state.specs.Holds.{HoldsRows, KeepsLimits}
-use Rattle.type_state.specs.Ends.{IsOfKind}
-use Rattle.type_state.specs.Patches.{AddsRows, FitsOrdinals, MovesRows, patch_layout}
 
 -- A fault other than want of memory tells this.
 abbrev pub UnlessMemory : Type 0 → RowFault → Type 0
 UnlessMemory told RowFault.Memory = Unit {0}
 UnlessMemory told _ = told
-
--- Each row is of the kind of its type.
-abbrev pub AreOfKind : Shape → RowMap → Type 0
-AreOfKind shape rows = (ordinal : ℕ) (row : Row) → get rows ordinal ≡ Some row → IsOfKind shape row
 
 -- The rows of both halves of a type are of its kind.
 pub record HasKind (shape : Shape) (current other : Half) : Type 0 where
@@ -85,7 +80,3 @@ pub record AreLaidOut (shape : Shape) (widths : List ℕ) (rows : List Row) (end
 pub record IsHeld (shape : Shape) (layout : Layout) (rows : RowMap) : Type 0 where
   pub parts : HoldsRows shape layout.widths [] (values rows)
   pub within : KeepsLimits shape layout rows
-
--- The layout of an outline.
-abbrev pub layout_at : Outline → Layout
-layout_at outline = record { max = outline.max; widths = outline.widths }

@@ -6,8 +6,8 @@ use Rattle.schema_model.specs.declared.schema.Schema.{Schema}
 use Rattle.schema_model.specs.contracts.schema.Schema as schema_contract
 use Rattle.row_model.specs.contracts.row.Row as row_contract
 use Rattle.row_model.specs.Table.{RowMap}
-use Rattle.type_state.specs.declared.outline.Outline.{Outline}
-use Rattle.type_state.specs.Layout.{Layout, width_count}
+use Rattle.type_rows.specs.declared.outline.Outline.{Outline}
+use Rattle.type_rows.specs.Layout.{Layout, width_count}
 
 -- The rows of a type in one state, by ordinal, and their layout in the blob that gave them.
 pub record Half : Type 0 where

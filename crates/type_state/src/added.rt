@@ -1,34 +1,17 @@
 //! The rows that a patch adds.
-ghost use Rattle.std.specs.Prelude.{◌<◌, List, All, IfErr, MatchResult, length};
+ghost use Rattle.std.specs.Prelude.{◌<◌, List, All, IfErr, MatchResult};
 ghost use Rattle.row_model.specs.declared.row.Row.{Row as StoredRow};
 ghost use Rattle.std.specs.List.Sorted.{IsStrictlyIncreasing};
-ghost use Rattle.type_state.specs.Layout.{places_of};
-ghost use Rattle.type_state.specs.Loads.{IsLoadFault, TellsPlace};
-ghost use Rattle.type_state.specs.Patches.{AddsRows, IsReadablePatch, places_in};
+ghost use Rattle.type_rows.specs.Layout.{places_of};
+ghost use Rattle.type_rows.specs.Loads.{IsLoadFault};
+ghost use Rattle.type_rows.specs.Patches.{AddsRows, IsReadablePatch};
 ghost use Rattle.type_state.specs.Moving.{AreAdded, UnlessMemory};
 
 use crate::differences::Difference;
-use crate::place::read_place;
-use crate::{PatchSection, RowFault};
-use row_model::{PlaceFault, Row};
+use row_model::PlaceFault;
 use schema_model::Schema;
 use std::alloc::Global;
-
-/// The row at a place of a patch.
-fn read_row(
-    alloc: Global,
-    schema: &Schema,
-    patch: &PatchSection,
-    place: u64,
-) -> Result<Row, PlaceFault>
-    requires readable { IsReadablePatch schema.now.shape patch.now }
-    requires place { place < length patch.now.added }
-    requires rising { IsStrictlyIncreasing patch.now.added }
-    requires placed { All (λ ordinal. ordinal < places_of patch.now.max) patch.now.added }
-    ensures { TellsPlace schema.now.shape (places_in patch.now) place result }
-{
-    read_place(alloc, schema, &patch.widths, patch.total, patch, place)
-}
+use type_rows::{PatchSection, RowFault};
 
 /// The added ordinals, which have places, each with the row that its place spells.
 ///
@@ -46,7 +29,7 @@ pub(crate) fn read_added(
 {
     let mut rows = Vec::new(alloc);
     for (place, ordinal) in patch.added.as_slice().iter().enumerate() {
-        match read_row(alloc, schema, patch, place as u64) {
+        match patch.row_at(alloc, schema, place as u64) {
             Ok(row) => rows.push((*ordinal as u32, Some(row)))?,
             Err(PlaceFault::Bad(reason)) => return Err(RowFault::At(reason, *ordinal)),
             Err(PlaceFault::Memory) => return Err(RowFault::Memory),

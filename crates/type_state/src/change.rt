@@ -2,22 +2,21 @@
 ghost use Rattle.std.specs.Prelude.{◌≡◌, ◌≤◌, ℕ, [], IfOk, IfSome, IsTrue, length, slice_index};
 ghost use Rattle.std.specs.FinMap.{values};
 ghost use Rattle.schema_model.specs.Parts.{shape_fields};
+ghost use Rattle.type_rows.specs.Ends.{IsOfKind, AreOfKind};
+ghost use Rattle.type_rows.specs.Holds.{HoldsRows};
+ghost use Rattle.type_rows.specs.Layout.{width_count};
+ghost use Rattle.type_rows.specs.Outline.{layout_at};
+ghost use Rattle.type_rows.specs.Totals.{AreTotals};
 ghost use Rattle.type_state.specs.Differences.{AreApart, rows_with};
-ghost use Rattle.type_state.specs.Ends.{IsOfKind};
-ghost use Rattle.type_state.specs.Holds.{HoldsRows};
-ghost use Rattle.type_state.specs.Layout.{width_count};
-ghost use Rattle.type_state.specs.Moving.{AreOfKind, IsHeld, layout_at};
-ghost use Rattle.type_state.specs.Totals.{AreTotals, ComeFitting, HoldsLast, IsNoNarrower};
+ghost use Rattle.type_state.specs.Moving.{IsHeld};
+ghost use Rattle.type_state.specs.Counted.{ComeFitting, HoldsLast, IsNoNarrower};
 
-use crate::load::MOST_ITEMS;
+use crate::counting::exchange_rows;
 use crate::moving::Move;
-use crate::outline::Outline;
-use crate::slots::Slots;
-use crate::totals::Totals;
-use crate::words::fixed_words;
 use row_model::Row;
 use schema_model::{MAX_WORDS, Schema, Shape};
 use std::alloc::{AllocError, Global};
+use type_rows::{MOST_ITEMS, Outline, Slots, Totals, fixed_words};
 
 /// Whether there are as many widths as before, and none is narrower.
 fn are_no_narrower(before: &[u32], widths: &[u32]) -> bool
@@ -48,10 +47,22 @@ fn count_change(totals: &mut Totals, shape: &Shape, next: &Move, rows: &Slots) -
     ensures long { IsTrue result → length totals.new.ends.offsets.items ≡ length (shape_fields shape.now) }
 {
     let widths = next.outline.widths.as_slice();
-    if !totals.exchange(shape, widths, rows, next.differences.removed.as_slice()) {
+    if !exchange_rows(
+        totals,
+        shape,
+        widths,
+        rows,
+        next.differences.removed.as_slice(),
+    ) {
         return false;
     }
-    totals.exchange(shape, widths, rows, next.differences.added.as_slice())
+    exchange_rows(
+        totals,
+        shape,
+        widths,
+        rows,
+        next.differences.added.as_slice(),
+    )
 }
 
 /// Lays out the last row again, behind all the others, and tells whether each part of it fits its width there and the limits are kept.

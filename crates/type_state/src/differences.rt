@@ -6,9 +6,9 @@ ghost use Rattle.std.specs.Map.{keys_of};
 ghost use Rattle.std.specs.Ordering.{nat_cmp};
 ghost use Rattle.type_state.specs.Differences.{AreApart, AreBelow, AreOthers, AreTold, differing, leading_back, other_rows, rows_with};
 
-use crate::slots::Slots;
 use row_model::Row;
 use std::mem;
+use type_rows::Slots;
 
 /// What stands under an ordinal: a row or none.
 pub(crate) type Difference = (u32, Option<Row>);

@@ -3,26 +3,20 @@ ghost use Rattle.std.specs.Prelude.{◌≡◌, ◌≤◌, ℕ, [], IfErr, IfOk, 
 ghost use Rattle.std.specs.FinMap.{keys, values};
 ghost use Rattle.ordinal_set.specs.Ordinals.{bound_of};
 ghost use Rattle.schema_model.specs.Parts.{shape_fields};
+ghost use Rattle.type_rows.specs.Layout.{width_count};
+ghost use Rattle.type_rows.specs.Holds.{HoldsRows};
+ghost use Rattle.type_rows.specs.Loads.{IsLoadFault};
+ghost use Rattle.type_rows.specs.Ends.{AreOfKind};
+ghost use Rattle.type_rows.specs.Outline.{layout_at};
+ghost use Rattle.type_rows.specs.Totals.{AreTotals};
 ghost use Rattle.type_state.specs.Differences.{AreApart, rows_with};
-ghost use Rattle.type_state.specs.Layout.{width_count};
-ghost use Rattle.type_state.specs.Holds.{HoldsRows};
-ghost use Rattle.type_state.specs.Loads.{IsLoadFault};
-ghost use Rattle.type_state.specs.Moving.{AreLaidOut, AreOfKind, IsHeld, UnlessMemory, layout_at};
-ghost use Rattle.type_state.specs.Totals.{AreTotals};
+ghost use Rattle.type_state.specs.Moving.{AreLaidOut, IsHeld, UnlessMemory};
 
-use crate::RowFault;
 use crate::change::totals_by_change;
-use crate::count::row_len;
-use crate::ends::Ends;
-use crate::load::MOST_ITEMS;
 use crate::moving::Move;
-use crate::outline::Outline;
-use crate::slots::Slots;
-use crate::totals::Totals;
-use crate::words::fixed_words;
-use row_model::Row;
 use schema_model::{Limit, MAX_BYTES, MAX_WORDS, Reason, Schema};
 use std::alloc::Global;
+use type_rows::{Ends, MOST_ITEMS, Outline, RowFault, Slots, Totals, fixed_words, row_len};
 
 /// Lays out rows one behind the other, tests that each part of them fits its width, and counts their bytes; the ends are at 0.
 fn lay_out(schema: &Schema, next: &Move, rows: &Slots, ends: &mut Ends) -> Result<u64, RowFault>

@@ -1,26 +1,24 @@
 //! From the current rows of a type and a patch to its next rows.
-ghost use Rattle.std.specs.Prelude.{◌≡◌, ◌<◌, ◌≤◌, ◌-◌, ◌^◌, ℕ, List, [], None, IsSome, All, IfErr, IfOk, MatchResult, map};
-ghost use Rattle.std.specs.FinMap.{get, keys, values};
+ghost use Rattle.std.specs.Prelude.{◌≡◌, ◌<◌, ◌≤◌, ◌-◌, ◌^◌, [], None, All, IfErr, IfOk, MatchResult, map};
+ghost use Rattle.std.specs.FinMap.{keys, values};
 ghost use Rattle.ordinal_set.specs.Ordinals.{bound_of};
+ghost use Rattle.type_rows.specs.Holds.{HoldsRows};
+ghost use Rattle.type_rows.specs.Loads.{IsLoadFault};
+ghost use Rattle.type_rows.specs.Patches.{IsMovedBy, IsReadablePatch, RefusesMove, patch_layout};
+ghost use Rattle.type_rows.specs.Ends.{AreOfKind};
+ghost use Rattle.type_rows.specs.Outline.{layout_at};
+ghost use Rattle.type_rows.specs.Totals.{AreTotals};
 ghost use Rattle.type_state.specs.Differences.{AreApart, AreBelow, removal, rows_with};
-ghost use Rattle.type_state.specs.Holds.{HoldsRows};
-ghost use Rattle.type_state.specs.Loads.{IsLoadFault};
-ghost use Rattle.type_state.specs.Patches.{IsMovedBy, IsReadablePatch, RefusesMove, patch_layout};
-ghost use Rattle.type_state.specs.Moving.{AreOfKind, IsDifferent, IsMoved, IsWithin, layout_at};
-ghost use Rattle.type_state.specs.Totals.{AreTotals};
+ghost use Rattle.type_state.specs.Moving.{IsDifferent, IsMoved, IsWithin};
 
 use crate::added::read_added;
 use crate::differences::{Difference, Differences};
 use crate::held::test_held;
 use crate::ordinals::{test_added, test_removed};
-use crate::outline::Outline;
-use crate::slots::Slots;
-use crate::totals::Totals;
-use crate::words::places;
-use crate::{PatchSection, RowFault};
 use hol_varint::Duplicate;
 use schema_model::{Reason, Schema};
 use std::alloc::{AllocError, Global};
+use type_rows::{Outline, PatchSection, RowFault, Slots, Totals, place_count};
 
 /// The rows that a patch moves others to, as differences from these.
 #[derive(Debug, Drop)]
@@ -92,7 +90,7 @@ fn differences_of(
     ensures tells { MatchResult result (λ differences. IsDifferent schema.now.shape patch.now rows.now.rows differences) (RefusesMove schema.now.shape patch.now rows.now.rows) }
     ensures kind { IfErr result IsLoadFault }
 {
-    let places = places(patch.max);
+    let places = place_count(patch.max);
     test_removed(rows, patch.removed.as_slice())?;
     test_added(rows, patch.added.as_slice(), places)?;
     Ok(Differences {
@@ -120,7 +118,7 @@ fn differing(
 {
     let differences = differences_of(alloc, schema, bound, rows, patch)?;
     let next_bound = bound_with(rows, bound, &differences);
-    if u64::from(next_bound) > places(patch.max) {
+    if u64::from(next_bound) > place_count(patch.max) {
         let last = u64::from(next_bound - 1);
         return Err(RowFault::At(Reason::BadOrdinals, last));
     }

@@ -1,12 +1,11 @@
 //! The tests of the ordinals of a patch.
 ghost use Rattle.std.specs.Prelude.{◌≡◌, ◌↔◌, ◌<◌, ◌≤◌, ◌^◌, None, IfErr, IsSome, IsTrue, MatchResult};
 ghost use Rattle.std.specs.FinMap.{get};
-ghost use Rattle.type_state.specs.Loads.{IsLoadFault};
+ghost use Rattle.type_rows.specs.Loads.{IsLoadFault};
 ghost use Rattle.type_state.specs.Moving.{AreAddable, AreRemovable, UnlessMemory};
 
-use crate::RowFault;
-use crate::slots::Slots;
 use schema_model::Reason;
+use type_rows::{RowFault, Slots};
 
 /// Whether an ordinal is not below a number, and is live.
 fn is_removable(rows: &Slots, ordinal: u64, from: u128) -> bool

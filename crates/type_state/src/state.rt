@@ -7,27 +7,22 @@ ghost use Rattle.hol_varint.specs.Yields.{Yields};
 ghost use Rattle.row_model.specs.Lent.{lent_row};
 ghost use Rattle.row_model.specs.Table.{RowMap};
 ghost use Rattle.bucket_codec.specs.Run.{FindsIn};
+ghost use Rattle.type_rows.specs.WellFormed.{IsReadable};
+ghost use Rattle.type_rows.specs.Loads.{IsLoadFault, IsFreeRow, Loads, TellsLoad, layout_of};
+ghost use Rattle.type_rows.specs.Patches.{IsMovedBy, IsReadablePatch, TellsMove, patch_layout};
 ghost use Rattle.type_state.specs.Lookup.{elements_of, pairs_of};
 ghost use Rattle.type_state.specs.State.{IsLaidOut, empty_half};
-ghost use Rattle.type_state.specs.WellFormed.{IsReadable};
-ghost use Rattle.type_state.specs.Loads.{IsLoadFault, IsFreeRow, Loads, TellsLoad, layout_of};
-ghost use Rattle.type_state.specs.Patches.{IsMovedBy, IsReadablePatch, TellsMove, patch_layout};
 
 use crate::differences::Others;
-use crate::kept::Kept;
-use crate::load::{Loaded, load};
 use crate::lookup::{at, has};
 use crate::moving::{CountedMove, Move, moved};
-use crate::outline::Outline;
-use crate::slots::Slots;
-use crate::totals::Totals;
-use crate::{PatchSection, RowFault, Section};
 use hol_varint::Duplicate;
 use row_model::{LentRow, Row, Widths};
 use schema_model::Schema;
 use std::alloc::{AllocError, Global};
 use std::marker::Model;
 use std::mem;
+use type_rows::{Loaded, Outline, PatchSection, RowFault, Section, Slots, Totals, load_section};
 
 /// The rows of one type: those of its current state, and beside them those of the state before or of the next one.
 ///
@@ -100,9 +95,12 @@ impl TypeState {
         ensures schema { self.new.schema ≡ self.old.schema }
         ensures current { self.new.current ≡ self.old.current }
     {
-        let loaded = load(self.alloc, &self.schema, section)?;
-        let Loaded { half, totals } = loaded;
-        let Kept { outline, rows } = half;
+        let loaded = load_section(self.alloc, &self.schema, section)?;
+        let Loaded {
+            outline,
+            rows,
+            totals,
+        } = loaded;
         self.others = Others::Whole(rows);
         self.other = outline;
         self.other_totals = totals;
@@ -268,17 +266,6 @@ impl TypeState {
     {
         match self.others.find(&self.rows, ordinal) {
             Some(row) => row.copy(alloc),
-            None => unreachable!(),
-        }
-    }
-
-    /// The row of the state before under an ordinal that was live, to look at where it stands.
-    pub fn lend_before(&self, _alloc: Global, ordinal: u32) -> Result<LentRow<'_>, AllocError>
-        requires { IsSome (get self.now.other.rows ordinal) }
-        ensures { IfOk result (λ lent. get self.now.other.rows ordinal ≡ Some (lent_row lent)) }
-    {
-        match self.others.find(&self.rows, ordinal) {
-            Some(row) => Ok(LentRow::Kept(row)),
             None => unreachable!(),
         }
     }

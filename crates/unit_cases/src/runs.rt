@@ -1,7 +1,7 @@
 //! Sets and maps of some sizes are loaded and looked up, and a run that is full is refused.
 ghost use Rattle.std.specs.Prelude.{◌≡◌, [], Some, length, IfOk};
-ghost use Rattle.type_state.specs.Layout.{place_bits, width_count};
-ghost use Rattle.type_state.specs.WellFormed.{AreWidths};
+ghost use Rattle.type_rows.specs.Layout.{place_bits, width_count};
+ghost use Rattle.type_rows.specs.WellFormed.{AreWidths};
 ghost use Rattle.bucket_codec.specs.BucketPlace.{IsWidthCount};
 
 use bucket_codec::hash_int;
@@ -9,7 +9,8 @@ use ordinal_set::OrdinalSet;
 use row_model::{Areas, Widths, Words};
 use schema_model::{Name, Reason, Schema, Shape};
 use std::alloc::{AllocError, Global};
-use type_state::{RowFault, Section, TypeState};
+use type_rows::{RowFault, Section};
+use type_state::TypeState;
 
 /// A bucket of 16 bits: an element, or a key of 8 bits and behind it a value, which differs from it in one bit.
 fn bucket(shape: &Shape, element: u16) -> u16 {

@@ -10,7 +10,8 @@ use ordinal_set::OrdinalSet;
 use row_model::{Areas, Widths, Words};
 use schema_model::{Field, FieldKind, Fields, Name, Schema, Shape};
 use std::alloc::{AllocError, Global};
-use type_state::{RowFault, Section, TypeState};
+use type_rows::{RowFault, Section};
+use type_state::TypeState;
 
 /// A type with an INT and a STRING.
 fn schema(alloc: Global) -> Result<Schema, AllocError>
@@ -138,15 +139,6 @@ fn text_before(alloc: Global, state: &TypeState, ordinal: u32) -> Result<String,
     format!(in alloc; "{row:?}")
 }
 
-/// The same row, lent where it stands.
-fn lent_before(alloc: Global, state: &TypeState, ordinal: u32) -> Result<String, AllocError> {
-    if !state.was_live(ordinal) {
-        return Ok(String::new(alloc));
-    }
-    let lent = state.lend_before(alloc, ordinal)?;
-    format!(in alloc; "{:?}", lent.row())
-}
-
 /// The row under ordinal 0 of a half that is loaded and not yet the current one, as its text; none where it is not loaded.
 fn next_row(alloc: Global) -> Result<String, AllocError> {
     let mut state = TypeState::new(alloc, schema(alloc)?);
@@ -199,18 +191,5 @@ fn refusals(rt: HostRuntime) -> Result<(), AllocError> {
     assert!(rt;
         text.as_str() == "Err(At(BadOrdinals, 3))\nErr(At(BadPointers, 2))\nErr(At(BadWidth, 2))\n"
     );
-    Ok(())
-}
-
-/// A row of the earlier of two states, lent.
-fn row_lent(alloc: Global) -> Result<String, AllocError> {
-    let state = twice(alloc)?;
-    lent_before(alloc, &state, 2)
-}
-
-#[test]
-fn a_row_lent(rt: HostRuntime) -> Result<(), AllocError> {
-    let row = row_lent(rt.alloc())?;
-    assert!(rt; row.as_str() == "Object(List { items: [Null, Text(List { items: [233] })] })");
     Ok(())
 }

@@ -17,9 +17,9 @@ use Rattle.schema_model.proofs.RuleTests.{few_fields, few_types}
 use Rattle.schema_model.proofs.Spellable.{model_is_spellable}
 use Rattle.row_walk.specs.BothStates.{rows_in, rows_of_both}
 use Rattle.object_codec.specs.Widths.{live_rows}
-use Rattle.type_state.specs.Holds.{KeepsLimits}
-use Rattle.type_state.specs.Layout.{places_of, fixed_words}
-use Rattle.type_state.specs.WordsHeld.{bytes_held}
+use Rattle.type_rows.specs.Holds.{KeepsLimits}
+use Rattle.type_rows.specs.Layout.{places_of, fixed_words}
+use Rattle.type_rows.specs.WordsHeld.{bytes_held}
 use Rattle.row_packing.specs.declared.chosen.Chosen.{Chosen}
 use Rattle.row_packing.specs.Chosen.{shape_at, chosen_widths, chosen_total, IsChosen, IsRowOf, KeepsCounts}
 use Rattle.row_packing.specs.Packs.{PacksPlaces}

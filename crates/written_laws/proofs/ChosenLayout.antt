@@ -9,10 +9,10 @@ use Rattle.schema_model.specs.declared.schema.Shape.{Shape}
 use Rattle.row_model.specs.Table.{Table, IsLive}
 use Rattle.row_walk.specs.BothStates.{rows_from, rows_in, rows_of_both}
 use Rattle.row_walk.proofs.RowsFrom.{get_in}
-use Rattle.type_state.specs.Holds.{FitsRow, Holds, HoldsRows}
-use Rattle.type_state.specs.Layout.{item_count, items_of_row, place_bits, places_of}
-use Rattle.type_state.specs.WellFormed.{AreWidths}
-use Rattle.type_state.specs.WordsHeld.{field_bytes, part_bytes}
+use Rattle.type_rows.specs.Holds.{FitsRow, Holds, HoldsRows}
+use Rattle.type_rows.specs.Layout.{item_count, items_of_row, place_bits, places_of}
+use Rattle.type_rows.specs.WellFormed.{AreWidths}
+use Rattle.type_rows.specs.WordsHeld.{field_bytes, part_bytes}
 use Rattle.row_packing.specs.Chosen.{IsGreatestOrdinal, chosen_widths}
 use Rattle.row_packing.specs.Packs.{PacksPlaces}
 use Rattle.row_packing.specs.Written.{IsStored}

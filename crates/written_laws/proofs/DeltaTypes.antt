@@ -11,10 +11,10 @@ use Rattle.schema_model.specs.declared.schema.Shape.{Shape}
 use Rattle.row_model.specs.Table.{Table, IsLive, row_at}
 use Rattle.row_walk.specs.BothStates.{rows_in, rows_of_both}
 use Rattle.row_walk.proofs.RowsFrom.{get_in}
-use Rattle.type_state.specs.Holds.{Holds}
-use Rattle.type_state.specs.Layout.{place_bits, places_of}
-use Rattle.type_state.specs.Patches.{places_in}
-use Rattle.type_state.specs.WellFormed.{AreWidths}
+use Rattle.type_rows.specs.Holds.{Holds}
+use Rattle.type_rows.specs.Layout.{place_bits, places_of}
+use Rattle.type_rows.specs.Patches.{places_in}
+use Rattle.type_rows.specs.WellFormed.{AreWidths}
 use Rattle.row_packing.specs.declared.chosen.Chosen.{Chosen}
 use Rattle.row_packing.specs.Chosen.{shape_at, chosen_total, chosen_widths}
 use Rattle.row_packing.specs.Packs.{PacksPlaces}

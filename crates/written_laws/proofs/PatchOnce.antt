@@ -3,8 +3,8 @@ use Rattle.std.proofs.Common.{◌≡◌, ℕ, ℤ, suc, List, [], ◌∷◌, len
 use Rattle.std.specs.Prelude.{slice_get}
 use Rattle.std.specs.List.{AllZip}
 use Rattle.row_model.specs.declared.row.Row.{Row}
-use Rattle.type_state.specs.Patches.{places_in}
-use Rattle.type_state.proofs.Loading.{one_row}
+use Rattle.type_rows.specs.Patches.{places_in}
+use Rattle.type_rows.proofs.Loading.{one_row}
 use Rattle.blob_frame.specs.declared.header.Header.{Header}
 use Rattle.snapshot_blob.proofs.Zipped.{zip_once}
 use Rattle.delta_blob.specs.declared.part.DeltaPart.{DeltaPart}

@@ -8,10 +8,10 @@ use Rattle.schema_model.specs.declared.schema.Shape.{Shape}
 use Rattle.schema_model.specs.Schema.{EachName, IsSpellable}
 use Rattle.row_model.specs.Table.{Table}
 use Rattle.row_walk.specs.BothStates.{rows_in, rows_of_both}
-use Rattle.type_state.specs.declared.section.Section.{Section}
-use Rattle.type_state.specs.Layout.{places_of}
+use Rattle.type_rows.specs.declared.section.Section.{Section}
+use Rattle.type_rows.specs.Layout.{places_of}
 use Rattle.type_state.specs.State.{Half}
-use Rattle.type_state.specs.WellFormed.{IsReadable}
+use Rattle.type_rows.specs.WellFormed.{IsReadable}
 use Rattle.row_packing.specs.declared.chosen.Chosen.{Chosen}
 use Rattle.row_packing.specs.Chosen.{shape_at, chosen_total}
 use Rattle.row_packing.specs.Packs.{PacksPlaces}

@@ -4,7 +4,7 @@ use Rattle.schema_model.specs.declared.schema.Schema.{Schema}
 use Rattle.row_model.specs.Table.{Table}
 use Rattle.row_walk.specs.BothStates.{rows_of_both}
 use Rattle.object_codec.specs.Widths.{live_rows}
-use Rattle.type_state.specs.Layout.{fixed_words}
+use Rattle.type_rows.specs.Layout.{fixed_words}
 use Rattle.row_packing.specs.declared.chosen.Chosen.{Chosen}
 use Rattle.row_packing.specs.Chosen.{shape_at, chosen_total, chosen_widths, IsChosen, IsGreatestOrdinal, IsLiveInEither}
 use Rattle.row_packing.specs.TypeLimit.{KeepsWords}

@@ -12,7 +12,7 @@ use Rattle.schema_model.specs.Model.{IsModel}
 use Rattle.row_model.specs.Table.{Table, IsClosed, IsLive, IsTableOf, row_at}
 use Rattle.row_walk.specs.BothStates.{rows_in}
 use Rattle.row_packing.specs.Places.{Agree}
-use Rattle.type_state.specs.WordsHeld.{bytes_held}
+use Rattle.type_rows.specs.WordsHeld.{bytes_held}
 
 -- A state of a dataset: its tag, the version of the state that it follows, which is 0 for a root, whether it is published, its model and
 -- its rows.

@@ -1,5 +1,5 @@
 use Rattle.schema_model.specs.declared.schema.Field.{Field}
-use Rattle.type_state.specs.WellFormed.{IsWidth}
+use Rattle.type_rows.specs.WellFormed.{IsWidth}
 use Rattle.blob_cursor.specs.Scene.{scene}
 use Rattle.blob_sections.specs.Width.{field_width}
 use Rattle.blob_sections.proofs.Each.{Walks}

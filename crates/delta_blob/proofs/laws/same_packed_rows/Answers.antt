@@ -1,7 +1,7 @@
 use Rattle.std.proofs.Common.{◌↔◌, ℕ, List, Option}
 use Rattle.schema_model.specs.declared.reason.Reason.{Reason}
 use Rattle.schema_model.specs.declared.schema.Shape.{Shape}
-use Rattle.type_state.specs.Layout.{places_of}
+use Rattle.type_rows.specs.Layout.{places_of}
 use Rattle.blob_sections.specs.declared.section.PackedRows.{PackedRows}
 use Rattle.blob_sections.specs.Section.{packed_records, packed_runs, packed_rows}
 use Rattle.delta_blob.specs.Added.{added_records, added_runs, added_rows}

@@ -1,7 +1,7 @@
 use Rattle.std.proofs.Common.{List, subst, sym, rules, arith}
 use Rattle.std.specs.List.{All}
 use Rattle.std.proofs.lemmas.List.Elements.{All-nil, All-push}
-use Rattle.type_state.specs.WellFormed.{IsWellFormed}
+use Rattle.type_rows.specs.WellFormed.{IsWellFormed}
 use Rattle.blob_cursor.proofs.Counting.{counts_more, counts_stops, counts_free, counts_done, counts_start}
 use Rattle.snapshot_blob.specs.declared.part.TypePart.{TypePart}
 use Rattle.snapshot_blob.proofs.part.type_parts.Goals as goal

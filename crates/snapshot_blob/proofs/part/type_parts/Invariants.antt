@@ -1,5 +1,5 @@
 use Rattle.std.specs.List.{All}
-use Rattle.type_state.specs.WellFormed.{IsWellFormed}
+use Rattle.type_rows.specs.WellFormed.{IsWellFormed}
 use Rattle.blob_cursor.specs.Scene.{scene}
 use Rattle.blob_cursor.proofs.Counting.{Counts}
 use Rattle.snapshot_blob.specs.Parts.{type_part}

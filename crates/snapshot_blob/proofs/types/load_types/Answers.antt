@@ -3,7 +3,7 @@ use Rattle.std.specs.List.{All, AllZip}
 use Rattle.std.specs.Vec.Iter.{into_iter_items}
 use Rattle.row_model.specs.Table.{RowMap}
 use Rattle.type_state.specs.State.{State}
-use Rattle.type_state.specs.WellFormed.{IsReadable}
+use Rattle.type_rows.specs.WellFormed.{IsReadable}
 use Rattle.snapshot_blob.specs.declared.part.TypePart.{TypePart}
 use Rattle.snapshot_blob.specs.Stated.{IsLoadedFrom, LoadsPart}
 use Rattle.snapshot_blob.proofs.Loading.{parts_are, one_taken, states_more, all_taken}

@@ -1,6 +1,6 @@
 use Rattle.std.proofs.Common.{Err, arith, subst, ap, length, get_or}
-use Rattle.type_state.specs.Loads.{TellsPlace}
-use Rattle.type_state.specs.Patches.{places_in}
+use Rattle.type_rows.specs.Loads.{TellsPlace}
+use Rattle.type_rows.specs.Patches.{places_in}
 use Rattle.type_state.proofs.AddedRows.{begun, read_on, all_read, none_at}
 use Rattle.type_state.proofs.added.read_added.Goals as goal
 

@@ -1,7 +1,7 @@
 use Rattle.std.proofs.Common.{rules, ◌-◌, List, ℕ, subst}
+use Rattle.type_rows.specs.Outline.{layout_at}
 use Rattle.type_state.specs.Differences.{rows_with}
-use Rattle.type_state.specs.Moving.{layout_at}
-use Rattle.type_state.specs.Totals.{IsNoNarrower}
+use Rattle.type_state.specs.Counted.{IsNoNarrower}
 use Rattle.type_state.proofs.Changes.{held_by_last, totals_again}
 use Rattle.type_state.proofs.change.totals_by_change.Goals as goal
 

@@ -1,10 +1,10 @@
 use Rattle.std.proofs.Common.{◌-◌, rules, inl, inr, refl, arith}
 use Rattle.std.specs.Prelude.{IsSome}
 use Rattle.std.specs.FinMap.{get}
+use Rattle.type_rows.proofs.Entries.{least_bound}
+use Rattle.type_rows.proofs.SlotRows.{lent_live}
 use Rattle.type_state.specs.Differences.{rows_with}
 use Rattle.type_state.proofs.Bounds.{none_above}
-use Rattle.type_state.proofs.Entries.{least_bound}
-use Rattle.type_state.proofs.SlotRows.{lent_live}
 use Rattle.type_state.proofs.moving.bound_with.Goals as goal
 
 pub loop-above-init : goal.loop-above-init

@@ -1,7 +1,7 @@
 use Rattle.std.proofs.Common.{◌<◌, ◌^◌, List, ℕ, subst, sym, arith}
 use Rattle.std.specs.Prelude.{All}
+use Rattle.type_rows.proofs.Entries.{below_bound}
 use Rattle.type_state.specs.Moving.{AreRemovable}
-use Rattle.type_state.proofs.Entries.{below_bound}
 use Rattle.type_state.proofs.moving.differences_of.Goals as goal
 
 pub removals-requires : goal.removals-requires

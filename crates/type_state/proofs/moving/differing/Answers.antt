@@ -17,15 +17,15 @@ bound_with-next_bound-requires-clause-removed c =
     subst (λ bound. AreBelow bound c.in_ok-differences.differences.removed.items) (sym c.requires.bound)
     (removed_below c.args.schema.now.shape c.args.patch.now c.args.rows.now.rows c.in_ok-differences.differences c.in_ok-differences.ensures.tells)
 
-pub returns-then-from-places-clause-tells : goal.returns-then-from-places-clause-tells
-returns-then-from-places-clause-tells c =
+pub returns-then-from-place_count-clause-tells : goal.returns-then-from-place_count-clause-tells
+returns-then-from-place_count-clause-tells c =
     not_placed c.args.schema.now.shape c.args.patch.now c.args.rows.now.rows c.in_ok-differences.differences c.in_ok-differences.ensures.tells
-    (omega (arith, c.bound_with-next_bound.ensures, c.from.ensures, c.places.ensures.is, c.if-from-places.true))
+    (omega (arith, c.bound_with-next_bound.ensures, c.from.ensures, c.place_count.ensures.is, c.if-from-place_count.true))
 
 pub returns-clause-tells : goal.returns-clause-tells
 returns-clause-tells c =
     are_moved c.args.schema.now.shape c.args.patch.now c.args.rows.now.rows c.in_ok-differences.differences c.in_ok-differences.ensures.tells
-    (omega (arith, c.bound_with-next_bound.ensures, c.from.ensures, c.places.ensures.is, c.if-from-places.false))
+    (omega (arith, c.bound_with-next_bound.ensures, c.from.ensures, c.place_count.ensures.is, c.if-from-place_count.false))
 
 pub returns-clause-apart : goal.returns-clause-apart
 returns-clause-apart c = are_apart c.args.schema.now.shape c.args.patch.now c.args.rows.now.rows c.in_ok-differences.differences c.in_ok-differences.ensures.tells

@@ -1,6 +1,6 @@
 use Rattle.std.proofs.Common.{◌≡◌, ◌-◌, List, Some, length, subst, arith}
 use Rattle.std.specs.Prelude.{slice_get}
-use Rattle.type_state.specs.Differences.{Difference}
+use Rattle.type_rows.specs.Slots.{Difference}
 use Rattle.type_state.proofs.Lookups.{not_above_last}
 use Rattle.type_state.proofs.moving.first_bound.Goals as goal
 

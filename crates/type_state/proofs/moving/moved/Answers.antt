@@ -1,10 +1,10 @@
 use Rattle.std.proofs.Common.{rules, ◌≤◌, ◌∙◌, ap, sym, subst, length}
 use Rattle.std.specs.Prelude.{slice_index}
+use Rattle.type_rows.specs.Outline.{layout_at}
+use Rattle.type_rows.specs.Patches.{RefusesMove}
+use Rattle.type_rows.proofs.Places.{wide_long, wide_narrow}
 use Rattle.type_state.specs.Differences.{rows_with}
-use Rattle.type_state.specs.Moving.{layout_at}
-use Rattle.type_state.specs.Patches.{RefusesMove}
-use Rattle.type_state.proofs.Places.{wide_long, wide_narrow}
-use Rattle.type_state.proofs.MovedRows.{moved_by, moved_kinds, refuses_held}
+use Rattle.type_state.proofs.HeldMoves.{moved_by, moved_kinds, refuses_held}
 use Rattle.type_state.proofs.moving.moved.Goals as goal
 
 pub test_held-requires-clause-widths : goal.test_held-requires-clause-widths

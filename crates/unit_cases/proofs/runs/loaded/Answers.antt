@@ -2,10 +2,10 @@ use Rattle.std.proofs.Common.{◌≡◌, ◌*◌, [], Some, length, arith, sym, 
 use Rattle.schema_model.specs.Parts.{shape_fields}
 use Rattle.schema_model.specs.declared.schema.Shape.{Shape}
 use Rattle.bucket_codec.specs.BucketPlace.{IsWidthCount}
-use Rattle.type_state.specs.declared.section.Section.{Section}
+use Rattle.type_rows.specs.declared.section.Section.{Section}
 use Rattle.type_state.specs.State.{State}
-use Rattle.type_state.specs.Layout.{places_of, place_bits, width_count}
-use Rattle.type_state.specs.WellFormed.{AreWidths, IsReadable}
+use Rattle.type_rows.specs.Layout.{places_of, place_bits, width_count}
+use Rattle.type_rows.specs.WellFormed.{AreWidths, IsReadable}
 use Rattle.unit_cases.proofs.runs.loaded.Goals as goal
 
 -- A type of sets or maps has no fields.

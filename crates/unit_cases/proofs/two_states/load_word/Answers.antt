@@ -6,9 +6,9 @@ use Rattle.schema_model.specs.Parts.{shape_fields}
 use Rattle.schema_model.specs.declared.schema.Field.{Field}
 use Rattle.schema_model.specs.declared.schema.Shape.{Shape}
 use Rattle.object_codec.specs.ObjectPlace.{IsObject, IsFieldWidth}
-use Rattle.type_state.specs.declared.section.Section.{Section}
-use Rattle.type_state.specs.Layout.{places_of}
-use Rattle.type_state.specs.WellFormed.{IsWidth, IsReadable}
+use Rattle.type_rows.specs.declared.section.Section.{Section}
+use Rattle.type_rows.specs.Layout.{places_of}
+use Rattle.type_rows.specs.WellFormed.{IsWidth, IsReadable}
 use Rattle.unit_cases.proofs.two_states.load_word.Goals as goal
 
 -- A section with two fields of 4 bits and one word has words for each of 8 places.

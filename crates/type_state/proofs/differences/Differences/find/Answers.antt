@@ -2,9 +2,9 @@ use Rattle.std.proofs.Common.{◌≡◌, Some, None, rules, sym, subst, ◌∙�
 use Rattle.std.specs.Prelude.{MatchOption}
 use Rattle.std.specs.Ordering.{nat_cmp}
 use Rattle.std.specs.FinMap.{find, get}
+use Rattle.type_rows.proofs.SlotRows.{lent}
 use Rattle.type_state.specs.Differences.{rows_with}
 use Rattle.type_state.proofs.DifferingRows.{with_added, with_removed, with_neither}
-use Rattle.type_state.proofs.SlotRows.{lent}
 use Rattle.type_state.proofs.differences.Differences.find.Goals as goal
 
 pub returns-in-Some : goal.returns-in-Some

@@ -1,12 +1,12 @@
 use Rattle.std.proofs.Common.{rules, Ok, subst, sym}
 use Rattle.hol_varint.specs.Yields.{Yields}
 use Rattle.row_model.specs.Table.{RowMap}
+use Rattle.type_rows.specs.Loads.{IsFreeRow}
+use Rattle.type_rows.specs.Patches.{IsMovedBy, IsReadablePatch, RefusesMove, TellsMove}
 use Rattle.type_state.specs.Differences.{rows_with}
 use Rattle.type_state.specs.State.{State, half_of}
-use Rattle.type_state.specs.Loads.{IsFreeRow}
-use Rattle.type_state.specs.Patches.{IsMovedBy, IsReadablePatch, RefusesMove, TellsMove}
-use Rattle.type_state.proofs.MovedRows.{moves_exact}
-use Rattle.type_state.proofs.Places.{laid_by}
+use Rattle.type_state.proofs.HeldMoves.{moves_exact}
+use Rattle.type_state.proofs.LaidOut.{laid_by}
 use Rattle.type_state.proofs.state.TypeState.move_next.Goals as goal
 
 pub returns-in_err-counted-clause-tells : goal.returns-in_err-counted-clause-tells

@@ -1,5 +1,5 @@
 use Rattle.std.proofs.Common.{ap, ◌∙◌}
-use Rattle.type_state.proofs.Entries.{no_bound}
+use Rattle.type_rows.proofs.Entries.{no_bound}
 use Rattle.type_state.proofs.KindsKept.{empty_held, empty_kinds, empty_totals}
 use Rattle.type_state.proofs.state.TypeState.new.Goals as goal
 

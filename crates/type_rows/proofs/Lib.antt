@@ -1,0 +1,12 @@
+pub mod Entries
+pub mod Loading
+pub mod MovedRows
+pub mod Offsets
+pub mod Places
+pub mod PlacesUpTo
+pub mod Reading
+pub mod Removal
+pub mod Rising
+pub mod SectionRows
+pub mod SlotRows
+pub mod Takings

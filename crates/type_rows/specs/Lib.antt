@@ -1,0 +1,10 @@
+pub mod Ends
+pub mod Holds
+pub mod Layout
+pub mod Loads
+pub mod Outline
+pub mod Patches
+pub mod Slots
+pub mod Totals
+pub mod WellFormed
+pub mod WordsHeld

@@ -1,0 +1,48 @@
+//! How many variable bytes and how many items values and rows have.
+ghost use Rattle.std.specs.Prelude.{◌≡◌, ◌-◌, ◌^◌, ◌<◌, min, sum_by};
+ghost use Rattle.bucket_codec.specs.BucketCount.{bucket_count};
+ghost use Rattle.type_rows.specs.WordsHeld.{value_bytes, row_bytes};
+
+use bucket_codec::buckets_for;
+use hol_varint::units_len;
+use row_model::{Row, Value};
+
+/// How many variable bytes a value has; the greatest number where they are more.
+pub(crate) fn value_len(value: &Value) -> u64
+    ensures { result ≡ min (value_bytes value.now) (2 ^ 64 - 1) }
+{
+    match value {
+        Value::Text(units) => units_len(units.as_slice()),
+        Value::Bytes(bytes) => bytes.len() as u64,
+        _ => 0,
+    }
+}
+
+/// How many variable bytes some values have; the greatest number where they are more.
+fn values_len(values: &[Value]) -> u64
+    ensures { result ≡ min (sum_by value_bytes values.now) (2 ^ 64 - 1) }
+{
+    let mut len: u64 = 0;
+    for value in values {
+        len = len.saturating_add(value_len(value));
+    }
+    len
+}
+
+/// How many variable bytes a row has; the greatest number where they are more.
+pub fn row_len(row: &Row) -> u64
+    ensures { result ≡ min (row_bytes row.now) (2 ^ 64 - 1) }
+{
+    match row {
+        Row::Object(values) => values_len(values.as_slice()),
+        _ => 0,
+    }
+}
+
+/// How many buckets a set or map of so many elements takes.
+pub(crate) fn buckets(elements: usize) -> u64
+    requires { elements < 2 ^ 32 }
+    ensures { result ≡ bucket_count elements }
+{
+    buckets_for(elements as u32)
+}

@@ -1,0 +1,33 @@
+//! Why the rows of a type are refused.
+ghost use Rattle.std.specs.Prelude.{◌≡◌};
+ghost use Rattle.type_rows.specs.declared.fault.RowFault.TheVariants.{Memory as row_memory};
+
+use schema_model::{Limit, Reason};
+use std::alloc::{AllocError, AllocFailed};
+
+/// Why the rows of a type are refused.
+#[derive(Clone, Copy, Debug, PartialEq, Eq)]
+pub enum RowFault {
+    /// The ordinal fails for this reason.
+    At(Reason, u64),
+    /// The rows pass this limit.
+    Limit(Limit),
+    /// Memory was refused.
+    Memory,
+}
+
+impl From<AllocError> for RowFault {
+    ghost from_gives = { λ _ e. e ≡ row_memory };
+
+    fn from(_e: AllocError) -> RowFault {
+        RowFault::Memory
+    }
+}
+
+impl<T: Drop> From<AllocFailed<T>> for RowFault {
+    ghost from_gives = { λ _ e. e ≡ row_memory };
+
+    fn from(_e: AllocFailed<T>) -> RowFault {
+        RowFault::Memory
+    }
+}

@@ -1,5 +1,0 @@
-use Rattle.type_state.proofs.Offsets.{Progress}
-use Rattle.type_state.proofs.fits.add_values.Given as goal
-
-abbrev pub invariant-loop-index : goal.invariant-loop-index
-invariant-loop-index l = Progress l.fields l.widths l.values l.fn.ends l.ends l.index

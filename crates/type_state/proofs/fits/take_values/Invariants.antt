@@ -1,5 +1,0 @@
-use Rattle.type_state.proofs.Takings.{Taking}
-use Rattle.type_state.proofs.fits.take_values.Given as goal
-
-abbrev pub invariant-loop-index : goal.invariant-loop-index
-invariant-loop-index l = Taking l.values l.fn.ends l.ends l.index

@@ -1,5 +1,0 @@
-use Rattle.type_state.proofs.MovedRows as moved
-use Rattle.type_state.proofs.laws.moved_rows_fit.Goals as goal
-
-pub returns : goal.returns
-returns c = record { fits = moved.moved_fit; ranges = moved.moved_range }

@@ -1,0 +1,59 @@
+-- How what rows add up to changes where rows come in place of others, and which of them are told to fit.
+use Rattle.std.specs.Prelude.{◌≡◌, ℕ, ◌+◌, ◌-◌, ◌*◌, ◌≤◌, List, Some, IsSome, slice_index}
+use Rattle.std.specs.FinMap.{find, get, values}
+use Rattle.std.specs.Ordering.{nat_cmp}
+use Rattle.bit_array.specs.Element.{words_of}
+use Rattle.schema_model.specs.declared.limit.Limit.TheVariants.{Words, Bytes}
+use Rattle.schema_model.specs.Limit.{number_of_limit}
+use Rattle.schema_model.specs.declared.schema.Shape.{Shape}
+use Rattle.row_model.specs.declared.row.Row.{Row}
+use Rattle.row_model.specs.Table.{RowMap}
+use Rattle.type_rows.specs.declared.totals.Totals.{Totals}
+use Rattle.type_rows.specs.Ends.{IsOfKind}
+use Rattle.type_rows.specs.Holds.{FitsRow}
+use Rattle.type_rows.specs.Layout.{Layout, item_bits, items_of_row, words_needed}
+use Rattle.type_rows.specs.Slots.{Difference}
+use Rattle.type_rows.specs.Totals.{AreTotals}
+use Rattle.type_rows.specs.WordsHeld.{part_bytes, row_bytes}
+use Rattle.type_state.specs.declared.differences.Differences.{Differences}
+use Rattle.type_state.specs.Differences.{differing}
+
+-- A row that comes is of the kind of its type.
+abbrev pub IsComing : Shape → Difference → Type 0
+IsComing shape difference = (row : Row) → difference.1 ≡ Some row → IsOfKind shape row
+
+-- The rows have the same as some others under the ordinals of differences.
+abbrev pub AgreeAt : RowMap → RowMap → List Difference → Type 0
+AgreeAt rows others differences = (ordinal : ℕ) → IsSome (find nat_cmp ordinal differences) → get rows ordinal ≡ get others ordinal
+
+-- The differences are counted: the totals of rows that have the same as these under their ordinals become those of the differing rows.
+pub record IsCounted (rows : RowMap) (differences : List Difference) (before after : Totals) : Type 0 where
+  pub counted : (others : RowMap) → AreTotals (values others) before → AgreeAt others rows differences → AreTotals (values (differing others differences)) after
+
+-- Each part of a row fits its width, where the row ends at some offsets and behind some items.
+pub record FitsSomewhere (shape : Shape) (widths : List ℕ) (row : Row) : Type 0 where
+  pub ends : ℕ → ℕ
+  pub items : ℕ
+  pub fits : FitsRow shape widths ends items row
+
+-- No part has a narrower width than before.
+abbrev pub IsNoNarrower : List ℕ → List ℕ → Type 0
+IsNoNarrower before widths = (part : ℕ) → slice_index before part ≤ slice_index widths part
+
+-- Each row that stands in the differences fits the widths somewhere.
+abbrev pub AreFitting : Shape → List ℕ → List Difference → Type 0
+AreFitting shape widths differences = (ordinal : ℕ) (row : Row) → find nat_cmp ordinal differences ≡ Some (Some row) → FitsSomewhere shape widths row
+
+-- The rows that a move brings fit the widths somewhere.
+pub record ComeFitting (shape : Shape) (widths : List ℕ) (differences : Differences) : Type 0 where
+  pub removed : AreFitting shape widths differences.removed.items
+  pub added : AreFitting shape widths differences.added.items
+
+-- The last row, which is taken off and laid out again, fits, and the totals keep the limits.
+pub record HoldsLast (shape : Shape) (layout : Layout) (last : Row) (before after : Totals) : Type 0 where
+  pub ends : (field : ℕ) → slice_index after.ends.offsets.items field ≡ slice_index before.ends.offsets.items field - part_bytes field last + part_bytes field last
+  pub items : after.ends.items ≡ before.ends.items - items_of_row last + items_of_row last
+  pub bytes : after.bytes ≡ before.bytes - row_bytes last + row_bytes last
+  pub fits : FitsRow shape layout.widths (λ field. slice_index after.ends.offsets.items field) after.ends.items last
+  pub words : words_needed shape layout + words_of (after.ends.items * item_bits shape layout.widths) ≤ number_of_limit Words
+  pub few : after.bytes ≤ number_of_limit Bytes
