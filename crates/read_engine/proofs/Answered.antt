@@ -17,11 +17,12 @@ use Rattle.row_model.specs.Table.{IsLive, Table}
 use Rattle.type_state.specs.State.{State}
 use Rattle.type_state.specs.Views.{table_of}
 use Rattle.key_index.specs.Indexed.{AreKeysOf, AreUnder, CountsKeys, Indexed, IsIndexBy}
-use Rattle.read_engine.specs.declared.past.PastPart.{PastPart}
+use Rattle.state_moves.specs.Past.{PastPart}
 use Rattle.read_engine.specs.Indexes.{AddsIndex, CountsKeyed, index_by}
 use Rattle.read_engine.specs.Kept.{IsKept, index_kept}
 use Rattle.read_engine.specs.Position.{Index, IsIndexOf, Position, rows_now}
-use Rattle.read_engine.specs.Standing.{IsStanding, current_halves, position_of}
+use Rattle.state_moves.specs.Halves.{current_halves}
+use Rattle.read_engine.specs.Standing.{IsStanding, position_of}
 use Rattle.read_engine.proofs.Follow.{key_at, keyed_live}
 
 -- ---- answers

@@ -14,12 +14,11 @@ use Rattle.schema_model.specs.declared.schema.Schema.{Schema}
 use Rattle.row_model.specs.Key.{IsResolved, key_of}
 use Rattle.row_model.specs.Table.{IsClosed, IsLive, IsTableOf, RowMap, Table, row_at}
 use Rattle.key_index.specs.Indexed.{AreKeysOf, HaveOneRow, Indexed, KeyMap}
-use Rattle.read_engine.specs.declared.past.PastPart.{PastPart}
+use Rattle.state_moves.specs.Past.{FitsPast, PastPart, no_part, table_before}
 use Rattle.read_engine.specs.Kept.{FollowsPart, IsKept, IsReserved, index_kept, moved_on, settled}
-use Rattle.read_engine.specs.Past.{FitsPast, no_part, table_before}
 use Rattle.read_engine.specs.Position.{IsIndexOf}
-use Rattle.read_engine.proofs.Came.{came_at, gone_at, one_row, part_is}
-use Rattle.read_engine.proofs.Tables.{fits_at}
+use Rattle.state_moves.proofs.Came.{came_at, gone_at, one_row, part_is}
+use Rattle.state_moves.proofs.Tables.{fits_at, live_or_none}
 
 -- ---- the keys of rows
 
@@ -46,14 +45,6 @@ module _ (schemas : List Schema) (table : Table) (t : ℕ) (paths : List Path) (
 
   pub live_keyed : (o : ℕ) → IsLive table t o → IsSome (get keys o)
   live_keyed o live = subst IsSome (sym (key_at o live)) refl
-
--- a row is there, or none
-pub live_or_none : (table : Table) (t o : ℕ) → IsLive table t o ⊎ (row_at table t o ≡ None)
-live_or_none table t o = of_row (row_at table t o) refl
-  where
-    of_row : (found : Option Row) → row_at table t o ≡ found → IsLive table t o ⊎ (row_at table t o ≡ None)
-    of_row None none = inr none
-    of_row (Some row) is = inl (subst IsSome (sym is) refl)
 
 not_live : (table : Table) (t o : ℕ) → row_at table t o ≡ None → IsLive table t o → ⊥
 not_live table t o none live = false≢true (subst IsSome none live)

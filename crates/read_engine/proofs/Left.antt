@@ -1,45 +1,21 @@
 -- The ordinals that left in the last step.
-use Rattle.std.proofs.Common.{◌≡◌, ◌<◌, inl, inr, ℕ, ℤ, List, [], length, get_or, Some, None, sym, ◌∙◌, subst, arith}
-use Rattle.std.specs.Prelude.{IsSome, Contains, slice_get, ◌↔◌}
-use Rattle.std.specs.FinMap.{get, empty}
-use Rattle.std.proofs.lemmas.Bool.{false≢true}
-use Rattle.std.proofs.lemmas.List.{get_or_default}
+use Rattle.std.proofs.Common.{◌≡◌, ◌<◌, ℕ, ℤ, List, length, get_or, Some, sym, ◌∙◌, subst, arith}
+use Rattle.std.specs.Prelude.{IsSome, slice_get}
+use Rattle.std.specs.FinMap.{empty}
 use Rattle.std.proofs.lemmas.List.Kept.{AllPairs-from_increasing}
-use Rattle.std.proofs.lemmas.Map.Keys.{sorted_from_strictly_increasing}
 use Rattle.std.proofs.lemmas.Option.{slice_get-get_or}
-use Rattle.row_model.specs.declared.row.Row.{Row}
 use Rattle.schema_model.specs.declared.schema.Schema.{Schema}
 use Rattle.row_model.specs.Table.{RowMap}
 use Rattle.type_state.specs.State.{State}
 use Rattle.type_state.specs.Views.{table_of}
 use Rattle.key_index.specs.Indexed.{Indexed}
-use Rattle.read_engine.specs.declared.past.PastPart.{PastPart}
+use Rattle.state_moves.specs.Past.{FitsPast, PastPart, rows_before}
 use Rattle.read_engine.specs.Gone.{AreGone}
-use Rattle.read_engine.specs.Past.{FitsPast, rows_before}
 use Rattle.read_engine.specs.Position.{Position, rows_now}
-use Rattle.read_engine.specs.Standing.{IsStanding, current_halves, position_of}
-use Rattle.read_engine.proofs.PastRows.{found, left_live, live_before, place_of}
-use Rattle.read_engine.proofs.Tables.{before_at, fits_at, past_length, row_of}
-
--- an ordinal left where it was live before and is not live now
-pub left_is_gone : (now : RowMap) (part : PastPart) (o : ℕ) → FitsPast now part → Contains part.gone o ↔ (IsSome (get (rows_before now part) o) × ¬ IsSome (get now o))
-left_is_gone now part o fits = (goes, comes)
-  where
-    goes : Contains part.gone o → IsSome (get (rows_before now part) o) × ¬ IsSome (get now o)
-    goes (k, inside, at) =
-        let here : get_or part.gone k 0 ≡ o = get_or_default part.gone k 0 o inside ∙ at in
-        let free : get now o ≡ None = subst (λ q. get now q ≡ None) here (fits.gone_free k 0 inside) in
-        let within : k < length part.rows = omega (arith, inside, fits.rows) in
-        let there = slice_get-get_or part.rows k (Row.List []) within in (
-          left_live now part o (get_or part.rows k (Row.List [])) (found part.gone part.rows o k (get_or part.rows k (Row.List [])) (sorted_from_strictly_increasing part.gone fits.gone_rise) inside here there),
-          λ live. false≢true (subst IsSome free live),
-        )
-
-    comes : IsSome (get (rows_before now part) o) × ¬ IsSome (get now o) → Contains part.gone o
-    comes (live, dead) = elim (live_before now part o live) [
-      | inl (r, there) ↦ let (k, inside, at) = place_of part.gone part.rows o r there in (k, inside, get_or_default part.gone k o 0 inside ∙ at)
-      | inr (none, old, now_live) ↦ absurd (dead now_live)
-    ]
+use Rattle.state_moves.specs.Halves.{current_halves}
+use Rattle.read_engine.specs.Standing.{IsStanding, position_of}
+use Rattle.state_moves.proofs.Came.{left_is_gone}
+use Rattle.state_moves.proofs.Tables.{before_at, fits_at, past_length, row_of}
 
 pub are_gone : (position : Position) (type_index : ℕ) (rows : RowMap) (part : PastPart) → slice_get (rows_now position) type_index ≡ Some rows → slice_get position.before type_index ≡ Some (rows_before rows part) → FitsPast rows part
     → AreGone position type_index part.gone

@@ -1,15 +1,12 @@
 -- What a load leaves: where it stands, and what is told of the blob.
-use Rattle.std.proofs.Common.{◌≡◌, ◌≤◌, ◌⊎◌, inl, inr, ℕ, zero, suc, ℤ, List, [], ◌∷◌, length, map, Option, Some, None, Result, Ok, Err, IfSome, refl, sym, ap, ◌∙◌, subst, arith, lit≤, replicate}
+use Rattle.std.proofs.Common.{◌≡◌, ◌≤◌, ◌⊎◌, inl, inr, ℕ, ℤ, List, [], length, map, Option, Some, None, Result, Ok, Err, IfSome, refl, sym, ap, ◌∙◌, subst, lit≤, replicate}
 use Rattle.std.specs.List.{AllZip}
-use Rattle.std.specs.Cmp.{nat_cmp_total}
-use Rattle.std.specs.FinMap.{nat_cmp-IsAntisymmetric, same_map}
 use Rattle.std.proofs.lemmas.List.Elements.{All-nil}
 use Rattle.hol_io.specs.declared.name.BlobName.{BlobName}
 use Rattle.hol_io.specs.Store.{Store, told}
 use Rattle.schema_model.specs.declared.limit.Limit.TheVariants as limit
 use Rattle.schema_model.specs.Limit.{number_of_limit}
 use Rattle.schema_model.specs.Model.{IsModel}
-use Rattle.row_model.specs.Table.{RowMap, Table}
 use Rattle.type_state.specs.State.{State}
 use Rattle.type_state.specs.Views.{next_halves, table_of}
 use Rattle.blob_frame.specs.declared.fault.BlobFault.{BlobFault}
@@ -23,41 +20,13 @@ use Rattle.snapshot_blob.specs.Body.{IsWholeBody, TellsBody}
 use Rattle.snapshot_blob.specs.Snapshot.{IsAccepted, IsRefused}
 use Rattle.read_engine.specs.declared.fault.TakeFault.{TakeFault}
 use Rattle.read_engine.specs.declared.fault.TakeFault.TheVariants as take
-use Rattle.read_engine.specs.declared.past.PastPart.{PastPart}
-use Rattle.read_engine.specs.Past.{FitsPast, no_part, rows_before, table_before}
+use Rattle.state_moves.specs.Past.{FitsPast, PastPart, no_part, table_before}
 use Rattle.read_engine.specs.Kept.{IsKept}
 use Rattle.read_engine.specs.Position.{IsIndexOf, IsPosition, Position}
-use Rattle.read_engine.specs.Standing.{IsStanding, current_halves, position_of}
+use Rattle.state_moves.specs.Halves.{current_halves}
+use Rattle.read_engine.specs.Standing.{IsStanding, position_of}
 use Rattle.read_engine.specs.Taking.{TellsStand, body_fault_of, loaded_position}
-use Rattle.read_engine.proofs.PastRows.{get_before}
-
--- ---- nothing changed
-
-pub same_before : (rows : RowMap) → rows_before rows no_part ≡ rows
-same_before rows = same_map nat_cmp_total nat_cmp-IsAntisymmetric (rows_before rows no_part) rows (λ q. get_before rows no_part q)
-
-pub fits_none : (rows : RowMap) → FitsPast rows no_part
-fits_none rows = record {
-  came_rise = λ k inside. absurd (omega (arith, inside));
-  came_live = λ k d inside. absurd (omega (arith, inside));
-  gone_rise = λ k inside. absurd (omega (arith, inside));
-  gone_free = λ k d inside. absurd (omega (arith, inside));
-  gone_small = λ k d inside. absurd (omega (arith, inside));
-  rows = refl;
-}
-
-pub all_fit_none : (n : ℕ) (table : Table) → length table ≡ n → AllZip FitsPast table (replicate n no_part)
-all_fit_none zero [] long = tt
-all_fit_none zero (rows ∷ table) long = absurd (omega (arith, long))
-all_fit_none (suc n) [] long = absurd (omega (arith, long))
-all_fit_none (suc n) (rows ∷ table) long = (fits_none rows, all_fit_none n table (omega (arith, long)))
-
-pub same_table : (n : ℕ) (table : Table) → length table ≡ n → table_before table (replicate n no_part) ≡ table
-unfolding table_before
-same_table zero [] long = refl
-same_table zero (rows ∷ table) long = absurd (omega (arith, long))
-same_table (suc n) [] long = absurd (omega (arith, long))
-same_table (suc n) (rows ∷ table) long = let one = same_before rows in let rest = same_table n table (omega (arith, long)) in λ i. one i ∷ rest i
+use Rattle.state_moves.proofs.Unchanged.{all_fit_none, same_table}
 
 -- ---- where a load stands
 

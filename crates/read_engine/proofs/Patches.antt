@@ -30,14 +30,13 @@ use Rattle.delta_blob.specs.Moved.{EachNamed, IsAt, IsUnnamed, Moved, MovesType}
 use Rattle.delta_blob.specs.Patch.{PartIs, TypePatch, schemas_in}
 use Rattle.delta_blob.specs.Reads.{AreOfModel, IsOfModel}
 use Rattle.delta_blob.specs.Within.{IsTypeWithin, Within}
-use Rattle.read_engine.specs.declared.past.PastPart.{PastPart}
-use Rattle.read_engine.specs.Moving.{AreMoved, MovesState, TypeIs, coming_half, coming_halves}
-use Rattle.read_engine.specs.Past.{no_part}
-use Rattle.read_engine.specs.Standing.{current_halves}
+use Rattle.state_moves.specs.Past.{PastPart, no_part}
+use Rattle.state_moves.specs.Moving.{AreMoved, MovesState, TypeIs, coming_half, coming_halves}
+use Rattle.state_moves.specs.Halves.{current_halves}
 use Rattle.read_engine.specs.Taking.{layout_at}
-use Rattle.read_engine.proofs.Changed.{comes_moved, coming_long, state_there, zip_from}
-use Rattle.read_engine.proofs.Comings.{coming_at, half_at}
-use Rattle.read_engine.proofs.Tables.{current_at}
+use Rattle.state_moves.proofs.Changed.{comes_moved, coming_long, state_there, zip_from}
+use Rattle.state_moves.proofs.Comings.{coming_at, half_at}
+use Rattle.state_moves.proofs.Tables.{current_at}
 
 -- ---- names
 

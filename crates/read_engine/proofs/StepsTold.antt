@@ -42,18 +42,18 @@ use Rattle.delta_blob.specs.Reads.{HasNoPatch, IsOfModel, IsPatchAt, KeepsCounts
 use Rattle.delta_blob.specs.Within.{IsTypeWithin, Within}
 use Rattle.read_engine.specs.declared.fault.TakeFault.{TakeFault}
 use Rattle.read_engine.specs.declared.fault.TakeFault.TheVariants as take
-use Rattle.read_engine.specs.declared.past.PastPart.{PastPart}
-use Rattle.read_engine.specs.Moving.{AreMoved, IsNotTaken, IsStuck, IsTaken, RefusesParts, TellsTaken, TypeIs, coming_half, coming_halves}
-use Rattle.read_engine.specs.Past.{no_part}
+use Rattle.state_moves.specs.Past.{PastPart, no_part}
+use Rattle.state_moves.specs.Moving.{AreMoved, IsStuck, RefusesParts, TypeIs, coming_half, coming_halves}
+use Rattle.read_engine.specs.Taken.{IsNotTaken, IsTaken, TellsTaken}
 use Rattle.read_engine.specs.Position.{Position, IsPosition, rows_now}
-use Rattle.read_engine.specs.Standing.{current_halves}
+use Rattle.state_moves.specs.Halves.{current_halves}
 use Rattle.read_engine.specs.Taking.{StepsBy, TellsStep, body_fault_of, layout_at}
-use Rattle.read_engine.proofs.Changed.{any_place, comes_moved, coming_long, state_there}
-use Rattle.read_engine.proofs.Comings.{coming_at}
+use Rattle.state_moves.proofs.Changed.{any_place, comes_moved, coming_long, state_there}
+use Rattle.state_moves.proofs.Comings.{coming_at}
 use Rattle.read_engine.proofs.Patches as patches
 use Rattle.read_engine.proofs.Patches.{one_index, rows_at, zip_at}
-use Rattle.read_engine.proofs.PastRows.{any_at}
-use Rattle.read_engine.proofs.Tables.{current_at}
+use Rattle.state_moves.proofs.PastRows.{any_at}
+use Rattle.state_moves.proofs.Tables.{current_at}
 
 -- ---- header and body
 

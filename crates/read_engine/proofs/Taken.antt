@@ -1,60 +1,54 @@
 -- What a step takes and leaves.
-use Rattle.std.proofs.Common.{◌≡◌, ◌≤◌, ◌<◌, ◌+◌, ℕ, ℤ, List, length, get_or, map, refl, sym, ap, ◌∙◌, subst, arith}
-use Rattle.std.specs.Prelude.{All, sum_by}
+use Rattle.std.proofs.Common.{◌≡◌, ◌≤◌, ◌<◌, ◌+◌, ℕ, ℤ, List, length, map, Result, Ok, Err, IfErr, refl, sym, ap, ◌∙◌, subst, arith}
+use Rattle.std.specs.Prelude.{All, IsErrAnd, OnErr, sum_by}
 use Rattle.std.specs.List.{AllZip}
 use Rattle.schema_model.specs.declared.schema.Schema.{Schema}
 use Rattle.schema_model.specs.declared.limit.Limit.TheVariants.{Indexes}
 use Rattle.schema_model.specs.Limit.{number_of_limit}
 use Rattle.row_model.specs.Table.{IsClosed, IsTableOf, Table}
-use Rattle.type_rows.specs.Patches.{IsReadablePatch}
 use Rattle.type_state.specs.State.{Half, State}
 use Rattle.type_state.specs.Views.{table_of}
 use Rattle.delta_blob.specs.declared.patch.PatchPart.{PatchPart}
-use Rattle.delta_blob.specs.Reads.{IsWholePart}
 use Rattle.key_index.specs.Indexed.{Indexed}
-use Rattle.read_engine.specs.declared.past.PastPart.{PastPart}
+use Rattle.state_moves.specs.Past.{FitsPast, PastPart, table_before}
 use Rattle.read_engine.specs.Indexes.{CountsNew, CountsStep}
-use Rattle.read_engine.specs.Moving.{AreComing, AreMoved, IsReadableIn, IsTaken, StaysCurrent, TakesParts, coming_halves}
+use Rattle.state_moves.specs.Moving.{MovesParts, StaysCurrent, TellsRefusal, coming_halves}
+use Rattle.state_moves.specs.declared.fault.MoveFault.{MoveFault}
+use Rattle.state_moves.specs.declared.fault.MoveFault.TheVariants as move_fault
+use Rattle.read_engine.specs.declared.fault.TakeFault.{TakeFault}
+use Rattle.read_engine.specs.Faults.{taken_fault}
+use Rattle.read_engine.specs.Taken.{IsTaken, Refuses, TakesParts}
 use Rattle.read_engine.specs.Kept.{FollowsPart, IsKept, count_came, index_kept}
-use Rattle.read_engine.specs.Past.{FitsPast, table_before}
 use Rattle.read_engine.specs.Position.{Index, IsIndexOf, IsPosition, Position}
-use Rattle.read_engine.specs.Standing.{IsStanding, current_halves, position_of}
-use Rattle.read_engine.proofs.Came.{counts_new}
-use Rattle.read_engine.proofs.Changed.{FitsLaw, RangesLaw, all_before, all_changed, all_fit, are_coming, state_there}
+use Rattle.state_moves.specs.Halves.{current_halves}
+use Rattle.read_engine.specs.Standing.{IsStanding, position_of}
+use Rattle.read_engine.proofs.Counted.{counts_new}
+use Rattle.state_moves.proofs.Changed.{all_before, all_changed, all_fit}
 use Rattle.read_engine.proofs.Follow.{KeyLaw, all_follow}
+
+-- ---- exits
+
+pub on_err : {T E : Type 0} (r : Result T E) (P : Type 0) → P → OnErr r P
+on_err (Ok x) P p = tt
+on_err (Err e) P p = p
+
+-- the exit by a fault of the move
+pub refused_exit : {T : Type 0} (Fact : Type 0) (r : Result T TakeFault) (moved : MoveFault) → IsErrAnd r (λ f. f ≡ taken_fault moved) → TellsRefusal Fact moved → IfErr r (Refuses Fact)
+refused_exit Fact (Ok x) moved is refuses = absurd is
+refused_exit Fact (Err f) moved is refuses = subst (Refuses Fact) (sym is) (of_fault moved refuses)
+  where
+    of_fault : (m : MoveFault) → TellsRefusal Fact m → Refuses Fact (taken_fault m)
+    of_fault move_fault.Refused fact = fact
+    of_fault move_fault.Memory fact = tt
 
 -- ---- before the moves
 
-pub whole_readable : (states : List State) (schemas : List Schema) (parts : List PatchPart) → map (λ (s : State). s.schema) states ≡ schemas → All (IsWholePart schemas) parts → All (IsReadableIn states) parts
-whole_readable states schemas parts named whole k d inside =
-    let (schema, is, readable) = whole k d inside in
-    let (state, there, same) = state_there states schemas (get_or parts k d).type_index schema named is in
-    (state, there, subst (λ (s : Schema). IsReadablePatch s.shape (get_or parts k d).section) (sym same) readable)
-
-pub comes : FitsLaw → RangesLaw → (schemas : List Schema) (parts : List PatchPart) (before states : List State) (past : List PastPart) → AreMoved parts states past → StaysCurrent before states
-    → map (λ (s : State). s.schema) before ≡ schemas → IsTableOf schemas (table_of (current_halves before)) → AreComing schemas states past
-comes fits_law ranges_law schemas parts before states past moved stays named was =
-    are_coming fits_law ranges_law schemas parts states past moved (stays.schemas ∙ named) (subst (λ (halves : List Half). IsTableOf schemas (table_of halves)) (sym stays.halves) was)
-
--- what is kept fits the rows that come
-pub all_fitting : (parts : List PatchPart) (states : List State) (past : List PastPart) → AreMoved parts states past → AllZip FitsPast (table_of (coming_halves states past)) past
-all_fitting parts states past moved = all_fit states past (all_changed parts states past moved)
-
--- the rows before those that come are closed
-pub was_closed : (schemas : List Schema) (parts : List PatchPart) (before states : List State) (past : List PastPart) → AreMoved parts states past → StaysCurrent before states → IsClosed schemas (table_of (current_halves before))
-    → IsClosed schemas (table_before (table_of (coming_halves states past)) past)
-was_closed schemas parts before states past moved stays closed =
-    let same : table_before (table_of (coming_halves states past)) past ≡ table_of (current_halves before) = all_before states past (all_changed parts states past moved) ∙ ap table_of stays.halves in
-    subst (IsClosed schemas) (sym same) closed
-
 -- the rows that come follow each index
-pub all_ready : KeyLaw → FitsLaw → RangesLaw → (schemas : List Schema) (parts : List PatchPart) (before states : List State) (past : List PastPart) → AreMoved parts states past → StaysCurrent before states
-    → map (λ (s : State). s.schema) before ≡ schemas → IsTableOf schemas (table_of (current_halves before)) → IsClosed schemas (table_of (current_halves before)) → IsClosed schemas (table_of (coming_halves states past))
+pub all_ready : KeyLaw → (schemas : List Schema) (parts : List PatchPart) (before states : List State) (past : List PastPart) → MovesParts schemas parts before states past
+    → IsTableOf schemas (table_of (current_halves before)) → IsClosed schemas (table_of (current_halves before))
     → (indexes : List Indexed) → All (IsKept schemas (table_of (current_halves before))) indexes → All (FollowsPart schemas (table_of (coming_halves states past)) past) indexes
-all_ready law fits_law ranges_law schemas parts before states past moved stays named was closed closed_too indexes kept =
-    let changed = all_changed parts states past moved in
-    all_follow law schemas (table_of (current_halves before)) (table_of (coming_halves states past)) past (all_fit states past changed) (all_before states past changed ∙ ap table_of stays.halves) was
-    (comes fits_law ranges_law schemas parts before states past moved stays named was).fits closed closed_too indexes kept
+all_ready law schemas parts before states past moves was closed indexes kept =
+    all_follow law schemas (table_of (current_halves before)) (table_of (coming_halves states past)) past moves.fits moves.was was moves.coming.fits closed moves.closed indexes kept
 
 -- where it stands if the current halves stay
 pub stands_still : (tag : ℤ) (schemas : List Schema) (before states : List State) (past : List PastPart) (indexes : List Indexed) → IsStanding tag schemas before past indexes → StaysCurrent before states → IsStanding tag schemas states past indexes

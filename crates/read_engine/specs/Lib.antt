@@ -1,9 +1,8 @@
-pub mod Closing
+pub mod Faults
 pub mod Gone
 pub mod Indexes
 pub mod Kept
-pub mod Moving
-pub mod Past
 pub mod Position
 pub mod Standing
+pub mod Taken
 pub mod Taking

@@ -1,20 +1,14 @@
 -- What a consumer that has a state keeps of it: the states of the model's types, what the last step changed of each, and its indexes.
-use Rattle.std.specs.Prelude.{◌≡◌, ◌+◌, ◌<◌, ◌⊎◌, ℕ, ℤ, List, All, map, IsSome}
+use Rattle.std.specs.Prelude.{◌≡◌, ℤ, List, All, map}
 use Rattle.std.specs.List.{AllZip}
-use Rattle.std.specs.FinMap.{get}
 use Rattle.schema_model.specs.declared.schema.Schema.{Schema}
-use Rattle.row_model.specs.Table.{RowMap}
-use Rattle.type_state.specs.State.{Half, State}
+use Rattle.type_state.specs.State.{State}
 use Rattle.type_state.specs.Views.{table_of}
 use Rattle.key_index.specs.Indexed.{Indexed}
-use Rattle.read_engine.specs.declared.past.PastPart.{PastPart}
+use Rattle.state_moves.specs.Halves.{current_halves}
+use Rattle.state_moves.specs.Past.{FitsPast, PastPart, table_before}
 use Rattle.read_engine.specs.Kept.{IsKept, index_kept}
-use Rattle.read_engine.specs.Past.{FitsPast, table_before}
 use Rattle.read_engine.specs.Position.{Position, IsPosition}
-
--- the current halves
-abbrev pub current_halves : List State → List Half
-current_halves states = map (λ state. state.current) states
 
 -- where it stands
 abbrev pub position_of : ℤ → List Schema → List State → List PastPart → List Indexed → Position
@@ -33,8 +27,3 @@ pub record IsStanding (tag : ℤ) (schemas : List Schema) (states : List State) 
   pub fits : AllZip FitsPast (table_of (current_halves states)) past
   pub position : IsPosition (position_of tag schemas states past kept)
   pub indexes : All (IsKept schemas (table_of (current_halves states))) kept
-
--- one past the greatest live ordinal of some rows, 0 for none
-pub record IsRowsBound (rows : RowMap) (bound : ℕ) : Type 0 where
-  pub above : (ordinal : ℕ) → IsSome (get rows ordinal) → ordinal < bound
-  pub least : (bound ≡ 0) ⊎ ((ordinal : ℕ) × (bound ≡ ordinal + 1) × IsSome (get rows ordinal))

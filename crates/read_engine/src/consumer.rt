@@ -17,11 +17,12 @@ ghost use Rattle.read_engine.specs.Taking.{IsStepName, TellsLoad, TellsStep};
 use crate::load::load;
 use crate::stand::Stand;
 use crate::step::step;
-use crate::{Before, IndexFault, Now, TakeFault};
+use crate::{IndexFault, TakeFault};
 use hol_io::{BlobName, BlobStore, Steps};
 use hol_varint::Ordinals;
 use row_model::Values;
 use schema_model::{Model, Paths};
+use state_moves::{Before, Now};
 use std::alloc::{AllocError, Global};
 use std::sync::ledger::Ledger;
 
@@ -131,7 +132,7 @@ impl Consumer {
         ensures position { IsSomeAnd self.now IsPosition }
     {
         match &self.stand {
-            Some(stand) => Now::new(stand),
+            Some(stand) => stand.rows_now(),
             None => unreachable!(),
         }
     }
@@ -144,7 +145,7 @@ impl Consumer {
         ensures position { IsSomeAnd self.now IsPosition }
     {
         match &self.stand {
-            Some(stand) => Before::new(stand),
+            Some(stand) => stand.rows_before(),
             None => unreachable!(),
         }
     }

@@ -1,5 +1,6 @@
 //! Why a consumer does not take a blob, or keeps no index.
 use blob_frame::BlobFault;
+use state_moves::MoveFault;
 use std::alloc::{AllocError, AllocFailed};
 
 /// Why a consumer does not take a blob.
@@ -19,6 +20,20 @@ impl From<BlobFault> for TakeFault {
 
     fn from(fault: BlobFault) -> TakeFault {
         TakeFault::Blob(fault)
+    }
+}
+
+impl From<MoveFault> for TakeFault {
+    ghost use Rattle.std.specs.Prelude.{◌≡◌};
+    ghost use Rattle.read_engine.specs.Faults.{taken_fault};
+
+    ghost from_gives = { λ fault taken. taken ≡ taken_fault fault };
+
+    fn from(fault: MoveFault) -> TakeFault {
+        match fault {
+            MoveFault::Refused => TakeFault::Body,
+            MoveFault::Memory => TakeFault::Blob(BlobFault::Memory),
+        }
     }
 }
 

@@ -6,8 +6,8 @@ ghost use Rattle.read_engine.specs.Indexes.{AddsIndex, CountsAdded, CountsKeyed,
 ghost use Rattle.read_engine.specs.Kept.{IsKept, index_kept};
 ghost use Rattle.read_engine.specs.Position.{rows_now};
 
+use crate::IndexFault;
 use crate::stand::Stand;
-use crate::{IndexFault, Now};
 use hol_io::Steps;
 use hol_varint::Ordinals;
 use key_index::KeyIndex;
@@ -87,7 +87,7 @@ impl Stand {
         ensures kept { IfOk result (λ index. IsKept self.now.schemas (rows_now self.now) index × (index_kept index ≡ index_by type_index paths)) }
         ensures counted { OnOk result (CountsLive (rows_now self.now) type_index steps.old steps.new) }
     {
-        KeyIndex::build(alloc, &Now::new(self), type_index, paths, steps)
+        KeyIndex::build(alloc, &self.rows_now(), type_index, paths, steps)
     }
 }
 

@@ -3,14 +3,12 @@ ghost use Rattle.std.specs.Prelude.{◌≡◌, ◌+◌, All, IsSome, OnErr, OnOk
 ghost use Rattle.row_model.specs.Table.{IsClosed};
 ghost use Rattle.type_state.specs.Views.{table_of};
 ghost use Rattle.read_engine.specs.Kept.{FollowsPart, IsReserved, count_came, moved_on, settled};
-ghost use Rattle.read_engine.specs.Moving.{AreComing, coming_halves};
+ghost use Rattle.state_moves.specs.Moving.{AreComing, coming_halves};
 
-use crate::coming::Coming;
-use crate::past::PastPart;
-use crate::views::part_at;
 use hol_io::Steps;
 use key_index::KeyIndex;
 use schema_model::Model;
+use state_moves::{Coming, PastPart, part_at};
 use std::alloc::AllocError;
 use std::sync::ledger::Ledger;
 use type_state::TypeState;
@@ -31,11 +29,7 @@ pub(crate) fn reserve_all<L: Ledger>(
     ensures counted { OnOk result (steps.new ≡ steps.old + sum_by (λ kept. count_came past.now kept.type_index) indexes.old) }
     ensures refused { OnErr result (indexes.new ≡ map settled indexes.old) }
 {
-    let rows = Coming {
-        model,
-        states,
-        past,
-    };
+    let rows = Coming::new(model, states, past);
     match reserve_each(indexes, &rows, past, steps) {
         Ok(()) => Ok(()),
         Err(error) => {
@@ -88,7 +82,7 @@ fn reserve<L: Ledger>(
     ensures counted { OnOk result (steps.new ≡ steps.old + count_came past.now index.old.type_index) }
 {
     let part = part_at(past, index.type_index());
-    index.reserve(rows, &part.gone, &part.came, steps)
+    index.reserve(rows, part.gone(), part.came(), steps)
 }
 
 // Drops what was reserved.

@@ -1,20 +1,14 @@
 //! A consumer: the state that it loads from a snapshot and moves by deltas, and the indexes that it keeps over its rows.
 #![tactic(auto)]
 
-mod closing;
-mod coming;
 mod consumer;
 mod fault;
 mod indexes;
 mod keeping;
 pub mod laws;
 mod load;
-mod moving;
-mod past;
 mod stand;
 mod step;
-mod views;
 
 pub use consumer::Consumer;
 pub use fault::{IndexFault, TakeFault};
-pub use views::{Before, Now};

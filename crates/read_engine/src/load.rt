@@ -1,5 +1,5 @@
 //! Loading the state of a snapshot.
-ghost use Rattle.std.specs.Prelude.{◌≡◌, ◌≤◌, Err, All, IfOk, IfSome, length, map, replicate};
+ghost use Rattle.std.specs.Prelude.{◌≡◌, ◌≤◌, Err, All, IfSome, length, map, replicate};
 ghost use Rattle.hol_io.specs.declared.name.BlobName.TheVariants.{Snapshot};
 ghost use Rattle.hol_io.specs.Causes.{Rose};
 ghost use Rattle.hol_io.specs.Store.{told};
@@ -8,19 +8,19 @@ ghost use Rattle.type_state.specs.State.{IsLaidOut};
 ghost use Rattle.type_state.specs.Views.{next_halves};
 ghost use Rattle.blob_frame.specs.declared.fault.BlobFault.TheVariants.{Store as StoreFailed};
 ghost use Rattle.snapshot_blob.specs.Body.{IsWholeBody};
-ghost use Rattle.read_engine.specs.Past.{no_part};
-ghost use Rattle.read_engine.specs.Standing.{current_halves};
+ghost use Rattle.state_moves.specs.Past.{no_part};
+ghost use Rattle.state_moves.specs.Halves.{current_halves};
 ghost use Rattle.read_engine.specs.Taking.{TellsStand, body_fault_of, loaded_position};
 
 use crate::TakeFault;
-use crate::past::{PastPart, PastParts};
 use crate::stand::Stand;
 use blob_cursor::opened;
 use blob_frame::BlobFault;
 use hol_io::{BlobName, BlobStore};
 use snapshot_blob::laws::header_and_body;
 use snapshot_blob::{Body, read_body};
-use std::alloc::{AllocError, Global};
+use state_moves::{PastParts, flip_all, no_past};
+use std::alloc::Global;
 use type_state::{TypeState, TypeStates};
 
 /// The state of the snapshot of a version.
@@ -76,17 +76,6 @@ pub(crate) fn body_fault(fault: BlobFault) -> TakeFault
     }
 }
 
-// Nothing changed of so many types.
-pub(crate) fn no_past(alloc: Global, count: u32) -> Result<PastParts, AllocError>
-    ensures { IfOk result (λ past. past ≡ replicate count no_part) }
-{
-    let mut past = PastParts::new(alloc);
-    for _type_index in 0..count {
-        past.push(PastPart::none(alloc))?;
-    }
-    Ok(past)
-}
-
 // The states with their next halves as the current ones.
 fn flipped(states: TypeStates) -> Vec<TypeState>
     requires { All (λ state. IsLaidOut state.schema state.other) states }
@@ -96,15 +85,4 @@ fn flipped(states: TypeStates) -> Vec<TypeState>
     let mut states = states.into_vec();
     flip_all(states.as_mut_slice());
     states
-}
-
-// Makes the next halves the current ones.
-fn flip_all(states: &mut [TypeState])
-    requires { All (λ state. IsLaidOut state.schema state.other) states.old }
-    ensures halves { current_halves states.new ≡ next_halves states.old }
-    ensures schemas { map (λ state. state.schema) states.new ≡ map (λ state. state.schema) states.old }
-{
-    for state in states.iter_mut() {
-        state.flip();
-    }
 }

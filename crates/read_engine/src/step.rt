@@ -8,17 +8,14 @@ ghost use Rattle.type_state.specs.Views.{table_of};
 ghost use Rattle.delta_blob.specs.Reads.{IsWholePart};
 ghost use Rattle.read_engine.specs.Indexes.{CountsStep};
 ghost use Rattle.read_engine.specs.Kept.{IsKept, count_came, index_kept};
-ghost use Rattle.read_engine.specs.Moving.{RefusesParts, Refuses, StaysCurrent, TakesParts, TellsTaken};
-ghost use Rattle.read_engine.specs.Standing.{current_halves};
+ghost use Rattle.state_moves.specs.Moving.{RefusesParts, StaysCurrent};
+ghost use Rattle.read_engine.specs.Taken.{Refuses, TakesParts, TellsTaken};
+ghost use Rattle.state_moves.specs.Halves.{current_halves};
 ghost use Rattle.read_engine.specs.Taking.{TellsStep};
 
 use crate::TakeFault;
-use crate::closing::check_closed;
-use crate::coming::flip_named;
 use crate::keeping::{reserve_all, update_all};
 use crate::load::body_fault;
-use crate::moving::move_types;
-use crate::past::PastParts;
 use crate::stand::Stand;
 use blob_cursor::opened;
 use blob_frame::BlobFault;
@@ -27,9 +24,10 @@ use hol_io::{BlobName, BlobStore, Steps};
 use key_index::KeyIndex;
 use key_index::laws::kept_key;
 use schema_model::Model;
+use state_moves::{PastParts, flip_named, move_state};
 use std::alloc::Global;
 use std::sync::ledger::Ledger;
-use type_rows::laws::{moved_rows_fit, one_move};
+use type_rows::laws::one_move;
 use type_state::TypeState;
 
 /// Moves a state by the delta of a name. After a fault it is as before.
@@ -109,11 +107,9 @@ fn take_parts<L: Ledger>(
     ensures refused { IfErr result (Refuses (RefusesParts model.now parts.now states.old)) }
     ensures uncounted { IfErr result (λ fault. fault ≢ TakeFault.Blob MemoryRefused → steps.new ≡ steps.old) }
 {
-    moved_rows_fit();
     kept_key();
-    let past = move_types(alloc, model.len(), states, parts)?;
+    let past = move_state(alloc, model, states, parts)?;
     let kept = past.as_slice();
-    check_closed(alloc, model, states, kept)?;
     reserve_all(indexes, model, states, kept, steps)?;
     flip_named(states, kept);
     update_all(indexes);

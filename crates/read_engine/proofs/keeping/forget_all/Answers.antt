@@ -1,6 +1,6 @@
 use Rattle.std.proofs.Common.{◌≡◌, ap, ◌∙◌, length, arith, set}
 use Rattle.read_engine.specs.Kept.{settled}
-use Rattle.read_engine.proofs.Mapped.{all_mapped, first_mapped, none_mapped, one_more_mapped}
+use Rattle.state_moves.proofs.Mapped.{all_mapped, first_mapped, none_mapped, one_more_mapped}
 use Rattle.read_engine.proofs.keeping.forget_all.Goals as goal
 
 pub loop-index-init : goal.loop-index-init

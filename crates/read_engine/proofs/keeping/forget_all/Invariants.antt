@@ -1,6 +1,6 @@
 use Rattle.std.proofs.Common.{◌≡◌}
 use Rattle.read_engine.specs.Kept.{settled}
-use Rattle.read_engine.proofs.Mapped.{first_mapped}
+use Rattle.state_moves.proofs.Mapped.{first_mapped}
 use Rattle.read_engine.proofs.keeping.forget_all.Given as goal
 
 abbrev pub invariant-loop-index : goal.invariant-loop-index

@@ -5,8 +5,8 @@ use Rattle.std.proofs.lemmas.List.Sums.{sum_by_more}
 use Rattle.key_index.specs.Indexed.{Indexed}
 use Rattle.read_engine.specs.Kept.{IsReserved, count_came, settled}
 use Rattle.read_engine.proofs.Follow.{follows_same}
-use Rattle.read_engine.proofs.Mapped.{all_more, map_at}
-use Rattle.read_engine.proofs.Moves.{map_set}
+use Rattle.state_moves.proofs.Mapped.{all_more, map_at}
+use Rattle.state_moves.proofs.Moves.{map_set}
 use Rattle.read_engine.proofs.keeping.reserve_each.Goals as goal
 
 pub reserve-requires-clause-follows : goal.reserve-requires-clause-follows

@@ -3,7 +3,7 @@ use Rattle.std.specs.Prelude.{IsSome}
 use Rattle.key_index.specs.Indexed.{Indexed}
 use Rattle.read_engine.specs.Kept.{moved_on}
 use Rattle.read_engine.proofs.Follow.{moves_on}
-use Rattle.read_engine.proofs.Mapped.{all_mapped, first_mapped, none_mapped, not_mapped, one_more_mapped}
+use Rattle.state_moves.proofs.Mapped.{all_mapped, first_mapped, none_mapped, not_mapped, one_more_mapped}
 use Rattle.read_engine.proofs.keeping.update_all.Goals as goal
 
 pub loop-index-init : goal.loop-index-init

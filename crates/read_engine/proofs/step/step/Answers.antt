@@ -6,7 +6,7 @@ use Rattle.blob_cursor.specs.Scene.{Place}
 use Rattle.delta_blob.specs.declared.patch.PatchPart.{PatchPart}
 use Rattle.delta_blob.specs.Reads.{IsWholePart}
 use Rattle.hol_io.specs.Store.{told}
-use Rattle.read_engine.specs.Moving.{TellsTaken}
+use Rattle.read_engine.specs.Taken.{TellsTaken}
 use Rattle.read_engine.specs.Position.{IsPosition, Position}
 use Rattle.read_engine.proofs.StepsTold.{IsPatchRead, patch_read, read_told, take_told}
 use Rattle.read_engine.proofs.step.step.Goals as goal

@@ -10,9 +10,11 @@ use Rattle.key_index.specs.Indexed.{Indexed}
 use Rattle.delta_blob.specs.Reads.{IsWholePart}
 use Rattle.read_engine.specs.Indexes.{CountsStep}
 use Rattle.read_engine.specs.Kept.{count_came, index_kept}
-use Rattle.read_engine.specs.Moving.{IsTaken, StaysCurrent, TakesParts}
+use Rattle.state_moves.specs.Moving.{StaysCurrent}
+use Rattle.read_engine.specs.Taken.{IsTaken, TakesParts}
 use Rattle.read_engine.specs.Position.{Position}
-use Rattle.read_engine.specs.Standing.{IsStanding, current_halves, position_of}
+use Rattle.state_moves.specs.Halves.{current_halves}
+use Rattle.read_engine.specs.Standing.{IsStanding, position_of}
 use Rattle.read_engine.proofs.Taken.{counts_step, is_taken, stands_after, stands_still}
 use Rattle.read_engine.proofs.step.take.Goals as goal
 

@@ -4,7 +4,7 @@ use Rattle.row_model.specs.Table.{row_at}
 use Rattle.bucket_codec.specs.Run.{FindsIn}
 use Rattle.type_state.specs.Lookup.{pairs_of}
 use Rattle.read_engine.specs.Position.{Position, rows_now}
-use Rattle.read_engine.proofs.Tables.{row_now}
+use Rattle.state_moves.proofs.Tables.{row_now}
 use Rattle.read_engine.proofs.stand.Stand.at.Goals as goal
 
 pub returns : goal.returns

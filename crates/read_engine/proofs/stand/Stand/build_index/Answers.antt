@@ -6,9 +6,9 @@ use Rattle.read_engine.proofs.Answered.{built}
 use Rattle.read_engine.proofs.stand.Stand.build_index.Goals as goal
 
 pub build-requires-clause-resolved : goal.build-requires-clause-resolved
-build-requires-clause-resolved g c = subst (λ (schemas : List Schema). All (IsResolved schemas c.args.type_index) c.args.paths) (sym c.new.ensures.schemas) c.requires.resolved
+build-requires-clause-resolved g c = subst (λ (schemas : List Schema). All (IsResolved schemas c.args.type_index) c.args.paths) (sym c.rows_now.ensures.schemas) c.requires.resolved
 
 pub returns-clause-kept : goal.returns-clause-kept
 returns-clause-kept g c =
-    built c.args.self.now c.new.result.schemas c.new.result.table c.args.type_index c.args.paths c.new.ensures.schemas c.new.ensures.table c.requires.type_there c.requires.resolved c.build.result c.build.ensures.index
+    built c.args.self.now c.rows_now.result.schemas c.rows_now.result.table c.args.type_index c.args.paths c.rows_now.ensures.schemas c.rows_now.ensures.table c.requires.type_there c.requires.resolved c.build.result c.build.ensures.index
     c.build.ensures.unreserved

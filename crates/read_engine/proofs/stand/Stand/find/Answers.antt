@@ -4,7 +4,7 @@ use Rattle.std.specs.Prelude.{IfOk, IsSomeAnd, slice_get}
 use Rattle.row_model.specs.Key.{AreMatches}
 use Rattle.read_engine.specs.Position.{Position, rows_now}
 use Rattle.read_engine.specs.Kept.{index_kept}
-use Rattle.read_engine.proofs.Tables.{read_there}
+use Rattle.state_moves.proofs.Tables.{read_there}
 use Rattle.read_engine.proofs.Answered.{all_matched}
 use Rattle.read_engine.proofs.stand.Stand.find.Goals as goal
 

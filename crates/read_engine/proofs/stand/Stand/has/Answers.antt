@@ -4,7 +4,7 @@ use Rattle.row_model.specs.declared.row.Row.{Row}
 use Rattle.row_model.specs.Table.{row_at}
 use Rattle.type_state.specs.Lookup.{elements_of}
 use Rattle.read_engine.specs.Position.{Position, rows_now}
-use Rattle.read_engine.proofs.Tables.{row_now}
+use Rattle.state_moves.proofs.Tables.{row_now}
 use Rattle.read_engine.proofs.stand.Stand.has.Goals as goal
 
 pub returns : goal.returns

@@ -4,7 +4,7 @@ use Rattle.std.specs.Prelude.{IsSomeAnd, slice_get}
 use Rattle.read_engine.specs.Indexes.{CountsKeyed}
 use Rattle.read_engine.specs.Position.{Position}
 use Rattle.read_engine.specs.Kept.{index_kept}
-use Rattle.read_engine.proofs.Tables.{read_there}
+use Rattle.state_moves.proofs.Tables.{read_there}
 use Rattle.read_engine.proofs.Answered.{counts_keyed}
 use Rattle.read_engine.proofs.stand.Stand.keyed.Goals as goal
 

@@ -1,6 +1,0 @@
-use Rattle.std.proofs.Common.{◌≡◌}
-use Rattle.read_engine.proofs.Comings.{first_named}
-use Rattle.read_engine.proofs.coming.flip_named.Given as goal
-
-abbrev pub invariant-loop-type_index : goal.invariant-loop-type_index
-invariant-loop-type_index l = l.states ≡ first_named l.type_index l.past l.initial.states

@@ -1,6 +1,0 @@
-use Rattle.std.proofs.Common.{◌≡◌, replicate}
-use Rattle.read_engine.specs.Past.{no_part}
-use Rattle.read_engine.proofs.load.no_past.Given as goal
-
-abbrev pub invariant-loop-type_index : goal.invariant-loop-type_index
-invariant-loop-type_index l = l.past ≡ replicate l._type_index no_part

@@ -1,0 +1,11 @@
+pub mod Came
+pub mod Changed
+pub mod Closed
+pub mod Comings
+pub mod Flips
+pub mod Mapped
+pub mod MovedParts
+pub mod Moves
+pub mod PastRows
+pub mod Tables
+pub mod Unchanged

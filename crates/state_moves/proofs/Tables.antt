@@ -1,0 +1,120 @@
+-- Tables by type: those of the current rows and of the rows before.
+use Rattle.std.proofs.Common.{◌≡◌, ◌<◌, ◌⊎◌, inl, inr, ℕ, zero, suc, List, [], ◌∷◌, length, get_or, map, Bool, false, Option, Some, None, Result, refl, sym, ap, ◌∙◌, subst, arith}
+use Rattle.std.specs.Prelude.{IsSome, IsTrue, IfOk, ◌↔◌, slice_get}
+use Rattle.std.specs.List.{AllZip}
+use Rattle.std.specs.declared.alloc.AllocError.{AllocError}
+use Rattle.std.specs.FinMap.{get}
+use Rattle.std.specs.Option.{option_and_then, option_map}
+use Rattle.std.proofs.lemmas.Bool.{false≢true}
+use Rattle.std.proofs.lemmas.List.{length-map}
+use Rattle.std.proofs.lemmas.Option.{slice_get-get_or, slice_get-map, slice_get_within}
+use Rattle.row_model.specs.declared.row.Row.{Row}
+use Rattle.row_model.specs.declared.lent.LentRow.{LentRow}
+use Rattle.schema_model.specs.declared.schema.Schema.{Schema}
+use Rattle.row_model.specs.Lent.{lent_row}
+use Rattle.row_model.specs.Table.{RowMap, Table, row_at, IsLive, IsBound}
+use Rattle.type_state.specs.State.{Half, State}
+use Rattle.type_state.specs.Views.{table_of}
+use Rattle.state_moves.specs.Past.{FitsPast, PastPart, rows_before, table_before}
+use Rattle.state_moves.specs.Halves.{IsRowsBound, current_halves}
+
+-- what is read at an index stands there
+pub read_there : {A : Type 0} (xs : List A) (i : ℕ) (x : A) → i < length xs → x ≡ get_or xs i x → slice_get xs i ≡ Some x
+read_there xs i x inside is = slice_get-get_or xs i x inside ∙ ap Some (sym is)
+
+module _ (table : Table) (t : ℕ) where
+  pub row_of : (o : ℕ) (rows : RowMap) → slice_get table t ≡ Some rows → row_at table t o ≡ get rows o
+  row_of o rows is = ap (option_and_then (λ (rows : RowMap). get rows o)) is
+
+  pub no_row : (o : ℕ) → slice_get table t ≡ None → row_at table t o ≡ None
+  no_row o none = ap (option_and_then (λ (rows : RowMap). get rows o)) none
+
+  pub bound_at : (bound : ℕ) (rows : RowMap) → slice_get table t ≡ Some rows → IsRowsBound rows bound → IsBound table t bound
+  bound_at bound rows is h = record {
+    above = λ o live. h.above o (subst IsSome (row_of o rows is) live);
+    least = elim h.least [
+      | inl none ↦ inl none
+      | inr (o, same, live) ↦ inr (o, same, subst IsSome (sym (row_of o rows is)) live)
+    ];
+  }
+
+  pub bound_off : slice_get table t ≡ None → IsBound table t 0
+  bound_off none = record { above = λ o live. absurd (false≢true (subst IsSome (no_row o none) live)); least = inl refl }
+
+  pub live_at : (o : ℕ) (rows : RowMap) (live : Bool) → slice_get table t ≡ Some rows → (IsTrue live ↔ IsSome (get rows o)) → (IsTrue live ↔ IsLive table t o)
+  live_at o rows live is are = (λ p. subst IsSome (sym (row_of o rows is)) (are.0 p), λ p. are.1 (subst IsSome (row_of o rows is) p))
+
+  pub live_off : (o : ℕ) → slice_get table t ≡ None → (IsTrue false ↔ IsLive table t o)
+  live_off o none = (λ p. absurd (false≢true p), λ live. absurd (false≢true (subst IsSome (no_row o none) live)))
+
+  pub some_at : (o : ℕ) (rows : RowMap) → slice_get table t ≡ Some rows → IsLive table t o → IsSome (get rows o)
+  some_at o rows is live = subst IsSome (row_of o rows is) live
+
+  pub none_off : (o : ℕ) → slice_get table t ≡ None → IsLive table t o → ⊥
+  none_off o none live = false≢true (subst IsSome (no_row o none) live)
+
+  pub copy_at : (o : ℕ) (rows : RowMap) (answer : Result Row AllocError) → slice_get table t ≡ Some rows → IfOk answer (λ row. get rows o ≡ Some row) → IfOk answer (λ row. row_at table t o ≡ Some row)
+  copy_at o rows answer is copied = subst (λ (found : Option Row). IfOk answer (λ row. found ≡ Some row)) (sym (row_of o rows is)) copied
+
+  pub lent_at : (o : ℕ) (rows : RowMap) (answer : Result LentRow AllocError) → slice_get table t ≡ Some rows → IfOk answer (λ lent. get rows o ≡ Some (lent_row lent)) → IfOk answer (λ lent. row_at table t o ≡ Some (lent_row lent))
+  lent_at o rows answer is lent = subst (λ (found : Option Row). IfOk answer (λ lent. found ≡ Some (lent_row lent))) (sym (row_of o rows is)) lent
+
+-- a row is there, or none
+pub live_or_none : (table : Table) (t o : ℕ) → IsLive table t o ⊎ (row_at table t o ≡ None)
+live_or_none table t o = of_row (row_at table t o) refl
+  where
+    of_row : (found : Option Row) → row_at table t o ≡ found → IsLive table t o ⊎ (row_at table t o ≡ None)
+    of_row None none = inr none
+    of_row (Some row) is = inl (subst IsSome (sym is) refl)
+
+-- ---- the current rows
+
+pub current_at : (states : List State) (t : ℕ) (state : State) → slice_get states t ≡ Some state → slice_get (table_of (current_halves states)) t ≡ Some state.current.rows
+current_at states t state is =
+    slice_get-map (λ (half : Half). half.rows) (current_halves states) t
+    ∙ ap (option_map (λ (half : Half). half.rows)) (slice_get-map (λ (s : State). s.current) states t ∙ ap (option_map (λ (s : State). s.current)) is)
+
+pub current_off : (states : List State) (t : ℕ) → slice_get states t ≡ None → slice_get (table_of (current_halves states)) t ≡ None
+current_off states t none =
+    slice_get-map (λ (half : Half). half.rows) (current_halves states) t
+    ∙ ap (option_map (λ (half : Half). half.rows)) (slice_get-map (λ (s : State). s.current) states t ∙ ap (option_map (λ (s : State). s.current)) none)
+
+-- the row of a type that is read
+pub row_now : (schemas : List Schema) (states : List State) (t o : ℕ) (state : State) → map (λ (s : State). s.schema) states ≡ schemas → t < length schemas → state ≡ get_or states t state → row_at (table_of (current_halves states)) t o ≡ get state.current.rows o
+row_now schemas states t o state named known is =
+    let inside : t < length states = omega (arith, known, ap length named, length-map states (λ (s : State). s.schema)) in
+    row_of (table_of (current_halves states)) t o state.current.rows (current_at states t state (read_there states t state inside is))
+
+-- ---- the rows before
+
+pub past_length : (table : Table) (past : List PastPart) → AllZip FitsPast table past → length past ≡ length table
+past_length [] [] fits = refl
+past_length (rows ∷ table) (part ∷ past) fits = let rest = past_length table past fits.1 in omega arith
+past_length [] (part ∷ past) fits = absurd fits
+past_length (rows ∷ table) [] fits = absurd fits
+
+pub fits_at : (table : Table) (past : List PastPart) (t : ℕ) (rows : RowMap) (part : PastPart) → AllZip FitsPast table past → slice_get table t ≡ Some rows → slice_get past t ≡ Some part → FitsPast rows part
+fits_at [] past t rows part fits is there = absurd cc
+fits_at (r ∷ table) [] t rows part fits is there = absurd fits
+fits_at (r ∷ table) (p ∷ past) zero rows part fits is there = let same : r ≡ rows = cc in let also : p ≡ part = cc in subst (λ (x : RowMap). FitsPast x part) same (subst (λ (x : PastPart). FitsPast r x) also fits.0)
+fits_at (r ∷ table) (p ∷ past) (suc t) rows part fits is there = fits_at table past t rows part fits.1 is there
+
+pub before_at : (table : Table) (past : List PastPart) (t : ℕ) (rows : RowMap) (part : PastPart) → slice_get table t ≡ Some rows → slice_get past t ≡ Some part → slice_get (table_before table past) t ≡ Some (rows_before rows part)
+unfolding table_before
+before_at [] past t rows part is there = absurd cc
+before_at (r ∷ table) [] t rows part is there = absurd cc
+before_at (r ∷ table) (p ∷ past) zero rows part is there = let same : r ≡ rows = cc in let also : p ≡ part = cc in λ i. Some (rows_before (same i) (also i))
+before_at (r ∷ table) (p ∷ past) (suc t) rows part is there = before_at table past t rows part is there
+
+pub before_off : (table : Table) (past : List PastPart) (t : ℕ) → slice_get table t ≡ None → slice_get (table_before table past) t ≡ None
+unfolding table_before
+before_off [] past t none = refl
+before_off (r ∷ table) [] t none = refl
+before_off (r ∷ table) (p ∷ past) zero none = absurd cc
+before_off (r ∷ table) (p ∷ past) (suc t) none = before_off table past t none
+
+-- a type that is there has a part beside it
+pub part_within : (states : List State) (past : List PastPart) (t : ℕ) (state : State) → AllZip FitsPast (table_of (current_halves states)) past → slice_get states t ≡ Some state → t < length past
+part_within states past t state fits is =
+    let within = slice_get_within (table_of (current_halves states)) t state.current.rows (current_at states t state is) in
+    omega (arith, within, past_length (table_of (current_halves states)) past fits)

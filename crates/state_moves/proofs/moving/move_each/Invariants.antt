@@ -1,0 +1,9 @@
+use Rattle.std.proofs.Common.{take}
+use Rattle.state_moves.specs.Moving.{AreMoved, StaysCurrent}
+use Rattle.state_moves.proofs.moving.move_each.Given as goal
+
+abbrev pub invariant-loop-part : goal.invariant-loop-part
+invariant-loop-part l = record {
+  stays : StaysCurrent l.initial.states l.states;
+  moved : AreMoved (take l.part-index l.parts) l.states l.past;
+}

@@ -1,0 +1,4 @@
+pub mod Closing
+pub mod Halves
+pub mod Moving
+pub mod Past

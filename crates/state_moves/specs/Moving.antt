@@ -1,0 +1,103 @@
+-- How the parts of a patch move the types of a state: each named type has its new rows in the half that comes next, and of what it had is kept
+-- what the patch changes.
+use Rattle.std.specs.Prelude.{◌≡◌, ◌<◌, ◌-◌, ◌^◌, ℕ, List, [], ◌∷◌, Some, true, if◌then◌else◌, All, length, map, slice_get}
+use Rattle.std.specs.List.{AllZip}
+use Rattle.std.specs.FinMap.{get}
+use Rattle.schema_model.specs.declared.schema.Schema.{Schema}
+use Rattle.row_model.specs.Table.{RowMap, IsClosed, IsTableOf}
+use Rattle.type_rows.specs.declared.patch.PatchSection.{PatchSection}
+use Rattle.type_rows.specs.Patches.{IsMovedBy, IsReadablePatch, IsWellFormedPatch, patch_layout}
+use Rattle.type_state.specs.State.{Half, State, IsLaidOut}
+use Rattle.type_state.specs.Views.{table_of}
+use Rattle.delta_blob.specs.declared.patch.PatchPart.{PatchPart}
+use Rattle.state_moves.specs.declared.fault.MoveFault.{MoveFault}
+use Rattle.state_moves.specs.declared.fault.MoveFault.TheVariants.{Memory, Refused}
+use Rattle.state_moves.specs.Halves.{current_halves}
+use Rattle.state_moves.specs.Past.{FitsPast, PastPart, no_part, table_before}
+
+-- the half that comes: the next one of a type that the step names, else the current one
+abbrev pub coming_half : State → PastPart → Half
+coming_half state part = (if part.named then state.other else state.current)
+
+-- the same of each type
+unfoldable pub coming_halves : List State → List PastPart → List Half
+coming_halves (state ∷ states) (part ∷ past) = coming_half state part ∷ coming_halves states past
+coming_halves _ _ = []
+
+-- the type behind the step: with the half that comes as its current one
+abbrev pub coming_state : State → PastPart → State
+coming_state state part = (if part.named then record { schema = state.schema; current = state.other; other = state.current } else state)
+
+-- The half that comes is laid out, where it is the next one.
+abbrev pub IsComingLaid : State → PastPart → Type 0
+IsComingLaid state part = part.named ≡ true → IsLaidOut state.schema state.other
+
+-- The states are those of the model, and the halves that come are laid out and fit it.
+pub record AreComing (schemas : List Schema) (states : List State) (past : List PastPart) : Type 0 where
+  pub named : map (λ state. state.schema) states ≡ schemas
+  pub laid : AllZip IsComingLaid states past
+  pub fits : IsTableOf schemas (table_of (coming_halves states past))
+
+-- What is kept of a type: the ordinals of its patch, and the row of each that leaves.
+pub record KeepsPatch (now : RowMap) (section : PatchSection) (part : PastPart) : Type 0 where
+  pub named : part.named ≡ true
+  pub came : part.came ≡ section.added
+  pub gone : part.gone ≡ section.removed
+  pub small : All (λ ordinal. ordinal < 2 ^ 32 - 1) part.gone
+  pub rows : AllZip (λ ordinal row. get now ordinal ≡ Some row) part.gone part.rows
+
+-- The section moved the current rows of a type to its next ones, and this is kept of it.
+pub record MovesState (section : PatchSection) (state : State) (part : PastPart) : Type 0 where
+  pub well : IsWellFormedPatch state.schema.shape section
+  pub moved : IsMovedBy state.schema.shape section state.current.rows state.other.rows
+  pub layout : state.other.layout ≡ patch_layout section
+  pub laid : IsLaidOut state.schema state.other
+  pub keeps : KeepsPatch state.current.rows section part
+
+-- Of these parts one moved the type at the index, or none names it and nothing is kept of it.
+pub data TypeIs (parts : List PatchPart) (type_index : ℕ) (state : State) (part : PastPart) : Type 0 where
+  Unnamed : part ≡ no_part → All (λ named. named.type_index ≡ type_index → ⊥) parts → TypeIs parts type_index state part
+  Named : (place : ℕ) (named : PatchPart) → slice_get parts place ≡ Some named → named.type_index ≡ type_index → MovesState named.section state part → TypeIs parts type_index state part
+
+-- The parts moved the types.
+pub record AreMoved (parts : List PatchPart) (states : List State) (past : List PastPart) : Type 0 where
+  pub long : length past ≡ length states
+  pub types : (type_index : ℕ) (state : State) (part : PastPart) → slice_get states type_index ≡ Some state → slice_get past type_index ≡ Some part → TypeIs parts type_index state part
+
+-- The section of a part can be read as one of its type.
+abbrev pub IsReadableIn : List State → PatchPart → Type 0
+IsReadableIn states part = (state : State) × (slice_get states part.type_index ≡ Some state) × IsReadablePatch state.schema.shape part.section
+
+-- The schemas and the current halves stay.
+pub record StaysCurrent (old new : List State) : Type 0 where
+  pub schemas : map (λ state. state.schema) new ≡ map (λ state. state.schema) old
+  pub halves : current_halves new ≡ current_halves old
+
+-- A part moves the rows of its type to no rows.
+pub record IsStuck (states : List State) (parts : List PatchPart) : Type 0 where
+  pub place : ℕ
+  pub named : PatchPart
+  pub state : State
+  pub part : slice_get parts place ≡ Some named
+  pub type_there : slice_get states named.type_index ≡ Some state
+  pub none : (rows : RowMap) → IsMovedBy state.schema.shape named.section state.current.rows rows → ⊥
+
+-- The parts moved the types into their next halves: the rows that come fit the model and are closed, and what is kept of each type fits them and
+-- gives the rows before.
+pub record MovesParts (schemas : List Schema) (parts : List PatchPart) (before states : List State) (past : List PastPart) : Type 0 where
+  pub moved : AreMoved parts states past
+  pub stays : StaysCurrent before states
+  pub coming : AreComing schemas states past
+  pub closed : IsClosed schemas (table_of (coming_halves states past))
+  pub fits : AllZip FitsPast (table_of (coming_halves states past)) past
+  pub was : table_before (table_of (coming_halves states past)) past ≡ table_of (current_halves before)
+
+-- What a fault of a move tells: want of memory nothing, and a refusal this.
+abbrev pub TellsRefusal : Type 0 → MoveFault → Type 0
+TellsRefusal Fact Refused = Fact
+TellsRefusal Fact Memory = Unit {0}
+
+-- Why the parts are refused: the rows of a type cannot be moved, or the rows that come are not closed.
+pub data RefusesParts (schemas : List Schema) (parts : List PatchPart) (before : List State) : Type 0 where
+  Stuck : IsStuck before parts → RefusesParts schemas parts before
+  Open : (mid : List State) (past : List PastPart) → AreMoved parts mid past → StaysCurrent before mid → (IsClosed schemas (table_of (coming_halves mid past)) → ⊥) → RefusesParts schemas parts before

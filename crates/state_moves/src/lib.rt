@@ -1,0 +1,21 @@
+//! The types of a state over a step: the parts of a delta move them, and the rows that come, those now and those before are looked at by type
+//! and ordinal.
+#![tactic(auto)]
+
+mod before;
+mod closing;
+mod coming;
+mod fault;
+mod moving;
+mod next_state;
+mod now;
+mod past;
+mod turning;
+
+pub use before::Before;
+pub use coming::Coming;
+pub use fault::MoveFault;
+pub use next_state::move_state;
+pub use now::Now;
+pub use past::{PastPart, PastParts, no_past, part_at};
+pub use turning::{flip_all, flip_named};

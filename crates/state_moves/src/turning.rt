@@ -1,0 +1,42 @@
+//! Turning the halves of types: the next ones become the current ones.
+ghost use Rattle.std.specs.Prelude.{◌≡◌, All, map};
+ghost use Rattle.std.specs.List.{AllZip};
+ghost use Rattle.type_state.specs.State.{IsLaidOut};
+ghost use Rattle.type_state.specs.Views.{next_halves};
+ghost use Rattle.state_moves.specs.Halves.{current_halves};
+ghost use Rattle.state_moves.specs.Moving.{IsComingLaid, coming_halves, coming_state};
+
+use crate::past::PastPart;
+use type_state::TypeState;
+
+/// Makes the next half of each type the current one. It takes no memory.
+pub fn flip_all(states: &mut [TypeState])
+    requires { All (λ state. IsLaidOut state.schema state.other) states.old }
+    ensures halves { current_halves states.new ≡ next_halves states.old }
+    ensures schemas { map (λ state. state.schema) states.new ≡ map (λ state. state.schema) states.old }
+{
+    for state in states.iter_mut() {
+        state.flip();
+    }
+}
+
+/// Makes the halves that come in a step the current ones: those of the types that it names. It takes no memory.
+pub fn flip_named(states: &mut [TypeState], past: &[PastPart])
+    requires { AllZip IsComingLaid states.old past.now }
+    ensures halves { current_halves states.new ≡ coming_halves states.old past.now }
+    ensures schemas { map (λ state. state.schema) states.new ≡ map (λ state. state.schema) states.old }
+{
+    for type_index in 0..states.len() {
+        flip_if_named(&mut states[type_index], &past[type_index]);
+    }
+}
+
+// Makes the next half the current one, if the step names the type.
+fn flip_if_named(state: &mut TypeState, part: &PastPart)
+    requires { IsComingLaid state.old part.now }
+    ensures { state.new ≡ coming_state state.old part.now }
+{
+    if part.is_named() {
+        state.flip();
+    }
+}
