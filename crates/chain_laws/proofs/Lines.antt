@@ -11,7 +11,7 @@ use Rattle.schema_model.specs.declared.schema.name.Name.{Name}
 use Rattle.row_model.specs.Table.{Table}
 use Rattle.hol_orders.specs.declared.order.Order.{Order}
 use Rattle.hol_orders.specs.declared.order.Order.TheVariants as order
-use Rattle.hol_answers.specs.declared.refusal.Refusal.{Refusal}
+use Rattle.hol_refusals.specs.declared.refusal.Refusal.{Refusal}
 use Rattle.hol_answers.specs.declared.reply.Reply.{Reply}
 use Rattle.hol_answers.specs.declared.reply.Reply.TheVariants as reply
 use Rattle.hol_orders.specs.Order.{Orders}

@@ -32,8 +32,8 @@ use Rattle.snapshot_blob.specs.Written.{IsWrittenSnapshot}
 use Rattle.delta_blob.specs.Changes.{IsDeltaBetween}
 use Rattle.chain_store.specs.Announced.{Announces, IsAnnounced, IsBadlyAnnounced, IsNoVersion}
 use Rattle.chain_store.specs.Versions.{last_version}
-use Rattle.hol_answers.specs.declared.refusal.Refusal.{Refusal}
-use Rattle.hol_answers.specs.declared.refusal.Refusal.TheVariants as refused
+use Rattle.hol_refusals.specs.declared.refusal.Refusal.{Refusal}
+use Rattle.hol_refusals.specs.declared.refusal.Refusal.TheVariants as refused
 use Rattle.hol_answers.specs.declared.reply.Reply.{Reply}
 use Rattle.hol_answers.specs.declared.reply.Reply.TheVariants as reply
 use Rattle.hollow_machine.specs.CycleOrder.{AreNamed, CycleRefusal, CycleStep, Leaves, Makes, PassesLimit, Publishes, RefusesAfter, Succeeds}

@@ -21,8 +21,8 @@ use Rattle.blob_frame.specs.Header.{HasHeader}
 use Rattle.snapshot_blob.proofs.Whole.{one_snapshot}
 use Rattle.delta_blob.specs.Moved.{EachNamed, IsAt, IsUnnamed, Moved}
 use Rattle.delta_blob.specs.Patch.{TypePatch}
-use Rattle.hol_answers.specs.declared.refusal.Refusal.{Refusal}
-use Rattle.hol_answers.specs.declared.refusal.Refusal.TheVariants.{BadBlob, BadBody, NoBlob, NoState, OtherOrigin, TooLarge}
+use Rattle.hol_refusals.specs.declared.refusal.Refusal.{Refusal}
+use Rattle.hol_refusals.specs.declared.refusal.Refusal.TheVariants.{BadBlob, BadBody, NoBlob, NoState, OtherOrigin, TooLarge}
 use Rattle.hol_answers.specs.declared.reply.Reply.{Reply}
 use Rattle.hol_answers.specs.declared.reply.Reply.TheVariants as reply
 use Rattle.read_engine.specs.Position.{Position, rows_now}

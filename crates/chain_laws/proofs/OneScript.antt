@@ -10,8 +10,8 @@ use Rattle.schema_model.specs.declared.schema.name.Name.{Name}
 use Rattle.hol_orders.specs.declared.kind.Kind.{Kind}
 use Rattle.hol_orders.specs.declared.order.Order.{Order}
 use Rattle.hol_orders.specs.declared.order.Order.TheVariants as order
-use Rattle.hol_answers.specs.declared.refusal.Refusal.{Refusal}
-use Rattle.hol_answers.specs.declared.refusal.Refusal.TheVariants.{NotYet}
+use Rattle.hol_refusals.specs.declared.refusal.Refusal.{Refusal}
+use Rattle.hol_refusals.specs.declared.refusal.Refusal.TheVariants.{NotYet}
 use Rattle.hol_answers.specs.declared.reply.Reply.{Reply}
 use Rattle.hol_orders.specs.Order.{Orders, content_of, kind_of}
 use Rattle.hol_orders.specs.Parts.{cycle_data, pair, triple, whole}

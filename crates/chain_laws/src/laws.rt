@@ -6,7 +6,7 @@ ghost use Rattle.schema_model.specs.declared.schema.name.Name.{Name};
 ghost use Rattle.hol_io.specs.declared.name.BlobName.TheVariants.{Snapshot};
 ghost use Rattle.hol_io.specs.Store.{Store};
 ghost use Rattle.hol_orders.specs.declared.order.Order.TheVariants as order;
-ghost use Rattle.hol_answers.specs.declared.refusal.Refusal.TheVariants.{OtherOrigin};
+ghost use Rattle.hol_refusals.specs.declared.refusal.Refusal.TheVariants.{OtherOrigin};
 ghost use Rattle.hol_answers.specs.declared.reply.Reply.{Reply};
 ghost use Rattle.hol_answers.specs.declared.reply.Reply.TheVariants as reply;
 ghost use Rattle.read_engine.specs.Position.{Index, IsPosition, Position};

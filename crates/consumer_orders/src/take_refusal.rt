@@ -3,7 +3,7 @@ ghost use Rattle.std.specs.Prelude.{◌≡◌};
 ghost use Rattle.consumer_orders.specs.Taken.{refusal_of, refusal_of_blob};
 
 use blob_frame::BlobFault;
-use hol_answers::{Refusal, RowPlace};
+use hol_refusals::{Refusal, RowPlace};
 use hol_io::BlobName;
 use hol_orders::OrderStop;
 use read_engine::TakeFault;

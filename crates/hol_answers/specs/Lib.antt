@@ -1,4 +1,3 @@
 pub mod Marks
 pub mod Plain
-pub mod Refusal
 pub mod Reply

@@ -1,9 +1,9 @@
 //! Laws of the lines of answers.
 ghost use Rattle.std.specs.Prelude.{◌≡◌, ◌≢◌, false};
-ghost use Rattle.hol_answers.specs.declared.refusal.Refusal.{Refusal};
+ghost use Rattle.hol_refusals.specs.declared.refusal.Refusal.{Refusal};
 ghost use Rattle.hol_answers.specs.declared.reply.Reply.{Reply};
 ghost use Rattle.hol_answers.specs.Marks.{IsMarked};
-ghost use Rattle.hol_answers.specs.Refusal.{refusal_line};
+ghost use Rattle.hol_refusals.specs.Refusal.{refusal_line};
 ghost use Rattle.hol_answers.specs.Reply.{is_refusal, line_of};
 
 /// The third byte of a refusal's line tells that it is one.

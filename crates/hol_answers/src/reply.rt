@@ -6,9 +6,8 @@ ghost use Rattle.hol_answers.specs.Reply.{reply_data, head_data, model_data, cyc
 
 use crate::line::{line_text, put_line};
 use crate::plain::PlainValue;
-use crate::refusal::Refusal;
-use crate::refusal_json::refusal_value;
 use blob_frame::Header;
+use hol_refusals::{Refusal, refusal_value};
 use hol_varint::{List, Ordinals};
 use schema_model::{NamePairs, Names, Schemas};
 use serde_json::{Value, json};

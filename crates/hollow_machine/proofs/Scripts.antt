@@ -2,7 +2,7 @@
 use Rattle.std.proofs.Common.{◌≡◌, inl, inr, ℕ, List, [], ◌∷◌, ◌++◌, Bool, true, false, if◌then◌else◌, refl, sym, ap, ◌∙◌, append_assoc, subst}
 use Rattle.hol_orders.specs.declared.order.Order.{Order}
 use Rattle.hol_orders.specs.declared.order.Order.TheVariants.{Model, Cycle}
-use Rattle.hol_answers.specs.declared.refusal.Refusal.{Refusal}
+use Rattle.hol_refusals.specs.declared.refusal.Refusal.{Refusal}
 use Rattle.hol_answers.specs.declared.reply.Reply.TheVariants.{Refused}
 use Rattle.hol_answers.specs.Reply.{is_refusal, line_of}
 use Rattle.hollow_machine.specs.Script.{LineStep, Script}

@@ -7,8 +7,8 @@ use Rattle.blob_frame.specs.declared.header.Header.{Header}
 use Rattle.blob_frame.specs.Header.{StuckInHeader}
 use Rattle.blob_frame.specs.Header.{HasHeader}
 use Rattle.snapshot_blob.specs.Snapshot.{IsRefused}
-use Rattle.hol_answers.specs.declared.refusal.Refusal.{Refusal}
-use Rattle.hol_answers.specs.declared.refusal.Refusal.TheVariants.{NoBlob, BadBlob, BadBody, TooLarge}
+use Rattle.hol_refusals.specs.declared.refusal.Refusal.{Refusal}
+use Rattle.hol_refusals.specs.declared.refusal.Refusal.TheVariants.{NoBlob, BadBlob, BadBody, TooLarge}
 
 -- Why what a name holds, if anything, has no header: the first cause.
 abbrev pub HeadRefusal : BlobName → Option (List ℕ) → Refusal → Type 0

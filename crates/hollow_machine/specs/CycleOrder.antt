@@ -11,8 +11,8 @@ use Rattle.row_model.specs.Table.{Table}
 use Rattle.write_engine.specs.Cycle.{Next}
 use Rattle.write_engine.specs.CycleLimit.{TellsTypes}
 use Rattle.write_engine.specs.Production.{AreChanged}
-use Rattle.hol_answers.specs.declared.refusal.Refusal.{Refusal}
-use Rattle.hol_answers.specs.declared.refusal.Refusal.TheVariants.{NoModel, NoType, BadRecord, TooLarge}
+use Rattle.hol_refusals.specs.declared.refusal.Refusal.{Refusal}
+use Rattle.hol_refusals.specs.declared.refusal.Refusal.TheVariants.{NoModel, NoType, BadRecord, TooLarge}
 use Rattle.hol_answers.specs.declared.reply.Reply.{Reply}
 use Rattle.hol_answers.specs.declared.reply.Reply.TheVariants.{Cycle, Refused}
 use Rattle.hollow_machine.specs.Follow.{MayFollow, MayNotFollow}

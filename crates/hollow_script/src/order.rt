@@ -9,7 +9,8 @@ ghost use Rattle.hollow_script.specs.Kept.{MovesKept};
 
 use crate::keep::Keep;
 use consumer_orders::{at, find, get, has, index, live, load, past, row, step};
-use hol_answers::{Refusal, Reply};
+use hol_answers::Reply;
+use hol_refusals::Refusal;
 use hol_io::BlobStore;
 use hol_orders::{Order, OrderFault, OrderStop, order_of};
 use producer_orders::{cycle, model};

@@ -13,7 +13,8 @@ ghost use Rattle.hollow_script.specs.Scripted.{AllAnswered, AllWritten, AnswersN
 use crate::keep::Keep;
 use crate::order::answer_line;
 use crate::script_stop::ScriptStop;
-use hol_answers::{MAX_LINE_BYTES, Refusal, Reply, put_reply};
+use hol_answers::{Reply, put_reply};
+use hol_refusals::{MAX_LINE_BYTES, Refusal};
 use hol_io::{BlobStore, Lines, Sink, Source, Turn, write_all};
 use std::alloc::Global;
 

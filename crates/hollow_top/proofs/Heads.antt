@@ -11,8 +11,8 @@ use Rattle.blob_frame.specs.declared.header.Header.{Header}
 use Rattle.blob_cursor.specs.Opened.{TellsHeader}
 use Rattle.blob_cursor.specs.Scene.{Place, IsFree}
 use Rattle.blob_cursor.specs.Starting.{Starts}
-use Rattle.hol_answers.specs.declared.refusal.Refusal.{Refusal}
-use Rattle.hol_answers.specs.declared.refusal.Refusal.TheVariants.{NoBlob, BadBlob, TooLarge}
+use Rattle.hol_refusals.specs.declared.refusal.Refusal.{Refusal}
+use Rattle.hol_refusals.specs.declared.refusal.Refusal.TheVariants.{NoBlob, BadBlob, TooLarge}
 use Rattle.hollow_machine.specs.Blobs.{HeadRefusal}
 use Rattle.hollow_top.specs.Head.{refusal_of}
 

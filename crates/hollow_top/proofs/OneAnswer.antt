@@ -24,15 +24,15 @@ use Rattle.snapshot_blob.specs.Snapshot.{SnapshotIs, IsAccepted}
 use Rattle.json_rows.specs.StoredRow.{IsRowData}
 use Rattle.hol_answers.specs.declared.reply.Reply.{Reply}
 use Rattle.hol_answers.specs.declared.reply.Reply.TheVariants.{Head, Refused}
-use Rattle.hol_answers.specs.declared.refusal.Refusal.{Refusal}
-use Rattle.hol_answers.specs.declared.refusal.Refusal.TheVariants.{NoBlob, BadBlob, TooLarge, NotYet, BadBody}
+use Rattle.hol_refusals.specs.declared.refusal.Refusal.{Refusal}
+use Rattle.hol_refusals.specs.declared.refusal.Refusal.TheVariants.{NoBlob, BadBlob, TooLarge, NotYet, BadBody}
 use Rattle.hollow_machine.specs.Blobs.{HasBadBody, HeadRefusal, SnapshotRefusal}
 use Rattle.hollow_machine.specs.State.{Machine}
 use Rattle.hollow_top.specs.declared.words.Command.{Command}
 use Rattle.hollow_top.specs.declared.words.Command.TheVariants as command
 use Rattle.hollow_top.specs.Command.{IsLineOf, Writes}
 use Rattle.hollow_top.specs.Head.{HeadIs}
-use Rattle.hol_answers.specs.Refusal.{refusal_line}
+use Rattle.hol_refusals.specs.Refusal.{refusal_line}
 use Rattle.hol_answers.specs.Reply.{is_refusal, line_of}
 use Rattle.json_rows.specs.RowLine.{row_data}
 use Rattle.hollow_top.specs.RowLines.{Listed, IsRowLine, AreLinesOf, rows_in_order}

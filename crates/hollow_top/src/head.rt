@@ -6,7 +6,8 @@ ghost use Rattle.hollow_top.specs.Stopping.{StopsBefore};
 use crate::stop::Stop;
 use blob_cursor::opened;
 use blob_frame::BlobFault;
-use hol_answers::{Refusal, Reply};
+use hol_answers::Reply;
+use hol_refusals::Refusal;
 use hol_io::{BlobName, BlobStore};
 use std::alloc::Global;
 

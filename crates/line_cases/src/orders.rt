@@ -1,5 +1,6 @@
 //! Orders that are read, and lines of answers.
-use hol_answers::{Refusal, Reply, put_line, put_reply, refusal_value, reply_line};
+use hol_answers::{Reply, put_line, put_reply, reply_line};
+use hol_refusals::{Refusal, refusal_value};
 use hol_orders::{Kind, Order, OrderFault, order_of};
 use schema_model::Names;
 use serde_json::Value;

@@ -1,5 +1,6 @@
 //! The lines of refusals.
-use hol_answers::{Refusal, Reply, RowPlace, reply_line};
+use hol_answers::{Reply, reply_line};
+use hol_refusals::{Refusal, RowPlace};
 use hol_io::BlobName;
 use schema_model::{Limit, Name, Reason};
 use std::alloc::{AllocError, Global};

@@ -12,8 +12,8 @@ use Rattle.write_engine.specs.CycleLimit.{TellsTypes}
 use Rattle.write_engine.specs.Production.{Production, advanced_to, without_rows}
 use Rattle.write_engine.specs.declared.producer.Closed.{Closed}
 use Rattle.read_engine.specs.Position.{Position}
-use Rattle.hol_answers.specs.declared.refusal.Refusal.{Refusal}
-use Rattle.hol_answers.specs.declared.refusal.Refusal.TheVariants as refusal
+use Rattle.hol_refusals.specs.declared.refusal.Refusal.{Refusal}
+use Rattle.hol_refusals.specs.declared.refusal.Refusal.TheVariants as refusal
 use Rattle.hol_answers.specs.declared.reply.Reply.{Reply}
 use Rattle.hol_answers.specs.declared.reply.Reply.TheVariants as reply
 use Rattle.hollow_machine.specs.CycleOrder.{AreNamed, CycleRefusal, CycleStep, Makes, Publishes, RefusesAfter}

@@ -1,5 +1,5 @@
 //! Why a cycle ends before its state is published.
-use hol_answers::Refusal;
+use hol_refusals::Refusal;
 use hol_io::PutFault;
 use hol_orders::OrderStop;
 use schema_model::Limit;

@@ -14,7 +14,7 @@ use crate::cycle_end::CycleEnd;
 use crate::record_fault::RecordFault;
 use crate::records::add_records;
 use crate::types::unknown_type;
-use hol_answers::Refusal;
+use hol_refusals::Refusal;
 use hol_orders::OrderStop;
 use hol_varint::{Duplicate, Ordinals};
 use schema_model::{Limit, Model, Names, Reason};

@@ -1,5 +1,5 @@
 use Rattle.std.proofs.Common.{rules}
-use Rattle.hol_answers.specs.declared.refusal.Refusal.TheVariants.{BadOrder}
+use Rattle.hol_refusals.specs.declared.refusal.Refusal.TheVariants.{BadOrder}
 use Rattle.hol_answers.specs.declared.reply.Reply.TheVariants.{Refused}
 use Rattle.hollow_machine.specs.Script.{ShortStep}
 use Rattle.hollow_script.proofs.Ordering.{no_order_steps, order_moves, stays}

@@ -11,9 +11,9 @@ use Rattle.schema_model.specs.declared.reason.Reason.{Reason}
 use Rattle.schema_model.specs.Limit.{name_of_limit, number_of_limit}
 use Rattle.schema_model.specs.Reason.{number_of_reason}
 use Rattle.schema_model.specs.Rule.{name_of_rule}
-use Rattle.hol_answers.specs.declared.refusal.Refusal.{Refusal}
-use Rattle.hol_answers.specs.declared.refusal.Refusal.TheVariants.{BadOrder, LineTooLong, BadModel, NoModel, ModelFixed, BadRecord, BadVersion, TagUsed, NoBlob, BadBlob, OtherOrigin, NoState, NoType, NoRow, BadPath, NoMatch, Ambiguous, Mismatch, TooLarge, DuplicateRow, OtherModel, NotLast, NoIndex, WrongKind, BadKey, NotYet, BadBody}
-use Rattle.hol_answers.specs.declared.refusal.RowPlace.{RowPlace}
+use Rattle.hol_refusals.specs.declared.refusal.Refusal.{Refusal}
+use Rattle.hol_refusals.specs.declared.refusal.Refusal.TheVariants.{BadOrder, LineTooLong, BadModel, NoModel, ModelFixed, BadRecord, BadVersion, TagUsed, NoBlob, BadBlob, OtherOrigin, NoState, NoType, NoRow, BadPath, NoMatch, Ambiguous, Mismatch, TooLarge, DuplicateRow, OtherModel, NotLast, NoIndex, WrongKind, BadKey, NotYet, BadBody}
+use Rattle.hol_refusals.specs.declared.refusal.RowPlace.{RowPlace}
 use Rattle.hol_orders.specs.Parts.{whole}
 
 -- a refusal without members: its number and its name

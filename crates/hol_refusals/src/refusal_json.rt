@@ -1,7 +1,7 @@
 //! The JSON object that each refusal prints as.
 ghost use Rattle.std.specs.Prelude.{◌≡◌, IfOk};
 ghost use Rattle.serde_json.specs.View.{view};
-ghost use Rattle.hol_answers.specs.Refusal.{refusal_data, plain_data, type_data, blob_data, line_too_long_data, bad_model_data, bad_record_data, bad_version_data, tag_used_data, bad_item_data, bad_row_data, other_origin_data, no_row_data, bad_path_data, ambiguous_data, text_or_null, mismatch_data, too_large_data, duplicate_row_data, other_model_data, not_last_data};
+ghost use Rattle.hol_refusals.specs.Refusal.{refusal_data, plain_data, type_data, blob_data, line_too_long_data, bad_model_data, bad_record_data, bad_version_data, tag_used_data, bad_item_data, bad_row_data, other_origin_data, no_row_data, bad_path_data, ambiguous_data, text_or_null, mismatch_data, too_large_data, duplicate_row_data, other_model_data, not_last_data};
 
 use crate::refusal::{MAX_LINE_BYTES, Refusal, RowPlace};
 use hol_io::{BlobName, name_text};

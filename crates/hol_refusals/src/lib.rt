@@ -1,0 +1,8 @@
+//! Refusals of commands and orders, and the JSON object of each.
+#![tactic(auto)]
+
+mod refusal;
+mod refusal_json;
+
+pub use refusal::{MAX_LINE_BYTES, Refusal, RowPlace};
+pub use refusal_json::refusal_value;
