@@ -10,7 +10,7 @@ use Rattle.read_engine.proofs.Taken.{all_ready, on_err, refused_exit}
 use Rattle.read_engine.proofs.step.take_parts.Goals as goal
 
 pub returns-in_err-past-clause-refused : goal.returns-in_err-past-clause-refused
-returns-in_err-past-clause-refused g c = refused_exit (RefusesParts c.args.model.now c.args.parts.now c.args.states.now) c.from_residual-in_err-past.result c.in_err-past.field-0.0 c.from_residual-in_err-past.ensures.1 c.in_err-past.ensures.refused
+returns-in_err-past-clause-refused g c = refused_exit (RefusesParts c.args.model.now c.args.parts.now c.args.states.now) c.from_residual.result c.in_err-past.field-0.0 c.from_residual.ensures.1 c.in_err-past.ensures.refused
 
 pub reserve_all-requires-clause-coming : goal.reserve_all-requires-clause-coming
 reserve_all-requires-clause-coming g c = (subst (MovesParts c.args.model.now c.args.parts.now c.args.states.now c.move_state.new.states) (sym c.as_slice-kept.ensures) c.in_ok-past.ensures.moves).coming
