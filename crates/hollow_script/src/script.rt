@@ -14,8 +14,8 @@ use crate::keep::Keep;
 use crate::order::answer_line;
 use crate::script_stop::ScriptStop;
 use hol_answers::{Reply, put_reply};
-use hol_refusals::{MAX_LINE_BYTES, Refusal};
 use hol_io::{BlobStore, Lines, Sink, Source, Turn, write_all};
+use hol_refusals::{MAX_LINE_BYTES, Refusal};
 use std::alloc::Global;
 
 /// How many bytes an input has at most.

@@ -7,8 +7,8 @@ use crate::stop::Stop;
 use blob_cursor::opened;
 use blob_frame::BlobFault;
 use hol_answers::Reply;
-use hol_refusals::Refusal;
 use hol_io::{BlobName, BlobStore};
+use hol_refusals::Refusal;
 use std::alloc::Global;
 
 /// The header of a blob of the store, or the refusal of it: `NoBlob` where the store has no such

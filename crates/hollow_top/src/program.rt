@@ -21,8 +21,8 @@ use crate::stop::Stop;
 use crate::words::{Command, command_of};
 use chain_laws::laws::true_script;
 use hol_answers::Reply;
-use hol_refusals::Refusal;
 use hol_io::{BlobStore, Sink, Source};
+use hol_refusals::Refusal;
 use hollow_script::{Keep, ScriptStop, run_script};
 use std::alloc::Global;
 

@@ -1,7 +1,7 @@
 //! Orders that are read, and lines of answers.
 use hol_answers::{Reply, put_line, put_reply, reply_line};
-use hol_refusals::{Refusal, refusal_value};
 use hol_orders::{Kind, Order, OrderFault, order_of};
+use hol_refusals::{Refusal, refusal_value};
 use schema_model::Names;
 use serde_json::Value;
 use std::alloc::{AllocError, Global};

@@ -1,7 +1,7 @@
 //! The lines of refusals.
 use hol_answers::{Reply, reply_line};
-use hol_refusals::{Refusal, RowPlace};
 use hol_io::BlobName;
+use hol_refusals::{Refusal, RowPlace};
 use schema_model::{Limit, Name, Reason};
 use std::alloc::{AllocError, Global};
 

@@ -8,8 +8,8 @@ ghost use Rattle.hollow_machine.specs.Kept.{IsResting, machine_of};
 ghost use Rattle.hollow_machine.specs.ModelOrder.{BreaksRule, IsNamed, ModelStep};
 
 use hol_answers::Reply;
-use hol_refusals::Refusal;
 use hol_orders::OrderStop;
+use hol_refusals::Refusal;
 use json_values::{JsonFault, schemas_from};
 use schema_model::{ModelFault, Name, Rule, model_of};
 use serde_json::Value;
