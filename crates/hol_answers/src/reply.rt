@@ -7,7 +7,8 @@ ghost use Rattle.hol_answers.specs.Reply.{reply_data, head_data, model_data, cyc
 use crate::line::{line_text, put_line};
 use crate::plain::PlainValue;
 use blob_frame::Header;
-use hol_refusals::{Refusal, refusal_value};
+use hol_refusals::Content::{Integer, Json, Number, Text};
+use hol_refusals::{Content, Refusal, object_of, refusal_value};
 use hol_varint::{List, Ordinals};
 use schema_model::{NamePairs, Names, Schemas};
 use serde_json::{Value, json};
@@ -120,20 +121,22 @@ fn head_value(alloc: Global, header: &Header) -> Result<Value, AllocError>
 {
     let schemas = names_value(alloc, &header.schemas)?;
     let tags = tags_value(alloc, &header.tags)?;
-    json!(in alloc; {
-        "destination": (header.destination),
-        "format": 1030u64,
-        "ok": "head",
-        "origin": (header.origin),
-        "schemas": schemas,
-        "tags": tags
-    })
+    let members = vec![in alloc;
+        ("destination", Integer(header.destination)),
+        ("format", Number(1030)),
+        ("ok", Text("head")),
+        ("origin", Integer(header.origin)),
+        ("schemas", Json(schemas)),
+        ("tags", Json(tags)),
+    ]?;
+    object_of(alloc, members)
 }
 
 fn model_value(alloc: Global, types: u32) -> Result<Value, AllocError>
     ensures { IfOk result (λ value. view value ≡ model_data types) }
 {
-    json!(in alloc; {"ok": "model", "types": types})
+    let members = vec![in alloc; ("ok", Text("model")), ("types", Number(u64::from(types)))]?;
+    object_of(alloc, members)
 }
 
 fn cycle_value(
@@ -145,25 +148,28 @@ fn cycle_value(
     ensures { IfOk result (λ value. view value ≡ cycle_data changed.now published version) }
 {
     let changed = texts_value(alloc, changed)?;
-    json!(in alloc; {
-        "changed": changed,
-        "ok": "cycle",
-        "published": published,
-        "version": version
-    })
+    let members = vec![in alloc;
+        ("changed", Json(changed)),
+        ("ok", Text("cycle")),
+        ("published", Json(Value::Bool(published))),
+        ("version", Number(version)),
+    ]?;
+    object_of(alloc, members)
 }
 
 // A consumer that is now at this tag.
 fn tag_value(alloc: Global, word: &str, tag: i64) -> Result<Value, AllocError>
     ensures { IfOk result (λ value. view value ≡ tag_data word.now tag) }
 {
-    json!(in alloc; {"ok": word, "tag": tag})
+    let members = vec![in alloc; ("ok", Text(word)), ("tag", Integer(tag))]?;
+    object_of(alloc, members)
 }
 
 fn index_value(alloc: Global, keys: u64) -> Result<Value, AllocError>
     ensures { IfOk result (λ value. view value ≡ index_data keys) }
 {
-    json!(in alloc; {"keys": keys, "ok": "index"})
+    let members = vec![in alloc; ("keys", Number(keys)), ("ok", Text("index"))]?;
+    object_of(alloc, members)
 }
 
 #[tactic(auto, using(crate::proofs::Floats::plain_found))]
@@ -171,23 +177,29 @@ fn get_value(alloc: Global, ordinal: u32, row: PlainValue) -> Result<Value, Allo
     ensures value { IfOk result (λ value. view value ≡ get_data ordinal row) }
     ensures plain { IfOk result IsPlain }
 {
-    let row = row.into_value();
-    json!(in alloc; {"ok": "get", "ordinal": ordinal, "row": row})
+    let members = vec![in alloc;
+        ("ok", Text("get")),
+        ("ordinal", Number(u64::from(ordinal))),
+        ("row", Json(row.into_value())),
+    ]?;
+    object_of(alloc, members)
 }
 
 fn has_value(alloc: Global, there: bool) -> Result<Value, AllocError>
     ensures { IfOk result (λ value. view value ≡ has_data there) }
 {
-    json!(in alloc; {"has": there, "ok": "has"})
+    let members = vec![in alloc; ("has", Json(Value::Bool(there))), ("ok", Text("has"))]?;
+    object_of(alloc, members)
 }
 
 fn at_value(alloc: Global, value: Option<u32>) -> Result<Value, AllocError>
     ensures { IfOk result (λ json. view json ≡ at_data value) }
 {
-    match value {
-        Some(ordinal) => json!(in alloc; {"ok": "at", "value": ordinal}),
-        None => json!(in alloc; {"ok": "at", "value": null}),
-    }
+    let members = vec![in alloc;
+        ("ok", Text("at")),
+        ("value", Content::number_or_null(value)),
+    ]?;
+    object_of(alloc, members)
 }
 
 // Ordinals of a type, in their order.
@@ -198,8 +210,11 @@ fn ordinals_value(alloc: Global, word: &str, ordinals: &Ordinals) -> Result<Valu
     for ordinal in ordinals.as_slice() {
         numbers.push(Value::from(*ordinal))?;
     }
-    let numbers = Value::Array(numbers);
-    json!(in alloc; {"ok": word, "ordinals": numbers})
+    let members = vec![in alloc;
+        ("ok", Text(word)),
+        ("ordinals", Json(Value::Array(numbers))),
+    ]?;
+    object_of(alloc, members)
 }
 
 #[tactic(auto, using(crate::proofs::Floats::plain_row))]
@@ -207,8 +222,8 @@ fn row_value(alloc: Global, row: PlainValue) -> Result<Value, AllocError>
     ensures value { IfOk result (λ value. view value ≡ row_data row) }
     ensures plain { IfOk result IsPlain }
 {
-    let row = row.into_value();
-    json!(in alloc; {"ok": "row", "row": row})
+    let members = vec![in alloc; ("ok", Text("row")), ("row", Json(row.into_value()))]?;
+    object_of(alloc, members)
 }
 
 fn past_value(alloc: Global, rows: PastRows) -> Result<Value, AllocError>
@@ -219,8 +234,8 @@ fn past_value(alloc: Global, rows: PastRows) -> Result<Value, AllocError>
     for (ordinal, row) in rows.into_vec() {
         entries.push(past_entry(alloc, ordinal, row)?)?;
     }
-    let entries = Value::Array(entries);
-    json!(in alloc; {"ok": "past", "rows": entries})
+    let members = vec![in alloc; ("ok", Text("past")), ("rows", Json(Value::Array(entries)))]?;
+    object_of(alloc, members)
 }
 
 // A row that left: its ordinal and its record.

@@ -1,6 +1,6 @@
 -- The refusals: each as a JSON object, its members in byte order of their names, and its line.
 use Rattle.std.specs.Prelude.{ℕ, ◌^◌, ℤ, List, [], ◌∷◌, ◌++◌, codes, Option, Some, None}
-use Rattle.serde_json.specs.Data.{Data, null, number, string, object, no_members, member}
+use Rattle.serde_json.specs.Data.{Data, number, string, object, no_members, member}
 use Rattle.serde_json.specs.Find.{of_integer}
 use Rattle.serde_json.specs.Written.{compact_text}
 use Rattle.hol_io.specs.declared.name.BlobName.{BlobName}
@@ -15,6 +15,7 @@ use Rattle.hol_refusals.specs.declared.refusal.Refusal.{Refusal}
 use Rattle.hol_refusals.specs.declared.refusal.Refusal.TheVariants.{BadOrder, LineTooLong, BadModel, NoModel, ModelFixed, BadRecord, BadVersion, TagUsed, NoBlob, BadBlob, OtherOrigin, NoState, NoType, NoRow, BadPath, NoMatch, Ambiguous, Mismatch, TooLarge, DuplicateRow, OtherModel, NotLast, NoIndex, WrongKind, BadKey, NotYet, BadBody}
 use Rattle.hol_refusals.specs.declared.refusal.RowPlace.{RowPlace}
 use Rattle.hol_orders.specs.Parts.{whole}
+use Rattle.hol_refusals.specs.Member.{number_or_null, text_or_null}
 
 -- a refusal without members: its number and its name
 abbrev pub plain_data : ℕ → List ℕ → Data
@@ -125,16 +126,6 @@ ambiguous_data first second = object
     (member (codes "first") (whole first)
     (member (codes "name") (string (codes "Ambiguous"))
     (member (codes "second") (whole second) no_members))))
-
--- a text, or null where there is none
-abbrev pub text_or_null : Option (List ℕ) → Data
-text_or_null None = null
-text_or_null (Some text) = string text
-
--- a number, or null where there is none
-abbrev pub number_or_null : Option ℕ → Data
-number_or_null None = null
-number_or_null (Some n) = whole n
 
 -- a state that differs from the snapshot
 abbrev pub mismatch_data : ℕ → Option (List ℕ) → Option ℕ → Data

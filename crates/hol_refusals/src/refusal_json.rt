@@ -1,12 +1,14 @@
 //! The JSON object that each refusal prints as.
 ghost use Rattle.std.specs.Prelude.{◌≡◌, IfOk};
 ghost use Rattle.serde_json.specs.View.{view};
-ghost use Rattle.hol_refusals.specs.Refusal.{refusal_data, plain_data, type_data, blob_data, line_too_long_data, bad_model_data, bad_record_data, bad_version_data, tag_used_data, bad_item_data, bad_row_data, other_origin_data, no_row_data, bad_path_data, ambiguous_data, text_or_null, mismatch_data, too_large_data, duplicate_row_data, other_model_data, not_last_data};
+ghost use Rattle.hol_refusals.specs.Refusal.{refusal_data, plain_data, type_data, blob_data, line_too_long_data, bad_model_data, bad_record_data, bad_version_data, tag_used_data, bad_item_data, bad_row_data, other_origin_data, no_row_data, bad_path_data, ambiguous_data, mismatch_data, too_large_data, duplicate_row_data, other_model_data, not_last_data};
 
+use crate::member::Content::{Blob, Integer, Number, Text};
+use crate::member::{Content, object_of};
 use crate::refusal::{MAX_LINE_BYTES, Refusal, RowPlace};
-use hol_io::{BlobName, name_text};
+use hol_io::BlobName;
 use schema_model::{Limit, Name, Reason, Rule};
-use serde_json::{Value, json};
+use serde_json::Value;
 use std::alloc::{AllocError, Global};
 
 /// The JSON object of a refusal: its number as `error`, its `name`, and its members, in byte order of their names.
@@ -75,107 +77,148 @@ pub fn refusal_value(alloc: Global, refusal: &Refusal) -> Result<Value, AllocErr
 fn plain_value(alloc: Global, error: u64, name: &str) -> Result<Value, AllocError>
     ensures { IfOk result (λ value. view value ≡ plain_data error name.now) }
 {
-    json!(in alloc; {"error": error, "name": name})
+    let members = vec![in alloc; ("error", Number(error)), ("name", Text(name))]?;
+    object_of(alloc, members)
 }
 
 // A refusal that names a type.
-fn type_value(alloc: Global, error: u64, name: &str, type_name: &Name) -> Result<Value, AllocError>
+fn type_value<'a>(
+    alloc: Global,
+    error: u64,
+    name: &'a str,
+    type_name: &'a Name,
+) -> Result<Value, AllocError>
     ensures { IfOk result (λ value. view value ≡ type_data error name.now type_name.now) }
 {
-    json!(in alloc; {"error": error, "name": name, "type": (type_name.text())})
+    let members = vec![in alloc;
+        ("error", Number(error)),
+        ("name", Text(name)),
+        ("type", Text(type_name.text())),
+    ]?;
+    object_of(alloc, members)
 }
 
 // A refusal that names a blob.
-fn blob_value(alloc: Global, error: u64, name: &str, blob: &BlobName) -> Result<Value, AllocError>
+fn blob_value<'a>(
+    alloc: Global,
+    error: u64,
+    name: &'a str,
+    blob: &'a BlobName,
+) -> Result<Value, AllocError>
     ensures { IfOk result (λ value. view value ≡ blob_data error name.now blob.now) }
 {
-    let text = name_text(alloc, blob)?;
-    json!(in alloc; {"blob": (&text), "error": error, "name": name})
+    let members = vec![in alloc;
+        ("blob", Blob(blob)),
+        ("error", Number(error)),
+        ("name", Text(name)),
+    ]?;
+    object_of(alloc, members)
 }
 
 fn line_too_long_value(alloc: Global) -> Result<Value, AllocError>
     ensures { IfOk result (λ value. view value ≡ line_too_long_data) }
 {
-    json!(in alloc; {"error": 11u64, "limit": MAX_LINE_BYTES, "name": "LineTooLong"})
+    let members = vec![in alloc;
+        ("error", Number(11)),
+        ("limit", Number(MAX_LINE_BYTES)),
+        ("name", Text("LineTooLong")),
+    ]?;
+    object_of(alloc, members)
 }
 
-fn bad_model_value(alloc: Global, rule: &Rule, type_name: &Name) -> Result<Value, AllocError>
+fn bad_model_value<'a>(
+    alloc: Global,
+    rule: &'a Rule,
+    type_name: &'a Name,
+) -> Result<Value, AllocError>
     ensures { IfOk result (λ value. view value ≡ bad_model_data rule.now type_name.now) }
 {
-    json!(in alloc; {
-        "error": 12u64,
-        "name": "BadModel",
-        "rule": (rule.name()),
-        "type": (type_name.text())
-    })
+    let members = vec![in alloc;
+        ("error", Number(12)),
+        ("name", Text("BadModel")),
+        ("rule", Text(rule.name())),
+        ("type", Text(type_name.text())),
+    ]?;
+    object_of(alloc, members)
 }
 
-fn bad_record_value(
+fn bad_record_value<'a>(
     alloc: Global,
-    type_name: &Name,
+    type_name: &'a Name,
     index: u64,
-    reason: &Reason,
+    reason: &'a Reason,
 ) -> Result<Value, AllocError>
     ensures { IfOk result (λ value. view value ≡ bad_record_data type_name.now index reason.now) }
 {
-    json!(in alloc; {
-        "error": 15u64,
-        "index": index,
-        "name": "BadRecord",
-        "reason": (reason.number()),
-        "type": (type_name.text())
-    })
+    let members = vec![in alloc;
+        ("error", Number(15)),
+        ("index", Number(index)),
+        ("name", Text("BadRecord")),
+        ("reason", Number(u64::from(reason.number()))),
+        ("type", Text(type_name.text())),
+    ]?;
+    object_of(alloc, members)
 }
 
 fn bad_version_value(alloc: Global, last: u64) -> Result<Value, AllocError>
     ensures { IfOk result (λ value. view value ≡ bad_version_data last) }
 {
-    json!(in alloc; {"error": 16u64, "last": last, "name": "BadVersion"})
+    let members = vec![in alloc;
+        ("error", Number(16)),
+        ("last", Number(last)),
+        ("name", Text("BadVersion")),
+    ]?;
+    object_of(alloc, members)
 }
 
 fn tag_used_value(alloc: Global, tag: i64) -> Result<Value, AllocError>
     ensures { IfOk result (λ value. view value ≡ tag_used_data tag) }
 {
-    json!(in alloc; {"error": 17u64, "name": "TagUsed", "tag": tag})
+    let members = vec![in alloc;
+        ("error", Number(17)),
+        ("name", Text("TagUsed")),
+        ("tag", Integer(tag)),
+    ]?;
+    object_of(alloc, members)
 }
 
-fn bad_item_value(
+fn bad_item_value<'a>(
     alloc: Global,
-    blob: &BlobName,
+    blob: &'a BlobName,
     at: u64,
-    reason: &Reason,
+    reason: &'a Reason,
 ) -> Result<Value, AllocError>
     ensures { IfOk result (λ value. view value ≡ bad_item_data blob.now at reason.now) }
 {
-    let text = name_text(alloc, blob)?;
-    json!(in alloc; {
-        "at": at,
-        "blob": (&text),
-        "error": 19u64,
-        "name": "BadBlob",
-        "reason": (reason.number())
-    })
+    let members = vec![in alloc;
+        ("at", Number(at)),
+        ("blob", Blob(blob)),
+        ("error", Number(19)),
+        ("name", Text("BadBlob")),
+        ("reason", Number(u64::from(reason.number()))),
+    ]?;
+    object_of(alloc, members)
 }
 
-fn bad_row_value(
+fn bad_row_value<'a>(
     alloc: Global,
-    blob: &BlobName,
+    blob: &'a BlobName,
     at: u64,
-    reason: &Reason,
-    row: &RowPlace,
+    reason: &'a Reason,
+    row: &'a RowPlace,
 ) -> Result<Value, AllocError>
     ensures { IfOk result (λ value. view value ≡ bad_row_data blob.now at reason.now row.now) }
 {
-    let text = name_text(alloc, blob)?;
-    json!(in alloc; {
-        "at": at,
-        "blob": (&text),
-        "error": 19u64,
-        "name": "BadBlob",
-        "ordinal": (row.ordinal),
-        "reason": (reason.number()),
-        "type": (row.type_name.text())
-    })
+    let members = vec![in alloc;
+        ("at", Number(at)),
+        ("blob", Blob(blob)),
+        ("error", Number(19)),
+        ("name", Text("BadBlob")),
+        ("ordinal", Number(row.ordinal)),
+        ("reason", Number(u64::from(reason.number()))),
+        ("type", Text(row.type_name.text())),
+    ]?;
+    object_of(alloc, members)
 }
 
 fn other_origin_value(
@@ -186,37 +229,49 @@ fn other_origin_value(
 ) -> Result<Value, AllocError>
     ensures { IfOk result (λ value. view value ≡ other_origin_data blob.now found current) }
 {
-    let text = name_text(alloc, blob)?;
-    json!(in alloc; {
-        "blob": (&text),
-        "current": current,
-        "error": 20u64,
-        "found": found,
-        "name": "OtherOrigin"
-    })
+    let members = vec![in alloc;
+        ("blob", Blob(blob)),
+        ("current", Integer(current)),
+        ("error", Number(20)),
+        ("found", Integer(found)),
+        ("name", Text("OtherOrigin")),
+    ]?;
+    object_of(alloc, members)
 }
 
 fn no_row_value(alloc: Global, row: &RowPlace) -> Result<Value, AllocError>
     ensures { IfOk result (λ value. view value ≡ no_row_data row.now) }
 {
-    json!(in alloc; {
-        "error": 23u64,
-        "name": "NoRow",
-        "ordinal": (row.ordinal),
-        "type": (row.type_name.text())
-    })
+    let members = vec![in alloc;
+        ("error", Number(23)),
+        ("name", Text("NoRow")),
+        ("ordinal", Number(row.ordinal)),
+        ("type", Text(row.type_name.text())),
+    ]?;
+    object_of(alloc, members)
 }
 
 fn bad_path_value(alloc: Global, path: &Name) -> Result<Value, AllocError>
     ensures { IfOk result (λ value. view value ≡ bad_path_data path.now) }
 {
-    json!(in alloc; {"error": 24u64, "name": "BadPath", "path": (path.text())})
+    let members = vec![in alloc;
+        ("error", Number(24)),
+        ("name", Text("BadPath")),
+        ("path", Text(path.text())),
+    ]?;
+    object_of(alloc, members)
 }
 
 fn ambiguous_value(alloc: Global, first: u32, second: u32) -> Result<Value, AllocError>
     ensures { IfOk result (λ value. view value ≡ ambiguous_data first second) }
 {
-    json!(in alloc; {"error": 26u64, "first": first, "name": "Ambiguous", "second": second})
+    let members = vec![in alloc;
+        ("error", Number(26)),
+        ("first", Number(u64::from(first))),
+        ("name", Text("Ambiguous")),
+        ("second", Number(u64::from(second))),
+    ]?;
+    object_of(alloc, members)
 }
 
 fn mismatch_value(
@@ -227,35 +282,26 @@ fn mismatch_value(
 ) -> Result<Value, AllocError>
     ensures { IfOk result (λ value. view value ≡ mismatch_data version type_name.now ordinal) }
 {
-    let type_name = text_or_null(alloc, type_name)?;
-    json!(in alloc; {
-        "error": 27u64,
-        "name": "Mismatch",
-        "ordinal": ordinal,
-        "type": type_name,
-        "version": version
-    })
-}
-
-// A name as a text, or null where there is none.
-fn text_or_null(alloc: Global, name: &Option<Name>) -> Result<Value, AllocError>
-    ensures { IfOk result (λ value. view value ≡ text_or_null name.now) }
-{
-    match name {
-        None => Ok(Value::Null),
-        Some(name) => Value::try_from_str(alloc, name.text()),
-    }
+    let members = vec![in alloc;
+        ("error", Number(27)),
+        ("name", Text("Mismatch")),
+        ("ordinal", Content::number_or_null(ordinal)),
+        ("type", Content::text_or_null(type_name)),
+        ("version", Number(version)),
+    ]?;
+    object_of(alloc, members)
 }
 
 fn too_large_value(alloc: Global, limit: &Limit) -> Result<Value, AllocError>
     ensures { IfOk result (λ value. view value ≡ too_large_data limit.now) }
 {
-    json!(in alloc; {
-        "error": 28u64,
-        "limit": (limit.number()),
-        "name": "TooLarge",
-        "what": (limit.what())
-    })
+    let members = vec![in alloc;
+        ("error", Number(28)),
+        ("limit", Number(limit.number())),
+        ("name", Text("TooLarge")),
+        ("what", Text(limit.what())),
+    ]?;
+    object_of(alloc, members)
 }
 
 fn duplicate_row_value(
@@ -266,29 +312,39 @@ fn duplicate_row_value(
 ) -> Result<Value, AllocError>
     ensures { IfOk result (λ value. view value ≡ duplicate_row_data type_name.now first second) }
 {
-    json!(in alloc; {
-        "error": 29u64,
-        "first": first,
-        "name": "DuplicateRow",
-        "second": second,
-        "type": (type_name.text())
-    })
+    let members = vec![in alloc;
+        ("error", Number(29)),
+        ("first", Number(u64::from(first))),
+        ("name", Text("DuplicateRow")),
+        ("second", Number(u64::from(second))),
+        ("type", Text(type_name.text())),
+    ]?;
+    object_of(alloc, members)
 }
 
-fn other_model_value(alloc: Global, blob: &BlobName, type_name: &Name) -> Result<Value, AllocError>
+fn other_model_value<'a>(
+    alloc: Global,
+    blob: &'a BlobName,
+    type_name: &'a Name,
+) -> Result<Value, AllocError>
     ensures { IfOk result (λ value. view value ≡ other_model_data blob.now type_name.now) }
 {
-    let text = name_text(alloc, blob)?;
-    json!(in alloc; {
-        "blob": (&text),
-        "error": 30u64,
-        "name": "OtherModel",
-        "type": (type_name.text())
-    })
+    let members = vec![in alloc;
+        ("blob", Blob(blob)),
+        ("error", Number(30)),
+        ("name", Text("OtherModel")),
+        ("type", Text(type_name.text())),
+    ]?;
+    object_of(alloc, members)
 }
 
 fn not_last_value(alloc: Global, announced: u64) -> Result<Value, AllocError>
     ensures { IfOk result (λ value. view value ≡ not_last_data announced) }
 {
-    json!(in alloc; {"announced": announced, "error": 31u64, "name": "NotLast"})
+    let members = vec![in alloc;
+        ("announced", Number(announced)),
+        ("error", Number(31)),
+        ("name", Text("NotLast")),
+    ]?;
+    object_of(alloc, members)
 }
