@@ -1,6 +1,6 @@
 -- The answers of one line: each as a JSON object, its members in byte order of their names, and its line.
 use Rattle.std.specs.Prelude.{ℕ, ℤ, List, [], ◌∷◌, ◌++◌, map, codes, Bool, true, false, Option}
-use Rattle.serde_json.specs.Data.{Data, boolean, number, unsigned, string, array, object, no_items, item, no_members, member}
+use Rattle.serde_json.specs.Data.{Data, boolean, number, unsigned, string, array, object, no_members, member}
 use Rattle.serde_json.specs.Find.{of_integer}
 use Rattle.serde_json.specs.View.{items_of, view}
 use Rattle.serde_json.specs.declared.value.Value.{Value}
@@ -22,9 +22,17 @@ texts_data names = array (items_of (map string names))
 abbrev pub names_data : List Schema → Data
 names_data schemas = array (items_of (map (λ schema. string schema.name) schemas))
 
--- the pairs of a header, in their order, each as a list of two texts
+-- a pair of a header, as a list of two texts
+abbrev pub tag_item : Name × Name → Data
+tag_item tag = pair (string tag.0) (string tag.1)
+
+-- the pairs of a header, in their order
 abbrev pub tags_data : List (Name × Name) → Data
-tags_data tags = array (items_of (map (λ tag. array (item (string tag.0) (item (string tag.1) no_items))) tags))
+tags_data tags = array (items_of (map tag_item tags))
+
+-- numbers, in their order
+abbrev pub numbers_data : List ℕ → Data
+numbers_data numbers = array (items_of (map whole numbers))
 
 -- the header of a blob
 abbrev pub head_data : Header → Data
@@ -80,7 +88,7 @@ get_data ordinal row = object
 abbrev pub ordinals_data : List ℕ → List ℕ → Data
 ordinals_data word ordinals = object
     (member (codes "ok") (string word)
-    (member (codes "ordinals") (array (items_of (map whole ordinals))) no_members))
+    (member (codes "ordinals") (numbers_data ordinals) no_members))
 
 -- the live ordinals of a type, and those of the rows that have a key
 abbrev pub live_data : List ℕ → Data

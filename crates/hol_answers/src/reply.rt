@@ -2,7 +2,7 @@
 ghost use Rattle.std.specs.Prelude.{◌≡◌, ◌++◌, IfOk, OnOk, OnErr, string_bytes};
 ghost use Rattle.serde_json.specs.View.{view};
 ghost use Rattle.hol_answers.specs.Plain.{IsPlain};
-ghost use Rattle.hol_answers.specs.Reply.{reply_data, head_data, model_data, cycle_data, load_data, step_data, tag_data, index_data, get_data, ordinals_data, row_data, has_data, at_data, past_data, past_item, texts_data, names_data, tags_data, is_refusal, line_of};
+ghost use Rattle.hol_answers.specs.Reply.{reply_data, head_data, model_data, cycle_data, load_data, step_data, tag_data, index_data, get_data, ordinals_data, row_data, has_data, at_data, past_data, past_item, texts_data, names_data, numbers_data, tags_data, tag_item, is_refusal, line_of};
 
 use crate::line::{line_text, put_line};
 use crate::plain::PlainValue;
@@ -10,7 +10,7 @@ use blob_frame::Header;
 use hol_refusals::Content::{Integer, Json, Number, Text};
 use hol_refusals::{Content, Refusal, object_of, refusal_value};
 use hol_varint::{List, Ordinals};
-use schema_model::{NamePairs, Names, Schemas};
+use schema_model::{Name, NamePairs, Names, Schemas};
 use serde_json::{Value, json};
 use std::alloc::{AllocError, Global};
 
@@ -206,15 +206,20 @@ fn at_value(alloc: Global, value: Option<u32>) -> Result<Value, AllocError>
 fn ordinals_value(alloc: Global, word: &str, ordinals: &Ordinals) -> Result<Value, AllocError>
     ensures { IfOk result (λ value. view value ≡ ordinals_data word.now ordinals.now) }
 {
-    let mut numbers = Vec::new(alloc);
-    for ordinal in ordinals.as_slice() {
-        numbers.push(Value::from(*ordinal))?;
-    }
-    let members = vec![in alloc;
-        ("ok", Text(word)),
-        ("ordinals", Json(Value::Array(numbers))),
-    ]?;
+    let ordinals = numbers_value(alloc, ordinals)?;
+    let members = vec![in alloc; ("ok", Text(word)), ("ordinals", Json(ordinals))]?;
     object_of(alloc, members)
+}
+
+// Numbers, in their order.
+fn numbers_value(alloc: Global, numbers: &Ordinals) -> Result<Value, AllocError>
+    ensures { IfOk result (λ value. view value ≡ numbers_data numbers.now) }
+{
+    let mut values = Vec::new(alloc);
+    for number in numbers.as_slice() {
+        values.push(Value::from(*number))?;
+    }
+    Ok(Value::Array(values))
 }
 
 #[tactic(auto, using(crate::proofs::Floats::plain_row))]
@@ -276,7 +281,14 @@ fn tags_value(alloc: Global, tags: &NamePairs) -> Result<Value, AllocError>
 {
     let mut pairs = Vec::new(alloc);
     for tag in tags.as_slice() {
-        pairs.push(json!(in alloc; [(tag.0.text()), (tag.1.text())])?)?;
+        pairs.push(pair_value(alloc, tag)?)?;
     }
     Ok(Value::Array(pairs))
+}
+
+// A pair of a header, as a list of two texts.
+fn pair_value(alloc: Global, tag: &(Name, Name)) -> Result<Value, AllocError>
+    ensures { IfOk result (λ value. view value ≡ tag_item tag.now) }
+{
+    json!(in alloc; [(tag.0.text()), (tag.1.text())])
 }
