@@ -1,13 +1,12 @@
 //! Items, texts, lists, schemas and headers of blobs that are read, and a header that is written.
 ghost use Rattle.std.specs.Prelude.{◌≡◌, [], ◌∷◌, IfOk, codes};
 
-use blob_cursor::{Cursor, counted};
+use crate::told::told;
+use blob_cursor::Cursor;
 use blob_frame::{BlobFault, put_header};
-use hol_io::{BlobName, BlobStore, SureStore};
+use hol_io::{BlobName, SureStore};
 use hol_varint::Ordinals;
-use schema_model::{
-    FieldKind, Fields, Name, NamePairs, Names, Reason, Schema, Schemas, Shape, model_of,
-};
+use schema_model::{Fields, Name, NamePairs, Schema, Schemas, Shape, model_of};
 use std::alloc::{AllocError, Global};
 use std::test::Fail;
 
@@ -19,37 +18,18 @@ const ITEMS: [u8; 49] = [
     0x2A,
 ];
 
-#[test]
-fn reads_numbers(rt: HostRuntime) -> Result<(), Fail> {
-    let name = BlobName::Snapshot(1);
-    let mut store = SureStore::new(rt.alloc());
-    store.put(&name, &ITEMS).map_err(|_| "put")?;
-    let mut cursor = Cursor::start(rt.alloc(), &mut store, &name)?;
-    assert_eq!(rt; cursor.byte(&mut store)?, 7);
-    assert_eq!(rt; cursor.be16(&mut store)?, 0x0102);
-    assert_eq!(rt; cursor.be32(&mut store)?, 1030);
-    assert_eq!(rt; cursor.be64(&mut store)?, 71);
-    assert_eq!(rt; cursor.vint(&mut store)?, u32::MAX);
-    assert_eq!(rt; cursor.vlong(&mut store)?, 128);
-    assert_eq!(rt; cursor.at(), 22);
-    Ok(())
-}
+/// What is read of them.
+const ITEMS_TOLD: &str =
+    "Ok(7)\nOk(258)\nOk(1030)\nOk(71)\nOk(4294967295)\nOk(128)\nOk(Name { text: \"A\" })\n\
+Ok(List { items: [170, 187, 204, 221, 238] })\n\
+Ok(Schema { name: Name { text: \"K\" }, shape: Object(Some(List { items: [Name { text: \"i\" }] }), \
+List { items: [Field { name: Name { text: \"i\" }, kind: Int }] }) })\n\
+Err(Bad(48, TrailingBytes))\nOk(())\n";
 
 #[test]
-fn reads_texts_and_runs(rt: HostRuntime) -> Result<(), Fail> {
-    let name = BlobName::Snapshot(1);
-    let mut store = SureStore::new(rt.alloc());
-    store.put(&name, &ITEMS).map_err(|_| "put")?;
-    let mut cursor = Cursor::start(rt.alloc(), &mut store, &name)?;
-    assert_eq!(rt; cursor.run(&mut store, 22)?.len(), 22);
-    assert_eq!(rt; cursor.utf(&mut store)?.text(), "A");
-    assert_eq!(rt; cursor.run(&mut store, 5)?.as_slice(), &ITEMS[25..30]);
-    let schema = cursor.schema(&mut store)?;
-    assert_eq!(rt; schema.name.text(), "K");
-    let last = cursor.end(&mut store);
-    assert!(rt; matches!(&last, Err(BlobFault::Bad(48, Reason::TrailingBytes))));
-    cursor.skip(1)?;
-    assert_eq!(rt; cursor.at(), 49);
+fn reads_items(rt: HostRuntime) -> Result<(), Fail> {
+    let text = told(rt.alloc(), &ITEMS, b"1248ilursek")?;
+    assert_eq!(rt; text.as_str(), ITEMS_TOLD);
     Ok(())
 }
 
@@ -59,96 +39,44 @@ const EVERYTHING: &[u8] = b"\0\0\x04\x06\xff\xff\xff\xff\xff\xff\xff\xfe\0\0\0\0
 \0\x01y\0\x05BYTES\0\x01r\0\x09REFERENCE\0\x01K\
 \x01\0\x01S\0\x01K\x02\0\x01L\0\x01S\x03\0\x01M\0\x01K\0\x01L\x02\xAA\xBB\0\x01\0\x01a\0\x02bc";
 
+/// What is read of it.
+const EVERYTHING_TOLD: &str = "Ok(Header { origin: -2, destination: 71, schemas: List { items: [\
+Schema { name: Name { text: \"K\" }, shape: Object(\
+Some(List { items: [Name { text: \"i\" }, Name { text: \"r.i\" }] }), List { items: [\
+Field { name: Name { text: \"i\" }, kind: Int }, Field { name: Name { text: \"l\" }, kind: Long }, \
+Field { name: Name { text: \"b\" }, kind: Boolean }, Field { name: Name { text: \"s\" }, kind: Text }, \
+Field { name: Name { text: \"y\" }, kind: Bytes }, \
+Field { name: Name { text: \"r\" }, kind: Reference(Name { text: \"K\" }) }] }) }, \
+Schema { name: Name { text: \"S\" }, shape: Set(Name { text: \"K\" }) }, \
+Schema { name: Name { text: \"L\" }, shape: List(Name { text: \"S\" }) }, \
+Schema { name: Name { text: \"M\" }, shape: Map(Name { text: \"K\" }, Name { text: \"L\" }) }] }, \
+tags: List { items: [(Name { text: \"a\" }, Name { text: \"bc\" })] } })\nOk(())\n";
+
 #[test]
 fn reads_a_header(rt: HostRuntime) -> Result<(), Fail> {
-    let name = BlobName::Delta(1, 2);
-    let mut store = SureStore::new(rt.alloc());
-    store.put(&name, EVERYTHING).map_err(|_| "put")?;
-    let mut cursor = Cursor::start(rt.alloc(), &mut store, &name)?;
-    let header = cursor.read_header(&mut store)?;
-    assert_eq!(rt; (header.origin, header.destination), (-2, 71));
-    cursor.end(&mut store)?;
-    let mut text = String::new(rt.alloc());
-    for schema in header.schemas.as_slice() {
-        text.push_str(schema.name.text())?;
-        tell_shape(&mut text, &schema.shape)?;
-    }
-    tell_pairs(&mut text, &header.tags)?;
-    assert_eq!(rt;
-        text.as_str(),
-        "Kkeyed ir.iiint llong bboolean stext ybytes rreference Sset KLlist SMmap KLabc"
-    );
+    let text = told(rt.alloc(), EVERYTHING, b"he")?;
+    assert_eq!(rt; text.as_str(), EVERYTHING_TOLD);
     Ok(())
 }
 
-fn tell_shape(text: &mut String, shape: &Shape) -> Result<(), AllocError> {
-    match shape {
-        Shape::Object(None, fields) => tell_fields(text, fields),
-        Shape::Object(Some(key), fields) => {
-            text.push_str("keyed ")?;
-            tell_names(text, key)?;
-            tell_fields(text, fields)
-        }
-        Shape::Set(element) => tell_two(text, "set ", element.text()),
-        Shape::List(element) => tell_two(text, "list ", element.text()),
-        Shape::Map(key, value) => {
-            tell_two(text, "map ", key.text())?;
-            text.push_str(value.text())
-        }
-    }
-}
+/// Two words, and two pairs of texts.
+const WORDS: &[u8] = b"\0\0\0\0\0\0\0\x07\0\0\0\0\0\0\0\x08\0\x01a\0\x01b\0\x01c\0\x01d";
 
-fn tell_two(text: &mut String, first: &str, second: &str) -> Result<(), AllocError> {
-    text.push_str(first)?;
-    text.push_str(second)
-}
-
-fn tell_names(text: &mut String, names: &Names) -> Result<(), AllocError> {
-    for name in names.as_slice() {
-        text.push_str(name.text())?;
-    }
-    Ok(())
-}
-
-fn tell_fields(text: &mut String, fields: &Fields) -> Result<(), AllocError> {
-    for field in fields.as_slice() {
-        tell_two(text, field.name.text(), kind_of(&field.kind))?;
-    }
-    Ok(())
-}
-
-fn tell_pairs(text: &mut String, pairs: &NamePairs) -> Result<(), AllocError> {
-    for (key, value) in pairs.as_slice() {
-        tell_two(text, key.text(), value.text())?;
-    }
-    Ok(())
-}
-
-fn kind_of(kind: &FieldKind) -> &'static str {
-    match kind {
-        FieldKind::Reference(_) => "reference ",
-        FieldKind::Int => "int ",
-        FieldKind::Long => "long ",
-        FieldKind::Boolean => "boolean ",
-        FieldKind::Text => "text ",
-        FieldKind::Bytes => "bytes ",
-    }
-}
+/// What is read of them.
+const WORDS_TOLD: &str =
+    "Ok(List { items: [7, 8] })\nOk(List { items: [(Name { text: \"a\" }, Name { text: \"b\" }), \
+(Name { text: \"c\" }, Name { text: \"d\" })] })\nErr(Bad(28, Truncated))\n";
 
 #[test]
 fn reads_words_and_lists(rt: HostRuntime) -> Result<(), Fail> {
-    let name = BlobName::Snapshot(1);
+    let text = told(rt.alloc(), WORDS, b"wpi")?;
+    assert_eq!(rt; text.as_str(), WORDS_TOLD);
+    Ok(())
+}
+
+#[test]
+fn reads_no_blob(rt: HostRuntime) -> Result<(), Fail> {
     let mut store = SureStore::new(rt.alloc());
-    let words = b"\0\0\0\0\0\0\0\x07\0\0\0\0\0\0\0\x08\0\x01a\0\x01b\0\x01c\0\x01d".as_slice();
-    store.put(&name, words).map_err(|_| "put")?;
-    let mut cursor = Cursor::start(rt.alloc(), &mut store, &name)?;
-    assert_eq!(rt; cursor.words(&mut store, 2)?.as_slice(), [7, 8].as_slice());
-    let pairs: NamePairs = counted(&mut cursor, &mut store, 2)?;
-    let mut names = String::new(rt.alloc());
-    tell_pairs(&mut names, &pairs)?;
-    assert_eq!(rt; names.as_str(), "abcd");
-    let most = cursor.vint(&mut store);
-    assert!(rt; matches!(&most, Err(BlobFault::Bad(28, Reason::Truncated))));
     let absent = Cursor::start(rt.alloc(), &mut store, &BlobName::Snapshot(2));
     assert!(rt; matches!(&absent, Err(BlobFault::NoBlob(_))));
     Ok(())

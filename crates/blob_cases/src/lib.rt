@@ -10,4 +10,6 @@ mod sections;
 #[cfg(test)]
 mod snapshots;
 #[cfg(test)]
+mod told;
+#[cfg(test)]
 mod written;

@@ -123,42 +123,65 @@ fn first_type(alloc: Global, model: &Model) -> Result<Vec<u8>, Fail> {
     Ok(out)
 }
 
-#[test]
-fn writes_types(rt: HostRuntime) -> Result<(), Fail> {
-    let alloc = rt.alloc();
-    let out = first_type(alloc, &model(alloc)?)?;
-    let mut wanted = Vec::new(alloc);
-    for part in [HEAD, HEAD, DELTA, HEAD, EMPTY] {
-        wanted.extend_from_slice(part)?;
+// These bytes, joined.
+fn joined(alloc: Global, parts: &[&[u8]]) -> Result<Vec<u8>, AllocError> {
+    let mut all = Vec::new(alloc);
+    for part in parts {
+        all.extend_from_slice(part)?;
     }
-    assert!(rt; out.len() >= wanted.len());
-    assert_eq!(rt; &out[..wanted.len()], wanted.as_slice());
-    assert_eq!(rt; out.len(), wanted.len() + 2048);
-    Ok(())
+    Ok(all)
 }
 
 #[test]
-fn writes_sections(rt: HostRuntime) -> Result<(), Fail> {
-    let alloc = rt.alloc();
+fn writes_types(rt: HostRuntime) -> Result<(), Fail> {
+    let out = first_type(rt.alloc(), &model(rt.alloc())?)?;
+    let wanted = joined(rt.alloc(), &[HEAD, HEAD, DELTA, HEAD, EMPTY])?;
+    assert!(rt; out.starts_with(wanted.as_slice()));
+    assert!(rt; out.len() == wanted.len() + 2048);
+    Ok(())
+}
+
+/// A set in a delta, which adds ordinal 1.
+fn set_written(alloc: Global) -> Result<Vec<u8>, AllocError> {
     let mut out = Vec::new(alloc);
     put_max(&mut out, Some(1))?;
     put_ordinals(&mut out, &Ordinals::new(alloc), &one(alloc, 1)?)?;
+    put_set(alloc, &mut out)?;
+    Ok(out)
+}
+
+// The rows of a set.
+fn put_set(alloc: Global, out: &mut Vec<u8>) -> Result<(), AllocError> {
     let set = Shape::Set(Name::from_text(alloc, "A")?);
-    put_packed(
-        &mut out,
-        &set,
-        &rows(alloc, &[3, 2, 3], 6, &[0xA], &[0x3B])?,
-    )?;
-    assert_eq!(rt; out.as_slice(), SET);
+    let rows = rows(alloc, &[3, 2, 3], 6, &[0xA], &[0x3B])?;
+    put_packed(out, &set, &rows)
+}
+
+#[test]
+fn writes_a_set(rt: HostRuntime) -> Result<(), AllocError> {
+    let out = set_written(rt.alloc())?;
+    assert!(rt; out.as_slice() == SET);
+    Ok(())
+}
+
+/// A type with one STRING.
+fn text_written(alloc: Global) -> Result<Vec<u8>, AllocError> {
     let mut out = Vec::new(alloc);
     put_max(&mut out, Some(3))?;
+    put_text(alloc, &mut out)?;
+    Ok(out)
+}
+
+// Its rows.
+fn put_text(alloc: Global, out: &mut Vec<u8>) -> Result<(), AllocError> {
     let text = b"\x61\x83\xB0\x3D\x83\xBC\0\x83\xB0\x3D";
-    let object = Shape::Object(None, Fields::new(alloc));
-    put_packed(
-        &mut out,
-        &object,
-        &rows_with(alloc, &[5], &[0x51E00], text)?,
-    )?;
-    assert_eq!(rt; out.as_slice(), TEXT);
+    let rows = rows_with(alloc, &[5], &[0x51E00], text)?;
+    put_packed(out, &Shape::Object(None, Fields::new(alloc)), &rows)
+}
+
+#[test]
+fn writes_a_text(rt: HostRuntime) -> Result<(), AllocError> {
+    let out = text_written(rt.alloc())?;
+    assert!(rt; out.as_slice() == TEXT);
     Ok(())
 }
