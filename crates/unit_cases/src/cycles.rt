@@ -36,6 +36,7 @@ fn numbers(alloc: Global) -> Result<Model, ModelFault>
     model_of(alloc, schemas)
 }
 
+// A record of one number.
 fn number(alloc: Global, value: i32) -> Result<Tree, AllocError>
     ensures { IfOk result (λ tree. plain tree ≡ number_tree value) }
 {
@@ -44,6 +45,7 @@ fn number(alloc: Global, value: i32) -> Result<Tree, AllocError>
     Ok(Tree::Object(parts))
 }
 
+// Adds such a record. Its ordinal.
 #[tactic(auto, using(crate::proofs::Numbers::number_fits))]
 fn add_number(alloc: Global, producer: &mut Producer, value: i32) -> Result<u32, PutRowFault>
     requires takes { AreNumbers producer.old.schemas }
@@ -66,19 +68,64 @@ fn next_cycle(producer: &mut Producer, tag: i64) -> Result<usize, AllocError>
     Ok(closed.changed.len())
 }
 
+/// What is told of the steps of a producer without rows, each by its letter.
+fn told(alloc: Global, steps: &[u8]) -> Result<String, Fail> {
+    let mut producer = Producer::new(alloc, numbers(alloc)?)?;
+    Ok(steps_told(alloc, &mut producer, steps)?)
+}
+
+/// The same of a producer that takes numbers.
+fn steps_told(alloc: Global, producer: &mut Producer, steps: &[u8]) -> Result<String, AllocError>
+    requires takes { AreNumbers producer.old.schemas }
+    requires open { producer.old.closed ≡ false }
+{
+    let mut text = String::new(alloc);
+    for step in steps {
+        text.push_str(step_told(alloc, producer, *step)?.as_str())?;
+    }
+    Ok(text)
+}
+
+/// A digit adds its number and tells the ordinal. A capital letter closes the cycle under its code as a tag, and tells how many types
+/// were changed. Else the cycle is dropped, and the bounds of both states and the tag are told.
+fn step_told(alloc: Global, producer: &mut Producer, step: u8) -> Result<String, AllocError>
+    requires takes { AreNumbers producer.old.schemas }
+    requires open { producer.old.closed ≡ false }
+    ensures takes { OnOk result (AreNumbers producer.new.schemas) }
+    ensures open { OnOk result (producer.new.closed ≡ false) }
+{
+    match step {
+        b'0'..=b'9' => {
+            format!(in alloc;
+                "{:?}\n",
+                add_number(alloc, producer, i32::from(step - b'0'))
+            )
+        }
+        b'A'..=b'Z' => format!(in alloc; "{}\n", next_cycle(producer, i64::from(step))?),
+        _ => {
+            producer.undo();
+            states_told(alloc, producer)
+        }
+    }
+}
+
+/// The bounds of the current and of the previous state, and the tag.
+fn states_told(alloc: Global, producer: &Producer) -> Result<String, AllocError> {
+    let (current, previous) = (producer.current(), producer.previous());
+    format!(in alloc;
+        "{} {} {}\n",
+        current.bound(0),
+        previous.bound(0),
+        producer.tag()
+    )
+}
+
 #[test]
 fn an_ordinal_is_free_a_cycle_later(rt: HostRuntime) -> Result<(), Fail> {
-    let mut producer = Producer::new(rt.alloc(), numbers(rt.alloc())?)?;
-    assert_eq!(rt; add_number(rt.alloc(), &mut producer, 5)?, 0);
-    assert_eq!(rt; add_number(rt.alloc(), &mut producer, 7)?, 1);
-    assert_eq!(rt; next_cycle(&mut producer, 70)?, 1);
-    assert_eq!(rt; add_number(rt.alloc(), &mut producer, 9)?, 2);
-    assert_eq!(rt; add_number(rt.alloc(), &mut producer, 7)?, 1);
-    assert_eq!(rt; next_cycle(&mut producer, 71)?, 1);
-    assert_eq!(rt; add_number(rt.alloc(), &mut producer, 4)?, 0);
-    producer.undo();
-    assert_eq!(rt; producer.current().bound(0), 0);
-    assert_eq!(rt; producer.previous().bound(0), 3);
-    assert_eq!(rt; producer.tag(), 71);
+    let text = told(rt.alloc(), b"57F97G4u")?;
+    assert_eq!(rt;
+        text.as_str(),
+        "Ok(0)\nOk(1)\n1\nOk(2)\nOk(1)\n1\nOk(0)\n0 3 71\n"
+    );
     Ok(())
 }

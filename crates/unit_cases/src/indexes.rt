@@ -78,7 +78,27 @@ fn step<L: Ledger>(
     Ok(())
 }
 
-/// How many rows of no rows have a key, and the type, after a step.
+/// An index over no rows, after such a step.
+fn stepped<L: Ledger>(
+    alloc: Global,
+    rows: &NoRows,
+    steps: &mut Steps<L>,
+) -> Result<KeyIndex, AllocError>
+    requires there { 0 < length rows.now.model }
+{
+    let mut index = KeyIndex::build(alloc, rows, 0, Paths::new(alloc), steps)?;
+    step(alloc, rows, &mut index, steps)?;
+    Ok(index)
+}
+
+/// How many rows have a key, the type, and whether no row has the empty key and the index has no path.
+fn told(alloc: Global, index: &KeyIndex) -> Result<(u64, u32, bool), AllocError> {
+    let found = index.matches(alloc, &Values::new(alloc))?;
+    let is_empty = found.is_empty() && index.paths().is_empty();
+    Ok((index.keyed(), index.type_index(), is_empty))
+}
+
+/// What is told of an index over no rows, after a step.
 fn keyed_after<L: Ledger>(alloc: Global, blank: Blank) -> Result<(u64, u32, bool), AllocError>
     requires name { blank.name ≡ L.name }
     requires parts { blank.parts ≡ L.parts }
@@ -86,11 +106,8 @@ fn keyed_after<L: Ledger>(alloc: Global, blank: Blank) -> Result<(u64, u32, bool
 {
     let rows = no_rows(alloc)?;
     let mut steps = Steps::<L>::new(blank);
-    let mut index = KeyIndex::build(alloc, &rows, 0, Paths::new(alloc), &mut steps)?;
-    step(alloc, &rows, &mut index, &mut steps)?;
-    let found = index.matches(alloc, &Values::new(alloc))?;
-    let is_empty = found.is_empty() && index.paths().is_empty();
-    Ok((index.keyed(), index.type_index(), is_empty))
+    let index = stepped(alloc, &rows, &mut steps)?;
+    told(alloc, &index)
 }
 
 #[test]

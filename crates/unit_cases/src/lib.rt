@@ -10,6 +10,8 @@ mod indexes;
 #[cfg(test)]
 mod keys;
 #[cfg(test)]
+mod loading;
+#[cfg(test)]
 mod models;
 #[cfg(test)]
 mod ordinals;

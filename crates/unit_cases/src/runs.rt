@@ -1,9 +1,10 @@
 //! Sets and maps of some sizes are loaded and looked up, and a run that is full is refused.
 ghost use Rattle.std.specs.Prelude.{◌≡◌, [], Some, length, IfOk};
 ghost use Rattle.type_rows.specs.Layout.{place_bits, width_count};
-ghost use Rattle.type_rows.specs.WellFormed.{AreWidths};
+ghost use Rattle.type_rows.specs.WellFormed.{AreWidths, IsReadable};
 ghost use Rattle.bucket_codec.specs.BucketPlace.{IsWidthCount};
 
+use crate::loading::{empty_state, load, one_word};
 use bucket_codec::hash_int;
 use ordinal_set::OrdinalSet;
 use row_model::{Areas, Widths, Words};
@@ -79,15 +80,28 @@ fn section_of(
     ensures areas { IfOk result (λ section. section.areas ≡ []) }
 {
     let place = u64::from(elements) << 16 | size as u64;
+    let widths = widths_of(alloc, shape)?;
+    let first = one_word(alloc, place)?;
+    let second = words_of(alloc, &run_of(shape, elements, size))?;
+    let live = vec![in alloc; 1u64]?;
     Ok(Section {
         max: Some(0),
-        widths: widths_of(alloc, shape)?,
+        widths,
         total: 256,
-        first: Words::from_vec(vec![in alloc; place]?),
-        second: words_of(alloc, &run_of(shape, elements, size))?,
+        first,
+        second,
         areas: Areas::new(alloc),
-        live: OrdinalSet::from_words(vec![in alloc; 1u64]?),
+        live: OrdinalSet::from_words(live),
     })
+}
+
+/// The state once a section is its current one.
+fn flipped(mut state: TypeState, section: &Section) -> Result<TypeState, RowFault>
+    requires { IsReadable state.schema.shape section.now }
+{
+    load(&mut state, section)?;
+    state.flip();
+    Ok(state)
 }
 
 /// A type whose current state was loaded from such a section.
@@ -101,47 +115,71 @@ fn loaded(
 {
     let section = section_of(alloc, &shape, elements, size)?;
     let name = Name::from_text(alloc, "A")?;
-    let mut state = TypeState::new(alloc, Schema { name, shape });
-    if let Err(fault) = state.load_next(&section) {
-        return Ok(Err(fault));
-    }
-    state.flip();
-    Ok(Ok(state))
+    let state = empty_state(alloc, Schema { name, shape });
+    Ok(flipped(state, &section))
 }
 
-/// What a set of so many elements in so many buckets says of them and of the next number, whether it was loaded first.
+/// Whether the set has each number below this one.
+fn has_all(state: &TypeState, elements: u16) -> bool {
+    let mut all = true;
+    for element in 0..elements {
+        all &= state.has(0, u32::from(element));
+    }
+    all
+}
+
+/// What a set says of the numbers below this one and of this one, whether it was loaded first.
+fn set_says(loaded: &Result<TypeState, RowFault>, elements: u16) -> (bool, bool, bool) {
+    let Ok(state) = loaded else {
+        return (false, false, false);
+    };
+    let all = has_all(state, elements);
+    (true, all, state.has(0, u32::from(elements)))
+}
+
+/// What a set of so many elements in so many buckets says of them and of the next number.
 fn set_answers(
     alloc: Global,
     elements: u16,
     size: usize,
 ) -> Result<(bool, bool, bool), AllocError> {
     let shape = Shape::Set(Name::from_text(alloc, "B")?);
-    let Ok(state) = loaded(alloc, shape, elements, size)? else {
-        return Ok((false, false, false));
-    };
-    let mut all = true;
-    for element in 0..elements {
-        all &= state.has(0, u32::from(element));
-    }
-    Ok((true, all, state.has(0, u32::from(elements))))
+    let loaded = loaded(alloc, shape, elements, size)?;
+    Ok(set_says(&loaded, elements))
 }
 
-/// The same of a map: whether it has the value of each key, and one for the next key.
+/// Whether the map has the value of a key.
+fn maps_one(state: &TypeState, key: u32) -> bool {
+    state.at(0, key) == Some(key ^ 0x40)
+}
+
+/// Whether it has the value of each key below this number.
+fn maps_all(state: &TypeState, elements: u16) -> bool {
+    let mut all = true;
+    for element in 0..elements {
+        all &= maps_one(state, u32::from(element));
+    }
+    all
+}
+
+/// The same of a map: whether it was loaded, has the value of each key, and has one for the next key.
+fn map_says(loaded: &Result<TypeState, RowFault>, elements: u16) -> (bool, bool, bool) {
+    let Ok(state) = loaded else {
+        return (false, false, false);
+    };
+    let all = maps_all(state, elements);
+    (true, all, state.at(0, u32::from(elements)).is_some())
+}
+
+/// What a map of so many keys in so many buckets says.
 fn map_answers(
     alloc: Global,
     elements: u16,
     size: usize,
 ) -> Result<(bool, bool, bool), AllocError> {
     let shape = Shape::Map(Name::from_text(alloc, "B")?, Name::from_text(alloc, "C")?);
-    let Ok(state) = loaded(alloc, shape, elements, size)? else {
-        return Ok((false, false, false));
-    };
-    let mut all = true;
-    for element in 0..elements {
-        let key = u32::from(element);
-        all &= state.at(0, key) == Some(key ^ 0x40);
-    }
-    Ok((true, all, state.at(0, u32::from(elements)).is_some()))
+    let loaded = loaded(alloc, shape, elements, size)?;
+    Ok(map_says(&loaded, elements))
 }
 
 /// Whether sets and maps of some sizes say of each element that it is there, and of the next number that it is not.
@@ -162,11 +200,16 @@ fn looked_up(rt: HostRuntime) -> Result<(), AllocError> {
     Ok(())
 }
 
-/// Whether a run that is full is refused for its buckets.
+/// Whether it was refused for the buckets of its only place.
+fn is_refused(loaded: &Result<TypeState, RowFault>) -> bool {
+    matches!(loaded, Err(RowFault::At(Reason::BadBuckets, 0)))
+}
+
+/// Whether a run that is full is refused.
 fn full_is_refused(alloc: Global) -> Result<bool, AllocError> {
     let shape = Shape::Set(Name::from_text(alloc, "B")?);
     let full = loaded(alloc, shape, 4, 4)?;
-    Ok(matches!(full, Err(RowFault::At(Reason::BadBuckets, 0))))
+    Ok(is_refused(&full))
 }
 
 #[test]

@@ -6,11 +6,9 @@ use std::alloc::{AllocError, Global};
 /// The set of 3, 63, 64 and 200, of which one is put in twice.
 fn four(alloc: Global) -> Result<OrdinalSet, AllocError> {
     let mut set = OrdinalSet::new(alloc);
-    set.insert(200)?;
-    set.insert(3)?;
-    set.insert(64)?;
-    set.insert(3)?;
-    set.insert(63)?;
+    for member in [200, 3, 64, 3, 63] {
+        set.insert(member)?;
+    }
     Ok(set)
 }
 
@@ -60,19 +58,39 @@ fn members_of_a_population(rt: HostRuntime) -> Result<(), AllocError> {
     Ok(())
 }
 
-/// The least number in neither of two sets, before and after 3 was removed from the first, and its members without the second's, once it has 66 and 70.
+/// The least number in neither of two sets, before and after 3 was removed from the first.
+fn least_told(
+    alloc: Global,
+    set: &mut OrdinalSet,
+    other: &OrdinalSet,
+) -> Result<String, AllocError> {
+    let before = set.least_free(other);
+    set.remove(3);
+    set.remove(500);
+    format!(in alloc; "{before} {}", set.least_free(other))
+}
+
+/// The members of a set without another's, once it was cleared and has 66 and 70.
+fn lacking_told(
+    alloc: Global,
+    set: &mut OrdinalSet,
+    other: &OrdinalSet,
+) -> Result<String, AllocError> {
+    set.clear();
+    for member in [66, 70] {
+        set.insert(member)?;
+    }
+    let list = set.without(alloc, other)?;
+    format!(in alloc; " {:?}", list.as_slice())
+}
+
+/// Both of a first set and of a second one that has 65 and 66.
 fn two_sets(alloc: Global) -> Result<String, AllocError> {
     let mut set = OrdinalSet::from_words(vec![in alloc; u64::MAX, 0b1011]?);
     let other = OrdinalSet::from_words(vec![in alloc; 0, 0b0110]?);
-    let before = set.least_free(&other);
-    set.remove(3);
-    set.remove(500);
-    let after = set.least_free(&other);
-    set.clear();
-    set.insert(66)?;
-    set.insert(70)?;
-    let list = set.without(alloc, &other)?;
-    format!(in alloc; "{before} {after} {:?}", list.as_slice())
+    let mut text = least_told(alloc, &mut set, &other)?;
+    text.push_str(lacking_told(alloc, &mut set, &other)?.as_str())?;
+    Ok(text)
 }
 
 #[test]
@@ -98,9 +116,10 @@ fn gaps_read(alloc: Global, bytes: &[u8; 4]) -> Result<String, AllocError> {
 
 /// What is read of three runs.
 fn runs_read(alloc: Global) -> Result<String, AllocError> {
-    let mut text = gaps_read(alloc, &[3, 0, 0x82, 0x28])?;
-    text.push_str(gaps_read(alloc, &[3, 1, 0x82, 0x80])?.as_str())?;
-    text.push_str(gaps_read(alloc, &[3, 0x80, 1, 1])?.as_str())?;
+    let mut text = String::new(alloc);
+    for bytes in [[3, 0, 0x82, 0x28], [3, 1, 0x82, 0x80], [3, 0x80, 1, 1]] {
+        text.push_str(gaps_read(alloc, &bytes)?.as_str())?;
+    }
     Ok(text)
 }
 
@@ -134,6 +153,15 @@ fn one_written(alloc: Global) -> Result<Vec<u8>, AllocError> {
     Ok(out)
 }
 
+/// How many bytes that population has, and whether they begin with 512 words, of which the first has bit 1.
+fn one_told(alloc: Global) -> Result<(usize, bool), AllocError> {
+    let out = one_written(alloc)?;
+    let begins = out
+        .as_slice()
+        .starts_with(&[0, 0, 2, 0, 0, 0, 0, 0, 0, 0, 0, 2]);
+    Ok((out.len(), begins))
+}
+
 #[test]
 fn no_population_written(rt: HostRuntime) -> Result<(), AllocError> {
     let out = none_written(rt.alloc())?;
@@ -143,11 +171,6 @@ fn no_population_written(rt: HostRuntime) -> Result<(), AllocError> {
 
 #[test]
 fn a_population_written(rt: HostRuntime) -> Result<(), AllocError> {
-    let out = one_written(rt.alloc())?;
-    assert!(rt; out.len() == 4100);
-    assert!(rt;
-        out.as_slice()
-            .starts_with(&[0, 0, 2, 0, 0, 0, 0, 0, 0, 0, 0, 2])
-    );
+    assert_eq!(rt; one_told(rt.alloc())?, (4100, true));
     Ok(())
 }

@@ -5,6 +5,7 @@ ghost use Rattle.schema_model.specs.Parts.{shape_fields};
 ghost use Rattle.object_codec.specs.ObjectPlace.{IsObject, IsFieldWidth};
 ghost use Rattle.type_state.specs.State.{IsLaidOut};
 
+use crate::loading::{empty_state, load, one_word};
 use hol_varint::Octets;
 use ordinal_set::OrdinalSet;
 use row_model::{Areas, Widths, Words};
@@ -34,6 +35,31 @@ fn schema(alloc: Global) -> Result<Schema, AllocError>
     })
 }
 
+/// That type without rows.
+fn without_rows(alloc: Global) -> Result<TypeState, AllocError>
+    ensures object { IfOk result (λ state. IsObject state.schema.shape) }
+    ensures wide { IfOk result (λ state. AllZip IsFieldWidth (shape_fields state.schema.shape) (4 ∷ 4 ∷ [])) }
+{
+    let schema = schema(alloc)?;
+    Ok(empty_state(alloc, schema))
+}
+
+/// Two fields of 4 bits.
+fn widths(alloc: Global) -> Result<Widths, AllocError>
+    ensures { IfOk result (λ widths. widths ≡ 4 ∷ 4 ∷ []) }
+{
+    Ok(Widths::from_vec(vec![in alloc; 4, 4]?))
+}
+
+/// No bytes for the INT, and those of "Hi" and "é" for the STRING.
+fn areas(alloc: Global) -> Result<Areas, AllocError>
+    ensures { IfOk result (λ areas. length areas ≡ 2) }
+{
+    let text = vec![in alloc; 0x48, 0x69, 0x81, 0x69]?;
+    let areas = vec![in alloc; Octets::new(alloc), Octets::from_vec(text)]?;
+    Ok(Areas::from_vec(areas))
+}
+
 /// A section whose records have 8 bits, and whose STRINGs have the bytes of "Hi" and "é".
 fn section(alloc: Global, max: u32, live: u64, word: u64) -> Result<Section, AllocError>
     ensures max { IfOk result (λ section. section.max ≡ Some max) }
@@ -43,16 +69,18 @@ fn section(alloc: Global, max: u32, live: u64, word: u64) -> Result<Section, All
     ensures total { IfOk result (λ section. section.total ≡ 0) }
     ensures items { IfOk result (λ section. section.second ≡ []) }
 {
-    let text = vec![in alloc; 0x48, 0x69, 0x81, 0x69]?;
-    let areas = vec![in alloc; Octets::new(alloc), Octets::from_vec(text)]?;
+    let widths = widths(alloc)?;
+    let first = one_word(alloc, word)?;
+    let areas = areas(alloc)?;
+    let live = vec![in alloc; live]?;
     Ok(Section {
         max: Some(max),
-        widths: Widths::from_vec(vec![in alloc; 4, 4]?),
+        widths,
         total: 0,
-        first: Words::from_vec(vec![in alloc; word]?),
+        first,
         second: Words::new(alloc),
-        areas: Areas::from_vec(areas),
-        live: OrdinalSet::from_words(vec![in alloc; live]?),
+        areas,
+        live: OrdinalSet::from_words(live),
     })
 }
 
@@ -71,7 +99,7 @@ fn load_word(
     ensures laid { IfOk result (λ loaded. OnOk loaded (IsLaidOut state.new.schema state.new.other)) }
 {
     let section = section(alloc, max, live, word)?;
-    Ok(state.load_next(&section))
+    Ok(load(state, &section))
 }
 
 /// Loads such a section, and makes its rows the current ones where it is loaded.
@@ -95,17 +123,25 @@ fn step(
     Ok(())
 }
 
-/// A type of which two such sections were loaded, one after the other.
+/// Loads two such sections, one after the other.
+fn two_steps(alloc: Global, state: &mut TypeState) -> Result<(), AllocError>
+    requires object { IsObject state.old.schema.shape }
+    requires wide { AllZip IsFieldWidth (shape_fields state.old.schema.shape) (4 ∷ 4 ∷ []) }
+{
+    step(alloc, state, 2, 0b101, 0x4F_20_2A)?;
+    step(alloc, state, 1, 0b11, 0x2E_85)
+}
+
+/// A type of which those were loaded.
 fn twice(alloc: Global) -> Result<TypeState, AllocError> {
-    let mut state = TypeState::new(alloc, schema(alloc)?);
-    step(alloc, &mut state, 2, 0b101, 0x4F_20_2A)?;
-    step(alloc, &mut state, 1, 0b11, 0x2E_85)?;
+    let mut state = without_rows(alloc)?;
+    two_steps(alloc, &mut state)?;
     Ok(state)
 }
 
 /// What is answered where such a section is loaded, as its text.
 fn answer(alloc: Global, live: u64, word: u64) -> Result<String, AllocError> {
-    let mut state = TypeState::new(alloc, schema(alloc)?);
+    let mut state = without_rows(alloc)?;
     let loaded = load_word(alloc, &mut state, 2, live, word)?;
     format!(in alloc; "{loaded:?}\n")
 }
@@ -140,13 +176,21 @@ fn text_before(alloc: Global, state: &TypeState, ordinal: u32) -> Result<String,
 }
 
 /// The row under ordinal 0 of a half that is loaded and not yet the current one, as its text; none where it is not loaded.
-fn next_row(alloc: Global) -> Result<String, AllocError> {
-    let mut state = TypeState::new(alloc, schema(alloc)?);
-    let loaded = load_word(alloc, &mut state, 2, 0b101, 0x4F_20_2A)?;
+fn loaded_row(alloc: Global, state: &mut TypeState) -> Result<String, AllocError>
+    requires object { IsObject state.old.schema.shape }
+    requires wide { AllZip IsFieldWidth (shape_fields state.old.schema.shape) (4 ∷ 4 ∷ []) }
+{
+    let loaded = load_word(alloc, state, 2, 0b101, 0x4F_20_2A)?;
     if loaded.is_err() {
         return Ok(String::new(alloc));
     }
-    next_text(alloc, &state, 0)
+    next_text(alloc, state, 0)
+}
+
+/// That row of a type that had no rows.
+fn next_row(alloc: Global) -> Result<String, AllocError> {
+    let mut state = without_rows(alloc)?;
+    loaded_row(alloc, &mut state)
 }
 
 #[test]
@@ -158,13 +202,17 @@ fn next_half(rt: HostRuntime) -> Result<(), AllocError> {
     Ok(())
 }
 
-/// A row of each of two states.
+/// A row of the current state, and one of the state before.
+fn rows_told(alloc: Global, state: &TypeState) -> Result<String, AllocError> {
+    let now = text(alloc, state, 0)?;
+    let before = text_before(alloc, state, 2)?;
+    format!(in alloc; "{}\n{}", now.as_str(), before.as_str())
+}
+
+/// Those of two states.
 fn rows_of_two(alloc: Global) -> Result<String, AllocError> {
     let state = twice(alloc)?;
-    let mut rows = text(alloc, &state, 0)?;
-    rows.push('\n')?;
-    rows.push_str(text_before(alloc, &state, 2)?.as_str())?;
-    Ok(rows)
+    rows_told(alloc, &state)
 }
 
 #[test]
@@ -179,9 +227,14 @@ fn two_states(rt: HostRuntime) -> Result<(), AllocError> {
 
 /// What is answered to three sections.
 fn answers(alloc: Global) -> Result<String, AllocError> {
-    let mut text = answer(alloc, 0b1001, 0x4F_20_2A)?;
-    text.push_str(answer(alloc, 0b101, 0x5F_20_2A)?.as_str())?;
-    text.push_str(answer(alloc, 0b101, 0x4F_00_4A)?.as_str())?;
+    let mut text = String::new(alloc);
+    for (live, word) in [
+        (0b1001, 0x4F_20_2A),
+        (0b101, 0x5F_20_2A),
+        (0b101, 0x4F_00_4A),
+    ] {
+        text.push_str(answer(alloc, live, word)?.as_str())?;
+    }
     Ok(text)
 }
 

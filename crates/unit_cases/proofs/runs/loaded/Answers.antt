@@ -1,9 +1,9 @@
 use Rattle.std.proofs.Common.{◌≡◌, ◌*◌, [], Some, length, arith, sym, ap, subst, ◌∙◌}
 use Rattle.schema_model.specs.Parts.{shape_fields}
+use Rattle.schema_model.specs.declared.schema.Schema.{Schema}
 use Rattle.schema_model.specs.declared.schema.Shape.{Shape}
 use Rattle.bucket_codec.specs.BucketPlace.{IsWidthCount}
 use Rattle.type_rows.specs.declared.section.Section.{Section}
-use Rattle.type_state.specs.State.{State}
 use Rattle.type_rows.specs.Layout.{places_of, place_bits, width_count}
 use Rattle.type_rows.specs.WellFormed.{AreWidths, IsReadable}
 use Rattle.unit_cases.proofs.runs.loaded.Goals as goal
@@ -34,9 +34,9 @@ readable shape section kind most wide bits total first second areas =
       items = omega arith;
     }
 
-pub load_next-requires : goal.load_next-requires
-load_next-requires c =
-    let same = ap (λ (state : State). state.schema.shape) c.new-state.ensures in
+pub flipped-requires : goal.flipped-requires
+flipped-requires c =
+    let same = ap (λ (schema : Schema). schema.shape) c.empty_state-state.ensures in
     subst (λ shape. IsReadable shape c.in_ok-section.section) (sym same)
     (readable c.args.shape c.in_ok-section.section c.requires c.in_ok-section.ensures.max c.in_ok-section.ensures.wide c.in_ok-section.ensures.place c.in_ok-section.ensures.total
     c.in_ok-section.ensures.first c.in_ok-section.ensures.second c.in_ok-section.ensures.areas)

@@ -32,7 +32,7 @@ readable (Shape.Object key fields) section max object wide most few is words fil
     }
 readable _ section max object wide most few is words filled total none = absurd object
 
-pub load_next-requires : goal.load_next-requires
-load_next-requires c =
+pub load-requires : goal.load-requires
+load-requires c =
     readable _ _ c.args.max c.requires.object c.requires.wide c.in_ok-section.ensures.max c.requires.place c.in_ok-section.ensures.widths c.in_ok-section.ensures.words c.in_ok-section.ensures.areas
     c.in_ok-section.ensures.total c.in_ok-section.ensures.items
