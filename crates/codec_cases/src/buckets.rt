@@ -1,13 +1,14 @@
 //! Sets and maps as buckets: worked hashes and counts, rows that are packed and read, why there is none, and the widths of states.
-ghost use Rattle.std.specs.Prelude.{◌≡◌, ◌<◌, ◌≤◌, ◌∷◌, [], length, map, All, Some, IfOk, IfSome};
+ghost use Rattle.std.specs.Prelude.{◌≡◌, ◌<◌, ◌≤◌, ◌∷◌, [], length, map, slice_get, All, Some, IfOk};
 ghost use Rattle.std.specs.List.{range_with_len};
 ghost use Rattle.row_model.specs.Row.{FitsShape, IsRowInRange};
-ghost use Rattle.bucket_codec.specs.BucketPlace.{IsWidthCount};
+ghost use Rattle.bucket_codec.specs.BucketPlace.{HoldsPlace, IsWidthCount};
 ghost use Rattle.bucket_codec.specs.Packed.{IsPackable};
 
+use crate::texts::{row_told, words_told};
 use bucket_codec::{at, buckets_for, has, hash_int, pack, read, total, widths};
 use hol_varint::{Duplicate, Ordinals};
-use row_model::{Areas, Packed, Pairs, Places, Row, Rows, Widths, Words};
+use row_model::{Areas, Packed, Pairs, Parts, Places, Row, Rows, Widths, Words};
 use schema_model::{Fields, MAX_ITEMS, Model, Name, Schema, Schemas, Shape, model_of};
 use std::alloc::{AllocError, Global};
 
@@ -62,6 +63,19 @@ fn words_of(alloc: Global, pointers: u64, buckets: u64) -> Result<Packed, AllocE
     })
 }
 
+/// What is read of parts at place 0, as text.
+fn told<P: Parts>(
+    alloc: Global,
+    schema: &Schema,
+    widths: &Widths,
+    total: u64,
+    parts: &P,
+) -> Result<String, AllocError>
+    requires { HoldsPlace schema.now.shape widths.now (P.first_words parts.now) (P.second_words parts.now) 0 }
+{
+    row_told(alloc, read(alloc, schema, widths, total, parts, 0))
+}
+
 /// What is read at place 0, as text, of words with one word of pointers and one of at most 4 buckets.
 fn read_first(
     alloc: Global,
@@ -74,46 +88,47 @@ fn read_first(
     requires narrow { All (λ width. width ≤ 8) widths.now }
 {
     let packed = words_of(alloc, pointers, buckets)?;
-    let row = read(alloc, schema, widths, 4, &packed, 0);
-    format!(in alloc; "{row:?}\n")
+    told(alloc, schema, widths, 4, &packed)
 }
 
 /// What is read of a set, whose pointer has 3 bits, and its size and each of its buckets this width.
-fn read_set(alloc: Global, width: u32, pointers: u64, buckets: u64) -> Result<String, AllocError>
-    requires { width ≤ 8 }
-{
+fn read_set(alloc: Global, width: u32, pointers: u64, buckets: u64) -> Result<String, AllocError> {
+    if width > 8 {
+        return Err(AllocError);
+    }
     let widths = Widths::from_vec(vec![in alloc; 3, width, width]?);
     read_first(alloc, &set_type(alloc)?, &widths, pointers, buckets)
 }
 
-/// What is read of sets.
-fn sets_read(alloc: Global) -> Result<String, AllocError> {
-    let mut text = read_set(alloc, 2, 0x14, 0x1F)?;
-    text.push_str(read_set(alloc, 1, 0x1, 0x1)?.as_str())?;
-    Ok(text)
-}
-
-/// What is read where no set stands.
-fn no_sets_read(alloc: Global) -> Result<String, AllocError> {
-    let mut text = read_set(alloc, 2, 0x0C, 0x1F)?;
-    text.push_str(read_set(alloc, 2, 0x14, 0x7C)?.as_str())?;
-    text.push_str(read_set(alloc, 2, 0x14, 0x0F)?.as_str())?;
-    text.push_str(read_set(alloc, 2, 0x13, 0x1F)?.as_str())?;
-    text.push_str(read_set(alloc, 2, 0x15, 0x1F)?.as_str())?;
-    text.push_str(read_set(alloc, 3, 0x24, 0x688)?.as_str())?;
+/// What is read of sets: each by its width, its word of pointers and its word of buckets.
+fn sets_read(alloc: Global, sets: &[(u32, u64, u64)]) -> Result<String, AllocError> {
+    let mut text = String::new(alloc);
+    for (width, pointers, buckets) in sets {
+        text.push_str(read_set(alloc, *width, *pointers, *buckets)?.as_str())?;
+    }
     Ok(text)
 }
 
 #[test]
 fn sets(rt: HostRuntime) -> Result<(), AllocError> {
-    let text = sets_read(rt.alloc())?;
+    let text = sets_read(rt.alloc(), &[(2, 0x14, 0x1F), (1, 0x1, 0x1)])?;
     assert!(rt; text.as_str() == "Ok(Set(List { items: [0, 1] }))\nOk(Set(List { items: [] }))\n");
     Ok(())
 }
 
+/// Where no set stands.
+const NO_SETS: [(u32, u64, u64); 6] = [
+    (2, 0x0C, 0x1F),
+    (2, 0x14, 0x7C),
+    (2, 0x14, 0x0F),
+    (2, 0x13, 0x1F),
+    (2, 0x15, 0x1F),
+    (3, 0x24, 0x688),
+];
+
 #[test]
 fn no_sets(rt: HostRuntime) -> Result<(), AllocError> {
-    let text = no_sets_read(rt.alloc())?;
+    let text = sets_read(rt.alloc(), &NO_SETS)?;
     assert!(rt;
         text.as_str()
             == "Err(Bad(BadBuckets))\nErr(Bad(BadBuckets))\nErr(Bad(BadBuckets))\nErr(Bad(BadBuckets))\nErr(Bad(BadPointers))\nErr(Bad(BadBuckets))\n"
@@ -137,15 +152,22 @@ fn maps(rt: HostRuntime) -> Result<(), AllocError> {
 #[test]
 fn look_ups(rt: HostRuntime) {
     let set = [0x1F];
-    assert!(rt; has(&set, 0, 4, 2, 0));
-    assert!(rt; has(&set, 0, 4, 2, 1));
-    assert!(rt; !has(&set, 0, 4, 2, 2));
-    assert!(rt; !has(&set, 0, 4, 2, 3));
-    assert!(rt; !has(&[0x688], 0, 4, 3, 5));
-    assert!(rt; !has(&[], 0, 0, 64, 0));
+    let there = [has(&set, 0, 4, 2, 0), has(&set, 0, 4, 2, 1)];
+    assert!(rt; there == [true, true]);
+    let absent = [
+        has(&set, 0, 4, 2, 2),
+        has(&set, 0, 4, 2, 3),
+        has(&[0x688], 0, 4, 3, 5),
+        has(&[], 0, 0, 64, 0),
+    ];
+    assert!(rt; absent == [false, false, false, false]);
+}
+
+#[test]
+fn look_ups_of_keys(rt: HostRuntime) {
     let map = [0x43];
-    assert_eq!(rt; at(&map, 0, 2, 2, 2, 0), Some(1));
-    assert_eq!(rt; at(&map, 0, 2, 2, 2, 1), None);
+    let values = [at(&map, 0, 2, 2, 2, 0), at(&map, 0, 2, 2, 2, 1)];
+    assert!(rt; values == [Some(1), None]);
 }
 
 /// The words of the only place, which has this row, as text.
@@ -158,12 +180,7 @@ pub(crate) fn packed_row(
     requires { IsPackable schema.now.shape widths.now (Some row ∷ []) }
 {
     let rows = Places::from_vec(vec![in alloc; Some(row)]?);
-    let packed = pack(alloc, schema, widths, &rows)?;
-    format!(in alloc;
-        "{:?} {:?}",
-        packed.first.as_slice(),
-        packed.second.as_slice()
-    )
+    words_told(alloc, pack(alloc, schema, widths, &rows)?)
 }
 
 /// The packed words of the set of 0 and 1 alone.
@@ -180,19 +197,27 @@ fn packed_words(rt: HostRuntime) -> Result<(), AllocError> {
     Ok(())
 }
 
-/// What is read of the only place, as text, once a row is packed there.
+/// What is read of the only place, as text, once rows are packed there.
 fn read_back(
     alloc: Global,
     schema: &Schema,
     widths: &Widths,
-    row: Row,
+    rows: &Places,
 ) -> Result<String, AllocError>
+    requires packable { IsPackable schema.now.shape widths.now rows.now }
+    requires one { length rows.now ≡ 1 }
+{
+    let packed = pack(alloc, schema, widths, rows)?;
+    told(alloc, schema, widths, u64::MAX, &packed)
+}
+
+/// Whether the row of the only place is read as it was packed.
+fn comes_back(alloc: Global, schema: &Schema, widths: &Widths, row: Row) -> Result<bool, AllocError>
     requires { IsPackable schema.now.shape widths.now (Some row ∷ []) }
 {
+    let told = format!(in alloc; "Ok({row:?})\n")?;
     let rows = Places::from_vec(vec![in alloc; Some(row)]?);
-    let packed = pack(alloc, schema, widths, &rows)?;
-    let row = read(alloc, schema, widths, u64::MAX, &packed, 0);
-    format!(in alloc; "{row:?}")
+    Ok(read_back(alloc, schema, widths, &rows)? == told)
 }
 
 /// The ordinals below a number.
@@ -217,36 +242,24 @@ fn pairs_below(alloc: Global, count: u32) -> Result<Pairs, AllocError>
     Ok(pairs)
 }
 
-/// The set of the ordinals below a number, packed and read.
-fn set_back(alloc: Global, count: u32) -> Result<String, AllocError> {
+/// Whether the set of the ordinals below a number comes back.
+fn set_back(alloc: Global, count: u32) -> Result<bool, AllocError> {
     let widths = Widths::from_vec(vec![in alloc; 34, 32, 33]?);
     let row = Row::Set(ordinals_below(alloc, count)?);
-    read_back(alloc, &set_type(alloc)?, &widths, row)
+    comes_back(alloc, &set_type(alloc)?, &widths, row)
 }
 
-/// The map of these pairs, packed and read.
-fn map_back(alloc: Global, count: u32) -> Result<String, AllocError> {
+/// Whether the map of these pairs does.
+fn map_back(alloc: Global, count: u32) -> Result<bool, AllocError> {
     let widths = Widths::from_vec(vec![in alloc; 34, 32, 33, 32]?);
     let row = Row::Map(pairs_below(alloc, count)?);
-    read_back(alloc, &map_type(alloc)?, &widths, row)
-}
-
-/// Whether the set of the ordinals below a number is read as it was packed.
-fn set_comes_back(alloc: Global, count: u32) -> Result<bool, AllocError> {
-    let elements = ordinals_below(alloc, count)?;
-    Ok(set_back(alloc, count)? == format!(in alloc; "Ok(Set({elements:?}))")?)
-}
-
-/// Whether the map of these pairs is.
-fn map_comes_back(alloc: Global, count: u32) -> Result<bool, AllocError> {
-    let pairs = pairs_below(alloc, count)?;
-    Ok(map_back(alloc, count)? == format!(in alloc; "Ok(Map({pairs:?}))")?)
+    comes_back(alloc, &map_type(alloc)?, &widths, row)
 }
 
 /// Whether both come back at each of some sizes.
 fn all_come_back(alloc: Global) -> Result<bool, AllocError> {
     for count in [0, 1, 2, 100] {
-        if !set_comes_back(alloc, count)? || !map_comes_back(alloc, count)? {
+        if !set_back(alloc, count)? || !map_back(alloc, count)? {
             return Ok(false);
         }
     }
@@ -309,10 +322,9 @@ impl Rows for Sample {
     }
 }
 
-/// A state of this type, and of an OBJECT that it is of, with one row at most.
-fn sample_of(alloc: Global, schema: Schema, row: Option<Row>) -> Result<Sample, AllocError>
-    requires { IfSome row (λ row. FitsShape schema.shape row × IsRowInRange row) }
-    ensures { IfOk result (λ sample. 0 < length sample.0) }
+/// A model of this type, and of an OBJECT that it is of.
+fn model_with(alloc: Global, schema: Schema) -> Result<Model, AllocError>
+    ensures { IfOk result (λ model. slice_get model 0 ≡ Some schema) }
 {
     let element = Schema {
         name: Name::from_text(alloc, "E")?,
@@ -320,9 +332,20 @@ fn sample_of(alloc: Global, schema: Schema, row: Option<Row>) -> Result<Sample, 
     };
     let schemas = Schemas::from_vec(vec![in alloc; schema, element]?);
     match model_of(alloc, schemas) {
-        Ok(model) => Ok(Sample { model, row }),
+        Ok(model) => Ok(model),
         Err(_) => Err(AllocError),
     }
+}
+
+/// A state of this type with one row.
+fn sample_of(alloc: Global, schema: Schema, row: Row) -> Result<Sample, AllocError>
+    requires { FitsShape schema.shape row × IsRowInRange row }
+    ensures { IfOk result (λ sample. 0 < length sample.0) }
+{
+    Ok(Sample {
+        model: model_with(alloc, schema)?,
+        row: Some(row),
+    })
 }
 
 /// A state with the set of the ordinals below a number.
@@ -330,7 +353,7 @@ fn set_sample(alloc: Global, count: u32) -> Result<Sample, AllocError>
     ensures { IfOk result (λ sample. 0 < length sample.0) }
 {
     let row = Row::Set(ordinals_below(alloc, count)?);
-    sample_of(alloc, set_type(alloc)?, Some(row))
+    sample_of(alloc, set_type(alloc)?, row)
 }
 
 /// A state with the map of each ordinal below a number to itself.
@@ -338,12 +361,12 @@ fn map_sample(alloc: Global, count: u32) -> Result<Sample, AllocError>
     ensures { IfOk result (λ sample. 0 < length sample.0) }
 {
     let row = Row::Map(pairs_below(alloc, count)?);
-    sample_of(alloc, map_type(alloc)?, Some(row))
+    sample_of(alloc, map_type(alloc)?, row)
 }
 
 /// The total and the widths of the first type over two states, as text.
-fn chosen(alloc: Global, old: &Sample, new: &Sample) -> Result<String, AllocError>
-    requires { 0 < length old.now.0 }
+fn chosen<A: Rows, B: Rows>(alloc: Global, old: &A, new: &B) -> Result<String, AllocError>
+    requires { 0 < length (A.schemas old.now) }
 {
     let total = total(alloc, old, new, 0)?;
     if total > MAX_ITEMS {
@@ -353,84 +376,38 @@ fn chosen(alloc: Global, old: &Sample, new: &Sample) -> Result<String, AllocErro
     format!(in alloc; "{total} {:?}\n", widths.as_slice())
 }
 
-/// A state without sets.
-fn no_sets_sample(alloc: Global) -> Result<Sample, AllocError>
-    ensures { IfOk result (λ sample. 0 < length sample.0) }
+/// What is chosen where neither of two states has a row, where both have it, and where it comes.
+fn all_chosen<A: Rows, B: Rows>(alloc: Global, none: &A, one: &B) -> Result<String, AllocError>
+    requires none { 0 < length (A.schemas none.now) }
+    requires one { 0 < length (B.schemas one.now) }
 {
-    sample_of(alloc, set_type(alloc)?, None)
-}
-
-/// What is chosen where neither state has sets.
-fn chosen_of_no_sets(alloc: Global) -> Result<String, AllocError> {
-    let none = no_sets_sample(alloc)?;
-    chosen(alloc, &none, &none)
-}
-
-/// What is chosen for a set that both states have.
-fn chosen_of_kept_set(alloc: Global) -> Result<String, AllocError> {
-    let set = set_sample(alloc, 4)?;
-    chosen(alloc, &set, &set)
-}
-
-/// What is chosen for a set that comes.
-fn chosen_of_new_set(alloc: Global) -> Result<String, AllocError> {
-    let none = no_sets_sample(alloc)?;
-    let set = set_sample(alloc, 4)?;
-    chosen(alloc, &none, &set)
-}
-
-/// All of these.
-fn chosen_of_sets(alloc: Global) -> Result<String, AllocError> {
-    let mut text = chosen_of_no_sets(alloc)?;
-    text.push_str(chosen_of_kept_set(alloc)?.as_str())?;
-    text.push_str(chosen_of_new_set(alloc)?.as_str())?;
+    let mut text = chosen(alloc, none, none)?;
+    text.push_str(chosen(alloc, one, one)?.as_str())?;
+    text.push_str(chosen(alloc, none, one)?.as_str())?;
     Ok(text)
+}
+
+/// The same for the row of a sample.
+fn chosen_of(alloc: Global, sample: &Sample) -> Result<String, AllocError>
+    requires { 0 < length sample.now.0 }
+{
+    let none = Sample {
+        model: sample.model.copy(alloc)?,
+        row: None,
+    };
+    all_chosen(alloc, &none, sample)
 }
 
 #[test]
 fn chosen_for_sets(rt: HostRuntime) -> Result<(), AllocError> {
-    let text = chosen_of_sets(rt.alloc())?;
+    let text = chosen_of(rt.alloc(), &set_sample(rt.alloc(), 4)?)?;
     assert!(rt; text.as_str() == "0 [1, 1, 1]\n8 [4, 3, 3]\n8 [4, 3, 3]\n");
     Ok(())
 }
 
-/// A state without maps.
-fn no_maps_sample(alloc: Global) -> Result<Sample, AllocError>
-    ensures { IfOk result (λ sample. 0 < length sample.0) }
-{
-    sample_of(alloc, map_type(alloc)?, None)
-}
-
-/// What is chosen where neither state has maps.
-fn chosen_of_no_maps(alloc: Global) -> Result<String, AllocError> {
-    let none = no_maps_sample(alloc)?;
-    chosen(alloc, &none, &none)
-}
-
-/// What is chosen for a map that both states have.
-fn chosen_of_kept_map(alloc: Global) -> Result<String, AllocError> {
-    let map = map_sample(alloc, 9)?;
-    chosen(alloc, &map, &map)
-}
-
-/// What is chosen for a map that comes.
-fn chosen_of_new_map(alloc: Global) -> Result<String, AllocError> {
-    let none = no_maps_sample(alloc)?;
-    let map = map_sample(alloc, 9)?;
-    chosen(alloc, &none, &map)
-}
-
-/// All of these.
-fn chosen_of_maps(alloc: Global) -> Result<String, AllocError> {
-    let mut text = chosen_of_no_maps(alloc)?;
-    text.push_str(chosen_of_kept_map(alloc)?.as_str())?;
-    text.push_str(chosen_of_new_map(alloc)?.as_str())?;
-    Ok(text)
-}
-
 #[test]
 fn chosen_for_maps(rt: HostRuntime) -> Result<(), AllocError> {
-    let text = chosen_of_maps(rt.alloc())?;
+    let text = chosen_of(rt.alloc(), &map_sample(rt.alloc(), 9)?)?;
     assert!(rt; text.as_str() == "0 [1, 1, 1, 1]\n16 [5, 4, 4, 4]\n16 [5, 4, 4, 4]\n");
     Ok(())
 }

@@ -1,10 +1,9 @@
 //! The widths, totals and bytes that are chosen for the rows of worked snapshots.
 ghost use Rattle.std.specs.Prelude.{◌<◌, length};
 
-use hol_io::{BlobName, BlobStore, SureStore};
+use crate::snapshots::loaded_of;
 use row_model::Rows;
 use schema_model::{MAX_BYTES, MAX_ITEMS, Shape};
-use snapshot_blob::read_snapshot;
 use std::alloc::{AllocError, Global};
 use std::test::Fail;
 
@@ -64,11 +63,7 @@ fn of_types<R: Rows>(alloc: Global, rows: &R) -> Result<String, AllocError> {
 
 /// What is chosen for the types of a snapshot, which is spelled in hexadecimal.
 fn of_snapshot(alloc: Global, spelled: &str) -> Result<String, Fail> {
-    let name = BlobName::Snapshot(1);
-    let blob = hex::decode(alloc, spelled).map_err(|_| "hexadecimal")?;
-    let mut store = SureStore::new(alloc);
-    store.put(&name, blob.as_slice()).map_err(|_| "put")?;
-    let loaded = read_snapshot(alloc, &mut store, &name)?;
+    let loaded = loaded_of(alloc, spelled)?;
     Ok(of_types(alloc, &loaded.rows())?)
 }
 
@@ -88,15 +83,25 @@ const LONGS: &str =
 const TEXTS: &str =
     "0000040600000000000000000000000000000047000000010000015400010001730006535452494E47000305010000000000051E000A6183B03D83BC0083B03D00000001000000000000000F";
 
+/// What is chosen for snapshots, each of which ends with an empty line.
+fn of_snapshots(alloc: Global, snapshots: &[&str]) -> Result<String, Fail> {
+    let mut lines = String::new(alloc);
+    for spelled in snapshots {
+        lines.push_str(of_snapshot(alloc, spelled)?.as_str())?;
+        lines.push('\n')?;
+    }
+    Ok(lines)
+}
+
+/// What is chosen for these four.
+const CHOSEN: &str = "[4] 0\n[3, 2, 2] 4\n\n\
+[0] 0\n[1, 1, 1] 1\n[1, 1, 1, 1] 1\n[1, 1] 0\n\n\
+[64] 0\n\n\
+[5] 10\n\n";
+
 #[test]
 fn chosen(rt: HostRuntime) -> Result<(), Fail> {
-    for (snapshot, lines) in [
-        (SET_OF_TWO, "[4] 0\n[3, 2, 2] 4\n"),
-        (EMPTY_ROWS, "[0] 0\n[1, 1, 1] 1\n[1, 1, 1, 1] 1\n[1, 1] 0\n"),
-        (LONGS, "[64] 0\n"),
-        (TEXTS, "[5] 10\n"),
-    ] {
-        assert_eq!(rt; of_snapshot(rt.alloc(), snapshot)?.as_str(), lines);
-    }
+    let lines = of_snapshots(rt.alloc(), &[SET_OF_TWO, EMPTY_ROWS, LONGS, TEXTS])?;
+    assert_eq!(rt; lines.as_str(), CHOSEN);
     Ok(())
 }

@@ -16,6 +16,10 @@ mod packed;
 #[cfg(test)]
 mod records;
 #[cfg(test)]
+mod snapshots;
+#[cfg(test)]
+mod texts;
+#[cfg(test)]
 mod two_states;
 #[cfg(test)]
 mod written;

@@ -1,11 +1,13 @@
 //! Lists at worked places, packed and read, and what is chosen where there are none.
-ghost use Rattle.std.specs.Prelude.{◌≡◌, ◌≤◌, ◌<◌, ◌^◌, length, All, IfOk};
-ghost use Rattle.list_codec.specs.ListPlace.{IsList};
+ghost use Rattle.std.specs.Prelude.{◌≡◌, ◌≤◌, ◌<◌, ◌^◌, ◌∷◌, [], length, All, IfOk, None, Some};
+ghost use Rattle.list_codec.specs.ListPlace.{HoldsListPlace, IsList};
+ghost use Rattle.list_codec.specs.Packing.{CanPack};
 
 use crate::no_rows::NoRows;
+use crate::texts::{row_told, words_told};
 use hol_varint::Ordinals;
 use list_codec::{pack, read, total, widths};
-use row_model::{Areas, Packed, Places, Row, Widths, Words};
+use row_model::{Areas, Packed, Parts, Places, Row, Widths, Words};
 use schema_model::{Model, Name, Schema, Shape};
 use std::alloc::{AllocError, Global};
 
@@ -31,36 +33,57 @@ fn words_of(alloc: Global, first: u64, second: u64) -> Result<Packed, AllocError
     })
 }
 
-/// What is read at a place, as text: pointers of 4 bits, elements of a width.
+/// What is read of parts at a place, as text.
+fn told<P: Parts>(
+    alloc: Global,
+    schema: &Schema,
+    widths: &Widths,
+    parts: &P,
+    place: u64,
+) -> Result<String, AllocError>
+    requires list { IsList schema.now.shape }
+    requires holds { HoldsListPlace widths.now (P.first_words parts.now) place }
+{
+    row_told(alloc, read(alloc, schema, widths, 3, parts, place))
+}
+
+/// What is read of words at a place, as text: pointers of 4 bits, elements of a width.
 fn read_at(
     alloc: Global,
     first: u64,
     second: u64,
     width: u32,
     place: u64,
-) -> Result<String, AllocError>
-    requires width { width ≤ 64 }
-    requires place { place < 16 }
-{
+) -> Result<String, AllocError> {
+    if width > 64 || place >= 16 {
+        return Err(AllocError);
+    }
     let widths = Widths::from_vec(vec![in alloc; 4, width]?);
     let packed = words_of(alloc, first, second)?;
-    let row = read(alloc, &list_type(alloc)?, &widths, 3, &packed, place);
-    format!(in alloc; "{row:?}\n")
+    told(alloc, &list_type(alloc)?, &widths, &packed, place)
 }
 
-/// What is read of lists, and where none stands.
-fn all_read(alloc: Global) -> Result<String, AllocError> {
-    let mut text = read_at(alloc, 0x33, 0x321, 4, 0)?;
-    text.push_str(read_at(alloc, 0x23, 0x321, 4, 1)?.as_str())?;
-    text.push_str(read_at(alloc, 0x43, 0x4321, 4, 1)?.as_str())?;
-    text.push_str(read_at(alloc, 0x21, 0, 0, 1)?.as_str())?;
-    text.push_str(read_at(alloc, 0x11, 0x1_0000_0000, 33, 0)?.as_str())?;
+/// Words of pointers and of elements, the width of these, and a place.
+const PLACES: [(u64, u64, u32, u64); 5] = [
+    (0x33, 0x321, 4, 0),
+    (0x23, 0x321, 4, 1),
+    (0x43, 0x4321, 4, 1),
+    (0x21, 0, 0, 1),
+    (0x11, 0x1_0000_0000, 33, 0),
+];
+
+/// What is read at places like these.
+fn all_read(alloc: Global, places: &[(u64, u64, u32, u64)]) -> Result<String, AllocError> {
+    let mut text = String::new(alloc);
+    for (first, second, width, place) in places {
+        text.push_str(read_at(alloc, *first, *second, *width, *place)?.as_str())?;
+    }
     Ok(text)
 }
 
 #[test]
 fn lists_read(rt: HostRuntime) -> Result<(), AllocError> {
-    let text = all_read(rt.alloc())?;
+    let text = all_read(rt.alloc(), &PLACES)?;
     assert!(rt;
         text.as_str()
             == "Ok(List(List { items: [1, 2, 3] }))\nErr(Bad(BadPointers))\nErr(Bad(BadPointers))\nOk(List(List { items: [0] }))\nErr(Bad(BadValue))\n"
@@ -68,20 +91,34 @@ fn lists_read(rt: HostRuntime) -> Result<(), AllocError> {
     Ok(())
 }
 
-/// The words of a place that has a list, and one that has no row, as text.
+/// A place that has a list, and one that has no row.
+fn list_and_none(alloc: Global, elements: Ordinals) -> Result<Places, AllocError>
+    ensures { IfOk result (λ places. places ≡ Some (Row.List elements) ∷ None ∷ []) }
+{
+    Ok(Places::from_vec(vec![in alloc; Some(Row::List(elements)), None]?))
+}
+
+/// The words of places, as text.
+fn places_told(
+    alloc: Global,
+    schema: &Schema,
+    widths: &Widths,
+    rows: &Places,
+) -> Result<String, AllocError>
+    requires { CanPack schema.now.shape widths.now rows.now }
+{
+    words_told(alloc, pack(alloc, schema, widths, rows)?)
+}
+
+/// The words of such places, for a list of elements of a width.
 fn pack_one(alloc: Global, elements: Ordinals, width: u32) -> Result<String, AllocError>
     requires narrow { width ≤ 64 }
     requires few { length elements < 2 ^ width }
     requires small { All (λ element. element < 2 ^ width) elements }
 {
     let widths = Widths::from_vec(vec![in alloc; width, width]?);
-    let rows = Places::from_vec(vec![in alloc; Some(Row::List(elements)), None]?);
-    let packed = pack(alloc, &list_type(alloc)?, &widths, &rows)?;
-    format!(in alloc;
-        "{:?} {:?}",
-        packed.first.as_slice(),
-        packed.second.as_slice()
-    )
+    let rows = list_and_none(alloc, elements)?;
+    places_told(alloc, &list_type(alloc)?, &widths, &rows)
 }
 
 /// Of an empty list.

@@ -4,7 +4,7 @@ ghost use Rattle.schema_model.specs.Parts.{shape_fields};
 ghost use Rattle.row_model.specs.Row.{FitsKind};
 ghost use Rattle.schema_model.specs.declared.schema.FieldKind.TheVariants.{Int as int_kind, Long as long_kind, Text as text_kind};
 ghost use Rattle.object_codec.specs.ObjectPlace.{IsObject, IsKindWidth};
-ghost use Rattle.object_codec.specs.Packing.{HasBytes, HoldsValue};
+ghost use Rattle.object_codec.specs.Packing.{CanPack, HasBytes, HoldsValue};
 ghost use Rattle.object_codec.specs.Stored.{value_bytes, values_bytes};
 ghost use Rattle.codec_cases.specs.Column.{places_of, present};
 
@@ -44,7 +44,24 @@ fn places(alloc: Global, values: Vec<Option<Value>>) -> Result<Places, AllocErro
     Ok(places)
 }
 
-/// The words of these places for a type with one field of a width, and the bytes of the field, as text.
+/// The words of places, and the bytes of each field, as text.
+fn words_told(
+    alloc: Global,
+    schema: &Schema,
+    widths: &Widths,
+    rows: &Places,
+) -> Result<String, AllocError>
+    requires { CanPack schema.now.shape widths.now rows.now }
+{
+    let packed = pack(alloc, schema, widths, rows)?;
+    format!(in alloc;
+        "{:?} {:?}\n",
+        packed.first.as_slice(),
+        packed.areas.as_slice()
+    )
+}
+
+/// The same of these places for a type with one field of a width.
 fn packed(
     alloc: Global,
     kind: FieldKind,
@@ -60,12 +77,8 @@ fn packed(
 {
     let schema = one_field(alloc, kind)?;
     let widths = Widths::from_vec(vec![in alloc; width]?);
-    let packed = pack(alloc, &schema, &widths, &places(alloc, values)?)?;
-    format!(in alloc;
-        "{:?} {:?}\n",
-        packed.first.as_slice(),
-        packed.areas.as_slice()
-    )
+    let rows = places(alloc, values)?;
+    words_told(alloc, &schema, &widths, &rows)
 }
 
 /// A text of so many bytes at most.

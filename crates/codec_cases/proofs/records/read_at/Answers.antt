@@ -12,7 +12,7 @@ holds fields widths first areas place is wide words filled inside =
     subst (λ w. HoldsPlace fields w first areas place) (sym is)
     record { few = omega arith; wide = wide; filled = filled ∙ long; within = omega arith; below = omega arith }
 
-pub read-row-requires-clause-holds : goal.read-row-requires-clause-holds
-read-row-requires-clause-holds c =
-    holds c.in_ok-fields.field-0 c.from_vec-widths.result c.in_ok-packed.packed.first c.in_ok-packed.packed.areas c.args.place
-    (c.from_vec-widths.ensures ∙ c.in_ok-vec.ensures.items) c.in_ok-fields.ensures c.in_ok-packed.ensures.words c.in_ok-packed.ensures.areas c.requires
+pub told-requires-clause-holds : goal.told-requires-clause-holds
+told-requires-clause-holds c =
+    holds _ c.from_vec-widths.result c.in_ok-packed.packed.first c.in_ok-packed.packed.areas c.args.place
+    (c.from_vec-widths.ensures ∙ c.in_ok-vec.ensures.items) c.in_ok-record_type.ensures.fields c.in_ok-packed.ensures.words c.in_ok-packed.ensures.areas (omega arith)
