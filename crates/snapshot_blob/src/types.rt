@@ -3,7 +3,9 @@ ghost use Rattle.std.specs.Prelude.{◌≡◌, List, All, IfOk, MatchResult, len
 ghost use Rattle.std.specs.List.{AllZip};
 ghost use Rattle.schema_model.specs.Model.{IsModel};
 ghost use Rattle.row_model.specs.Table.{RowMap, IsClosed};
+ghost use Rattle.type_state.specs.State.{empty_half};
 ghost use Rattle.type_state.specs.Views.{AreNext, next_halves, table_of};
+ghost use Rattle.type_rows.specs.Loads.{Loads};
 ghost use Rattle.type_rows.specs.WellFormed.{IsReadable, IsWellFormed};
 ghost use Rattle.snapshot_blob.specs.Body.{IsWholeBody};
 ghost use Rattle.snapshot_blob.specs.Stated.{AreAccepted, HasState, IsLoadedFrom, KeepsCounts, LoadsPart, Refuses, schemas_of};
@@ -15,7 +17,7 @@ use hol_varint::{Duplicate, GapList};
 use row_model::first_dangling;
 use schema_model::{Limit, MAX_ITEMS, MAX_ORDINALS, Model, ModelFault, Reason, Schemas, model_of};
 use std::alloc::{AllocError, Global};
-use type_rows::RowFault;
+use type_rows::{RowFault, Section};
 use type_state::{NextRows, TypeState, TypeStates};
 
 /// The state of a snapshot's types: their model, which their schemas are, the rows of each in the next half of its
@@ -102,8 +104,25 @@ fn load_type(alloc: Global, part: TypePart) -> Result<TypeState, BlobFault>
         section,
     } = part;
     let mut state = TypeState::new(alloc, schema);
-    match state.load_next(&section) {
+    match load_rows(alloc, &mut state, at, &section) {
         Ok(()) => Ok(state),
+        Err(fault) => Err(fault),
+    }
+}
+
+// Loads a section, whose schema stands at this offset, into the next half of a state.
+fn load_rows(
+    alloc: Global,
+    state: &mut TypeState,
+    at: u64,
+    section: &Section,
+) -> Result<(), BlobFault>
+    requires readable { IsReadable state.old.schema.shape section.now }
+    requires empty { state.old.current ≡ empty_half }
+    ensures { MatchResult result (λ done. IsLoadedFrom (record { at = at; schema = state.old.schema; section = section.now }) state.new) (Refuses ((rows : RowMap) × Loads state.old.schema.shape section.now rows)) }
+{
+    match state.load_next(section) {
+        Ok(()) => Ok(()),
         Err(RowFault::At(reason, ordinal)) => {
             let name = state.schema().name.copy(alloc)?;
             Err(BlobFault::BadRow(at, reason, name, ordinal))
