@@ -41,36 +41,19 @@ pub(crate) fn add_tree(
             put_row(maps, type_index, Row::Object(values))
         }
         (Shape::List(element), Tree::List(parts)) => {
-            let ordinals = add_all(
-                alloc,
-                model,
-                maps,
-                index_of(model, element),
-                parts.as_slice(),
-            )?;
+            let element = index_of(model, element);
+            let ordinals = add_all(alloc, model, maps, element, parts.as_slice())?;
             put_row(maps, type_index, Row::List(ordinals))
         }
         (Shape::Set(element), Tree::Set(parts)) => {
-            let ordinals = add_all(
-                alloc,
-                model,
-                maps,
-                index_of(model, element),
-                parts.as_slice(),
-            )?;
+            let element = index_of(model, element);
+            let ordinals = add_all(alloc, model, maps, element, parts.as_slice())?;
             let members = set_of(alloc, ordinals.as_slice())?;
             put_row(maps, type_index, Row::Set(members))
         }
         (Shape::Map(key, value), Tree::Map(parts)) => {
-            let key_type = index_of(model, key);
-            let pairs = add_pairs(
-                alloc,
-                model,
-                maps,
-                key_type,
-                index_of(model, value),
-                parts.as_slice(),
-            )?;
+            let (key, value) = (index_of(model, key), index_of(model, value));
+            let pairs = add_pairs(alloc, model, maps, key, value, parts.as_slice())?;
             let members = map_of(alloc, pairs.as_slice())?;
             put_row(maps, type_index, Row::Map(members))
         }

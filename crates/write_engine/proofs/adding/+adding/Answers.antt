@@ -197,10 +197,10 @@ pub add_tree-returns-in_ok-members-in-Map-Map-clause-added : goal.add_tree-retur
 add_tree-returns-in_ok-members-in-Map-Map-clause-added t c =
     subst (λ tree. IfOk c.put_row-in-Map-Map.result (λ ordinal. Adds c.args.model.now (previous_of c.args.maps.now) c.args.type_index tree (current_of c.args.maps.now) ordinal (current_of c.put_row-in-Map-Map.new.maps)))
     (map_image c.args.tree.now c.in-Map-Map.parts c.in-Map-Map.parts.items.items c.in-Map-Map.is-1 refl)
-    (map_put c.args.model.now (previous_of c.args.maps.now) _ c.args.type_index c.schema.result.now c.in-Map-Map.key c.in-Map-Map.value c.index_of-key_type.result c.index_of-in-Map-Map.result
+    (map_put c.args.model.now (previous_of c.args.maps.now) _ c.args.type_index c.schema.result.now c.in-Map-Map.key c.in-Map-Map.value c.index_of-key.result c.index_of-value.result
     (pairs_of_list (map plain_pair c.in-Map-Map.parts.items.items)) (current_of c.args.maps.now) _ _ c.in_ok-pairs-in-Map-Map.pairs c.in_ok-members-in-Map-Map.members c.put_row-in-Map-Map.result
-    c.schema.ensures.value c.in-Map-Map.is-0 c.index_of-key_type.ensures c.index_of-in-Map-Map.ensures c.in_ok-pairs-in-Map-Map.ensures.previous
-    (subst (λ ps. AddsPairs c.args.model.now (previous_of c.args.maps.now) (c.index_of-key_type.result, c.index_of-in-Map-Map.result) (pairs_of_list (map plain_pair ps)) (current_of c.args.maps.now) c.in_ok-pairs-in-Map-Map.pairs (current_of c.add_pairs.new.maps)) c.as_slice-in-Map-Map.ensures
+    c.schema.ensures.value c.in-Map-Map.is-0 c.index_of-key.ensures c.index_of-value.ensures c.in_ok-pairs-in-Map-Map.ensures.previous
+    (subst (λ ps. AddsPairs c.args.model.now (previous_of c.args.maps.now) (c.index_of-key.result, c.index_of-value.result) (pairs_of_list (map plain_pair ps)) (current_of c.args.maps.now) c.in_ok-pairs-in-Map-Map.pairs (current_of c.add_pairs.new.maps)) c.as_slice-in-Map-Map.ensures
     c.in_ok-pairs-in-Map-Map.ensures.added)
     (subst (λ ps. IsMapOf ps c.in_ok-members-in-Map-Map.members) c.as_slice-in-Map-Map-2.ensures c.in_ok-members-in-Map-Map.ensures) c.put_row-in-Map-Map.ensures.put)
 
@@ -245,14 +245,14 @@ add_tree-returns-in_ok-values-in-Object-Object-clause-too_many t c = λ is ordin
 pub add_tree-returns-in_ok-ordinals-in-List-List-clause-too_many : goal.add_tree-returns-in_ok-ordinals-in-List-List-clause-too_many
 add_tree-returns-in_ok-ordinals-in-List-List-clause-too_many t c = λ is ordinal after adds.
     list_unput c.args.model.now (previous_of c.args.maps.now) _ c.in_ok-ordinals-in-List-List.ensures.previous c.args.type_index c.schema.result.now c.schema.ensures.value (current_of c.args.maps.now) c.requires.agree ordinal after
-    (trees_of_list (map plain c.as_slice-in-List-List.result.now)) c.in-List-List.element c.index_of.result c.index_of.ensures c.in-List-List.is-0
+    (trees_of_list (map plain c.as_slice-in-List-List.result.now)) c.in-List-List.element c.index_of-element.result c.index_of-element.ensures c.in-List-List.is-0
     c.in_ok-ordinals-in-List-List.ordinals _ c.in_ok-ordinals-in-List-List.ensures.added (c.put_row-in-List-List.ensures.too_many is)
     (subst (λ tree. Adds c.args.model.now (previous_of c.args.maps.now) c.args.type_index tree (current_of c.args.maps.now) ordinal after) (sym (list_image c.args.tree.now c.in-List-List.parts c.as_slice-in-List-List.result.now c.in-List-List.is-1 c.as_slice-in-List-List.ensures)) adds)
 
 pub add_tree-returns-in_ok-members-in-Set-Set-clause-too_many : goal.add_tree-returns-in_ok-members-in-Set-Set-clause-too_many
 add_tree-returns-in_ok-members-in-Set-Set-clause-too_many t c = λ is ordinal after adds.
     set_unput c.args.model.now (previous_of c.args.maps.now) _ c.in_ok-ordinals-in-Set-Set.ensures.previous c.args.type_index c.schema.result.now c.schema.ensures.value (current_of c.args.maps.now) c.requires.agree ordinal after
-    (trees_of_list (map plain c.as_slice-in-Set-Set.result.now)) c.in-Set-Set.element c.index_of-in-Set-Set.result c.index_of-in-Set-Set.ensures c.in-Set-Set.is-0
+    (trees_of_list (map plain c.as_slice-in-Set-Set.result.now)) c.in-Set-Set.element c.index_of-element-in-Set-Set.result c.index_of-element-in-Set-Set.ensures c.in-Set-Set.is-0
     c.in_ok-ordinals-in-Set-Set.ordinals c.in_ok-members-in-Set-Set.members _ c.in_ok-ordinals-in-Set-Set.ensures.added
     (subst (λ os. IsSetOf os c.in_ok-members-in-Set-Set.members) c.as_slice-in-Set-Set-2.ensures c.in_ok-members-in-Set-Set.ensures) (c.put_row-in-Set-Set.ensures.too_many is)
     (subst (λ tree. Adds c.args.model.now (previous_of c.args.maps.now) c.args.type_index tree (current_of c.args.maps.now) ordinal after) (sym (set_image c.args.tree.now c.in-Set-Set.parts c.as_slice-in-Set-Set.result.now c.in-Set-Set.is-1 c.as_slice-in-Set-Set.ensures)) adds)
@@ -260,7 +260,7 @@ add_tree-returns-in_ok-members-in-Set-Set-clause-too_many t c = λ is ordinal af
 pub add_tree-returns-in_ok-members-in-Map-Map-clause-too_many : goal.add_tree-returns-in_ok-members-in-Map-Map-clause-too_many
 add_tree-returns-in_ok-members-in-Map-Map-clause-too_many t c = λ is ordinal after adds.
     map_unput c.args.model.now (previous_of c.args.maps.now) _ c.in_ok-pairs-in-Map-Map.ensures.previous c.args.type_index c.schema.result.now c.schema.ensures.value (current_of c.args.maps.now) c.requires.agree ordinal after
-    (pairs_of_list (map plain_pair c.as_slice-in-Map-Map.result.now)) c.in-Map-Map.key c.in-Map-Map.value c.index_of-key_type.result c.index_of-in-Map-Map.result c.index_of-key_type.ensures c.index_of-in-Map-Map.ensures c.in-Map-Map.is-0
+    (pairs_of_list (map plain_pair c.as_slice-in-Map-Map.result.now)) c.in-Map-Map.key c.in-Map-Map.value c.index_of-key.result c.index_of-value.result c.index_of-key.ensures c.index_of-value.ensures c.in-Map-Map.is-0
     c.in_ok-pairs-in-Map-Map.pairs c.in_ok-members-in-Map-Map.members _ c.in_ok-pairs-in-Map-Map.ensures.added
     (subst (λ ps. IsMapOf ps c.in_ok-members-in-Map-Map.members) c.as_slice-in-Map-Map-2.ensures c.in_ok-members-in-Map-Map.ensures) (c.put_row-in-Map-Map.ensures.too_many is)
     (subst (λ tree. Adds c.args.model.now (previous_of c.args.maps.now) c.args.type_index tree (current_of c.args.maps.now) ordinal after) (sym (map_image c.args.tree.now c.in-Map-Map.parts c.as_slice-in-Map-Map.result.now c.in-Map-Map.is-1 c.as_slice-in-Map-Map.ensures)) adds)
