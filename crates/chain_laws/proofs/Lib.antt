@@ -4,7 +4,6 @@ mod BlobTags
 mod ConsumerLines
 mod ConsumerMoves
 mod ConsumerOrders
-mod FewPaths
 mod FreshAnswers
 mod FreshIndexes
 mod FreshKeys

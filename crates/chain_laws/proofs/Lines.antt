@@ -40,7 +40,7 @@ use Rattle.chain_laws.specs.Growth.{AddsState, GrowsBy, GrowsAlong}
 use Rattle.chain_laws.specs.Producers.{IsOver, IsProducerOf, KeepsChain, state_behind}
 use Rattle.chain_laws.proofs.AddedIndexes.{index_added}
 use Rattle.chain_laws.proofs.Answering.{IsNoCycle, unless_cycle, at_no_cycle, find_no_cycle, get_no_cycle, has_no_cycle, live_no_cycle, row_no_cycle, past_no_cycle}
-use Rattle.chain_laws.proofs.FewPaths.{few_paths}
+use Rattle.written_laws.proofs.FewPaths.{few_paths}
 use Rattle.chain_laws.proofs.PublishedState.{first_kept, later_kept, over_longer, versions_stay}
 use Rattle.chain_laws.proofs.StoreNames.{found_with}
 use Rattle.chain_laws.proofs.ValueTexts.{named_texts}

@@ -1,5 +1,5 @@
 -- What the parts of the order `cycle` tell that come before anything is written.
-use Rattle.std.specs.Prelude.{◌<◌, ◌≤◌, ℕ, ℤ, List, length, Bool, true, false, Option, Some, None, Result, Ok, Err, ⊤}
+use Rattle.std.specs.Prelude.{◌<◌, ℕ, ℤ, List, length, Bool, true, false, Option, Some, None, Result, Ok, Err, ⊤}
 use Rattle.serde_json.specs.Data.{Data}
 use Rattle.hol_io.specs.Store.{Store}
 use Rattle.schema_model.specs.declared.schema.Schema.{Schema}
@@ -9,8 +9,6 @@ use Rattle.write_engine.specs.Cycle.{Next}
 use Rattle.hol_refusals.specs.declared.refusal.Refusal.{Refusal}
 use Rattle.hollow_machine.specs.Follow.{MayFollow, MayNotFollow}
 use Rattle.hollow_machine.specs.Records.{AreRead, AreTypes, Entry, IsFirstUnknown, IsFirstUnread}
-use Rattle.hol_orders.specs.declared.order_stop.OrderStop.{OrderStop}
-use Rattle.hol_orders.specs.declared.order_stop.OrderStop.TheVariants as stop
 use Rattle.producer_orders.specs.declared.record_fault.RecordFault.{RecordFault}
 use Rattle.producer_orders.specs.declared.record_fault.RecordFault.TheVariants as fault
 
