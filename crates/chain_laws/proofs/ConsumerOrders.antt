@@ -15,8 +15,10 @@ use Rattle.read_engine.specs.Position.{Position}
 use Rattle.read_engine.specs.Taking.{LoadsFrom, StepsBy}
 use Rattle.hol_refusals.specs.declared.refusal.Refusal.{Refusal}
 use Rattle.hol_refusals.specs.declared.refusal.Refusal.TheVariants.{BadBlob, BadBody, NoBlob, NoState, OtherOrigin, TooLarge}
+use Rattle.hol_refusals.specs.Refusal.{other_origin}
 use Rattle.hol_answers.specs.declared.reply.Reply.{Reply}
 use Rattle.hol_answers.specs.declared.reply.Reply.TheVariants as reply
+use Rattle.hollow_machine.proofs.Refusals.{one_header, some_one}
 use Rattle.hollow_machine.specs.Blobs.{SnapshotRefusal}
 use Rattle.hollow_machine.specs.LoadOrder.{LoadStep}
 use Rattle.hollow_machine.specs.State.{Machine}
@@ -37,14 +39,6 @@ step_named from to = by_order (nat_lt from to)
     by_order true = tt
     by_order false = tt
 
-pub some_one : {A : Type 0} (o : Option A) (a b : A) → o ≡ Some a → o ≡ Some b → a ≡ b
-some_one o a b one other = let same : Some a ≡ Some b = sym one ∙ other in cc
-
-pub one_header : (content : Option (List ℕ)) (a b : Header) → HasHeader content a → HasHeader content b → a ≡ b
-one_header content a b (x, n, at_x, short_x, begins_x) (y, m, at_y, short_y, begins_y) =
-    let same : y ≡ x = some_one content y x at_y at_x in
-    (header.decided.one x 0 a b n m begins_x (subst (λ (blob : List ℕ). HeaderIs blob m b) same begins_y)).0
-
 -- a delta starts where its header says
 delta_origin : (content : Option (List ℕ)) (blob : List ℕ) (head : Header) (origin destination : ℤ) (patch : List TypePatch) → content ≡ Some blob → HasHeader content head → DeltaIs blob origin destination patch
     → head.origin ≡ origin
@@ -60,13 +54,13 @@ delta_origin content blob head origin destination patch at (x, n, at_x, short, b
 pub no_refusal : (name : BlobName) (content : Option (List ℕ)) (head : Header) (blob : List ℕ) (now to : Position) → content ≡ Some blob → HasHeader content head → head.origin ≡ now.tag → StepsBy blob now to
     → (refusal : Refusal) → StepRefusal name content (Some now) refusal → ⊥
 no_refusal name content head blob now to at has starts steps NoState is = absurd cc
-no_refusal name content head blob now to at has starts steps (OtherOrigin other origin current) (named, current_is, apart, (its, its_has, its_origin)) =
+no_refusal name content head blob now to at has starts steps (OtherOrigin fault) (named, current_is, apart, (its, its_has, its_origin)) =
     apart (sym its_origin ∙ ap (λ (h : Header). h.origin) (one_header content its head its_has has) ∙ starts ∙ sym current_is)
 no_refusal name content head blob now to at has starts steps (BadBody other) (named, (its, x, its_has, at_x, its_origin, none)) =
     none to (subst (λ (b : List ℕ). StepsBy b now to) (some_one content blob x at at_x) steps)
 no_refusal name content head blob now to at has starts steps (NoBlob other) (named, none) = let no : Some blob ≡ None = sym at ∙ none in absurd cc
-no_refusal name content head blob now to at (y, n, at_y, short, begin) starts steps (BadBlob other place reason row) (x, at_x, its_short, stuck, named, row_is) =
-    header.decided.apart x 0 head n place reason (subst (λ (b : List ℕ). HeaderIs b n head) (some_one content y x at_y at_x) begin) stuck
+no_refusal name content head blob now to at (y, n, at_y, short, begin) starts steps (BadBlob fault) (x, at_x, its_short, stuck, named, row_is) =
+    header.decided.apart x 0 head n fault.at fault.reason (subst (λ (b : List ℕ). HeaderIs b n head) (some_one content y x at_y at_x) begin) stuck
 no_refusal name content head blob now to at (y, n, at_y, short, begin) starts steps (TooLarge what) (x, at_x, over, what_is) =
     let same : length y ≡ length x = ap (λ (b : List ℕ). length b) (some_one content y x at_y at_x) in omega (arith, short, over, same)
 no_refusal name content head blob now to at has starts steps _ is = absurd is
@@ -114,16 +108,16 @@ module _ (machine : Machine) (chain : Chain) (name : BlobName) (now : Position) 
 -- ---- a step from another state
 
 other_refusal : (name : BlobName) (content : Option (List ℕ)) (head : Header) (now : Position) (origin : ℤ) → HasHeader content head → head.origin ≡ origin → origin ≢ now.tag
-    → (refusal : Refusal) → StepRefusal name content (Some now) refusal → refusal ≡ OtherOrigin name origin now.tag
+    → (refusal : Refusal) → StepRefusal name content (Some now) refusal → refusal ≡ other_origin name origin now.tag
 other_refusal name content head now origin has starts apart NoState is = absurd cc
-other_refusal name content head now origin has starts apart (OtherOrigin other at current) (named, current_is, not, (its, its_has, its_origin)) =
-    let from : at ≡ origin = sym its_origin ∙ ap (λ (h : Header). h.origin) (one_header content its head its_has has) ∙ starts in
-    λ i. OtherOrigin (named i) (from i) (current_is i)
+other_refusal name content head now origin has starts apart (OtherOrigin fault) (named, current_is, not, (its, its_has, its_origin)) =
+    let from : fault.found ≡ origin = sym its_origin ∙ ap (λ (h : Header). h.origin) (one_header content its head its_has has) ∙ starts in
+    λ i. other_origin (named i) (from i) (current_is i)
 other_refusal name content head now origin has starts apart (BadBody other) (named, (its, x, its_has, at_x, its_origin, none)) =
     absurd (apart (sym starts ∙ ap (λ (h : Header). h.origin) (one_header content head its has its_has) ∙ its_origin))
 other_refusal name content head now origin (y, n, at_y, short, begin) starts apart (NoBlob other) (named, none) = let no : Some y ≡ None = sym at_y ∙ none in absurd cc
-other_refusal name content head now origin (y, n, at_y, short, begin) starts apart (BadBlob other place reason row) (x, at_x, its_short, stuck, named, row_is) =
-    absurd (header.decided.apart x 0 head n place reason (subst (λ (b : List ℕ). HeaderIs b n head) (some_one content y x at_y at_x) begin) stuck)
+other_refusal name content head now origin (y, n, at_y, short, begin) starts apart (BadBlob fault) (x, at_x, its_short, stuck, named, row_is) =
+    absurd (header.decided.apart x 0 head n fault.at fault.reason (subst (λ (b : List ℕ). HeaderIs b n head) (some_one content y x at_y at_x) begin) stuck)
 other_refusal name content head now origin (y, n, at_y, short, begin) starts apart (TooLarge what) (x, at_x, over, what_is) =
     let same : length y ≡ length x = ap (λ (b : List ℕ). length b) (some_one content y x at_y at_x) in absurd (omega (arith, short, over, same))
 other_refusal name content head now origin has starts apart _ is = absurd is
@@ -132,13 +126,13 @@ module _ (machine : Machine) (name : BlobName) (now : Position) (origin : ℤ) (
   abbrev content : Option (List ℕ)
   content = get machine.store name
 
-  pub other_refused : StepStep machine name (reply.Refused (OtherOrigin name origin now.tag)) machine
+  pub other_refused : StepStep machine name (reply.Refused (other_origin name origin now.tag)) machine
   other_refused = (
-    subst (λ (consumer : Option Position). StepRefusal name content consumer (OtherOrigin name origin now.tag)) (sym was) (refl, refl, apart, (starts.0, starts.1, starts.2)),
+    subst (λ (consumer : Option Position). StepRefusal name content consumer (other_origin name origin now.tag)) (sym was) (refl, refl, apart, (starts.0, starts.1, starts.2)),
     refl,
   )
 
-  pub other_only : (answer : Reply) (next : Machine) → StepStep machine name answer next → (answer ≡ reply.Refused (OtherOrigin name origin now.tag)) × (next ≡ machine)
+  pub other_only : (answer : Reply) (next : Machine) → StepStep machine name answer next → (answer ≡ reply.Refused (other_origin name origin now.tag)) × (next ≡ machine)
   other_only (reply.Step tag) next step =
       let (here, also, (blob, to, at, steps, tag_is, next_is)) = found_with machine.consumer _ step in
       let same : here ≡ now = some_one machine.consumer here now also was in
@@ -157,9 +151,9 @@ pub no_load_refusal : (version : ℕ) (content : Option (List ℕ)) (blob : List
 no_load_refusal version content blob position at (head, accepted, tag, before, bare) (BadBody other) (named, (its, x, has, at_x, none)) =
     none head position.schemas position.halves (subst (λ (b : List ℕ). IsAccepted b head position.schemas position.halves) (some_one content blob x at at_x) accepted)
 no_load_refusal version content blob position at loads (NoBlob other) (named, none) = let no : Some blob ≡ None = sym at ∙ none in absurd cc
-no_load_refusal version content blob position at (head, accepted, tag, before, bare) (BadBlob other place reason row) (x, at_x, its_short, stuck, named, row_is) =
+no_load_refusal version content blob position at (head, accepted, tag, before, bare) (BadBlob fault) (x, at_x, its_short, stuck, named, row_is) =
     let (n, begin, short) = begins blob head position.schemas position.halves accepted in
-    header.decided.apart x 0 head n place reason (subst (λ (b : List ℕ). HeaderIs b n head) (some_one content blob x at at_x) begin) stuck
+    header.decided.apart x 0 head n fault.at fault.reason (subst (λ (b : List ℕ). HeaderIs b n head) (some_one content blob x at at_x) begin) stuck
 no_load_refusal version content blob position at (head, accepted, tag, before, bare) (TooLarge what) (x, at_x, over, what_is) =
     let (n, begin, short) = begins blob head position.schemas position.halves accepted in
     let same : length blob ≡ length x = ap (λ (b : List ℕ). length b) (some_one content blob x at at_x) in omega (arith, short, over, same)

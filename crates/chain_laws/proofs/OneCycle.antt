@@ -34,6 +34,7 @@ use Rattle.chain_store.specs.Announced.{Announces, IsAnnounced, IsBadlyAnnounced
 use Rattle.chain_store.specs.Versions.{last_version}
 use Rattle.hol_refusals.specs.declared.refusal.Refusal.{Refusal}
 use Rattle.hol_refusals.specs.declared.refusal.Refusal.TheVariants as refused
+use Rattle.hol_refusals.specs.Refusal.{bad_item, bad_record}
 use Rattle.hol_answers.specs.declared.reply.Reply.{Reply}
 use Rattle.hol_answers.specs.declared.reply.Reply.TheVariants as reply
 use Rattle.hollow_machine.specs.CycleOrder.{AreNamed, CycleRefusal, CycleStep, Leaves, Makes, PassesLimit, Publishes, RefusesAfter, Succeeds}
@@ -73,7 +74,7 @@ module _ (store : Store) (last version : ℕ) (tag : ℤ) where
   one_version u v one other = one_announced (told (Some store) Announced) u v one other
 
   may_apart : (refusal : Refusal) → MayNotFollow store last version tag refusal → MayFollow store last version tag → ⊥
-  may_apart (refused.BadBlob blob at reason row) is may = bad_apart last is.0 may.announced
+  may_apart (refused.BadBlob fault) is may = bad_apart last is.0 may.announced
   may_apart (refused.NotLast announced) is may = is.1 (one_version announced last is.0 may.announced)
   may_apart (refused.BadVersion greatest) is may = let low = is.2 in let same = is.1 in let later = may.later in omega (arith, low, same, later)
   may_apart (refused.TagUsed used) is may = may.unused is.3
@@ -81,13 +82,13 @@ module _ (store : Store) (last version : ℕ) (tag : ℤ) where
 
   abbrev Why : Refusal → Type 0
   Why refusal =
-      (IsBadlyAnnounced store × (refusal ≡ refused.BadBlob Announced 0 BadAnnounced None))
+      (IsBadlyAnnounced store × (refusal ≡ bad_item Announced 0 BadAnnounced))
       ⊎ (((announced : ℕ) × IsAnnounced store announced × (announced ≢ last) × (refusal ≡ refused.NotLast announced))
       ⊎ ((IsAnnounced store last × (version ≤ last_version store) × (refusal ≡ refused.BadVersion (last_version store)))
       ⊎ (IsAnnounced store last × (last_version store < version) × (refusal ≡ refused.TagUsed tag))))
 
   why : (refusal : Refusal) → MayNotFollow store last version tag refusal → Why refusal
-  why (refused.BadBlob blob at reason row) is = inl (is.0, (λ i. refused.BadBlob (is.1 i) (is.2 i) (is.3 i) (is.4 i)))
+  why (refused.BadBlob fault) is = inl (is.0, (λ i. refused.BadBlob (record { blob = is.1 i; at = is.2 i; reason = is.3 i; row = is.4 i })))
   why (refused.NotLast announced) is = inr (inl (announced, is.0, is.1, refl))
   why (refused.BadVersion greatest) is =
       let same = is.1 in let low = is.2 in inr (inr (inl (is.0, omega (arith, same, low), ap (λ n. refused.BadVersion n) same)))
@@ -344,7 +345,7 @@ module _ (written : WrittenOnce) (machine : Machine) (last : Published) (version
 
   abbrev Unread : Refusal → Type 0
   Unread refusal =
-      (name : List ℕ) × (place : ℕ) × (reason : Reason) × (refusal ≡ refused.BadRecord name place reason)
+      (name : List ℕ) × (place : ℕ) × (reason : Reason) × (refusal ≡ bad_record name place reason)
       × ((t : ℕ) × IsSomeAnd (slice_get last.model t) (λ (s : Schema). s.name ≡ name) × IsFirstUnread last.model (entries last.model add) t place reason)
 
   abbrev AfterKind : Refusal → Type 0
@@ -355,7 +356,7 @@ module _ (written : WrittenOnce) (machine : Machine) (last : Published) (version
 
   after_kind : (refusal : Refusal) → RefusesAfter store last version tag add refusal → AfterKind refusal
   after_kind (refused.NoType name) is = inr (is.0, inl (name, refl, is.1))
-  after_kind (refused.BadRecord name place reason) is = inr (is.0, inr (is.1, inl (name, place, reason, refl, is.2)))
+  after_kind (refused.BadRecord fault) is = inr (is.0, inr (is.1, inl (fault.type_name, fault.index, fault.reason, refl, is.2)))
   after_kind (refused.TooLarge passed) is = inr (is.0, inr (is.1, inr (passed, refl, pass_kind passed is.2)))
   after_kind _ is = inl is
 
@@ -367,7 +368,7 @@ module _ (written : WrittenOnce) (machine : Machine) (last : Published) (version
   unread_same r s (name, place, reason, is, (t, named, first)) (other, place_too, reason_too, is_too, (u, named_too, first_too)) =
       let same = unread_one last add once t u place place_too reason reason_too first first_too in
       let names = name_at (slice_get last.model u) name other (subst (λ k. IsSomeAnd (slice_get last.model k) (λ (s : Schema). s.name ≡ name)) same.0 named) named_too in
-      is ∙ (λ i. refused.BadRecord (names i) (same.1 i) (same.2 i)) ∙ sym is_too
+      is ∙ (λ i. bad_record (names i) (same.1 i) (same.2 i)) ∙ sym is_too
 
   unread_apart : (r : Refusal) (trees : List (ℕ × PlainTree)) → AreRead last.model (entries last.model add) trees → Unread r → ⊥
   unread_apart r trees read (name, place, reason, is, (t, named, first)) = no_tree last add once trees t place reason read first

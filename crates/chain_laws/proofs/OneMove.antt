@@ -1,33 +1,31 @@
 -- A load and a step of a consumer have one answer line, and leave one machine.
-use Rattle.std.proofs.Common.{◌≡◌, ◌≢◌, ◌≤◌, ◌<◌, ◌⊎◌, ℕ, suc, List, [], ◌∷◌, length, Option, Some, None, inl, inr, refl, sym, ap, subst, ◌∙◌, arith}
+use Rattle.std.proofs.Common.{◌≡◌, ◌≢◌, ◌<◌, ◌⊎◌, ℕ, suc, List, [], ◌∷◌, length, Option, Some, None, inl, inr, refl, sym, ap, subst, ◌∙◌, arith}
 use Rattle.std.specs.Prelude.{IfSome}
 use Rattle.std.specs.FinMap.{get}
-use Rattle.std.proofs.lemmas.Bool.{cases_eq, cases_lt}
+use Rattle.std.proofs.lemmas.Bool.{cases_eq}
 use Rattle.std.proofs.lemmas.List.{length-map}
 use Rattle.std.proofs.lemmas.List.Elements.{All-cons, All-head, All-nil, All-tail}
 use Rattle.hol_io.specs.declared.name.BlobName.{BlobName}
 use Rattle.hol_io.specs.declared.name.BlobName.TheVariants.{Snapshot}
-use Rattle.schema_model.specs.declared.limit.Limit.TheVariants as limit
 use Rattle.schema_model.specs.declared.model.rule.Rule.TheVariants.{DuplicateName}
-use Rattle.schema_model.specs.declared.reason.Reason.{Reason}
 use Rattle.schema_model.specs.declared.schema.Schema.{Schema}
-use Rattle.schema_model.specs.Limit.{number_of_limit}
 use Rattle.schema_model.specs.Model.{IsKept}
 use Rattle.type_state.specs.State.{Half}
 use Rattle.type_state.specs.Views.{table_of}
 use Rattle.blob_frame.specs.declared.header.Header.{Header}
-use Rattle.blob_frame.specs.Header.{StuckInHeader, header}
 use Rattle.blob_frame.specs.Header.{HasHeader}
 use Rattle.snapshot_blob.proofs.Whole.{one_snapshot}
 use Rattle.delta_blob.specs.Moved.{EachNamed, IsAt, IsUnnamed, Moved}
 use Rattle.delta_blob.specs.Patch.{TypePatch}
 use Rattle.hol_refusals.specs.declared.refusal.Refusal.{Refusal}
-use Rattle.hol_refusals.specs.declared.refusal.Refusal.TheVariants.{BadBlob, BadBody, NoBlob, NoState, OtherOrigin, TooLarge}
+use Rattle.hol_refusals.specs.declared.refusal.Refusal.TheVariants.{BadBody, NoState, OtherOrigin}
+use Rattle.hol_refusals.specs.Refusal.{other_origin}
 use Rattle.hol_answers.specs.declared.reply.Reply.{Reply}
 use Rattle.hol_answers.specs.declared.reply.Reply.TheVariants as reply
 use Rattle.read_engine.specs.Position.{Position, rows_now}
 use Rattle.read_engine.specs.Taking.{LoadsFrom, StepsBy, layout_at}
-use Rattle.hollow_machine.specs.Blobs.{HeadRefusal, SnapshotRefusal}
+use Rattle.hollow_machine.specs.Blobs.{HeadRefusal}
+use Rattle.hollow_machine.proofs.Refusals.{head_apart, one_head_refusal, one_header, one_snapshot_refusal, some_one}
 use Rattle.hollow_machine.specs.LoadOrder.{LoadStep}
 use Rattle.hollow_machine.specs.State.{Machine}
 use Rattle.hollow_machine.specs.StepOrder.{StepRefusal, StepStep}
@@ -36,7 +34,7 @@ use Rattle.delta_blob.proofs.Indexed.{one_index}
 use Rattle.written_laws.proofs.PatchOnce.{patch_once}
 use Rattle.chain_laws.specs.Answers.{SaysOne}
 use Rattle.chain_laws.proofs.BlobTags.{delta_begins}
-use Rattle.chain_laws.proofs.ConsumerOrders.{no_load_refusal, no_refusal, one_header, some_one}
+use Rattle.chain_laws.proofs.ConsumerOrders.{no_load_refusal, no_refusal}
 use Rattle.chain_laws.proofs.OneLook.{says}
 use Rattle.chain_laws.proofs.StoreNames.{found_with}
 use Rattle.chain_laws.proofs.TypedConsumers.{IsTyped}
@@ -48,47 +46,6 @@ Alike one next other after = SaysOne one other × (next ≡ after)
 alike : (one other : Reply) (next after : Machine) → one ≡ other → next ≡ after → Alike one next other after
 alike one other next after same and = (says one other same, and)
 
--- ---- why a blob has no header
-
-module _ (name : BlobName) where
-  of_none : (refusal : Refusal) → HeadRefusal name None refusal → refusal ≡ NoBlob name
-  of_none (NoBlob other) is = ap (λ (n : BlobName). NoBlob n) is.0
-  of_none (BadBlob other at reason row) is = let there = is.1 in absurd cc
-  of_none (TooLarge what) is = let there = is.1 in absurd cc
-  of_none _ is = absurd is
-
-  of_large : (blob : List ℕ) (refusal : Refusal) → number_of_limit limit.Blob < length blob → HeadRefusal name (Some blob) refusal → refusal ≡ TooLarge limit.Blob
-  of_large blob (NoBlob other) large is = let there = is.1 in absurd cc
-  of_large blob (BadBlob other at reason row) large is = absurd (omega (arith, ap (λ (b : List ℕ). length b) (some_one (Some blob) blob is.0 refl is.1), is.2, large))
-  of_large blob (TooLarge what) large is = ap (λ w. TooLarge w) is.3
-  of_large blob _ large is = absurd is
-
-  of_short : (blob : List ℕ) (refusal : Refusal) → length blob ≤ number_of_limit limit.Blob → HeadRefusal name (Some blob) refusal
-      → (at : ℕ) × (reason : Reason) × StuckInHeader blob at reason × (refusal ≡ BadBlob name at reason None)
-  of_short blob (NoBlob other) short is = let there = is.1 in absurd cc
-  of_short blob (BadBlob other at reason row) short is =
-      let stuck = subst (λ (b : List ℕ). StuckInHeader b at reason) (some_one (Some blob) is.0 blob is.1 refl) is.3 in
-      (at, reason, stuck, (λ i. BadBlob (is.4 i) at reason (is.5 i)))
-  of_short blob (TooLarge what) short is = absurd (omega (arith, ap (λ (b : List ℕ). length b) (some_one (Some blob) blob is.0 refl is.1), is.2, short))
-  of_short blob _ short is = absurd is
-
-  one_head_refusal : (content : Option (List ℕ)) (one other : Refusal) → HeadRefusal name content one → HeadRefusal name content other → one ≡ other
-  one_head_refusal None one other a b = of_none one a ∙ sym (of_none other b)
-  one_head_refusal (Some blob) one other a b =
-      elim (cases_lt (number_of_limit limit.Blob) (length blob)) [
-        | inl large ↦ of_large blob one large a ∙ sym (of_large blob other large b)
-        | inr short ↦
-            (let (at, reason, stuck, one_is) = of_short blob one short a in
-            let (place, why, also, other_is) = of_short blob other short b in
-            let once = header.decided.once blob 0 at place reason why stuck also in
-            one_is ∙ (λ i. BadBlob name (once.0 i) (once.1 i) None) ∙ sym other_is)
-      ]
-
-  head_apart : (content : Option (List ℕ)) (head : Header) (refusal : Refusal) → HasHeader content head → HeadRefusal name content refusal → ⊥
-  head_apart content head refusal (blob, n, at, short, begin) refuses =
-      let (place, why, stuck, is) = of_short blob refusal short (subst (λ (c : Option (List ℕ)). HeadRefusal name c refusal) at refuses) in
-      header.decided.apart blob 0 head n place why begin stuck
-
 -- ---- loads
 
 load_once : (blob : List ℕ) (a b : Position) → LoadsFrom blob a → LoadsFrom blob b → a ≡ b
@@ -98,20 +55,6 @@ load_once blob a b (head, accepted, tag, before, none) (other, also, tag_too, be
     let befores = before ∙ ap table_of once.3 ∙ sym before_too in
     let bare = none ∙ sym none_too in
     λ i. record { tag = tags i; schemas = once.2 i; halves = once.3 i; before = befores i; indexes = bare i }
-
-module _ (name : BlobName) (content : Option (List ℕ)) where
-  abbrev LoadKind : Refusal → Type 0
-  LoadKind refusal = ((refusal ≡ BadBody name) × ((head : Header) × HasHeader content head)) ⊎ HeadRefusal name content refusal
-
-  load_kind : (refusal : Refusal) → SnapshotRefusal name content refusal → LoadKind refusal
-  load_kind (BadBody other) (named, (head, blob, has, at, none)) = inl (ap (λ (n : BlobName). BadBody n) named, (head, has))
-  load_kind _ is = inr is
-
-  load_kinds : (one other : Refusal) → LoadKind one → LoadKind other → one ≡ other
-  load_kinds one other (inl body) (inl also) = body.0 ∙ sym also.0
-  load_kinds one other (inl body) (inr head) = absurd (head_apart name content body.1.0 other body.1.1 head)
-  load_kinds one other (inr head) (inl body) = absurd (head_apart name content body.1.0 one body.1.1 head)
-  load_kinds one other (inr head) (inr also) = one_head_refusal name content one other head also
 
 pub one_load : (machine : Machine) (version : ℕ) (one other : Reply) (next after : Machine) → LoadStep machine version one next → LoadStep machine version other after → Alike one next other after
 one_load machine version (reply.Load tag) (reply.Load also) next after (blob, position, at, loads, tag_is, next_is) (x, place, at_x, loads_x, also_is, after_is) =
@@ -125,7 +68,7 @@ one_load machine version (reply.Refused refusal) (reply.Load tag) next after ste
     absurd (no_load_refusal version (get machine.store (Snapshot version)) blob position at loads refusal step.0)
 one_load machine version (reply.Refused r) (reply.Refused s) next after one other =
     let content = get machine.store (Snapshot version) in
-    let same = load_kinds (Snapshot version) content r s (load_kind (Snapshot version) content r one.0) (load_kind (Snapshot version) content s other.0) in
+    let same = one_snapshot_refusal (Snapshot version) content r s one.0 other.0 in
     alike (reply.Refused r) (reply.Refused s) next after (ap (λ x. reply.Refused x) same) (one.1 ∙ sym other.1)
 one_load machine version (reply.Load tag) _ next after one other = absurd other
 one_load machine version (reply.Refused r) _ next after one other = absurd other
@@ -188,19 +131,19 @@ module _ (name : BlobName) (content : Option (List ℕ)) (now : Position) where
   abbrev StepKind : Refusal → Type 0
   StepKind refusal =
       ((head : Header) × HasHeader content head
-      × (((head.origin ≢ now.tag) × (refusal ≡ OtherOrigin name head.origin now.tag)) ⊎ ((head.origin ≡ now.tag) × (refusal ≡ BadBody name))))
+      × (((head.origin ≢ now.tag) × (refusal ≡ other_origin name head.origin now.tag)) ⊎ ((head.origin ≡ now.tag) × (refusal ≡ BadBody name))))
       ⊎ HeadRefusal name content refusal
 
   step_kind : (refusal : Refusal) → StepRefusal name content (Some now) refusal → StepKind refusal
   step_kind NoState is = absurd cc
-  step_kind (OtherOrigin other found current) (named, current_is, not, (head, has, is)) =
-      inl (head, has, inl ((λ same. not (sym is ∙ same ∙ sym current_is)), (λ i. OtherOrigin (named i) (sym is i) (current_is i))))
+  step_kind (OtherOrigin fault) (named, current_is, not, (head, has, is)) =
+      inl (head, has, inl ((λ same. not (sym is ∙ same ∙ sym current_is)), (λ i. other_origin (named i) (sym is i) (current_is i))))
   step_kind (BadBody other) (named, (head, blob, has, at, starts, none)) = inl (head, has, inr (starts, ap (λ (n : BlobName). BadBody n) named))
   step_kind _ is = inr is
 
   step_kinds : (one other : Refusal) → StepKind one → StepKind other → one ≡ other
   step_kinds one other (inl (head, has, inl apart)) (inl (its, its_has, inl also)) =
-      apart.1 ∙ ap (λ (h : Header). OtherOrigin name h.origin now.tag) (one_header content head its has its_has) ∙ sym also.1
+      apart.1 ∙ ap (λ (h : Header). other_origin name h.origin now.tag) (one_header content head its has its_has) ∙ sym also.1
   step_kinds one other (inl (head, has, inl apart)) (inl (its, its_has, inr also)) = absurd (apart.0 (ap (λ (h : Header). h.origin) (one_header content head its has its_has) ∙ also.0))
   step_kinds one other (inl (head, has, inr body)) (inl (its, its_has, inl also)) = absurd (also.0 (ap (λ (h : Header). h.origin) (one_header content its head its_has has) ∙ body.0))
   step_kinds one other (inl (head, has, inr body)) (inl (its, its_has, inr also)) = body.1 ∙ sym also.1

@@ -2,7 +2,7 @@
 use Rattle.std.specs.Prelude.{◌≡◌, ◌≢◌, ℕ, ℤ, List, [], ◌∷◌, ◌++◌, Some}
 use Rattle.hol_orders.specs.declared.order.Order.{Order}
 use Rattle.hol_orders.specs.declared.order.Order.TheVariants as order
-use Rattle.hol_refusals.specs.declared.refusal.Refusal.TheVariants.{OtherOrigin}
+use Rattle.hol_refusals.specs.Refusal.{other_origin}
 use Rattle.hol_answers.specs.declared.reply.Reply.{Reply}
 use Rattle.hol_answers.specs.declared.reply.Reply.TheVariants as reply
 use Rattle.hol_orders.specs.Order.{Orders}
@@ -23,7 +23,7 @@ pub record IsTrueStep (chain : Chain) (machine : Machine) (from to : ℕ) (answe
   pub taken : (now : Position) → machine.consumer ≡ Some now → StartsAt machine.store (step_name from to) now.tag
       → (position : Position) × IsIn chain position × (answer ≡ reply.Step position.tag) × (next ≡ record machine { consumer = Some position })
   pub other : (now : Position) (origin : ℤ) → machine.consumer ≡ Some now → StartsAt machine.store (step_name from to) origin → origin ≢ now.tag
-      → (answer ≡ reply.Refused (OtherOrigin (step_name from to) origin now.tag)) × (next ≡ machine)
+      → (answer ≡ reply.Refused (other_origin (step_name from to) origin now.tag)) × (next ≡ machine)
 
 -- The answer is that of the consumer's state, loaded afresh, with the same indexes.
 abbrev pub IsAsFresh : Chain → Machine → Order → Reply → Type 0

@@ -6,7 +6,7 @@ ghost use Rattle.schema_model.specs.declared.schema.name.Name.{Name};
 ghost use Rattle.hol_io.specs.declared.name.BlobName.TheVariants.{Snapshot};
 ghost use Rattle.hol_io.specs.Store.{Store};
 ghost use Rattle.hol_orders.specs.declared.order.Order.TheVariants as order;
-ghost use Rattle.hol_refusals.specs.declared.refusal.Refusal.TheVariants.{OtherOrigin};
+ghost use Rattle.hol_refusals.specs.Refusal.{other_origin};
 ghost use Rattle.hol_answers.specs.declared.reply.Reply.{Reply};
 ghost use Rattle.hol_answers.specs.declared.reply.Reply.TheVariants as reply;
 ghost use Rattle.read_engine.specs.Position.{Index, IsPosition, Position};
@@ -85,10 +85,10 @@ pub fn chain_step_taken()
 pub fn other_origin_refused()
     ensures refused { (machine : Machine) (from to : ℕ) (now : Position) (origin : ℤ)
         → machine.consumer ≡ Some now → StartsAt machine.store (step_name from to) origin → origin ≢ now.tag
-        → Step machine (order.Step from to) (reply.Refused (OtherOrigin (step_name from to) origin now.tag)) machine }
+        → Step machine (order.Step from to) (reply.Refused (other_origin (step_name from to) origin now.tag)) machine }
     ensures only { (machine next : Machine) (from to : ℕ) (now : Position) (origin : ℤ) (answer : Reply)
         → machine.consumer ≡ Some now → StartsAt machine.store (step_name from to) origin → origin ≢ now.tag → Step machine (order.Step from to) answer next
-        → (answer ≡ reply.Refused (OtherOrigin (step_name from to) origin now.tag)) × (next ≡ machine) }
+        → (answer ≡ reply.Refused (other_origin (step_name from to) origin now.tag)) × (next ≡ machine) }
 {}
 
 /// Where the store has the snapshot of a version of the chain, loading it is not refused, and makes the consumer stand at the state of the

@@ -1,5 +1,5 @@
 -- The order `step`: what it answers, by what the consumer tells.
-use Rattle.std.proofs.Common.{◌≡◌, ℕ, ℤ, false, List, Option, Some, None, Result, Ok, Err, IfSome, refl, sym, ap, ◌∙◌, subst}
+use Rattle.std.proofs.Common.{◌≡◌, ℕ, ℤ, false, List, Option, Some, None, Ok, Err, IfSome, refl, sym, ap, ◌∙◌, subst}
 use Rattle.std.specs.Prelude.{IsSome}
 use Rattle.std.specs.Option.{is_some, option_map}
 use Rattle.hol_io.specs.declared.name.BlobName.{BlobName}
@@ -30,7 +30,7 @@ moved E (Some store) name (Some from) new tag told_tag some same is (blob, to, t
 
 -- the first cause that there is no header is a refusal of the delta
 of_head : (name : BlobName) (content : Option (List ℕ)) (from : Position) (why : Refusal) → HeadRefusal name content why → DeltaRefusal name content from why
-of_head name content from (refusal.OtherOrigin blob found current) causes = absurd causes
+of_head name content from (refusal.OtherOrigin other) causes = absurd causes
 of_head name content from (refusal.BadBody blob) causes = absurd causes
 of_head name content from _ causes = causes
 

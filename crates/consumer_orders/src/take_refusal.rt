@@ -5,7 +5,7 @@ ghost use Rattle.consumer_orders.specs.Taken.{refusal_of, refusal_of_blob};
 use blob_frame::BlobFault;
 use hol_io::BlobName;
 use hol_orders::OrderStop;
-use hol_refusals::{Refusal, RowPlace};
+use hol_refusals::{ItemFault, OriginFault, Refusal, RowPlace};
 use read_engine::TakeFault;
 
 /// The refusal of the blob of this name, or why the order stops. Which fault it is behind the header is not told.
@@ -25,23 +25,23 @@ fn blob_refusal(name: &BlobName, fault: BlobFault) -> Result<Refusal, OrderStop>
     match fault {
         BlobFault::NoBlob(_) => Ok(Refusal::NoBlob(*name)),
         BlobFault::Large(limit) => Ok(Refusal::TooLarge(limit)),
-        BlobFault::Bad(at, reason) => Ok(Refusal::BadBlob {
+        BlobFault::Bad(at, reason) => Ok(Refusal::BadBlob(ItemFault {
             blob: *name,
             at,
             reason,
             row: None,
-        }),
-        BlobFault::BadRow(at, reason, type_name, ordinal) => Ok(Refusal::BadBlob {
+        })),
+        BlobFault::BadRow(at, reason, type_name, ordinal) => Ok(Refusal::BadBlob(ItemFault {
             blob: *name,
             at,
             reason,
             row: Some(RowPlace { type_name, ordinal }),
-        }),
-        BlobFault::OtherOrigin(found, current) => Ok(Refusal::OtherOrigin {
+        })),
+        BlobFault::OtherOrigin(found, current) => Ok(Refusal::OtherOrigin(OriginFault {
             blob: *name,
             found,
             current,
-        }),
+        })),
         BlobFault::OtherModel(type_name) => Ok(Refusal::OtherModel {
             blob: *name,
             type_name,

@@ -8,41 +8,53 @@ use Rattle.serde_json.specs.Written.{has_float, items_have_float, compact_text}
 use Rattle.json_rows.proofs.Printed.{items_have_float-items_of, integer_has_none}
 use Rattle.hol_answers.specs.declared.reply.Reply.{Reply}
 use Rattle.hol_answers.specs.declared.reply.Reply.TheVariants.{Head, Model, Cycle, Load, Step, Index, Get, Find, Live, Row, Has, At, Past, Refused}
+use Rattle.hol_refusals.specs.declared.refusal.ItemFault.{ItemFault}
 use Rattle.hol_refusals.specs.declared.refusal.Refusal.{Refusal}
+use Rattle.hol_refusals.specs.declared.refusal.RowPlace.{RowPlace}
 use Rattle.hol_refusals.specs.declared.refusal.Refusal.TheVariants.{BadOrder, LineTooLong, BadModel, NoModel, ModelFixed, BadRecord, BadVersion, TagUsed, NoBlob, BadBlob, OtherOrigin, NoState, NoType, NoRow, BadPath, NoMatch, Ambiguous, Mismatch, TooLarge, DuplicateRow, OtherModel, NotLast, NoIndex, WrongKind, BadKey, NotYet, BadBody}
 use Rattle.schema_model.specs.declared.schema.name.Name.{Name}
 use Rattle.blob_frame.specs.declared.header.Header.{Header}
 use Rattle.hol_orders.specs.Parts.{whole}
 use Rattle.hol_answers.specs.Plain.{IsPlain}
-use Rattle.hol_refusals.specs.Refusal.{refusal_data}
+use Rattle.hol_refusals.specs.Member.{number_or_null, text_or_null}
+use Rattle.hol_refusals.specs.Refusal.{bad_blob_data, refusal_data}
 use Rattle.hol_answers.specs.Reply.{reply_data, head_data, cycle_data, tag_data, get_data, ordinals_data, at_data, row_data, past_item, texts_data, names_data, tags_data, line_of}
 
+-- a name or a number that may be null has none
+has_float-text_or_null : (text : Option (List ℕ)) → has_float (text_or_null text) ≡ false
+has_float-text_or_null None = refl
+has_float-text_or_null (Some text) = refl
+
+has_float-number_or_null : (number : Option ℕ) → has_float (number_or_null number) ≡ false
+has_float-number_or_null None = refl
+has_float-number_or_null (Some number) = refl
+
 -- a refusal has none
+has_float-bad_blob_data : (fault : ItemFault) (row : Option RowPlace) → has_float (bad_blob_data fault row) ≡ false
+has_float-bad_blob_data fault None = refl
+has_float-bad_blob_data fault (Some row) = refl
+
 has_float-refusal_data : (refusal : Refusal) → has_float (refusal_data refusal) ≡ false
 has_float-refusal_data BadOrder = refl
 has_float-refusal_data LineTooLong = refl
 has_float-refusal_data (BadModel rule type_name) = refl
 has_float-refusal_data NoModel = refl
 has_float-refusal_data ModelFixed = refl
-has_float-refusal_data (BadRecord type_name index reason) = refl
+has_float-refusal_data (BadRecord fault) = refl
 has_float-refusal_data (BadVersion last) = refl
 has_float-refusal_data (TagUsed tag) = rw (integer_has_none tag) refl
 has_float-refusal_data (NoBlob blob) = refl
-has_float-refusal_data (BadBlob blob at reason None) = refl
-has_float-refusal_data (BadBlob blob at reason (Some row)) = refl
-has_float-refusal_data (OtherOrigin blob found current) = rw (integer_has_none found, integer_has_none current) refl
+has_float-refusal_data (BadBlob fault) = has_float-bad_blob_data fault fault.row
+has_float-refusal_data (OtherOrigin fault) = rw (integer_has_none fault.found, integer_has_none fault.current) refl
 has_float-refusal_data NoState = refl
 has_float-refusal_data (NoType name) = refl
 has_float-refusal_data (NoRow row) = refl
 has_float-refusal_data (BadPath path) = refl
 has_float-refusal_data NoMatch = refl
 has_float-refusal_data (Ambiguous first second) = refl
-has_float-refusal_data (Mismatch version None None) = refl
-has_float-refusal_data (Mismatch version None (Some ordinal)) = refl
-has_float-refusal_data (Mismatch version (Some type_name) None) = refl
-has_float-refusal_data (Mismatch version (Some type_name) (Some ordinal)) = refl
+has_float-refusal_data (Mismatch difference) = rw (has_float-text_or_null difference.type_name, has_float-number_or_null difference.ordinal) refl
 has_float-refusal_data (TooLarge limit) = refl
-has_float-refusal_data (DuplicateRow type_name first second) = refl
+has_float-refusal_data (DuplicateRow rows) = refl
 has_float-refusal_data (OtherModel blob type_name) = refl
 has_float-refusal_data (NotLast announced) = refl
 has_float-refusal_data NoIndex = refl
@@ -72,8 +84,7 @@ has_float-ordinals_data word ordinals =
     rw numbers refl
 
 pub has_float-at_data : (value : Option ℕ) → has_float (at_data value) ≡ false
-has_float-at_data None = refl
-has_float-at_data (Some ordinal) = refl
+has_float-at_data value = rw (has_float-number_or_null value) refl
 
 -- an answer that holds no JSON value
 abbrev pub IsBare : Reply → Type 0

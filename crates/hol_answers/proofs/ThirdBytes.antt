@@ -1,13 +1,21 @@
 -- Lines of refusals are told from all other lines by their third byte.
-use Rattle.std.proofs.Common.{◌≡◌, ◌≢◌, inl, inr, ℕ, List, slice_index, false, Some, None, refl, subst, sym, ◌∙◌, arith}
+use Rattle.std.proofs.Common.{◌≡◌, ◌≢◌, inl, inr, ℕ, List, [], ◌∷◌, ◌++◌, slice_index, false, Option, Some, None, refl, subst, sym, ◌∙◌, arith}
 use Rattle.serde_json.proofs.OnLiterals.{serde_json_on_literals}
+use Rattle.serde_json.specs.Written.{compact_text}
+use Rattle.hol_refusals.specs.declared.refusal.ItemFault.{ItemFault}
 use Rattle.hol_refusals.specs.declared.refusal.Refusal.{Refusal}
+use Rattle.hol_refusals.specs.declared.refusal.RowPlace.{RowPlace}
 use Rattle.hol_refusals.specs.declared.refusal.Refusal.TheVariants.{BadOrder, LineTooLong, BadModel, NoModel, ModelFixed, BadRecord, BadVersion, TagUsed, NoBlob, BadBlob, OtherOrigin, NoState, NoType, NoRow, BadPath, NoMatch, Ambiguous, Mismatch, TooLarge, DuplicateRow, OtherModel, NotLast, NoIndex, WrongKind, BadKey, NotYet, BadBody}
 use Rattle.hol_answers.specs.declared.reply.Reply.{Reply}
 use Rattle.hol_answers.specs.declared.reply.Reply.TheVariants.{Head, Model, Cycle, Load, Step, Index, Get, Find, Live, Row, Has, At, Past, Refused}
 use Rattle.hol_answers.specs.Marks.{IsMarked}
-use Rattle.hol_refusals.specs.Refusal.{refusal_line}
+use Rattle.hol_refusals.specs.Refusal.{bad_blob_data, refusal_line}
 use Rattle.hol_answers.specs.Reply.{is_refusal, line_of}
+
+marked_fault : (fault : ItemFault) (row : Option RowPlace) → IsMarked (compact_text (bad_blob_data fault row) ++ 10 ∷ [])
+unfolding serde_json_on_literals
+marked_fault fault None = inl refl
+marked_fault fault (Some row) = inl refl
 
 pub marked : (refusal : Refusal) → IsMarked (refusal_line refusal)
 unfolding serde_json_on_literals
@@ -16,22 +24,21 @@ marked LineTooLong = inr (inr refl)
 marked (BadModel rule type_name) = inr (inr refl)
 marked NoModel = inr (inr refl)
 marked ModelFixed = inr (inr refl)
-marked (BadRecord type_name index reason) = inr (inr refl)
+marked (BadRecord fault) = inr (inr refl)
 marked (BadVersion last) = inr (inr refl)
 marked (TagUsed tag) = inr (inr refl)
 marked (NoBlob blob) = inr (inl refl)
-marked (BadBlob blob at reason None) = inl refl
-marked (BadBlob blob at reason (Some row)) = inl refl
-marked (OtherOrigin blob found current) = inr (inl refl)
+marked (BadBlob fault) = marked_fault fault fault.row
+marked (OtherOrigin fault) = inr (inl refl)
 marked NoState = inr (inr refl)
 marked (NoType name) = inr (inr refl)
 marked (NoRow row) = inr (inr refl)
 marked (BadPath path) = inr (inr refl)
 marked NoMatch = inr (inr refl)
 marked (Ambiguous first second) = inr (inr refl)
-marked (Mismatch version type_name ordinal) = inr (inr refl)
+marked (Mismatch difference) = inr (inr refl)
 marked (TooLarge limit) = inr (inr refl)
-marked (DuplicateRow type_name first second) = inr (inr refl)
+marked (DuplicateRow rows) = inr (inr refl)
 marked (OtherModel blob type_name) = inr (inl refl)
 marked (NotLast announced) = inl refl
 marked NoIndex = inr (inr refl)

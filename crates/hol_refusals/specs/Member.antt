@@ -1,7 +1,10 @@
 -- JSON objects from their members, and what a member holds.
-use Rattle.std.specs.Prelude.{ℕ, List, [], ◌∷◌, Option, Some, None}
+use Rattle.std.specs.Prelude.{◌≡◌, ℕ, List, [], ◌∷◌, Option, Some, None}
 use Rattle.std.specs.Borrow.{Bor}
-use Rattle.serde_json.specs.Data.{Data, Members, null, number, string, put}
+use Rattle.std.specs.Cmp.Lexicographic.{slice_cmp}
+use Rattle.std.specs.declared.cmp.Ordering.TheVariants.{Less}
+use Rattle.std.specs.Ordering.{nat_cmp}
+use Rattle.serde_json.specs.Data.{Data, Members, null, number, string, no_members, member}
 use Rattle.serde_json.specs.Find.{of_integer}
 use Rattle.serde_json.specs.View.{view}
 use Rattle.hol_io.specs.Name.{text_of_name}
@@ -27,7 +30,13 @@ content_data (Text text) = string text.now
 content_data (Blob blob) = string (text_of_name blob.now)
 content_data (Json value) = view value
 
--- Members, and these put among them one after another.
-abbrev pub with_members : List (Bor (List ℕ) × Content) → Members → Members
-with_members [] before = before
-with_members (m ∷ ms) before = with_members ms (put m.0.now (content_data m.1) before)
+-- The names of the members rise in byte order, so that each comes once.
+abbrev pub NamesRise : List (Bor (List ℕ) × Content) → Type 0
+NamesRise [] = Unit {0}
+NamesRise (m ∷ []) = Unit {0}
+NamesRise (m ∷ n ∷ ms) = (slice_cmp nat_cmp m.0.now n.0.now ≡ Less) × NamesRise (n ∷ ms)
+
+-- the members of an object, each name with what it holds
+abbrev pub members_of : List (Bor (List ℕ) × Content) → Members
+members_of [] = no_members
+members_of (m ∷ ms) = member m.0.now (content_data m.1) (members_of ms)

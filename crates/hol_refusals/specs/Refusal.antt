@@ -13,9 +13,24 @@ use Rattle.schema_model.specs.Reason.{number_of_reason}
 use Rattle.schema_model.specs.Rule.{name_of_rule}
 use Rattle.hol_refusals.specs.declared.refusal.Refusal.{Refusal}
 use Rattle.hol_refusals.specs.declared.refusal.Refusal.TheVariants.{BadOrder, LineTooLong, BadModel, NoModel, ModelFixed, BadRecord, BadVersion, TagUsed, NoBlob, BadBlob, OtherOrigin, NoState, NoType, NoRow, BadPath, NoMatch, Ambiguous, Mismatch, TooLarge, DuplicateRow, OtherModel, NotLast, NoIndex, WrongKind, BadKey, NotYet, BadBody}
+use Rattle.hol_refusals.specs.declared.refusal.RefusedRecord.{RefusedRecord}
+use Rattle.hol_refusals.specs.declared.refusal.ItemFault.{ItemFault}
+use Rattle.hol_refusals.specs.declared.refusal.OriginFault.{OriginFault}
+use Rattle.hol_refusals.specs.declared.refusal.Difference.{Difference}
+use Rattle.hol_refusals.specs.declared.refusal.EqualRows.{EqualRows}
 use Rattle.hol_refusals.specs.declared.refusal.RowPlace.{RowPlace}
 use Rattle.hol_orders.specs.Parts.{whole}
 use Rattle.hol_refusals.specs.Member.{number_or_null, text_or_null}
+
+-- the refusals of a record, of an item that is no row, and of a blob that starts from another state, by what they tell
+abbrev pub bad_record : List ℕ → ℕ → Reason → Refusal
+bad_record type_name index reason = BadRecord (record { type_name = type_name; index = index; reason = reason })
+
+abbrev pub bad_item : BlobName → ℕ → Reason → Refusal
+bad_item blob at reason = BadBlob (record { blob = blob; at = at; reason = reason; row = None })
+
+abbrev pub other_origin : BlobName → ℤ → ℤ → Refusal
+other_origin blob found current = OtherOrigin (record { blob = blob; found = found; current = current })
 
 -- a refusal without members: its number and its name
 abbrev pub plain_data : ℕ → List ℕ → Data
@@ -53,13 +68,13 @@ bad_model_data rule type_name = object
     (member (codes "type") (string type_name) no_members))))
 
 -- a record that does not fit its type, by its place
-abbrev pub bad_record_data : List ℕ → ℕ → Reason → Data
-bad_record_data type_name index reason = object
+abbrev pub bad_record_data : RefusedRecord → Data
+bad_record_data fault = object
     (member (codes "error") (whole 15)
-    (member (codes "index") (whole index)
+    (member (codes "index") (whole fault.index)
     (member (codes "name") (string (codes "BadRecord"))
-    (member (codes "reason") (whole (number_of_reason reason))
-    (member (codes "type") (string type_name) no_members)))))
+    (member (codes "reason") (whole (number_of_reason fault.reason))
+    (member (codes "type") (string fault.type_name) no_members)))))
 
 -- a version that is not above the last one
 abbrev pub bad_version_data : ℕ → Data
@@ -76,32 +91,37 @@ tag_used_data tag = object
     (member (codes "tag") (number (of_integer tag)) no_members)))
 
 -- a fault of a blob: the blob, the offset of the item and the reason
-abbrev pub bad_item_data : BlobName → ℕ → Reason → Data
-bad_item_data blob at reason = object
-    (member (codes "at") (whole at)
-    (member (codes "blob") (string (text_of_name blob))
+abbrev pub bad_item_data : ItemFault → Data
+bad_item_data fault = object
+    (member (codes "at") (whole fault.at)
+    (member (codes "blob") (string (text_of_name fault.blob))
     (member (codes "error") (whole 19)
     (member (codes "name") (string (codes "BadBlob"))
-    (member (codes "reason") (whole (number_of_reason reason)) no_members)))))
+    (member (codes "reason") (whole (number_of_reason fault.reason)) no_members)))))
 
 -- a fault of a row of a blob: beside the same the row's ordinal and the name of its type
-abbrev pub bad_row_data : BlobName → ℕ → Reason → RowPlace → Data
-bad_row_data blob at reason row = object
-    (member (codes "at") (whole at)
-    (member (codes "blob") (string (text_of_name blob))
+abbrev pub bad_row_data : ItemFault → RowPlace → Data
+bad_row_data fault row = object
+    (member (codes "at") (whole fault.at)
+    (member (codes "blob") (string (text_of_name fault.blob))
     (member (codes "error") (whole 19)
     (member (codes "name") (string (codes "BadBlob"))
     (member (codes "ordinal") (whole row.ordinal)
-    (member (codes "reason") (whole (number_of_reason reason))
+    (member (codes "reason") (whole (number_of_reason fault.reason))
     (member (codes "type") (string row.type_name) no_members)))))))
 
+-- a fault of a blob, of a row where there is one
+abbrev pub bad_blob_data : ItemFault → Option RowPlace → Data
+bad_blob_data fault None = bad_item_data fault
+bad_blob_data fault (Some row) = bad_row_data fault row
+
 -- a blob that starts from another state: its origin tag and the consumer's tag
-abbrev pub other_origin_data : BlobName → ℤ → ℤ → Data
-other_origin_data blob found current = object
-    (member (codes "blob") (string (text_of_name blob))
-    (member (codes "current") (number (of_integer current))
+abbrev pub other_origin_data : OriginFault → Data
+other_origin_data fault = object
+    (member (codes "blob") (string (text_of_name fault.blob))
+    (member (codes "current") (number (of_integer fault.current))
     (member (codes "error") (whole 20)
-    (member (codes "found") (number (of_integer found))
+    (member (codes "found") (number (of_integer fault.found))
     (member (codes "name") (string (codes "OtherOrigin")) no_members)))))
 
 -- a row that is not live
@@ -128,13 +148,13 @@ ambiguous_data first second = object
     (member (codes "second") (whole second) no_members))))
 
 -- a state that differs from the snapshot
-abbrev pub mismatch_data : ℕ → Option (List ℕ) → Option ℕ → Data
-mismatch_data version type_name ordinal = object
+abbrev pub mismatch_data : Difference → Data
+mismatch_data difference = object
     (member (codes "error") (whole 27)
     (member (codes "name") (string (codes "Mismatch"))
-    (member (codes "ordinal") (number_or_null ordinal)
-    (member (codes "type") (text_or_null type_name)
-    (member (codes "version") (whole version) no_members)))))
+    (member (codes "ordinal") (number_or_null difference.ordinal)
+    (member (codes "type") (text_or_null difference.type_name)
+    (member (codes "version") (whole difference.version) no_members)))))
 
 -- a limit that is passed
 abbrev pub too_large_data : Limit → Data
@@ -145,13 +165,13 @@ too_large_data limit = object
     (member (codes "what") (string (name_of_limit limit)) no_members))))
 
 -- two equal rows
-abbrev pub duplicate_row_data : List ℕ → ℕ → ℕ → Data
-duplicate_row_data type_name first second = object
+abbrev pub duplicate_row_data : EqualRows → Data
+duplicate_row_data rows = object
     (member (codes "error") (whole 29)
-    (member (codes "first") (whole first)
+    (member (codes "first") (whole rows.first)
     (member (codes "name") (string (codes "DuplicateRow"))
-    (member (codes "second") (whole second)
-    (member (codes "type") (string type_name) no_members)))))
+    (member (codes "second") (whole rows.second)
+    (member (codes "type") (string rows.type_name) no_members)))))
 
 -- a schema of a blob that is another one
 abbrev pub other_model_data : BlobName → List ℕ → Data
@@ -175,22 +195,21 @@ refusal_data LineTooLong = line_too_long_data
 refusal_data (BadModel rule type_name) = bad_model_data rule type_name
 refusal_data NoModel = plain_data 13 (codes "NoModel")
 refusal_data ModelFixed = plain_data 14 (codes "ModelFixed")
-refusal_data (BadRecord type_name index reason) = bad_record_data type_name index reason
+refusal_data (BadRecord fault) = bad_record_data fault
 refusal_data (BadVersion last) = bad_version_data last
 refusal_data (TagUsed tag) = tag_used_data tag
 refusal_data (NoBlob blob) = blob_data 18 (codes "NoBlob") blob
-refusal_data (BadBlob blob at reason None) = bad_item_data blob at reason
-refusal_data (BadBlob blob at reason (Some row)) = bad_row_data blob at reason row
-refusal_data (OtherOrigin blob found current) = other_origin_data blob found current
+refusal_data (BadBlob fault) = bad_blob_data fault fault.row
+refusal_data (OtherOrigin fault) = other_origin_data fault
 refusal_data NoState = plain_data 21 (codes "NoState")
 refusal_data (NoType name) = type_data 22 (codes "NoType") name
 refusal_data (NoRow row) = no_row_data row
 refusal_data (BadPath path) = bad_path_data path
 refusal_data NoMatch = plain_data 25 (codes "NoMatch")
 refusal_data (Ambiguous first second) = ambiguous_data first second
-refusal_data (Mismatch version type_name ordinal) = mismatch_data version type_name ordinal
+refusal_data (Mismatch difference) = mismatch_data difference
 refusal_data (TooLarge limit) = too_large_data limit
-refusal_data (DuplicateRow type_name first second) = duplicate_row_data type_name first second
+refusal_data (DuplicateRow rows) = duplicate_row_data rows
 refusal_data (OtherModel blob type_name) = other_model_data blob type_name
 refusal_data (NotLast announced) = not_last_data announced
 refusal_data NoIndex = plain_data 32 (codes "NoIndex")

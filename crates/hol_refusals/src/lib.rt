@@ -6,5 +6,7 @@ mod refusal;
 mod refusal_json;
 
 pub use member::{Content, object_of};
-pub use refusal::{MAX_LINE_BYTES, Refusal, RowPlace};
+pub use refusal::{
+    Difference, EqualRows, ItemFault, MAX_LINE_BYTES, OriginFault, Refusal, RefusedRecord, RowPlace,
+};
 pub use refusal_json::refusal_value;

@@ -1,8 +1,8 @@
 //! JSON objects, each made of its members at once.
 ghost use Rattle.std.specs.Prelude.{◌≡◌, IfOk};
-ghost use Rattle.serde_json.specs.Data.{object, no_members};
+ghost use Rattle.serde_json.specs.Data.{object};
 ghost use Rattle.serde_json.specs.View.{view};
-ghost use Rattle.hol_refusals.specs.Member.{content_data, number_or_null, text_or_null, with_members};
+ghost use Rattle.hol_refusals.specs.Member.{content_data, NamesRise, members_of, number_or_null, text_or_null};
 
 use hol_io::{BlobName, name_text};
 use schema_model::Name;
@@ -59,15 +59,17 @@ impl<'a> Content<'a> {
     }
 }
 
-/// The JSON object that has these members, each name with its content: where a name stands twice, with the later one.
+/// The JSON object that has these members, each name with its content. The names rise in byte order.
 pub fn object_of<'a>(
     alloc: Global,
     members: Vec<(&'a str, Content<'a>)>,
 ) -> Result<Value, AllocError>
-    ensures { IfOk result (λ value. view value ≡ object (with_members members.entry.items no_members)) }
+    requires { NamesRise members.items }
+    ensures { IfOk result (λ value. view value ≡ object (members_of members.entry.items)) }
 {
     let mut object = Map::new(alloc);
-    for (name, content) in members {
+    let mut waiting = members;
+    while let Some((name, content)) = waiting.pop() {
         put(&mut object, alloc, name, content.into_value(alloc)?)?;
     }
     Ok(Value::Object(object))

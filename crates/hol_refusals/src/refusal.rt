@@ -14,6 +14,63 @@ pub struct RowPlace {
     pub ordinal: u64,
 }
 
+/// A record of an order that does not fit its type.
+#[derive(Debug, Drop)]
+pub struct RefusedRecord {
+    /// The name of the type.
+    pub type_name: Name,
+    /// The place of the record among those of its type, from 0.
+    pub index: u64,
+    /// Why it does not fit.
+    pub reason: Reason,
+}
+
+/// An item of a blob that cannot be read or breaks a rule.
+#[derive(Debug, Drop)]
+pub struct ItemFault {
+    /// The blob's name.
+    pub blob: BlobName,
+    /// The offset of the item, and for a row that of its type's schema.
+    pub at: u64,
+    /// Why it is refused.
+    pub reason: Reason,
+    /// The row, where it is a row that breaks the rule.
+    pub row: Option<RowPlace>,
+}
+
+/// A blob that does not start from the consumer's state.
+#[derive(Debug, Drop)]
+pub struct OriginFault {
+    /// The blob's name.
+    pub blob: BlobName,
+    /// The tag that it starts from.
+    pub found: i64,
+    /// The tag of the consumer.
+    pub current: i64,
+}
+
+/// Where a state that was walked to differs from its snapshot.
+#[derive(Debug, Drop)]
+pub struct Difference {
+    /// The version of both.
+    pub version: u64,
+    /// The name of the type in which they differ, where their tags are the same.
+    pub type_name: Option<Name>,
+    /// The ordinal in which they differ, where the type has one schema in both.
+    pub ordinal: Option<u32>,
+}
+
+/// Two equal rows of a type.
+#[derive(Debug, Drop)]
+pub struct EqualRows {
+    /// The name of the type.
+    pub type_name: Name,
+    /// The ordinal of the first one.
+    pub first: u32,
+    /// The ordinal of the second one.
+    pub second: u32,
+}
+
 /// Why a command or an order is refused. Each refusal has a number of its own, which its line tells beside its name and
 /// its members.
 #[derive(Debug, Drop)]
@@ -34,14 +91,7 @@ pub enum Refusal {
     /// 14: there is a producer.
     ModelFixed,
     /// 15: a record does not fit its type.
-    BadRecord {
-        /// The name of the type.
-        type_name: Name,
-        /// The place of the record among those of its type, from 0.
-        index: u64,
-        /// Why it does not fit.
-        reason: Reason,
-    },
+    BadRecord(RefusedRecord),
     /// 16: the version is not above this one, the greatest in any name of the store, 0 where there is none.
     BadVersion(u64),
     /// 17: the tag is 0, or a blob of the store has it.
@@ -49,25 +99,9 @@ pub enum Refusal {
     /// 18: the store has no blob of this name.
     NoBlob(BlobName),
     /// 19: an item of the blob cannot be read, or breaks a rule.
-    BadBlob {
-        /// The blob's name.
-        blob: BlobName,
-        /// The offset of the item, and for a row that of its type's schema.
-        at: u64,
-        /// Why it is refused.
-        reason: Reason,
-        /// The row, where it is a row that breaks the rule.
-        row: Option<RowPlace>,
-    },
+    BadBlob(ItemFault),
     /// 20: the blob does not start from the consumer's state.
-    OtherOrigin {
-        /// The blob's name.
-        blob: BlobName,
-        /// The tag that it starts from.
-        found: i64,
-        /// The tag of the consumer.
-        current: i64,
-    },
+    OtherOrigin(OriginFault),
     /// 21: the consumer has no state.
     NoState,
     /// 22: the model has no type of this name.
@@ -86,25 +120,11 @@ pub enum Refusal {
         second: u32,
     },
     /// 27: the state that was walked to differs from the snapshot.
-    Mismatch {
-        /// The version of both.
-        version: u64,
-        /// The name of the type in which they differ, where their tags are the same.
-        type_name: Option<Name>,
-        /// The ordinal in which they differ, where the type has one schema in both.
-        ordinal: Option<u32>,
-    },
+    Mismatch(Difference),
     /// 28: a counted number passes this limit.
     TooLarge(Limit),
     /// 29: two rows of a type are equal in the snapshot that is to be taken up.
-    DuplicateRow {
-        /// The name of the type.
-        type_name: Name,
-        /// The ordinal of the first one.
-        first: u32,
-        /// The ordinal of the second one.
-        second: u32,
-    },
+    DuplicateRow(EqualRows),
     /// 30: a schema of the blob is not the consumer's.
     OtherModel {
         /// The blob's name.

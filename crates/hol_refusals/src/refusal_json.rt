@@ -1,13 +1,15 @@
 //! The JSON object that each refusal prints as.
 ghost use Rattle.std.specs.Prelude.{◌≡◌, IfOk};
 ghost use Rattle.serde_json.specs.View.{view};
-ghost use Rattle.hol_refusals.specs.Refusal.{refusal_data, plain_data, type_data, blob_data, line_too_long_data, bad_model_data, bad_record_data, bad_version_data, tag_used_data, bad_item_data, bad_row_data, other_origin_data, no_row_data, bad_path_data, ambiguous_data, mismatch_data, too_large_data, duplicate_row_data, other_model_data, not_last_data};
+ghost use Rattle.hol_refusals.specs.Refusal.{refusal_data, plain_data, type_data, blob_data, line_too_long_data, bad_model_data, bad_record_data, bad_version_data, tag_used_data, bad_blob_data, bad_item_data, bad_row_data, other_origin_data, no_row_data, bad_path_data, ambiguous_data, mismatch_data, too_large_data, duplicate_row_data, other_model_data, not_last_data};
 
 use crate::member::Content::{Blob, Integer, Number, Text};
 use crate::member::{Content, object_of};
-use crate::refusal::{MAX_LINE_BYTES, Refusal, RowPlace};
+use crate::refusal::{
+    Difference, EqualRows, ItemFault, MAX_LINE_BYTES, OriginFault, Refusal, RefusedRecord, RowPlace,
+};
 use hol_io::BlobName;
-use schema_model::{Limit, Name, Reason, Rule};
+use schema_model::{Limit, Name, Rule};
 use serde_json::Value;
 use std::alloc::{AllocError, Global};
 
@@ -21,54 +23,27 @@ pub fn refusal_value(alloc: Global, refusal: &Refusal) -> Result<Value, AllocErr
         Refusal::BadModel { rule, type_name } => bad_model_value(alloc, rule, type_name),
         Refusal::NoModel => plain_value(alloc, 13, "NoModel"),
         Refusal::ModelFixed => plain_value(alloc, 14, "ModelFixed"),
-        Refusal::BadRecord {
-            type_name,
-            index,
-            reason,
-        } => bad_record_value(alloc, type_name, *index, reason),
+        Refusal::BadRecord(fault) => bad_record_value(alloc, fault),
         Refusal::BadVersion(last) => bad_version_value(alloc, *last),
         Refusal::TagUsed(tag) => tag_used_value(alloc, *tag),
+        Refusal::NoBlob(blob) => blob_value(alloc, 18, "NoBlob", blob),
+        Refusal::BadBlob(fault) => bad_blob_value(alloc, fault),
+        Refusal::OtherOrigin(fault) => other_origin_value(alloc, fault),
         Refusal::NoState => plain_value(alloc, 21, "NoState"),
         Refusal::NoType(name) => type_value(alloc, 22, "NoType", name),
         Refusal::NoRow(row) => no_row_value(alloc, row),
         Refusal::BadPath(path) => bad_path_value(alloc, path),
         Refusal::NoMatch => plain_value(alloc, 25, "NoMatch"),
         Refusal::Ambiguous { first, second } => ambiguous_value(alloc, *first, *second),
+        Refusal::Mismatch(difference) => mismatch_value(alloc, difference),
         Refusal::TooLarge(limit) => too_large_value(alloc, limit),
-        Refusal::DuplicateRow {
-            type_name,
-            first,
-            second,
-        } => duplicate_row_value(alloc, type_name, *first, *second),
+        Refusal::DuplicateRow(rows) => duplicate_row_value(alloc, rows),
+        Refusal::OtherModel { blob, type_name } => other_model_value(alloc, blob, type_name),
         Refusal::NotLast(announced) => not_last_value(alloc, *announced),
         Refusal::NoIndex => plain_value(alloc, 32, "NoIndex"),
         Refusal::WrongKind(name) => type_value(alloc, 33, "WrongKind", name),
         Refusal::BadKey => plain_value(alloc, 34, "BadKey"),
         Refusal::NotYet => plain_value(alloc, 90, "NotYet"),
-        Refusal::Mismatch {
-            version,
-            type_name,
-            ordinal,
-        } => mismatch_value(alloc, *version, type_name, *ordinal),
-        Refusal::NoBlob(blob) => blob_value(alloc, 18, "NoBlob", blob),
-        Refusal::BadBlob {
-            blob,
-            at,
-            reason,
-            row: None,
-        } => bad_item_value(alloc, blob, *at, reason),
-        Refusal::BadBlob {
-            blob,
-            at,
-            reason,
-            row: Some(row),
-        } => bad_row_value(alloc, blob, *at, reason, row),
-        Refusal::OtherOrigin {
-            blob,
-            found,
-            current,
-        } => other_origin_value(alloc, blob, *found, *current),
-        Refusal::OtherModel { blob, type_name } => other_model_value(alloc, blob, type_name),
         Refusal::BadBody(blob) => blob_value(alloc, 92, "BadBody", blob),
     }
 }
@@ -142,20 +117,15 @@ fn bad_model_value<'a>(
     object_of(alloc, members)
 }
 
-fn bad_record_value<'a>(
-    alloc: Global,
-    type_name: &'a Name,
-    index: u64,
-    reason: &'a Reason,
-) -> Result<Value, AllocError>
-    ensures { IfOk result (λ value. view value ≡ bad_record_data type_name.now index reason.now) }
+fn bad_record_value(alloc: Global, fault: &RefusedRecord) -> Result<Value, AllocError>
+    ensures { IfOk result (λ value. view value ≡ bad_record_data fault.now) }
 {
     let members = vec![in alloc;
         ("error", Number(15)),
-        ("index", Number(index)),
+        ("index", Number(fault.index)),
         ("name", Text("BadRecord")),
-        ("reason", Number(u64::from(reason.number()))),
-        ("type", Text(type_name.text())),
+        ("reason", Number(u64::from(fault.reason.number()))),
+        ("type", Text(fault.type_name.text())),
     ]?;
     object_of(alloc, members)
 }
@@ -182,58 +152,57 @@ fn tag_used_value(alloc: Global, tag: i64) -> Result<Value, AllocError>
     object_of(alloc, members)
 }
 
-fn bad_item_value<'a>(
-    alloc: Global,
-    blob: &'a BlobName,
-    at: u64,
-    reason: &'a Reason,
-) -> Result<Value, AllocError>
-    ensures { IfOk result (λ value. view value ≡ bad_item_data blob.now at reason.now) }
+fn bad_blob_value(alloc: Global, fault: &ItemFault) -> Result<Value, AllocError>
+    ensures { IfOk result (λ value. view value ≡ bad_blob_data fault.now fault.now.row) }
+{
+    match &fault.row {
+        None => bad_item_value(alloc, fault),
+        Some(row) => bad_row_value(alloc, fault, row),
+    }
+}
+
+// A fault of an item that is no row.
+fn bad_item_value(alloc: Global, fault: &ItemFault) -> Result<Value, AllocError>
+    ensures { IfOk result (λ value. view value ≡ bad_item_data fault.now) }
 {
     let members = vec![in alloc;
-        ("at", Number(at)),
-        ("blob", Blob(blob)),
+        ("at", Number(fault.at)),
+        ("blob", Blob(&fault.blob)),
         ("error", Number(19)),
         ("name", Text("BadBlob")),
-        ("reason", Number(u64::from(reason.number()))),
+        ("reason", Number(u64::from(fault.reason.number()))),
     ]?;
     object_of(alloc, members)
 }
 
+// A fault of this row.
 fn bad_row_value<'a>(
     alloc: Global,
-    blob: &'a BlobName,
-    at: u64,
-    reason: &'a Reason,
+    fault: &'a ItemFault,
     row: &'a RowPlace,
 ) -> Result<Value, AllocError>
-    ensures { IfOk result (λ value. view value ≡ bad_row_data blob.now at reason.now row.now) }
+    ensures { IfOk result (λ value. view value ≡ bad_row_data fault.now row.now) }
 {
     let members = vec![in alloc;
-        ("at", Number(at)),
-        ("blob", Blob(blob)),
+        ("at", Number(fault.at)),
+        ("blob", Blob(&fault.blob)),
         ("error", Number(19)),
         ("name", Text("BadBlob")),
         ("ordinal", Number(row.ordinal)),
-        ("reason", Number(u64::from(reason.number()))),
+        ("reason", Number(u64::from(fault.reason.number()))),
         ("type", Text(row.type_name.text())),
     ]?;
     object_of(alloc, members)
 }
 
-fn other_origin_value(
-    alloc: Global,
-    blob: &BlobName,
-    found: i64,
-    current: i64,
-) -> Result<Value, AllocError>
-    ensures { IfOk result (λ value. view value ≡ other_origin_data blob.now found current) }
+fn other_origin_value(alloc: Global, fault: &OriginFault) -> Result<Value, AllocError>
+    ensures { IfOk result (λ value. view value ≡ other_origin_data fault.now) }
 {
     let members = vec![in alloc;
-        ("blob", Blob(blob)),
-        ("current", Integer(current)),
+        ("blob", Blob(&fault.blob)),
+        ("current", Integer(fault.current)),
         ("error", Number(20)),
-        ("found", Integer(found)),
+        ("found", Integer(fault.found)),
         ("name", Text("OtherOrigin")),
     ]?;
     object_of(alloc, members)
@@ -274,20 +243,15 @@ fn ambiguous_value(alloc: Global, first: u32, second: u32) -> Result<Value, Allo
     object_of(alloc, members)
 }
 
-fn mismatch_value(
-    alloc: Global,
-    version: u64,
-    type_name: &Option<Name>,
-    ordinal: Option<u32>,
-) -> Result<Value, AllocError>
-    ensures { IfOk result (λ value. view value ≡ mismatch_data version type_name.now ordinal) }
+fn mismatch_value(alloc: Global, difference: &Difference) -> Result<Value, AllocError>
+    ensures { IfOk result (λ value. view value ≡ mismatch_data difference.now) }
 {
     let members = vec![in alloc;
         ("error", Number(27)),
         ("name", Text("Mismatch")),
-        ("ordinal", Content::number_or_null(ordinal)),
-        ("type", Content::text_or_null(type_name)),
-        ("version", Number(version)),
+        ("ordinal", Content::number_or_null(difference.ordinal)),
+        ("type", Content::text_or_null(&difference.type_name)),
+        ("version", Number(difference.version)),
     ]?;
     object_of(alloc, members)
 }
@@ -304,20 +268,15 @@ fn too_large_value(alloc: Global, limit: &Limit) -> Result<Value, AllocError>
     object_of(alloc, members)
 }
 
-fn duplicate_row_value(
-    alloc: Global,
-    type_name: &Name,
-    first: u32,
-    second: u32,
-) -> Result<Value, AllocError>
-    ensures { IfOk result (λ value. view value ≡ duplicate_row_data type_name.now first second) }
+fn duplicate_row_value(alloc: Global, rows: &EqualRows) -> Result<Value, AllocError>
+    ensures { IfOk result (λ value. view value ≡ duplicate_row_data rows.now) }
 {
     let members = vec![in alloc;
         ("error", Number(29)),
-        ("first", Number(u64::from(first))),
+        ("first", Number(u64::from(rows.first))),
         ("name", Text("DuplicateRow")),
-        ("second", Number(u64::from(second))),
-        ("type", Text(type_name.text())),
+        ("second", Number(u64::from(rows.second))),
+        ("type", Text(rows.type_name.text())),
     ]?;
     object_of(alloc, members)
 }

@@ -13,8 +13,8 @@ use Rattle.hol_refusals.specs.declared.refusal.Refusal.TheVariants.{NoBlob, BadB
 -- Why what a name holds, if anything, has no header: the first cause.
 abbrev pub HeadRefusal : BlobName → Option (List ℕ) → Refusal → Type 0
 HeadRefusal name content (NoBlob other) = (other ≡ name) × (content ≡ None)
-HeadRefusal name content (BadBlob other at reason row) =
-    (blob : List ℕ) × (content ≡ Some blob) × (length blob ≤ number_of_limit limit.Blob) × StuckInHeader blob at reason × (other ≡ name) × (row ≡ None)
+HeadRefusal name content (BadBlob fault) =
+    (blob : List ℕ) × (content ≡ Some blob) × (length blob ≤ number_of_limit limit.Blob) × StuckInHeader blob fault.at fault.reason × (fault.blob ≡ name) × (fault.row ≡ None)
 HeadRefusal name content (TooLarge what) =
     (blob : List ℕ) × (content ≡ Some blob) × (number_of_limit limit.Blob < length blob) × (what ≡ limit.Blob)
 HeadRefusal name content _ = ⊥

@@ -45,9 +45,10 @@ PassesLimit last version tag add passed =
 -- Why the order is refused, where there is a producer.
 abbrev pub RefusesAfter : Store → Published → ℕ → ℤ → Data → Refusal → Type 0
 RefusesAfter store last version tag add (NoType name) = MayFollow store last.version version tag × IsFirstUnknown last.model add name
-RefusesAfter store last version tag add (BadRecord name place reason) =
+RefusesAfter store last version tag add (BadRecord fault) =
     MayFollow store last.version version tag × AreTypes last.model add
-    × ((t : ℕ) × IsSomeAnd (slice_get last.model t) (λ schema. schema.name ≡ name) × IsFirstUnread last.model (entries last.model add) t place reason)
+    × ((t : ℕ) × IsSomeAnd (slice_get last.model t) (λ schema. schema.name ≡ fault.type_name)
+    × IsFirstUnread last.model (entries last.model add) t fault.index fault.reason)
 RefusesAfter store last version tag add (TooLarge passed) =
     MayFollow store last.version version tag × AreTypes last.model add × PassesLimit last version tag add passed
 RefusesAfter store last version tag add refusal = MayNotFollow store last.version version tag refusal

@@ -22,8 +22,8 @@ pub record MayFollow (store : Store) (last version : ℕ) (tag : ℤ) : Type 0 w
 
 -- The first of these that does not hold, as it is refused.
 abbrev pub MayNotFollow : Store → ℕ → ℕ → ℤ → Refusal → Type 0
-MayNotFollow store last version tag (BadBlob blob at reason row) =
-    IsBadlyAnnounced store × (blob ≡ Announced) × (at ≡ 0) × (reason ≡ BadAnnounced) × (row ≡ None)
+MayNotFollow store last version tag (BadBlob fault) =
+    IsBadlyAnnounced store × (fault.blob ≡ Announced) × (fault.at ≡ 0) × (fault.reason ≡ BadAnnounced) × (fault.row ≡ None)
 MayNotFollow store last version tag (NotLast announced) = IsAnnounced store announced × (announced ≢ last)
 MayNotFollow store last version tag (BadVersion greatest) = IsAnnounced store last × (greatest ≡ last_version store) × (version ≤ greatest)
 MayNotFollow store last version tag (TagUsed used) = IsAnnounced store last × (last_version store < version) × (used ≡ tag) × IsUsed store tag

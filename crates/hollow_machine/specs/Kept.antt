@@ -1,5 +1,5 @@
 -- What a program keeps of the machine: its store, its producer and its consumer, and what a call that answers an order means for them.
-use Rattle.std.specs.Prelude.{◌≡◌, ℕ, length, false, Option, Some, Result, IfOk, IfSome}
+use Rattle.std.specs.Prelude.{◌≡◌, length, false, Option, Some, Result, IfOk, IfSome}
 use Rattle.std.specs.Option.{option_map}
 use Rattle.hol_io.specs.Store.{Store}
 use Rattle.write_engine.specs.Cycle.{no_rows}

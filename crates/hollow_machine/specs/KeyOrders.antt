@@ -1,5 +1,5 @@
 -- The orders `get` and `find`, which look rows up by a key: what they answer of where a consumer stands.
-use Rattle.std.specs.Prelude.{◌≡◌, ◌<◌, ◌≤◌, ℕ, List, [], ◌∷◌, Option, Contains}
+use Rattle.std.specs.Prelude.{◌<◌, ◌≤◌, ℕ, List, [], ◌∷◌, Option, Contains}
 use Rattle.serde_json.specs.Data.{Data}
 use Rattle.serde_json.specs.View.{view}
 use Rattle.schema_model.specs.declared.limit.Limit.TheVariants.{Nodes}

@@ -1,5 +1,5 @@
 -- What a cycle puts into the store when it publishes: the blobs that lead to the new state and back, its snapshot, and then its version as the announced one.
-use Rattle.std.specs.Prelude.{◌≡◌, ◌≢◌, ◌≤◌, ◌⊎◌, ◌^◌, ℕ, ℤ, List, [], ◌∷◌, ◌++◌, All, Any, length, fold}
+use Rattle.std.specs.Prelude.{◌≡◌, ◌≢◌, ◌≤◌, ◌⊎◌, ◌^◌, ℕ, ℤ, List, [], ◌∷◌, ◌++◌, length}
 use Rattle.std.specs.Fmt.{decimal}
 use Rattle.std.specs.FinMap.{insert}
 use Rattle.hol_io.specs.declared.name.BlobName.{BlobName}

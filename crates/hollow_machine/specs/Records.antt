@@ -1,5 +1,5 @@
 -- The records of a cycle: those under the name of each type of the model, types in model order, and which trees they give.
-use Rattle.std.specs.Prelude.{◌≡◌, ℕ, List, [], ◌∷◌, ◌++◌, All, IsOk, IsSome, IsSomeAnd, None, Ok, Err, length, map, flat_map, slice_get}
+use Rattle.std.specs.Prelude.{◌≡◌, ℕ, List, [], ◌∷◌, ◌++◌, All, IsOk, IsSome, None, Ok, Err, length, map, flat_map}
 use Rattle.std.specs.List.{AllZip, range_with_len, zip}
 use Rattle.std.specs.Option.{option_map_or, option_and_then}
 use Rattle.serde_json.specs.Data.{Data, Items, no_items, item, Members, no_members, member}

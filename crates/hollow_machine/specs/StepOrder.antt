@@ -27,8 +27,8 @@ HasBadDelta content now =
 -- Why what a name holds does not move a consumer: the first cause that there is no header; or it starts from another state; or else it is no delta
 -- that fits.
 abbrev pub DeltaRefusal : BlobName → Option (List ℕ) → Position → Refusal → Type 0
-DeltaRefusal name content now (OtherOrigin blob found current) =
-    (blob ≡ name) × (current ≡ now.tag) × (found ≢ current) × ((header : Header) × HasHeader content header × (header.origin ≡ found))
+DeltaRefusal name content now (OtherOrigin fault) =
+    (fault.blob ≡ name) × (fault.current ≡ now.tag) × (fault.found ≢ fault.current) × ((header : Header) × HasHeader content header × (header.origin ≡ fault.found))
 DeltaRefusal name content now (BadBody blob) = (blob ≡ name) × HasBadDelta content now
 DeltaRefusal name content now refusal = HeadRefusal name content refusal
 

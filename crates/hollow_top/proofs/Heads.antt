@@ -1,18 +1,15 @@
 -- What opening a blob and reading its header say of the answer.
-use Rattle.std.proofs.Common.{◌≡◌, ◌≤◌, inl, inr, ℕ, List, length, Option, Some, None, Result, Ok, Err, IfSome, OnSome, refl, sym, subst}
-use Rattle.std.proofs.lemmas.Bool.{cases_lt}
+use Rattle.std.proofs.Common.{◌≡◌, ℕ, List, Option, Ok, Err, refl, sym, subst}
 use Rattle.hol_io.specs.declared.name.BlobName.{BlobName}
-use Rattle.hol_io.specs.Store.{Store, told}
+use Rattle.hol_io.specs.Store.{Store}
 use Rattle.schema_model.specs.declared.limit.Limit.TheVariants as limit
-use Rattle.schema_model.specs.Limit.{number_of_limit}
 use Rattle.blob_frame.specs.declared.fault.BlobFault.{BlobFault}
 use Rattle.blob_frame.specs.declared.fault.BlobFault.TheVariants as fault
 use Rattle.blob_frame.specs.declared.header.Header.{Header}
 use Rattle.blob_cursor.specs.Opened.{TellsHeader}
-use Rattle.blob_cursor.specs.Scene.{Place, IsFree}
-use Rattle.blob_cursor.specs.Starting.{Starts}
 use Rattle.hol_refusals.specs.declared.refusal.Refusal.{Refusal}
-use Rattle.hol_refusals.specs.declared.refusal.Refusal.TheVariants.{NoBlob, BadBlob, TooLarge}
+use Rattle.hol_refusals.specs.declared.refusal.Refusal.TheVariants.{NoBlob, TooLarge}
+use Rattle.hol_refusals.specs.Refusal.{bad_item}
 use Rattle.hollow_machine.specs.Blobs.{HeadRefusal}
 use Rattle.hollow_top.specs.Head.{refusal_of}
 
@@ -24,7 +21,7 @@ refused name content (fault.NoBlob other) refusal tells is =
 refused name content (fault.Large what) refusal tells is =
     let same : refusal ≡ TooLarge what = cc in subst (HeadRefusal name content) (sym same) tells
 refused name content (fault.Bad at reason) refusal (blob, there, short, stuck) is =
-    let same : refusal ≡ BadBlob name at reason None = cc in subst (HeadRefusal name content) (sym same) (blob, there, short, stuck, refl, refl)
+    let same : refusal ≡ bad_item name at reason = cc in subst (HeadRefusal name content) (sym same) (blob, there, short, stuck, refl, refl)
 refused name content fault.Store refusal tells is = absurd cc
 refused name content fault.Memory refusal tells is = absurd cc
 refused name content _ refusal tells is = absurd tells

@@ -23,7 +23,8 @@ use Rattle.blob_frame.specs.Header.{header}
 use Rattle.snapshot_blob.specs.declared.part.TypePart.{TypePart}
 use Rattle.snapshot_blob.specs.Snapshot.{IsAccepted, IsRefused}
 use Rattle.snapshot_blob.specs.Stated.{TypeIs, schemas_of}
-use Rattle.hol_refusals.specs.declared.refusal.Refusal.TheVariants.{NoBlob, BadBlob, TooLarge, NotYet, BadBody}
+use Rattle.hol_refusals.specs.declared.refusal.Refusal.TheVariants.{NoBlob, TooLarge, NotYet, BadBody}
+use Rattle.hol_refusals.specs.Refusal.{bad_item}
 use Rattle.hol_answers.specs.declared.reply.Reply.{Reply}
 use Rattle.hol_answers.specs.declared.reply.Reply.TheVariants.{Head, Refused}
 use Rattle.hollow_machine.specs.State.{started}
@@ -47,7 +48,7 @@ head_some decided name (Some blob) bytes =
       | inl large ↦ (Refused (TooLarge limit.Blob), (blob, refl, large, refl))
       | inr short ↦ elim (decided.some blob 0 bytes (omega arith)) [
         | inl found ↦ (Head found.0, (blob, found.1, refl, short, found.2))
-        | inr stuck ↦ (Refused (BadBlob name stuck.0 stuck.1 None), (blob, refl, short, stuck.2, refl, refl))
+        | inr stuck ↦ (Refused (bad_item name stuck.0 stuck.1), (blob, refl, short, stuck.2, refl, refl))
       ]
     ]
 

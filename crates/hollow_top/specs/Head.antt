@@ -1,12 +1,13 @@
 -- What `head` answers: the header of the blob of a name, or why there is none.
-use Rattle.std.specs.Prelude.{ℕ, List, Option, Some, None, Result, Ok, Err}
+use Rattle.std.specs.Prelude.{ℕ, List, Option, Some, Result, Ok, Err}
 use Rattle.hol_io.specs.declared.name.BlobName.{BlobName}
 use Rattle.hol_io.specs.Store.{Store, told}
 use Rattle.blob_frame.specs.declared.fault.BlobFault.{BlobFault}
 use Rattle.blob_frame.specs.declared.fault.BlobFault.TheVariants as fault
 use Rattle.blob_frame.specs.Header.{HasHeader}
 use Rattle.hol_refusals.specs.declared.refusal.Refusal.{Refusal}
-use Rattle.hol_refusals.specs.declared.refusal.Refusal.TheVariants.{NoBlob, BadBlob, TooLarge}
+use Rattle.hol_refusals.specs.declared.refusal.Refusal.TheVariants.{NoBlob, TooLarge}
+use Rattle.hol_refusals.specs.Refusal.{bad_item}
 use Rattle.hol_answers.specs.declared.reply.Reply.{Reply}
 use Rattle.hol_answers.specs.declared.reply.Reply.TheVariants.{Head, Refused}
 use Rattle.hollow_machine.specs.Blobs.{HeadRefusal}
@@ -27,7 +28,7 @@ HeadReply store name reply = HeadIs name (told (Some store) name) reply
 abbrev pub refusal_of : BlobName → BlobFault → Result Refusal Stop
 refusal_of name (fault.NoBlob other) = Ok (NoBlob name)
 refusal_of name (fault.Large what) = Ok (TooLarge what)
-refusal_of name (fault.Bad at reason) = Ok (BadBlob name at reason None)
+refusal_of name (fault.Bad at reason) = Ok (bad_item name at reason)
 refusal_of name fault.Store = Err stop.Store
 refusal_of name fault.Memory = Err stop.Memory
 refusal_of name (fault.BadRow at reason of ordinal) = Err stop.Memory

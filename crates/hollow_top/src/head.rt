@@ -8,7 +8,7 @@ use blob_cursor::opened;
 use blob_frame::BlobFault;
 use hol_answers::Reply;
 use hol_io::{BlobName, BlobStore};
-use hol_refusals::Refusal;
+use hol_refusals::{ItemFault, Refusal};
 use std::alloc::Global;
 
 /// The header of a blob of the store, or the refusal of it: `NoBlob` where the store has no such
@@ -34,12 +34,12 @@ pub fn refusal(name: &BlobName, fault: BlobFault) -> Result<Refusal, Stop>
     match fault {
         BlobFault::NoBlob(_) => Ok(Refusal::NoBlob(*name)),
         BlobFault::Large(limit) => Ok(Refusal::TooLarge(limit)),
-        BlobFault::Bad(at, reason) => Ok(Refusal::BadBlob {
+        BlobFault::Bad(at, reason) => Ok(Refusal::BadBlob(ItemFault {
             blob: *name,
             at,
             reason,
             row: None,
-        }),
+        })),
         BlobFault::Store => Err(Stop::Store),
         BlobFault::Memory => Err(Stop::Memory),
         BlobFault::BadRow(..) | BlobFault::OtherOrigin(..) | BlobFault::OtherModel(_) => {

@@ -27,7 +27,6 @@ pub fn one_answer()
         → command ≢ Command.Run → Writes input store command one refused next → Writes input store command other also after
         → (one ≡ other) × (refused ≡ also) × (next ≡ after) }
 {
-    one_header();
     one_snapshot();
     header_and_body();
     one_row_value();

@@ -1,7 +1,7 @@
 //! The lines of refusals.
 use hol_answers::{Reply, reply_line};
 use hol_io::BlobName;
-use hol_refusals::{Refusal, RowPlace};
+use hol_refusals::{ItemFault, Refusal, RowPlace};
 use schema_model::{Limit, Name, Reason};
 use std::alloc::{AllocError, Global};
 
@@ -16,13 +16,13 @@ fn bad_row(alloc: Global) -> Result<String, AllocError> {
         type_name: Name::from_text(alloc, "A")?,
         ordinal: 7,
     };
-    let bad = Refusal::BadBlob {
+    let fault = ItemFault {
         blob: BlobName::Snapshot(1),
         at: 31,
         reason: Reason::FloatField,
         row: Some(row),
     };
-    reply_line(alloc, Reply::Refused(bad))
+    reply_line(alloc, Reply::Refused(Refusal::BadBlob(fault)))
 }
 
 #[test]

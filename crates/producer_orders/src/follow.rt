@@ -2,12 +2,13 @@
 ghost use Rattle.std.specs.Prelude.{◌≡◌, ℕ, IfOk, IfSome};
 ghost use Rattle.chain_store.specs.Announced.{IsAnnounced};
 ghost use Rattle.hol_orders.specs.Stops.{HasStopCause};
+ghost use Rattle.hol_refusals.specs.Refusal.{bad_item};
 ghost use Rattle.producer_orders.specs.Parts.{TellsFollow};
 
 use chain_store::{Announcement, announced_version, greatest_version, is_tag_taken, names_of};
 use hol_io::{BlobName, BlobStore};
 use hol_orders::OrderStop;
-use hol_refusals::Refusal;
+use hol_refusals::{ItemFault, Refusal};
 use schema_model::Reason;
 use std::alloc::Global;
 
@@ -37,14 +38,14 @@ pub(crate) fn why_not<S: BlobStore>(
 
 // The refusal of a store whose announced version is none.
 fn bad_announcement() -> Refusal
-    ensures { result ≡ Refusal.BadBlob BlobName.Announced 0 Reason.BadAnnounced None }
+    ensures { result ≡ bad_item BlobName.Announced 0 Reason.BadAnnounced }
 {
-    Refusal::BadBlob {
+    Refusal::BadBlob(ItemFault {
         blob: BlobName::Announced,
         at: 0,
         reason: Reason::BadAnnounced,
         row: None,
-    }
+    })
 }
 
 // Why a state of this version and tag may not follow the announced one.

@@ -3,6 +3,7 @@ ghost use Rattle.std.specs.Prelude.{◌≡◌, ◌<◌, All, IfOk, Some, false, 
 ghost use Rattle.serde_json.specs.View.{view};
 ghost use Rattle.schema_model.specs.declared.schema.Schema.{Schema};
 ghost use Rattle.hol_orders.specs.Shapes.{AreRecords};
+ghost use Rattle.hol_refusals.specs.Refusal.{bad_record as refused_record};
 ghost use Rattle.hollow_machine.specs.CycleOrder.{AreNamed};
 ghost use Rattle.hollow_machine.specs.Kept.{IsResting, published_of};
 ghost use Rattle.hollow_machine.specs.Records.{AreTypes, entries};
@@ -15,7 +16,7 @@ use crate::record_fault::RecordFault;
 use crate::records::add_records;
 use crate::types::unknown_type;
 use hol_orders::OrderStop;
-use hol_refusals::Refusal;
+use hol_refusals::{Refusal, RefusedRecord};
 use hol_varint::{Duplicate, Ordinals};
 use schema_model::{Limit, Model, Names, Reason};
 use serde_json::Value;
@@ -80,13 +81,13 @@ fn bad_record(
     reason: Reason,
 ) -> Result<Refusal, AllocError>
     requires { type_index < length model.now }
-    ensures { IfOk result (λ refusal. (schema : Schema) × (slice_get model.now type_index ≡ Some schema) × (refusal ≡ Refusal.BadRecord schema.name place reason)) }
+    ensures { IfOk result (λ refusal. (schema : Schema) × (slice_get model.now type_index ≡ Some schema) × (refusal ≡ refused_record schema.name place reason)) }
 {
-    Ok(Refusal::BadRecord {
+    Ok(Refusal::BadRecord(RefusedRecord {
         type_name: model.schema(type_index).name.copy(alloc)?,
         index: place,
         reason,
-    })
+    }))
 }
 
 /// The names of some types of a model.
