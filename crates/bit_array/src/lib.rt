@@ -6,6 +6,3 @@ mod words;
 
 pub use counts::{all_ones, digits, total_width, words_for};
 pub use words::{element, element_at, set_element};
-
-#[cfg(test)]
-mod tests;

@@ -26,6 +26,3 @@ pub use source::{ReadFailed, Source};
 pub use steps::Steps;
 pub use store::{BlobStore, PutFault, StoreFailed};
 pub use sure_store::SureStore;
-
-#[cfg(test)]
-mod tests;

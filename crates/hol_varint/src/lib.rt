@@ -17,6 +17,3 @@ pub use numbers::{GapList, Octets, Ordinals, Units};
 pub use text_units::{get_units, put_units, text_of, units_len, units_of};
 pub use varint::{get_vint, get_vlong, put_vint, put_vlong};
 pub use zigzag::{unzigzag32, unzigzag64, zigzag32, zigzag64};
-
-#[cfg(test)]
-mod tests;
