@@ -18,6 +18,4 @@ mod ordinals;
 #[cfg(test)]
 mod runs;
 #[cfg(test)]
-mod sets;
-#[cfg(test)]
 mod two_states;
