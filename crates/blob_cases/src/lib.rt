@@ -6,6 +6,8 @@ mod blobs;
 #[cfg(test)]
 mod chains;
 #[cfg(test)]
+mod headers;
+#[cfg(test)]
 mod sections;
 #[cfg(test)]
 mod snapshots;

@@ -2,7 +2,7 @@
 ghost use Rattle.blob_cursor.specs.Scene.{IsAbove};
 
 use blob_cursor::{Cursor, counted};
-use blob_frame::BlobFault;
+use blob_frame::{BlobFault, Header};
 use blob_sections::{max_ordinal, packed_rows, population, type_head};
 use hol_io::{BlobName, BlobStore, SureStore};
 use schema_model::{Field, FieldKind, Fields, Name, NamePairs, Shape};
@@ -16,6 +16,15 @@ pub(crate) fn told(alloc: Global, blob: &[u8], items: &[u8]) -> Result<String, F
     store.put(&name, blob).map_err(|_| "put")?;
     let mut cursor = Cursor::start(alloc, &mut store, &name)?;
     Ok(items_told(alloc, &mut store, &mut cursor, items)?)
+}
+
+/// What is read of a blob's header.
+pub(crate) fn header(alloc: Global, blob: &[u8]) -> Result<Header, Fail> {
+    let name = BlobName::Snapshot(1);
+    let mut store = SureStore::new(alloc);
+    store.put(&name, blob).map_err(|_| "put")?;
+    let mut cursor = Cursor::start(alloc, &mut store, &name)?;
+    Ok(cursor.read_header(&mut store)?)
 }
 
 fn items_told<S: BlobStore>(

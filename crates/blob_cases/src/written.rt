@@ -87,8 +87,8 @@ fn model(alloc: Global) -> Result<Model, Fail> {
     model_of(alloc, schemas).map_err(|_| Fail::from("model"))
 }
 
-// Whether the key of a type has few paths.
-fn has_few_keys(shape: &Shape) -> bool
+/// Whether the key of a type has few paths.
+pub(crate) fn has_few_keys(shape: &Shape) -> bool
     ensures { MatchBool result (IfSome (shape_key shape.now) (λ paths. length paths < 2 ^ 32)) Unit }
 {
     match shape {

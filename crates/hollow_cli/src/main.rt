@@ -1,17 +1,14 @@
 //! The program: `hollow FOLDER WORDS..` over the files of a folder, standard input and standard output.
 #![tactic(auto)]
 
-mod folder;
-mod streams;
 mod usage;
 
-use folder::FolderStore;
+use hol_files::{FolderStore, StdIn, StdOut};
 use hollow_top::{Keep, run};
 use std::alloc::Global;
 use std::process::ExitCode;
 use std::rt::{Env, Files};
 use std::{env, io};
-use streams::{StdIn, StdOut};
 use usage::{HELP, UsageFault, VERSION};
 
 /// The status of a command line that asks for nothing.
@@ -73,6 +70,3 @@ fn served(rt: &HostRuntime, folder: &str, words: &[String]) -> u8 {
     let mut keep = Keep::new(alloc);
     run(alloc, words, &mut input, &mut out, &mut store, &mut keep)
 }
-
-#[cfg(test)]
-mod tests;

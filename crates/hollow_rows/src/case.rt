@@ -22,7 +22,7 @@
 //! nothing. What was written is judged at the next `run`, and at the end.
 use hol_io::{BlobName, BlobStore, MemSink, MemSource, MemStore};
 use hollow_top::{Keep, run};
-use std::alloc::Global;
+use std::alloc::{AllocError, Global};
 use std::process::Abort;
 use std::test::Fail;
 
@@ -38,22 +38,58 @@ const ROOM: usize = 10_000;
 /// How many bytes a source gives a call where nothing else is said.
 const PIECE: usize = 7;
 
+/// What the next run has beside its words.
+#[derive(Drop)]
+struct Setting {
+    /// The input.
+    input: Vec<u8>,
+    /// How many bytes the source gives a call.
+    piece: usize,
+    /// How much the sink takes.
+    room: usize,
+    /// The calls of the source that fail.
+    calls: Vec<u64>,
+    /// The calls of the store that fail.
+    reads: Vec<u64>,
+    /// The calls of the sink that fail.
+    writes: Vec<u64>,
+}
+
+impl Setting {
+    /// No input, and no call that fails.
+    fn new(alloc: Global) -> Setting {
+        Setting {
+            input: Vec::new(alloc),
+            piece: PIECE,
+            room: ROOM,
+            calls: Vec::new(alloc),
+            reads: Vec::new(alloc),
+            writes: Vec::new(alloc),
+        }
+    }
+
+    /// The source.
+    fn source(&self, alloc: Global) -> Result<MemSource, AllocError> {
+        let input = Vec::from_slice(alloc, self.input.as_slice())?;
+        let calls = Vec::from_slice(alloc, self.calls.as_slice())?;
+        Ok(MemSource::new(input, self.piece.max(1), calls))
+    }
+
+    /// The sink.
+    fn sink(&self, alloc: Global) -> Result<MemSink, AllocError> {
+        let writes = Vec::from_slice(alloc, self.writes.as_slice())?;
+        MemSink::new(alloc, self.room, 7, writes)
+    }
+}
+
 /// What the cases are run on.
 #[derive(Drop)]
 pub struct Bench {
     alloc: Global,
     /// The blob, and its faulty twin.
     blobs: (Vec<u8>, Vec<u8>),
-    /// The input of the next run.
-    input: Vec<u8>,
-    /// The calls of the source that fail in the next run.
-    input_fails: Vec<u64>,
-    /// How many bytes the source gives a call in the next run.
-    piece: usize,
-    /// The calls of the store and of the sink that fail in the next run.
-    fails: (Vec<u64>, Vec<u64>),
-    /// How much the sink takes in the next run.
-    room: usize,
+    /// What the next run has.
+    next: Setting,
     /// What the last run wrote, and what it is to have written.
     texts: (Vec<u8>, Vec<u8>),
 }
@@ -64,11 +100,7 @@ impl Bench {
         Bench {
             alloc,
             blobs: (Vec::new(alloc), Vec::new(alloc)),
-            input: Vec::new(alloc),
-            input_fails: Vec::new(alloc),
-            piece: PIECE,
-            fails: (Vec::new(alloc), Vec::new(alloc)),
-            room: ROOM,
+            next: Setting::new(alloc),
             texts: (Vec::new(alloc), Vec::new(alloc)),
         }
     }
@@ -127,8 +159,8 @@ impl Bench {
 
     // The input goes on.
     fn ask(&mut self, text: &str, end: &str) -> Result<bool, Fail> {
-        self.input.extend_from_slice(text.as_bytes())?;
-        self.input.extend_from_slice(end.as_bytes())?;
+        self.next.input.extend_from_slice(text.as_bytes())?;
+        self.next.input.extend_from_slice(end.as_bytes())?;
         Ok(true)
     }
 
@@ -144,11 +176,11 @@ impl Bench {
     // What fails in the next run. Other words say nothing.
     fn arrange(&mut self, word: &str, rest: &str) -> Result<bool, Fail> {
         match word.as_bytes() {
-            b"calls" => put_numbers(rest, &mut self.input_fails)?,
-            b"piece" => self.piece = rest.parse::<usize>()?,
-            b"reads" => put_numbers(rest, &mut self.fails.0)?,
-            b"writes" => put_numbers(rest, &mut self.fails.1)?,
-            b"room" => self.room = rest.parse::<usize>()?,
+            b"calls" => put_numbers(rest, &mut self.next.calls)?,
+            b"piece" => self.next.piece = rest.parse::<usize>()?,
+            b"reads" => put_numbers(rest, &mut self.next.reads)?,
+            b"writes" => put_numbers(rest, &mut self.next.writes)?,
+            b"room" => self.next.room = rest.parse::<usize>()?,
             _ => return Ok(word.is_empty() || word.starts_with('#')),
         }
         Ok(true)
@@ -175,7 +207,7 @@ impl Bench {
 
     /// The status of a command line over a store that holds this blob. What it wrote is kept.
     pub fn answer(&mut self, words: &str, blob: &[u8]) -> Result<u8, Fail> {
-        let reads = Vec::from_slice(self.alloc, self.fails.0.as_slice())?;
+        let reads = Vec::from_slice(self.alloc, self.next.reads.as_slice())?;
         let mut store = MemStore::new(self.alloc, reads, Vec::new(self.alloc));
         store
             .put(&BlobName::Snapshot(1), blob)
@@ -185,31 +217,23 @@ impl Bench {
 
     /// The same over any store.
     pub fn answer_over<S: BlobStore>(&mut self, words: &str, store: &mut S) -> Result<u8, Fail> {
-        let alloc = self.alloc;
-        let mut line = Vec::new(alloc);
-        for word in words.split_whitespace() {
-            line.push(String::from_str(alloc, word)?)?;
-        }
-        let writes = Vec::from_slice(alloc, self.fails.1.as_slice())?;
-        let mut out = MemSink::new(alloc, self.room, 7, writes)?;
-        let asked = Vec::from_slice(alloc, self.input.as_slice())?;
-        let calls = Vec::from_slice(alloc, self.input_fails.as_slice())?;
-        let mut input = MemSource::new(asked, self.piece.max(1), calls);
-        let mut keep = Keep::new(alloc);
+        let line = words_of(self.alloc, words)?;
+        let mut input = self.next.source(self.alloc)?;
+        let mut out = self.next.sink(self.alloc)?;
+        let mut keep = Keep::new(self.alloc);
         let status = run(
-            alloc,
+            self.alloc,
             line.as_slice(),
             &mut input,
             &mut out,
             store,
             &mut keep,
         );
-        self.texts = (Vec::from_slice(alloc, out.bytes())?, Vec::new(alloc));
-        self.fails = (Vec::new(alloc), Vec::new(alloc));
-        self.input = Vec::new(alloc);
-        self.input_fails = Vec::new(alloc);
-        self.piece = PIECE;
-        self.room = ROOM;
+        self.texts = (
+            Vec::from_slice(self.alloc, out.bytes())?,
+            Vec::new(self.alloc),
+        );
+        self.next = Setting::new(self.alloc);
         Ok(status)
     }
 
@@ -255,6 +279,15 @@ impl Bench {
         self.texts.1.extend_from_slice(BAD_BODY)?;
         Ok(shown == 0 && refused == 1 && self.is_settled())
     }
+}
+
+// The words of a command line.
+fn words_of(alloc: Global, line: &str) -> Result<Vec<String>, AllocError> {
+    let mut words = Vec::new(alloc);
+    for word in line.split_whitespace() {
+        words.push(String::from_str(alloc, word)?)?;
+    }
+    Ok(words)
 }
 
 // Adds the bytes of a piece.

@@ -33,5 +33,3 @@ mod shows;
 mod turned;
 #[cfg(test)]
 mod usage;
-#[cfg(test)]
-mod writes;

@@ -1,7 +1,5 @@
 //! A delta with each of its bits turned, and each front of it: taken, or refused for its cause, and then all stays.
 use crate::scene::Scene;
-use std::alloc::Global;
-use std::process::Abort;
 use std::test::Fail;
 
 /// Two states of one type.
@@ -61,15 +59,13 @@ fn is_told(text: &str, kind: u8) -> bool {
     loaded && stepped && live.is_some() && stayed
 }
 
-// A scene with the two states, and the delta between them.
-fn two_states(alloc: Global) -> Result<(Scene, Vec<u8>), Fail> {
-    let mut scene = Scene::new(alloc);
+// Puts the two states into the store of a scene. The delta between them.
+fn two_states(scene: &mut Scene) -> Result<Vec<u8>, Fail> {
     for line in CHAIN.lines() {
         scene.step(line)?;
     }
     scene.step(DELTA)?;
-    let delta = scene.bench.blob()?;
-    Ok((scene, delta))
+    scene.bench.blob()
 }
 
 // Whether the orders over this delta come to that.
@@ -82,30 +78,45 @@ fn comes_to(scene: &mut Scene, delta: &[u8], kind: u8) -> Result<bool, Fail> {
     Ok(is_told(std::str::from_utf8(scene.bench.text())?, kind))
 }
 
+// Turns a bit of a byte, the least of it first.
+fn turn(delta: &mut [u8], place: usize, bit: usize) {
+    if let Some(byte) = delta.get_mut(place) {
+        *byte ^= 1 << (bit % 8);
+    }
+}
+
+// The first bit of a byte that, once it is turned, does not come to its kind. Each is turned back.
+fn odd_bit(
+    scene: &mut Scene,
+    delta: &mut [u8],
+    place: usize,
+    kinds: &str,
+) -> Result<Option<usize>, Fail> {
+    for (bit, kind) in kinds.bytes().enumerate() {
+        turn(delta, place, bit);
+        if !comes_to(scene, delta, kind)? {
+            return Ok(Some(bit));
+        }
+        turn(delta, place, bit);
+    }
+    Ok(None)
+}
+
 #[test]
 fn turned_bits(rt: HostRuntime) -> Result<(), Fail> {
-    let (mut scene, mut delta) = two_states(rt.alloc())?;
+    let mut scene = Scene::new(rt.alloc());
+    let mut delta = two_states(&mut scene)?;
     for (place, kinds) in TURNED.split_ascii_whitespace().enumerate() {
-        for (bit, kind) in kinds.bytes().enumerate() {
-            let turned = 1u8 << (bit % 8);
-            if let Some(byte) = delta.get_mut(place) {
-                *byte ^= turned;
-            }
-            assert!(rt;
-                comes_to(&mut scene, delta.as_slice(), kind)?,
-                "byte {place}, bit {bit}"
-            );
-            if let Some(byte) = delta.get_mut(place) {
-                *byte ^= turned;
-            }
-        }
+        let odd = odd_bit(&mut scene, delta.as_mut_slice(), place, kinds)?;
+        assert!(rt; odd.is_none(), "byte {place}, bit {odd:?}");
     }
     Ok(())
 }
 
 #[test]
 fn fronts(rt: HostRuntime) -> Result<(), Fail> {
-    let (mut scene, delta) = two_states(rt.alloc())?;
+    let mut scene = Scene::new(rt.alloc());
+    let delta = two_states(&mut scene)?;
     for (count, kind) in CUT.bytes().enumerate() {
         let front = delta.get(..count).unwrap_or(&[]);
         assert!(rt; comes_to(&mut scene, front, kind)?, "{count} bytes");

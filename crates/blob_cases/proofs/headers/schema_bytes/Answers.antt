@@ -1,4 +1,4 @@
-use Rattle.hollow_rows.proofs.writes.schema_bytes.Goals as goal
+use Rattle.blob_cases.proofs.headers.schema_bytes.Goals as goal
 
 -- the schema is one of a model, and its key has few paths
 pub put_schema-requires : goal.put_schema-requires

@@ -1,6 +1,5 @@
-//! What the traits do not say of the adapters: what they do with files, input and output.
-use crate::folder::FolderStore;
-use crate::streams::{StdIn, StdOut};
+//! What a folder, standard input and standard output do, of which the traits tell nothing.
+use hol_files::{FolderStore, StdIn, StdOut};
 use hol_io::{BlobName, BlobStore, Sink, Source};
 use std::alloc::{AllocError, Global};
 use std::fs;

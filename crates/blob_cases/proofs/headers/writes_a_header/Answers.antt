@@ -6,7 +6,7 @@ use Rattle.hol_varint.specs.JavaUtf.{utf_bytes, unit_bytes}
 use Rattle.schema_model.specs.declared.schema.Shape.TheVariants as shape
 use Rattle.schema_model.specs.declared.schema.Schema.{Schema}
 use Rattle.blob_frame.specs.Written.{schemas_at, schema_list_bytes}
-use Rattle.blob_cases.proofs.blobs.writes_a_header.Goals as goal
+use Rattle.blob_cases.proofs.headers.writes_a_header.Goals as goal
 
 two : List Schema
 two = record { name = codes "A"; shape = shape.Object None [] } ∷ record { name = codes "S"; shape = shape.Set (codes "A") } ∷ []
