@@ -1,9 +1,7 @@
 -- A cycle from its parts: what each part tells is what the order answers, or is refused for.
-use Rattle.std.proofs.Common.{◌≡◌, ◌≢◌, ℕ, ℤ, List, [], Bool, true, false, Option, Some, None, Result, Ok, Err, refl, sym, ap, subst, to_z, of_z, FitsSigned}
+use Rattle.std.proofs.Common.{◌≡◌, ◌≢◌, ℕ, ℤ, List, [], Bool, true, false, Option, Some, None, Result, Ok, Err, refl, sym, ap, subst}
 use Rattle.std.specs.Prelude.{IsTrue, ◌↔◌}
 use Rattle.std.specs.Option.{option_map}
-use Rattle.std.specs.Int.{w64}
-use Rattle.std.proofs.lemmas.Int.{to_z-of_z}
 use Rattle.serde_json.specs.Data.{Data}
 use Rattle.hol_io.specs.Store.{Store}
 use Rattle.schema_model.specs.declared.limit.Limit.TheVariants as limit
@@ -25,11 +23,11 @@ use Rattle.hollow_machine.specs.State.{Published}
 use Rattle.section_writing.specs.declared.fault.WriteFault.{WriteFault}
 use Rattle.section_writing.specs.declared.fault.WriteFault.TheVariants as write
 use Rattle.section_writing.specs.Limits.{MeansLarge}
-use Rattle.producer_orders.specs.declared.write.Blobs.{Blobs}
+use Rattle.state_blobs.specs.declared.write.Blobs.{Blobs}
 use Rattle.producer_orders.specs.declared.cycle_end.CycleEnd.{CycleEnd}
 use Rattle.producer_orders.specs.declared.cycle_end.CycleEnd.TheVariants as cycle_end
 use Rattle.producer_orders.specs.Ends.{IsAnyStop, IsMemory, TellsEnd, end_of}
-use Rattle.producer_orders.specs.Blobs.{AreNotShort, puts_in}
+use Rattle.state_blobs.specs.Blobs.{AreNotShort, puts_in}
 use Rattle.producer_orders.specs.Making.{Ends, EndsPublished, Follows, IsEnded, IsMade, IsTooLarge, IsWithin, Steps, machine_with}
 
 -- what is too large is refused, where the state would be published
@@ -96,10 +94,6 @@ pub no_producer : (version : ℕ) (tag : ℤ) (add : Data) (held : Option Store)
     MovesProducer {E = E} (λ machine r next. CycleStep machine version tag add r next) held kept held kept (Ok (reply.Refused refusal.NoModel))
 no_producer version tag add None kept E is = λ consumer. tt
 no_producer version tag add (Some store) kept E is = λ consumer. (store, refl, (ap (option_map published_of) is, refl))
-
--- what holds at a tag that was passed on holds at the tag
-pub at_tag : (P : ℤ → Type 0) (tag : ℤ) → FitsSigned w64 tag → P (to_z w64 (of_z w64 tag)) → P tag
-at_tag P tag fits there = subst P (to_z-of_z w64 tag fits) there
 
 -- Blobs that are not written end a cycle of a state that keeps the limits of its types.
 pub not_written : (last : Published) (rows : Table) (version : ℕ) (tag : ℤ) (fault : WriteFault) → TellsTypes last.model last.rows rows None →

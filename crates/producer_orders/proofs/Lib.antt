@@ -1,10 +1,7 @@
 mod AddingRecords
 mod Cycling
 mod KnownTypes
-mod LongKeys
 mod Makings
 mod Modelling
 mod Naming
 mod Placed
-mod Putting
-mod Writing

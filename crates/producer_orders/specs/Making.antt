@@ -17,10 +17,10 @@ use Rattle.hollow_machine.specs.Follow.{MayFollow, MayNotFollow}
 use Rattle.hollow_machine.specs.Puts.{AreBlobs, IsShort, Put, puts_of, put_all}
 use Rattle.hollow_machine.specs.Records.{AreTypes}
 use Rattle.hollow_machine.specs.State.{Machine, Published}
-use Rattle.producer_orders.specs.Blobs.{puts_in}
+use Rattle.state_blobs.specs.Blobs.{puts_in}
 use Rattle.producer_orders.specs.Ends.{IsAnyStop, TellsEnd}
 use Rattle.producer_orders.specs.declared.cycle_end.CycleEnd.{CycleEnd}
-use Rattle.producer_orders.specs.declared.write.Blobs.{Blobs}
+use Rattle.state_blobs.specs.declared.write.Blobs.{Blobs}
 
 -- A closed cycle: the state that the records make and the types that it changes, and the limit that it passes.
 pub record IsMade (last : Published) (add : Data) (made : Production) (closed : Closed) : Type 0 where

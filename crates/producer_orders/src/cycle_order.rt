@@ -15,13 +15,12 @@ ghost use Rattle.producer_orders.specs.Making.{Ends, EndsPublished, Follows, IsT
 use crate::cycle_end::CycleEnd;
 use crate::follow::why_not;
 use crate::make::{make_state, names_of_types};
-use crate::publish::publish;
-use crate::write::{Blobs, write_blobs};
 use hol_answers::Reply;
 use hol_io::BlobStore;
 use hol_orders::OrderStop;
 use hol_refusals::Refusal;
 use serde_json::Value;
+use state_blobs::{Blobs, publish, write_blobs};
 use std::alloc::Global;
 use write_engine::{Closed, Producer};
 

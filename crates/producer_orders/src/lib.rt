@@ -6,11 +6,9 @@ mod cycle_order;
 mod follow;
 mod make;
 mod model_order;
-mod publish;
 mod record_fault;
 mod records;
 mod types;
-mod write;
 
 pub use cycle_order::cycle;
 pub use model_order::model;

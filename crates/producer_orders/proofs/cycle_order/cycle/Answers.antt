@@ -4,7 +4,8 @@ use Rattle.write_engine.specs.Production.{Production}
 use Rattle.hollow_machine.specs.CycleOrder.{CycleStep}
 use Rattle.hollow_machine.specs.Kept.{MovesProducer}
 use Rattle.hol_orders.specs.declared.order_stop.OrderStop.{OrderStop}
-use Rattle.producer_orders.proofs.Cycling.{at_tag, no_producer}
+use Rattle.state_blobs.proofs.Tags.{at_tag}
+use Rattle.producer_orders.proofs.Cycling.{no_producer}
 use Rattle.producer_orders.proofs.cycle_order.cycle.Goals as goal
 
 pub returns-in-Some-clause-step : goal.returns-in-Some-clause-step

@@ -4,7 +4,8 @@ use Rattle.hollow_machine.specs.Kept.{published_of}
 use Rattle.hol_orders.specs.declared.order_stop.OrderStop.{OrderStop}
 use Rattle.producer_orders.specs.declared.cycle_end.CycleEnd.TheVariants.{Refused}
 use Rattle.producer_orders.specs.Making.{Steps}
-use Rattle.producer_orders.proofs.Cycling.{answers, at_tag, refuses}
+use Rattle.producer_orders.proofs.Cycling.{answers, refuses}
+use Rattle.state_blobs.proofs.Tags.{at_tag}
 use Rattle.producer_orders.proofs.cycle_order.cycle_of.Goals as goal
 
 pub returns-in-Ok-clause-step : goal.returns-in-Ok-clause-step

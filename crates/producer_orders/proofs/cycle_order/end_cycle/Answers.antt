@@ -4,7 +4,8 @@ use Rattle.schema_model.specs.declared.schema.Schema.{Schema}
 use Rattle.hollow_machine.specs.CycleOrder.{AreNamed, Publishes}
 use Rattle.hollow_machine.specs.Kept.{published_of}
 use Rattle.producer_orders.specs.Making.{EndsPublished}
-use Rattle.producer_orders.proofs.Cycling.{at_tag, changes, not_published, published, unpublished}
+use Rattle.state_blobs.proofs.Tags.{at_tag}
+use Rattle.producer_orders.proofs.Cycling.{changes, not_published, published, unpublished}
 use Rattle.producer_orders.proofs.cycle_order.end_cycle.Goals as goal
 use Rattle.producer_orders.proofs.cycle_order.end_cycle.Goals.{else-not-closed-via-then-not-closed+else-is_empty, else-not-closed-via-else-not-closed}
 

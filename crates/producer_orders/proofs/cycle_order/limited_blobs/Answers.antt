@@ -4,8 +4,9 @@ use Rattle.section_writing.specs.Limits.{MeansLarge}
 use Rattle.write_engine.specs.CycleLimit.{TellsTypes}
 use Rattle.hollow_machine.specs.Kept.{published_of}
 use Rattle.hollow_machine.specs.Puts.{AreBlobs}
-use Rattle.producer_orders.specs.Blobs.{AreNotShort}
-use Rattle.producer_orders.proofs.Cycling.{at_tag, not_written}
+use Rattle.state_blobs.specs.Blobs.{AreNotShort}
+use Rattle.state_blobs.proofs.Tags.{at_tag}
+use Rattle.producer_orders.proofs.Cycling.{not_written}
 use Rattle.producer_orders.proofs.cycle_order.limited_blobs.Goals as goal
 
 pub returns-in_err-write_blobs : goal.returns-in_err-write_blobs

@@ -2,10 +2,11 @@ use Rattle.std.proofs.Common.{Err, ◌≡◌}
 use Rattle.std.proofs.lemmas.Result.{err_from_is_err_and}
 use Rattle.write_engine.specs.Production.{advanced_to}
 use Rattle.hollow_machine.specs.Kept.{published_of}
-use Rattle.producer_orders.specs.declared.write.Blobs.{Blobs}
+use Rattle.state_blobs.specs.declared.write.Blobs.{Blobs}
 use Rattle.producer_orders.specs.Ends.{IsMemory, TellsEnd}
 use Rattle.producer_orders.specs.Making.{IsTooLarge, IsWithin}
-use Rattle.producer_orders.proofs.Cycling.{at_tag, is_published, no_blobs}
+use Rattle.state_blobs.proofs.Tags.{at_tag}
+use Rattle.producer_orders.proofs.Cycling.{is_published, no_blobs}
 use Rattle.producer_orders.proofs.cycle_order.publish_state.Goals as goal
 
 pub returns-in_err-blobs-clause-ends : goal.returns-in_err-blobs-clause-ends

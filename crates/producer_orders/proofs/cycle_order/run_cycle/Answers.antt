@@ -2,7 +2,8 @@ use Rattle.std.proofs.Common.{Ok, subst, ℕ}
 use Rattle.serde_json.specs.View.{view}
 use Rattle.hollow_machine.specs.Kept.{published_of}
 use Rattle.producer_orders.specs.Making.{Ends, Follows}
-use Rattle.producer_orders.proofs.Cycling.{at_tag, ends}
+use Rattle.state_blobs.proofs.Tags.{at_tag}
+use Rattle.producer_orders.proofs.Cycling.{ends}
 use Rattle.producer_orders.proofs.cycle_order.run_cycle.Goals as goal
 
 pub returns-clause-steps : goal.returns-clause-steps

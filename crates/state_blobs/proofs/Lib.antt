@@ -1,0 +1,4 @@
+mod LongKeys
+mod Putting
+pub mod Tags
+mod Writing

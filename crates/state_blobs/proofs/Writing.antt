@@ -1,0 +1,66 @@
+-- The blobs of a cycle that are too long.
+use Rattle.std.proofs.Common.{◌≡◌, ◌≤◌, ◌^◌, inl, inr, ℕ, ℤ, List, [], ◌∷◌, All, subst, length, arith}
+use Rattle.std.proofs.lemmas.List.Elements.{All-head, All-tail}
+use Rattle.hol_io.specs.declared.name.BlobName.TheVariants as name
+use Rattle.row_model.specs.Table.{Table}
+use Rattle.section_writing.specs.declared.fault.WriteFault.{WriteFault}
+use Rattle.section_writing.specs.declared.fault.WriteFault.TheVariants.{Large, Memory}
+use Rattle.section_writing.specs.Limits.{MeansLarge}
+use Rattle.snapshot_blob.specs.Written.{IsWrittenSnapshot}
+use Rattle.delta_blob.specs.Changes.{IsDeltaBetween}
+use Rattle.hollow_machine.specs.Puts.{AreBlobs, AreFirst, AreLater, IsShort, Put}
+use Rattle.hollow_machine.specs.State.{Published}
+use Rattle.state_blobs.specs.Blobs.{AreLong, AreNotShort}
+use Rattle.state_blobs.specs.Paths.{HaveManyPaths}
+use Rattle.state_blobs.proofs.LongKeys.{long_snapshot}
+
+-- what a refusal means, it means of what follows from it
+pub means_more : (P Q : Type 0) (fault : WriteFault) → (P → Q) → MeansLarge P fault → MeansLarge Q fault
+means_more P Q Large more means = more means
+means_more P Q Memory more means = tt
+
+pub first_long : (last : Published) (rows : Table) (version : ℕ) (tag : ℤ) → AreLong (IsWrittenSnapshot last.model last.rows rows last.tag tag) → AreNotShort (AreFirst last rows version tag)
+first_long last rows version tag long = λ blobs (snapshot, written, are) short.
+    let all : All IsShort ((name.Snapshot version, snapshot) ∷ []) = subst (λ (puts : List Put). All IsShort puts) are short in
+    let head = All-head IsShort (name.Snapshot version, snapshot) [] all in
+    let more = long snapshot written in
+    absurd (omega (arith, head, more))
+
+-- each of the three blobs is short
+short_ones : (last : Published) (version : ℕ) (delta reverse snapshot : List ℕ) (blobs : List Put) →
+    blobs ≡ (name.Delta last.version version, delta) ∷ (name.Reverse version last.version, reverse) ∷ (name.Snapshot version, snapshot) ∷ [] → All IsShort blobs →
+    (length delta ≤ 2 ^ 28) × (length reverse ≤ 2 ^ 28) × (length snapshot ≤ 2 ^ 28)
+short_ones last version delta reverse snapshot blobs are short =
+    let forth : Put = (name.Delta last.version version, delta) in
+    let back : Put = (name.Reverse version last.version, reverse) in
+    let whole : Put = (name.Snapshot version, snapshot) in
+    let all : All IsShort (forth ∷ back ∷ whole ∷ []) = subst (λ (puts : List Put). All IsShort puts) are short in
+    let rest = All-tail IsShort forth (back ∷ whole ∷ []) all in
+    (All-head IsShort forth (back ∷ whole ∷ []) all, All-head IsShort back (whole ∷ []) rest, All-head IsShort whole [] (All-tail IsShort back (whole ∷ []) rest))
+
+pub delta_long : (last : Published) (rows : Table) (version : ℕ) (tag : ℤ) → AreLong (IsDeltaBetween last.model last.rows rows last.tag tag) → AreNotShort (AreLater last rows version tag)
+delta_long last rows version tag long = λ blobs (delta, reverse, snapshot, forth, back, written, are) short.
+    let all = short_ones last version delta reverse snapshot blobs are short in
+    let head = all.0 in
+    let more = long delta forth in
+    absurd (omega (arith, head, more))
+
+pub reverse_long : (last : Published) (rows : Table) (version : ℕ) (tag : ℤ) → AreLong (IsDeltaBetween last.model rows last.rows tag last.tag) → AreNotShort (AreLater last rows version tag)
+reverse_long last rows version tag long = λ blobs (delta, reverse, snapshot, forth, back, written, are) short.
+    let all = short_ones last version delta reverse snapshot blobs are short in
+    let head = all.1 in
+    let more = long reverse back in
+    absurd (omega (arith, head, more))
+
+pub snapshot_long : (last : Published) (rows : Table) (version : ℕ) (tag : ℤ) → AreLong (IsWrittenSnapshot last.model last.rows rows last.tag tag) → AreNotShort (AreLater last rows version tag)
+snapshot_long last rows version tag long = λ blobs (delta, reverse, snapshot, forth, back, written, are) short.
+    let all = short_ones last version delta reverse snapshot blobs are short in
+    let head = all.2 in
+    let more = long snapshot written in
+    absurd (omega (arith, head, more))
+
+-- No blobs of a model with so many key paths are all short.
+pub many_long : (last : Published) (rows : Table) (version : ℕ) (tag : ℤ) → HaveManyPaths last.model → AreNotShort (AreBlobs last rows version tag)
+many_long last rows version tag many = λ blobs are short.
+    let long : AreLong (IsWrittenSnapshot last.model last.rows rows last.tag tag) = λ blob written. long_snapshot last.model last.rows rows last.tag tag blob many written in
+    elim are [ inl first ↦ first_long last rows version tag long blobs first.1 short | inr later ↦ snapshot_long last rows version tag long blobs later.1 short ]

@@ -1,0 +1,172 @@
+//! The blobs of a closed cycle are written.
+ghost use Rattle.std.specs.Prelude.{◌≤◌, ◌^◌, None, All, IfErr, IfOk, MatchBool, length};
+ghost use Rattle.section_writing.specs.Limits.{HaveFewPaths, MeansLarge};
+ghost use Rattle.snapshot_blob.specs.Written.{IsWrittenSnapshot};
+ghost use Rattle.delta_blob.specs.Changes.{IsDeltaBetween};
+ghost use Rattle.write_engine.specs.CycleLimit.{TellsTypes};
+ghost use Rattle.hollow_machine.specs.Kept.{published_of};
+ghost use Rattle.hollow_machine.specs.Puts.{AreBlobs, AreFirst, AreLater, IsShort};
+ghost use Rattle.state_blobs.specs.Blobs.{AreLong, AreNotShort, puts_in};
+ghost use Rattle.state_blobs.specs.Paths.{HasFewPaths, HasManyPaths, HaveManyPaths};
+
+use delta_blob::write_delta;
+use schema_model::{Model, Schema, Shape};
+use section_writing::WriteFault;
+use snapshot_blob::write_snapshot;
+use std::alloc::Global;
+use write_engine::Producer;
+use write_engine::laws::can_be_written;
+
+/// The blobs that are put for a state.
+#[derive(Drop)]
+pub enum Blobs {
+    /// Those of a first state.
+    First {
+        /// Its version.
+        version: u64,
+        /// Its snapshot.
+        snapshot: Vec<u8>,
+    },
+    /// Those of a later state.
+    Later {
+        /// The version of the last state.
+        last: u64,
+        /// Its version.
+        version: u64,
+        /// The delta from the last state to it.
+        delta: Vec<u8>,
+        /// The delta from it back to the last state.
+        reverse: Vec<u8>,
+        /// Its snapshot.
+        snapshot: Vec<u8>,
+    },
+}
+
+/// Writes the blobs of a producer's cycle, which is to have this version and tag. `Large` comes exactly where one of them would have more than 2^28
+/// bytes.
+pub fn write_blobs(
+    alloc: Global,
+    producer: &Producer,
+    version: u64,
+    tag: i64,
+) -> Result<Blobs, WriteFault>
+    requires { TellsTypes producer.now.schemas producer.now.previous producer.now.current None }
+    ensures written { IfOk result (λ blobs. AreBlobs (published_of producer.now) producer.now.current version tag (puts_in blobs)) }
+    ensures short { IfOk result (λ blobs. All IsShort (puts_in blobs)) }
+    ensures large { IfErr result (MeansLarge (AreNotShort (AreBlobs (published_of producer.now) producer.now.current version tag))) }
+{
+    if !have_few_paths(producer.model()) {
+        return Err(WriteFault::Large);
+    }
+    if producer.version() == 0 {
+        write_first(alloc, producer, version, tag)
+    } else {
+        write_later(alloc, producer, version, tag)
+    }
+}
+
+// The snapshot of a first state.
+fn write_first(
+    alloc: Global,
+    producer: &Producer,
+    version: u64,
+    tag: i64,
+) -> Result<Blobs, WriteFault>
+    requires kept { TellsTypes producer.now.schemas producer.now.previous producer.now.current None }
+    requires few { HaveFewPaths producer.now.schemas }
+    ensures written { IfOk result (λ blobs. AreFirst (published_of producer.now) producer.now.current version tag (puts_in blobs)) }
+    ensures short { IfOk result (λ blobs. All IsShort (puts_in blobs)) }
+    ensures large { IfErr result (MeansLarge (AreNotShort (AreFirst (published_of producer.now) producer.now.current version tag))) }
+{
+    let snapshot = write_whole(alloc, producer, tag)?;
+    Ok(Blobs::First { version, snapshot })
+}
+
+// The deltas from the last state and back to it, and the snapshot of a later state.
+fn write_later(
+    alloc: Global,
+    producer: &Producer,
+    version: u64,
+    tag: i64,
+) -> Result<Blobs, WriteFault>
+    requires kept { TellsTypes producer.now.schemas producer.now.previous producer.now.current None }
+    requires few { HaveFewPaths producer.now.schemas }
+    ensures written { IfOk result (λ blobs. AreLater (published_of producer.now) producer.now.current version tag (puts_in blobs)) }
+    ensures short { IfOk result (λ blobs. All IsShort (puts_in blobs)) }
+    ensures large { IfErr result (MeansLarge (AreNotShort (AreLater (published_of producer.now) producer.now.current version tag))) }
+{
+    let delta = write_forth(alloc, producer, tag)?;
+    let reverse = write_back(alloc, producer, tag)?;
+    let snapshot = write_whole(alloc, producer, tag)?;
+    Ok(Blobs::Later {
+        last: producer.version(),
+        version,
+        delta,
+        reverse,
+        snapshot,
+    })
+}
+
+// The snapshot of the cycle.
+fn write_whole(alloc: Global, producer: &Producer, tag: i64) -> Result<Vec<u8>, WriteFault>
+    requires kept { TellsTypes producer.now.schemas producer.now.previous producer.now.current None }
+    requires few { HaveFewPaths producer.now.schemas }
+    ensures written { IfOk result (λ blob. IsWrittenSnapshot producer.now.schemas producer.now.previous producer.now.current producer.now.tag tag blob.items) }
+    ensures short { IfOk result (λ blob. length blob.items ≤ 2 ^ 28) }
+    ensures large { IfErr result (MeansLarge (AreLong (IsWrittenSnapshot producer.now.schemas producer.now.previous producer.now.current producer.now.tag tag))) }
+{
+    can_be_written();
+    let previous = producer.previous();
+    let current = producer.current();
+    write_snapshot(alloc, &previous, &current, producer.tag(), tag)
+}
+
+// The delta from the last state to the cycle.
+fn write_forth(alloc: Global, producer: &Producer, tag: i64) -> Result<Vec<u8>, WriteFault>
+    requires kept { TellsTypes producer.now.schemas producer.now.previous producer.now.current None }
+    requires few { HaveFewPaths producer.now.schemas }
+    ensures written { IfOk result (λ blob. IsDeltaBetween producer.now.schemas producer.now.previous producer.now.current producer.now.tag tag blob.items) }
+    ensures short { IfOk result (λ blob. length blob.items ≤ 2 ^ 28) }
+    ensures large { IfErr result (MeansLarge (AreLong (IsDeltaBetween producer.now.schemas producer.now.previous producer.now.current producer.now.tag tag))) }
+{
+    can_be_written();
+    let previous = producer.previous();
+    let current = producer.current();
+    write_delta(alloc, &previous, &current, producer.tag(), tag)
+}
+
+// The delta from the cycle back to the last state.
+fn write_back(alloc: Global, producer: &Producer, tag: i64) -> Result<Vec<u8>, WriteFault>
+    requires kept { TellsTypes producer.now.schemas producer.now.previous producer.now.current None }
+    requires few { HaveFewPaths producer.now.schemas }
+    ensures written { IfOk result (λ blob. IsDeltaBetween producer.now.schemas producer.now.current producer.now.previous tag producer.now.tag blob.items) }
+    ensures short { IfOk result (λ blob. length blob.items ≤ 2 ^ 28) }
+    ensures large { IfErr result (MeansLarge (AreLong (IsDeltaBetween producer.now.schemas producer.now.current producer.now.previous tag producer.now.tag))) }
+{
+    can_be_written();
+    let previous = producer.previous();
+    let current = producer.current();
+    write_delta(alloc, &current, &previous, tag, producer.tag())
+}
+
+// Whether each type has fewer than 2^32 key paths. A type that has more has no blob within 2^28 bytes.
+fn have_few_paths(model: &Model) -> bool
+    ensures { MatchBool result (HaveFewPaths model.now) (HaveManyPaths model.now) }
+{
+    for type_index in 0..model.len() {
+        if !has_few_paths(model.schema(type_index)) {
+            return false;
+        }
+    }
+    true
+}
+
+// Whether a type has fewer than 2^32 key paths.
+fn has_few_paths(schema: &Schema) -> bool
+    ensures { MatchBool result (HasFewPaths schema.now) (HasManyPaths schema.now) }
+{
+    match &schema.shape {
+        Shape::Object(Some(paths), _) => (paths.len() as u64) < 0x1_0000_0000,
+        _ => true,
+    }
+}
