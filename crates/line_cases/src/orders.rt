@@ -1,21 +1,33 @@
 //! Orders that are read, and lines of answers.
 use hol_answers::{Reply, put_line, put_reply, reply_line};
-use hol_orders::{Kind, Order, OrderFault, order_of};
+use hol_orders::{Kind, order_of};
 use hol_refusals::{Refusal, refusal_value};
 use schema_model::Names;
 use serde_json::Value;
 use std::alloc::{AllocError, Global};
 
-#[test]
-fn an_order(rt: HostRuntime) {
-    let read = order_of(rt.alloc(), b"{\"step\":[1,2]}");
-    assert!(rt; matches!(&read, Ok(Order::Step { from: 1, to: 2 })));
+/// The order that a line is, or why it is none.
+fn order_told(alloc: Global, line: &[u8]) -> Result<String, AllocError> {
+    let read = order_of(alloc, line);
+    format!(in alloc; "{read:?}")
 }
 
 #[test]
-fn no_order(rt: HostRuntime) {
-    let read = order_of(rt.alloc(), b"{\"step\":[1,1]}");
-    assert!(rt; matches!(&read, Err(OrderFault::BadOrder)));
+fn an_order(rt: HostRuntime) -> Result<(), AllocError> {
+    let text = order_told(rt.alloc(), b"{\"step\":[1,2]}")?;
+    assert!(rt; text.as_str() == "Ok(Step { from: 1, to: 2 })");
+    Ok(())
+}
+
+#[test]
+fn no_order(rt: HostRuntime) -> Result<(), AllocError> {
+    let text = order_told(rt.alloc(), b"{\"step\":[1,1]}")?;
+    assert!(rt; text.as_str() == "Err(BadOrder)");
+    Ok(())
+}
+
+#[test]
+fn a_word(rt: HostRuntime) {
     assert!(rt; Kind::of_word("step") == Some(Kind::Step));
 }
 

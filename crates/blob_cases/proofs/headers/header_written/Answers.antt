@@ -21,5 +21,5 @@ put_short model types is are = rw (is, are) few
 
 pub put_header-requires-clause-short : goal.put_header-requires-clause-short
 unfolding two
-put_header-requires-clause-short g c =
+put_header-requires-clause-short c =
     put_short c.in-Ok.model c.from_vec-types.result (c.in-Ok.ensures.tells.0 ∙ c.in_ok-two_types.ensures) (c.from_vec-types.ensures ∙ c.in_ok-vec.ensures.items)
