@@ -67,6 +67,14 @@ impl Scene {
         }
     }
 
+    /// Takes the lines of a text, whether or not they hold.
+    pub fn play(&mut self, lines: &str) -> Result<(), Fail> {
+        for line in lines.lines() {
+            self.step(line)?;
+        }
+        Ok(())
+    }
+
     // The store is empty.
     fn clear(&mut self, rest: &str) -> Result<bool, Fail> {
         let mut puts = Vec::new(self.alloc);

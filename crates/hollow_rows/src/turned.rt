@@ -1,5 +1,6 @@
 //! A delta with each of its bits turned, and each front of it: taken, or refused for its cause, and then all stays.
 use crate::scene::Scene;
+use std::alloc::Global;
 use std::test::Fail;
 
 /// Two states of one type.
@@ -61,9 +62,7 @@ fn is_told(text: &str, kind: u8) -> bool {
 
 // Puts the two states into the store of a scene. The delta between them.
 fn two_states(scene: &mut Scene) -> Result<Vec<u8>, Fail> {
-    for line in CHAIN.lines() {
-        scene.step(line)?;
-    }
+    scene.play(CHAIN)?;
     scene.step(DELTA)?;
     scene.bench.blob()
 }
@@ -102,24 +101,50 @@ fn odd_bit(
     Ok(None)
 }
 
+// The first byte and bit of the delta of which that is true.
+fn odd_place(scene: &mut Scene, delta: &mut [u8]) -> Result<Option<(usize, usize)>, Fail> {
+    for (place, kinds) in TURNED.split_ascii_whitespace().enumerate() {
+        if let Some(bit) = odd_bit(scene, delta, place, kinds)? {
+            return Ok(Some((place, bit)));
+        }
+    }
+    Ok(None)
+}
+
+// The same of the delta between the two states.
+fn odd_turn(alloc: Global) -> Result<Option<(usize, usize)>, Fail> {
+    let mut scene = Scene::new(alloc);
+    let mut delta = two_states(&mut scene)?;
+    odd_place(&mut scene, delta.as_mut_slice())
+}
+
 #[test]
 fn turned_bits(rt: HostRuntime) -> Result<(), Fail> {
-    let mut scene = Scene::new(rt.alloc());
-    let mut delta = two_states(&mut scene)?;
-    for (place, kinds) in TURNED.split_ascii_whitespace().enumerate() {
-        let odd = odd_bit(&mut scene, delta.as_mut_slice(), place, kinds)?;
-        assert!(rt; odd.is_none(), "byte {place}, bit {odd:?}");
-    }
+    let odd = odd_turn(rt.alloc())?;
+    assert!(rt; odd.is_none(), "{odd:?}");
     Ok(())
+}
+
+// The length of the first front of a delta that does not come to its kind.
+fn odd_front(scene: &mut Scene, delta: &[u8]) -> Result<Option<usize>, Fail> {
+    for (count, kind) in CUT.bytes().enumerate() {
+        if !comes_to(scene, delta.get(..count).unwrap_or(&[]), kind)? {
+            return Ok(Some(count));
+        }
+    }
+    Ok(None)
+}
+
+// The same of the delta between the two states.
+fn odd_cut(alloc: Global) -> Result<Option<usize>, Fail> {
+    let mut scene = Scene::new(alloc);
+    let delta = two_states(&mut scene)?;
+    odd_front(&mut scene, delta.as_slice())
 }
 
 #[test]
 fn fronts(rt: HostRuntime) -> Result<(), Fail> {
-    let mut scene = Scene::new(rt.alloc());
-    let delta = two_states(&mut scene)?;
-    for (count, kind) in CUT.bytes().enumerate() {
-        let front = delta.get(..count).unwrap_or(&[]);
-        assert!(rt; comes_to(&mut scene, front, kind)?, "{count} bytes");
-    }
+    let odd = odd_cut(rt.alloc())?;
+    assert!(rt; odd.is_none(), "{odd:?}");
     Ok(())
 }
