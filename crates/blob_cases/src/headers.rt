@@ -2,7 +2,7 @@
 ghost use Rattle.std.specs.Prelude.{◌≡◌, [], ◌∷◌, IfOk, codes};
 
 use crate::told::{header, told};
-use crate::written::has_few_keys;
+use crate::written::{has_few_keys, joined};
 use blob_frame::put_header;
 use hol_varint::Ordinals;
 use schema_model::laws::spellable_model;
@@ -36,6 +36,18 @@ fn reads_a_header(rt: HostRuntime) -> Result<(), Fail> {
     Ok(())
 }
 
+/// A record with a primary key and a field of each kind, one without fields, a set, a list and a map.
+const SCHEMAS: &[u8] =
+    b"\x06\0\x01O\x01\0\x01i\0\x06\0\x01i\0\x03INT\0\x01l\0\x04LONG\0\x01b\0\x07BOOLEAN\0\x01t\0\x06STRING\
+\0\x01y\0\x05BYTES\0\x01r\0\x09REFERENCE\0\x01P\
+\0\0\x01P\0\0\x01\0\x01S\0\x01P\x02\0\x01L\0\x01P\x03\0\x01M\0\x01P\0\x01O";
+
+/// The front of a header that lists five schemas.
+const FRONT: &[u8] = b"\0\0\x04\x06\0\0\0\0\0\0\0\0\0\0\0\0\0\0\0\x47\x01\x05";
+
+/// What stands behind them: no bytes to skip, and no pairs of texts.
+const BEHIND: &[u8] = b"\0\0\0";
+
 /// The bytes of the schemas of a model.
 fn schema_bytes(alloc: Global, model: &Model) -> Result<Vec<u8>, AllocError> {
     spellable_model();
@@ -49,17 +61,18 @@ fn schema_bytes(alloc: Global, model: &Model) -> Result<Vec<u8>, AllocError> {
     Ok(out)
 }
 
-/// The bytes of the schemas of a header that is read.
-fn written_again(alloc: Global, blob: &[u8]) -> Result<Vec<u8>, Fail> {
-    let schemas = header(alloc, blob)?.schemas;
-    let model = model_of(alloc, schemas).map_err(|_| "model")?;
+/// The bytes of five schemas that are read in a header, as they are written.
+fn written_again(alloc: Global, schemas: &[u8]) -> Result<Vec<u8>, Fail> {
+    let blob = joined(alloc, &[FRONT, schemas, BEHIND])?;
+    let header = header(alloc, blob.as_slice())?;
+    let model = model_of(alloc, header.schemas).map_err(|_| "model")?;
     Ok(schema_bytes(alloc, &model)?)
 }
 
 #[test]
 fn schemas_come_back(rt: HostRuntime) -> Result<(), Fail> {
-    let written = written_again(rt.alloc(), EVERYTHING)?;
-    assert!(rt; EVERYTHING.get(22..EVERYTHING.len() - 12) == Some(written.as_slice()));
+    let written = written_again(rt.alloc(), SCHEMAS)?;
+    assert!(rt; written.as_slice() == SCHEMAS);
     Ok(())
 }
 

@@ -123,8 +123,8 @@ fn first_type(alloc: Global, model: &Model) -> Result<Vec<u8>, Fail> {
     Ok(out)
 }
 
-// These bytes, joined.
-fn joined(alloc: Global, parts: &[&[u8]]) -> Result<Vec<u8>, AllocError> {
+/// These bytes, joined.
+pub(crate) fn joined(alloc: Global, parts: &[&[u8]]) -> Result<Vec<u8>, AllocError> {
     let mut all = Vec::new(alloc);
     for part in parts {
         all.extend_from_slice(part)?;
