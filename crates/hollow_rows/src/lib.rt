@@ -2,6 +2,8 @@
 #![tactic(auto)]
 
 #[cfg(test)]
+mod answers;
+#[cfg(test)]
 mod bodies;
 #[cfg(test)]
 mod case;
@@ -29,6 +31,8 @@ mod scene;
 mod scripts;
 #[cfg(test)]
 mod shows;
+#[cfg(test)]
+mod states;
 #[cfg(test)]
 mod turned;
 #[cfg(test)]
