@@ -1,11 +1,5 @@
-//! Worked cases of the crates of lines: rows, records, orders and replies in JSON, with ample memory. Nothing stands on this crate.
+//! Worked cases of the crates of lines, with ample memory: what no order of the program prints yet. Nothing stands on this crate.
 #![tactic(auto)]
 
 #[cfg(test)]
-mod orders;
-#[cfg(test)]
-mod records;
-#[cfg(test)]
 mod replies;
-#[cfg(test)]
-mod rows;

@@ -1,46 +1,43 @@
-//! The lines of refusals.
-use hol_answers::{Reply, reply_line};
+//! Lines: of a refusal that names a row, and of several answers, one behind the other.
+use hol_answers::{Reply, put_line, put_reply};
 use hol_io::BlobName;
 use hol_refusals::{ItemFault, Refusal, RowPlace};
-use schema_model::{Limit, Name, Reason};
+use schema_model::{Name, Reason};
+use serde_json::Value;
 use std::alloc::{AllocError, Global};
 
-/// The line of a blob that is too large.
-fn too_large(alloc: Global) -> Result<String, AllocError> {
-    reply_line(alloc, Reply::Refused(Refusal::TooLarge(Limit::Blob)))
-}
-
-/// The line of a blob with a row that no place spells.
-fn bad_row(alloc: Global) -> Result<String, AllocError> {
+/// A blob with a row that no place spells.
+fn bad_row(alloc: Global) -> Result<Refusal, AllocError> {
     let row = RowPlace {
         type_name: Name::from_text(alloc, "A")?,
         ordinal: 7,
     };
-    let fault = ItemFault {
+    Ok(Refusal::BadBlob(ItemFault {
         blob: BlobName::Snapshot(1),
         at: 31,
         reason: Reason::FloatField,
         row: Some(row),
-    };
-    reply_line(alloc, Reply::Refused(Refusal::BadBlob(fault)))
+    }))
 }
 
-#[test]
-fn a_limit(rt: HostRuntime) -> Result<(), AllocError> {
-    let line = too_large(rt.alloc())?;
-    assert!(rt;
-        line.as_str()
-            == "{\"error\":28,\"limit\":268435456,\"name\":\"TooLarge\",\"what\":\"blob\"}\n"
-    );
-    Ok(())
+/// The lines of null, of a model of one type, and of that blob.
+fn lines(alloc: Global) -> Result<Vec<u8>, AllocError> {
+    let mut out = Vec::new(alloc);
+    put_line(alloc, &mut out, &Value::Null)?;
+    put_reply(alloc, &mut out, Reply::Model(1))?;
+    put_reply(alloc, &mut out, Reply::Refused(bad_row(alloc)?))?;
+    Ok(out)
 }
 
+/// What they are.
+const LINES: &str = r#"null
+{"ok":"model","types":1}
+{"at":31,"blob":"snapshot-1","error":19,"name":"BadBlob","ordinal":7,"reason":45,"type":"A"}
+"#;
+
 #[test]
-fn a_bad_blob(rt: HostRuntime) -> Result<(), AllocError> {
-    let line = bad_row(rt.alloc())?;
-    assert!(rt;
-        line.as_str()
-            == "{\"at\":31,\"blob\":\"snapshot-1\",\"error\":19,\"name\":\"BadBlob\",\"ordinal\":7,\"reason\":45,\"type\":\"A\"}\n"
-    );
+fn lines_in_a_row(rt: HostRuntime) -> Result<(), AllocError> {
+    let out = lines(rt.alloc())?;
+    assert!(rt; out.as_slice() == LINES.as_bytes());
     Ok(())
 }

@@ -1,5 +1,0 @@
-use Rattle.std.proofs.Common.{refl}
-use Rattle.codec_cases.proofs.buckets.set_type.Goals as goal
-
-pub returns : goal.returns
-returns c = refl

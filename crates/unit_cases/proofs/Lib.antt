@@ -1,2 +1,0 @@
-pub mod EmptyTables
-pub mod Numbers
