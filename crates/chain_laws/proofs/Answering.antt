@@ -8,7 +8,7 @@ use Rattle.hol_answers.specs.declared.reply.Reply.{Reply}
 use Rattle.hol_answers.specs.declared.reply.Reply.TheVariants as reply
 use Rattle.hollow_machine.specs.KeyOrders.{FindReply, GetReply, ListsFound, ShowsFound}
 use Rattle.hollow_machine.specs.MemberOrders.{AtReply, HasReply, TellsElement, TellsValue}
-use Rattle.hollow_machine.specs.RowOrders.{AnswersAt, AnswersOf, ListsLive, LiveReply, PastReply, RowReply, ShowsPast, ShowsRow}
+use Rattle.hollow_machine.specs.RowOrders.{AnswersAt, AnswersOf, ListsLive, LiveReply, RowReply, ShowsRow}
 use Rattle.hollow_machine.specs.State.{Machine}
 use Rattle.read_engine.specs.Position.{Position}
 use Rattle.written_laws.specs.Chain.{Chain}
@@ -42,11 +42,6 @@ row_no_cycle_at name ordinal now t (reply.Row value) is = tt
 row_no_cycle_at name ordinal now t (reply.Refused refusal) is = tt
 row_no_cycle_at name ordinal now t _ is = absurd is
 
-past_no_cycle_at : (now : Position) (t : ℕ) (answer : Reply) → ShowsPast now t answer → IsNoCycle answer
-past_no_cycle_at now t (reply.Past entries) is = tt
-past_no_cycle_at now t (reply.Refused refusal) is = tt
-past_no_cycle_at now t _ is = absurd is
-
 find_no_cycle_at : (name : Name) (texts : List (List ℕ)) (values : Data) (now : Position) (t : ℕ) (answer : Reply) → ListsFound name texts values now t answer → IsNoCycle answer
 find_no_cycle_at name texts values now t (reply.Find ordinals) is = tt
 find_no_cycle_at name texts values now t (reply.Refused refusal) is = tt
@@ -72,9 +67,6 @@ live_no_cycle consumer name answer is = of_answers IsNoCycle name ListsLive tt t
 
 pub row_no_cycle : (consumer : Option Position) (name : Name) (ordinal : ℕ) (answer : Reply) → RowReply consumer name ordinal answer → IsNoCycle answer
 row_no_cycle consumer name ordinal answer is = of_answers IsNoCycle name (ShowsRow name ordinal) tt tt (row_no_cycle_at name ordinal) consumer answer is
-
-pub past_no_cycle : (consumer : Option Position) (name : Name) (answer : Reply) → PastReply consumer name answer → IsNoCycle answer
-past_no_cycle consumer name answer is = of_answers IsNoCycle name ShowsPast tt tt past_no_cycle_at consumer answer is
 
 pub find_no_cycle : (consumer : Option Position) (name : Name) (texts : List (List ℕ)) (values : Data) (answer : Reply) → FindReply consumer name texts values answer → IsNoCycle answer
 find_no_cycle consumer name texts values answer is = of_answers IsNoCycle name (ListsFound name texts values) tt tt (find_no_cycle_at name texts values) consumer answer is

@@ -62,10 +62,10 @@ module _ (now other : Position) (schemas : now.schemas ≡ other.schemas) (rows 
 -- ---- the consumer, and the one that has its state afresh
 
 module _ (machine fresh : Machine) (chain : Chain) (sound : IsChain chain) (of : IsConsumerOf chain machine.consumer) (afresh : Fresh chain machine fresh) where
-  stood : IsIn chain afresh.now
+  pub stood : IsIn chain afresh.now
   stood = subst (λ (consumer : Option Position). IfSome consumer (IsIn chain)) afresh.was of
 
-  stands : StandsAt afresh.state afresh.now
+  pub stands : StandsAt afresh.state afresh.now
   stands =
       let version = sound.tags stood.version afresh.version stood.state afresh.state stood.there afresh.there (sym stood.stands.tag ∙ afresh.tag) in
       let both : Some stood.state ≡ Some afresh.state = sym (subst (λ (v : ℕ). HasVersion chain v stood.state) version stood.there) ∙ afresh.there in
@@ -82,14 +82,11 @@ module _ (machine fresh : Machine) (chain : Chain) (sound : IsChain chain) (of :
   consumer_is = ap (λ (m : Machine). m.consumer) afresh.is
 
   -- an answer about the one is one about the other
-  pub either : (P : Option Position → Type 0) → (P (Some afresh.now) → P (Some afresh.position)) → (P (Some afresh.position) → P (Some afresh.now)) → (P machine.consumer → P fresh.consumer) × (P fresh.consumer → P machine.consumer)
-  either P there back = ((λ p. subst P (sym consumer_is) (there (subst P afresh.was p))), (λ p. subst P (sym afresh.was) (back (subst P consumer_is p))))
+  pub either : (P : Option Position → Type 0) → (P (Some afresh.now) → P (Some afresh.position)) → P machine.consumer → P fresh.consumer
+  either P there p = subst P (sym consumer_is) (there (subst P afresh.was p))
 
-  pub live_afresh : (name : Name) (answer : Reply) → (LiveReply machine.consumer name answer → LiveReply fresh.consumer name answer) × (LiveReply fresh.consumer name answer → LiveReply machine.consumer name answer)
-  live_afresh name answer =
-      either (λ consumer. LiveReply consumer name answer) (live_same afresh.now afresh.position schemas_same rows_same name answer) (live_same afresh.position afresh.now (sym schemas_same) (sym rows_same) name answer)
+  pub live_afresh : (name : Name) (answer : Reply) → LiveReply machine.consumer name answer → LiveReply fresh.consumer name answer
+  live_afresh name answer = either (λ consumer. LiveReply consumer name answer) (live_same afresh.now afresh.position schemas_same rows_same name answer)
 
-  pub row_afresh : (name : Name) (ordinal : ℕ) (answer : Reply) → (RowReply machine.consumer name ordinal answer → RowReply fresh.consumer name ordinal answer) × (RowReply fresh.consumer name ordinal answer → RowReply machine.consumer name ordinal answer)
-  row_afresh name ordinal answer =
-      either (λ consumer. RowReply consumer name ordinal answer) (row_same afresh.now afresh.position schemas_same rows_same name ordinal answer)
-      (row_same afresh.position afresh.now (sym schemas_same) (sym rows_same) name ordinal answer)
+  pub row_afresh : (name : Name) (ordinal : ℕ) (answer : Reply) → RowReply machine.consumer name ordinal answer → RowReply fresh.consumer name ordinal answer
+  row_afresh name ordinal answer = either (λ consumer. RowReply consumer name ordinal answer) (row_same afresh.now afresh.position schemas_same rows_same name ordinal answer)

@@ -123,26 +123,18 @@ module _ (machine fresh : Machine) (chain : Chain) (sound : IsChain chain) (of :
   abbrev rows : rows_now afresh.now ≡ rows_now afresh.position
   rows = rows_same machine fresh chain sound of afresh
 
-  pub find_afresh : (name : Name) (texts : List (List ℕ)) (values : Data) (answer : Reply)
-      → (FindReply machine.consumer name texts values answer → FindReply fresh.consumer name texts values answer) × (FindReply fresh.consumer name texts values answer → FindReply machine.consumer name texts values answer)
+  pub find_afresh : (name : Name) (texts : List (List ℕ)) (values : Data) (answer : Reply) → FindReply machine.consumer name texts values answer → FindReply fresh.consumer name texts values answer
   find_afresh name texts values answer =
       either machine fresh chain sound of afresh (λ consumer. FindReply consumer name texts values answer) (find_same afresh.now afresh.position model rows (sym afresh.indexes) name texts values answer)
-      (find_same afresh.position afresh.now (sym model) (sym rows) afresh.indexes name texts values answer)
 
-  pub get_afresh : (name : Name) (values : Data) (answer : Reply)
-      → (GetReply machine.consumer name values answer → GetReply fresh.consumer name values answer) × (GetReply fresh.consumer name values answer → GetReply machine.consumer name values answer)
+  pub get_afresh : (name : Name) (values : Data) (answer : Reply) → GetReply machine.consumer name values answer → GetReply fresh.consumer name values answer
   get_afresh name values answer =
       either machine fresh chain sound of afresh (λ consumer. GetReply consumer name values answer) (get_same afresh.now afresh.position model rows (sym afresh.indexes) name values answer)
-      (get_same afresh.position afresh.now (sym model) (sym rows) afresh.indexes name values answer)
 
-  pub has_afresh : (name : Name) (ordinal element : ℕ) (answer : Reply)
-      → (HasReply machine.consumer name ordinal element answer → HasReply fresh.consumer name ordinal element answer) × (HasReply fresh.consumer name ordinal element answer → HasReply machine.consumer name ordinal element answer)
+  pub has_afresh : (name : Name) (ordinal element : ℕ) (answer : Reply) → HasReply machine.consumer name ordinal element answer → HasReply fresh.consumer name ordinal element answer
   has_afresh name ordinal element answer =
       either machine fresh chain sound of afresh (λ consumer. HasReply consumer name ordinal element answer) (has_same afresh.now afresh.position model rows name ordinal element answer)
-      (has_same afresh.position afresh.now (sym model) (sym rows) name ordinal element answer)
 
-  pub at_afresh : (name : Name) (ordinal key : ℕ) (answer : Reply)
-      → (AtReply machine.consumer name ordinal key answer → AtReply fresh.consumer name ordinal key answer) × (AtReply fresh.consumer name ordinal key answer → AtReply machine.consumer name ordinal key answer)
+  pub at_afresh : (name : Name) (ordinal key : ℕ) (answer : Reply) → AtReply machine.consumer name ordinal key answer → AtReply fresh.consumer name ordinal key answer
   at_afresh name ordinal key answer =
       either machine fresh chain sound of afresh (λ consumer. AtReply consumer name ordinal key answer) (at_same afresh.now afresh.position model rows name ordinal key answer)
-      (at_same afresh.position afresh.now (sym model) (sym rows) name ordinal key answer)

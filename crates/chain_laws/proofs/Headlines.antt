@@ -1,53 +1,31 @@
 -- What is promised of each line of a script, over a store that keeps a chain.
 use Rattle.std.proofs.Common.{ℕ, List, [], ◌∷◌, Bool, refl, sym, subst}
-use Rattle.serde_json.specs.View.{view}
 use Rattle.hol_orders.specs.declared.order.Order.{Order}
 use Rattle.hol_orders.specs.declared.order.Order.TheVariants as order
 use Rattle.hol_answers.specs.declared.reply.Reply.{Reply}
-use Rattle.hollow_machine.specs.KeyPaths.{texts_of_array}
 use Rattle.hollow_machine.specs.Script.{LineStep, Script}
 use Rattle.hollow_machine.specs.State.{Machine}
 use Rattle.hollow_machine.specs.Step.{Step}
 use Rattle.hollow_machine.specs.StepOrder.{step_name}
 use Rattle.written_laws.specs.Chain.{Chain}
 use Rattle.chain_laws.specs.Consumers.{IsConsumerOf}
-use Rattle.chain_laws.specs.Headline.{AreTrueLines, IsTrueLine, IsTrueOrder, StandsOn}
+use Rattle.chain_laws.specs.Headline.{AreTrueLines, IsTrueLine, IsTrueOrder, IsTrueStep, StandsOn}
 use Rattle.chain_laws.proofs.ConsumerLines.{line_keeps_both}
 use Rattle.chain_laws.proofs.ConsumerOrders.{other_only, step_named, step_only}
-use Rattle.chain_laws.proofs.FreshAnswers.{live_afresh, row_afresh}
-use Rattle.chain_laws.proofs.FreshKeys.{at_afresh, find_afresh, get_afresh, has_afresh}
+use Rattle.chain_laws.proofs.Afresh.{afresh_there}
 
 module _ (machine : Machine) (chain : Chain) (stands : StandsOn chain machine) where
-  true_order : (asked : Order) (answer : Reply) (next : Machine) → Step machine asked answer next → IsTrueOrder chain machine asked answer next
-  true_order (order.Step from to) answer next step = record {
+  true_step : (from to : ℕ) (answer : Reply) (next : Machine) → Step machine (order.Step from to) answer next → IsTrueStep chain machine from to answer next
+  true_step from to answer next step = record {
     taken = λ now was starts. step_only machine chain (step_name from to) now stands.kept.holds (step_named from to) was (subst (IsConsumerOf chain) was stands.consumer) starts answer next step;
     other = λ now origin was starts apart. other_only machine (step_name from to) now origin was starts apart answer next step;
   }
-  true_order (order.Live name) answer next step = λ fresh afresh. (
-    (live_afresh machine fresh chain stands.kept.holds.sound stands.consumer afresh name answer).0 step.0,
-    refl,
-  )
-  true_order (order.Row name ordinal) answer next step = λ fresh afresh. (
-    (row_afresh machine fresh chain stands.kept.holds.sound stands.consumer afresh name ordinal answer).0 step.0,
-    refl,
-  )
-  true_order (order.Has name ordinal element) answer next step = λ fresh afresh. (
-    (has_afresh machine fresh chain stands.kept.holds.sound stands.consumer afresh name ordinal element answer).0 step.0,
-    refl,
-  )
-  true_order (order.At name ordinal key) answer next step = λ fresh afresh. (
-    (at_afresh machine fresh chain stands.kept.holds.sound stands.consumer afresh name ordinal key answer).0 step.0,
-    refl,
-  )
-  true_order (order.Get name values) answer next step = λ fresh afresh. (
-    (get_afresh machine fresh chain stands.kept.holds.sound stands.consumer afresh name (view values) answer).0 step.0,
-    refl,
-  )
-  true_order (order.Find name paths values) answer next step = λ fresh afresh. (
-    (find_afresh machine fresh chain stands.kept.holds.sound stands.consumer afresh name (texts_of_array (view paths)) (view values) answer).0 step.0,
-    refl,
-  )
-  true_order _ answer next step = tt
+
+  true_order : (asked : Order) (answer : Reply) (next : Machine) → Step machine asked answer next → IsTrueOrder chain machine asked answer next
+  true_order order answer next step = record {
+    moves = λ from to is. true_step from to answer next (subst (λ (o : Order). Step machine o answer next) is step);
+    fresh = λ of_state fresh is_fresh. afresh_there machine fresh next chain order answer of_state stands.kept.holds.sound stands.consumer is_fresh step;
+  }
 
   true_line : (line : List ℕ) (answer : Reply) (next : Machine) → LineStep machine line answer next → (after : Chain) × IsTrueLine chain machine line answer next after
   true_line line answer next step =

@@ -1,9 +1,8 @@
 -- What is asked of a consumer has one answer line.
-use Rattle.std.proofs.Common.{◌≡◌, ◌<◌, ℕ, List, [], ◌∷◌, map, inl, inr, ◌⊎◌, Option, Some, None, refl, sym, ap, subst, ◌∙◌, arith}
+use Rattle.std.proofs.Common.{◌≡◌, ◌<◌, ℕ, List, inl, inr, ◌⊎◌, Option, Some, None, refl, sym, ap, ◌∙◌, arith}
 use Rattle.std.specs.Prelude.{Contains, IfSome, ◌↔◌, codes}
-use Rattle.std.specs.List.{AllZip}
-use Rattle.serde_json.specs.Data.{Data, array, string, object, no_members, member}
-use Rattle.serde_json.specs.View.{view, items_of}
+use Rattle.serde_json.specs.Data.{Data, string, object, no_members, member}
+use Rattle.serde_json.specs.View.{view}
 use Rattle.serde_json.specs.declared.value.Value.{Value}
 use Rattle.schema_model.specs.declared.limit.Limit.TheVariants.{Nodes}
 use Rattle.schema_model.specs.declared.schema.name.Name.{Name}
@@ -17,11 +16,9 @@ use Rattle.hol_refusals.specs.declared.refusal.Refusal.{Refusal}
 use Rattle.hol_refusals.specs.declared.refusal.Refusal.TheVariants.{NoRow, TooLarge}
 use Rattle.hol_answers.specs.declared.reply.Reply.{Reply}
 use Rattle.hol_answers.specs.declared.reply.Reply.TheVariants as reply
-use Rattle.hol_orders.specs.Parts.{pair, whole}
-use Rattle.hol_answers.specs.Reply.{is_refusal, past_item, reply_data}
-use Rattle.read_engine.specs.Gone.{AreGone}
+use Rattle.hol_answers.specs.Reply.{is_refusal, reply_data}
 use Rattle.read_engine.specs.Position.{Position, rows_now}
-use Rattle.hollow_machine.specs.RowOrders.{AnswersAt, AnswersOf, ListsLive, LiveReply, PastReply, RowRefusal, RowReply, ShowsGone, ShowsPast, ShowsRow, nodes_gone, record_at}
+use Rattle.hollow_machine.specs.RowOrders.{AnswersAt, AnswersOf, ListsLive, LiveReply, RowRefusal, RowReply, ShowsRow, record_at}
 use Rattle.chain_laws.specs.Answers.{SaysOne}
 use Rattle.chain_laws.proofs.PrintedOnce.{tree_once}
 use Rattle.chain_laws.proofs.TypedConsumers.{IsTyped}
@@ -108,48 +105,3 @@ module _ (name : Name) (ordinal : ℕ) (now : Position) (t : ℕ) where
 
 pub one_row : (consumer : Option Position) (name : Name) (ordinal : ℕ) (a b : Reply) → RowReply consumer name ordinal a → RowReply consumer name ordinal b → SaysOne a b
 one_row consumer name ordinal a b one other = one_of name (ShowsRow name ordinal) (one_show name ordinal) consumer a b one other
-
--- ---- past
-
-abbrev past_object : List Data → Data
-past_object rows = object (member (codes "ok") (string (codes "past")) (member (codes "rows") (array (items_of rows)) no_members))
-
-module _ (now : Position) (t : ℕ) where
-  gone_one : (xs ys : List ℕ) → AreGone now t xs → AreGone now t ys → xs ≡ ys
-  gone_one xs ys one other =
-      rising_one xs ys one.rising other.rising (λ q. ((λ among. (other.are q).1 ((one.are q).0 among)), (λ among. (one.are q).1 ((other.are q).0 among))))
-
-  items_one : (os : List ℕ) (es fs : List (ℕ × Value)) → AllZip (ShowsGone now t) os es → AllZip (ShowsGone now t) os fs → map past_item es ≡ map past_item fs
-  items_one [] [] [] h g = refl
-  items_one [] [] (f ∷ fs) h g = absurd g
-  items_one [] (e ∷ es) fs h g = absurd h
-  items_one (o ∷ os) [] fs h g = absurd h
-  items_one (o ∷ os) (e ∷ es) [] h g = absurd g
-  items_one (o ∷ os) (e ∷ es) (f ∷ fs) h g =
-      let number = h.0.0 ∙ sym g.0.0 in
-      let shown = tree_once now.schemas t (record_at now now.before t o) (view e.1) (view f.1) h.0.1 g.0.1 in
-      let rest = items_one os es fs h.1 g.1 in
-      λ i. pair (whole (number i)) (shown i) ∷ rest i
-
-  past_refused : (refusal : Refusal) → ShowsPast now t (reply.Refused refusal) → (refusal ≡ TooLarge Nodes) × ((ordinals : List ℕ) × AreGone now t ordinals × (number_of_limit Nodes < nodes_gone now t ordinals))
-  past_refused (TooLarge Nodes) is = (refl, is)
-  past_refused _ is = absurd is
-
-  past_not : (entries : List (ℕ × Value)) (refusal : Refusal) → ShowsPast now t (reply.Past entries) → ShowsPast now t (reply.Refused refusal) → ⊥
-  past_not entries refusal (xs, gone, few, shown) refuses =
-      let (is, (ys, also, many)) = past_refused refusal refuses in
-      let same = ap (nodes_gone now t) (gone_one xs ys gone also) in omega (arith, few, many, same)
-
-  one_past_at : (a b : Reply) → ShowsPast now t a → ShowsPast now t b → SaysOne a b
-  one_past_at (reply.Past es) (reply.Past fs) (xs, gone, few, shown) (ys, also, few_too, shown_too) =
-      (ap past_object (items_one xs es fs shown (subst (λ (os : List ℕ). AllZip (ShowsGone now t) os fs) (gone_one ys xs also gone) shown_too)), refl)
-  one_past_at (reply.Past es) (reply.Refused refusal) one other = absurd (past_not es refusal one other)
-  one_past_at (reply.Refused refusal) (reply.Past fs) one other = absurd (past_not fs refusal other one)
-  one_past_at (reply.Refused r) (reply.Refused s) one other =
-      says (reply.Refused r) (reply.Refused s) (ap (λ x. reply.Refused x) ((past_refused r one).0 ∙ sym (past_refused s other).0))
-  one_past_at (reply.Past es) _ one other = absurd other
-  one_past_at (reply.Refused r) _ one other = absurd other
-  one_past_at _ b one other = absurd one
-
-pub one_past : (consumer : Option Position) (name : Name) (a b : Reply) → PastReply consumer name a → PastReply consumer name b → SaysOne a b
-one_past consumer name a b one other = one_of name ShowsPast one_past_at consumer a b one other

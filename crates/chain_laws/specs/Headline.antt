@@ -1,16 +1,17 @@
 -- The headline: what a script over a store that holds a chain comes to, line by line.
-use Rattle.std.specs.Prelude.{◌≡◌, ◌≢◌, ℕ, ℤ, List, [], ◌∷◌, ◌++◌, Some}
+use Rattle.std.specs.Prelude.{◌≡◌, ◌≢◌, ℕ, ℤ, List, [], ◌∷◌, ◌++◌, Some, true}
+use Rattle.hol_orders.specs.declared.kind.Kind.{Kind}
 use Rattle.hol_orders.specs.declared.order.Order.{Order}
 use Rattle.hol_orders.specs.declared.order.Order.TheVariants as order
 use Rattle.hol_refusals.specs.Refusal.{other_origin}
 use Rattle.hol_answers.specs.declared.reply.Reply.{Reply}
 use Rattle.hol_answers.specs.declared.reply.Reply.TheVariants as reply
-use Rattle.hol_orders.specs.Order.{Orders}
+use Rattle.hol_orders.specs.Order.{Orders, kind_of}
 use Rattle.hol_answers.specs.Reply.{line_of}
 use Rattle.read_engine.specs.Position.{Position}
 use Rattle.hollow_machine.specs.Script.{LineStep}
 use Rattle.hollow_machine.specs.State.{Machine}
-use Rattle.hollow_machine.specs.Step.{Step}
+use Rattle.hollow_machine.specs.Step.{Step, form}
 use Rattle.hollow_machine.specs.StepOrder.{step_name}
 use Rattle.written_laws.specs.Chain.{Chain}
 use Rattle.chain_laws.specs.Consumers.{Fresh, IsConsumerOf, IsIn, StartsAt}
@@ -29,16 +30,15 @@ pub record IsTrueStep (chain : Chain) (machine : Machine) (from to : ℕ) (answe
 abbrev pub IsAsFresh : Chain → Machine → Order → Reply → Type 0
 IsAsFresh chain machine asked answer = (fresh : Machine) → Fresh chain machine fresh → Step fresh asked answer fresh
 
--- What is promised of each order: of a step which are taken, and of what is asked that the way to the state does not show.
-abbrev pub IsTrueOrder : Chain → Machine → Order → Reply → Machine → Type 0
-IsTrueOrder chain machine (order.Step from to) answer next = IsTrueStep chain machine from to answer next
-IsTrueOrder chain machine (order.Live name) answer next = IsAsFresh chain machine (order.Live name) answer
-IsTrueOrder chain machine (order.Row name ordinal) answer next = IsAsFresh chain machine (order.Row name ordinal) answer
-IsTrueOrder chain machine (order.Has name ordinal element) answer next = IsAsFresh chain machine (order.Has name ordinal element) answer
-IsTrueOrder chain machine (order.At name ordinal key) answer next = IsAsFresh chain machine (order.At name ordinal key) answer
-IsTrueOrder chain machine (order.Get name values) answer next = IsAsFresh chain machine (order.Get name values) answer
-IsTrueOrder chain machine (order.Find name paths values) answer next = IsAsFresh chain machine (order.Find name paths values) answer
-IsTrueOrder chain machine asked answer next = Unit {0}
+-- The orders of the kind are answered of the consumer's state alone.
+abbrev pub IsOfState : Kind → Type 0
+IsOfState kind = (form kind).of_state ≡ true
+
+-- What is promised of each order: of a step which are taken, and of what is answered of the consumer's state that the way to the state does not
+-- show.
+pub record IsTrueOrder (chain : Chain) (machine : Machine) (asked : Order) (answer : Reply) (next : Machine) : Type 0 where
+  pub moves : (from to : ℕ) → asked ≡ order.Step from to → IsTrueStep chain machine from to answer next
+  pub fresh : IsOfState (kind_of asked) → IsAsFresh chain machine asked answer
 
 -- The store keeps the chain, the producer is new or at a published state of it, and the consumer at a state of it.
 pub record StandsOn (chain : Chain) (machine : Machine) : Type 0 where

@@ -5,6 +5,9 @@ ghost use Rattle.serde_json.specs.declared.value.Value.{Value};
 ghost use Rattle.schema_model.specs.declared.schema.name.Name.{Name};
 ghost use Rattle.hol_io.specs.declared.name.BlobName.TheVariants.{Snapshot};
 ghost use Rattle.hol_io.specs.Store.{Store};
+ghost use Rattle.hol_orders.specs.declared.kind.Kind.TheVariants as Kind;
+ghost use Rattle.hol_orders.specs.Order.{kind_of};
+ghost use Rattle.hol_orders.specs.declared.order.Order.{Order};
 ghost use Rattle.hol_orders.specs.declared.order.Order.TheVariants as order;
 ghost use Rattle.hol_refusals.specs.Refusal.{other_origin};
 ghost use Rattle.hol_answers.specs.declared.reply.Reply.{Reply};
@@ -21,7 +24,7 @@ ghost use Rattle.chain_laws.specs.Afresh.{AreAdded, AskForAll};
 ghost use Rattle.chain_laws.specs.Answers.{SaysOne};
 ghost use Rattle.chain_laws.specs.Consumers.{Fresh, IsConsumerOf, IsIn, StandsAt, StartsAt};
 ghost use Rattle.chain_laws.specs.Growth.{GrowsBy, GrowsAlong};
-ghost use Rattle.chain_laws.specs.Headline.{AreTrueLines, StandsOn};
+ghost use Rattle.chain_laws.specs.Headline.{AreTrueLines, StandsOn, IsOfState};
 ghost use Rattle.chain_laws.specs.KeptIndexes.{AsksFor};
 ghost use Rattle.chain_laws.specs.Producers.{HoldsBytes, IsProducerOf, KeepsChain};
 
@@ -127,28 +130,25 @@ pub fn fresh_indexes()
         → AskForAll state.model asked now.indexes → Step machine (order.Load version) answer loaded → AreAdded loaded asked next → Fresh chain machine next }
 {}
 
-/// What is asked of a consumer at a state of the chain is answered as where it has this state afresh: the answers are those of the state's model
-/// and rows, whichever way the consumer took to them.
+/// What is answered of the consumer's state is answered at a state of the chain as where the consumer has this state afresh: the answers are those of
+/// the state's model and rows, whichever way the consumer took to them.
 pub fn fresh_answers()
-    ensures live { (machine fresh : Machine) (chain : Chain) (name : List ℕ) (answer : Reply)
+    ensures kinds { IsOfState Kind.Get × IsOfState Kind.Find × IsOfState Kind.Live × IsOfState Kind.Row × IsOfState Kind.Has × IsOfState Kind.At }
+    ensures same { (machine fresh : Machine) (chain : Chain) (asked : Order) (answer : Reply) → IsOfState (kind_of asked)
         → HoldsChain machine.store chain → IsConsumerOf chain machine.consumer → Fresh chain machine fresh
-        → Step machine (order.Live name) answer machine ↔ Step fresh (order.Live name) answer fresh }
-    ensures row { (machine fresh : Machine) (chain : Chain) (name : List ℕ) (ordinal : ℕ) (answer : Reply)
-        → HoldsChain machine.store chain → IsConsumerOf chain machine.consumer → Fresh chain machine fresh
-        → Step machine (order.Row name ordinal) answer machine ↔ Step fresh (order.Row name ordinal) answer fresh }
-    ensures has { (machine fresh : Machine) (chain : Chain) (name : List ℕ) (ordinal element : ℕ) (answer : Reply)
-        → HoldsChain machine.store chain → IsConsumerOf chain machine.consumer → Fresh chain machine fresh
-        → Step machine (order.Has name ordinal element) answer machine ↔ Step fresh (order.Has name ordinal element) answer fresh }
-    ensures at { (machine fresh : Machine) (chain : Chain) (name : List ℕ) (ordinal key : ℕ) (answer : Reply)
-        → HoldsChain machine.store chain → IsConsumerOf chain machine.consumer → Fresh chain machine fresh
-        → Step machine (order.At name ordinal key) answer machine ↔ Step fresh (order.At name ordinal key) answer fresh }
-    ensures get { (machine fresh : Machine) (chain : Chain) (name : List ℕ) (values : Value) (answer : Reply)
-        → HoldsChain machine.store chain → IsConsumerOf chain machine.consumer → Fresh chain machine fresh
-        → Step machine (order.Get name values) answer machine ↔ Step fresh (order.Get name values) answer fresh }
-    ensures find { (machine fresh : Machine) (chain : Chain) (name : List ℕ) (paths values : Value) (answer : Reply)
-        → HoldsChain machine.store chain → IsConsumerOf chain machine.consumer → Fresh chain machine fresh
-        → Step machine (order.Find name paths values) answer machine ↔ Step fresh (order.Find name paths values) answer fresh }
+        → Step machine asked answer machine ↔ Step fresh asked answer fresh }
 {}
+
+/// An order has one answer line, and leaves one machine, where the rows of the producer are those of a state of the chain that the store keeps, and
+/// those of the consumer are of a model, as they are wherever its blobs came from.
+pub fn one_answer()
+    ensures { (machine next after : Machine) (chain : Chain) (asked : Order) (answer other : Reply)
+        → KeepsChain machine.store chain → IsProducerOf chain machine.producer → IfSome machine.consumer IsPosition
+        → Step machine asked answer next → Step machine asked other after → SaysOne answer other × (next ≡ after) }
+{
+    one_written_snapshot();
+    one_written_delta();
+}
 
 /// What is asked of a consumer has one answer line. Where it is a key, or a key of a map, the rows are those of a model, as they are wherever
 /// its blobs came from.

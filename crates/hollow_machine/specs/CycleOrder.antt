@@ -19,6 +19,8 @@ use Rattle.hollow_machine.specs.Follow.{MayFollow, MayNotFollow}
 use Rattle.hollow_machine.specs.Puts.{AreBlobs, IsShort, Put, puts_of, put_all}
 use Rattle.hollow_machine.specs.Records.{AreRead, AreTypes, IsFirstUnknown, IsFirstUnread, entries}
 use Rattle.hollow_machine.specs.State.{Machine, Published}
+use Rattle.hollow_machine.specs.Forms.{OrderForm}
+use Rattle.hollow_machine.specs.Contents.{state_in}
 
 -- The records make this next state, and these types change by it.
 pub record Makes (last : Published) (add : Data) (rows : Table) (changed : List ℕ) : Type 0 where
@@ -83,3 +85,11 @@ CycleStep machine version tag add (Cycle names published version') next =
     (version' ≡ version) × IsSomeAnd machine.producer (λ last. Succeeds machine last version tag add names published next)
 CycleStep machine version tag add (Refused refusal) next = CycleRefusal machine version tag add refusal × (next ≡ machine)
 CycleStep machine version tag add _ next = ⊥
+
+abbrev pub cycle_form : OrderForm
+cycle_form = record {
+  Asked = ℕ × ℤ × Data;
+  asked = state_in;
+  Answers = λ machine asked reply next. CycleStep machine asked.0 asked.1 asked.2 reply next;
+  of_state = false;
+}

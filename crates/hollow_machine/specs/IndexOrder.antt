@@ -1,5 +1,6 @@
 -- The order `index`: what it answers, and the machine behind it.
-use Rattle.std.specs.Prelude.{◌≡◌, ℕ, List, Option, Some, None, IsSomeAnd}
+use Rattle.std.specs.Prelude.{◌≡◌, ℕ, List, Option, Some, None, IsSomeAnd, false}
+use Rattle.serde_json.specs.Data.{Data}
 use Rattle.schema_model.specs.declared.limit.Limit.TheVariants.{Indexes}
 use Rattle.schema_model.specs.declared.model.path.Path.{Path}
 use Rattle.schema_model.specs.declared.schema.name.Name.{Name}
@@ -10,8 +11,10 @@ use Rattle.hol_refusals.specs.declared.refusal.Refusal.{Refusal}
 use Rattle.hol_refusals.specs.declared.refusal.Refusal.TheVariants.{NoState, NoType, TooLarge}
 use Rattle.hol_answers.specs.declared.reply.Reply.{Reply}
 use Rattle.hol_answers.specs.declared.reply.Reply.TheVariants as reply
-use Rattle.hollow_machine.specs.KeyPaths.{AreKeyPaths, HasShape, IsObject, PathsRefusal}
+use Rattle.hollow_machine.specs.KeyPaths.{AreKeyPaths, HasShape, IsObject, PathsRefusal, texts_of_array}
 use Rattle.hollow_machine.specs.State.{Machine}
+use Rattle.hollow_machine.specs.Forms.{OrderForm}
+use Rattle.hollow_machine.specs.Contents.{json_in, pair_in, text_in}
 
 -- Why no index of the type at an index is kept: there is no such key; or there is no room.
 abbrev pub RefusesIndex : Name → List (List ℕ) → Position → ℕ → Refusal → Type 0
@@ -34,3 +37,11 @@ IndexStep machine name texts (reply.Index keys) next =
     × ((after : List Index) × KeepsIndex now.indexes (index_by t paths) after × (next ≡ record machine { consumer = Some (record now { indexes = after }) })))))
 IndexStep machine name texts (reply.Refused refusal) next = IndexRefusal machine.consumer name texts refusal × (next ≡ machine)
 IndexStep machine name texts _ next = ⊥
+
+abbrev pub index_form : OrderForm
+index_form = record {
+  Asked = Name × Data;
+  asked = pair_in text_in json_in;
+  Answers = λ machine asked reply next. IndexStep machine asked.0 (texts_of_array asked.1) reply next;
+  of_state = false;
+}

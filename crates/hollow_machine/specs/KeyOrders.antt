@@ -1,5 +1,5 @@
 -- The orders `get` and `find`, which look rows up by a key: what they answer of where a consumer stands.
-use Rattle.std.specs.Prelude.{◌<◌, ◌≤◌, ℕ, List, [], ◌∷◌, Option, Contains}
+use Rattle.std.specs.Prelude.{◌<◌, ◌≤◌, ℕ, List, [], ◌∷◌, Option, Contains, true}
 use Rattle.serde_json.specs.Data.{Data}
 use Rattle.serde_json.specs.View.{view}
 use Rattle.schema_model.specs.declared.limit.Limit.TheVariants.{Nodes}
@@ -17,8 +17,10 @@ use Rattle.hol_refusals.specs.declared.refusal.Refusal.{Refusal}
 use Rattle.hol_refusals.specs.declared.refusal.Refusal.TheVariants.{Ambiguous, BadKey, NoIndex, NoMatch, TooLarge}
 use Rattle.hol_answers.specs.declared.reply.Reply.{Reply}
 use Rattle.hol_answers.specs.declared.reply.Reply.TheVariants as reply
-use Rattle.hollow_machine.specs.KeyPaths.{AreKeyPaths, HasShape, IsObject, PathsRefusal}
+use Rattle.hollow_machine.specs.KeyPaths.{AreKeyPaths, HasShape, IsObject, PathsRefusal, texts_of_array}
 use Rattle.hollow_machine.specs.RowOrders.{AnswersOf, record_at}
+use Rattle.hollow_machine.specs.Forms.{OrderForm, looking}
+use Rattle.hollow_machine.specs.Contents.{json_in, pair_in, text_in, triple_in}
 
 -- An index is kept of a type by the paths of these texts.
 abbrev pub IsKept : List (List ℕ) → Position → ℕ → List Path → Type 0
@@ -65,3 +67,9 @@ ShowsFound name values now t _ = ⊥
 
 abbrev pub GetReply : Option Position → Name → Data → Reply → Type 0
 GetReply consumer name values answer = AnswersOf consumer name (ShowsFound name values) answer
+
+abbrev pub get_form : OrderForm
+get_form = looking (pair_in text_in json_in) (λ consumer asked answer. GetReply consumer asked.0 asked.1 answer) true
+
+abbrev pub find_form : OrderForm
+find_form = looking (triple_in text_in json_in json_in) (λ consumer asked answer. FindReply consumer asked.0 (texts_of_array asked.1) asked.2 answer) true

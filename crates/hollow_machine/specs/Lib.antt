@@ -1,6 +1,8 @@
 pub mod Blobs
+pub mod Contents
 pub mod CycleOrder
 pub mod Follow
+pub mod Forms
 pub mod IndexOrder
 pub mod Kept
 pub mod KeyOrders

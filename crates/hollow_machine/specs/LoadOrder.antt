@@ -1,5 +1,5 @@
 -- The order `load`: what it answers, and the machine behind it.
-use Rattle.std.specs.Prelude.{◌≡◌, ℕ, List, Some}
+use Rattle.std.specs.Prelude.{◌≡◌, ℕ, List, Some, false}
 use Rattle.hol_io.specs.declared.name.BlobName.TheVariants.{Snapshot}
 use Rattle.hol_io.specs.Store.{told}
 use Rattle.read_engine.specs.Position.{Position}
@@ -8,6 +8,8 @@ use Rattle.hol_answers.specs.declared.reply.Reply.{Reply}
 use Rattle.hol_answers.specs.declared.reply.Reply.TheVariants.{Load, Refused}
 use Rattle.hollow_machine.specs.Blobs.{SnapshotRefusal}
 use Rattle.hollow_machine.specs.State.{Machine}
+use Rattle.hollow_machine.specs.Forms.{OrderForm}
+use Rattle.hollow_machine.specs.Contents.{whole_in}
 
 -- The consumer becomes the state of the version's snapshot, with its tag, or the snapshot is refused and all stays.
 abbrev pub LoadStep : Machine → ℕ → Reply → Machine → Type 0
@@ -16,3 +18,6 @@ LoadStep machine version (Load tag) next =
     × (next ≡ record machine { consumer = Some position })
 LoadStep machine version (Refused refusal) next = SnapshotRefusal (Snapshot version) (told (Some machine.store) (Snapshot version)) refusal × (next ≡ machine)
 LoadStep machine version _ next = ⊥
+
+abbrev pub load_form : OrderForm
+load_form = record { Asked = ℕ; asked = whole_in; Answers = λ machine version reply next. LoadStep machine version reply next; of_state = false }

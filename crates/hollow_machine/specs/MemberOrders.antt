@@ -1,5 +1,5 @@
 -- The orders `has` and `at`, which look into a set and into a map: what they answer of where a consumer stands.
-use Rattle.std.specs.Prelude.{◌≡◌, ◌↔◌, ℕ, Option, Contains, IsTrue}
+use Rattle.std.specs.Prelude.{◌≡◌, ◌↔◌, ℕ, Option, Contains, IsTrue, true}
 use Rattle.schema_model.specs.declared.schema.name.Name.{Name}
 use Rattle.schema_model.specs.declared.schema.Shape.{Shape}
 use Rattle.row_model.specs.Table.{IsLive, row_at}
@@ -12,6 +12,8 @@ use Rattle.hol_answers.specs.declared.reply.Reply.{Reply}
 use Rattle.hol_answers.specs.declared.reply.Reply.TheVariants as reply
 use Rattle.hollow_machine.specs.KeyPaths.{HasShape, IsMap, IsSet}
 use Rattle.hollow_machine.specs.RowOrders.{AnswersOf}
+use Rattle.hollow_machine.specs.Forms.{OrderForm, looking}
+use Rattle.hollow_machine.specs.Contents.{text_in, triple_in, whole_in}
 
 -- Why a row of a type is not looked into: the rows of the type have another shape, or the ordinal is not live.
 abbrev pub MemberRefusal : (Shape → Type 0) → Name → ℕ → Position → ℕ → Refusal → Type 0
@@ -42,3 +44,9 @@ TellsValue name ordinal key now t _ = ⊥
 
 abbrev pub AtReply : Option Position → Name → ℕ → ℕ → Reply → Type 0
 AtReply consumer name ordinal key answer = AnswersOf consumer name (TellsValue name ordinal key) answer
+
+abbrev pub has_form : OrderForm
+has_form = looking (triple_in text_in whole_in whole_in) (λ consumer asked answer. HasReply consumer asked.0 asked.1 asked.2 answer) true
+
+abbrev pub at_form : OrderForm
+at_form = looking (triple_in text_in whole_in whole_in) (λ consumer asked answer. AtReply consumer asked.0 asked.1 asked.2 answer) true

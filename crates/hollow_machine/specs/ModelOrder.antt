@@ -1,5 +1,5 @@
 -- The order `model`: what it answers, and the machine behind it.
-use Rattle.std.specs.Prelude.{◌≡◌, ◌⊎◌, ℕ, List, Some, None, codes, length, IsSomeAnd}
+use Rattle.std.specs.Prelude.{◌≡◌, ◌⊎◌, ℕ, List, Some, None, codes, length, IsSomeAnd, false}
 use Rattle.serde_json.specs.Data.{Data}
 use Rattle.serde_json.specs.Find.{at}
 use Rattle.schema_model.specs.declared.model.rule.Rule.{Rule}
@@ -12,6 +12,8 @@ use Rattle.hol_refusals.specs.declared.refusal.Refusal.TheVariants.{BadModel, Mo
 use Rattle.hol_answers.specs.declared.reply.Reply.{Reply}
 use Rattle.hol_answers.specs.declared.reply.Reply.TheVariants.{Model, Refused}
 use Rattle.hollow_machine.specs.State.{Machine, new_producer}
+use Rattle.hollow_machine.specs.Forms.{OrderForm}
+use Rattle.hollow_machine.specs.Contents.{json_in}
 
 -- The schemas that the value stands for break this rule first, and the type at this index is the first that breaks it. A
 -- FLOAT or a DOUBLE breaks a rule too, though no schema has one.
@@ -37,3 +39,6 @@ ModelStep machine value (Model types) next =
     × (next ≡ record machine { producer = Some (new_producer schemas) })
 ModelStep machine value (Refused refusal) next = ModelRefusal machine value refusal × (next ≡ machine)
 ModelStep machine value _ next = ⊥
+
+abbrev pub model_form : OrderForm
+model_form = record { Asked = Data; asked = json_in; Answers = λ machine value reply next. ModelStep machine value reply next; of_state = false }

@@ -1,5 +1,5 @@
 -- The orders `live`, `row` and `past`: what each answers of where the consumer stands. They change nothing.
-use Rattle.std.specs.Prelude.{◌≡◌, ◌≤◌, ◌<◌, ◌↔◌, ℕ, List, Option, Some, None, Contains, sum_by}
+use Rattle.std.specs.Prelude.{◌≡◌, ◌≤◌, ◌<◌, ◌↔◌, ℕ, List, Option, Some, None, Contains, sum_by, true, false}
 use Rattle.std.specs.List.{AllZip}
 use Rattle.serde_json.specs.View.{view}
 use Rattle.serde_json.specs.declared.value.Value.{Value}
@@ -19,6 +19,8 @@ use Rattle.hol_refusals.specs.declared.refusal.Refusal.TheVariants.{NoRow, NoSta
 use Rattle.hol_answers.specs.declared.reply.Reply.{Reply}
 use Rattle.hol_answers.specs.declared.reply.Reply.TheVariants as reply
 use Rattle.hollow_machine.specs.State.{Machine}
+use Rattle.hollow_machine.specs.Forms.{OrderForm, looking}
+use Rattle.hollow_machine.specs.Contents.{pair_in, text_in, whole_in}
 
 -- What is answered of the type at an index, where there is one of the name.
 abbrev pub AnswersAt : Position → Option ℕ → Name → (Position → ℕ → Reply → Type 0) → Reply → Type 0
@@ -85,3 +87,12 @@ PastReply consumer name answer = AnswersOf consumer name ShowsPast answer
 -- The answer is one of where the consumer stands, and the machine is as it was.
 abbrev pub Looks : (Option Position → Reply → Type 0) → Machine → Reply → Machine → Type 0
 Looks Answers machine answer next = Answers machine.consumer answer × (next ≡ machine)
+
+abbrev pub live_form : OrderForm
+live_form = looking text_in (λ consumer name answer. LiveReply consumer name answer) true
+
+abbrev pub row_form : OrderForm
+row_form = looking (pair_in text_in whole_in) (λ consumer asked answer. RowReply consumer asked.0 asked.1 answer) true
+
+abbrev pub past_form : OrderForm
+past_form = looking text_in (λ consumer name answer. PastReply consumer name answer) false

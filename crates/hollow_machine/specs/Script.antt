@@ -5,8 +5,9 @@ use Rattle.hol_refusals.specs.declared.refusal.Refusal.TheVariants.{BadOrder, Li
 use Rattle.hol_answers.specs.declared.reply.Reply.{Reply}
 use Rattle.hol_orders.specs.Order.{Orders}
 use Rattle.hol_answers.specs.Reply.{is_refusal, line_of}
+use Rattle.hollow_machine.specs.Forms.{Refuses}
 use Rattle.hollow_machine.specs.State.{Machine}
-use Rattle.hollow_machine.specs.Step.{Refuses, Step}
+use Rattle.hollow_machine.specs.Step.{Step}
 
 -- How many bytes a line has at most.
 abbrev pub longest_line : ℕ

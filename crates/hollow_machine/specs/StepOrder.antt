@@ -1,5 +1,5 @@
 -- The order `step`: what it answers, and the machine behind it.
-use Rattle.std.specs.Prelude.{◌≡◌, ◌≢◌, ℕ, List, Option, Some, None, IsSomeAnd, if◌then◌else◌, nat_lt}
+use Rattle.std.specs.Prelude.{◌≡◌, ◌≢◌, ℕ, List, Option, Some, None, IsSomeAnd, if◌then◌else◌, nat_lt, false}
 use Rattle.hol_io.specs.declared.name.BlobName.{BlobName}
 use Rattle.hol_io.specs.declared.name.BlobName.TheVariants.{Delta, Reverse}
 use Rattle.hol_io.specs.Store.{told}
@@ -13,6 +13,8 @@ use Rattle.hol_answers.specs.declared.reply.Reply.{Reply}
 use Rattle.hol_answers.specs.declared.reply.Reply.TheVariants.{Refused, Step}
 use Rattle.hollow_machine.specs.Blobs.{HeadRefusal}
 use Rattle.hollow_machine.specs.State.{Machine}
+use Rattle.hollow_machine.specs.Forms.{OrderForm}
+use Rattle.hollow_machine.specs.Contents.{pair_in, whole_in}
 
 -- The blob that leads from one version to another one: the delta where versions rise, and else the reverse delta.
 abbrev pub step_name : ℕ → ℕ → BlobName
@@ -44,3 +46,11 @@ StepStep machine name (Step tag) next =
     × (next ≡ record machine { consumer = Some to }))
 StepStep machine name (Refused refusal) next = StepRefusal name (told (Some machine.store) name) machine.consumer refusal × (next ≡ machine)
 StepStep machine name _ next = ⊥
+
+abbrev pub step_form : OrderForm
+step_form = record {
+  Asked = ℕ × ℕ;
+  asked = pair_in whole_in whole_in;
+  Answers = λ machine asked reply next. StepStep machine (step_name asked.0 asked.1) reply next;
+  of_state = false;
+}

@@ -16,6 +16,7 @@ use Rattle.hol_answers.specs.declared.reply.Reply.TheVariants.{Refused}
 use Rattle.hol_orders.specs.declared.order.OrderFault.{OrderFault}
 use Rattle.hol_orders.specs.declared.order.OrderFault.TheVariants as order_fault
 use Rattle.hol_orders.specs.Order.{IsOrder, Orders, TellsOrder}
+use Rattle.hollow_machine.proofs.Asking.{cycle_answered}
 use Rattle.hollow_machine.specs.CycleOrder.{CycleStep}
 use Rattle.hollow_machine.specs.IndexOrder.{IndexStep}
 use Rattle.hollow_machine.specs.Kept.{Moves, MovesConsumer, MovesProducer, machine_of}
@@ -77,7 +78,17 @@ module _ (held : Option Store) (kept kept' : Option Production) (consumer : Opti
   cycle_moves held' version tag add is fits moves =
       let same = to_z-of_z w64 tag (subst IsOrder is fits).1 in
       asked_moves held held' kept kept' consumer consumer asked r (order.Cycle version tag add) is
-      (subst (λ t. Moves (λ machine reply next. CycleStep machine version t (view add) reply next) held kept consumer held' kept' consumer r) same (moves consumer))
+      (over held (subst (λ t. Moves (λ machine reply next. CycleStep machine version t (view add) reply next) held kept consumer held' kept' consumer r) same (moves consumer)))
+    where
+      over : (told : Option Store) → Moves (λ machine reply next. CycleStep machine version tag (view add) reply next) told kept consumer held' kept' consumer r
+          → Moves (λ machine reply next. Step machine (order.Cycle version tag add) reply next) told kept consumer held' kept' consumer r
+      over None answers = tt
+      over (Some store) answers = on r answers
+        where
+          on : (answer : Result Reply OrderStop) → IfOk answer (λ reply. (next : Store) × (held' ≡ Some next) × CycleStep (machine_of store kept consumer) version tag (view add) reply (machine_of next kept' consumer))
+              → IfOk answer (λ reply. (next : Store) × (held' ≡ Some next) × Step (machine_of store kept consumer) (order.Cycle version tag add) reply (machine_of next kept' consumer))
+          on (Err stop) is = tt
+          on (Ok reply) (next, is, step) = (next, is, cycle_answered (machine_of store kept consumer) version tag add reply (machine_of next kept' consumer) step)
 
 -- the orders of a consumer, which leave the store and the producer
 module _ (held held' : Option Store) (kept : Option Production) (consumer consumer' : Option Position) (asked : Order) (r : Result Reply OrderStop) where

@@ -1,4 +1,4 @@
--- Lines of refusals are told from all other lines by their third byte.
+-- Lines of refusals are told from all other lines by the name of their first member.
 use Rattle.std.proofs.Common.{◌≡◌, ◌↔◌, ℕ, List, [], ◌∷◌, ◌++◌, slice_index, Bool, true, false, Option, Some, None, Ok, Err, OnSome, refl, sym, ap, ◌∙◌, subst, arith}
 use Rattle.std.proofs.lemmas.List.{append_cancel_left}
 use Rattle.std.specs.List.{concat}
@@ -13,13 +13,13 @@ use Rattle.hol_refusals.specs.Refusal.{refusal_line}
 use Rattle.hol_answers.specs.Reply.{is_refusal, line_of}
 use Rattle.hollow_top.specs.RowLines.{Listed, IsRowLine, AreLinesOf, LeavesLines}
 use Rattle.hollow_top.specs.Run.{status_of}
-use Rattle.hol_answers.specs.Marks.{IsMarked}
-use Rattle.hol_answers.proofs.ThirdBytes.{marked, unmarked, apart}
+use Rattle.hol_answers.specs.Marks.{is_marked}
+use Rattle.hol_answers.proofs.ThirdBytes.{marked, apart}
 use Rattle.hollow_top.specs.Stopping.{GainsRefusal, IsVerdict, Leaves}
 
 -- a text that is not marked is no refusal's line
-unmarked_none : (text : List ℕ) → (IsMarked text → ⊥) → IsVerdict text false
-unmarked_none text other refusal same = other (subst IsMarked (sym same) (marked refusal))
+unmarked_none : (text : List ℕ) → is_marked text ≡ false → IsVerdict text false
+unmarked_none text other refusal same = let both : true ≡ false = sym (marked refusal) ∙ ap is_marked (sym same) ∙ other in cc
 
 -- the line of an answer is that of a refusal exactly where the answer is one
 line_verdict : (reply : Reply) → IsVerdict (line_of reply) (is_refusal reply)
@@ -38,19 +38,15 @@ line_of_verdict reply text refused (answer, same, text_is, verdict) =
     subst (λ v. IsVerdict text v) (sym verdict) (subst (λ t. IsVerdict t (is_refusal answer)) (sym text_is) (line_verdict answer))
 
 -- the line of a row begins with its ordinal, and the text of no rows is empty
-row_third : (row : Listed) (line rest : List ℕ) → IsRowLine row line → slice_index (line ++ rest) 2 ≡ 111
+row_unmarked : (row : Listed) (line rest : List ℕ) → IsRowLine row line → is_marked (line ++ rest) ≡ false
 unfolding serde_json_on_literals
-row_third row line rest (printed, prints, is) = ap (λ t. slice_index (t ++ rest) 2) is
+row_unmarked row line rest (printed, prints, is) = ap (λ t. is_marked (t ++ rest)) is
 
 lines_verdict : (rows : List Listed) (text : List ℕ) → AreLinesOf rows text → IsVerdict text false
-lines_verdict [] text ([], are, is) =
-    let none : slice_index text 2 ≡ 0 = ap (λ t. slice_index t 2) is in
-    unmarked_none text (unmarked text 0 none (λ e. omega (arith, e)) (λ e. omega (arith, e)) (λ e. omega (arith, e)))
+lines_verdict [] text ([], are, is) = unmarked_none text (ap is_marked is)
 lines_verdict [] text (line ∷ lines, are, is) = absurd are
 lines_verdict (row ∷ rows) text ([], are, is) = absurd are
-lines_verdict (row ∷ rows) text (line ∷ lines, are, is) =
-    let first : slice_index text 2 ≡ 111 = ap (λ t. slice_index t 2) is ∙ row_third row line (concat lines) are.0 in
-    unmarked_none text (unmarked text 111 first (λ e. omega (arith, e)) (λ e. omega (arith, e)) (λ e. omega (arith, e)))
+lines_verdict (row ∷ rows) text (line ∷ lines, are, is) = unmarked_none text (ap is_marked is ∙ row_unmarked row line (concat lines) are.0)
 
 -- what writing the lines of rows leaves is no refusal
 pub written_rows : (rows : List Listed) (before after : Option (List ℕ)) → LeavesLines rows before after (Ok tt) → Leaves IsVerdict before after (Ok false)

@@ -2,8 +2,9 @@ use Rattle.std.proofs.Common.{sym, ◌∙◌}
 use Rattle.serde_json.specs.View.{view}
 use Rattle.hollow_machine.specs.KeyPaths.{texts_of_array}
 use Rattle.chain_laws.proofs.OneKey.{one_find, one_get}
-use Rattle.chain_laws.proofs.OneLook.{one_live, one_past, one_row}
+use Rattle.chain_laws.proofs.OneLook.{one_live, one_row}
 use Rattle.chain_laws.proofs.OneMember.{one_at, one_has}
+use Rattle.chain_laws.proofs.PastLaws.{one_past}
 use Rattle.chain_laws.proofs.TypedConsumers.{typed_if}
 use Rattle.chain_laws.proofs.laws.one_look.Goals as goal
 

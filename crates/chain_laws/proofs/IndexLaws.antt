@@ -1,0 +1,38 @@
+-- The laws of the order `index`.
+use Rattle.std.proofs.Common.{refl, subst, Option, inl, inr}
+use Rattle.std.specs.Prelude.{Option, IfSome}
+use Rattle.hol_answers.specs.declared.reply.Reply.TheVariants as reply
+use Rattle.read_engine.specs.Position.{Position}
+use Rattle.hollow_machine.specs.IndexOrder.{index_form}
+use Rattle.hollow_machine.specs.KeyPaths.{texts_of_array}
+use Rattle.chain_laws.proofs.AddedIndexes.{index_added, still_indexes}
+use Rattle.chain_laws.specs.Consumers.{IsIn}
+use Rattle.chain_laws.proofs.TypedConsumers.{IsTyped}
+use Rattle.chain_laws.proofs.Lawful.{IsLawful, LeavesOf, moves_lawful}
+use Rattle.hol_orders.specs.declared.kind.Kind.{Kind}
+use Rattle.chain_laws.proofs.OneKey.{one_index}
+
+index_leaves : LeavesOf index_form
+index_leaves machine asked (reply.Index keys) next step =
+    let added = index_added machine asked.0 (texts_of_array asked.1) keys next step in (
+      tt,
+      inr (
+        record added.now { indexes = added.after },
+        added.is,
+        (λ typed. let was = subst (λ (consumer : Option Position). IfSome consumer IsTyped) added.was typed in record { names = was.names; types = was.types; rows = was.rows }),
+        (λ chain holds of.
+            let stood = subst (λ (consumer : Option Position). IfSome consumer (IsIn chain)) added.was of in
+            record {
+              version = stood.version;
+              state = stood.state;
+              there = stood.there;
+              stands = record { tag = stood.stands.tag; model = stood.stands.model; rows = stood.stands.rows };
+              indexes = still_indexes added.now.schemas added.now.indexes added.after asked.0 (texts_of_array asked.1) added.index stood.indexes added.asks added.keeps;
+            }),
+      ),
+    )
+index_leaves machine asked (reply.Refused refusal) next step = (tt, inl step.1)
+index_leaves machine asked _ next step = absurd step
+
+pub index_lawful : IsLawful Kind.Index index_form
+index_lawful = moves_lawful Kind.Index index_form refl (λ written machine sound asked one other next after is also. one_index machine asked.0 (texts_of_array asked.1) sound.1 one other next after is also) index_leaves

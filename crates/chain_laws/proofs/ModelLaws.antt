@@ -1,0 +1,60 @@
+-- The laws of the order `model`.
+use Rattle.std.proofs.Common.{◌≡◌, ℕ, List, length, inl, refl, sym, subst, ap}
+use Rattle.serde_json.specs.Data.{Data}
+use Rattle.serde_json.specs.View.{view}
+use Rattle.serde_json.specs.declared.value.Value.{Value}
+use Rattle.hol_orders.specs.declared.order.Order.{Order}
+use Rattle.hol_orders.specs.declared.order.Order.TheVariants as order
+use Rattle.hol_answers.specs.declared.reply.Reply.{Reply}
+use Rattle.hol_answers.specs.declared.reply.Reply.TheVariants as reply
+use Rattle.hol_orders.specs.Order.{Orders, content_of, kind_of}
+use Rattle.hollow_machine.specs.ModelOrder.{ModelStep, model_form}
+use Rattle.hollow_machine.specs.State.{Machine, new_producer}
+use Rattle.written_laws.specs.Chain.{Chain}
+use Rattle.chain_laws.specs.Producers.{IsOver, IsProducerOf, KeepsChain}
+use Rattle.chain_laws.proofs.ValueTexts.{named_texts}
+use Rattle.written_laws.specs.HoldsChain.{HoldsChain}
+use Rattle.chain_laws.specs.Consumers.{IsConsumerOf}
+use Rattle.chain_laws.proofs.LastState.{none_once}
+use Rattle.chain_laws.proofs.OneCycle.{IsOnce}
+use Rattle.chain_laws.proofs.Lawful.{IsLawful, IsSoundMachine, Keeps, same_keeps, stays_sound, stays_of, same_of, says_both}
+use Rattle.hol_orders.specs.declared.kind.Kind.{Kind}
+use Rattle.hollow_machine.specs.Forms.{Meets}
+use Rattle.chain_laws.proofs.OneModel.{one_model}
+
+module _ (machine : Machine) (line : List ℕ) (chain : Chain) (kept : KeepsChain machine.store chain) (over : IsProducerOf chain machine.producer) where
+  model_keeps : (value : Value) (answer : Reply) (next : Machine) → ModelStep machine (view value) answer next → Keeps machine line answer chain next
+  model_keeps value (reply.Model types) next (schemas, none, stands, model, count, next_is) =
+      let fresh : IsOver chain (new_producer schemas) = record { model = model; texts = named_texts value schemas stands; stands = inl refl } in
+      let both = subst (λ (m : Machine). KeepsChain m.store chain × IsProducerOf chain m.producer) (sym next_is) (kept, fresh) in
+      (chain, refl, both.0, both.1, (λ v s there. there))
+  model_keeps value (reply.Refused refusal) next step = same_keeps machine line chain kept over (reply.Refused refusal) next refl step.1
+  model_keeps value _ next step = absurd step
+
+module _ (machine : Machine) (sound : IsSoundMachine machine) where
+  model_sound : (value : Data) (answer : Reply) (next : Machine) → ModelStep machine value answer next → IsSoundMachine next
+  model_sound value (reply.Model types) next (schemas, none, stands, model, count, next_is) =
+      let new : IsOnce (new_producer schemas) = record { model = model; once = none_once (length schemas) } in
+      subst IsSoundMachine (sym next_is) (new, sound.1)
+  model_sound value (reply.Refused refusal) next step = stays_sound machine sound next step.1
+  model_sound value _ next step = absurd step
+
+module _ (machine : Machine) (chain : Chain) (holds : HoldsChain machine.store chain) (of : IsConsumerOf chain machine.consumer) where
+  model_moves : (value : Data) (answer : Reply) (next : Machine) → ModelStep machine value answer next → IsConsumerOf chain next.consumer
+  model_moves value (reply.Model types) next (schemas, none, stands, model, count, next_is) = stays_of machine chain of next (ap (λ (m : Machine). m.consumer) next_is)
+  model_moves value (reply.Refused refusal) next step = same_of machine chain of next step.1
+  model_moves value _ next step = absurd step
+
+model_order_keeps : (machine : Machine) (chain : Chain) → KeepsChain machine.store chain → IsProducerOf chain machine.producer → (line : List ℕ) (asked : Order) → Orders line asked → kind_of asked ≡ Kind.Model
+    → (answer : Reply) (next : Machine) → Meets model_form machine (content_of asked) answer next → Keeps machine line answer chain next
+model_order_keeps machine chain kept over line (order.Model value) orders is answer next step = model_keeps machine line chain kept over value answer next step
+model_order_keeps machine chain kept over line _ orders is answer next step = absurd cc
+
+pub model_lawful : IsLawful Kind.Model model_form
+model_lawful = record {
+  once = λ written machine sound value one other next after is also. says_both one other next after (one_model machine value one other next after is also);
+  sound = λ machine sound value answer next is. model_sound machine sound value answer next is;
+  keeps = model_order_keeps;
+  moves = λ machine chain holds of value answer next is. model_moves machine chain holds of value answer next is;
+  afresh = λ can. absurd cc;
+}
