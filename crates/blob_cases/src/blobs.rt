@@ -2,7 +2,8 @@
 use crate::told::told;
 use blob_cursor::Cursor;
 use blob_frame::BlobFault;
-use hol_io::{BlobName, SureStore};
+use hol_io::BlobName;
+use hol_memory::SureStore;
 use std::test::Fail;
 
 /// One item of each kind, one behind the other.

@@ -1,6 +1,7 @@
 //! What a store tells of a chain of one state, with ample memory.
 use chain_store::{announced_version, greatest_version, is_tag_taken, names_of};
-use hol_io::{BlobName, BlobStore, PutFault, SureStore};
+use hol_io::{BlobName, BlobStore, PutFault};
+use hol_memory::SureStore;
 use std::alloc::Global;
 
 /// The format, and the tags 0 and 71.

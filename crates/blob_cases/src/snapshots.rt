@@ -1,6 +1,7 @@
 //! A snapshot of two rows that is read, and one that is not there.
 use blob_frame::BlobFault;
-use hol_io::{BlobName, BlobStore, SureStore};
+use hol_io::{BlobName, BlobStore};
+use hol_memory::SureStore;
 use row_model::Rows;
 use snapshot_blob::read_snapshot;
 use std::test::Fail;

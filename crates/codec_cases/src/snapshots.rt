@@ -2,7 +2,8 @@
 ghost use Rattle.std.specs.Prelude.{IfOk};
 ghost use Rattle.snapshot_blob.specs.Body.{IsWholeBody};
 
-use hol_io::{BlobName, BlobStore, SureStore};
+use hol_io::{BlobName, BlobStore};
+use hol_memory::SureStore;
 use snapshot_blob::{Loaded, read_snapshot};
 use std::alloc::Global;
 use std::test::Fail;

@@ -1,5 +1,6 @@
 //! Inputs that are read line by line.
-use hol_io::{LineFault, Lines, MemSource, Turn};
+use hol_io::{LineFault, Lines, Turn};
+use hol_memory::MemSource;
 use std::alloc::{AllocError, Global};
 
 /// What a turn gives: a line and `;`, `+` for a line that is too long, `!` for a failed read, and `.` or `>` at the end of the input or past

@@ -1,5 +1,6 @@
 //! Stores of blobs in memory, of which one fails where it is told to.
-use hol_io::{BlobName, BlobStore, MemStore, PutFault, SureStore};
+use hol_io::{BlobName, BlobStore, PutFault};
+use hol_memory::{MemStore, SureStore};
 use std::alloc::{AllocError, Global};
 
 /// The snapshot that is put and read.

@@ -1,7 +1,8 @@
 //! Sources and sinks in memory, and steps that are counted.
 ghost use Rattle.std.specs.Prelude.{◌≡◌, ◌<◌};
 
-use hol_io::{MemSink, MemSource, Sink, Source, Steps, WriteFailed, write_all};
+use hol_io::{Sink, Source, Steps, WriteFailed, write_all};
+use hol_memory::{MemSink, MemSource};
 use std::alloc::{AllocError, Global};
 use std::marker::Brand;
 use std::sync::ledger::{Blank, Ledger};

@@ -1,10 +1,8 @@
 mod Ahead
 mod Cutting
-mod EntryLemmas
 mod Finding
-mod Fronts
 mod NameKinds
-mod NameOrder
+pub mod NameOrder
 mod Pieces
 mod Texts
 mod Told

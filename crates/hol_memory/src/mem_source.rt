@@ -1,10 +1,10 @@
 //! A source in memory.
 ghost use Rattle.std.specs.Prelude.{◌≡◌, ◌≤◌};
-ghost use Rattle.hol_io.specs.Calls.{first_calls};
+ghost use Rattle.hol_memory.specs.Calls.{first_calls};
 
 use crate::buffer::place;
 use crate::calls::Counter;
-use crate::source::{ReadFailed, Source};
+use hol_io::{ReadFailed, Source};
 use std::marker::Model;
 
 /// A source of bytes in memory. It gives at most so many bytes a call, and the calls of given
@@ -19,7 +19,7 @@ pub struct MemSource {
 
 impl Model for MemSource {
     ghost use Rattle.std.specs.Prelude.{◌≤◌, drop, vec_len};
-    ghost use Rattle.hol_io.specs.Memory.{MemorySource};
+    ghost use Rattle.hol_memory.specs.Memory.{MemorySource};
 
     ghost Value = { MemorySource };
 
@@ -50,9 +50,9 @@ impl Source for MemSource {
     ghost use Rattle.std.specs.Prelude.{◌≡◌, ◌<◌, ◌↔◌, Some, length, OnSome, IfOk, IsErr, is_err};
     ghost use Rattle.std.specs.Io.{ReadsAtMost};
     ghost use Rattle.std.specs.Io.KnownBytes.{ReadConsumes};
-    ghost use Rattle.hol_io.specs.Calls.{FailsNext, after_call};
+    ghost use Rattle.hol_memory.specs.Calls.{FailsNext, after_call};
     ghost use Rattle.hol_io.specs.Causes.{HasCause};
-    ghost use Rattle.hol_io.specs.Memory.{given};
+    ghost use Rattle.hol_memory.specs.Memory.{given};
     ghost use Rattle.hol_io.specs.Buffer.{KeepsRest};
 
     ghost faults = { λ s. s.calls.faults };

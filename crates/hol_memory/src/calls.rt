@@ -1,6 +1,6 @@
 //! Which calls of an object in memory fail.
 ghost use Rattle.std.specs.Prelude.{◌≡◌, ◌≤◌, ◌↔◌, IsTrue};
-ghost use Rattle.hol_io.specs.Calls.{FailsNext, after_call, first_calls};
+ghost use Rattle.hol_memory.specs.Calls.{FailsNext, after_call, first_calls};
 
 use std::marker::Model;
 
@@ -13,7 +13,7 @@ pub(crate) struct Counter {
 }
 
 impl Model for Counter {
-    ghost use Rattle.hol_io.specs.Calls.{Calls};
+    ghost use Rattle.hol_memory.specs.Calls.{Calls};
 
     ghost Value = { Calls };
 

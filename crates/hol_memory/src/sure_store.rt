@@ -3,9 +3,8 @@ ghost use Rattle.std.specs.Prelude.{◌≡◌};
 ghost use Rattle.std.specs.Option.{option_copied};
 ghost use Rattle.std.specs.FinMap as map;
 
-use crate::buffer::place_from;
-use crate::name::BlobName;
-use crate::store::{BlobStore, PutFault, StoreFailed};
+use crate::buffer::{are_bytes, place_from};
+use hol_io::{BlobName, BlobStore, PutFault, StoreFailed};
 use std::alloc::Global;
 use std::collections::BTreeMap;
 use std::marker::Model;
@@ -19,18 +18,22 @@ pub struct SureStore {
 }
 
 impl Model for SureStore {
-    ghost use Rattle.hol_io.specs.Memory.{SureContent, sure_content_code};
-    ghost use Rattle.hol_io.specs.Entries.{store_of};
+    ghost use Rattle.hol_io.specs.Store.{HoldsBytes};
+    ghost use Rattle.hol_memory.specs.Memory.{SureContent, sure_content_code};
+    ghost use Rattle.hol_memory.specs.Entries.{store_of};
 
     ghost Value = { SureContent };
 
     ghost coded = { sure_content_code };
 
     ghost view = { λ s. record { held = store_of s.entries.entries; puts = s.puts } };
+
+    ghost invariant = { λ s. HoldsBytes (store_of s.entries.entries) };
 }
 
 impl SureStore {
     /// A store without names. It takes no memory.
+    #[tactic(auto, using(crate::proofs::EntryLemmas::holds_none))]
     pub fn new(alloc: Global) -> SureStore
         ensures held { result.held ≡ map.empty }
         ensures puts { result.puts ≡ 0 }
@@ -56,10 +59,16 @@ impl BlobStore for SureStore {
     ghost use Rattle.std.specs.Option.{option_map};
     ghost use Rattle.std.specs.FinMap as map;
     ghost use Rattle.hol_io.specs.Buffer.{KeepsRest};
-    ghost use Rattle.hol_io.specs.Calls.{one_more};
-    ghost use Rattle.hol_io.specs.Store.{content, names, IsFront};
+    ghost use Rattle.hol_memory.specs.Calls.{one_more};
+    ghost use Rattle.hol_io.specs.Store.{HoldsBytes, content, names, IsFront};
 
     ghost seen = { λ s. record { held = Some s.held; faults = 0; puts = s.puts } };
+
+    fn told_bytes(&self)
+        ensures { HoldsBytes self.now.held }
+    {
+        let _entries = &self.entries;
+    }
 
     fn size(&mut self, name: &BlobName) -> Result<Option<u64>, StoreFailed>
         ensures size { result ≡ Ok (option_map length (map.get self.old.held name.now)) }
@@ -81,13 +90,14 @@ impl BlobStore for SureStore {
         }
     }
 
-    #[tactic(auto, using(crate::proofs::EntryLemmas::insert_same))]
+    #[tactic(auto, using(crate::proofs::EntryLemmas::insert_same, crate::proofs::EntryLemmas::holds_inserted))]
     fn put(&mut self, name: &BlobName, bytes: &[u8]) -> Result<(), PutFault>
         ensures sure { IsOkUnless result PutFault.Memory }
         ensures put { OnOk result (self.new.held ≡ map.insert self.old.held name.now bytes.now) }
         ensures kept { OnErr result (self.new.held ≡ self.old.held) }
         ensures counted { self.new.puts ≡ one_more self.old.puts }
     {
+        are_bytes(bytes);
         self.puts = self.puts.saturating_add(1);
         let content = Vec::from_slice(self.alloc, bytes)?;
         self.entries.insert(*name, content)?;

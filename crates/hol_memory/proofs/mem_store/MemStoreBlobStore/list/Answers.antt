@@ -1,6 +1,6 @@
 use Rattle.std.proofs.Common.{◌++◌, ap, sym}
 use Rattle.hol_io.specs.Store.{names}
-use Rattle.hol_io.proofs.mem_store.MemStoreBlobStore.list.Goals as goal
+use Rattle.hol_memory.proofs.mem_store.MemStoreBlobStore.list.Goals as goal
 
 pub returns-then-fails_now-clause-part : goal.returns-then-fails_now-clause-part
 returns-then-fails_now-clause-part c =

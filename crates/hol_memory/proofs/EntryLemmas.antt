@@ -1,5 +1,5 @@
 -- A map in memory and the store that it stands for.
-use Rattle.std.proofs.Common.{◌≡◌, ℕ, Bool, true, false, cond, ◌&&◌, List, [], ◌∷◌, map, Option, Some, Vec, Global, T, Ordering, refl, ap, sym, ◌∙◌, subst}
+use Rattle.std.proofs.Common.{◌≡◌, ◌<◌, ℕ, All, IfSome, Bool, true, false, cond, ◌&&◌, List, [], ◌∷◌, map, Option, Some, Vec, Global, T, Ordering, refl, ap, sym, ◌∙◌, subst}
 use Rattle.std.specs.declared.cmp.Ordering.TheVariants.{Less}
 use Rattle.std.specs.Option.{option_map}
 use Rattle.std.specs.Ordering.{is_eq, is_lt}
@@ -11,9 +11,9 @@ use Rattle.std.specs.Map.{lookup}
 use Rattle.std.specs.FinMap as store
 use Rattle.std.specs.FinMap.Entries.{below_all}
 use Rattle.hol_io.specs.declared.name.BlobName.{BlobName}
-use Rattle.hol_io.specs.Entries.{store_of}
+use Rattle.hol_memory.specs.Entries.{store_of}
 use Rattle.hol_io.specs.Name.{name_cmp}
-use Rattle.hol_io.specs.Store.{names}
+use Rattle.hol_io.specs.Store.{HoldsBytes, Store, names}
 use Rattle.hol_io.proofs.NameOrder.{name_cmp_total, name_cmp-IsAntisymmetric, derived_cmp, derived_is}
 
 abbrev pub Entry : Type 0
@@ -78,3 +78,18 @@ names_same entries s =
     ap (λ m. map (λ e. e.0) (store.entries m)) whole
     ∙ ap (map (λ e. e.0)) (store.entries-from_sorted name_cmp (map bytes_of entries) sorted)
     ∙ names_list entries
+
+-- No name holds anything.
+pub holds_none : HoldsBytes (store_of [])
+holds_none name = subst (λ content. IfSome content (All (λ byte. byte < 256))) (sym (store.get-empty name_cmp name)) tt
+
+-- What holds of each content and of one more holds of all.
+with_one : (b : Bool) (bytes : List ℕ) (o : Option (List ℕ)) → All (λ byte. byte < 256) bytes → IfSome o (All (λ byte. byte < 256)) → IfSome (cond b (Some bytes) o) (All (λ byte. byte < 256))
+with_one true bytes o one others = one
+with_one false bytes o one others = others
+
+-- Bytes are put where bytes are held.
+pub holds_inserted : (held held' : Store) (name : BlobName) (bytes : List ℕ) → held' ≡ store.insert held name bytes → All (λ byte. byte < 256) bytes → HoldsBytes held → HoldsBytes held'
+holds_inserted held held' name bytes is one others = λ other.
+    subst (λ content. IfSome content (All (λ byte. byte < 256))) (sym (ap (λ s. store.get s other) is ∙ store.get-insert name_cmp_total held name bytes other))
+    (with_one (is_eq (name_cmp other name)) bytes (store.get held other) one (others other))

@@ -1,7 +1,7 @@
 -- What contracts see of a source, a sink and a store in memory.
 use Rattle.std.specs.Prelude.{ℕ, ◌+◌, ◌-◌, min, List, length, refl}
 use Rattle.std.specs.Coded.{Coded, code_by, coded×, coded_ℕ}
-use Rattle.hol_io.specs.Calls.{Calls, calls_code}
+use Rattle.hol_memory.specs.Calls.{Calls, calls_code}
 use Rattle.hol_io.specs.Store.{Store, store_code}
 
 -- The bytes that are left, how many one call gives at most, and the calls.

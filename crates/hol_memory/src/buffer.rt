@@ -1,5 +1,5 @@
 //! Bytes placed at the front of a buffer.
-ghost use Rattle.std.specs.Prelude.{◌≡◌, ◌-◌, length, take, drop, min};
+ghost use Rattle.std.specs.Prelude.{◌≡◌, ◌<◌, ◌-◌, All, length, take, drop, min};
 
 // Copies bytes to the front of the buffer, as many as there are and as fit, and gives their number.
 // The rest of the buffer stays.
@@ -21,4 +21,13 @@ pub(crate) fn place_from(buf: &mut [u8], bytes: &[u8], at: u64) -> usize
 {
     let start = bytes.len().min(at as usize);
     place(buf, &bytes[start..])
+}
+
+// That what a slice holds are bytes, which is known of each that is read. It does nothing.
+pub(crate) fn are_bytes(bytes: &[u8])
+    ensures { All (λ byte. byte < 256) bytes.now }
+{
+    for byte in bytes {
+        let _value = *byte;
+    }
 }

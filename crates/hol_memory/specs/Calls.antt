@@ -1,7 +1,9 @@
 -- Objects in memory: their calls are numbered from 1, and the calls of given numbers fail.
-use Rattle.std.specs.Prelude.{ℕ, ◌+◌, ◌-◌, ◌^◌, min, Bool, List, if◌then◌else◌, refl}
+use Rattle.std.specs.Prelude.{ℕ, ◌+◌, ◌-◌, ◌^◌, min, Bool, true, false, List, Result, Ok, Err, if◌then◌else◌, refl}
 use Rattle.std.specs.Coded.{Coded, code_by, coded×, coded_ℕ, coded_list}
 use Rattle.std.specs.List.{Contains}
+use Rattle.hol_io.specs.declared.store.PutFault.{PutFault}
+use Rattle.hol_io.specs.declared.store.PutFault.TheVariants.{Failed, Memory}
 
 -- The numbers of the calls that fail, how many calls were made, and how many of them failed.
 pub record Calls : Type 0 where
@@ -31,3 +33,9 @@ FailsNext calls = Contains calls.fails (one_more calls.made)
 abbrev pub after_call : Calls → Bool → Calls
 after_call calls failed =
     record { fails = calls.fails; made = one_more calls.made; faults = (if failed then one_more calls.faults else calls.faults) }
+
+-- Whether the answer is the failure.
+abbrev pub is_failed : {T : Type 0} → Result T PutFault → Bool
+is_failed (Ok value) = false
+is_failed (Err Failed) = true
+is_failed (Err Memory) = false

@@ -1,9 +1,9 @@
 //! A sink in memory.
 ghost use Rattle.std.specs.Prelude.{◌≡◌, [], IfOk};
-ghost use Rattle.hol_io.specs.Calls.{first_calls};
+ghost use Rattle.hol_memory.specs.Calls.{first_calls};
 
 use crate::calls::Counter;
-use crate::sink::{Sink, WriteFailed};
+use hol_io::{Sink, WriteFailed};
 use std::alloc::{AllocError, Global};
 use std::marker::Model;
 
@@ -20,7 +20,7 @@ pub struct MemSink {
 impl Model for MemSink {
     ghost use Rattle.std.specs.Prelude.{◌≤◌, vec_len};
     ghost use Rattle.std.specs.Vec.{vec_capacity};
-    ghost use Rattle.hol_io.specs.Memory.{MemorySink};
+    ghost use Rattle.hol_memory.specs.Memory.{MemorySink};
 
     ghost Value = { MemorySink };
 
@@ -62,9 +62,9 @@ impl MemSink {
 impl Sink for MemSink {
     ghost use Rattle.std.specs.Prelude.{◌≡◌, ◌<◌, ◌≤◌, ◌↔◌, ◌⊎◌, Some, length, min, IfOk, IsErr, is_err};
     ghost use Rattle.std.specs.Io.KnownBytes.{WriteAppends};
-    ghost use Rattle.hol_io.specs.Calls.{FailsNext, after_call};
+    ghost use Rattle.hol_memory.specs.Calls.{FailsNext, after_call};
     ghost use Rattle.hol_io.specs.Causes.{HasCause};
-    ghost use Rattle.hol_io.specs.Memory.{space};
+    ghost use Rattle.hol_memory.specs.Memory.{space};
 
     ghost faults = { λ s. s.calls.faults };
 

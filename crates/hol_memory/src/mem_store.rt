@@ -1,12 +1,11 @@
 //! A store in memory whose calls may fail.
 ghost use Rattle.std.specs.Prelude.{◌≡◌};
 ghost use Rattle.std.specs.FinMap as map;
-ghost use Rattle.hol_io.specs.Calls.{first_calls};
+ghost use Rattle.hol_memory.specs.Calls.{first_calls};
 
 use crate::calls::Counter;
-use crate::name::BlobName;
-use crate::store::{BlobStore, PutFault, StoreFailed};
 use crate::sure_store::SureStore;
+use hol_io::{BlobName, BlobStore, PutFault, StoreFailed};
 use std::alloc::Global;
 use std::marker::Model;
 
@@ -20,7 +19,7 @@ pub struct MemStore {
 }
 
 impl Model for MemStore {
-    ghost use Rattle.hol_io.specs.Memory.{MemoryStore, memory_store_code};
+    ghost use Rattle.hol_memory.specs.Memory.{MemoryStore, memory_store_code};
 
     ghost Value = { MemoryStore };
 
@@ -51,13 +50,19 @@ impl BlobStore for MemStore {
     ghost use Rattle.std.specs.Option.{option_map};
     ghost use Rattle.std.specs.Result.{IsErrOf};
     ghost use Rattle.std.specs.FinMap as map;
-    ghost use Rattle.hol_io.specs.Calls.{FailsNext, after_call};
-    ghost use Rattle.hol_io.specs.Causes.{HasCause, HasPutCause, is_failed};
-    ghost use Rattle.hol_io.specs.Memory.{store_faults};
+    ghost use Rattle.hol_memory.specs.Calls.{FailsNext, after_call, is_failed};
+    ghost use Rattle.hol_io.specs.Causes.{HasCause, HasPutCause};
+    ghost use Rattle.hol_memory.specs.Memory.{store_faults};
     ghost use Rattle.hol_io.specs.Buffer.{KeepsRest};
-    ghost use Rattle.hol_io.specs.Store.{content, names, IsFront};
+    ghost use Rattle.hol_io.specs.Store.{HoldsBytes, content, names, IsFront};
 
     ghost seen = { λ s. record { held = Some s.held; faults = store_faults s; puts = s.puts.made } };
+
+    fn told_bytes(&self)
+        ensures { HoldsBytes self.now.held }
+    {
+        self.store.told_bytes();
+    }
 
     fn size(&mut self, name: &BlobName) -> Result<Option<u64>, StoreFailed>
         ensures cause { HasCause (store_faults self.old) (store_faults self.new) result }

@@ -1,6 +1,6 @@
 use Rattle.std.proofs.Common.{ap, arith}
-use Rattle.hol_io.proofs.Fronts.{gives_left}
-use Rattle.hol_io.proofs.mem_source.MemSourceSource.read.Goals as goal
+use Rattle.hol_memory.proofs.Fronts.{gives_left}
+use Rattle.hol_memory.proofs.mem_source.MemSourceSource.read.Goals as goal
 
 pub returns-clause-taken : goal.returns-clause-taken
 returns-clause-taken c =
