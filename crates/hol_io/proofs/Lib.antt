@@ -1,9 +1,9 @@
 mod Ahead
-mod Cutting
+pub mod Cutting
 mod Finding
 mod NameKinds
 pub mod NameOrder
 mod Pieces
 mod Texts
-mod Told
+pub mod Told
 mod Windows
