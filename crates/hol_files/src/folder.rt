@@ -162,6 +162,8 @@ impl BlobStore for FolderStore {
 
     ghost seen = { λ store. record { held = None; faults = store.faults; puts = store.puts } };
 
+    fn told_bytes(&self) {}
+
     fn size(&mut self, name: &BlobName) -> Result<Option<u64>, StoreFailed> {
         match self.folder.open(name) {
             Ok(size) => Ok(size),

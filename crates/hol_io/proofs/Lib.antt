@@ -1,11 +1,9 @@
 mod Ahead
-mod Cutting
-mod EntryLemmas
+pub mod Cutting
 mod Finding
-mod Fronts
 mod NameKinds
-mod NameOrder
+pub mod NameOrder
 mod Pieces
 mod Texts
-mod Told
+pub mod Told
 mod Windows

@@ -1,12 +1,12 @@
 -- Where a source tells what it has left: what the calls of a reader of lines do to what lies ahead.
-use Rattle.std.proofs.Common.{◌≡◌, ◌≢◌, ℕ, suc, ◌+◌, ◌-◌, ◌<◌, ◌≤◌, Bool, true, false, Option, None, Some, Result, Ok, Err, IsErr, List, [], ◌∷◌, ◌++◌, length, take, drop, slice_index, refl, ap, sym, ◌∙◌, arith, subst, append_assoc, length-append, inl, inr, ◌⊎◌, unwrap_or, if◌then◌else◌}
+use Rattle.std.proofs.Common.{◌≡◌, ◌≢◌, ℕ, suc, ◌+◌, ◌-◌, ◌<◌, ◌≤◌, Bool, true, false, Option, None, Some, Result, Ok, Err, IsErr, List, [], ◌∷◌, ◌++◌, length, take, drop, slice_index, refl, ap, sym, ◌∙◌, arith, subst, append_assoc, length-append, inl, inr, ◌⊎◌, unwrap_or, if◌then◌else◌, IfSome, MatchOption}
 use Rattle.std.specs.Io.KnownBytes.{Keeps, IsAtEnd, Consumes}
 use Rattle.std.proofs.Math.Seq.{take-add}
 use Rattle.std.proofs.lemmas.List.{take_at, drop_at, drop_more, append-nil, take-append-drop, length-take, length-drop, nil_from_length}
 use Rattle.std.proofs.lemmas.List.Elements.{All-append}
 use Rattle.hol_io.specs.Lines.{lines_within, IsOnePiece, IsFront, Reading, IsAhead, Gives, Moves, Carries, Takes, starts}
 use Rattle.hol_io.specs.Window.{TakesOn}
-use Rattle.hol_io.specs.Turn.{IsTurn, Tells, IsPieceTurn, IsPiece, EndsInput}
+use Rattle.hol_io.specs.Turn.{IsTurn, Tells, IsPieceTurn, IsPiece, EndsInput, LendsLine}
 use Rattle.hol_io.specs.declared.lines.Turn as declared
 use Rattle.hol_io.specs.declared.lines.Turn.TheVariants.{Line, Long, End, Over}
 use Rattle.hol_io.specs.declared.lines.Piece.TheVariants.{Ended, Last, PastBudget}
@@ -244,6 +244,28 @@ over_tells r None piece = tt
 over_tells r (Some left) piece =
     λ bytes room ahead.
     let over = over_ahead r left bytes room piece.1 piece.0 ahead in ([], moves_not r left bytes room ahead, (refl, over.0, over.1))
+
+-- No piece ends in the bytes that were taken: nothing was given, or a byte past the budget came.
+pub held_tells : (r r' : Reading) (left : Option (List ℕ)) (turn : Option declared.Turn) → IsOnePiece r'.pending → MatchOption turn (r'.taken ≤ r'.budget) (λ t. (t ≡ Over) × (r'.budget < r'.taken)) → Carries r left r' left
+    → MatchOption turn (Carries r left r' left) (λ t. Tells r left r' left (Ok t))
+held_tells r r' left None one below carries = carries
+held_tells r r' left (Some turn) one (is, over) carries =
+    tells_then r r' r' left left left (Ok turn) carries (subst (λ t. Tells r' left r' left (Ok t)) (sym is) (over_tells r' left (one, over)))
+
+-- What a call says behind calls that gave no line.
+pub then_held : (r r' r'' : Reading) (left : Option (List ℕ)) (turn : Option declared.Turn) → Carries r left r' left → MatchOption turn (Carries r' left r'' left) (λ t. Tells r' left r'' left (Ok t))
+    → MatchOption turn (Carries r left r'' left) (λ t. Tells r left r'' left (Ok t))
+then_held r r' r'' left None first second = carries_then r r' r'' left left left first second
+then_held r r' r'' left (Some turn) first second = tells_then r r' r'' left left left (Ok turn) first second
+
+-- That is no end of the input.
+pub held_ends_not : (r' : Reading) (left : Option (List ℕ)) (turn : Option declared.Turn) → MatchOption turn (r'.taken ≤ r'.budget) (λ t. (t ≡ Over) × (r'.budget < r'.taken)) → IfSome turn (λ t. EndsInput r' left (Ok t))
+held_ends_not r' left None below = tt
+held_ends_not r' left (Some turn) (is, over) = subst (λ t. EndsInput r' left (Ok t)) (sym is) over
+
+pub held_lends_none : (r' : Reading) (turn : Option declared.Turn) → MatchOption turn (r'.taken ≤ r'.budget) (λ t. (t ≡ Over) × (r'.budget < r'.taken)) → r'.line ≡ None → MatchOption turn (r'.line ≡ None) (λ t. LendsLine r' (Ok t))
+held_lends_none r' None below none = none
+held_lends_none r' (Some turn) (is, over) none = subst (λ t. LendsLine r' (Ok t)) (sym is) none
 
 -- A reader that may take more has taken none past the budget.
 pub not_over : (over : Bool) (taken budget : ℕ) → taken + (if over then 1 else 0) ≤ budget → (over ≡ true → taken ≡ budget) → over ≡ false

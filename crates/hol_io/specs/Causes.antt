@@ -1,8 +1,8 @@
 -- Faults of the outside: each object counts its faults, and a call answers a failure only where that count rose in the call.
-use Rattle.std.specs.Prelude.{ℕ, ◌+◌, ◌-◌, ◌^◌, ◌≤◌, min, Bool, true, false, Result, Ok, Err, OnErr}
+use Rattle.std.specs.Prelude.{ℕ, ◌+◌, ◌-◌, ◌^◌, ◌≤◌, min, Result, OnErr}
 use Rattle.std.specs.Result.{IsErrOf}
 use Rattle.hol_io.specs.declared.store.PutFault.{PutFault}
-use Rattle.hol_io.specs.declared.store.PutFault.TheVariants.{Failed, Memory}
+use Rattle.hol_io.specs.declared.store.PutFault.TheVariants.{Failed}
 
 -- The count rose. A 64-bit count that stands at its last number counts as risen.
 abbrev pub Rose : ℕ → ℕ → Type 0
@@ -17,9 +17,3 @@ pub record HasCause {T E : Type 0} (before now : ℕ) (result : Result T E) : Ty
 pub record HasPutCause {T : Type 0} (before now : ℕ) (result : Result T PutFault) : Type 0 where
   pub later : before ≤ now
   pub failed : IsErrOf result Failed → Rose before now
-
--- Whether the answer is the failure.
-abbrev pub is_failed : {T : Type 0} → Result T PutFault → Bool
-is_failed (Ok value) = false
-is_failed (Err Failed) = true
-is_failed (Err Memory) = false

@@ -1,9 +1,6 @@
 pub mod Buffer
-pub mod Calls
 pub mod Causes
-pub mod Entries
 pub mod Lines
-pub mod Memory
 pub mod Name
 pub mod Store
 pub mod Turn

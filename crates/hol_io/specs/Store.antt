@@ -1,5 +1,5 @@
 -- What a store of blobs holds, and what its calls give and leave, where it tells what it holds.
-use Rattle.std.specs.Prelude.{◌≡◌, ℕ, List, [], ◌++◌, Option, unwrap_or}
+use Rattle.std.specs.Prelude.{◌≡◌, ℕ, ◌<◌, List, [], ◌++◌, All, Option, IfSome, unwrap_or}
 use Rattle.std.specs.Option.{option_map, option_and_then}
 use Rattle.std.specs.Coded.{Coded, coded_list, coded_ℕ}
 use Rattle.std.specs.FinMap as map
@@ -29,6 +29,10 @@ told held name = option_and_then (λ store. map.get store name) held
 -- The content of a name, which is empty where the name is not there.
 abbrev pub content : Store → BlobName → List ℕ
 content store name = unwrap_or (map.get store name) []
+
+-- What the store has under each name are bytes.
+abbrev pub HoldsBytes : Store → Type 0
+HoldsBytes store = (name : BlobName) → IfSome (map.get store name) (All (λ byte. byte < 256))
 
 -- The store in which the name holds the bytes, and all else is as it was.
 abbrev pub with_content : Option Store → BlobName → List ℕ → Option Store

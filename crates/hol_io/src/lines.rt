@@ -1,5 +1,5 @@
 //! The lines of an input, one after another.
-ghost use Rattle.std.specs.Prelude.{◌≡◌, ℕ, ◌+◌, ◌<◌, ◌≤◌, List, Option, false, Some, None, length, take, drop, slice_index, IfOk, OnErr, IsSome, MatchOption};
+ghost use Rattle.std.specs.Prelude.{◌≡◌, ◌≢◌, ℕ, ◌+◌, ◌<◌, ◌≤◌, List, Option, Ok, false, Some, None, length, take, drop, slice_index, IfOk, IfSome, OnErr, IsSome, MatchOption};
 ghost use Rattle.std.specs.Io.KnownBytes.{IsAtEnd};
 ghost use Rattle.hol_io.specs.Lines.{starts, IsOnePiece, IsAhead, Carries, Takes};
 ghost use Rattle.hol_io.specs.Turn.{Tells, IsPieceTurn, IsPiece, LendsLine, EndsInput, HasLimits, bytes_to_go};
@@ -248,6 +248,54 @@ impl Lines {
                 Piece::PastBudget => return Ok(Turn::Over),
             }
         }
+    }
+
+    /// What comes next of the lines of the input, where it can be told without reading on: a line ends in the bytes that
+    /// were taken, or a byte past the budget was. `None` comes where neither is so, and then `next` has to read.
+    pub fn next_held(&mut self) -> Option<Turn>
+        ensures tells { (left : Option (List ℕ)) → MatchOption result (Carries self.old left self.new left)
+            (λ turn. Tells self.old left self.new left (Ok turn)) }
+        ensures none { result ≡ None → IsOnePiece self.new.pending × (self.new.taken ≤ self.new.budget) }
+        ensures line { MatchOption result (self.new.line ≡ None) (λ turn. LendsLine self.new (Ok turn)) }
+        ensures ended { (left : Option (List ℕ)) → IfSome result (λ turn. EndsInput self.new left (Ok turn)) }
+        ensures taken { self.new.taken ≡ self.old.taken }
+        ensures limits { HasLimits self.old self.new }
+    {
+        self.lends = false;
+        self.held_turn()
+    }
+
+    // The same, where no line is lent.
+    fn held_turn(&mut self) -> Option<Turn>
+        requires { self.old.line ≡ None }
+        ensures tells { (left : Option (List ℕ)) → MatchOption result (Carries self.old left self.new left)
+            (λ turn. Tells self.old left self.new left (Ok turn)) }
+        ensures none { result ≡ None → IsOnePiece self.new.pending × (self.new.taken ≤ self.new.budget) }
+        ensures line { MatchOption result (self.new.line ≡ None) (λ turn. LendsLine self.new (Ok turn)) }
+        ensures ended { (left : Option (List ℕ)) → IfSome result (λ turn. EndsInput self.new left (Ok turn)) }
+        ensures taken { self.new.taken ≡ self.old.taken }
+        ensures limits { HasLimits self.old self.new }
+    {
+        while let Some(count) = self.next_end() {
+            if let Some(turn) = self.end_piece(count, 1) {
+                return Some(turn);
+            }
+        }
+        self.past_budget()
+    }
+
+    // Whether a byte past the budget was taken.
+    fn past_budget(&self) -> Option<Turn>
+        ensures { MatchOption result (self.now.taken ≤ self.now.budget) (λ turn. (turn ≡ Turn.Over) × (self.now.budget < self.now.taken)) }
+    {
+        if self.over { Some(Turn::Over) } else { None }
+    }
+
+    // Where the next piece ends in the bytes that were taken.
+    fn next_end(&self) -> Option<usize>
+        ensures { MatchOption result (IsOnePiece self.now.pending) (λ count. (left : Option (List ℕ)) → IsPiece self.now left (Piece.Ended count)) }
+    {
+        first_end(self.window.pending(), 0)
     }
 
     /// What comes next of the lines of the input. `Long` comes where a line has more than `line_max`

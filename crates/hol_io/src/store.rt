@@ -44,11 +44,15 @@ pub trait BlobStore {
     ghost use Rattle.std.specs.Io.{ReadsAtMost};
     ghost use Rattle.hol_io.specs.Causes.{HasCause, HasPutCause, Rose};
     ghost use Rattle.hol_io.specs.Buffer.{KeepsRest};
-    ghost use Rattle.hol_io.specs.Store.{Seen, told, with_content, names, IsFront};
+    ghost use Rattle.hol_io.specs.Store.{HoldsBytes, Seen, told, with_content, names, IsFront};
 
     // The names and their contents, where the store tells them, how many faults came so far, and how often something was
     // put. Only a put raises that count.
     ghost seen: { Self → Seen };
+
+    /// What the store tells that a name holds are bytes. The call does nothing.
+    fn told_bytes(&self)
+        ensures { IfSome (seen self.now).held HoldsBytes };
 
     /// The number of bytes that a name holds, or `None` exactly where the name is not there.
     /// `StoreFailed` comes only where the count of faults rose. The content stays as it was.

@@ -20,7 +20,8 @@
 //! A piece is a run of hexadecimal digits or, behind a quote, a text with the length in front that a blob gives it. A
 //! piece `a/b` is `a` in the blob, and `b` in its faulty twin. A line that begins with `#`, and an empty one, says
 //! nothing. What was written is judged at the next `run`, and at the end.
-use hol_io::{BlobName, BlobStore, MemSink, MemSource, MemStore};
+use hol_io::{BlobName, BlobStore};
+use hol_memory::{MemSink, MemSource, MemStore};
 use hollow_top::{Keep, run};
 use std::alloc::{AllocError, Global};
 use std::process::Abort;

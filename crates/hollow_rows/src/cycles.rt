@@ -240,7 +240,16 @@ out {"changed":["A"],"ok":"cycle","published":true,"version":2}
 go 0 show snapshot-2
 out {"ordinal":0,"row":{"n":5},"type":"A"}
 out {"ordinal":1,"row":{"n":7},"type":"A"}
-names snapshot-1 snapshot-2 delta-1-2 reversedelta-2-1 announced.version"#;
+names snapshot-1 snapshot-2 delta-1-2 reversedelta-2-1 announced.version
+# A sink that takes 10 bytes, under two lines that come together: what waits is written before the cycle begins.
+empty
+input {"model":[{"fields":[{"name":"n","type":"INT"}],"kind":"OBJECT","name":"A"}]}
+input {"cycle":{"version":1,"tag":71,"add":{"A":[{"n":5},{"n":null}]}}}
+piece 1000
+room 10
+go 4 run
+part {"ok":"mod
+names"#;
 
 /// Records that do not fit their types.
 const RECORDS: &str =

@@ -15,6 +15,8 @@ impl BlobStore for ZeroStore {
 
     ghost seen = { λ store. record { held = None; faults = 0; puts = store.puts } };
 
+    fn told_bytes(&self) {}
+
     fn size(&mut self, _name: &BlobName) -> Result<Option<u64>, StoreFailed> {
         Ok(Some(self.size))
     }

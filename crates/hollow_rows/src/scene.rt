@@ -11,7 +11,8 @@
 //! | `names NAME..` | it has these names alone, in their order |
 //! | `moves` | behind a load of snapshot-1, a step along the blob as delta-1-2 is taken, and one along its faulty twin is refused for its body |
 use crate::case::{Bench, put_numbers};
-use hol_io::{BlobName, BlobStore, MemStore, name_text, parse_name};
+use hol_io::{BlobName, BlobStore, name_text, parse_name};
+use hol_memory::MemStore;
 use std::alloc::Global;
 use std::process::Abort;
 use std::test::Fail;

@@ -47,14 +47,6 @@ told_both None b P Q holds gives = tt
 told_both (Some x) None P Q holds gives = tt
 told_both (Some x) (Some y) P Q holds gives = gives x y holds
 
--- what an order is answered, a line that is not too long is
-pub line_answered : (held held' : Option Store) (kept kept' : Keep) (now : Store) (line : List ℕ) (reply : Reply) → length line ≤ longest_line → held ≡ Some now →
-    MovesKept {E = OrderStop} (λ machine answer next. ShortStep machine line answer next) held kept held' kept' (Ok reply) →
-    (next : Store) × (held' ≡ Some next) × LineStep (machine_with now kept) line reply (machine_with next kept')
-line_answered held held' kept kept' now line reply short told moves =
-    let (next, after, step) = subst (λ h. MovesKept {E = OrderStop} (λ machine answer next. ShortStep machine line answer next) h kept held' kept' (Ok reply)) told moves in
-    (next, after, inr (short, step))
-
 -- nothing is answered yet
 none_answered : (bytes : List ℕ) (first : Store) (left : Option (List ℕ)) (reading : Reading) (kept : Keep) (before : Option (List ℕ)) (waiting : List ℕ) → KeepsNothing kept → waiting ≡ [] →
     HasGiven bytes left reading [] → IsAnswered bytes first left (Some first) reading kept before before waiting false
@@ -108,6 +100,20 @@ module _ (bytes : List ℕ) (first : Store) (left left' : Option (List ℕ)) (he
         split = ap (λ t. t ++ line_of reply) is.split ∙ append_assoc is.gone waiting (line_of reply) ∙ ap (λ t. is.gone ++ t) split ∙ sym (append_assoc is.gone gone waiting');
         gained = Appends-trans before mid after is.gone gone is.gained gained;
       }
+
+  -- some of what waited was written
+  pub answered_on : (after : Option (List ℕ)) (waiting' : List ℕ) → PutsAnswer [] mid after waiting waiting' →
+      AllAnswered bytes first held' kept' before mid waiting refused → AllAnswered bytes first held' kept' before after waiting' refused
+  answered_on after waiting' (gone, split, gained) is = record {
+    store = is.store;
+    text = is.text;
+    gone = is.gone ++ gone;
+    told = is.told;
+    script = is.script;
+    short = is.short;
+    split = is.split ∙ ap (λ t. is.gone ++ t) (sym (append-nil waiting) ∙ split) ∙ sym (append_assoc is.gone gone waiting');
+    gained = Appends-trans before mid after is.gone gone is.gained gained;
+  }
 
   -- all lines are answered
   pub answered_all : (found : Option Reply) → found ≡ None → IsAnswered bytes first left held r kept before mid waiting refused →

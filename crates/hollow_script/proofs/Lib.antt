@@ -1,3 +1,5 @@
 mod Lining
 mod Ordering
+mod Asking
+mod Replying
 mod Answering

@@ -1,13 +1,13 @@
 -- What a turn of the reader of lines gives of an input, and what its end says.
 use Rattle.std.proofs.Common.{append_assoc, ◌≡◌, ◌<◌, ◌≤◌, ℕ, List, [], ◌∷◌, ◌++◌, length, Option, Some, None, Result, Ok, refl, sym, ap, ◌∙◌, subst, arith, append-nil, length-append}
 use Rattle.std.proofs.lemmas.Bool.Decides.{nat_tests}
-use Rattle.hol_io.specs.Lines.{Gives, Reading, IsAhead, cut, lines_within}
+use Rattle.hol_io.specs.Lines.{Carries, Gives, Reading, IsAhead, cut, lines_within}
 use Rattle.hol_io.specs.Turn.{HasLimits, IsTurn, Tells}
 use Rattle.hol_io.specs.declared.lines.LineFault.{LineFault}
 use Rattle.hol_io.specs.declared.lines.Turn as declared
-use Rattle.hol_io.specs.declared.lines.Turn.TheVariants.{Line, Long, End}
+use Rattle.hol_io.specs.declared.lines.Turn.TheVariants.{Line, Long, End, Over}
 use Rattle.hollow_machine.specs.Script.{longest_line}
-use Rattle.hollow_script.specs.Scripted.{HasGiven, longest_input}
+use Rattle.hollow_script.specs.Scripted.{HasGiven, TurnsNext, longest_input}
 
 -- nothing was given
 gives_nothing : (bytes : List ℕ) (room : ℕ) → Gives [] bytes room bytes room
@@ -49,31 +49,40 @@ module _ (bytes : List ℕ) (given : List (List ℕ)) (r r' : Reading) where
         λ fits. omega (arith, fits, moved.gives.counted, ap length moved.gives.split, length-append moved.gives.given moved.bytes'),
       )
 
-  -- a line that is lent
-  pub line_given : (left left' : Option (List ℕ)) (line : List ℕ) (turn : declared.Turn) → turn ≡ Line → HasGiven bytes left r given → HasLimits r r' → Tells r left r' left' (Ok turn) → r'.line ≡ Some line →
-      r'.line_max ≡ longest_line → HasGiven bytes left' r' (given ++ line ∷ []) × (length line ≤ longest_line)
-  line_given left left' line kind is has limits tells lent most =
-      let turn = turn_gives left left' (Ok Line) has limits (subst (λ k. Tells r left r' left' (Ok k)) is tells) in
-      let same : turn.4.0 ≡ line = (let both = sym turn.4.1 ∙ lent in cc) in (
-        subst (λ (l : List ℕ). HasGiven bytes left' r' (given ++ l ∷ [])) same (subst (λ ls. HasGiven bytes left' r' (given ++ ls)) turn.4.2 turn.3),
-        subst (λ (l : List ℕ). length l ≤ longest_line) same (subst (λ n. length turn.4.0 ≤ n) most turn.4.3),
-      )
-
-  -- a line that is too long
-  pub long_given : (left left' : Option (List ℕ)) (turn : declared.Turn) → turn ≡ Long → HasGiven bytes left r given → HasLimits r r' → Tells r left r' left' (Ok turn) → r'.line_max ≡ longest_line →
-      (line : List ℕ) × HasGiven bytes left' r' (given ++ line ∷ []) × (longest_line < length line)
-  long_given left left' kind is has limits tells most =
-      let turn = turn_gives left left' (Ok Long) has limits (subst (λ k. Tells r left r' left' (Ok k)) is tells) in
-      (turn.4.0, subst (λ ls. HasGiven bytes left' r' (given ++ ls)) turn.4.1 turn.3, subst (λ n. n < length turn.4.0) most turn.4.2)
-
-  -- the end
-  pub end_given : (left left' : Option (List ℕ)) (turn : declared.Turn) → turn ≡ End → HasGiven bytes left r given → HasLimits r r' → Tells r left r' left' (Ok turn) → (cut bytes ≡ given) × (length bytes ≤ longest_input)
-  end_given left left' kind is has limits tells =
-      let turn = turn_gives left left' (Ok End) has limits (subst (λ k. Tells r left r' left' (Ok k)) is tells) in
-      let few = turn.6 turn.4.2 in
-      (sym (within_all longest_input bytes few) ∙ turn.5 ∙ ap (λ ls. given ++ ls) turn.4.1 ∙ append-nil given, few)
-
   -- the longest line is set once
-  pub still_most : (left : Option (List ℕ)) → HasGiven bytes left r given → HasLimits r r' → r'.line_max ≡ longest_line
+  still_most : (left : Option (List ℕ)) → HasGiven bytes left r given → HasLimits r r' → r'.line_max ≡ longest_line
   still_most None has limits = absurd has
   still_most (Some left) has limits = limits.0 ∙ has.1
+
+  -- a call that gave nothing
+  pub carried : (left left' : Option (List ℕ)) → HasGiven bytes left r given → HasLimits r r' → Carries r left r' left' → HasGiven bytes left' r' given
+  carried None left' has limits carries = absurd has
+  carried (Some left) None has limits carries = absurd carries
+  carried (Some left) (Some left') (moved, most) limits carries =
+      let more = carries moved.bytes' moved.room' moved.ahead in (
+        record {
+          bytes' = more.bytes';
+          room' = more.room';
+          gives = subst (λ ls. Gives ls bytes longest_input more.bytes' more.room') (append-nil given) (gives_then moved.gives more.gives);
+          ahead = more.ahead;
+        },
+        limits.0 ∙ most,
+      )
+
+  -- a turn gives a line, or it is the end
+  pub turn_given : (left left' : Option (List ℕ)) (turn : declared.Turn) → HasGiven bytes left r given → HasLimits r r' → Tells r left r' left' (Ok turn) → TurnsNext bytes given left' r' turn
+  turn_given left left' Line has limits tells =
+      let turn = turn_gives left left' (Ok Line) has limits tells in (
+        turn.4.0,
+        subst (λ ls. HasGiven bytes left' r' (given ++ ls)) turn.4.2 turn.3,
+        turn.4.1,
+        subst (λ n. length turn.4.0 ≤ n) (still_most left has limits) turn.4.3,
+      )
+  turn_given left left' Long has limits tells =
+      let turn = turn_gives left left' (Ok Long) has limits tells in
+      (turn.4.0, subst (λ ls. HasGiven bytes left' r' (given ++ ls)) turn.4.1 turn.3, subst (λ n. n < length turn.4.0) (still_most left has limits) turn.4.2)
+  turn_given left left' End has limits tells =
+      let turn = turn_gives left left' (Ok End) has limits tells in
+      let few = turn.6 turn.4.2 in
+      (sym (within_all longest_input bytes few) ∙ turn.5 ∙ ap (λ ls. given ++ ls) turn.4.1 ∙ append-nil given, few)
+  turn_given left left' Over has limits tells = tt

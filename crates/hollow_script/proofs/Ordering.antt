@@ -32,17 +32,6 @@ use Rattle.hol_orders.specs.declared.order_stop.OrderStop.{OrderStop}
 use Rattle.hollow_script.specs.Kept.{MovesKept}
 use Rattle.hollow_script.specs.declared.keep.Keep.{Keep}
 
--- a line that is no order leaves the machine as it was
-pub no_order_steps : (line : List ℕ) (fault : OrderFault) → fault ≡ order_fault.BadOrder → TellsOrder line (Err fault) → (machine : Machine) → ShortStep machine line (Refused BadOrder) machine
-no_order_steps line fault is tells machine = inl (subst (λ f. TellsOrder line (Err f)) is tells, (refl, refl))
-
--- as an order moves the machine, its line does
-pub order_moves : (held held' : Option Store) (keep keep' : Keep) (line : List ℕ) (asked : Order) (r : Result Reply OrderStop) → Orders line asked →
-    MovesKept (λ machine reply next. Step machine asked reply next) held keep held' keep' r → MovesKept (λ machine reply next. ShortStep machine line reply next) held keep held' keep' r
-order_moves None held' keep keep' line asked r is moves = tt
-order_moves (Some store) held' keep keep' line asked (Err stop) is moves = tt
-order_moves (Some store) held' keep keep' line asked (Ok reply) is moves = (moves.0, moves.1, inr (asked, is, moves.2))
-
 -- an answer that leaves the machine as it was moves it so
 pub stays : (IsStep : Machine → Reply → Machine → Type 0) (held : Option Store) (keep : Keep) (reply : Reply) → ((machine : Machine) → IsStep machine reply machine) →
     MovesKept {E = OrderStop} IsStep held keep held keep (Ok reply)

@@ -2,14 +2,19 @@
 -- answers that wait to be written.
 use Rattle.std.specs.Prelude.{◌≡◌, ◌<◌, ◌≤◌, ◌^◌, ℕ, List, [], ◌∷◌, ◌++◌, length, Bool, true, if◌then◌else◌, Option, Some, None, Result, Ok, Err}
 use Rattle.std.specs.Io.KnownBytes.{Appends, Consumes}
+use Rattle.std.specs.List.{flat_map, list_any}
 use Rattle.hol_io.specs.Lines.{Reading, Moves, cut}
 use Rattle.hol_io.specs.Store.{Store}
+use Rattle.hol_io.specs.declared.lines.Turn as declared
+use Rattle.hol_io.specs.declared.lines.Turn.TheVariants.{Line, Long, End, Over}
 use Rattle.hol_answers.specs.declared.reply.Reply.{Reply}
-use Rattle.hol_answers.specs.declared.reply.Reply.TheVariants.{Cycle}
+use Rattle.hol_answers.specs.Reply.{is_refusal, line_of}
 use Rattle.hollow_machine.specs.Script.{LineStep, Script, longest_line}
 use Rattle.hollow_machine.specs.State.{started}
 use Rattle.hol_orders.specs.declared.order_stop.OrderStop.{OrderStop}
 use Rattle.hol_orders.specs.declared.order_stop.OrderStop.TheVariants as order_stop
+use Rattle.hollow_script.specs.Asked.{Asks}
+use Rattle.hollow_script.specs.declared.asked.Asked.{Asked}
 use Rattle.hollow_script.specs.declared.keep.Keep.{Keep}
 use Rattle.hollow_script.specs.declared.script_stop.ScriptStop.{ScriptStop}
 use Rattle.hollow_script.specs.declared.script_stop.ScriptStop.TheVariants.{Memory, Store as StoreFailed}
@@ -24,15 +29,24 @@ abbrev pub widened : OrderStop → ScriptStop
 widened order_stop.Memory = Memory
 widened order_stop.Store = StoreFailed
 
--- The order may have put blobs.
-abbrev pub MayPut : Reply → Type 0
-MayPut (Cycle changed published version) = Unit {0}
-MayPut _ = ⊥
-
 -- The reader of lines has given these lines of an input, and what lies ahead is the rest of it.
 abbrev pub HasGiven : List ℕ → Option (List ℕ) → Reading → List (List ℕ) → Type 0
 HasGiven bytes None reading lines = ⊥
 HasGiven bytes (Some left) reading lines = Moves lines bytes longest_input reading left × (reading.line_max ≡ longest_line)
+
+-- The lines that a turn gives behind these, or that there are no others.
+abbrev pub TurnsNext : List ℕ → List (List ℕ) → Option (List ℕ) → Reading → declared.Turn → Type 0
+TurnsNext bytes lines left' reading' Line =
+    (line : List ℕ) × HasGiven bytes left' reading' (lines ++ line ∷ []) × (reading'.line ≡ Some line) × (length line ≤ longest_line)
+TurnsNext bytes lines left' reading' Long = (line : List ℕ) × HasGiven bytes left' reading' (lines ++ line ∷ []) × (longest_line < length line)
+TurnsNext bytes lines left' reading' End = (cut bytes ≡ lines) × (length bytes ≤ longest_input)
+TurnsNext bytes lines left' reading' Over = Unit {0}
+
+-- What the next line asks for, or that there is none.
+abbrev pub AsksNext : List ℕ → List (List ℕ) → Option (List ℕ) → Reading → Result (Option Asked) ScriptStop → Type 0
+AsksNext bytes lines left' reading' (Ok (Some asked)) = (line : List ℕ) × HasGiven bytes left' reading' (lines ++ line ∷ []) × Asks line asked
+AsksNext bytes lines left' reading' (Ok None) = (cut bytes ≡ lines) × (length bytes ≤ longest_input)
+AsksNext bytes lines left' reading' (Err stop) = Unit {0}
 
 -- What the next line is answered over a store, where these lines were given before: an answer that moves the machine, or
 -- none where the input has no other lines.
@@ -85,9 +99,24 @@ pub record AllWritten (bytes : List ℕ) (first : Store) (held : Option Store) (
   pub short : length bytes ≤ longest_input
   pub gained : Appends before after text
 
--- The sink gained some bytes, where it tells what it took.
-abbrev pub Gains : Option (List ℕ) → Option (List ℕ) → Type 0
-Gains before after = (text : List ℕ) × Appends before after text
+-- The lines of some answers were gained by the sink but for the last ones, which wait; and whether one of them is a refusal.
+pub record HasReplied (before after : Option (List ℕ)) (waiting : List ℕ) (refused : Bool) : Type 0 where
+  pub replies : List Reply
+  pub gone : List ℕ
+  pub split : flat_map line_of replies ≡ gone ++ waiting
+  pub gained : Appends before after gone
+  pub flag : refused ≡ list_any is_refusal replies
+
+-- The same behind one more answer, or where there is none.
+abbrev pub RepliesNext : Option (List ℕ) → Option (List ℕ) → List ℕ → Bool → Result (Option Bool) ScriptStop → Type 0
+RepliesNext before after waiting refused (Ok (Some also)) = HasReplied before after waiting (if refused then true else also)
+RepliesNext before after waiting refused (Ok None) = HasReplied before after waiting refused
+RepliesNext before after waiting refused (Err stop) = Unit {0}
+
+-- The sink gained the lines of some answers, one after another, and whether one of them is a refusal.
+abbrev pub WritesReplies : Option (List ℕ) → Option (List ℕ) → Bool → Type 0
+WritesReplies before after refused =
+    (replies : List Reply) × Appends before after (flat_map line_of replies) × (refused ≡ list_any is_refusal replies)
 
 -- What putting an answer behind those that wait leaves: a front of all went to the sink, and the rest waits.
 abbrev pub PutsAnswer : List ℕ → Option (List ℕ) → Option (List ℕ) → List ℕ → List ℕ → Type 0

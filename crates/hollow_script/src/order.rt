@@ -1,44 +1,30 @@
 //! The orders: what each is answered, and what it leaves of the store and of what is kept.
-ghost use Rattle.std.specs.Prelude.{◌≤◌, IfSome, IsErrOf};
+ghost use Rattle.std.specs.Prelude.{◌≡◌, ◌≤◌, true, IfSome, IsErrOf};
 ghost use Rattle.hol_io.specs.Causes.{Rose};
 ghost use Rattle.hol_orders.specs.Order.{IsOrder};
 ghost use Rattle.hollow_machine.specs.Kept.{IsResting};
-ghost use Rattle.hollow_machine.specs.Script.{ShortStep};
 ghost use Rattle.hollow_machine.specs.Step.{Step};
+ghost use Rattle.hollow_script.specs.Asked.{MayPut};
 ghost use Rattle.hollow_script.specs.Kept.{MovesKept};
 
 use crate::keep::Keep;
 use consumer_orders::{at, find, get, has, index, live, load, past, row, step};
 use hol_answers::Reply;
 use hol_io::BlobStore;
-use hol_orders::{Order, OrderFault, OrderStop, order_of};
+use hol_orders::{Order, OrderStop};
 use hol_refusals::Refusal;
 use producer_orders::{cycle, model};
 use std::alloc::Global;
 
-/// Answers a line that is not too long: `BadOrder` exactly where it is no order, and else what the order is answered.
-pub fn answer_line<S: BlobStore>(
-    alloc: Global,
-    line: &[u8],
-    store: &mut S,
-    keep: &mut Keep,
-) -> Result<Reply, OrderStop>
-    requires resting { IfSome keep.old.producer IsResting }
-    ensures step { MovesKept (λ machine reply next. ShortStep machine line.now reply next)
-        (S.seen store.old).held keep.old (S.seen store.new).held keep.new result }
-    ensures resting { IfSome keep.new.producer IsResting }
-    ensures store_fault { IsErrOf result OrderStop.Store → Rose (S.seen store.old).faults (S.seen store.new).faults }
-    ensures later { (S.seen store.old).faults ≤ (S.seen store.new).faults }
+/// Whether an order may put blobs.
+pub fn may_put(order: &Order) -> bool
+    ensures { MayPut order.now → result ≡ true }
 {
-    match order_of(alloc, line) {
-        Ok(order) => answer(alloc, &order, store, keep),
-        Err(OrderFault::BadOrder) => Ok(Reply::Refused(Refusal::BadOrder)),
-        Err(OrderFault::Memory) => Err(OrderStop::Memory),
-    }
+    matches!(order, Order::Cycle { .. })
 }
 
-// Answers an order. Those of the last arm are not built.
-fn answer<S: BlobStore>(
+/// Answers an order. Those of the last arm are not built.
+pub fn answer<S: BlobStore>(
     alloc: Global,
     order: &Order,
     store: &mut S,

@@ -1,19 +1,21 @@
 //! The loop over the lines of a script.
-ghost use Rattle.std.specs.Prelude.{◌≡◌, ◌<◌, ◌≤◌, ◌⊎◌, ℕ, List, [], Bool, true, Option, None, IfOk, IfErr, IfSome, Some, IsErrOf};
+ghost use Rattle.std.specs.Prelude.{◌≡◌, ◌<◌, ◌≤◌, ◌⊎◌, ℕ, List, [], Bool, true, Option, None, IfOk, IfErr, IfSome, Some, Ok, IsErrOf};
 ghost use Rattle.std.specs.Io.KnownBytes.{IsAtEnd};
 ghost use Rattle.hol_io.specs.Causes.{Rose};
 ghost use Rattle.hol_io.specs.Lines.{Takes};
 ghost use Rattle.hol_io.specs.Store.{Store};
-ghost use Rattle.hol_io.specs.Turn.{HasLimits};
-ghost use Rattle.hol_answers.specs.Reply.{line_of};
+ghost use Rattle.hol_io.specs.Turn.{EndsInput, HasLimits, LendsLine};
 ghost use Rattle.hollow_machine.specs.Kept.{IsResting};
-ghost use Rattle.hollow_script.specs.Kept.{KeepsNothing};
-ghost use Rattle.hollow_script.specs.Scripted.{AllAnswered, AllWritten, AnswersNext, Gains, HasGiven, IsAnswered, MayPut, PutsAnswer, ServesNext, TakesPast, longest_input};
+ghost use Rattle.hollow_script.specs.Asked.{AskedMayPut, AskedStep, MeetsOrder};
+ghost use Rattle.hollow_script.specs.Kept.{KeepsNothing, MovesKept};
+ghost use Rattle.hollow_script.specs.Scripted.{AllAnswered, AllWritten, AnswersNext, AsksNext, HasGiven, HasReplied, IsAnswered, PutsAnswer, RepliesNext, ServesNext, TakesPast, TurnsNext, WritesReplies};
 
+use crate::asked::{Asked, asked_by};
 use crate::keep::Keep;
-use crate::order::answer_line;
+use crate::order::{answer, may_put};
 use crate::script_stop::ScriptStop;
-use hol_answers::{Reply, put_reply};
+use crate::waiting::{put_answer, write_waiting};
+use hol_answers::Reply;
 use hol_io::{BlobStore, Lines, Sink, Source, Turn, write_all};
 use hol_refusals::{MAX_LINE_BYTES, Refusal};
 use std::alloc::Global;
@@ -21,12 +23,9 @@ use std::alloc::Global;
 /// How many bytes an input has at most.
 const MAX_INPUT_BYTES: u64 = 0x1_0000_0000;
 
-/// Answers wait until they are so many bytes.
-const BATCH: usize = 0x8000;
-
 /// Answers each line of the input over a store, and tells whether an answer is a refusal. Answers are written many at a
-/// time, but for one that comes behind a put, with which all go out; and the last ones before it ends, unless the sink
-/// failed.
+/// time, but what waits is written before an order that may put begins, and before more of the input is read; and the last
+/// ones before it ends, unless the sink failed.
 pub fn run_script<I: Source, O: Sink, S: BlobStore>(
     alloc: Global,
     input: &mut I,
@@ -37,6 +36,7 @@ pub fn run_script<I: Source, O: Sink, S: BlobStore>(
     requires { KeepsNothing keep.old }
     ensures written { IfSome (I.left input.old) (λ bytes. IfSome (S.seen store.old).held (λ first. IfOk result
         (AllWritten bytes first (S.seen store.new).held keep.new (O.taken out.old) (O.taken out.new)))) }
+    ensures replied { IfOk result (WritesReplies (O.taken out.old) (O.taken out.new)) }
     ensures ended { IfOk result (λ refused. IsAtEnd (I.left input.new)) }
     ensures source_fault { IsErrOf result ScriptStop.Source → Rose (I.faults input.old) (I.faults input.new) }
     ensures sink_fault { IsErrOf result ScriptStop.Sink → Rose (O.faults out.old) (O.faults out.new) }
@@ -70,6 +70,7 @@ fn answer_lines<I: Source, O: Sink, S: BlobStore>(
     requires none_waits { waiting.old.items ≡ [] }
     ensures answered { IfSome (I.left input.old) (λ bytes. IfSome (S.seen store.old).held (λ first. IfOk result
         (AllAnswered bytes first (S.seen store.new).held keep.new (O.taken out.old) (O.taken out.new) waiting.new.items))) }
+    ensures replied { IfOk result (HasReplied (O.taken out.old) (O.taken out.new) waiting.new.items) }
     ensures ended { IfOk result (λ refused. IsAtEnd (I.left input.new)) }
     ensures source_fault { IsErrOf result ScriptStop.Source → Rose (I.faults input.old) (I.faults input.new) }
     ensures sink_fault { IsErrOf result ScriptStop.Sink → Rose (O.faults out.old) (O.faults out.new) }
@@ -104,6 +105,8 @@ fn serve_next<I: Source, O: Sink, S: BlobStore>(
     ensures served { (bytes : List ℕ) (first : Store) (before : Option (List ℕ)) (refused : Bool)
         → IsAnswered bytes first (I.left input.old) (S.seen store.old).held lines.old keep.old before (O.taken out.old) waiting.old.items refused
         → ServesNext bytes first (I.left input.new) (S.seen store.new).held lines.new keep.new before (O.taken out.new) waiting.new.items refused result }
+    ensures replied { (before : Option (List ℕ)) (refused : Bool) → HasReplied before (O.taken out.old) waiting.old.items refused
+        → RepliesNext before (O.taken out.new) waiting.new.items refused result }
     ensures resting { IfSome keep.new.producer IsResting }
     ensures takes { Takes (I.left input.old) (I.left input.new) lines.old.taken lines.new.taken }
     ensures limits { HasLimits lines.old lines.new }
@@ -116,7 +119,7 @@ fn serve_next<I: Source, O: Sink, S: BlobStore>(
     ensures store_fault { IsErrOf result ScriptStop.Store → Rose (S.seen store.old).faults (S.seen store.new).faults }
     ensures store_later { (S.seen store.old).faults ≤ (S.seen store.new).faults }
 {
-    let Some(reply) = next_reply(alloc, lines, input, store, keep)? else {
+    let Some(reply) = next_reply(alloc, lines, input, out, store, keep, waiting)? else {
         return Ok(None);
     };
     let refused = reply.is_refusal();
@@ -124,63 +127,127 @@ fn serve_next<I: Source, O: Sink, S: BlobStore>(
     Ok(Some(refused))
 }
 
-// Answers the next line of the input, if there is one.
-fn next_reply<I: Source, S: BlobStore>(
+// Answers the next line of the input, if there is one. Of what waits it writes all or nothing.
+fn next_reply<I: Source, O: Sink, S: BlobStore>(
     alloc: Global,
     lines: &mut Lines,
     input: &mut I,
+    out: &mut O,
     store: &mut S,
     keep: &mut Keep,
+    waiting: &mut Vec<u8>,
 ) -> Result<Option<Reply>, ScriptStop>
     requires resting { IfSome keep.old.producer IsResting }
     ensures answers { (bytes : List ℕ) (given : List (List ℕ)) (now : Store) → HasGiven bytes (I.left input.old) lines.old given
         → (S.seen store.old).held ≡ Some now
         → AnswersNext bytes given now (I.left input.new) lines.new keep.old (S.seen store.new).held keep.new result }
+    ensures put { IfOk result (λ reply. PutsAnswer [] (O.taken out.old) (O.taken out.new) waiting.old.items waiting.new.items) }
     ensures resting { IfSome keep.new.producer IsResting }
     ensures takes { Takes (I.left input.old) (I.left input.new) lines.old.taken lines.new.taken }
     ensures limits { HasLimits lines.old lines.new }
     ensures ended { IfOk result (λ reply. reply ≡ None → IsAtEnd (I.left input.new)) }
     ensures past { IsErrOf result ScriptStop.TooLong → lines.new.budget < lines.new.taken }
     ensures source_fault { IsErrOf result ScriptStop.Source → Rose (I.faults input.old) (I.faults input.new) }
-    ensures later { I.faults input.old ≤ I.faults input.new }
+    ensures source_later { I.faults input.old ≤ I.faults input.new }
+    ensures sink_fault { IsErrOf result ScriptStop.Sink → Rose (O.faults out.old) (O.faults out.new) }
+    ensures later { O.faults out.old ≤ O.faults out.new }
     ensures store_fault { IsErrOf result ScriptStop.Store → Rose (S.seen store.old).faults (S.seen store.new).faults }
     ensures store_later { (S.seen store.old).faults ≤ (S.seen store.new).faults }
-    ensures no_sink { IsErrOf result ScriptStop.Sink → ⊥ }
 {
-    match lines.next(input)? {
-        Turn::Line => Ok(Some(answer_line(alloc, lines.line(), store, keep)?)),
-        Turn::Long => Ok(Some(Reply::Refused(Refusal::LineTooLong))),
+    let Some(asked) = next_asked(alloc, lines, input, out, waiting)? else {
+        return Ok(None);
+    };
+    Ok(Some(answer_asked(alloc, asked, out, store, keep, waiting)?))
+}
+
+// What the next line of the input asks for, if there is one. What waits is written before more of the input is read.
+fn next_asked<I: Source, O: Sink>(
+    alloc: Global,
+    lines: &mut Lines,
+    input: &mut I,
+    out: &mut O,
+    waiting: &mut Vec<u8>,
+) -> Result<Option<Asked>, ScriptStop>
+    ensures asks { (bytes : List ℕ) (given : List (List ℕ)) → HasGiven bytes (I.left input.old) lines.old given
+        → AsksNext bytes given (I.left input.new) lines.new result }
+    ensures order { IfOk result (λ asked. IfSome asked MeetsOrder) }
+    ensures put { IfOk result (λ asked. PutsAnswer [] (O.taken out.old) (O.taken out.new) waiting.old.items waiting.new.items) }
+    ensures takes { Takes (I.left input.old) (I.left input.new) lines.old.taken lines.new.taken }
+    ensures limits { HasLimits lines.old lines.new }
+    ensures ended { IfOk result (λ asked. asked ≡ None → IsAtEnd (I.left input.new)) }
+    ensures past { IsErrOf result ScriptStop.TooLong → lines.new.budget < lines.new.taken }
+    ensures source_fault { IsErrOf result ScriptStop.Source → Rose (I.faults input.old) (I.faults input.new) }
+    ensures source_later { I.faults input.old ≤ I.faults input.new }
+    ensures sink_fault { IsErrOf result ScriptStop.Sink → Rose (O.faults out.old) (O.faults out.new) }
+    ensures later { O.faults out.old ≤ O.faults out.new }
+    ensures no_store { IsErrOf result ScriptStop.Store → ⊥ }
+{
+    match next_turn(lines, input, out, waiting)? {
+        Turn::Line => Ok(Some(asked_by(alloc, lines.line())?)),
+        Turn::Long => Ok(Some(Asked::Refused(Refusal::LineTooLong))),
         Turn::End => Ok(None),
         Turn::Over => Err(ScriptStop::TooLong),
     }
 }
 
-// Puts an answer behind those that wait, and writes all of them once they are many, or the answer is that of a put.
-fn put_answer<O: Sink>(
-    alloc: Global,
-    reply: Reply,
-    waiting: &mut Vec<u8>,
+// The next turn of the input. What waits is written before more of the input is read, so that the source is as it was, or
+// nothing waits.
+fn next_turn<I: Source, O: Sink>(
+    lines: &mut Lines,
+    input: &mut I,
     out: &mut O,
-) -> Result<(), ScriptStop>
-    ensures put { IfOk result (λ done. PutsAnswer (line_of reply) (O.taken out.old) (O.taken out.new) waiting.old.items waiting.new.items) }
-    ensures at_once { IfOk result (λ done. MayPut reply → waiting.new.items ≡ []) }
+    waiting: &mut Vec<u8>,
+) -> Result<Turn, ScriptStop>
+    ensures turns { (bytes : List ℕ) (given : List (List ℕ)) → HasGiven bytes (I.left input.old) lines.old given
+        → IfOk result (TurnsNext bytes given (I.left input.new) lines.new) }
+    ensures waits { (input.new ≡ input.old) ⊎ (waiting.new.items ≡ []) }
+    ensures put { IfOk result (λ turn. PutsAnswer [] (O.taken out.old) (O.taken out.new) waiting.old.items waiting.new.items) }
+    ensures line { IfOk result (λ turn. LendsLine lines.new (Ok turn)) }
+    ensures ended { IfOk result (λ turn. EndsInput lines.new (I.left input.new) (Ok turn)) }
+    ensures takes { Takes (I.left input.old) (I.left input.new) lines.old.taken lines.new.taken }
+    ensures limits { HasLimits lines.old lines.new }
+    ensures source_fault { IsErrOf result ScriptStop.Source → Rose (I.faults input.old) (I.faults input.new) }
+    ensures source_later { I.faults input.old ≤ I.faults input.new }
     ensures sink_fault { IsErrOf result ScriptStop.Sink → Rose (O.faults out.old) (O.faults out.new) }
     ensures later { O.faults out.old ≤ O.faults out.new }
-    ensures others { IfErr result (λ stop. (stop ≡ ScriptStop.Memory) ⊎ (stop ≡ ScriptStop.Sink)) }
+    ensures others { IfErr result (λ stop. (stop ≡ ScriptStop.Memory) ⊎ ((stop ≡ ScriptStop.Source) ⊎ (stop ≡ ScriptStop.Sink))) }
 {
-    let may_put = is_of_put(&reply);
-    put_reply(alloc, waiting, reply)?;
-    if !may_put && waiting.len() < BATCH {
-        return Ok(());
+    if let Some(turn) = lines.next_held() {
+        return Ok(turn);
     }
-    write_all(out, waiting.as_slice())?;
-    waiting.clear();
-    Ok(())
+    write_waiting(waiting, out)?;
+    Ok(lines.next(input)?)
 }
 
-// Whether an answer is that of an order which may have put blobs.
-fn is_of_put(reply: &Reply) -> bool
-    ensures { MayPut reply.now → result ≡ true }
+// Answers what is asked for. What waits is written before an order that may put begins.
+fn answer_asked<O: Sink, S: BlobStore>(
+    alloc: Global,
+    asked: Asked,
+    out: &mut O,
+    store: &mut S,
+    keep: &mut Keep,
+    waiting: &mut Vec<u8>,
+) -> Result<Reply, ScriptStop>
+    requires order { MeetsOrder asked }
+    requires resting { IfSome keep.old.producer IsResting }
+    ensures step { MovesKept (λ machine reply next. AskedStep machine asked reply next)
+        (S.seen store.old).held keep.old (S.seen store.new).held keep.new result }
+    ensures none_waits { AskedMayPut asked → (store.new ≡ store.old) ⊎ (waiting.new.items ≡ []) }
+    ensures put { IfOk result (λ reply. PutsAnswer [] (O.taken out.old) (O.taken out.new) waiting.old.items waiting.new.items) }
+    ensures resting { IfSome keep.new.producer IsResting }
+    ensures sink_fault { IsErrOf result ScriptStop.Sink → Rose (O.faults out.old) (O.faults out.new) }
+    ensures later { O.faults out.old ≤ O.faults out.new }
+    ensures store_fault { IsErrOf result ScriptStop.Store → Rose (S.seen store.old).faults (S.seen store.new).faults }
+    ensures store_later { (S.seen store.old).faults ≤ (S.seen store.new).faults }
+    ensures others { IfErr result (λ stop. (stop ≡ ScriptStop.Memory) ⊎ ((stop ≡ ScriptStop.Store) ⊎ (stop ≡ ScriptStop.Sink))) }
 {
-    matches!(reply, Reply::Cycle { .. })
+    match asked {
+        Asked::Order(order) => {
+            if may_put(&order) {
+                write_waiting(waiting, out)?;
+            }
+            Ok(answer(alloc, &order, store, keep)?)
+        }
+        Asked::Refused(refusal) => Ok(Reply::Refused(refusal)),
+    }
 }

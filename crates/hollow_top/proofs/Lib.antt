@@ -12,3 +12,5 @@ mod Serving
 mod OneAnswer
 mod SomeAnswer
 mod TrueScripts
+mod JsonLines
+mod RefusalLines

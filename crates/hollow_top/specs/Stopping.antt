@@ -1,7 +1,9 @@
 -- What a command leaves of the sink and the counts where it ends, and where it stops before.
-use Rattle.std.specs.Prelude.{◌≡◌, ◌≢◌, ◌<◌, ◌≤◌, ℕ, List, length, take, Option, Bool, true, false, Result, Ok, Err}
+use Rattle.std.specs.Prelude.{◌≡◌, ◌≢◌, ◌<◌, ◌≤◌, ℕ, List, [], ◌∷◌, ◌++◌, length, take, All, Option, Bool, true, false, Result, Ok, Err}
 use Rattle.std.specs.Io.KnownBytes.{Appends}
+use Rattle.std.specs.List.{flat_map}
 use Rattle.hol_io.specs.Causes.{Rose}
+use Rattle.hol_io.specs.Lines.{IsOnePiece}
 use Rattle.hol_refusals.specs.declared.refusal.Refusal.{Refusal}
 use Rattle.hollow_top.specs.declared.stop.Stop.{Stop}
 use Rattle.hollow_top.specs.declared.stop.Stop.TheVariants.{Memory, Sink, Store as StoreFailed}
@@ -40,3 +42,12 @@ IsVerdict text false = (refusal : Refusal) → text ≢ refusal_line refusal
 -- What the sink gained is the line of a refusal.
 abbrev pub GainsRefusal : Option (List ℕ) → Option (List ℕ) → Type 0
 GainsRefusal before after = (refusal : Refusal) × Appends before after (refusal_line refusal)
+
+-- The text is some lines, each with the byte 0A behind it, then this line, and then a rest.
+abbrev pub HasLine : List ℕ → List ℕ → Type 0
+HasLine text line =
+    (before : List (List ℕ)) × (rest : List ℕ) × All IsOnePiece before × (text ≡ flat_map (λ piece. piece ++ 10 ∷ []) before ++ (line ++ rest))
+
+-- One of the lines that the sink gained is that of a refusal.
+abbrev pub GainsRefusalLine : Option (List ℕ) → Option (List ℕ) → Type 0
+GainsRefusalLine before after = (refusal : Refusal) × (text : List ℕ) × Appends before after text × HasLine text (refusal_line refusal)

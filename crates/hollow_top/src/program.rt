@@ -6,12 +6,11 @@ ghost use Rattle.hollow_script.specs.Kept.{KeepsNothing};
 ghost use Rattle.hollow_script.specs.Scripted.{AllWritten, TakesPast};
 ghost use Rattle.written_laws.specs.Chain.{Chain};
 ghost use Rattle.written_laws.specs.HoldsChain.{HoldsChain};
-ghost use Rattle.chain_laws.specs.Producers.{HoldsBytes};
 ghost use Rattle.hollow_top.specs.Command.{IsUnbuilt, Serves};
 ghost use Rattle.hollow_top.specs.Headline.{AnswersTruly};
 ghost use Rattle.hollow_top.specs.Run.{AsksNothing, AskScript, AskToRead, AskUnbuilt, Finishes, RunsPast, WritesPart, status_of};
 ghost use Rattle.hollow_top.specs.Show.{Shows};
-ghost use Rattle.hollow_top.specs.Stopping.{GainsFront, GainsRefusal, IsVerdict, Leaves};
+ghost use Rattle.hollow_top.specs.Stopping.{GainsFront, GainsRefusal, GainsRefusalLine, IsVerdict, Leaves};
 ghost use Rattle.hollow_top.specs.Words.{Asks};
 
 use crate::answer::write_reply;
@@ -21,6 +20,7 @@ use crate::stop::Stop;
 use crate::words::{Command, command_of};
 use chain_laws::laws::true_script;
 use hol_answers::Reply;
+use hol_answers::laws::refusals_apart;
 use hol_io::{BlobStore, Sink, Source};
 use hol_refusals::Refusal;
 use hollow_script::{Keep, ScriptStop, run_script};
@@ -65,9 +65,12 @@ pub fn run<I: Source, O: Sink, S: BlobStore>(
         → ¬ Rose (S.seen store.old).faults (S.seen store.new).faults
         → ¬ RunsPast (map string_bytes words.now) (I.left input.old) (I.left input.new) → (result < 2) ⊎ (result ≡ 6) }
 
-    // Over any store, for one answer: a sink that tells what it took gained the line of a refusal exactly at 1.
+    // Over any source and store, a sink that tells what it took gained the line of a refusal exactly at 1: as all that it
+    // gained, for one answer, and as one of the lines, for `run`.
     ensures verdict { result < 2 → ¬ AskScript (map string_bytes words.now) → OnSome (O.taken out.old)
         ((result ≡ 1) ↔ GainsRefusal (O.taken out.old) (O.taken out.new)) }
+    ensures script_verdict { result < 2 → AskScript (map string_bytes words.now) → OnSome (O.taken out.old)
+        ((result ≡ 1) ↔ GainsRefusalLine (O.taken out.old) (O.taken out.new)) }
 
     // What is written, what the store then holds and what is kept, where the store tells what it holds, and for `run` the
     // source too.
@@ -78,9 +81,9 @@ pub fn run<I: Source, O: Sink, S: BlobStore>(
     ensures part { result ≡ 4 → ¬ AskScript (map string_bytes words.now) → IfSome (S.seen store.old).held
         (λ held. WritesPart (map string_bytes words.now) (I.left input.old) held (O.taken out.old) (O.taken out.new)) }
 
-    // The headline: over a store of bytes that held a chain, each line is answered as is true of the chain, and the consumer stands at a state of it.
+    // The headline: over a store that held a chain, each line is answered as is true of the chain, and the consumer stands at a state of it.
     ensures headline { result < 2 → AskScript (map string_bytes words.now) → IfSome (I.left input.old) (λ bytes. IfSome (S.seen store.old).held (λ first.
-        (chain : Chain) → HoldsChain first chain → HoldsBytes first
+        (chain : Chain) → HoldsChain first chain
         → AnswersTruly bytes first chain (S.seen store.new).held keep.new (O.taken out.old) (O.taken out.new))) }
 
     // What words for `head` and `show`, and words for nothing, leave as it was.
@@ -126,8 +129,10 @@ fn serve_script<I: Source, O: Sink, S: BlobStore>(
         × AllWritten bytes first (S.seen store.new).held keep.new (O.taken out.old) (O.taken out.new) refused
         × (result ≡ status_of refused))) }
     ensures headline { result < 2 → IfSome (I.left input.old) (λ bytes. IfSome (S.seen store.old).held (λ first.
-        (chain : Chain) → HoldsChain first chain → HoldsBytes first
+        (chain : Chain) → HoldsChain first chain
         → AnswersTruly bytes first chain (S.seen store.new).held keep.new (O.taken out.old) (O.taken out.new))) }
+    ensures verdict { result < 2 → OnSome (O.taken out.old)
+        ((result ≡ 1) ↔ GainsRefusalLine (O.taken out.old) (O.taken out.new)) }
     ensures ended { result < 2 → IsAtEnd (I.left input.new) }
     ensures status { (result ≤ 7) × (result ≢ 2) }
     ensures source_fault { result ≡ 3 → Rose (I.faults input.old) (I.faults input.new) }
@@ -136,6 +141,8 @@ fn serve_script<I: Source, O: Sink, S: BlobStore>(
     ensures past { result ≡ 7 → TakesPast (I.left input.old) (I.left input.new) }
 {
     true_script();
+    refusals_apart();
+    store.told_bytes();
     match run_script(alloc, input, out, store, keep) {
         Ok(any_refused) => u8::from(any_refused),
         Err(ScriptStop::Source) => 3,

@@ -3,10 +3,8 @@ ghost use Rattle.std.specs.Prelude.{◌≡◌, ◌<◌};
 
 use crate::case::{Subject, pass};
 use crate::stores::step_told;
-use hol_io::{
-    BlobStore, LineFault, Lines, MemSink, MemSource, MemStore, Source, Steps, SureStore, Turn,
-    write_all,
-};
+use hol_io::{BlobStore, LineFault, Lines, Source, Steps, Turn, write_all};
+use hol_memory::{MemSink, MemSource, MemStore, SureStore};
 use std::alloc::{AllocError, Global};
 use std::marker::Brand;
 use std::sync::ledger::{Blank, Ledger};

@@ -1,6 +1,7 @@
 use Rattle.std.proofs.Common.{IfSome, ◌∙◌, sym, subst, arith, rules}
 use Rattle.hollow_machine.specs.Kept.{IsResting}
 use Rattle.hollow_script.proofs.Answering.{handed_on, reader_starts, starts_answered, takes_none, takes_past, takes_then, told_next}
+use Rattle.hollow_script.proofs.Replying.{end_replied, next_replied, none_replied}
 use Rattle.hollow_script.specs.declared.script_stop.ScriptStop.TheVariants.{TooLong}
 use Rattle.hollow_script.proofs.script.answer_lines.Goals as goal
 
@@ -10,6 +11,7 @@ loop-turn-init g c =
     record {
       answered = starts_answered (g.I.Source.left c.args.input.now) (g.S.BlobStore.seen c.args.store.now).held _ c.args.keep.now (g.O.Sink.taken c.args.out.now) c.args.waiting.now.items c.requires.fresh c.requires.none_waits
           c.in_ok-lines.ensures.ahead at_start.0;
+      replied = none_replied (g.O.Sink.taken c.args.out.now) c.args.waiting.now.items c.requires.none_waits;
       resting = subst (λ kept. IfSome kept IsResting) (sym c.requires.fresh.producer) tt;
       later = omega arith;
       source_later = omega arith;
@@ -34,6 +36,8 @@ loop-turn-preserved g c = record {
       c.loop-turn.lines c.serve_next.new.lines c.loop-turn.keep c.serve_next.new.keep (g.O.Sink.taken c.args.out.now) (g.O.Sink.taken c.loop-turn.out) (g.O.Sink.taken c.serve_next.new.out)
       c.loop-turn.waiting.items c.serve_next.new.waiting.items c.loop-turn.refused c.in-Some.also _ c.in_ok-also.field-0
       (g.I.Source.left c.args.input.now) (g.S.BlobStore.seen c.args.store.now).held c.in-Some.is (search rules) c.loop-turn.invariant.answered c.in_ok-also.ensures.served;
+  replied = next_replied (g.O.Sink.taken c.args.out.now) (g.O.Sink.taken c.serve_next.new.out) c.serve_next.new.waiting.items c.loop-turn.refused c.in-Some.also _ c.in_ok-also.field-0 c.in-Some.is (search rules)
+      (c.in_ok-also.ensures.replied (g.O.Sink.taken c.args.out.now) c.loop-turn.refused c.loop-turn.invariant.replied);
   resting = c.in_ok-also.ensures.resting;
   later = omega (arith, c.loop-turn.invariant.later, c.in_ok-also.ensures.later);
   source_later = omega (arith, c.loop-turn.invariant.source_later, c.in_ok-also.ensures.source_later);
@@ -42,3 +46,8 @@ loop-turn-preserved g c = record {
       c.loop-turn.invariant.takes c.in_ok-also.ensures.takes;
   budget = c.in_ok-also.ensures.limits.1 ∙ c.loop-turn.invariant.budget;
 }
+
+pub returns-in_default-clause-replied : goal.returns-in_default-clause-replied
+returns-in_default-clause-replied g c =
+    end_replied (g.O.Sink.taken c.args.out.now) (g.O.Sink.taken c.serve_next.new.out) c.serve_next.new.waiting.items c.loop-turn.refused c.in_ok-also.field-0 (search rules)
+    (c.in_ok-also.ensures.replied (g.O.Sink.taken c.args.out.now) c.loop-turn.refused c.loop-turn.invariant.replied)

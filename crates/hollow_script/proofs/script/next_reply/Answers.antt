@@ -1,27 +1,15 @@
-use Rattle.std.proofs.Common.{inl, refl}
-use Rattle.hollow_script.proofs.Answering.{line_answered}
-use Rattle.hollow_script.proofs.Lining.{line_given, long_given, end_given, still_most}
+use Rattle.std.proofs.Common.{[], rules}
+use Rattle.hollow_script.proofs.Asking.{asked_answers}
+use Rattle.hollow_script.proofs.Replying.{puts_then}
 use Rattle.hollow_script.proofs.script.next_reply.Goals as goal
 
-pub returns-in_ok-answer_line-in-Line-clause-answers : goal.returns-in_ok-answer_line-in-Line-clause-answers
-returns-in_ok-answer_line-in-Line-clause-answers g c = λ bytes given now has told.
-    (let left = g.I.Source.left c.args.input.now in
-    let next = g.I.Source.left c.next.new.input in
-    let limits = c.in_ok-next.ensures.limits in
-    let found = line_given bytes given c.args.lines.now c.next.new.self left next c.line.result.now c.in_ok-next.field-0 c.in-Line.is has limits c.in_ok-next.ensures.tells c.line.ensures (still_most bytes given c.args.lines.now c.next.new.self left has limits) in (
-      c.line.result.now,
-      found.0,
-      line_answered (g.S.BlobStore.seen c.args.store.now).held (g.S.BlobStore.seen c.answer_line.new.store).held c.args.keep.now c.answer_line.new.keep now c.line.result.now _ found.1 told c.in_ok-answer_line-in-Line.ensures.step,
-    ))
+pub returns-clause-answers : goal.returns-clause-answers
+returns-clause-answers g c = λ bytes given now has told.
+    asked_answers bytes given (g.I.Source.left c.next_asked.new.input) c.next_asked.new.lines (g.S.BlobStore.seen c.args.store.now).held (g.S.BlobStore.seen c.answer_asked.new.store).held
+    c.args.keep.now c.answer_asked.new.keep now c.in_ok-asked.field-0 c.in-Some.asked c.in_ok-answer_asked.field-0 (search rules) told
+    (c.in_ok-asked.ensures.asks bytes given has) c.in_ok-answer_asked.ensures.step
 
-pub returns-in-Long-clause-answers : goal.returns-in-Long-clause-answers
-returns-in-Long-clause-answers g c = λ bytes given now has told.
-    (let left = g.I.Source.left c.args.input.now in
-    let limits = c.in_ok-next.ensures.limits in
-    let found = long_given bytes given c.args.lines.now c.next.new.self left (g.I.Source.left c.next.new.input) c.in_ok-next.field-0 c.in-Long.is has limits c.in_ok-next.ensures.tells (still_most bytes given c.args.lines.now c.next.new.self left has limits) in
-    (found.0, found.1, (now, told, inl (found.2, (refl, refl)))))
-
-pub returns-in-End-clause-answers : goal.returns-in-End-clause-answers
-returns-in-End-clause-answers g c = λ bytes given now has told.
-    (let found = end_given bytes given c.args.lines.now c.next.new.self (g.I.Source.left c.args.input.now) (g.I.Source.left c.next.new.input) c.in_ok-next.field-0 c.in-End.is has c.in_ok-next.ensures.limits c.in_ok-next.ensures.tells in
-    (found.0, found.1, told, refl))
+pub returns-clause-put : goal.returns-clause-put
+returns-clause-put g c =
+    puts_then [] (g.O.Sink.taken c.args.out.now) (g.O.Sink.taken c.next_asked.new.out) (g.O.Sink.taken c.answer_asked.new.out)
+    c.args.waiting.now.items c.next_asked.new.waiting.items c.answer_asked.new.waiting.items c.in_ok-asked.ensures.put c.in_ok-answer_asked.ensures.put
