@@ -9,7 +9,7 @@ use ordinal_set::OrdinalSet;
 use row_model::{Areas, Packed, Widths, Words};
 use schema_model::laws::spellable_model;
 use schema_model::{Field, FieldKind, Fields, Model, Name, Schema, Schemas, Shape, model_of};
-use section_writing::{
+use blob_writing::{
     put_delta_type, put_max, put_ordinals, put_packed, put_snapshot_type, put_type_head,
 };
 use std::alloc::{AllocError, Global};

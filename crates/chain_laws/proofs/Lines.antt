@@ -17,7 +17,7 @@ use Rattle.hol_answers.specs.declared.reply.Reply.TheVariants as reply
 use Rattle.hol_orders.specs.Order.{Orders}
 use Rattle.write_engine.specs.CycleLimit.{TellsTypes}
 use Rattle.read_engine.specs.Position.{Position}
-use Rattle.snapshot_blob.specs.Written.{IsWrittenSnapshot}
+use Rattle.blob_writing.specs.Snapshot.{IsWrittenSnapshot}
 use Rattle.hollow_machine.specs.CycleOrder.{CycleStep, Makes, Succeeds}
 use Rattle.hollow_machine.specs.Follow.{MayFollow}
 use Rattle.hollow_machine.specs.IndexOrder.{IndexStep}
@@ -40,7 +40,6 @@ use Rattle.chain_laws.specs.Growth.{AddsState, GrowsBy, GrowsAlong}
 use Rattle.chain_laws.specs.Producers.{IsOver, IsProducerOf, KeepsChain, state_behind}
 use Rattle.chain_laws.proofs.AddedIndexes.{index_added}
 use Rattle.chain_laws.proofs.Answering.{IsNoCycle, unless_cycle, at_no_cycle, find_no_cycle, get_no_cycle, has_no_cycle, live_no_cycle, row_no_cycle, past_no_cycle}
-use Rattle.written_laws.proofs.FewPaths.{few_paths}
 use Rattle.chain_laws.proofs.PublishedState.{first_kept, later_kept, over_longer, versions_stay}
 use Rattle.chain_laws.proofs.StoreNames.{found_with}
 use Rattle.chain_laws.proofs.ValueTexts.{named_texts}
@@ -66,20 +65,9 @@ module _ (machine : Machine) (line : List ℕ) (chain : Chain) (kept : KeepsChai
 
   -- ---- cycle
 
-  can_write : (last : Published) (rows : Table) (tag : ℤ) (snapshot : List ℕ) → IsOver chain last → IsWrittenSnapshot last.model last.rows rows last.tag tag snapshot → length snapshot ≤ 2 ^ 28
-      → IsWritableModel last.model
-  can_write last rows tag snapshot is_over written short = record {
-    model = is_over.model;
-    texts = is_over.texts;
-    few = few_paths last.model last.rows rows last.tag tag snapshot written short;
-  }
-
-  -- where the blobs are short, the model can be written
-  writable : (last : Published) (rows : Table) (version : ℕ) (tag : ℤ) (blobs : List Put) → IsOver chain last → AreBlobs last rows version tag blobs → All IsShort blobs → IsWritableModel last.model
-  writable last rows version tag blobs is_over (inl (zero_before, (snapshot, written, is))) short =
-      can_write last rows tag snapshot is_over written (subst (All IsShort) is short 0 (Announced, []) (omega arith))
-  writable last rows version tag blobs is_over (inr (nonzero, (delta, reverse, snapshot, forward, back, written, is))) short =
-      can_write last rows tag snapshot is_over written (subst (All IsShort) is short 2 (Announced, []) (omega arith))
+  -- the model of the last state can be written
+  writable : (last : Published) → IsOver chain last → IsWritableModel last.model
+  writable last is_over = record { model = is_over.model; texts = is_over.texts }
 
   puts_keep : (last : Published) (version : ℕ) (tag : ℤ) (add : Data) (rows : Table) (changed : List ℕ) (blobs : List Put) → IsOver chain last → IsVersion version → FitsSigned w64 tag
       → MayFollow machine.store last.version version tag → (makes : Makes last add rows changed) → TellsTypes last.model last.rows rows None
@@ -102,7 +90,7 @@ module _ (machine : Machine) (line : List ℕ) (chain : Chain) (kept : KeepsChai
       same_keeps (reply.Cycle names false version) next refl leaves.2
   cycle_done (Some last) is version tag add names true next orders is_version fits is_over (may, types, (rows, changed, makes, named, (publishes, limits, (blobs, are, short, next_is)))) =
       let longer = insert chain version (state_behind last tag rows) in
-      let can = writable last rows version tag blobs is_over are short in
+      let can = writable last is_over in
       let held = puts_keep last version tag (view add) rows changed blobs is_over is_version fits may makes limits are short can in
       let moved = over_longer machine.store chain last version tag makes.trees rows kept is_over can may is_version fits makes.state limits in
       let grows : AddsState chain last version tag (view add) longer = (makes.trees, rows, makes.read, makes.state, refl) in

@@ -11,8 +11,6 @@ use Rattle.row_packing.specs.declared.chosen.Chosen.{Chosen}
 use Rattle.row_packing.specs.Chosen.{IsChosen, KeepsCounts, Suits, shape_at}
 use Rattle.row_packing.specs.States.{AreWritable}
 use Rattle.row_packing.specs.TypeLimit.{TellsLimit}
-use Rattle.section_writing.specs.Limits.{HaveFewPaths}
-use Rattle.section_writing.proofs.Once.{inside}
 use Rattle.codec_cases.specs.Small.{IsSmall}
 use Rattle.codec_cases.proofs.TwoStates.{agree_none, below_bound, counts_kept, suits_after_none}
 
@@ -46,8 +44,5 @@ small_more schemas new type_index are one t below =
     ]
 
 module _ (schemas : List Schema) (new : Table) (count : ℕ) (are : AreSmall schemas new count) (all : length schemas ≤ count) where
-  pub few_paths : HaveFewPaths schemas
-  few_paths type_index schema at = let known = inside schemas type_index schema at in (are type_index (omega (arith, known, all))).paths schema at
-
   pub writable : AreWritable schemas (empty_table schemas) new
   writable = record { agree = λ type_index known. agree_none schemas new type_index; keeps = λ type_index known. (are type_index (omega (arith, known, all))).keeps }

@@ -5,13 +5,12 @@ ghost use Rattle.codec_cases.specs.Small.{IsSmall};
 
 use crate::no_rows::NoRows;
 use crate::snapshots::{decoded, loaded_from, put};
-use delta_blob::{Patch, read_delta, write_delta};
+use blob_writing::{WriteFault, write_delta, write_snapshot};
+use delta_blob::{Patch, read_delta};
 use hol_io::{BlobName, SureStore};
 use row_model::Rows;
 use row_packing::type_limit;
 use schema_model::{MAX_ORDINALS, Shape};
-use section_writing::WriteFault;
-use snapshot_blob::write_snapshot;
 use std::alloc::{AllocError, Global};
 use std::test::Fail;
 

@@ -2,7 +2,7 @@ use Rattle.std.proofs.Common.{◌∙◌, List, length, sym, subst, arith}
 use Rattle.schema_model.specs.declared.schema.Schema.{Schema}
 use Rattle.codec_cases.proofs.EmptyTables.{empty_table}
 use Rattle.row_packing.specs.States.{AreWritable}
-use Rattle.codec_cases.proofs.SmallTypes.{few_paths, writable}
+use Rattle.codec_cases.proofs.SmallTypes.{writable}
 use Rattle.codec_cases.proofs.written.blobs_of.Goals as goal
 
 pub write_snapshot-requires-clause-states : goal.write_snapshot-requires-clause-states
@@ -11,11 +11,6 @@ write_snapshot-requires-clause-states g c =
     let table = g.R.Rows.table c.args.rows.now in
     subst (λ (ss : List Schema). AreWritable schemas (empty_table ss) table) (sym (c.in_ok-copy.ensures ∙ c.model.ensures.model))
     (writable schemas table (length schemas) (c.in_ok-small.ensures c.if-not-small.false) (omega arith))
-
-pub write_delta-requires-clause-few : goal.write_delta-requires-clause-few
-write_delta-requires-clause-few g c =
-    let schemas = g.R.Rows.schemas c.args.rows.now in
-    few_paths schemas (g.R.Rows.table c.args.rows.now) (length schemas) (c.in_ok-small.ensures c.if-not-small.false) (omega arith)
 
 pub write_delta-requires-clause-states : goal.write_delta-requires-clause-states
 write_delta-requires-clause-states g c =
