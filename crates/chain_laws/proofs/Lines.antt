@@ -1,5 +1,5 @@
 -- What a line leaves of the chain that a store holds, and of the producer over it.
-use Rattle.std.proofs.Common.{◌≡◌, ◌≤◌, ◌^◌, ℕ, ℤ, List, [], ◌∷◌, length, Bool, true, false, Some, None, inl, inr, refl, sym, subst, arith}
+use Rattle.std.proofs.Common.{◌≡◌, ℕ, ℤ, List, [], ◌∷◌, Bool, true, false, Some, None, inl, inr, refl, sym, subst, arith}
 use Rattle.std.specs.Prelude.{All, FitsSigned, IsSomeAnd, Option}
 use Rattle.std.specs.Int.{w64}
 use Rattle.std.specs.FinMap.{insert}
@@ -17,7 +17,6 @@ use Rattle.hol_answers.specs.declared.reply.Reply.TheVariants as reply
 use Rattle.hol_orders.specs.Order.{Orders}
 use Rattle.write_engine.specs.CycleLimit.{TellsTypes}
 use Rattle.read_engine.specs.Position.{Position}
-use Rattle.blob_writing.specs.Snapshot.{IsWrittenSnapshot}
 use Rattle.hollow_machine.specs.CycleOrder.{CycleStep, Makes, Succeeds}
 use Rattle.hollow_machine.specs.Follow.{MayFollow}
 use Rattle.hollow_machine.specs.IndexOrder.{IndexStep}

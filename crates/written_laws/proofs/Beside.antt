@@ -1,6 +1,6 @@
 -- Indexes and what stands beside each of them: lists of pairs, and what is made of them.
 use Rattle.std.proofs.Common.{◌≡◌, ℕ, suc, ◌+◌, List, [], ◌∷◌, ◌++◌, length, map, Option, Some, inl, inr, refl, sym, ap, ◌∙◌, subst, arith, length-append, append_assoc}
-use Rattle.std.specs.Prelude.{◌≤◌, Contains, slice_get, flat_map, zip}
+use Rattle.std.specs.Prelude.{Contains, slice_get, flat_map, zip}
 use Rattle.std.specs.List.{All, AllZip, cons_option, filter_map, range_with_len}
 use Rattle.std.proofs.lemmas.List.Elements.{All-cons, All-nil, All-head, All-tail}
 use Rattle.ordinal_set.proofs.Members.{first_or_other, no_member}
