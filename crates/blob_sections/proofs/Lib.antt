@@ -1,4 +1,5 @@
 pub mod Each
 pub mod Formed
+pub mod GapJudge
 pub mod Heads
 pub mod Items

@@ -28,8 +28,8 @@ use Rattle.write_engine.specs.Production.{AreChanged}
 use Rattle.write_engine.proofs.NextStates.{next_agree}
 use Rattle.write_engine.proofs.OneState.{next_is_one}
 use Rattle.write_engine.proofs.TypesKept.{writable, writable_back}
-use Rattle.snapshot_blob.specs.Written.{IsWrittenSnapshot}
-use Rattle.delta_blob.specs.Changes.{IsDeltaBetween}
+use Rattle.blob_writing.specs.Snapshot.{IsWrittenSnapshot}
+use Rattle.blob_writing.specs.Changes.{IsDeltaBetween}
 use Rattle.chain_store.specs.Announced.{Announces, IsAnnounced, IsBadlyAnnounced, IsNoVersion}
 use Rattle.chain_store.specs.Versions.{last_version}
 use Rattle.hol_refusals.specs.declared.refusal.Refusal.{Refusal}

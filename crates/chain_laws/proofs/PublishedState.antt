@@ -17,8 +17,8 @@ use Rattle.write_engine.specs.CycleLimit.{TellsTypes}
 use Rattle.chain_store.specs.Announced.{Announces, IsAnnounced}
 use Rattle.chain_store.specs.Tags.{IsBlob}
 use Rattle.chain_store.specs.Versions.{newest}
-use Rattle.delta_blob.specs.Changes.{IsDeltaBetween}
-use Rattle.snapshot_blob.specs.Written.{IsWrittenSnapshot}
+use Rattle.blob_writing.specs.Changes.{IsDeltaBetween}
+use Rattle.blob_writing.specs.Snapshot.{IsWrittenSnapshot}
 use Rattle.hollow_machine.specs.Follow.{MayFollow}
 use Rattle.hollow_machine.specs.Puts.{Put, put_all}
 use Rattle.hollow_machine.specs.State.{Published}

@@ -5,7 +5,7 @@ use Rattle.std.proofs.lemmas.Nat.{from_be_bytes-to_be_bytes_8}
 use Rattle.schema_model.specs.declared.schema.Schema.{Schema}
 use Rattle.row_model.specs.Table.{Table}
 use Rattle.blob_frame.specs.Header.{format_number}
-use Rattle.snapshot_blob.specs.Written.{IsWrittenSnapshot}
+use Rattle.blob_writing.specs.Snapshot.{IsWrittenSnapshot}
 use Rattle.chain_store.specs.Tags.{HasTag}
 
 tag_in_front : (bits origin destination : ℕ) (rest : List ℕ) → bits < 2 ^ 64 → bits ≡ destination

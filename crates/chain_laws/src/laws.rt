@@ -28,9 +28,8 @@ ghost use Rattle.chain_laws.specs.Headline.{AreTrueLines, StandsOn, IsOfState};
 ghost use Rattle.chain_laws.specs.KeptIndexes.{AsksFor};
 ghost use Rattle.chain_laws.specs.Producers.{HoldsBytes, IsProducerOf, KeepsChain};
 
-use delta_blob::laws::one_written_delta;
+use blob_writing::laws::{one_written_delta, one_written_snapshot};
 use hol_orders::laws::one_order;
-use snapshot_blob::laws::one_written_snapshot;
 
 /// A store of bytes that holds a chain keeps it: the tag of each state is that of a blob.
 pub fn chain_is_kept()

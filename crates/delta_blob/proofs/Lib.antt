@@ -1,10 +1,7 @@
 pub mod AddedItems
 pub mod AmongModel
-pub mod ChangedTypes
 pub mod Indexed
 pub mod NamedParts
 pub mod PatchTelling
 pub mod SameLists
-pub mod SpelledDeltas
 pub mod WholeDeltas
-pub mod WrittenOnce

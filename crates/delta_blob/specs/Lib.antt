@@ -1,5 +1,4 @@
 pub mod Added
-pub mod Changes
 pub mod Fits
 pub mod Moved
 pub mod OfModel
@@ -8,4 +7,3 @@ pub mod Parts
 pub mod Patch
 pub mod Reads
 pub mod Within
-pub mod Written

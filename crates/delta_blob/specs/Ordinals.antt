@@ -5,7 +5,7 @@ use Rattle.schema_model.specs.declared.reason.Reason.{Reason}
 use Rattle.schema_model.specs.declared.reason.Reason.TheVariants.{BadVarint}
 use Rattle.blob_grammar.specs.Form.{Form, ◌>>=◌, judged}
 use Rattle.blob_frame.specs.Item.{run, vlong}
-use Rattle.section_writing.proofs.GapJudge.{judge_gaps}
+use Rattle.blob_sections.proofs.GapJudge.{judge_gaps}
 
 -- A run of this many bytes, which are the gaps of a list. Bytes that are those of none are refused at the run's place.
 unfoldable pub gap_run : ℕ → Form (List ℕ)

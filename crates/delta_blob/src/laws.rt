@@ -1,28 +1,22 @@
-//! Laws of deltas: the bytes allow one reading alone, and what is written is read as what it was.
+//! Laws of deltas: the bytes allow one reading alone.
 ghost use Rattle.std.specs.Prelude.{◌≡◌, ◌↔◌, ℕ, ℤ, List, Option, length};
-ghost use Rattle.schema_model.specs.Model.{IsModel};
 ghost use Rattle.row_model.specs.Table.{Table};
 ghost use Rattle.schema_model.specs.declared.reason.Reason.{Reason};
 ghost use Rattle.schema_model.specs.declared.schema.Schema.{Schema};
 ghost use Rattle.schema_model.specs.declared.schema.Shape.{Shape};
 ghost use Rattle.type_rows.specs.Layout.{places_of};
-ghost use Rattle.row_packing.specs.States.{AreWritable};
 ghost use Rattle.blob_grammar.specs.Decided.{EachPlace, IsDecided};
 ghost use Rattle.blob_frame.specs.declared.header.Header.{Header};
 ghost use Rattle.blob_frame.specs.Header.{HeaderIs};
 ghost use Rattle.blob_sections.specs.declared.section.PackedRows.{PackedRows};
 ghost use Rattle.blob_sections.specs.Section.{packed_rows};
 ghost use Rattle.delta_blob.specs.Added.{added_rows};
-ghost use Rattle.delta_blob.specs.Changes.{IsDeltaBetween};
 ghost use Rattle.delta_blob.specs.declared.part.DeltaPart.{DeltaPart};
 ghost use Rattle.delta_blob.specs.declared.patch.PatchPart.{PatchPart};
 ghost use Rattle.delta_blob.specs.Parts.{body, delta};
 ghost use Rattle.delta_blob.specs.Patch.{DeltaIs, TypePatch};
 ghost use Rattle.delta_blob.specs.Reads.{IsPatchAt};
 ghost use Rattle.delta_blob.specs.Within.{KeepItems, Within};
-ghost use Rattle.delta_blob.specs.Written.{TypeChange, IsWrittenDelta, header_of, parts_of};
-
-use row_packing::laws::one_packing_of_places;
 
 /// At each place a delta's types stand in one way at most, reading them is stuck at one place at most and for one reason,
 /// and never both; so it is with the whole of a delta.
@@ -60,17 +54,3 @@ pub fn same_packed_rows()
     ensures stuck { (shape : Shape) (max : Option ℕ) (bytes : List ℕ) (at place : ℕ) (why : Reason)
         → (added_rows shape max (places_of max)).Stuck bytes at place why ↔ (packed_rows shape max).Stuck bytes at place why }
 {}
-
-/// The bytes that are written of a delta are read as one with its tags, the schemas of the changed types, and their changes.
-pub fn written_delta()
-    ensures { (blob : List ℕ) (origin destination : ℤ) (changes : List TypeChange) → IsWrittenDelta blob origin destination changes
-        → delta.Stands blob 0 (header_of origin destination changes, parts_of origin destination changes) (length blob) }
-{}
-
-/// A delta between the same states and tags is written in one way.
-pub fn one_written_delta()
-    ensures { (schemas : List Schema) (old new : Table) (origin destination : ℤ) (a b : List ℕ) → IsModel schemas → AreWritable schemas old new
-        → IsDeltaBetween schemas old new origin destination a → IsDeltaBetween schemas old new origin destination b → a ≡ b }
-{
-    one_packing_of_places();
-}

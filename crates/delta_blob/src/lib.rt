@@ -2,7 +2,6 @@
 #![tactic(auto)]
 
 mod added;
-mod changed;
 pub mod laws;
 mod of_model;
 mod ordinals;
@@ -10,9 +9,7 @@ mod part;
 mod patch;
 mod read;
 mod same;
-mod write;
 
 pub use part::{DeltaPart, DeltaParts};
 pub use patch::{Patch, PatchPart, PatchParts};
 pub use read::{read_delta, read_patch};
-pub use write::write_delta;

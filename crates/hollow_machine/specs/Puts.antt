@@ -6,8 +6,8 @@ use Rattle.hol_io.specs.declared.name.BlobName.{BlobName}
 use Rattle.hol_io.specs.declared.name.BlobName.TheVariants.{Snapshot, Delta, Reverse, Announced}
 use Rattle.hol_io.specs.Store.{Store}
 use Rattle.row_model.specs.Table.{Table}
-use Rattle.snapshot_blob.specs.Written.{IsWrittenSnapshot}
-use Rattle.delta_blob.specs.Changes.{IsDeltaBetween}
+use Rattle.blob_writing.specs.Snapshot.{IsWrittenSnapshot}
+use Rattle.blob_writing.specs.Changes.{IsDeltaBetween}
 use Rattle.hollow_machine.specs.State.{Published}
 
 -- a name and what it is to hold

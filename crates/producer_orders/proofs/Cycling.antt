@@ -20,9 +20,9 @@ use Rattle.hollow_machine.specs.Kept.{MovesProducer, published_of}
 use Rattle.hollow_machine.specs.Records.{AreTypes}
 use Rattle.hollow_machine.specs.Puts.{AreBlobs, put_all, puts_of}
 use Rattle.hollow_machine.specs.State.{Published}
-use Rattle.section_writing.specs.declared.fault.WriteFault.{WriteFault}
-use Rattle.section_writing.specs.declared.fault.WriteFault.TheVariants as write
-use Rattle.section_writing.specs.Limits.{MeansLarge}
+use Rattle.blob_writing.specs.declared.fault.WriteFault.{WriteFault}
+use Rattle.blob_writing.specs.declared.fault.WriteFault.TheVariants as write
+use Rattle.blob_writing.specs.Limits.{MeansLarge}
 use Rattle.state_blobs.specs.declared.write.Blobs.{Blobs}
 use Rattle.producer_orders.specs.declared.cycle_end.CycleEnd.{CycleEnd}
 use Rattle.producer_orders.specs.declared.cycle_end.CycleEnd.TheVariants as cycle_end

@@ -3,8 +3,8 @@ use Rattle.std.specs.Prelude.{◌≡◌, ◌≤◌, ℕ, Result, Ok, Err}
 use Rattle.std.specs.Result.{IsErrOf}
 use Rattle.hol_io.specs.Causes.{Rose}
 use Rattle.schema_model.specs.declared.limit.Limit.TheVariants as limit
-use Rattle.section_writing.specs.declared.fault.WriteFault.{WriteFault}
-use Rattle.section_writing.specs.declared.fault.WriteFault.TheVariants as write
+use Rattle.blob_writing.specs.declared.fault.WriteFault.{WriteFault}
+use Rattle.blob_writing.specs.declared.fault.WriteFault.TheVariants as write
 use Rattle.hol_refusals.specs.declared.refusal.Refusal.{Refusal}
 use Rattle.hol_refusals.specs.declared.refusal.Refusal.TheVariants.{TooLarge}
 use Rattle.hol_orders.specs.declared.order_stop.OrderStop.{OrderStop}

@@ -3,7 +3,7 @@ use hol_io::PutFault;
 use hol_orders::OrderStop;
 use hol_refusals::Refusal;
 use schema_model::Limit;
-use section_writing::WriteFault;
+use blob_writing::WriteFault;
 use std::alloc::AllocError;
 
 /// Why a cycle ends before its state is published.

@@ -2,6 +2,4 @@ pub mod Bodies
 pub mod Loading
 pub mod Refusals
 pub mod Whole
-pub mod Writing
-pub mod WrittenOnce
 pub mod Zipped

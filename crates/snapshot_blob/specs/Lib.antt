@@ -2,4 +2,3 @@ pub mod Body
 pub mod Parts
 pub mod Snapshot
 pub mod Stated
-pub mod Written

@@ -1,11 +1,8 @@
 //! Laws of snapshots: what the reader answers is the only answer that the bytes allow.
-ghost use Rattle.std.specs.Prelude.{◌≡◌, ◌≤◌, ◌⊎◌, List, ℕ, ℤ, Ok, Err, length};
+ghost use Rattle.std.specs.Prelude.{◌≡◌, ◌≤◌, ◌⊎◌, List, ℕ, Ok, Err, length};
 ghost use Rattle.schema_model.specs.declared.limit.Limit.TheVariants.{Blob};
 ghost use Rattle.schema_model.specs.declared.schema.Schema.{Schema};
 ghost use Rattle.schema_model.specs.Limit.{number_of_limit};
-ghost use Rattle.schema_model.specs.Model.{IsModel};
-ghost use Rattle.row_model.specs.Table.{Table};
-ghost use Rattle.row_packing.specs.States.{AreWritable};
 ghost use Rattle.type_state.specs.State.{Half};
 ghost use Rattle.type_state.specs.Views.{next_halves};
 ghost use Rattle.blob_grammar.specs.Decided.{EachPlace, IsDecided};
@@ -18,9 +15,6 @@ ghost use Rattle.snapshot_blob.specs.declared.part.TypePart.{TypePart};
 ghost use Rattle.snapshot_blob.specs.Body.{TellsBody};
 ghost use Rattle.snapshot_blob.specs.Parts.{body, snapshot};
 ghost use Rattle.snapshot_blob.specs.Snapshot.{SnapshotIs, IsAccepted, IsRefused};
-ghost use Rattle.snapshot_blob.specs.Written.{IsWrittenSnapshot};
-
-use row_packing::laws::one_packing_of_places;
 
 /// At each place a snapshot's types stand in one way at most, reading them is stuck at one place at most and for one
 /// reason, and never both; so it is with the whole of a snapshot.
@@ -52,11 +46,3 @@ pub fn header_and_body()
         → IsAccepted blob head found.model (next_halves found.states) }
     ensures refused { (blob : List ℕ) (head : Header) (n : ℕ) (fault : BlobFault) → HeaderIs blob n head → TellsBody blob n (Err fault) → IsFree fault ⊎ IsRefused blob }
 {}
-
-/// A snapshot of the same states, between the same tags, is written in one way.
-pub fn one_written_snapshot()
-    ensures { (schemas : List Schema) (old new : Table) (origin destination : ℤ) (a b : List ℕ) → IsModel schemas → AreWritable schemas old new
-        → IsWrittenSnapshot schemas old new origin destination a → IsWrittenSnapshot schemas old new origin destination b → a ≡ b }
-{
-    one_packing_of_places();
-}

@@ -6,9 +6,7 @@ pub mod laws;
 mod loaded;
 mod part;
 mod types;
-mod write;
 
 pub use body::{Body, read_body};
 pub use loaded::{Loaded, read_snapshot};
 pub use part::{TypePart, TypeParts};
-pub use write::write_snapshot;

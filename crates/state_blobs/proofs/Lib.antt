@@ -1,4 +1,3 @@
-mod LongKeys
 mod Putting
 pub mod Tags
 mod Writing

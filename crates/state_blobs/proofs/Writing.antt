@@ -1,18 +1,16 @@
 -- The blobs of a cycle that are too long.
-use Rattle.std.proofs.Common.{◌≡◌, ◌≤◌, ◌^◌, inl, inr, ℕ, ℤ, List, [], ◌∷◌, All, subst, length, arith}
+use Rattle.std.proofs.Common.{◌≡◌, ◌≤◌, ◌^◌, ℕ, ℤ, List, [], ◌∷◌, All, subst, length, arith}
 use Rattle.std.proofs.lemmas.List.Elements.{All-head, All-tail}
 use Rattle.hol_io.specs.declared.name.BlobName.TheVariants as name
 use Rattle.row_model.specs.Table.{Table}
-use Rattle.section_writing.specs.declared.fault.WriteFault.{WriteFault}
-use Rattle.section_writing.specs.declared.fault.WriteFault.TheVariants.{Large, Memory}
-use Rattle.section_writing.specs.Limits.{MeansLarge}
-use Rattle.snapshot_blob.specs.Written.{IsWrittenSnapshot}
-use Rattle.delta_blob.specs.Changes.{IsDeltaBetween}
-use Rattle.hollow_machine.specs.Puts.{AreBlobs, AreFirst, AreLater, IsShort, Put}
+use Rattle.blob_writing.specs.declared.fault.WriteFault.{WriteFault}
+use Rattle.blob_writing.specs.declared.fault.WriteFault.TheVariants.{Large, Memory}
+use Rattle.blob_writing.specs.Limits.{MeansLarge}
+use Rattle.blob_writing.specs.Snapshot.{IsWrittenSnapshot}
+use Rattle.blob_writing.specs.Changes.{IsDeltaBetween}
+use Rattle.hollow_machine.specs.Puts.{AreFirst, AreLater, IsShort, Put}
 use Rattle.hollow_machine.specs.State.{Published}
 use Rattle.state_blobs.specs.Blobs.{AreLong, AreNotShort}
-use Rattle.state_blobs.specs.Paths.{HaveManyPaths}
-use Rattle.state_blobs.proofs.LongKeys.{long_snapshot}
 
 -- what a refusal means, it means of what follows from it
 pub means_more : (P Q : Type 0) (fault : WriteFault) → (P → Q) → MeansLarge P fault → MeansLarge Q fault
@@ -58,9 +56,3 @@ snapshot_long last rows version tag long = λ blobs (delta, reverse, snapshot, f
     let head = all.2 in
     let more = long snapshot written in
     absurd (omega (arith, head, more))
-
--- No blobs of a model with so many key paths are all short.
-pub many_long : (last : Published) (rows : Table) (version : ℕ) (tag : ℤ) → HaveManyPaths last.model → AreNotShort (AreBlobs last rows version tag)
-many_long last rows version tag many = λ blobs are short.
-    let long : AreLong (IsWrittenSnapshot last.model last.rows rows last.tag tag) = λ blob written. long_snapshot last.model last.rows rows last.tag tag blob many written in
-    elim are [ inl first ↦ first_long last rows version tag long blobs first.1 short | inr later ↦ snapshot_long last rows version tag long blobs later.1 short ]

@@ -1,2 +1,1 @@
 pub mod Blobs
-pub mod Paths

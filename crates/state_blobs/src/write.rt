@@ -1,18 +1,14 @@
 //! The blobs of a closed cycle are written.
-ghost use Rattle.std.specs.Prelude.{◌≤◌, ◌^◌, None, All, IfErr, IfOk, MatchBool, length};
-ghost use Rattle.section_writing.specs.Limits.{HaveFewPaths, MeansLarge};
-ghost use Rattle.snapshot_blob.specs.Written.{IsWrittenSnapshot};
-ghost use Rattle.delta_blob.specs.Changes.{IsDeltaBetween};
+ghost use Rattle.std.specs.Prelude.{◌≤◌, ◌^◌, None, All, IfErr, IfOk, length};
+ghost use Rattle.blob_writing.specs.Limits.{MeansLarge};
+ghost use Rattle.blob_writing.specs.Snapshot.{IsWrittenSnapshot};
+ghost use Rattle.blob_writing.specs.Changes.{IsDeltaBetween};
 ghost use Rattle.write_engine.specs.CycleLimit.{TellsTypes};
 ghost use Rattle.hollow_machine.specs.Kept.{published_of};
 ghost use Rattle.hollow_machine.specs.Puts.{AreBlobs, AreFirst, AreLater, IsShort};
 ghost use Rattle.state_blobs.specs.Blobs.{AreLong, AreNotShort, puts_in};
-ghost use Rattle.state_blobs.specs.Paths.{HasFewPaths, HasManyPaths, HaveManyPaths};
 
-use delta_blob::write_delta;
-use schema_model::{Model, Schema, Shape};
-use section_writing::WriteFault;
-use snapshot_blob::write_snapshot;
+use blob_writing::{WriteFault, write_delta, write_snapshot};
 use std::alloc::Global;
 use write_engine::Producer;
 use write_engine::laws::can_be_written;
@@ -55,9 +51,6 @@ pub fn write_blobs(
     ensures short { IfOk result (λ blobs. All IsShort (puts_in blobs)) }
     ensures large { IfErr result (MeansLarge (AreNotShort (AreBlobs (published_of producer.now) producer.now.current version tag))) }
 {
-    if !have_few_paths(producer.model()) {
-        return Err(WriteFault::Large);
-    }
     if producer.version() == 0 {
         write_first(alloc, producer, version, tag)
     } else {
@@ -73,7 +66,6 @@ fn write_first(
     tag: i64,
 ) -> Result<Blobs, WriteFault>
     requires kept { TellsTypes producer.now.schemas producer.now.previous producer.now.current None }
-    requires few { HaveFewPaths producer.now.schemas }
     ensures written { IfOk result (λ blobs. AreFirst (published_of producer.now) producer.now.current version tag (puts_in blobs)) }
     ensures short { IfOk result (λ blobs. All IsShort (puts_in blobs)) }
     ensures large { IfErr result (MeansLarge (AreNotShort (AreFirst (published_of producer.now) producer.now.current version tag))) }
@@ -90,7 +82,6 @@ fn write_later(
     tag: i64,
 ) -> Result<Blobs, WriteFault>
     requires kept { TellsTypes producer.now.schemas producer.now.previous producer.now.current None }
-    requires few { HaveFewPaths producer.now.schemas }
     ensures written { IfOk result (λ blobs. AreLater (published_of producer.now) producer.now.current version tag (puts_in blobs)) }
     ensures short { IfOk result (λ blobs. All IsShort (puts_in blobs)) }
     ensures large { IfErr result (MeansLarge (AreNotShort (AreLater (published_of producer.now) producer.now.current version tag))) }
@@ -110,7 +101,6 @@ fn write_later(
 // The snapshot of the cycle.
 fn write_whole(alloc: Global, producer: &Producer, tag: i64) -> Result<Vec<u8>, WriteFault>
     requires kept { TellsTypes producer.now.schemas producer.now.previous producer.now.current None }
-    requires few { HaveFewPaths producer.now.schemas }
     ensures written { IfOk result (λ blob. IsWrittenSnapshot producer.now.schemas producer.now.previous producer.now.current producer.now.tag tag blob.items) }
     ensures short { IfOk result (λ blob. length blob.items ≤ 2 ^ 28) }
     ensures large { IfErr result (MeansLarge (AreLong (IsWrittenSnapshot producer.now.schemas producer.now.previous producer.now.current producer.now.tag tag))) }
@@ -124,7 +114,6 @@ fn write_whole(alloc: Global, producer: &Producer, tag: i64) -> Result<Vec<u8>, 
 // The delta from the last state to the cycle.
 fn write_forth(alloc: Global, producer: &Producer, tag: i64) -> Result<Vec<u8>, WriteFault>
     requires kept { TellsTypes producer.now.schemas producer.now.previous producer.now.current None }
-    requires few { HaveFewPaths producer.now.schemas }
     ensures written { IfOk result (λ blob. IsDeltaBetween producer.now.schemas producer.now.previous producer.now.current producer.now.tag tag blob.items) }
     ensures short { IfOk result (λ blob. length blob.items ≤ 2 ^ 28) }
     ensures large { IfErr result (MeansLarge (AreLong (IsDeltaBetween producer.now.schemas producer.now.previous producer.now.current producer.now.tag tag))) }
@@ -138,7 +127,6 @@ fn write_forth(alloc: Global, producer: &Producer, tag: i64) -> Result<Vec<u8>, 
 // The delta from the cycle back to the last state.
 fn write_back(alloc: Global, producer: &Producer, tag: i64) -> Result<Vec<u8>, WriteFault>
     requires kept { TellsTypes producer.now.schemas producer.now.previous producer.now.current None }
-    requires few { HaveFewPaths producer.now.schemas }
     ensures written { IfOk result (λ blob. IsDeltaBetween producer.now.schemas producer.now.current producer.now.previous tag producer.now.tag blob.items) }
     ensures short { IfOk result (λ blob. length blob.items ≤ 2 ^ 28) }
     ensures large { IfErr result (MeansLarge (AreLong (IsDeltaBetween producer.now.schemas producer.now.current producer.now.previous tag producer.now.tag))) }
@@ -147,26 +135,4 @@ fn write_back(alloc: Global, producer: &Producer, tag: i64) -> Result<Vec<u8>, W
     let previous = producer.previous();
     let current = producer.current();
     write_delta(alloc, &current, &previous, tag, producer.tag())
-}
-
-// Whether each type has fewer than 2^32 key paths. A type that has more has no blob within 2^28 bytes.
-fn have_few_paths(model: &Model) -> bool
-    ensures { MatchBool result (HaveFewPaths model.now) (HaveManyPaths model.now) }
-{
-    for type_index in 0..model.len() {
-        if !has_few_paths(model.schema(type_index)) {
-            return false;
-        }
-    }
-    true
-}
-
-// Whether a type has fewer than 2^32 key paths.
-fn has_few_paths(schema: &Schema) -> bool
-    ensures { MatchBool result (HasFewPaths schema.now) (HasManyPaths schema.now) }
-{
-    match &schema.shape {
-        Shape::Object(Some(paths), _) => (paths.len() as u64) < 0x1_0000_0000,
-        _ => true,
-    }
 }

@@ -1,12 +1,12 @@
 -- Indexes and what stands beside each of them: lists of pairs, and what is made of them.
 use Rattle.std.proofs.Common.{◌≡◌, ℕ, suc, ◌+◌, List, [], ◌∷◌, ◌++◌, length, map, Option, Some, inl, inr, refl, sym, ap, ◌∙◌, subst, arith, length-append, append_assoc}
-use Rattle.std.specs.Prelude.{◌≤◌, Contains, slice_get, flat_map, zip}
+use Rattle.std.specs.Prelude.{Contains, slice_get, flat_map, zip}
 use Rattle.std.specs.List.{All, AllZip, cons_option, filter_map, range_with_len}
 use Rattle.std.proofs.lemmas.List.Elements.{All-cons, All-nil, All-head, All-tail}
 use Rattle.ordinal_set.proofs.Members.{first_or_other, no_member}
 use Rattle.row_model.specs.Table.{RowMap, Table}
 use Rattle.row_walk.specs.BothStates.{rows_in}
-use Rattle.section_writing.specs.Placed.{placed}
+use Rattle.blob_writing.specs.Placed.{placed}
 
 module _ {X : Type 0} (R : ℕ → X → Type 0) where
   pub each_pair : (indexes : List ℕ) (xs : List X) → AllZip R indexes xs → All (λ (p : ℕ × X). R p.0 p.1) (zip indexes xs)
@@ -103,10 +103,3 @@ tables_from front (rows ∷ rest) =
 
 pub all_rows : (table : Table) → map (rows_in table) (range_with_len 0 (length table)) ≡ table
 all_rows table = tables_from [] table
-
--- none of some lists is longer than all together
-pub each_short : {X : Type 0} (limit : ℕ) (bytes : X → List ℕ) (xs : List X) → length (flat_map bytes xs) ≤ limit → All (λ x. length (bytes x) ≤ limit) xs
-each_short limit bytes [] short = All-nil (λ x. length (bytes x) ≤ limit)
-each_short limit bytes (x ∷ xs) short =
-    let long = length-append (bytes x) (flat_map bytes xs) in
-    All-cons (λ y. length (bytes y) ≤ limit) x xs (omega (arith, short, long)) (each_short limit bytes xs (omega (arith, short, long)))

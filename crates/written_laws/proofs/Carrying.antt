@@ -27,17 +27,20 @@ use Rattle.row_packing.specs.Written.{IsStored, CanBeWritten}
 use Rattle.row_packing.proofs.RowsUnder.{all_both, values_all}
 use Rattle.row_packing.proofs.Suiting.{shape_is}
 use Rattle.row_packing.proofs.WrittenSections.{AreBoth}
+use Rattle.blob_frame.specs.Written.{schema_list_bytes}
 use Rattle.blob_frame.proofs.SpelledSchemas.{IsWritten}
 use Rattle.blob_sections.specs.declared.section.PackedRows.{PackedRows}
-use Rattle.section_writing.specs.Carried.{IsMax, HasParts}
-use Rattle.section_writing.proofs.Once.{inside}
+use Rattle.blob_writing.specs.Carried.{IsMax, HasParts}
+use Rattle.blob_writing.specs.Limits.{HasFewPaths}
+use Rattle.blob_writing.proofs.FewPaths.{all_few}
+use Rattle.blob_writing.proofs.Once.{inside}
 use Rattle.written_laws.specs.States.{IsWritableModel, AreStates}
 
 -- ---- the schemas
 
 module _ (schemas : List Schema) (model : IsWritableModel schemas) where
-  pub spellable_at : (index : ℕ) (schema : Schema) → slice_get schemas index ≡ Some schema → IsSpellable schema
-  spellable_at index schema at = model_is_spellable schemas index schema model.model at (model.few index schema at)
+  pub spellable_at : (index : ℕ) (schema : Schema) → slice_get schemas index ≡ Some schema → HasFewPaths schema → IsSpellable schema
+  spellable_at index schema at few = model_is_spellable schemas index schema model.model at few
 
   pub texts_at : (index : ℕ) (schema : Schema) → slice_get schemas index ≡ Some schema → EachName IsUtf8 schema
   texts_at index schema at =
@@ -53,10 +56,10 @@ module _ (schemas : List Schema) (model : IsWritableModel schemas) where
         | inr few ↦ few
       ]
 
-  pub written_schemas : All IsWritten schemas
-  written_schemas k d within =
+  pub written_schemas : length (schema_list_bytes schemas) ≤ 2 ^ 28 → All IsWritten schemas
+  written_schemas short k d within =
       let at = slice_get-get_or schemas k d within in
-      record { spellable = spellable_at k (get_or schemas k d) at; texts = texts_at k (get_or schemas k d) at }
+      record { spellable = spellable_at k (get_or schemas k d) at (all_few schemas short k d within); texts = texts_at k (get_or schemas k d) at }
 
 -- ---- the packed rows
 

@@ -25,7 +25,7 @@ use Rattle.row_packing.proofs.ObjectPlaces.{AreRecords, object_narrow, object_wi
 use Rattle.row_packing.proofs.RowsUnder.{all_in, each_both, sum_new, values_all}
 use Rattle.row_packing.proofs.Suiting.{bytes_few, buckets_few, list_few, no_live}
 use Rattle.row_packing.proofs.WrittenSections.{AreBoth}
-use Rattle.delta_blob.proofs.WrittenOnce.{all_of}
+use Rattle.blob_writing.proofs.OneDelta.{all_of}
 
 -- ---- what the codecs know of the rows of both states
 

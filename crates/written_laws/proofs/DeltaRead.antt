@@ -1,6 +1,6 @@
 -- A delta that is written is read back as one of a patch that leads from the old state to the new one.
-use Rattle.std.proofs.Common.{◌≡◌, ◌≤◌, ◌<◌, ◌+◌, ◌^◌, ℕ, ℤ, List, ◌++◌, length, map, Some, refl, ap, ◌∙◌, sym, subst, arith, length-append}
-use Rattle.std.specs.Prelude.{All, FitsSigned, flat_map, slice_get, zip}
+use Rattle.std.proofs.Common.{◌≡◌, ◌≤◌, ◌<◌, ◌+◌, ◌^◌, ℕ, ℤ, List, length, map, Some, refl, ap, ◌∙◌, sym, subst, arith, length-append}
+use Rattle.std.specs.Prelude.{All, FitsSigned, slice_get, zip}
 use Rattle.std.specs.Int.{w64}
 use Rattle.std.specs.List.{AllZip}
 use Rattle.std.proofs.lemmas.List.Elements.{All-map}
@@ -12,29 +12,31 @@ use Rattle.schema_model.specs.Model.{IsKept}
 use Rattle.row_model.specs.Table.{Table}
 use Rattle.row_walk.specs.BothStates.{rows_in}
 use Rattle.row_packing.proofs.Greatest.{all_gives, all_images}
-use Rattle.blob_frame.specs.Written.{header_bytes}
-use Rattle.section_writing.specs.Placed.{placed}
-use Rattle.section_writing.proofs.ListLength.{header_long}
+use Rattle.blob_frame.specs.Written.{header_bytes, schema_list_bytes}
+use Rattle.blob_writing.specs.Placed.{placed}
+use Rattle.blob_writing.specs.Limits.{HasFewPaths}
+use Rattle.blob_writing.proofs.FewPaths.{all_few}
+use Rattle.blob_writing.proofs.ListLength.{header_long}
 use Rattle.snapshot_blob.proofs.Zipped.{zip_right, zip_second}
 use Rattle.delta_blob.specs.declared.part.DeltaPart.{DeltaPart}
-use Rattle.delta_blob.specs.Changes.{IsChangeOf, IsDeltaBetween}
-use Rattle.delta_blob.specs.Written.{TypeChange, IsCarried, IsWrittenDelta, change_bytes, header_of, part_of, schemas_of}
-use Rattle.delta_blob.proofs.ChangedTypes.{all_below}
-use Rattle.delta_blob.proofs.SpelledDeltas.{delta_stands}
-use Rattle.written_laws.specs.Delta.{LeadsTo}
+use Rattle.blob_writing.specs.Changes.{IsChangeOf, IsDeltaBetween}
+use Rattle.blob_writing.specs.Delta.{TypeChange, IsCarried, body_bytes, IsWrittenDelta, change_bytes, header_of, part_of, schemas_of}
+use Rattle.blob_writing.proofs.ChangedTypes.{all_below}
+use Rattle.blob_writing.proofs.SpelledDeltas.{delta_stands}
+use Rattle.written_laws.specs.Delta.{IsDeltaTo, LeadsTo}
 use Rattle.delta_blob.specs.Fits.{FitsTable, HoldsTable}
 use Rattle.delta_blob.specs.Moved.{EachNamed, IsAt, IsUnnamed, Moved, MovesType}
 use Rattle.delta_blob.specs.Patch.{TypePatch, PartIs}
 use Rattle.written_laws.specs.States.{AreStates}
 use Rattle.delta_blob.specs.Within.{IsTypeWithin}
-use Rattle.written_laws.proofs.Beside.{at_index, each_pair, each_short, placed_alike, placed_all, placed_beside, placed_seconds}
+use Rattle.written_laws.proofs.Beside.{at_index, each_pair, placed_alike, placed_all, placed_beside, placed_seconds}
 use Rattle.written_laws.proofs.Carrying.{few_schemas}
 use Rattle.written_laws.proofs.DeltaTypes.{patch_of, change_carried, few_items, new_held, new_within, ordinals_fit, part_is, rows_move}
 use Rattle.written_laws.proofs.Gone.{unchanged_rows}
 use Rattle.written_laws.proofs.NamedOnce.{few_rising, named_once}
 
 module _ (schemas : List Schema) (old new : Table) (are : AreStates schemas old new) (origin destination : ℤ) (blob : List ℕ) (from : FitsSigned w64 origin) (to : FitsSigned w64 destination)
-    (short : length blob ≤ 2 ^ 28) (is : IsDeltaBetween schemas old new origin destination blob) where
+    (is : IsDeltaBetween schemas old new origin destination blob) (short : length (schema_list_bytes (schemas_of is.changes)) ≤ 2 ^ 28) where
   abbrev types : List ℕ
   types = is.are.types
 
@@ -62,11 +64,6 @@ module _ (schemas : List Schema) (old new : Table) (are : AreStates schemas old 
 
   -- ---- the bytes
 
-  whole_long : length blob ≡ length front + (length (varint_bytes (length is.changes)) + length (flat_map change_bytes is.changes))
-  whole_long =
-      let here = ap (λ (xs : List ℕ). length xs) is.is in
-      omega (arith, here, length-append front (varint_bytes (length is.changes) ++ flat_map change_bytes is.changes), length-append (varint_bytes (length is.changes)) (flat_map change_bytes is.changes))
-
   few_changes : length is.changes ≤ 512
   few_changes =
       let below = all_below (length schemas) (length schemas) old new types refl is.are.changed in
@@ -74,8 +71,8 @@ module _ (schemas : List Schema) (old new : Table) (are : AreStates schemas old 
 
   carried : All IsCarried is.changes
   carried k d within =
-      zip_second (IsChangeOf schemas old new) (λ c. length (change_bytes c) ≤ 2 ^ 28 → IsCarried c) (λ index c of. change_carried schemas old new are (index, c) of) types is.changes is.are.carried k d within
-      (each_short (2 ^ 28) change_bytes is.changes (omega (arith, short, whole_long)) k d within)
+      zip_second (IsChangeOf schemas old new) (λ c. HasFewPaths c.schema → IsCarried c) (λ index c of. change_carried schemas old new are (index, c) of) types is.changes is.are.carried k d within
+      (all_images HasFewPaths (λ (c : TypeChange). c.schema) is.changes (all_few (schemas_of is.changes) short) k d within)
 
   written : IsWrittenDelta blob origin destination is.changes
   written = record {
@@ -83,7 +80,7 @@ module _ (schemas : List Schema) (old new : Table) (are : AreStates schemas old 
     from_tag = from;
     to_tag = to;
     few = few_changes;
-    short = omega (arith, short, whole_long, header_long origin destination (schemas_of is.changes));
+    short = short;
     carried = carried;
   }
 
@@ -122,8 +119,8 @@ module _ (schemas : List Schema) (old new : Table) (are : AreStates schemas old 
     others = stays;
   }
 
-  pub delta_read : LeadsTo schemas old new origin destination blob
-  delta_read = record {
+  pub delta_is : IsDeltaTo schemas old new origin destination blob
+  delta_is = record {
     patch = patch;
     is = record {
       head = header_of origin destination is.changes;
@@ -144,5 +141,18 @@ module _ (schemas : List Schema) (old new : Table) (are : AreStates schemas old 
     within = each_named (IsTypeWithin new) (new_within schemas old new are);
     items = placed_all (λ c. c.rows.total ≤ 2 ^ 25) (λ part. part.section.total ≤ 2 ^ 25) change_bytes part_of (λ c at few. few) is.changes
         (zip_second (IsChangeOf schemas old new) (λ c. c.rows.total ≤ 2 ^ 25) (λ index c of. few_items schemas old new are (index, c) of) types is.changes is.are.carried) start;
-    short = short;
   }
+
+-- a short delta has a short list of schemas
+short_list : (schemas : List Schema) (old new : Table) (origin destination : ℤ) (blob : List ℕ) (is : IsDeltaBetween schemas old new origin destination blob) → length blob ≤ 2 ^ 28
+    → length (schema_list_bytes (schemas_of is.changes)) ≤ 2 ^ 28
+short_list schemas old new origin destination blob is short =
+    let listed = schemas_of is.changes in
+    let here = ap (λ (xs : List ℕ). length xs) is.is in
+    omega (arith, short, here, header_long origin destination listed, length-append (header_bytes origin destination listed) (body_bytes is.changes))
+
+pub delta_read : (schemas : List Schema) (old new : Table) → AreStates schemas old new → (origin destination : ℤ) (blob : List ℕ) → FitsSigned w64 origin → FitsSigned w64 destination
+    → length blob ≤ 2 ^ 28 → IsDeltaBetween schemas old new origin destination blob → LeadsTo schemas old new origin destination blob
+delta_read schemas old new are origin destination blob from to short is =
+    let read = delta_is schemas old new are origin destination blob from to is (short_list schemas old new origin destination blob is short) in
+    record { patch = read.patch; is = read.is; fits = read.fits; moved = read.moved; within = read.within; items = read.items; short = short }

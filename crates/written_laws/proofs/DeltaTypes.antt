@@ -1,11 +1,9 @@
 -- Lemmas on a type of a delta that is written: it can be carried, it is read as its part, and the patch of that part leads from the old rows to the new ones.
-use Rattle.std.proofs.Common.{◌≡◌, ◌≤◌, ◌<◌, ◌*◌, ◌^◌, ℕ, List, ◌++◌, length, None, refl, ap, ◌∙◌, sym, subst, inl, inr, arith, length-append}
+use Rattle.std.proofs.Common.{◌≡◌, ◌≤◌, ◌<◌, ◌*◌, ◌^◌, ℕ, List, length, None, refl, ap, ◌∙◌, sym, subst, inl, inr, arith}
 use Rattle.std.specs.Prelude.{All, Contains, IsSome, is_some}
 use Rattle.std.specs.FinMap.{get}
 use Rattle.std.proofs.lemmas.List.{length-map}
 use Rattle.bit_array.specs.Element.{words_of}
-use Rattle.ordinal_set.specs.Gaps.{gap_bytes}
-use Rattle.hol_varint.specs.Varint.{varint_bytes}
 use Rattle.schema_model.specs.declared.schema.Schema.{Schema}
 use Rattle.schema_model.specs.declared.schema.Shape.{Shape}
 use Rattle.row_model.specs.Table.{Table, IsLive, row_at}
@@ -24,11 +22,11 @@ use Rattle.row_packing.proofs.Greatest.{all_gives}
 use Rattle.row_packing.proofs.Suiting.{places_few}
 use Rattle.row_packing.proofs.WrittenSections as law
 use Rattle.row_packing.proofs.WrittenSections.{AreBoth}
-use Rattle.section_writing.specs.Carried.{AreCarried}
-use Rattle.section_writing.specs.Written.{max_bytes, packed_bytes, type_head_bytes}
-use Rattle.delta_blob.specs.Changes.{IsChangeOf, gone}
-use Rattle.delta_blob.specs.Written.{TypeChange, AreGaps, IsCarried, change_bytes, part_of}
-use Rattle.delta_blob.proofs.WrittenOnce.{all_of, gone_live}
+use Rattle.blob_writing.specs.Carried.{AreCarried}
+use Rattle.blob_writing.specs.Limits.{HasFewPaths}
+use Rattle.blob_writing.specs.Changes.{IsChangeOf, gone}
+use Rattle.blob_writing.specs.Delta.{TypeChange, AreGaps, IsCarried, part_of}
+use Rattle.blob_writing.proofs.OneDelta.{all_of, gone_live}
 use Rattle.delta_blob.specs.Fits.{FitsTable, HoldsTable}
 use Rattle.delta_blob.specs.Moved.{MovesType}
 use Rattle.delta_blob.specs.Patch.{TypePatch, PartIs}
@@ -36,29 +34,20 @@ use Rattle.written_laws.specs.States.{AreStates}
 use Rattle.delta_blob.specs.Within.{IsTypeWithin}
 use Rattle.written_laws.proofs.Carrying.{both_are, both_stored, can_write, has_parts, limits_kept, shape_here, small_max, spellable_at, texts_at}
 use Rattle.written_laws.proofs.ChosenLayout.{chosen_holds, chosen_wide, has_place, packed_enough}
+use Rattle.written_laws.proofs.FewGaps.{few_gap_bytes}
 use Rattle.written_laws.proofs.Gone.{as_many_rows, dead_row, gone_dead, kept_row, ordinal_there, row_there, rows_under}
 
 -- ---- its ordinals
 
--- the bytes of the gaps are no more than those of the whole
-gaps_inside : (head most few removed many added packed : List ℕ) → (length removed ≤ length (head ++ (most ++ (((few ++ removed) ++ (many ++ added)) ++ packed))))
-    × (length added ≤ length (head ++ (most ++ (((few ++ removed) ++ (many ++ added)) ++ packed))))
-gaps_inside head most few removed many added packed =
-    let one = length-append head (most ++ (((few ++ removed) ++ (many ++ added)) ++ packed)) in
-    let two = length-append most (((few ++ removed) ++ (many ++ added)) ++ packed) in
-    let three = length-append ((few ++ removed) ++ (many ++ added)) packed in
-    let four = length-append (few ++ removed) (many ++ added) in
-    let five = length-append few removed in
-    let six = length-append many added in
-    (omega (arith, one, two, three, four, five, six), omega (arith, one, two, three, four, five, six))
-
 -- ordinals that are live in one of the states can be carried
-are_gaps : (table : Table) (index : ℕ) (ordinals : List ℕ) → AreAdded table index ordinals → ((ordinal : ℕ) → IsLive table index ordinal → ordinal < 2 ^ 22) → length (gap_bytes ordinals) ≤ 2 ^ 28 → AreGaps ordinals
-are_gaps table index ordinals are below short = record {
-  rising = are.rising;
-  small = all_gives (IsLive table index) (λ ordinal. ordinal < 2 ^ 32) ordinals (λ ordinal live. let low = below ordinal live in omega (arith, low)) are.live;
-  few = omega (arith, short);
-}
+are_gaps : (table : Table) (index : ℕ) (ordinals : List ℕ) → AreAdded table index ordinals → ((ordinal : ℕ) → IsLive table index ordinal → ordinal < 2 ^ 22) → AreGaps ordinals
+are_gaps table index ordinals are below =
+    let low : All (λ ordinal. ordinal < 2 ^ 22) ordinals = all_gives (IsLive table index) (λ ordinal. ordinal < 2 ^ 22) ordinals below are.live in
+    record {
+      rising = are.rising;
+      small = λ k d within. let under = low k d within in omega (arith, under);
+      few = omega (arith, few_gap_bytes ordinals are.rising low);
+    }
 
 -- ---- its patch
 
@@ -130,19 +119,16 @@ module _ (schemas : List Schema) (old new : Table) (are : AreStates schemas old 
     enough = enough;
   }
 
-  -- a delta of few bytes can carry it
-  pub change_carried : length (change_bytes entry.1) ≤ 2 ^ 28 → IsCarried entry.1
-  change_carried short =
-      let inside = gaps_inside (type_head_bytes entry.1.schema) (max_bytes entry.1.max) (varint_bytes (length (gap_bytes entry.1.removed))) (gap_bytes entry.1.removed)
-      (varint_bytes (length (gap_bytes entry.1.added))) (gap_bytes entry.1.added) (packed_bytes shape entry.1.rows) in
-      record {
-        spellable = spellable_at schemas are.model entry.0 entry.1.schema is.schema;
-        texts = texts_at schemas are.model entry.0 entry.1.schema is.schema;
-        max = small_max entry.1.max few_places;
-        removed = are_gaps old entry.0 entry.1.removed go (λ ordinal live. both.keeps.ordinals ordinal (inl live)) (omega (arith, short, inside.0));
-        added = are_gaps new entry.0 entry.1.added come (λ ordinal live. both.keeps.ordinals ordinal (inr live)) (omega (arith, short, inside.1));
-        rows = carried;
-      }
+  -- a delta can carry it
+  pub change_carried : HasFewPaths entry.1.schema → IsCarried entry.1
+  change_carried few = record {
+    spellable = spellable_at schemas are.model entry.0 entry.1.schema is.schema few;
+    texts = texts_at schemas are.model entry.0 entry.1.schema is.schema;
+    max = small_max entry.1.max few_places;
+    removed = are_gaps old entry.0 entry.1.removed go (λ ordinal live. both.keeps.ordinals ordinal (inl live));
+    added = are_gaps new entry.0 entry.1.added come (λ ordinal live. both.keeps.ordinals ordinal (inr live));
+    rows = carried;
+  }
 
   pub part_is : (at : ℕ) → PartIs (part_of entry.1 at) (patch_of new entry)
   part_is at = record {

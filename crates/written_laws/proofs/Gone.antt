@@ -17,7 +17,7 @@ use Rattle.row_walk.specs.BothStates.{rows_in}
 use Rattle.row_walk.proofs.RowsFrom.{get_in}
 use Rattle.row_packing.specs.Places.{Agree}
 use Rattle.row_packing.proofs.LiveRows.{is_live, live_is}
-use Rattle.delta_blob.specs.Changes.{IsChanged, gone}
+use Rattle.blob_writing.specs.Changes.{IsChanged, gone}
 
 -- ---- which they are
 

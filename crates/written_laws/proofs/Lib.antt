@@ -5,7 +5,7 @@ pub mod ChosenLayout
 pub mod DeltaRead
 pub mod DeltaTypes
 pub mod EmptyChain
-pub mod FewPaths
+pub mod FewGaps
 pub mod Gone
 pub mod MovedOnce
 pub mod NamedOnce

@@ -21,15 +21,16 @@ use Rattle.row_packing.proofs.WrittenSections as law
 use Rattle.blob_frame.proofs.Spelling.{Spells, spells_then, spells_last}
 use Rattle.blob_sections.specs.declared.section.PackedRows.{PackedRows}
 use Rattle.blob_sections.specs.Section.{section_with}
-use Rattle.section_writing.specs.Carried.{IsMax, AreCarried}
-use Rattle.section_writing.specs.Written.{max_bytes, packed_bytes, snapshot_type_bytes}
-use Rattle.section_writing.proofs.Placing.{SpellsAt, anywhere, at_then}
-use Rattle.section_writing.proofs.SpelledItems.{spells_max, spells_population}
-use Rattle.section_writing.proofs.SpelledTypes.{spells_head, spells_packed}
+use Rattle.blob_writing.specs.Carried.{IsMax, AreCarried}
+use Rattle.blob_writing.specs.Limits.{HasFewPaths}
+use Rattle.blob_writing.specs.Written.{max_bytes, packed_bytes, snapshot_type_bytes}
+use Rattle.blob_writing.proofs.Placing.{SpellsAt, anywhere, at_then}
+use Rattle.blob_writing.proofs.SpelledItems.{spells_max, spells_population}
+use Rattle.blob_writing.proofs.SpelledTypes.{spells_head, spells_packed}
 use Rattle.snapshot_blob.specs.declared.part.TypePart.{TypePart}
 use Rattle.snapshot_blob.specs.Parts.{section_of, type_part}
 use Rattle.snapshot_blob.specs.Stated.{TypeIs, KeepsTypeLimits}
-use Rattle.snapshot_blob.specs.Written.{TypeRows, type_bytes, IsCarriedOf}
+use Rattle.blob_writing.specs.Snapshot.{TypeRows, type_bytes, IsCarriedOf}
 use Rattle.written_laws.specs.States.{AreStates}
 use Rattle.written_laws.proofs.Carrying.{can_write, has_parts, shape_here, small_max, spellable_at, texts_at, limits_kept}
 
@@ -92,9 +93,9 @@ module _ (schemas : List Schema) (old new : Table) (are : AreStates schemas old 
     enough = readable.well.enough;
   }
 
-  pub type_spelled : SpellsAt type_part (part_of new entry) (type_bytes entry.1)
-  type_spelled =
-      spells_type entry.1.schema entry.1.max entry.1.rows (keys (rows_in new entry.0)) entry.1.population (spellable_at schemas are.model entry.0 entry.1.schema is.schema)
+  pub type_spelled : HasFewPaths entry.1.schema → SpellsAt type_part (part_of new entry) (type_bytes entry.1)
+  type_spelled few =
+      spells_type entry.1.schema entry.1.max entry.1.rows (keys (rows_in new entry.0)) entry.1.population (spellable_at schemas are.model entry.0 entry.1.schema is.schema few)
       (texts_at schemas are.model entry.0 entry.1.schema is.schema) (small_max entry.1.max readable.few) carried is.population
 
   pub type_is : (at : ℕ) → TypeIs (part_of new entry at) (half_of new entry)

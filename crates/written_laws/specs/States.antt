@@ -9,13 +9,11 @@ use Rattle.row_packing.specs.Chosen.{shape_at}
 use Rattle.row_packing.specs.States.{AreWritable}
 use Rattle.row_packing.specs.TypeLimit.{KeepsWords}
 use Rattle.row_packing.specs.Written.{IsStored}
-use Rattle.section_writing.specs.Limits.{HaveFewPaths}
 
--- A model whose schemas can be written: each name is a text, and each type has few key paths.
+-- A model whose schemas can be written: each name is a text.
 pub record IsWritableModel (schemas : List Schema) : Type 0 where
   pub model : IsModel schemas
   pub texts : All (EachName IsUtf8) schemas
-  pub few : HaveFewPaths schemas
 
 -- A state of a model: a closed table of it, whose rows a blob can hold, since none has a least INT or LONG.
 pub record IsState (schemas : List Schema) (table : Table) : Type 0 where

@@ -8,19 +8,24 @@ ghost use Rattle.schema_model.specs.declared.model.rule.Rule.TheVariants.{Duplic
 ghost use Rattle.schema_model.specs.declared.schema.Schema.{Schema};
 ghost use Rattle.schema_model.specs.Model.{IsKept};
 ghost use Rattle.row_model.specs.Table.{Table};
-ghost use Rattle.snapshot_blob.specs.Written.{IsWrittenSnapshot};
-ghost use Rattle.delta_blob.specs.Changes.{IsDeltaBetween};
+ghost use Rattle.blob_writing.specs.Snapshot.{IsWrittenSnapshot};
+ghost use Rattle.blob_frame.specs.Written.{schema_list_bytes};
+ghost use Rattle.blob_writing.specs.Delta.{schemas_of};
+ghost use Rattle.blob_writing.specs.Changes.{IsDeltaBetween};
 ghost use Rattle.written_laws.specs.States.{AreStates};
 ghost use Rattle.written_laws.specs.Chain.{Chain, ChainState, HasVersion};
-ghost use Rattle.written_laws.specs.Delta.{LeadsTo};
+ghost use Rattle.written_laws.specs.Delta.{IsDeltaTo, LeadsTo};
 ghost use Rattle.written_laws.specs.HoldsChain.{HoldsChain, IsStep, LeadsOn};
 ghost use Rattle.delta_blob.specs.Moved.{Moved};
 ghost use Rattle.delta_blob.specs.Patch.{DeltaIs, TypePatch};
-ghost use Rattle.written_laws.specs.Snapshot.{IsSnapshotOf};
+ghost use Rattle.written_laws.specs.Snapshot.{IsSnapshotOf, IsSnapshotOfTable, header_between};
 
-/// A snapshot that is written of a new state, which follows an old one, is read back as the new state, within the limits.
+/// A snapshot that is written of a new state, which follows an old one, is the snapshot of the new state, where the list of its schemas has at
+/// most 2^28 bytes. Where the whole blob has no more it is read back as the new state, within the limits.
 pub fn written_snapshot()
-    ensures { (schemas : List Schema) (old new : Table) (origin destination : ℤ) (blob : List ℕ) → AreStates schemas old new → FitsSigned w64 origin → FitsSigned w64 destination
+    ensures snapshot { (schemas : List Schema) (old new : Table) (origin destination : ℤ) (blob : List ℕ) → AreStates schemas old new → FitsSigned w64 origin → FitsSigned w64 destination
+        → length (schema_list_bytes schemas) ≤ 2 ^ 28 → IsWrittenSnapshot schemas old new origin destination blob → IsSnapshotOfTable schemas new (header_between origin destination schemas) blob }
+    ensures accepted { (schemas : List Schema) (old new : Table) (origin destination : ℤ) (blob : List ℕ) → AreStates schemas old new → FitsSigned w64 origin → FitsSigned w64 destination
         → length blob ≤ 2 ^ 28 → IsWrittenSnapshot schemas old new origin destination blob → IsSnapshotOf schemas new origin destination blob }
 {}
 
@@ -29,9 +34,18 @@ pub fn either_way()
     ensures { (schemas : List Schema) (old new : Table) → AreStates schemas old new → AreStates schemas new old }
 {}
 
-/// A delta that is written between an old and a new state is read back as one of a patch that fits the old state and moves it to the new
-/// one, within the limits. The reverse delta, which is written with the states and the tags exchanged, leads back.
+/// A delta that is written between an old and a new state is one of a patch that fits the old state and moves it to the new one, where the list
+/// of the schemas of the changed types has at most 2^28 bytes. The reverse delta, which is written with the states and the tags exchanged,
+/// leads back.
 pub fn written_delta()
+    ensures moves { (schemas : List Schema) (old new : Table) (origin destination : ℤ) (blob : List ℕ) → AreStates schemas old new → FitsSigned w64 origin → FitsSigned w64 destination
+        → (is : IsDeltaBetween schemas old new origin destination blob) → length (schema_list_bytes (schemas_of is.changes)) ≤ 2 ^ 28 → IsDeltaTo schemas old new origin destination blob }
+    ensures back { (schemas : List Schema) (old new : Table) (origin destination : ℤ) (blob : List ℕ) → AreStates schemas old new → FitsSigned w64 origin → FitsSigned w64 destination
+        → (is : IsDeltaBetween schemas new old destination origin blob) → length (schema_list_bytes (schemas_of is.changes)) ≤ 2 ^ 28 → IsDeltaTo schemas new old destination origin blob }
+{}
+
+/// Where the whole of such a delta has at most 2^28 bytes it is read back so, within the limits.
+pub fn short_delta()
     ensures moves { (schemas : List Schema) (old new : Table) (origin destination : ℤ) (blob : List ℕ) → AreStates schemas old new → FitsSigned w64 origin → FitsSigned w64 destination
         → length blob ≤ 2 ^ 28 → IsDeltaBetween schemas old new origin destination blob → LeadsTo schemas old new origin destination blob }
     ensures back { (schemas : List Schema) (old new : Table) (origin destination : ℤ) (blob : List ℕ) → AreStates schemas old new → FitsSigned w64 origin → FitsSigned w64 destination

@@ -1,6 +1,6 @@
 use Rattle.std.proofs.Common.{None, rules}
 use Rattle.std.proofs.lemmas.Result.{err_from_is_err_and}
-use Rattle.section_writing.specs.Limits.{MeansLarge}
+use Rattle.blob_writing.specs.Limits.{MeansLarge}
 use Rattle.write_engine.specs.CycleLimit.{TellsTypes}
 use Rattle.hollow_machine.specs.Kept.{published_of}
 use Rattle.hollow_machine.specs.Puts.{AreBlobs}

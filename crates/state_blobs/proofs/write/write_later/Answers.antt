@@ -1,7 +1,7 @@
 use Rattle.std.proofs.lemmas.Result.{err_from_is_err_and}
-use Rattle.section_writing.specs.Limits.{MeansLarge}
-use Rattle.snapshot_blob.specs.Written.{IsWrittenSnapshot}
-use Rattle.delta_blob.specs.Changes.{IsDeltaBetween}
+use Rattle.blob_writing.specs.Limits.{MeansLarge}
+use Rattle.blob_writing.specs.Snapshot.{IsWrittenSnapshot}
+use Rattle.blob_writing.specs.Changes.{IsDeltaBetween}
 use Rattle.hollow_machine.specs.Kept.{published_of}
 use Rattle.hollow_machine.specs.Puts.{AreLater}
 use Rattle.state_blobs.specs.Blobs.{AreLong, AreNotShort}

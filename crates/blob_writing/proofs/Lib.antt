@@ -1,0 +1,15 @@
+pub mod Bodies
+pub mod ChangedTypes
+pub mod FewPaths
+pub mod ListLength
+pub mod Once
+pub mod OneDelta
+pub mod OneSnapshot
+pub mod Placing
+pub mod Progress
+pub mod Refusing
+pub mod SpelledDeltas
+pub mod SpelledItems
+pub mod SpelledTypes
+pub mod WritingSnapshots
+pub mod WrittenGaps

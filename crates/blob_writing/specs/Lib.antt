@@ -1,0 +1,7 @@
+pub mod Carried
+pub mod Changes
+pub mod Delta
+pub mod Limits
+pub mod Placed
+pub mod Snapshot
+pub mod Written

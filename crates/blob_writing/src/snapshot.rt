@@ -1,0 +1,112 @@
+//! Writing a snapshot.
+ghost use Rattle.std.specs.Prelude.{◌≡◌, ◌<◌, ◌≤◌, ◌^◌, ◌++◌, All, IfErr, IfOk, List, ℕ, OnOk, length};
+ghost use Rattle.std.specs.List.{range_with_len};
+ghost use Rattle.schema_model.specs.Model.{IsModel};
+ghost use Rattle.row_packing.specs.States.{AreWritable};
+ghost use Rattle.blob_writing.specs.Limits.{HasFewPathsAt, HaveFewPaths, MeansLarge};
+ghost use Rattle.blob_writing.specs.Snapshot.{AreCarriedOf, IsCarriedOf, IsFrontLong, IsLongSnapshot, IsWrittenSnapshot, TypeRows, body_bytes, type_bytes};
+
+use crate::fault::WriteFault;
+use crate::header::{check_length, put_limited_header};
+use crate::types::put_snapshot_type;
+use blob_sections::PackedRows;
+use hol_varint::{Ordinals, put_vlong};
+use row_model::Rows;
+use row_packing::laws::one_packing_of_places;
+use row_packing::{Chosen, choose, live_ordinals, snapshot_rows};
+use schema_model::Model;
+use schema_model::laws::spellable_model;
+use std::alloc::{AllocError, Global};
+
+/// Writes the snapshot of a new state that follows an old one of the same model, from one tag to another: a header with all
+/// schemas, and each type's new rows and population, with the widths that are chosen over both states.
+///
+/// The states agree, and keep the limits on ordinals, items and bytes. `Large` comes exactly where the blob has more than
+/// 2^28 bytes.
+pub fn write_snapshot<A: Rows, B: Rows>(
+    alloc: Global,
+    old: &A,
+    new: &B,
+    origin: i64,
+    destination: i64,
+) -> Result<Vec<u8>, WriteFault>
+    requires model { A.schemas old.now ≡ B.schemas new.now }
+    requires states { AreWritable (B.schemas new.now) (A.table old.now) (B.table new.now) }
+    ensures written { IfOk result (λ blob. IsWrittenSnapshot (B.schemas new.now) (A.table old.now) (B.table new.now) origin destination blob.items) }
+    ensures short { IfOk result (λ blob. length blob.items ≤ 2 ^ 28) }
+    ensures front { IfErr result (MeansLarge (IsLongSnapshot (B.schemas new.now) (A.table old.now) (B.table new.now) origin destination)) }
+    ensures large { IfErr result (MeansLarge ((blob : List ℕ) → IsWrittenSnapshot (B.schemas new.now) (A.table old.now) (B.table new.now) origin destination blob → 2 ^ 28 < length blob)) }
+{
+    let model = new.model();
+    let types = all_types(alloc, model)?;
+    let mut out = Vec::new(alloc);
+    put_limited_header(&mut out, origin, destination, model, &types)?;
+    put_types(&mut out, old, new, &types)?;
+    Ok(out)
+}
+
+// The indexes of all types.
+fn all_types(alloc: Global, model: &Model) -> Result<Ordinals, AllocError>
+    ensures sound { IsModel model.now }
+    ensures all { IfOk result (λ types. types ≡ range_with_len 0 (length model.now)) }
+{
+    let mut types = Ordinals::new(alloc);
+    for type_index in 0..model.len() {
+        types.push(type_index)?;
+    }
+    Ok(types)
+}
+
+// Writes the number of these types at the end, and each of them, but for those that come when the blob is too long already.
+fn put_types<A: Rows, B: Rows>(
+    out: &mut Vec<u8>,
+    old: &A,
+    new: &B,
+    types: &Ordinals,
+) -> Result<(), WriteFault>
+    requires model { A.schemas old.now ≡ B.schemas new.now }
+    requires sound { IsModel (B.schemas new.now) }
+    requires in_model { All (λ type_index. type_index < length (B.schemas new.now)) types.now }
+    requires few { HaveFewPaths (B.schemas new.now) types.now }
+    requires states { AreWritable (B.schemas new.now) (A.table old.now) (B.table new.now) }
+    ensures written { OnOk result ((carried : List TypeRows) × AreCarriedOf (B.schemas new.now) (A.table old.now) (B.table new.now) types.now carried × (out.new.items ≡ out.old.items ++ body_bytes carried)) }
+    ensures short { OnOk result (length out.new.items ≤ 2 ^ 28) }
+    ensures front { IfErr result (MeansLarge (IsFrontLong (B.schemas new.now) (A.table old.now) (B.table new.now) types.now out.old.items)) }
+    ensures large { IfErr result (MeansLarge ((carried : List TypeRows) → AreCarriedOf (B.schemas new.now) (A.table old.now) (B.table new.now) types.now carried → 2 ^ 28 < length (out.old.items ++ body_bytes carried))) }
+{
+    one_packing_of_places();
+    put_vlong(out, types.len() as u64)?;
+    let indexes = types.as_slice();
+    for type_index in indexes {
+        check_length(out.as_slice())?;
+        put_type(out, old, new, *type_index)?;
+    }
+    check_length(out.as_slice())
+}
+
+// Writes a type at the end. Where memory is refused nothing is written.
+fn put_type<A: Rows, B: Rows>(
+    out: &mut Vec<u8>,
+    old: &A,
+    new: &B,
+    type_index: u32,
+) -> Result<(), AllocError>
+    requires model { A.schemas old.now ≡ B.schemas new.now }
+    requires known { type_index < length (B.schemas new.now) }
+    requires few { HasFewPathsAt (B.schemas new.now) type_index }
+    requires states { AreWritable (B.schemas new.now) (A.table old.now) (B.table new.now) }
+    ensures { OnOk result ((carried : TypeRows) × IsCarriedOf (B.schemas new.now) (A.table old.now) (B.table new.now) type_index carried × (out.new.items ≡ out.old.items ++ type_bytes carried)) }
+{
+    let alloc = *out.allocator();
+    spellable_model();
+    let chosen = choose(alloc, old, new, type_index)?;
+    let packed = snapshot_rows(alloc, new, type_index, &chosen)?;
+    let live = live_ordinals(alloc, new, type_index)?;
+    let Chosen { max, widths, total } = chosen;
+    let rows = PackedRows {
+        widths,
+        total,
+        packed,
+    };
+    put_snapshot_type(out, new.model().schema(type_index), max, &rows, &live)
+}

@@ -1,5 +1,0 @@
-use Rattle.delta_blob.proofs.WrittenOnce.{delta_once}
-use Rattle.delta_blob.proofs.laws.one_written_delta.Goals as goal
-
-pub returns : goal.returns
-returns c = λ schemas old new origin destination a b model can. delta_once c.one_packing_of_places.ensures schemas model old new can origin destination a b

@@ -1,5 +1,0 @@
-use Rattle.delta_blob.proofs.SpelledDeltas.{delta_stands}
-use Rattle.delta_blob.proofs.laws.written_delta.Goals as goal
-
-pub returns : goal.returns
-returns c = λ blob origin destination changes is. delta_stands blob origin destination changes is

@@ -1,5 +1,0 @@
-use Rattle.section_writing.proofs.SpelledItems.{spells_max}
-use Rattle.section_writing.proofs.laws.written_max.Goals as goal
-
-pub returns : goal.returns
-returns c = λ max before behind small. (spells_max max small).stands before behind
