@@ -1,5 +1,5 @@
 -- The laws of the order `cycle`.
-use Rattle.std.proofs.Common.{◌≡◌, ◌≤◌, ◌^◌, ℕ, ℤ, List, [], length, Bool, true, false, Some, None, inl, inr, refl, sym, subst, arith, Option, ap}
+use Rattle.std.proofs.Common.{◌≡◌, ℕ, ℤ, List, [], Bool, true, false, Some, None, inl, inr, refl, sym, subst, arith, Option, ap}
 use Rattle.std.specs.Prelude.{All, FitsSigned, IsSomeAnd, Option, IfSome}
 use Rattle.std.specs.Int.{w64}
 use Rattle.std.specs.FinMap.{insert}
@@ -14,7 +14,6 @@ use Rattle.hol_answers.specs.declared.reply.Reply.{Reply}
 use Rattle.hol_answers.specs.declared.reply.Reply.TheVariants as reply
 use Rattle.hol_orders.specs.Order.{Orders, content_of, kind_of}
 use Rattle.write_engine.specs.CycleLimit.{TellsTypes}
-use Rattle.snapshot_blob.specs.Written.{IsWrittenSnapshot}
 use Rattle.hollow_machine.specs.CycleOrder.{CycleStep, Makes, Succeeds, cycle_form}
 use Rattle.hollow_machine.specs.Follow.{MayFollow}
 use Rattle.hollow_machine.specs.Puts.{Put, AreBlobs, IsShort, puts_of, put_all}
@@ -24,7 +23,6 @@ use Rattle.written_laws.specs.Chain.{Chain}
 use Rattle.written_laws.specs.States.{IsWritableModel}
 use Rattle.chain_laws.specs.Growth.{AddsState}
 use Rattle.chain_laws.specs.Producers.{IsOver, IsProducerOf, KeepsChain, state_behind}
-use Rattle.written_laws.proofs.FewPaths.{few_paths}
 use Rattle.chain_laws.proofs.PublishedState.{first_kept, later_kept, over_longer, versions_stay}
 use Rattle.chain_laws.proofs.StoreNames.{found_with}
 use Rattle.written_laws.specs.HoldsChain.{HoldsChain}
@@ -37,20 +35,9 @@ use Rattle.hol_orders.specs.declared.kind.Kind.{Kind}
 use Rattle.hollow_machine.specs.Forms.{Meets}
 
 module _ (machine : Machine) (line : List ℕ) (chain : Chain) (kept : KeepsChain machine.store chain) (over : IsProducerOf chain machine.producer) where
-  can_write : (last : Published) (rows : Table) (tag : ℤ) (snapshot : List ℕ) → IsOver chain last → IsWrittenSnapshot last.model last.rows rows last.tag tag snapshot → length snapshot ≤ 2 ^ 28
-      → IsWritableModel last.model
-  can_write last rows tag snapshot is_over written short = record {
-    model = is_over.model;
-    texts = is_over.texts;
-    few = few_paths last.model last.rows rows last.tag tag snapshot written short;
-  }
-
-  -- where the blobs are short, the model can be written
-  writable : (last : Published) (rows : Table) (version : ℕ) (tag : ℤ) (blobs : List Put) → IsOver chain last → AreBlobs last rows version tag blobs → All IsShort blobs → IsWritableModel last.model
-  writable last rows version tag blobs is_over (inl (zero_before, (snapshot, written, is))) short =
-      can_write last rows tag snapshot is_over written (subst (All IsShort) is short 0 (Announced, []) (omega arith))
-  writable last rows version tag blobs is_over (inr (nonzero, (delta, reverse, snapshot, forward, back, written, is))) short =
-      can_write last rows tag snapshot is_over written (subst (All IsShort) is short 2 (Announced, []) (omega arith))
+  -- the model of the last state can be written
+  writable : (last : Published) → IsOver chain last → IsWritableModel last.model
+  writable last is_over = record { model = is_over.model; texts = is_over.texts }
 
   puts_keep : (last : Published) (version : ℕ) (tag : ℤ) (add : Data) (rows : Table) (changed : List ℕ) (blobs : List Put) → IsOver chain last → IsVersion version → FitsSigned w64 tag
       → MayFollow machine.store last.version version tag → (makes : Makes last add rows changed) → TellsTypes last.model last.rows rows None
@@ -73,7 +60,7 @@ module _ (machine : Machine) (line : List ℕ) (chain : Chain) (kept : KeepsChai
       same_keeps machine line chain kept over (reply.Cycle names false version) next refl leaves.2
   cycle_done (Some last) is version tag add names true next orders is_version fits is_over (may, types, (rows, changed, makes, named, (publishes, limits, (blobs, are, short, next_is)))) =
       let longer = insert chain version (state_behind last tag rows) in
-      let can = writable last rows version tag blobs is_over are short in
+      let can = writable last is_over in
       let held = puts_keep last version tag (view add) rows changed blobs is_over is_version fits may makes limits are short can in
       let moved = over_longer machine.store chain last version tag makes.trees rows kept is_over can may is_version fits makes.state limits in
       let grows : AddsState chain last version tag (view add) longer = (makes.trees, rows, makes.read, makes.state, refl) in
