@@ -22,3 +22,12 @@ TellsHeader name content (Err (fault.Bad at reason)) =
 TellsHeader name content (Err fault.Store) = Unit {0}
 TellsHeader name content (Err fault.Memory) = Unit {0}
 TellsHeader name content (Err _) = ⊥
+
+-- Opening the blob of this name is refused for no other fault.
+abbrev pub IsOpeningFault : BlobName → BlobFault → Type 0
+IsOpeningFault name (fault.NoBlob other) = other ≡ name
+IsOpeningFault name (fault.Large what) = what ≡ limit.Blob
+IsOpeningFault name (fault.Bad at reason) = Unit {0}
+IsOpeningFault name fault.Store = Unit {0}
+IsOpeningFault name fault.Memory = Unit {0}
+IsOpeningFault name _ = ⊥

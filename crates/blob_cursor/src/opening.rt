@@ -1,8 +1,8 @@
 //! A blob by its name: its header, and a cursor behind it.
-ghost use Rattle.std.specs.Prelude.{◌≡◌, ◌≤◌, Err, IfOk, IfSome};
+ghost use Rattle.std.specs.Prelude.{◌≡◌, ◌≤◌, Err, IfErr, IfOk, IfSome};
 ghost use Rattle.hol_io.specs.Causes.{Rose};
 ghost use Rattle.hol_io.specs.Store.{told};
-ghost use Rattle.blob_cursor.specs.Opened.{TellsHeader};
+ghost use Rattle.blob_cursor.specs.Opened.{IsOpeningFault, TellsHeader};
 ghost use Rattle.blob_cursor.specs.Scene.{IsAbove};
 
 use crate::Cursor;
@@ -20,6 +20,7 @@ pub fn opened<S: BlobStore>(
 ) -> Result<(Header, Cursor), BlobFault>
     ensures tells { IfSome (S.seen store.old).held
         (λ held. TellsHeader name.now (told (S.seen store.old).held name.now) result) }
+    ensures kind { IfErr result (IsOpeningFault name.now) }
     ensures over { IfOk result (λ opened. IsAbove S.seen store.new opened.1) }
     ensures named { IfOk result (λ opened. opened.1.name ≡ name.now) }
     ensures cause { result ≡ Err BlobFault.Store → Rose (S.seen store.old).faults (S.seen store.new).faults }
