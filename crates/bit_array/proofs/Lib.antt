@@ -2,3 +2,4 @@ pub mod Elements
 pub mod DigitCounts
 pub mod Totals
 pub mod Blocks
+pub mod SameWords

@@ -1,5 +1,5 @@
 -- Word arrays of the blob format: how their 64-bit words hold elements of any width.
-use Rattle.std.specs.Prelude.{◌≡◌, ℕ, ◌+◌, ◌*◌, ◌/◌, ◌%◌, ◌^◌, List, [], ◌∷◌}
+use Rattle.std.specs.Prelude.{◌≡◌, ℕ, ◌+◌, ◌*◌, ◌/◌, ◌%◌, ◌^◌, List, [], ◌∷◌, ◌<◌, All}
 
 -- The words as one number, the first word its lowest 64 binary digits: the sum of words[k] * 2 ^ (64 * k).
 unfoldable pub number_of : List ℕ → ℕ
@@ -17,3 +17,7 @@ SetsBlock old new at width value = number_of new + element_of old at width * 2 ^
 -- How many words so many bits take.
 abbrev pub words_of : ℕ → ℕ
 words_of bits = (bits + 63) / 64
+
+-- Each number is one of 64 bits, as a word is.
+abbrev pub AreWords : List ℕ → Type 0
+AreWords words = All (λ word. word < 2 ^ 64) words

@@ -5,7 +5,7 @@ ghost use Rattle.blob_frame.specs.Written.{schemas_at, schema_list_bytes, header
 
 use crate::header::FORMAT;
 use hol_varint::{Ordinals, put_vint};
-use schema_model::laws::spellable_model;
+use schema_model::laws;
 use schema_model::{Model, put_schema};
 use std::alloc::{AllocError, Global};
 
@@ -61,7 +61,7 @@ fn push_schemas(out: &mut Vec<u8>, model: &Model, types: &Ordinals) -> Result<()
     ensures ok { OnOk result (out.new.items ≡ schema_list_bytes (schemas_at model.now types.now)) }
 {
     put_vint(out, types.len() as u32)?;
-    spellable_model();
+    laws::spellable_model();
     let indexes = types.as_slice();
     for type_index in indexes {
         put_schema(out, model.schema(*type_index))?;

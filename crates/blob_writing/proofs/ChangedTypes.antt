@@ -13,8 +13,8 @@ use Rattle.ordinal_set.proofs.Members.{first_or_other, here, no_member, same_ris
 use Rattle.row_model.specs.Row.{Rises}
 use Rattle.row_model.specs.Table.{IsBound, IsLive, RowMap, Table, row_at}
 use Rattle.row_model.specs.declared.row.Row.{Row}
-use Rattle.row_walk.specs.BothStates.{rows_in}
-use Rattle.row_walk.proofs.RowsFrom.{get_in}
+use Rattle.row_model.specs.BothStates.{rows_in}
+use Rattle.row_model.proofs.RowsFrom.{get_in}
 use Rattle.row_packing.specs.Places.{Agree}
 use Rattle.blob_writing.specs.Changes.{AreChanged, IsChanged}
 

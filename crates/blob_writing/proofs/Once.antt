@@ -2,7 +2,7 @@
 use Rattle.std.proofs.Common.{◌≡◌, ℕ, ◌<◌, inl, inr, length, List, [], Option, Some, None, refl, sym, ap, ◌∙◌, subst, arith}
 use Rattle.std.specs.Prelude.{slice_get}
 use Rattle.std.proofs.lemmas.Option.{slice_get_cases}
-use Rattle.bucket_codec.specs.Packed.{AreWords}
+use Rattle.bit_array.specs.Element.{AreWords}
 use Rattle.row_model.specs.Table.{Table}
 use Rattle.row_model.specs.declared.packed.Packed.{Packed}
 use Rattle.row_model.specs.declared.row.Row.{Row}

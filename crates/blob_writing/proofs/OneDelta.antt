@@ -12,7 +12,7 @@ use Rattle.row_model.specs.Table.{Table, IsLive}
 use Rattle.row_model.specs.declared.packed.Packed.{Packed}
 use Rattle.schema_model.specs.declared.schema.Schema.{Schema}
 use Rattle.schema_model.specs.declared.schema.Shape.{Shape}
-use Rattle.row_walk.specs.BothStates.{rows_in}
+use Rattle.row_model.specs.BothStates.{rows_in}
 use Rattle.row_packing.specs.declared.chosen.Chosen.{Chosen}
 use Rattle.row_packing.specs.Chosen.{shape_at, IsChosen, Suits}
 use Rattle.row_packing.specs.Packs.{CanPackPlaces, PacksPlaces}

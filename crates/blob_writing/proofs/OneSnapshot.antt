@@ -4,12 +4,12 @@ use Rattle.std.specs.Prelude.{slice_get}
 use Rattle.std.specs.List.{cons_option, filter_map, range_with_len}
 use Rattle.std.specs.FinMap.{keys}
 use Rattle.ordinal_set.specs.Population.{IsPopulation}
-use Rattle.packing_laws.proofs.OnePopulation.{populated_once}
+use Rattle.ordinal_set.proofs.OnePopulation.{populated_once}
 use Rattle.schema_model.specs.Model.{IsModel}
 use Rattle.schema_model.specs.declared.schema.Schema.{Schema}
 use Rattle.schema_model.specs.declared.schema.Shape.{Shape}
 use Rattle.row_model.specs.Table.{Table}
-use Rattle.row_walk.specs.BothStates.{rows_in}
+use Rattle.row_model.specs.BothStates.{rows_in}
 use Rattle.row_packing.specs.declared.chosen.Chosen.{Chosen}
 use Rattle.row_packing.specs.Chosen.{shape_at, Suits}
 use Rattle.row_packing.specs.Packs.{CanPackPlaces, PacksPlaces}

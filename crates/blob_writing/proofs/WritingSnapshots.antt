@@ -11,7 +11,7 @@ use Rattle.row_model.specs.Row.{Rises}
 use Rattle.row_model.specs.declared.packed.Packed.{Packed}
 use Rattle.schema_model.specs.declared.schema.Schema.{Schema}
 use Rattle.row_model.specs.Table.{Table}
-use Rattle.row_walk.specs.BothStates.{rows_in}
+use Rattle.row_model.specs.BothStates.{rows_in}
 use Rattle.row_packing.specs.declared.chosen.Chosen.{Chosen}
 use Rattle.row_packing.specs.Chosen.{shape_at, IsChosen}
 use Rattle.row_packing.specs.Packs.{PacksPlaces}

@@ -6,7 +6,7 @@ use Rattle.hol_varint.specs.Varint.{varint_bytes}
 use Rattle.ordinal_set.specs.Population.{IsPopulation}
 use Rattle.schema_model.specs.declared.schema.Schema.{Schema}
 use Rattle.row_model.specs.Table.{Table}
-use Rattle.row_walk.specs.BothStates.{rows_in}
+use Rattle.row_model.specs.BothStates.{rows_in}
 use Rattle.row_packing.specs.Chosen.{shape_at, IsChosen}
 use Rattle.row_packing.specs.Packs.{PacksPlaces}
 use Rattle.row_packing.specs.Places.{snapshot_places}

@@ -1,7 +1,7 @@
 //! Which types differ between two states.
 ghost use Rattle.std.specs.Prelude.{◌≡◌, ◌<◌, IfOk, MatchBool, length};
 ghost use Rattle.schema_model.specs.Model.{IsModel};
-ghost use Rattle.row_walk.specs.BothStates.{rows_in};
+ghost use Rattle.row_model.specs.BothStates.{rows_in};
 ghost use Rattle.row_packing.specs.Places.{Agree};
 ghost use Rattle.row_packing.specs.States.{AreWritable};
 ghost use Rattle.blob_writing.specs.Changes.{AreChanged, IsChanged};

@@ -13,9 +13,7 @@ use crate::types::put_delta_type;
 use blob_sections::PackedRows;
 use hol_varint::{Ordinals, put_vlong};
 use row_model::Rows;
-use row_packing::laws::one_packing_of_places;
 use row_packing::{Chosen, choose, delta_rows, live_ordinals};
-use schema_model::laws::spellable_model;
 use std::alloc::{AllocError, Global};
 
 /// Writes the delta from an old to a new state of the same model, from one tag to another: the types whose rows differ, in
@@ -38,7 +36,7 @@ pub fn write_delta<A: Rows, B: Rows>(
     ensures front { IfErr result (MeansLarge (IsLongDelta (B.schemas new.now) (A.table old.now) (B.table new.now) origin destination)) }
     ensures large { IfErr result (MeansLarge ((blob : List ℕ) → IsDeltaBetween (B.schemas new.now) (A.table old.now) (B.table new.now) origin destination blob → 2 ^ 28 < length blob)) }
 {
-    one_packing_of_places();
+    row_packing::laws::one_packing_of_places();
     let model = new.model();
     let types = changed_types(alloc, old, new)?;
     let mut out = Vec::new(alloc);
@@ -65,7 +63,7 @@ fn put_changes<A: Rows, B: Rows>(
     ensures front { IfErr result (MeansLarge (IsFrontLong (B.schemas new.now) (A.table old.now) (B.table new.now) types.now out.old.items)) }
     ensures large { IfErr result (MeansLarge ((changes : List TypeChange) → AreChangesOf (B.schemas new.now) (A.table old.now) (B.table new.now) types.now changes → 2 ^ 28 < length (out.old.items ++ body_bytes changes))) }
 {
-    one_packing_of_places();
+    row_packing::laws::one_packing_of_places();
     put_vlong(out, types.len() as u64)?;
     let indexes = types.as_slice();
     for type_index in indexes {
@@ -115,7 +113,7 @@ fn put_change<A: Rows, B: Rows>(
     ensures { OnOk result ((change : TypeChange) × IsChangeOf (B.schemas new.now) (A.table old.now) (B.table new.now) type_index change × (out.new.items ≡ out.old.items ++ change_bytes change)) }
 {
     let alloc = *out.allocator();
-    spellable_model();
+    schema_model::laws::spellable_model();
     let moves = moved_ordinals(alloc, old, new, type_index)?;
     let chosen = choose(alloc, old, new, type_index)?;
     let packed = delta_rows(alloc, new, type_index, &chosen, &moves.added)?;

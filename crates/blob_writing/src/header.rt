@@ -7,7 +7,7 @@ ghost use Rattle.blob_writing.specs.Limits.{HasFewPaths, HasManyPaths, MeansLarg
 use crate::WriteFault;
 use blob_frame::put_header;
 use hol_varint::{Ordinals, put_vlong};
-use schema_model::laws::spellable_model;
+use schema_model::laws;
 use schema_model::{MAX_BLOB_BYTES, Model, Schema, Shape, put_schema};
 use std::alloc::{AllocError, Global};
 
@@ -52,7 +52,7 @@ fn is_long_list(alloc: Global, model: &Model, types: &Ordinals) -> Result<bool, 
     requires in_model { All (λ type_index. type_index < length model.now) types.now }
     ensures { IfOk result (λ long. MatchBool long (2 ^ 28 < length (schema_list_bytes (schemas_at model.now types.now))) (length (schema_list_bytes (schemas_at model.now types.now)) ≤ 2 ^ 28)) }
 {
-    spellable_model();
+    laws::spellable_model();
     let mut spelled = Vec::new(alloc);
     put_vlong(&mut spelled, types.len() as u64)?;
     let mut total = spelled.len() as u64;

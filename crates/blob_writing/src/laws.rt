@@ -23,7 +23,7 @@ ghost use Rattle.blob_writing.specs.Delta.{TypeChange, IsWrittenDelta, header_of
 ghost use Rattle.blob_writing.specs.Snapshot.{IsWrittenSnapshot};
 ghost use Rattle.blob_writing.specs.Written.{max_bytes, packed_bytes, type_head_bytes, area_bytes};
 
-use row_packing::laws::one_packing_of_places;
+use row_packing::laws;
 
 /// The bytes of a max ordinal are read as it.
 pub fn written_max()
@@ -69,7 +69,7 @@ pub fn one_written_snapshot()
     ensures { (schemas : List Schema) (old new : Table) (origin destination : ℤ) (a b : List ℕ) → IsModel schemas → AreWritable schemas old new
         → IsWrittenSnapshot schemas old new origin destination a → IsWrittenSnapshot schemas old new origin destination b → a ≡ b }
 {
-    one_packing_of_places();
+    laws::one_packing_of_places();
 }
 
 /// A delta between the same states and tags is written in one way.
@@ -77,5 +77,5 @@ pub fn one_written_delta()
     ensures { (schemas : List Schema) (old new : Table) (origin destination : ℤ) (a b : List ℕ) → IsModel schemas → AreWritable schemas old new
         → IsDeltaBetween schemas old new origin destination a → IsDeltaBetween schemas old new origin destination b → a ≡ b }
 {
-    one_packing_of_places();
+    laws::one_packing_of_places();
 }

@@ -12,10 +12,8 @@ use crate::types::put_snapshot_type;
 use blob_sections::PackedRows;
 use hol_varint::{Ordinals, put_vlong};
 use row_model::Rows;
-use row_packing::laws::one_packing_of_places;
 use row_packing::{Chosen, choose, live_ordinals, snapshot_rows};
 use schema_model::Model;
-use schema_model::laws::spellable_model;
 use std::alloc::{AllocError, Global};
 
 /// Writes the snapshot of a new state that follows an old one of the same model, from one tag to another: a header with all
@@ -74,7 +72,7 @@ fn put_types<A: Rows, B: Rows>(
     ensures front { IfErr result (MeansLarge (IsFrontLong (B.schemas new.now) (A.table old.now) (B.table new.now) types.now out.old.items)) }
     ensures large { IfErr result (MeansLarge ((carried : List TypeRows) → AreCarriedOf (B.schemas new.now) (A.table old.now) (B.table new.now) types.now carried → 2 ^ 28 < length (out.old.items ++ body_bytes carried))) }
 {
-    one_packing_of_places();
+    row_packing::laws::one_packing_of_places();
     put_vlong(out, types.len() as u64)?;
     let indexes = types.as_slice();
     for type_index in indexes {
@@ -98,7 +96,7 @@ fn put_type<A: Rows, B: Rows>(
     ensures { OnOk result ((carried : TypeRows) × IsCarriedOf (B.schemas new.now) (A.table old.now) (B.table new.now) type_index carried × (out.new.items ≡ out.old.items ++ type_bytes carried)) }
 {
     let alloc = *out.allocator();
-    spellable_model();
+    schema_model::laws::spellable_model();
     let chosen = choose(alloc, old, new, type_index)?;
     let packed = snapshot_rows(alloc, new, type_index, &chosen)?;
     let live = live_ordinals(alloc, new, type_index)?;

@@ -17,5 +17,4 @@ mod Fills
 mod Rows
 mod Placed
 pub mod PlaceRows
-pub mod SameWords
 mod OnePacking

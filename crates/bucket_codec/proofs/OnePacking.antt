@@ -5,16 +5,16 @@ use Rattle.std.proofs.lemmas.Bool.{cases_lt, cases_Bool, eqb-true}
 use Rattle.std.proofs.lemmas.List.{length-map, take_all}
 use Rattle.std.proofs.lemmas.List.Sums.{sum_by_more}
 use Rattle.std.proofs.lemmas.Option.{slice_get-get_or, none-some, some_pair_parts}
-use Rattle.bit_array.specs.Element.{number_of, element_of}
+use Rattle.bit_array.specs.Element.{number_of, element_of, AreWords}
 use Rattle.schema_model.specs.declared.schema.Shape.{Shape}
 use Rattle.row_model.specs.declared.row.Row.{Row}
 use Rattle.bucket_codec.specs.BucketCount.{bucket_count}
 use Rattle.bucket_codec.specs.Run.{Bucket, bucket_at, bucket_in, value_in, run_in, IsZeroIfEmpty}
 use Rattle.bucket_codec.specs.BucketPlace.{pointer_width, size_width, key_width, value_width, place_width, bucket_width, start_at, end_at, size_at, IsRowOf}
-use Rattle.bucket_codec.specs.Packed.{set_pair, pairs_of, buckets_of, bucket_total, PacksPlace, PacksRows, LaysRun, IsPacked, AreWords}
+use Rattle.bucket_codec.specs.Packed.{set_pair, pairs_of, buckets_of, bucket_total, PacksPlace, PacksRows, LaysRun, IsPacked}
 use Rattle.bucket_codec.proofs.Buckets.{bucket_of_run, if_true, if_false}
 use Rattle.bucket_codec.proofs.Rows.{run_at_is}
-use Rattle.bucket_codec.proofs.SameWords.{same_both, same_number, same_words}
+use Rattle.bit_array.proofs.SameWords.{same_both, same_number, same_words}
 
 -- how many pairs the row of a place has, if it has one
 abbrev count_of : Option Row → ℕ

@@ -6,7 +6,7 @@ use Rattle.std.proofs.lemmas.List.Sums.{fold-append, sum_by-cons}
 use Rattle.row_model.specs.declared.row.Row.{Row}
 use Rattle.row_model.specs.declared.lent.LentRow.{LentRow}
 use Rattle.row_model.specs.Lent.{lent_row}
-use Rattle.row_walk.specs.BothStates.{Takes}
+use Rattle.row_model.specs.BothStates.{Takes}
 use Rattle.bucket_codec.specs.BucketCount.{bucket_count}
 use Rattle.bucket_codec.specs.Run.{keys_of}
 use Rattle.bucket_codec.specs.Packed.{set_pair, pairs_of}

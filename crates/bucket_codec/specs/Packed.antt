@@ -94,10 +94,6 @@ pub record IsPacked (shape : Shape) (widths : List ℕ) (rows : List (Option Row
   pub first_bits : HoldsBits first (length rows * place_width widths)
   pub second_bits : HoldsBits second (bucket_total rows * bucket_width widths)
 
--- Each number is one of 64 bits, as a word is.
-abbrev pub AreWords : List ℕ → Type 0
-AreWords words = All (λ word. word < 2 ^ 64) words
-
 -- The same by the pairs: what is known of a place once it is written, of which the run ends within so many buckets.
 abbrev pub PacksPairs : List ℕ → ℕ → List ℕ → List ℕ → ℕ → Option Row → Type 0
 PacksPairs widths total first second place None = (end_at widths first place ≡ start_at widths first place) × (size_at widths first place ≡ 0)

@@ -1,6 +1,6 @@
 //! The widths and the total that the writer chooses, over the rows of two states.
 ghost use Rattle.std.specs.Prelude.{ℕ, List, ◌≡◌, ◌<◌, ◌+◌, ◌-◌, ◌^◌, length, min, max, fold, slice_get, IfOk, IsSomeAnd};
-ghost use Rattle.row_walk.specs.BothStates.{rows_of_both};
+ghost use Rattle.row_model.specs.BothStates.{rows_of_both};
 ghost use Rattle.bucket_codec.specs.BucketCount.{bucket_count};
 ghost use Rattle.bucket_codec.specs.Run.{keys_of};
 ghost use Rattle.bucket_codec.specs.Packed.{pairs_of};
@@ -9,8 +9,7 @@ ghost use Rattle.bucket_codec.specs.Widths.{buckets_of_rows, values_of, widths_f
 use crate::hash::buckets_for_any;
 use crate::packing::size_of;
 use bit_array::digits;
-use row_model::{Row, Rows, Widths};
-use row_walk::RowWalk;
+use row_model::{Row, RowWalk, Rows, Widths};
 use schema_model::{MAX_ITEMS, Shape};
 use std::alloc::{AllocError, Global};
 

@@ -6,7 +6,8 @@ ghost use Rattle.schema_model.specs.declared.reason.Reason.{Reason};
 ghost use Rattle.bucket_codec.specs.Run.{Bucket, SpellsRun};
 ghost use Rattle.bucket_codec.specs.BucketPlace.{SpellsBucketRow, FailsBucketRow};
 ghost use Rattle.bucket_codec.specs.Inserted.{inserted};
-ghost use Rattle.bucket_codec.specs.Packed.{IsPacked, AreWords};
+ghost use Rattle.bucket_codec.specs.Packed.{IsPacked};
+ghost use Rattle.bit_array.specs.Element.{AreWords};
 
 /// A run spells one set or map at most.
 pub fn one_set()

@@ -3,7 +3,7 @@ use Rattle.std.proofs.Common.{ℕ, List, Option, Some, None, refl, sym, subst}
 use Rattle.serde_json.specs.Data.{Data}
 use Rattle.schema_model.specs.declared.schema.name.Name.{Name}
 use Rattle.schema_model.specs.Parts.{index_of_type}
-use Rattle.hol_refusals.specs.declared.refusal.Refusal.TheVariants.{NoState, NoType}
+use Rattle.hol_answers.specs.declared.refusal.Refusal.TheVariants.{NoState, NoType}
 use Rattle.hol_answers.specs.declared.reply.Reply.{Reply}
 use Rattle.hol_answers.specs.declared.reply.Reply.TheVariants as reply
 use Rattle.hollow_machine.specs.KeyOrders.{FindReply, GetReply, ListsFound, ShowsFound}

@@ -6,16 +6,15 @@ use Rattle.hol_io.specs.declared.name.BlobName.{BlobName}
 use Rattle.hol_io.specs.declared.name.BlobName.TheVariants.{Snapshot, Delta, Reverse, Announced}
 use Rattle.type_state.specs.Views.{table_of}
 use Rattle.blob_frame.specs.declared.header.Header.{Header}
-use Rattle.blob_frame.specs.Header.{HeaderIs, header}
-use Rattle.blob_frame.specs.Header.{HasHeader}
+use Rattle.blob_frame.specs.Header.{HeaderIs, header, HasHeader}
 use Rattle.snapshot_blob.specs.Snapshot.{IsAccepted}
 use Rattle.snapshot_blob.proofs.Whole.{begins}
 use Rattle.delta_blob.specs.Patch.{TypePatch, DeltaIs}
 use Rattle.read_engine.specs.Position.{Position}
 use Rattle.read_engine.specs.Taking.{LoadsFrom, StepsBy}
-use Rattle.hol_refusals.specs.declared.refusal.Refusal.{Refusal}
-use Rattle.hol_refusals.specs.declared.refusal.Refusal.TheVariants.{BadBlob, BadBody, NoBlob, NoState, OtherOrigin, TooLarge}
-use Rattle.hol_refusals.specs.Refusal.{other_origin}
+use Rattle.hol_answers.specs.declared.refusal.Refusal.{Refusal}
+use Rattle.hol_answers.specs.declared.refusal.Refusal.TheVariants.{BadBlob, BadBody, NoBlob, NoState, OtherOrigin, TooLarge}
+use Rattle.hol_answers.specs.Refusal.{other_origin}
 use Rattle.hol_answers.specs.declared.reply.Reply.{Reply}
 use Rattle.hol_answers.specs.declared.reply.Reply.TheVariants as reply
 use Rattle.hollow_machine.proofs.Refusals.{one_header, some_one}

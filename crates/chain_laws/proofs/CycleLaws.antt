@@ -16,8 +16,9 @@ use Rattle.hol_orders.specs.Order.{Orders, content_of, kind_of}
 use Rattle.write_engine.specs.CycleLimit.{TellsTypes}
 use Rattle.hollow_machine.specs.CycleOrder.{CycleStep, Makes, Succeeds, cycle_form}
 use Rattle.hollow_machine.specs.Follow.{MayFollow}
-use Rattle.hollow_machine.specs.Puts.{Put, AreBlobs, IsShort, puts_of, put_all}
-use Rattle.hollow_machine.specs.State.{Machine, Published}
+use Rattle.state_blobs.specs.Puts.{Put, AreBlobs, IsShort, puts_of, put_all}
+use Rattle.hollow_machine.specs.State.{Machine}
+use Rattle.state_blobs.specs.Published.{Published}
 use Rattle.hol_io.specs.declared.name.BlobName.TheVariants.{Announced}
 use Rattle.written_laws.specs.Chain.{Chain}
 use Rattle.written_laws.specs.States.{IsWritableModel}

@@ -11,8 +11,8 @@ use Rattle.row_model.specs.PlainTree.{node_count}
 use Rattle.row_model.specs.Table.{Table, IsLive}
 use Rattle.row_model.specs.Unfold.{unfold_row}
 use Rattle.record_json.specs.PrintTree.{PrintsTree}
-use Rattle.hol_refusals.specs.declared.refusal.Refusal.{Refusal}
-use Rattle.hol_refusals.specs.declared.refusal.Refusal.TheVariants.{NoRow, TooLarge}
+use Rattle.hol_answers.specs.declared.refusal.Refusal.{Refusal}
+use Rattle.hol_answers.specs.declared.refusal.Refusal.TheVariants.{NoRow, TooLarge}
 use Rattle.hol_answers.specs.declared.reply.Reply.{Reply}
 use Rattle.hol_answers.specs.declared.reply.Reply.TheVariants as reply
 use Rattle.read_engine.specs.Position.{Position, rows_now}

@@ -8,12 +8,12 @@ use Rattle.std.proofs.lemmas.Int.{ints}
 use Rattle.hol_io.specs.Store.{Store}
 use Rattle.row_model.specs.declared.row.Row.{Row}
 use Rattle.row_model.specs.Table.{Table}
-use Rattle.row_walk.proofs.RowsFrom.{get_in}
+use Rattle.row_model.proofs.RowsFrom.{get_in}
 use Rattle.write_engine.specs.Agreement.{HoldsOnce}
 use Rattle.write_engine.specs.Cycle.{no_rows, rows_in}
 use Rattle.write_engine.proofs.ClosedStates.{none_closed}
 use Rattle.write_engine.proofs.NextStates.{none_there}
-use Rattle.hollow_machine.specs.State.{Published}
+use Rattle.state_blobs.specs.Published.{Published}
 use Rattle.written_laws.specs.Chain.{Chain}
 use Rattle.written_laws.specs.States.{IsState}
 use Rattle.chain_laws.specs.Producers.{IsOver, KeepsChain}

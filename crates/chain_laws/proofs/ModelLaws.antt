@@ -9,7 +9,8 @@ use Rattle.hol_answers.specs.declared.reply.Reply.{Reply}
 use Rattle.hol_answers.specs.declared.reply.Reply.TheVariants as reply
 use Rattle.hol_orders.specs.Order.{Orders, content_of, kind_of}
 use Rattle.hollow_machine.specs.ModelOrder.{ModelStep, model_form}
-use Rattle.hollow_machine.specs.State.{Machine, new_producer}
+use Rattle.hollow_machine.specs.State.{Machine}
+use Rattle.state_blobs.specs.Published.{new_producer}
 use Rattle.written_laws.specs.Chain.{Chain}
 use Rattle.chain_laws.specs.Producers.{IsOver, IsProducerOf, KeepsChain}
 use Rattle.chain_laws.proofs.ValueTexts.{named_texts}

@@ -8,8 +8,8 @@ use Rattle.std.proofs.lemmas.Bool.{cases_lt}
 use Rattle.row_model.specs.declared.row.Row.{Row}
 use Rattle.row_model.specs.PlainTree.{PlainTree}
 use Rattle.row_model.specs.Table.{Table, row_at}
-use Rattle.row_walk.specs.BothStates.{rows_in}
-use Rattle.row_walk.proofs.RowsFrom.{get_in, rows_past}
+use Rattle.row_model.specs.BothStates.{rows_in}
+use Rattle.row_model.proofs.RowsFrom.{get_in, rows_past}
 use Rattle.row_packing.specs.Chosen.{IsLiveInEither}
 use Rattle.row_packing.proofs.RowsUnder.{values_all}
 use Rattle.type_rows.specs.WordsHeld.{bytes_held}
@@ -19,7 +19,7 @@ use Rattle.write_engine.specs.CycleLimit.{TellsTypes}
 use Rattle.write_engine.specs.Soundness.{IsClosedTableOf}
 use Rattle.write_engine.proofs.ClosedStates.{next_closed}
 use Rattle.write_engine.proofs.NextStates.{next_agree, next_once}
-use Rattle.hollow_machine.specs.State.{Published}
+use Rattle.state_blobs.specs.Published.{Published}
 use Rattle.written_laws.specs.Chain.{IsSound}
 use Rattle.written_laws.specs.States.{IsWritableModel, IsState, AreStates}
 use Rattle.chain_laws.specs.Producers.{state_behind}

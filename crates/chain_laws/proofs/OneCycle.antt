@@ -32,16 +32,17 @@ use Rattle.blob_writing.specs.Snapshot.{IsWrittenSnapshot}
 use Rattle.blob_writing.specs.Changes.{IsDeltaBetween}
 use Rattle.chain_store.specs.Announced.{Announces, IsAnnounced, IsBadlyAnnounced, IsNoVersion}
 use Rattle.chain_store.specs.Versions.{last_version}
-use Rattle.hol_refusals.specs.declared.refusal.Refusal.{Refusal}
-use Rattle.hol_refusals.specs.declared.refusal.Refusal.TheVariants as refused
-use Rattle.hol_refusals.specs.Refusal.{bad_item, bad_record}
+use Rattle.hol_answers.specs.declared.refusal.Refusal.{Refusal}
+use Rattle.hol_answers.specs.declared.refusal.Refusal.TheVariants as refused
+use Rattle.hol_answers.specs.Refusal.{bad_item, bad_record}
 use Rattle.hol_answers.specs.declared.reply.Reply.{Reply}
 use Rattle.hol_answers.specs.declared.reply.Reply.TheVariants as reply
 use Rattle.hollow_machine.specs.CycleOrder.{AreNamed, CycleRefusal, CycleStep, Leaves, Makes, PassesLimit, Publishes, RefusesAfter, Succeeds}
 use Rattle.hollow_machine.specs.Follow.{MayFollow, MayNotFollow}
-use Rattle.hollow_machine.specs.Puts.{AreBlobs, IsShort, Put, puts_of, put_all}
+use Rattle.state_blobs.specs.Puts.{AreBlobs, IsShort, Put, puts_of, put_all}
 use Rattle.hollow_machine.specs.Records.{AreRead, AreTypes, Entry, GivesTree, IsFirstUnknown, IsFirstUnread, entries}
-use Rattle.hollow_machine.specs.State.{Machine, Published}
+use Rattle.hollow_machine.specs.State.{Machine}
+use Rattle.state_blobs.specs.Published.{Published}
 use Rattle.chain_laws.proofs.OneLook.{rising_one}
 use Rattle.chain_laws.proofs.PrintedOnce.{each_once}
 use Rattle.chain_laws.proofs.StoreNames.{found_with, one_announced}

@@ -21,8 +21,8 @@ use Rattle.row_model.specs.PlainTree.{node_count}
 use Rattle.schema_model.proofs.Ways.{one_path}
 use Rattle.json_values.specs.KeyFrom.{AreKinds, SpellsKey, key_values}
 use Rattle.record_json.specs.PrintTree.{PrintsTree}
-use Rattle.hol_refusals.specs.declared.refusal.Refusal.{Refusal}
-use Rattle.hol_refusals.specs.declared.refusal.Refusal.TheVariants.{Ambiguous, BadKey, BadPath, NoIndex, NoMatch, NoState, NoType, TooLarge, WrongKind}
+use Rattle.hol_answers.specs.declared.refusal.Refusal.{Refusal}
+use Rattle.hol_answers.specs.declared.refusal.Refusal.TheVariants.{Ambiguous, BadKey, BadPath, NoIndex, NoMatch, NoState, NoType, TooLarge, WrongKind}
 use Rattle.hol_answers.specs.declared.reply.Reply.{Reply}
 use Rattle.hol_answers.specs.declared.reply.Reply.TheVariants as reply
 use Rattle.hol_orders.specs.Parts.{whole}

@@ -12,8 +12,8 @@ use Rattle.row_model.specs.PlainTree.{node_count}
 use Rattle.row_model.specs.Row.{Rises}
 use Rattle.row_model.specs.Table.{IsLive}
 use Rattle.write_engine.proofs.RisingLists.{one_set}
-use Rattle.hol_refusals.specs.declared.refusal.Refusal.{Refusal}
-use Rattle.hol_refusals.specs.declared.refusal.Refusal.TheVariants.{NoRow, TooLarge}
+use Rattle.hol_answers.specs.declared.refusal.Refusal.{Refusal}
+use Rattle.hol_answers.specs.declared.refusal.Refusal.TheVariants.{NoRow, TooLarge}
 use Rattle.hol_answers.specs.declared.reply.Reply.{Reply}
 use Rattle.hol_answers.specs.declared.reply.Reply.TheVariants as reply
 use Rattle.hol_answers.specs.Reply.{is_refusal, reply_data}

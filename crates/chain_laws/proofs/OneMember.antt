@@ -12,8 +12,8 @@ use Rattle.row_model.specs.Row.{FitsShape, Rises}
 use Rattle.row_model.specs.Table.{IsLive, Table, row_at}
 use Rattle.bucket_codec.specs.Run.{FindsIn, keys_of}
 use Rattle.type_state.specs.Lookup.{elements_of, pairs_of}
-use Rattle.hol_refusals.specs.declared.refusal.Refusal.{Refusal}
-use Rattle.hol_refusals.specs.declared.refusal.Refusal.TheVariants.{NoRow, WrongKind}
+use Rattle.hol_answers.specs.declared.refusal.Refusal.{Refusal}
+use Rattle.hol_answers.specs.declared.refusal.Refusal.TheVariants.{NoRow, WrongKind}
 use Rattle.hol_answers.specs.declared.reply.Reply.{Reply}
 use Rattle.hol_answers.specs.declared.reply.Reply.TheVariants as reply
 use Rattle.read_engine.specs.Position.{Position, rows_now}

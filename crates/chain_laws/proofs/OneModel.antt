@@ -11,12 +11,13 @@ use Rattle.json_values.specs.declared.fault.JsonFault.TheVariants as fault
 use Rattle.json_values.specs.SchemaJson.{HasText, StandsFor}
 use Rattle.json_values.specs.SchemasFrom.{IsRefused}
 use Rattle.json_values.proofs.OneSchemaList.{one_list, rule_exactly}
-use Rattle.hol_refusals.specs.declared.refusal.Refusal.{Refusal}
-use Rattle.hol_refusals.specs.declared.refusal.Refusal.TheVariants as refused
+use Rattle.hol_answers.specs.declared.refusal.Refusal.{Refusal}
+use Rattle.hol_answers.specs.declared.refusal.Refusal.TheVariants as refused
 use Rattle.hol_answers.specs.declared.reply.Reply.{Reply}
 use Rattle.hol_answers.specs.declared.reply.Reply.TheVariants as reply
 use Rattle.hollow_machine.specs.ModelOrder.{BreaksRule, IsNamed, ModelRefusal, ModelStep}
-use Rattle.hollow_machine.specs.State.{Machine, new_producer}
+use Rattle.hollow_machine.specs.State.{Machine}
+use Rattle.state_blobs.specs.Published.{new_producer}
 
 -- ---- the first rule that is broken
 

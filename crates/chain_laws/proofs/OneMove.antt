@@ -17,9 +17,9 @@ use Rattle.blob_frame.specs.Header.{HasHeader}
 use Rattle.snapshot_blob.proofs.Whole.{one_snapshot}
 use Rattle.delta_blob.specs.Moved.{EachNamed, IsAt, IsUnnamed, Moved}
 use Rattle.delta_blob.specs.Patch.{TypePatch}
-use Rattle.hol_refusals.specs.declared.refusal.Refusal.{Refusal}
-use Rattle.hol_refusals.specs.declared.refusal.Refusal.TheVariants.{BadBody, NoState, OtherOrigin}
-use Rattle.hol_refusals.specs.Refusal.{other_origin}
+use Rattle.hol_answers.specs.declared.refusal.Refusal.{Refusal}
+use Rattle.hol_answers.specs.declared.refusal.Refusal.TheVariants.{BadBody, NoState, OtherOrigin}
+use Rattle.hol_answers.specs.Refusal.{other_origin}
 use Rattle.hol_answers.specs.declared.reply.Reply.{Reply}
 use Rattle.hol_answers.specs.declared.reply.Reply.TheVariants as reply
 use Rattle.read_engine.specs.Position.{Position, rows_now}

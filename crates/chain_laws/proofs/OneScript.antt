@@ -6,12 +6,13 @@ use Rattle.serde_json.specs.Written.{compact_text}
 use Rattle.hol_orders.specs.declared.kind.Kind.{Kind}
 use Rattle.hol_orders.specs.declared.order.Order.{Order}
 use Rattle.hol_orders.specs.Order.{Orders, content_of, kind_of}
-use Rattle.hol_refusals.specs.declared.refusal.Refusal.{Refusal}
+use Rattle.hol_answers.specs.declared.refusal.Refusal.{Refusal}
 use Rattle.hol_answers.specs.declared.reply.Reply.{Reply}
 use Rattle.hol_io.specs.Store.{Store}
 use Rattle.hollow_machine.specs.Forms.{Meets, OrderForm, Refuses}
 use Rattle.hollow_machine.specs.Script.{LineStep, Script}
-use Rattle.hollow_machine.specs.State.{Machine, Published}
+use Rattle.hollow_machine.specs.State.{Machine}
+use Rattle.state_blobs.specs.Published.{Published}
 use Rattle.hollow_machine.specs.Step.{Step, form}
 use Rattle.written_laws.specs.Chain.{Chain}
 use Rattle.chain_laws.specs.Answers.{SaysOne}

@@ -20,8 +20,8 @@ use Rattle.chain_store.specs.Versions.{newest}
 use Rattle.blob_writing.specs.Changes.{IsDeltaBetween}
 use Rattle.blob_writing.specs.Snapshot.{IsWrittenSnapshot}
 use Rattle.hollow_machine.specs.Follow.{MayFollow}
-use Rattle.hollow_machine.specs.Puts.{Put, put_all}
-use Rattle.hollow_machine.specs.State.{Published}
+use Rattle.state_blobs.specs.Puts.{Put, put_all}
+use Rattle.state_blobs.specs.Published.{Published}
 use Rattle.written_laws.specs.Chain.{Chain, ChainState, HasVersion, Follows, IsSound}
 use Rattle.written_laws.specs.HoldsChain.{IsOfChain, IsSnapshotOfState, LeadsBetween, OfStep}
 use Rattle.written_laws.specs.Snapshot.{header_between}

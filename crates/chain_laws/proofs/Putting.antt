@@ -3,7 +3,7 @@ use Rattle.std.proofs.Common.{◌≡◌, ◌⊎◌, ℕ, List, [], ◌∷◌, So
 use Rattle.std.specs.FinMap.{get, insert}
 use Rattle.hol_io.specs.declared.name.BlobName.{BlobName}
 use Rattle.hol_io.specs.Store.{Store}
-use Rattle.hollow_machine.specs.Puts.{Put, put_all}
+use Rattle.state_blobs.specs.Puts.{Put, put_all}
 use Rattle.chain_laws.proofs.Inserting.{inserted, beside, here_or_beside}
 use Rattle.chain_laws.proofs.NameOrder.{name_cmp_total, name_cmp-IsAntisymmetric}
 

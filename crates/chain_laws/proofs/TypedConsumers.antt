@@ -13,8 +13,8 @@ use Rattle.schema_model.specs.declared.schema.Schema.{Schema}
 use Rattle.schema_model.specs.Model.{IsKept}
 use Rattle.row_model.specs.Row.{FitsShape}
 use Rattle.row_model.specs.Table.{EachRow, RowMap, Table, row_at}
-use Rattle.row_walk.specs.BothStates.{rows_in}
-use Rattle.row_walk.proofs.RowsFrom.{get_in}
+use Rattle.row_model.specs.BothStates.{rows_in}
+use Rattle.row_model.proofs.RowsFrom.{get_in}
 use Rattle.type_rows.specs.Patches.{AddsRows, MovesRows}
 use Rattle.type_state.specs.State.{Half}
 use Rattle.type_state.specs.Views.{table_of}

@@ -14,7 +14,8 @@ use Rattle.hol_orders.specs.Order.{Orders}
 use Rattle.hol_answers.specs.Reply.{line_of}
 use Rattle.hollow_machine.specs.Records.{AreRead, entries}
 use Rattle.hollow_machine.specs.Script.{LineStep}
-use Rattle.hollow_machine.specs.State.{Machine, Published}
+use Rattle.hollow_machine.specs.State.{Machine}
+use Rattle.state_blobs.specs.Published.{Published}
 use Rattle.written_laws.specs.Chain.{Chain}
 use Rattle.chain_laws.specs.Producers.{state_behind}
 

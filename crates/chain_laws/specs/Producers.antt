@@ -9,7 +9,7 @@ use Rattle.schema_model.specs.Schema.{EachName}
 use Rattle.row_model.specs.Table.{Table, EachRow}
 use Rattle.row_packing.specs.Written.{IsStored}
 use Rattle.chain_store.specs.Tags.{IsTagTaken}
-use Rattle.hollow_machine.specs.State.{Published, new_producer}
+use Rattle.state_blobs.specs.Published.{new_producer, Published}
 use Rattle.written_laws.specs.Chain.{Chain, ChainState, HasVersion}
 use Rattle.written_laws.specs.HoldsChain.{HoldsChain}
 

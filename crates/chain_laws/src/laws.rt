@@ -9,7 +9,7 @@ ghost use Rattle.hol_orders.specs.declared.kind.Kind.TheVariants as Kind;
 ghost use Rattle.hol_orders.specs.Order.{kind_of};
 ghost use Rattle.hol_orders.specs.declared.order.Order.{Order};
 ghost use Rattle.hol_orders.specs.declared.order.Order.TheVariants as order;
-ghost use Rattle.hol_refusals.specs.Refusal.{other_origin};
+ghost use Rattle.hol_answers.specs.Refusal.{other_origin};
 ghost use Rattle.hol_answers.specs.declared.reply.Reply.{Reply};
 ghost use Rattle.hol_answers.specs.declared.reply.Reply.TheVariants as reply;
 ghost use Rattle.read_engine.specs.Position.{Index, IsPosition, Position};
@@ -28,8 +28,6 @@ ghost use Rattle.chain_laws.specs.Headline.{AreTrueLines, StandsOn, IsOfState};
 ghost use Rattle.chain_laws.specs.KeptIndexes.{AsksFor};
 ghost use Rattle.chain_laws.specs.Producers.{HoldsBytes, IsProducerOf, KeepsChain};
 
-use blob_writing::laws::{one_written_delta, one_written_snapshot};
-use hol_orders::laws::one_order;
 
 /// A store of bytes that holds a chain keeps it: the tag of each state is that of a blob.
 pub fn chain_is_kept()
@@ -145,8 +143,8 @@ pub fn one_answer()
         → KeepsChain machine.store chain → IsProducerOf chain machine.producer → IfSome machine.consumer IsPosition
         → Step machine asked answer next → Step machine asked other after → SaysOne answer other × (next ≡ after) }
 {
-    one_written_snapshot();
-    one_written_delta();
+    blob_writing::laws::one_written_snapshot();
+    blob_writing::laws::one_written_delta();
 }
 
 /// What is asked of a consumer has one answer line. Where it is a key, or a key of a map, the rows are those of a model, as they are wherever
@@ -190,8 +188,8 @@ pub fn one_cycle()
         → KeepsChain machine.store chain → IsProducerOf chain machine.producer
         → Step machine (order.Cycle version tag add) answer next → Step machine (order.Cycle version tag add) other after → (answer ≡ other) × (next ≡ after) }
 {
-    one_written_snapshot();
-    one_written_delta();
+    blob_writing::laws::one_written_snapshot();
+    blob_writing::laws::one_written_delta();
 }
 
 /// The order `model` has one answer, and leaves one machine.
@@ -209,9 +207,9 @@ pub fn one_script()
         → KeepsChain machine.store chain → IsProducerOf chain machine.producer → IsConsumerOf chain machine.consumer
         → Script machine lines text refused next → Script machine lines other also after → (text ≡ other) × (refused ≡ also) × (next ≡ after) }
 {
-    one_written_snapshot();
-    one_written_delta();
-    one_order();
+    blob_writing::laws::one_written_snapshot();
+    blob_writing::laws::one_written_delta();
+    hol_orders::laws::one_order();
 }
 
 /// The headline: over a store of bytes that holds a chain, each line of a script is answered as is promised. A state that a cycle publishes follows in

@@ -8,8 +8,8 @@ use Rattle.schema_model.specs.declared.schema.Schema.{Schema}
 use Rattle.row_model.specs.Key.{IsResolved}
 use Rattle.read_engine.specs.Indexes.{AddsIndex, CountsKeyed, KeepsIndex, index_by}
 use Rattle.read_engine.specs.Position.{Index, Position}
-use Rattle.hol_refusals.specs.declared.refusal.Refusal.{Refusal}
-use Rattle.hol_refusals.specs.declared.refusal.Refusal.TheVariants as refusal
+use Rattle.hol_answers.specs.declared.refusal.Refusal.{Refusal}
+use Rattle.hol_answers.specs.declared.refusal.Refusal.TheVariants as refusal
 use Rattle.hol_answers.specs.declared.reply.Reply.{Reply}
 use Rattle.hol_answers.specs.declared.reply.Reply.TheVariants as reply
 use Rattle.hollow_machine.specs.IndexOrder.{IndexRefusal, IndexStep, RefusesIndex}

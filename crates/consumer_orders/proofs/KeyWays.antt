@@ -11,7 +11,7 @@ use Rattle.schema_model.specs.declared.model.faults.PathFault.TheVariants as pat
 use Rattle.schema_model.specs.Faults.{TellsPath}
 use Rattle.row_model.specs.Key.{IsResolved}
 use Rattle.schema_model.specs.Path.{Leads, Resolves, path_names}
-use Rattle.hol_refusals.specs.declared.refusal.Refusal.TheVariants.{BadPath}
+use Rattle.hol_answers.specs.declared.refusal.Refusal.TheVariants.{BadPath}
 use Rattle.hollow_machine.specs.KeyPaths.{AreKeyPaths, HasKeyTexts, HasShape, IsFirstLost, IsObject}
 use Rattle.consumer_orders.specs.Sought.{TellsKeyPaths, TellsResolved}
 use Rattle.consumer_orders.specs.declared.key_paths.KeyPaths.{KeyPaths}

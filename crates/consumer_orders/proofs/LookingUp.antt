@@ -13,8 +13,8 @@ use Rattle.json_values.specs.declared.fault.JsonFault.TheVariants as json_fault
 use Rattle.json_values.specs.KeyFrom.{SpellsKey, TellsKey}
 use Rattle.read_engine.specs.Indexes.{index_by}
 use Rattle.read_engine.specs.Position.{Index, Position, rows_now}
-use Rattle.hol_refusals.specs.declared.refusal.Refusal.{Refusal}
-use Rattle.hol_refusals.specs.declared.refusal.Refusal.TheVariants as refusal
+use Rattle.hol_answers.specs.declared.refusal.Refusal.{Refusal}
+use Rattle.hol_answers.specs.declared.refusal.Refusal.TheVariants as refusal
 use Rattle.hol_answers.specs.declared.reply.Reply.{Reply}
 use Rattle.hol_answers.specs.declared.reply.Reply.TheVariants as reply
 use Rattle.hollow_machine.specs.KeyOrders.{FindReply, FindsUnder, ListsFound, LookUpRefusal, ShowsFound}

@@ -16,7 +16,7 @@ use Rattle.row_model.specs.Unfold.{unfold_row}
 use Rattle.record_json.specs.PrintTree.{PrintsTree}
 use Rattle.read_engine.specs.Gone.{AreGone}
 use Rattle.read_engine.specs.Position.{Position}
-use Rattle.hol_refusals.specs.declared.refusal.Refusal.TheVariants.{TooLarge}
+use Rattle.hol_answers.specs.declared.refusal.Refusal.TheVariants.{TooLarge}
 use Rattle.hol_answers.specs.declared.reply.Reply.TheVariants as reply
 use Rattle.hollow_machine.specs.RowOrders.{ShowsPast}
 use Rattle.consumer_orders.proofs.ShownRows.{of_position}

@@ -6,7 +6,7 @@ use Rattle.blob_frame.specs.declared.fault.BlobFault.TheVariants as fault
 use Rattle.read_engine.specs.declared.fault.TakeFault.TheVariants as take
 use Rattle.read_engine.specs.Taking.{TellsHead}
 use Rattle.hol_orders.specs.declared.order_stop.OrderStop.{OrderStop}
-use Rattle.hol_refusals.specs.declared.refusal.Refusal.{Refusal}
+use Rattle.hol_answers.specs.declared.refusal.Refusal.{Refusal}
 use Rattle.hollow_machine.specs.Blobs.{HeadRefusal}
 use Rattle.consumer_orders.specs.Taken.{refusal_of_blob}
 

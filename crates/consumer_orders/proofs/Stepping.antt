@@ -9,8 +9,8 @@ use Rattle.read_engine.specs.declared.fault.TakeFault.{TakeFault}
 use Rattle.read_engine.specs.declared.fault.TakeFault.TheVariants as take
 use Rattle.read_engine.specs.Position.{Position}
 use Rattle.read_engine.specs.Taking.{TellsStep}
-use Rattle.hol_refusals.specs.declared.refusal.Refusal.{Refusal}
-use Rattle.hol_refusals.specs.declared.refusal.Refusal.TheVariants as refusal
+use Rattle.hol_answers.specs.declared.refusal.Refusal.{Refusal}
+use Rattle.hol_answers.specs.declared.refusal.Refusal.TheVariants as refusal
 use Rattle.hol_answers.specs.declared.reply.Reply.TheVariants.{Step, Refused}
 use Rattle.hollow_machine.specs.Blobs.{HeadRefusal}
 use Rattle.hollow_machine.specs.Kept.{MovesConsumer, machine_of}

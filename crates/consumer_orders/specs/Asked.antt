@@ -3,7 +3,7 @@ use Rattle.std.specs.Prelude.{◌≡◌, Option, Some, None}
 use Rattle.schema_model.specs.declared.schema.name.Name.{Name}
 use Rattle.schema_model.specs.Parts.{index_of_type}
 use Rattle.read_engine.specs.Position.{Position}
-use Rattle.hol_refusals.specs.declared.refusal.Refusal.TheVariants.{NoState, NoType}
+use Rattle.hol_answers.specs.declared.refusal.Refusal.TheVariants.{NoState, NoType}
 use Rattle.consumer_orders.specs.declared.type_order.Asked.{Asked}
 use Rattle.consumer_orders.specs.declared.type_order.Asked.TheVariants as asked
 

@@ -11,7 +11,7 @@ use Rattle.schema_model.specs.Path.{Resolves}
 use Rattle.json_values.specs.KeyFrom.{SpellsKey}
 use Rattle.read_engine.specs.Indexes.{CountsKeyed, KeepsIndex, index_by}
 use Rattle.read_engine.specs.Position.{Index, Position, rows_now}
-use Rattle.hol_refusals.specs.declared.refusal.Refusal.TheVariants.{BadKey, BadPath, NoIndex}
+use Rattle.hol_answers.specs.declared.refusal.Refusal.TheVariants.{BadKey, BadPath, NoIndex}
 use Rattle.hol_answers.specs.declared.reply.Reply.{Reply}
 use Rattle.hol_answers.specs.declared.reply.Reply.TheVariants as reply
 use Rattle.hollow_machine.specs.IndexOrder.{RefusesIndex}

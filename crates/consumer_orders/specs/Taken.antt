@@ -7,9 +7,9 @@ use Rattle.read_engine.specs.declared.fault.TakeFault.{TakeFault}
 use Rattle.read_engine.specs.declared.fault.TakeFault.TheVariants as take
 use Rattle.hol_orders.specs.declared.order_stop.OrderStop.{OrderStop}
 use Rattle.hol_orders.specs.declared.order_stop.OrderStop.TheVariants as stop
-use Rattle.hol_refusals.specs.declared.refusal.Refusal.{Refusal}
-use Rattle.hol_refusals.specs.declared.refusal.Refusal.TheVariants as refusal
-use Rattle.hol_refusals.specs.Refusal.{bad_item, other_origin}
+use Rattle.hol_answers.specs.declared.refusal.Refusal.{Refusal}
+use Rattle.hol_answers.specs.declared.refusal.Refusal.TheVariants as refusal
+use Rattle.hol_answers.specs.Refusal.{bad_item, other_origin}
 
 -- the refusal for a fault of a blob, or why the order stops
 abbrev pub refusal_of_blob : BlobName → BlobFault → Result Refusal OrderStop

@@ -9,9 +9,8 @@ ghost use Rattle.read_engine.specs.Position.{Position, rows_now};
 
 use crate::look_up::{Found, look_up};
 use crate::type_order::{Asked, type_of};
-use hol_answers::{PlainValue, Reply};
+use hol_answers::{PlainValue, Refusal, Reply};
 use hol_orders::OrderStop;
-use hol_refusals::Refusal;
 use read_engine::Consumer;
 use record_json::{PrintFault, tree_value};
 use row_model::Rows;

@@ -3,9 +3,8 @@ ghost use Rattle.std.specs.Prelude.{◌≡◌, ◌<◌, IfErr, IfOk, IsSomeAnd, 
 ghost use Rattle.hollow_machine.specs.MemberOrders.{HasReply, TellsElement};
 
 use crate::type_order::{Asked, type_of};
-use hol_answers::Reply;
+use hol_answers::{Refusal, Reply, RowPlace};
 use hol_orders::OrderStop;
-use hol_refusals::{Refusal, RowPlace};
 use hol_varint::Duplicate;
 use read_engine::Consumer;
 use row_model::Rows;

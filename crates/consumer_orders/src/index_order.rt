@@ -9,10 +9,9 @@ ghost use Rattle.consumer_orders.specs.Sought.{TellsKept};
 
 use crate::key_paths::{KeyPaths, key_paths, texts_of};
 use crate::type_order::{Asked, type_of};
-use hol_answers::Reply;
+use hol_answers::{Refusal, Reply};
 use hol_io::Steps;
 use hol_orders::OrderStop;
-use hol_refusals::Refusal;
 use read_engine::{Consumer, IndexFault};
 use schema_model::{Limit, Name, Names};
 use serde_json::Value;

@@ -4,7 +4,7 @@ ghost use Rattle.serde_json.specs.View.{items_view, view};
 ghost use Rattle.hollow_machine.specs.KeyPaths.{text_in, texts_in, texts_of_array};
 ghost use Rattle.consumer_orders.specs.Sought.{TellsKeyPaths, TellsResolved};
 
-use hol_refusals::Refusal;
+use hol_answers::Refusal;
 use hol_varint::Duplicate;
 use schema_model::{Model, Name, Names, PathFault, Paths, Shape, resolve};
 use serde_json::Value;

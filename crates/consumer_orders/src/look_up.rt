@@ -5,7 +5,7 @@ ghost use Rattle.row_model.specs.Key.{IsResolved};
 ghost use Rattle.consumer_orders.specs.Sought.{TellsAlong, TellsFound};
 
 use crate::key_paths::{KeyPaths, key_paths};
-use hol_refusals::Refusal;
+use hol_answers::Refusal;
 use hol_varint::Ordinals;
 use json_values::{JsonFault, key_from};
 use read_engine::Consumer;

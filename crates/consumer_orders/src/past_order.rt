@@ -6,9 +6,8 @@ ghost use Rattle.read_engine.specs.Position.{Position};
 ghost use Rattle.hollow_machine.specs.RowOrders.{PastReply, ShowsPast};
 
 use crate::type_order::{Asked, type_of};
-use hol_answers::{PastRows, PlainValue, Reply};
+use hol_answers::{PastRows, PlainValue, Refusal, Reply};
 use hol_orders::OrderStop;
-use hol_refusals::Refusal;
 use read_engine::Consumer;
 use record_json::{PrintFault, tree_value};
 use row_model::Rows;

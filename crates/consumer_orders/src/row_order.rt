@@ -5,9 +5,8 @@ ghost use Rattle.read_engine.specs.Position.{Position, rows_now};
 ghost use Rattle.hollow_machine.specs.RowOrders.{RowReply, ShowsRow};
 
 use crate::type_order::{Asked, type_of};
-use hol_answers::{PlainValue, Reply};
+use hol_answers::{PlainValue, Refusal, Reply, RowPlace};
 use hol_orders::OrderStop;
-use hol_refusals::{Refusal, RowPlace};
 use hol_varint::Duplicate;
 use read_engine::Consumer;
 use record_json::{PrintFault, tree_value};

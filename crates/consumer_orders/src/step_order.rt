@@ -6,10 +6,9 @@ ghost use Rattle.hollow_machine.specs.StepOrder.{StepStep, step_name};
 ghost use Rattle.read_engine.specs.Taking.{IsStepName};
 
 use crate::take_refusal::take_refusal;
-use hol_answers::Reply;
+use hol_answers::{Refusal, Reply};
 use hol_io::{BlobName, BlobStore, Steps};
 use hol_orders::OrderStop;
-use hol_refusals::Refusal;
 use read_engine::Consumer;
 use std::marker::Brand;
 use std::sync::ledger::{Blank, Ledger};

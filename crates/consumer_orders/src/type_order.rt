@@ -2,7 +2,7 @@
 ghost use Rattle.std.specs.Prelude.{IfOk};
 ghost use Rattle.consumer_orders.specs.Asked.{TellsType};
 
-use hol_refusals::Refusal;
+use hol_answers::Refusal;
 use hol_varint::Duplicate;
 use read_engine::Consumer;
 use schema_model::Name;

@@ -2,7 +2,7 @@
 use Rattle.std.specs.Prelude.{ℕ, List}
 use Rattle.schema_model.specs.declared.schema.Schema.{Schema}
 use Rattle.row_model.specs.Table.{Table, IsClosed}
-use Rattle.row_walk.specs.BothStates.{rows_in}
+use Rattle.row_model.specs.BothStates.{rows_in}
 use Rattle.type_rows.specs.Holds.{Holds}
 use Rattle.type_rows.specs.Patches.{FitsOrdinals}
 use Rattle.delta_blob.specs.Moved.{EachNamed, Moved}

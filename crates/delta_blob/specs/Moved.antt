@@ -2,7 +2,7 @@
 use Rattle.std.specs.Prelude.{◌≡◌, ◌<◌, ℕ, List, Some, All, length, slice_get}
 use Rattle.schema_model.specs.declared.schema.Schema.{Schema}
 use Rattle.row_model.specs.Table.{Table}
-use Rattle.row_walk.specs.BothStates.{rows_in}
+use Rattle.row_model.specs.BothStates.{rows_in}
 use Rattle.type_rows.specs.Patches.{MovesRows}
 use Rattle.delta_blob.specs.Patch.{TypePatch}
 

@@ -4,7 +4,7 @@ use Rattle.schema_model.specs.declared.limit.Limit.TheVariants.{Ordinals, Items}
 use Rattle.schema_model.specs.declared.schema.Schema.{Schema}
 use Rattle.schema_model.specs.Limit.{number_of_limit}
 use Rattle.row_model.specs.Table.{Table}
-use Rattle.row_walk.specs.BothStates.{rows_in}
+use Rattle.row_model.specs.BothStates.{rows_in}
 use Rattle.type_rows.specs.Holds.{KeepsLimits}
 use Rattle.type_rows.specs.Layout.{places_of}
 use Rattle.delta_blob.specs.declared.part.DeltaPart.{DeltaPart}

@@ -8,16 +8,16 @@ use Rattle.serde_json.specs.Written.{has_float, items_have_float, compact_text}
 use Rattle.json_rows.proofs.Printed.{items_have_float-items_of, integer_has_none}
 use Rattle.hol_answers.specs.declared.reply.Reply.{Reply}
 use Rattle.hol_answers.specs.declared.reply.Reply.TheVariants.{Head, Model, Cycle, Load, Step, Index, Get, Find, Live, Row, Has, At, Past, Refused}
-use Rattle.hol_refusals.specs.declared.refusal.ItemFault.{ItemFault}
-use Rattle.hol_refusals.specs.declared.refusal.Refusal.{Refusal}
-use Rattle.hol_refusals.specs.declared.refusal.RowPlace.{RowPlace}
-use Rattle.hol_refusals.specs.declared.refusal.Refusal.TheVariants.{BadOrder, LineTooLong, BadModel, NoModel, ModelFixed, BadRecord, BadVersion, TagUsed, NoBlob, BadBlob, OtherOrigin, NoState, NoType, NoRow, BadPath, NoMatch, Ambiguous, Mismatch, TooLarge, DuplicateRow, OtherModel, NotLast, NoIndex, WrongKind, BadKey, NotYet, BadBody}
+use Rattle.hol_answers.specs.declared.refusal.ItemFault.{ItemFault}
+use Rattle.hol_answers.specs.declared.refusal.Refusal.{Refusal}
+use Rattle.hol_answers.specs.declared.refusal.RowPlace.{RowPlace}
+use Rattle.hol_answers.specs.declared.refusal.Refusal.TheVariants.{BadOrder, LineTooLong, BadModel, NoModel, ModelFixed, BadRecord, BadVersion, TagUsed, NoBlob, BadBlob, OtherOrigin, NoState, NoType, NoRow, BadPath, NoMatch, Ambiguous, Mismatch, TooLarge, DuplicateRow, OtherModel, NotLast, NoIndex, WrongKind, BadKey, NotYet, BadBody}
 use Rattle.schema_model.specs.declared.schema.name.Name.{Name}
 use Rattle.blob_frame.specs.declared.header.Header.{Header}
 use Rattle.hol_orders.specs.Parts.{whole}
 use Rattle.hol_answers.specs.Plain.{IsPlain}
-use Rattle.hol_refusals.specs.Member.{number_or_null, text_or_null}
-use Rattle.hol_refusals.specs.Refusal.{bad_blob_data, refusal_data}
+use Rattle.hol_answers.specs.Member.{number_or_null, text_or_null}
+use Rattle.hol_answers.specs.Refusal.{bad_blob_data, refusal_data}
 use Rattle.hol_answers.specs.Reply.{reply_data, head_data, cycle_data, tag_data, get_data, ordinals_data, at_data, row_data, past_item, texts_data, names_data, tags_data, line_of}
 
 -- a name or a number that may be null has none

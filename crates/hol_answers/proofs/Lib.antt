@@ -1,3 +1,4 @@
 mod Floats
 mod Pasts
 pub mod ThirdBytes
+mod Members

@@ -1,3 +1,5 @@
 pub mod Marks
 pub mod Plain
 pub mod Reply
+pub mod Member
+pub mod Refusal

@@ -11,8 +11,8 @@ use Rattle.blob_frame.specs.declared.header.Header.{Header}
 use Rattle.hol_answers.specs.declared.reply.Reply.{Reply}
 use Rattle.hol_answers.specs.declared.reply.Reply.TheVariants.{Head, Model, Cycle, Load, Step, Index, Get, Find, Live, Row, Has, At, Past, Refused}
 use Rattle.hol_orders.specs.Parts.{pair, whole}
-use Rattle.hol_refusals.specs.Member.{number_or_null}
-use Rattle.hol_refusals.specs.Refusal.{refusal_data}
+use Rattle.hol_answers.specs.Member.{number_or_null}
+use Rattle.hol_answers.specs.Refusal.{refusal_data}
 
 -- names, in their order
 abbrev pub texts_data : List Name → Data

@@ -1,9 +1,9 @@
 //! Laws of the lines of answers.
 ghost use Rattle.std.specs.Prelude.{◌≡◌, ◌≢◌, false, true};
-ghost use Rattle.hol_refusals.specs.declared.refusal.Refusal.{Refusal};
+ghost use Rattle.hol_answers.specs.declared.refusal.Refusal.{Refusal};
 ghost use Rattle.hol_answers.specs.declared.reply.Reply.{Reply};
 ghost use Rattle.hol_answers.specs.Marks.{is_marked, tells_error};
-ghost use Rattle.hol_refusals.specs.Refusal.{refusal_line};
+ghost use Rattle.hol_answers.specs.Refusal.{refusal_line};
 ghost use Rattle.hol_answers.specs.Reply.{is_refusal, line_of, reply_data};
 
 /// An answer has a member `error` exactly where it is a refusal.

@@ -1,11 +1,19 @@
-//! Answers and refusals, and the line of each.
+//! Answers and refusals: the JSON object of each, and its line.
 #![tactic(auto)]
 
 pub mod laws;
 mod line;
+mod member;
 mod plain;
+mod refusal;
+mod refusal_json;
 mod reply;
 
 pub use line::put_line;
+pub use member::{Content, object_of};
 pub use plain::PlainValue;
+pub use refusal::{
+    Difference, EqualRows, ItemFault, MAX_LINE_BYTES, OriginFault, Refusal, RefusedRecord, RowPlace,
+};
+pub use refusal_json::refusal_value;
 pub use reply::{PastRows, Reply, put_reply, reply_line};

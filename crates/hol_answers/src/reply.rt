@@ -7,8 +7,8 @@ ghost use Rattle.hol_answers.specs.Reply.{reply_data, head_data, model_data, cyc
 use crate::line::{line_text, put_line};
 use crate::plain::PlainValue;
 use blob_frame::Header;
-use hol_refusals::Content::{Integer, Json, Number, Text};
-use hol_refusals::{Content, Refusal, object_of, refusal_value};
+use crate::Content::{Integer, Json, Number, Text};
+use crate::{Content, Refusal, object_of, refusal_value};
 use hol_varint::{List, Ordinals};
 use schema_model::{Name, NamePairs, Names, Schemas};
 use serde_json::{Value, json};

@@ -7,9 +7,9 @@ use Rattle.schema_model.specs.declared.reason.Reason.{Reason}
 use Rattle.schema_model.specs.Limit.{number_of_limit}
 use Rattle.blob_frame.specs.declared.header.Header.{Header}
 use Rattle.blob_frame.specs.Header.{HasHeader, HeaderIs, StuckInHeader, header}
-use Rattle.hol_refusals.specs.declared.refusal.Refusal.{Refusal}
-use Rattle.hol_refusals.specs.declared.refusal.Refusal.TheVariants.{BadBlob, BadBody, NoBlob, TooLarge}
-use Rattle.hol_refusals.specs.Refusal.{bad_item}
+use Rattle.hol_answers.specs.declared.refusal.Refusal.{Refusal}
+use Rattle.hol_answers.specs.declared.refusal.Refusal.TheVariants.{BadBlob, BadBody, NoBlob, TooLarge}
+use Rattle.hol_answers.specs.Refusal.{bad_item}
 use Rattle.hollow_machine.specs.Blobs.{HeadRefusal, SnapshotRefusal}
 
 pub some_one : {A : Type 0} (o : Option A) (a b : A) → o ≡ Some a → o ≡ Some b → a ≡ b

@@ -4,11 +4,10 @@ use Rattle.hol_io.specs.declared.name.BlobName.{BlobName}
 use Rattle.schema_model.specs.declared.limit.Limit.TheVariants as limit
 use Rattle.schema_model.specs.Limit.{number_of_limit}
 use Rattle.blob_frame.specs.declared.header.Header.{Header}
-use Rattle.blob_frame.specs.Header.{StuckInHeader}
-use Rattle.blob_frame.specs.Header.{HasHeader}
+use Rattle.blob_frame.specs.Header.{StuckInHeader, HasHeader}
 use Rattle.snapshot_blob.specs.Snapshot.{IsRefused}
-use Rattle.hol_refusals.specs.declared.refusal.Refusal.{Refusal}
-use Rattle.hol_refusals.specs.declared.refusal.Refusal.TheVariants.{NoBlob, BadBlob, BadBody, TooLarge}
+use Rattle.hol_answers.specs.declared.refusal.Refusal.{Refusal}
+use Rattle.hol_answers.specs.declared.refusal.Refusal.TheVariants.{NoBlob, BadBlob, BadBody, TooLarge}
 
 -- Why what a name holds, if anything, has no header: the first cause.
 abbrev pub HeadRefusal : BlobName → Option (List ℕ) → Refusal → Type 0

@@ -11,14 +11,15 @@ use Rattle.row_model.specs.Table.{Table}
 use Rattle.write_engine.specs.Cycle.{Next}
 use Rattle.write_engine.specs.CycleLimit.{TellsTypes}
 use Rattle.write_engine.specs.Production.{AreChanged}
-use Rattle.hol_refusals.specs.declared.refusal.Refusal.{Refusal}
-use Rattle.hol_refusals.specs.declared.refusal.Refusal.TheVariants.{NoModel, NoType, BadRecord, TooLarge}
+use Rattle.hol_answers.specs.declared.refusal.Refusal.{Refusal}
+use Rattle.hol_answers.specs.declared.refusal.Refusal.TheVariants.{NoModel, NoType, BadRecord, TooLarge}
 use Rattle.hol_answers.specs.declared.reply.Reply.{Reply}
 use Rattle.hol_answers.specs.declared.reply.Reply.TheVariants.{Cycle, Refused}
 use Rattle.hollow_machine.specs.Follow.{MayFollow, MayNotFollow}
-use Rattle.hollow_machine.specs.Puts.{AreBlobs, IsShort, Put, puts_of, put_all}
+use Rattle.state_blobs.specs.Puts.{AreBlobs, IsShort, Put, puts_of, put_all}
 use Rattle.hollow_machine.specs.Records.{AreRead, AreTypes, IsFirstUnknown, IsFirstUnread, entries}
-use Rattle.hollow_machine.specs.State.{Machine, Published}
+use Rattle.hollow_machine.specs.State.{Machine}
+use Rattle.state_blobs.specs.Published.{Published}
 use Rattle.hollow_machine.specs.Forms.{OrderForm}
 use Rattle.hollow_machine.specs.Contents.{state_in}
 

@@ -6,8 +6,8 @@ use Rattle.schema_model.specs.declared.reason.Reason.TheVariants.{BadAnnounced}
 use Rattle.chain_store.specs.Announced.{IsAnnounced, IsBadlyAnnounced}
 use Rattle.chain_store.specs.Tags.{IsTagTaken}
 use Rattle.chain_store.specs.Versions.{last_version}
-use Rattle.hol_refusals.specs.declared.refusal.Refusal.{Refusal}
-use Rattle.hol_refusals.specs.declared.refusal.Refusal.TheVariants.{BadBlob, NotLast, BadVersion, TagUsed}
+use Rattle.hol_answers.specs.declared.refusal.Refusal.{Refusal}
+use Rattle.hol_answers.specs.declared.refusal.Refusal.TheVariants.{BadBlob, NotLast, BadVersion, TagUsed}
 
 -- The tag is 0, or some blob of the store has it.
 abbrev pub IsUsed : Store → ℤ → Type 0

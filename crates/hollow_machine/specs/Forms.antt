@@ -1,8 +1,8 @@
 -- What the orders of a kind are: what each asks for, and what it is answered.
 use Rattle.std.specs.Prelude.{◌≡◌, Option, Some, Bool, false, IsSomeAnd}
 use Rattle.serde_json.specs.Data.{Data}
-use Rattle.hol_refusals.specs.declared.refusal.Refusal.TheVariants.{NotYet}
-use Rattle.hol_refusals.specs.declared.refusal.Refusal.{Refusal}
+use Rattle.hol_answers.specs.declared.refusal.Refusal.TheVariants.{NotYet}
+use Rattle.hol_answers.specs.declared.refusal.Refusal.{Refusal}
 use Rattle.hol_answers.specs.declared.reply.Reply.{Reply}
 use Rattle.hol_answers.specs.declared.reply.Reply.TheVariants.{Refused}
 use Rattle.read_engine.specs.Position.{Position}

@@ -6,11 +6,8 @@ use Rattle.write_engine.specs.Cycle.{no_rows}
 use Rattle.write_engine.specs.Production.{Production}
 use Rattle.read_engine.specs.Position.{Position}
 use Rattle.hol_answers.specs.declared.reply.Reply.{Reply}
-use Rattle.hollow_machine.specs.State.{Machine, Published}
-
--- The producer that is kept, as it is between two cycles.
-abbrev pub published_of : Production → Published
-published_of kept = record { model = kept.schemas; rows = kept.previous; tag = kept.tag; version = kept.version }
+use Rattle.hollow_machine.specs.State.{Machine}
+use Rattle.state_blobs.specs.Published.{Published, published_of}
 
 -- The machine over a store whose producer is the one that is kept, and whose consumer stands where the one that is kept does.
 abbrev pub machine_of : Store → Option Production → Option Position → Machine

@@ -8,8 +8,8 @@ use Rattle.schema_model.specs.declared.schema.Schema.{Schema}
 use Rattle.schema_model.specs.declared.schema.Shape.{Shape}
 use Rattle.schema_model.specs.Parts.{shape_key}
 use Rattle.schema_model.specs.Path.{Resolves}
-use Rattle.hol_refusals.specs.declared.refusal.Refusal.{Refusal}
-use Rattle.hol_refusals.specs.declared.refusal.Refusal.TheVariants.{BadPath, WrongKind}
+use Rattle.hol_answers.specs.declared.refusal.Refusal.{Refusal}
+use Rattle.hol_answers.specs.declared.refusal.Refusal.TheVariants.{BadPath, WrongKind}
 
 -- The shape is that of records.
 abbrev pub IsObject : Shape → Type 0

@@ -10,7 +10,6 @@ pub mod KeyPaths
 pub mod LoadOrder
 pub mod MemberOrders
 pub mod ModelOrder
-pub mod Puts
 pub mod Records
 pub mod RowOrders
 pub mod Script

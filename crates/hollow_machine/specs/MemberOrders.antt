@@ -6,8 +6,8 @@ use Rattle.row_model.specs.Table.{IsLive, row_at}
 use Rattle.bucket_codec.specs.Run.{FindsIn}
 use Rattle.type_state.specs.Lookup.{elements_of, pairs_of}
 use Rattle.read_engine.specs.Position.{Position, rows_now}
-use Rattle.hol_refusals.specs.declared.refusal.Refusal.{Refusal}
-use Rattle.hol_refusals.specs.declared.refusal.Refusal.TheVariants.{NoRow, WrongKind}
+use Rattle.hol_answers.specs.declared.refusal.Refusal.{Refusal}
+use Rattle.hol_answers.specs.declared.refusal.Refusal.TheVariants.{NoRow, WrongKind}
 use Rattle.hol_answers.specs.declared.reply.Reply.{Reply}
 use Rattle.hol_answers.specs.declared.reply.Reply.TheVariants as reply
 use Rattle.hollow_machine.specs.KeyPaths.{HasShape, IsMap, IsSet}

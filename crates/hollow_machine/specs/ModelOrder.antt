@@ -7,11 +7,12 @@ use Rattle.schema_model.specs.declared.schema.Schema.{Schema}
 use Rattle.schema_model.specs.Model.{IsModel, IsFirstBroken}
 use Rattle.json_values.specs.SchemaJson.{HasText, StandsFor}
 use Rattle.json_values.specs.SchemasFrom.{IsRefused}
-use Rattle.hol_refusals.specs.declared.refusal.Refusal.{Refusal}
-use Rattle.hol_refusals.specs.declared.refusal.Refusal.TheVariants.{BadModel, ModelFixed}
+use Rattle.hol_answers.specs.declared.refusal.Refusal.{Refusal}
+use Rattle.hol_answers.specs.declared.refusal.Refusal.TheVariants.{BadModel, ModelFixed}
 use Rattle.hol_answers.specs.declared.reply.Reply.{Reply}
 use Rattle.hol_answers.specs.declared.reply.Reply.TheVariants.{Model, Refused}
-use Rattle.hollow_machine.specs.State.{Machine, new_producer}
+use Rattle.hollow_machine.specs.State.{Machine}
+use Rattle.state_blobs.specs.Published.{new_producer}
 use Rattle.hollow_machine.specs.Forms.{OrderForm}
 use Rattle.hollow_machine.specs.Contents.{json_in}
 

@@ -14,8 +14,8 @@ use Rattle.row_model.specs.Unfold.{unfold_row}
 use Rattle.record_json.specs.PrintTree.{PrintsTree}
 use Rattle.read_engine.specs.Position.{Position, rows_now}
 use Rattle.read_engine.specs.Gone.{AreGone}
-use Rattle.hol_refusals.specs.declared.refusal.Refusal.{Refusal}
-use Rattle.hol_refusals.specs.declared.refusal.Refusal.TheVariants.{NoRow, NoState, NoType, TooLarge}
+use Rattle.hol_answers.specs.declared.refusal.Refusal.{Refusal}
+use Rattle.hol_answers.specs.declared.refusal.Refusal.TheVariants.{NoRow, NoState, NoType, TooLarge}
 use Rattle.hol_answers.specs.declared.reply.Reply.{Reply}
 use Rattle.hol_answers.specs.declared.reply.Reply.TheVariants as reply
 use Rattle.hollow_machine.specs.State.{Machine}

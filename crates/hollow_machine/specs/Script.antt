@@ -1,7 +1,7 @@
 -- What the machine answers to the lines of a script, one after another.
 use Rattle.std.specs.Prelude.{◌≡◌, ◌<◌, ◌≤◌, ◌⊎◌, ◌^◌, ℕ, List, [], ◌∷◌, ◌++◌, length, Bool, true, false, if◌then◌else◌}
 use Rattle.hol_orders.specs.declared.order.Order.{Order}
-use Rattle.hol_refusals.specs.declared.refusal.Refusal.TheVariants.{BadOrder, LineTooLong}
+use Rattle.hol_answers.specs.declared.refusal.Refusal.TheVariants.{BadOrder, LineTooLong}
 use Rattle.hol_answers.specs.declared.reply.Reply.{Reply}
 use Rattle.hol_orders.specs.Order.{Orders}
 use Rattle.hol_answers.specs.Reply.{is_refusal, line_of}

@@ -1,6 +1,6 @@
 //! Laws of the machine.
 ghost use Rattle.std.specs.Prelude.{◌≡◌, ◌++◌, ℕ, List, Bool, if◌then◌else◌, true};
-ghost use Rattle.hol_refusals.specs.declared.refusal.Refusal.{Refusal};
+ghost use Rattle.hol_answers.specs.declared.refusal.Refusal.{Refusal};
 ghost use Rattle.hol_answers.specs.declared.reply.Reply.TheVariants.{Refused};
 ghost use Rattle.hollow_machine.specs.Script.{LineStep, Script};
 ghost use Rattle.hollow_machine.specs.State.{Machine};

@@ -10,7 +10,7 @@ use Rattle.write_engine.specs.Production.{Production}
 use Rattle.read_engine.specs.Position.{Position}
 use Rattle.hol_orders.specs.declared.order.Order.{Order}
 use Rattle.hol_orders.specs.declared.order.Order.TheVariants as order
-use Rattle.hol_refusals.specs.declared.refusal.Refusal.TheVariants.{BadOrder, NotYet}
+use Rattle.hol_answers.specs.declared.refusal.Refusal.TheVariants.{BadOrder, NotYet}
 use Rattle.hol_answers.specs.declared.reply.Reply.{Reply}
 use Rattle.hol_answers.specs.declared.reply.Reply.TheVariants.{Refused}
 use Rattle.hol_orders.specs.declared.order.OrderFault.{OrderFault}

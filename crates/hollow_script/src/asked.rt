@@ -4,7 +4,7 @@ ghost use Rattle.hollow_machine.specs.Script.{longest_line};
 ghost use Rattle.hollow_script.specs.Asked.{Asks, MeetsOrder};
 
 use hol_orders::{Order, OrderFault, OrderStop, order_of};
-use hol_refusals::Refusal;
+use hol_answers::Refusal;
 use std::alloc::Global;
 
 /// What a line asks for.

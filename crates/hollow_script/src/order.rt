@@ -9,10 +9,9 @@ ghost use Rattle.hollow_script.specs.Kept.{MovesKept};
 
 use crate::keep::Keep;
 use consumer_orders::{at, find, get, has, index, live, load, past, row, step};
-use hol_answers::Reply;
+use hol_answers::{Refusal, Reply};
 use hol_io::BlobStore;
 use hol_orders::{Order, OrderStop};
-use hol_refusals::Refusal;
 use producer_orders::{cycle, model};
 use std::alloc::Global;
 

@@ -15,9 +15,8 @@ use crate::keep::Keep;
 use crate::order::{answer, may_put};
 use crate::script_stop::ScriptStop;
 use crate::waiting::{put_answer, write_waiting};
-use hol_answers::Reply;
+use hol_answers::{MAX_LINE_BYTES, Refusal, Reply};
 use hol_io::{BlobStore, Lines, Sink, Source, Turn, write_all};
-use hol_refusals::{MAX_LINE_BYTES, Refusal};
 use std::alloc::Global;
 
 /// How many bytes an input has at most.

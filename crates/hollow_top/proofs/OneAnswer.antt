@@ -14,15 +14,14 @@ use Rattle.schema_model.specs.declared.schema.Shape.{Shape}
 use Rattle.type_state.specs.State.{Half}
 use Rattle.type_state.specs.Views.{table_of}
 use Rattle.blob_frame.specs.declared.header.Header.{Header}
-use Rattle.blob_frame.specs.Header.{header, HeaderIs}
-use Rattle.blob_frame.specs.Header.{HasHeader}
+use Rattle.blob_frame.specs.Header.{header, HeaderIs, HasHeader}
 use Rattle.snapshot_blob.specs.declared.part.TypePart.{TypePart}
 use Rattle.snapshot_blob.specs.Snapshot.{SnapshotIs, IsAccepted}
 use Rattle.json_rows.specs.StoredRow.{IsRowData}
 use Rattle.hol_answers.specs.declared.reply.Reply.{Reply}
 use Rattle.hol_answers.specs.declared.reply.Reply.TheVariants.{Head, Refused}
-use Rattle.hol_refusals.specs.declared.refusal.Refusal.{Refusal}
-use Rattle.hol_refusals.specs.declared.refusal.Refusal.TheVariants.{NotYet, BadBody}
+use Rattle.hol_answers.specs.declared.refusal.Refusal.{Refusal}
+use Rattle.hol_answers.specs.declared.refusal.Refusal.TheVariants.{NotYet, BadBody}
 use Rattle.hollow_machine.proofs.Refusals.{head_apart, one_head_refusal, one_header, one_snapshot_refusal, some_one}
 use Rattle.hollow_machine.specs.Blobs.{HasBadBody, HeadRefusal, SnapshotRefusal}
 use Rattle.hollow_machine.specs.State.{Machine}
@@ -30,7 +29,7 @@ use Rattle.hollow_top.specs.declared.words.Command.{Command}
 use Rattle.hollow_top.specs.declared.words.Command.TheVariants as command
 use Rattle.hollow_top.specs.Command.{IsLineOf, Writes}
 use Rattle.hollow_top.specs.Head.{HeadIs}
-use Rattle.hol_refusals.specs.Refusal.{refusal_line}
+use Rattle.hol_answers.specs.Refusal.{refusal_line}
 use Rattle.hol_answers.specs.Reply.{is_refusal, line_of}
 use Rattle.json_rows.specs.RowLine.{row_data}
 use Rattle.hollow_top.specs.RowLines.{Listed, IsRowLine, AreLinesOf, rows_in_order}

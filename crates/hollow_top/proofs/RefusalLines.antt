@@ -7,8 +7,8 @@ use Rattle.std.proofs.lemmas.List.Elements.{All-cons, All-head, All-nil, All-tai
 use Rattle.serde_json.specs.Written.{compact_text}
 use Rattle.hol_io.specs.Lines.{IsOnePiece, pieces}
 use Rattle.hol_io.proofs.Cutting.{pieces_first}
-use Rattle.hol_refusals.specs.declared.refusal.Refusal.{Refusal}
-use Rattle.hol_refusals.specs.Refusal.{refusal_data, refusal_line}
+use Rattle.hol_answers.specs.declared.refusal.Refusal.{Refusal}
+use Rattle.hol_answers.specs.Refusal.{refusal_data, refusal_line}
 use Rattle.hol_answers.specs.declared.reply.Reply.{Reply}
 use Rattle.hol_answers.specs.declared.reply.Reply.TheVariants.{Refused}
 use Rattle.hol_answers.specs.Reply.{is_refusal, line_of, reply_data}

@@ -4,7 +4,7 @@ use Rattle.std.specs.Prelude.{IsSome}
 use mir.Val.{bool_byte}
 use Rattle.hol_io.specs.declared.name.BlobName.{BlobName}
 use Rattle.hol_io.specs.Store.{Store}
-use Rattle.hol_refusals.specs.declared.refusal.Refusal.TheVariants.{NotYet}
+use Rattle.hol_answers.specs.declared.refusal.Refusal.TheVariants.{NotYet}
 use Rattle.hol_answers.specs.declared.reply.Reply.{Reply}
 use Rattle.hol_answers.specs.declared.reply.Reply.TheVariants.{Refused}
 use Rattle.hollow_machine.specs.Kept.{machine_of}

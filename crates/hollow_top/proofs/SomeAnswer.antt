@@ -23,8 +23,8 @@ use Rattle.blob_frame.specs.Header.{header}
 use Rattle.snapshot_blob.specs.declared.part.TypePart.{TypePart}
 use Rattle.snapshot_blob.specs.Snapshot.{IsAccepted, IsRefused}
 use Rattle.snapshot_blob.specs.Stated.{TypeIs, schemas_of}
-use Rattle.hol_refusals.specs.declared.refusal.Refusal.TheVariants.{NoBlob, TooLarge, NotYet, BadBody}
-use Rattle.hol_refusals.specs.Refusal.{bad_item}
+use Rattle.hol_answers.specs.declared.refusal.Refusal.TheVariants.{NoBlob, TooLarge, NotYet, BadBody}
+use Rattle.hol_answers.specs.Refusal.{bad_item, refusal_line}
 use Rattle.hol_answers.specs.declared.reply.Reply.{Reply}
 use Rattle.hol_answers.specs.declared.reply.Reply.TheVariants.{Head, Refused}
 use Rattle.hollow_machine.specs.State.{started}
@@ -32,7 +32,6 @@ use Rattle.hollow_top.specs.declared.words.Command.{Command}
 use Rattle.hollow_top.specs.declared.words.Command.TheVariants as command
 use Rattle.hollow_top.specs.Command.{HoldsBytes, IsUnbuilt, WritesSome}
 use Rattle.hollow_top.specs.Head.{HeadIs}
-use Rattle.hol_refusals.specs.Refusal.{refusal_line}
 use Rattle.hol_answers.specs.Reply.{is_refusal, line_of}
 use Rattle.hollow_top.specs.RowLines.{AreLinesOf, AreRowLines, rows_in_order}
 use Rattle.hollow_top.specs.Show.{ShowsContent}

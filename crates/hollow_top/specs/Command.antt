@@ -5,7 +5,7 @@ use Rattle.hol_io.specs.Lines.{cut}
 use Rattle.hol_io.specs.declared.name.BlobName.{BlobName}
 use Rattle.hol_io.specs.Store.{Store, told}
 use Rattle.blob_grammar.specs.Decided.{AreBytes}
-use Rattle.hol_refusals.specs.declared.refusal.Refusal.TheVariants.{NotYet}
+use Rattle.hol_answers.specs.declared.refusal.Refusal.TheVariants.{NotYet}
 use Rattle.hol_answers.specs.declared.reply.Reply.{Reply}
 use Rattle.hol_answers.specs.declared.reply.Reply.TheVariants.{Refused}
 use Rattle.hollow_machine.specs.Script.{Script}

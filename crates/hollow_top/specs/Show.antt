@@ -10,12 +10,12 @@ use Rattle.blob_frame.specs.declared.fault.BlobFault.{BlobFault}
 use Rattle.blob_frame.specs.declared.fault.BlobFault.TheVariants as fault
 use Rattle.blob_frame.specs.declared.header.Header.{Header}
 use Rattle.snapshot_blob.specs.Snapshot.{IsAccepted}
-use Rattle.hol_refusals.specs.declared.refusal.Refusal.{Refusal}
-use Rattle.hol_refusals.specs.declared.refusal.Refusal.TheVariants.{BadBody}
+use Rattle.hol_answers.specs.declared.refusal.Refusal.{Refusal}
+use Rattle.hol_answers.specs.declared.refusal.Refusal.TheVariants.{BadBody}
 use Rattle.hollow_machine.specs.Blobs.{SnapshotRefusal}
 use Rattle.hollow_top.specs.declared.stop.Stop.{Stop}
 use Rattle.hollow_top.specs.declared.stop.Stop.TheVariants as stop
-use Rattle.hol_refusals.specs.Refusal.{refusal_line}
+use Rattle.hol_answers.specs.Refusal.{refusal_line}
 use Rattle.hollow_top.specs.RowLines.{AreRowLines}
 
 -- What a name holds is a snapshot within the limits, and the text has a line for each of its rows.

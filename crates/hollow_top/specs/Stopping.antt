@@ -4,10 +4,10 @@ use Rattle.std.specs.Io.KnownBytes.{Appends}
 use Rattle.std.specs.List.{flat_map}
 use Rattle.hol_io.specs.Causes.{Rose}
 use Rattle.hol_io.specs.Lines.{IsOnePiece}
-use Rattle.hol_refusals.specs.declared.refusal.Refusal.{Refusal}
+use Rattle.hol_answers.specs.declared.refusal.Refusal.{Refusal}
 use Rattle.hollow_top.specs.declared.stop.Stop.{Stop}
 use Rattle.hollow_top.specs.declared.stop.Stop.TheVariants.{Memory, Sink, Store as StoreFailed}
-use Rattle.hol_refusals.specs.Refusal.{refusal_line}
+use Rattle.hol_answers.specs.Refusal.{refusal_line}
 
 -- A command that has written nothing stops for want of memory, or where the store's count of faults rose.
 abbrev pub StopsBefore : ℕ → ℕ → Stop → Type 0

@@ -6,9 +6,8 @@ ghost use Rattle.hollow_top.specs.Stopping.{StopsBefore};
 use crate::stop::Stop;
 use blob_cursor::opened;
 use blob_frame::BlobFault;
-use hol_answers::Reply;
+use hol_answers::{ItemFault, Refusal, Reply};
 use hol_io::{BlobName, BlobStore};
-use hol_refusals::{ItemFault, Refusal};
 use std::alloc::Global;
 
 /// The header of a blob of the store, or the refusal of it: `NoBlob` where the store has no such

@@ -8,10 +8,6 @@ ghost use Rattle.hollow_top.specs.Command.{HoldsBytes, IsUnbuilt, Writes, Writes
 ghost use Rattle.hollow_top.specs.Words.{Asks};
 
 use crate::words::command_of;
-use blob_frame::laws::one_header;
-use json_rows::laws::one_row_value;
-use snapshot_blob::laws::{header_and_body, one_snapshot};
-use type_rows::laws::rows_fit;
 
 /// The words ask for one command at most.
 pub fn one_command(words: &[String])
@@ -27,9 +23,9 @@ pub fn one_answer()
         → command ≢ Command.Run → Writes input store command one refused next → Writes input store command other also after
         → (one ≡ other) × (refused ≡ also) × (next ≡ after) }
 {
-    one_snapshot();
-    header_and_body();
-    one_row_value();
+    snapshot_blob::laws::one_snapshot();
+    snapshot_blob::laws::header_and_body();
+    json_rows::laws::one_row_value();
 }
 
 /// Over a store of bytes `head` writes some text, and so does what is not built; that `show` writes none cannot be.
@@ -41,6 +37,6 @@ pub fn some_answer()
     ensures show { (input : Option (List ℕ)) (store : Store) (version : ℕ) → HoldsBytes store
         → (WritesSome input store (Command.Show version) → ⊥) → ⊥ }
 {
-    one_header();
-    rows_fit();
+    blob_frame::laws::one_header();
+    type_rows::laws::rows_fit();
 }

@@ -18,11 +18,8 @@ use crate::head::head;
 use crate::show::show;
 use crate::stop::Stop;
 use crate::words::{Command, command_of};
-use chain_laws::laws::true_script;
-use hol_answers::Reply;
-use hol_answers::laws::refusals_apart;
+use hol_answers::{Refusal, Reply};
 use hol_io::{BlobStore, Sink, Source};
-use hol_refusals::Refusal;
 use hollow_script::{Keep, ScriptStop, run_script};
 use std::alloc::Global;
 
@@ -140,8 +137,8 @@ fn serve_script<I: Source, O: Sink, S: BlobStore>(
     ensures store_fault { result ≡ 5 → Rose (S.seen store.old).faults (S.seen store.new).faults }
     ensures past { result ≡ 7 → TakesPast (I.left input.old) (I.left input.new) }
 {
-    true_script();
-    refusals_apart();
+    chain_laws::laws::true_script();
+    hol_answers::laws::refusals_apart();
     store.told_bytes();
     match run_script(alloc, input, out, store, keep) {
         Ok(any_refused) => u8::from(any_refused),

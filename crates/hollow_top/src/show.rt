@@ -10,10 +10,9 @@ use crate::row_lines::show_rows;
 use crate::stop::Stop;
 use blob_cursor::opened;
 use blob_frame::BlobFault;
-use hol_answers::Reply;
+use hol_answers::{Refusal, Reply};
 use hol_io::{BlobName, BlobStore, Sink};
-use hol_refusals::Refusal;
-use snapshot_blob::laws::header_and_body;
+use snapshot_blob::laws;
 use snapshot_blob::read_body;
 use std::alloc::Global;
 
@@ -39,7 +38,7 @@ pub fn show<O: Sink, S: BlobStore>(
         (λ held. GainsFront (Shows held version) (O.taken out.old) (O.taken out.new)) }
 {
     let name = BlobName::Snapshot(version);
-    header_and_body();
+    laws::header_and_body();
     let (_header, mut cursor) = match opened(alloc, store, &name) {
         Ok(opened) => opened,
         Err(fault) => return write_reply(alloc, Reply::Refused(refusal(&name, fault)?), out),

@@ -7,8 +7,8 @@ use Rattle.std.proofs.lemmas.List.Kept.{AllPairs-cons, AllPairs-filter}
 use Rattle.std.proofs.lemmas.List.Sums.{length-filter}
 use Rattle.row_model.specs.declared.row.Value.{Value}
 use Rattle.row_model.specs.Row.{Rises}
-use Rattle.row_keys.specs.RowKey.{values_key}
-use Rattle.row_keys.proofs.OneKey.{values_once}
+use Rattle.row_model.specs.RowKey.{values_key}
+use Rattle.row_model.proofs.OneKey.{values_once}
 use Rattle.key_index.specs.Indexed.{AreUnder, CountsKeys}
 use Rattle.key_index.specs.Pairs.{HasBytes}
 use Rattle.key_index.specs.Slots.{ArePaired, is_in, is_keyed, key_in, keys_of, read_at}

@@ -3,7 +3,7 @@ use Rattle.std.proofs.Common.{◌≡◌, ◌⊎◌, ◌↔◌, ℕ, ◌^◌, ◌
 use Rattle.std.specs.Prelude.{Contains, OnErr, OnOk, Result, Ok, Err, slice_set}
 use Rattle.std.proofs.lemmas.Bool.{cases_eq}
 use Rattle.row_model.specs.declared.row.Value.{Value}
-use Rattle.row_keys.specs.RowKey.{values_key}
+use Rattle.row_model.specs.RowKey.{values_key}
 use Rattle.key_index.specs.Pairs.{AddsKey, AreShort, DropsKey, HasBytes}
 use Rattle.key_index.specs.Slots.{ArePaired, Widens, read_at}
 use Rattle.key_index.specs.declared.slot.Slot.{Slot}

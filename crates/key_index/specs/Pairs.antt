@@ -1,7 +1,7 @@
 -- Pairs of a key's bytes and an ordinal.
 use Rattle.std.specs.Prelude.{◌≡◌, ◌↔◌, ◌⊎◌, ℕ, ◌<◌, ◌^◌, List, Option, Contains, IsSomeAnd}
 use Rattle.row_model.specs.declared.row.Value.{Value}
-use Rattle.row_keys.specs.RowKey.{values_key}
+use Rattle.row_model.specs.RowKey.{values_key}
 
 -- each ordinal is one of 32 bits
 abbrev pub AreShort : List (List ℕ × ℕ) → Type 0

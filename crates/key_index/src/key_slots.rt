@@ -6,8 +6,7 @@ ghost use Rattle.key_index.specs.Indexed.{AreUnder, CountsKeys};
 use crate::key_pairs::KeyPairs;
 use crate::slot::{Slot, clear, enter, has_row, make_room};
 use hol_varint::Ordinals;
-use row_keys::values_key;
-use row_model::Values;
+use row_model::{Values, values_key};
 use std::alloc::{AllocError, Global};
 use std::marker::Model;
 

@@ -4,8 +4,7 @@ ghost use Rattle.key_index.specs.Pairs.{AddsKey, DropsKey};
 ghost use Rattle.key_index.specs.Slots.{ArePaired, Widens, free_slot, key_in, read_at};
 
 use crate::key_pairs::KeyPairs;
-use row_keys::values_key;
-use row_model::Values;
+use row_model::{Values, values_key};
 use std::alloc::{AllocError, Global};
 
 /// What stands under an ordinal: a key, and which of the two states, called even and odd, have a row with it there.

@@ -1,7 +1,7 @@
 //! Texts: their units, as STRINGs and in Java UTF, against worked bytes, and as names of blobs.
 use crate::case::{Subject, pass};
 use hol_io::{BlobName, name_text, parse_name};
-use hol_varint::laws::utf_size;
+use hol_varint::laws;
 use hol_varint::{put_units, put_utf, units_of};
 use std::alloc::{AllocError, Global};
 use std::test::Fail;
@@ -25,7 +25,7 @@ fn string_told(alloc: Global, text: &str) -> Result<String, AllocError> {
 
 /// The bytes of a text of at most a hundred units.
 fn utf_told(alloc: Global, text: &str) -> Result<String, AllocError> {
-    utf_size();
+    laws::utf_size();
     let units = units_of(alloc, text)?;
     let mut out = Vec::new(alloc);
     if units.len() <= 100 {

@@ -1,7 +1,6 @@
 //! Lines: of a refusal that names a row, and of several answers, one behind the other.
-use hol_answers::{Reply, put_line, put_reply};
+use hol_answers::{ItemFault, Refusal, Reply, RowPlace, put_line, put_reply};
 use hol_io::BlobName;
-use hol_refusals::{ItemFault, Refusal, RowPlace};
 use schema_model::{Name, Reason};
 use serde_json::Value;
 use std::alloc::{AllocError, Global};

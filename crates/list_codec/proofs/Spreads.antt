@@ -6,7 +6,7 @@ use Rattle.std.proofs.lemmas.List.{length-append, drop_all}
 use Rattle.row_model.specs.declared.row.Row.{Row}
 use Rattle.row_model.specs.declared.lent.LentRow.{LentRow}
 use Rattle.row_model.specs.Lent.{lent_row}
-use Rattle.row_walk.specs.BothStates.{Takes}
+use Rattle.row_model.specs.BothStates.{Takes}
 use Rattle.list_codec.specs.Widths.{elements_of_row, greatest}
 
 -- the greatest of two lists

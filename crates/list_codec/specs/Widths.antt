@@ -5,7 +5,7 @@ use Rattle.row_model.specs.declared.row.Row.{Row}
 use Rattle.schema_model.specs.declared.limit.Limit.{Limit}
 use Rattle.schema_model.specs.Limit.{number_of_limit}
 use Rattle.row_model.specs.Table.{Table}
-use Rattle.row_walk.specs.BothStates.{rows_of_both}
+use Rattle.row_model.specs.BothStates.{rows_of_both}
 
 -- The elements of a list.
 abbrev pub elements_of_row : Row → List ℕ

@@ -4,8 +4,7 @@ ghost use Rattle.row_model.specs.declared.row.Row.{Row as StoredRow};
 ghost use Rattle.list_codec.specs.Widths.{elements_of_row, elements_of_both, greatest as greatest_of, widths_for, total_for};
 
 use bit_array::digits;
-use row_model::{Row, Rows, Widths};
-use row_walk::RowWalk;
+use row_model::{Row, RowWalk, Rows, Widths};
 use schema_model::MAX_ITEMS;
 use std::alloc::{AllocError, Global};
 

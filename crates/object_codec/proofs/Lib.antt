@@ -9,3 +9,5 @@ pub mod Rows
 pub mod Spreads
 pub mod ValueElements
 pub mod Values
+pub mod SameParts
+pub mod OnePacking

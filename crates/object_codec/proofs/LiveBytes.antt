@@ -7,8 +7,8 @@ use Rattle.std.proofs.lemmas.Grind.{flat_map-append}
 use Rattle.std.proofs.lemmas.List.{length-append}
 use Rattle.row_model.specs.declared.row.Row.{Row}
 use Rattle.row_model.specs.Table.{RowMap, Table, IsBound, row_at}
-use Rattle.row_walk.specs.BothStates.{rows_in, rows_from}
-use Rattle.row_walk.proofs.RowsFrom.{rows_skip, rows_take, rows_past, get_in}
+use Rattle.row_model.specs.BothStates.{rows_in, rows_from}
+use Rattle.row_model.proofs.RowsFrom.{rows_skip, rows_take, rows_past, get_in}
 use Rattle.object_codec.specs.Stored.{values_of_row, values_bytes}
 use Rattle.object_codec.specs.Widths.{rows_bytes, live_rows, bytes_for}
 

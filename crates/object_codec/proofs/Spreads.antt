@@ -13,7 +13,7 @@ use Rattle.schema_model.specs.declared.schema.Field.{Field}
 use Rattle.schema_model.specs.declared.schema.FieldKind.{FieldKind}
 use Rattle.row_model.specs.declared.row.Row.{Row}
 use Rattle.row_model.specs.declared.row.Value.{Value}
-use Rattle.row_walk.specs.BothStates.{Takes}
+use Rattle.row_model.specs.BothStates.{Takes}
 use Rattle.object_codec.specs.declared.chosen.Spread.{Spread}
 use Rattle.object_codec.specs.Stored.{values_of_row, value_at, column, stored_number, value_bytes, values_bytes}
 use Rattle.object_codec.specs.Widths.{value_bits, most_bits, byte_count, width_for, widths_for, records_of, rows_bytes}

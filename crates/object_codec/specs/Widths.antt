@@ -3,7 +3,7 @@ use Rattle.std.specs.Prelude.{ℕ, ◌+◌, List, [], ◌∷◌, flat_map, map, 
 use Rattle.std.specs.List.{enumerate_from}
 use Rattle.std.specs.Option.{option_map_or}
 use Rattle.bit_array.specs.Digits.{digit_count}
-use Rattle.row_walk.specs.BothStates.{rows_in, rows_from}
+use Rattle.row_model.specs.BothStates.{rows_in, rows_from}
 use Rattle.schema_model.specs.Limit.{number_of_limit}
 use Rattle.schema_model.specs.Parts.{fields_of}
 use Rattle.row_model.specs.Table.{Table}

@@ -3,15 +3,14 @@ ghost use Rattle.std.specs.Prelude.{ℕ, List, ◌≡◌, ◌<◌, ◌≤◌, �
 ghost use Rattle.std.specs.Option.{option_to_list};
 ghost use Rattle.row_model.specs.declared.row.Value.{Value as StoredValue};
 ghost use Rattle.row_model.specs.Table.{row_at};
-ghost use Rattle.row_walk.specs.BothStates.{rows_of_both};
+ghost use Rattle.row_model.specs.BothStates.{rows_of_both};
 ghost use Rattle.object_codec.specs.Stored.{values_of_row, value_at, value_bytes, values_bytes};
 ghost use Rattle.object_codec.specs.Widths.{fields_at, value_bits, most_bits, byte_count, width_for, widths_for, rows_bytes, live_rows, bytes_for};
 ghost use Rattle.object_codec.specs.Spread.{spread_at, IsSpreadWith, AreSpreads};
 
 use crate::stored::{stored_number, value_bytes, values_of};
 use bit_array::digits;
-use row_model::{Rows, Value, Widths};
-use row_walk::RowWalk;
+use row_model::{RowWalk, Rows, Value, Widths};
 use schema_model::{Field, FieldKind, MAX_BYTES};
 use std::alloc::{AllocError, Global};
 

@@ -12,14 +12,14 @@ use Rattle.std.proofs.lemmas.Slice.Eq.{bytes_eq-Decides}
 use Rattle.row_model.specs.declared.row.Row.{Row}
 use Rattle.row_model.specs.Table.{RowMap}
 use Rattle.ordinal_map.specs.Assign.{Holds, IsTaken, Agree, IsPast, IsLeast, IsPut, TellsPut}
-use Rattle.row_keys.specs.RowKey.{row_key}
+use Rattle.row_model.specs.RowKey.{row_key}
 use Rattle.ordinal_map.specs.declared.fault.PutRowFault.{PutRowFault}
 use Rattle.ordinal_map.specs.declared.fault.PutRowFault.TheVariants.{TooMany, Memory}
 use Rattle.ordinal_map.specs.States.{States}
 use Rattle.ordinal_map.specs.Slots.{Extends, changed, rows_of, row_in, ordinal_of, kept_ordinal, AreKept, any_row, previous_row, current_row, entered, advanced, undone}
 use Rattle.ordinal_map.specs.declared.slot.Slot.{Slot}
 use Rattle.ordinal_map.specs.declared.slot.Slot.TheVariants.{Free, Previous, Current, Both}
-use Rattle.row_keys.proofs.OneKey.{row_once}
+use Rattle.row_model.proofs.OneKey.{row_once}
 use Rattle.ordinal_map.proofs.SlotRows.{same_rows, get_rows, row_set, row_beside, row_kept, rows_kept, rows_put, row_pushed, rows_pushed, rows_mapped, rows_dropped, rows_of_no_slots, length_set, get_inserted, get_beside, in_previous, in_current, in_either, inside, previous_advanced, current_advanced, previous_undone, current_undone, previous_entered, current_entered, any_entered, any_advanced, any_undone, row_of_slot}
 
 -- ---- what the slots say of the two states

@@ -2,7 +2,7 @@
 ghost use Rattle.std.specs.Prelude.{◌≡◌, ◌≢◌, ◌↔◌, ℕ, ◌<◌, ◌^◌, Some, Ok, Err, IsSome, IsTrue, MatchBool};
 ghost use Rattle.std.specs.FinMap.{get, empty};
 ghost use Rattle.hol_varint.specs.Yields.{Yields};
-ghost use Rattle.row_keys.specs.RowKey.{row_key as key_of};
+ghost use Rattle.row_model.specs.RowKey.{row_key as key_of};
 ghost use Rattle.ordinal_map.specs.Assign.{Agree, Holds, IsFreePut, IsPast, IsPut, IsTaken, TellsPut};
 
 use crate::fault::PutRowFault;
@@ -11,8 +11,7 @@ use crate::slot::{
     Slot, advance_all, any_changed, current_has, least_free, make_room, previous_has, row_at,
     undo_all,
 };
-use row_keys::row_key;
-use row_model::Row;
+use row_model::{Row, row_key};
 use schema_model::MAX_ORDINALS;
 use std::alloc::{AllocError, Global};
 use std::marker::Model;

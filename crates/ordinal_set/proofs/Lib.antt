@@ -4,3 +4,4 @@ pub mod Lacking
 pub mod LeastFree
 pub mod GapRuns
 pub mod PopulationBytes
+pub mod OnePopulation

@@ -2,6 +2,7 @@
 #![tactic(auto)]
 
 mod gaps;
+pub mod laws;
 mod population;
 mod scan;
 mod set;

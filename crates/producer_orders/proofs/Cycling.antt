@@ -10,16 +10,16 @@ use Rattle.write_engine.specs.CycleLimit.{TellsTypes}
 use Rattle.write_engine.specs.Production.{Production, advanced_to, without_rows}
 use Rattle.write_engine.specs.declared.producer.Closed.{Closed}
 use Rattle.read_engine.specs.Position.{Position}
-use Rattle.hol_refusals.specs.declared.refusal.Refusal.{Refusal}
-use Rattle.hol_refusals.specs.declared.refusal.Refusal.TheVariants as refusal
+use Rattle.hol_answers.specs.declared.refusal.Refusal.{Refusal}
+use Rattle.hol_answers.specs.declared.refusal.Refusal.TheVariants as refusal
 use Rattle.hol_answers.specs.declared.reply.Reply.{Reply}
 use Rattle.hol_answers.specs.declared.reply.Reply.TheVariants as reply
 use Rattle.hollow_machine.specs.CycleOrder.{AreNamed, CycleRefusal, CycleStep, Makes, Publishes, RefusesAfter}
 use Rattle.hollow_machine.specs.Follow.{MayFollow}
-use Rattle.hollow_machine.specs.Kept.{MovesProducer, published_of}
+use Rattle.hollow_machine.specs.Kept.{MovesProducer}
+use Rattle.state_blobs.specs.Published.{published_of, Published}
 use Rattle.hollow_machine.specs.Records.{AreTypes}
-use Rattle.hollow_machine.specs.Puts.{AreBlobs, put_all, puts_of}
-use Rattle.hollow_machine.specs.State.{Published}
+use Rattle.state_blobs.specs.Puts.{AreBlobs, put_all, puts_of}
 use Rattle.blob_writing.specs.declared.fault.WriteFault.{WriteFault}
 use Rattle.blob_writing.specs.declared.fault.WriteFault.TheVariants as write
 use Rattle.blob_writing.specs.Limits.{MeansLarge}

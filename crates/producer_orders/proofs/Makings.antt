@@ -11,7 +11,7 @@ use Rattle.write_engine.specs.CycleLimit.{TellsCycle}
 use Rattle.write_engine.specs.Production.{AreChanged, Production}
 use Rattle.write_engine.specs.declared.producer.Closed.{Closed}
 use Rattle.hollow_machine.specs.CycleOrder.{Makes}
-use Rattle.hollow_machine.specs.Kept.{published_of}
+use Rattle.state_blobs.specs.Published.{published_of}
 use Rattle.hollow_machine.specs.Records.{AreTypes, entries}
 use Rattle.producer_orders.specs.Making.{IsMade}
 use Rattle.producer_orders.specs.Parts.{AreAdded}

@@ -12,7 +12,7 @@ use Rattle.json_values.specs.SchemaJson.{HasText, IsSchema, ItemsAre}
 use Rattle.json_values.specs.SchemasFrom.{TellsSchemas}
 use Rattle.json_values.specs.declared.fault.JsonFault.{JsonFault}
 use Rattle.json_values.specs.declared.fault.JsonFault.TheVariants as rule_fault
-use Rattle.hol_refusals.specs.declared.refusal.Refusal.TheVariants.{BadModel}
+use Rattle.hol_answers.specs.declared.refusal.Refusal.TheVariants.{BadModel}
 use Rattle.hol_answers.specs.declared.reply.Reply.{Reply}
 use Rattle.hol_answers.specs.declared.reply.Reply.TheVariants.{Refused}
 use Rattle.hollow_machine.specs.ModelOrder.{BreaksRule, IsNamed, ModelStep}

@@ -5,8 +5,8 @@ use Rattle.hol_io.specs.Causes.{Rose}
 use Rattle.schema_model.specs.declared.limit.Limit.TheVariants as limit
 use Rattle.blob_writing.specs.declared.fault.WriteFault.{WriteFault}
 use Rattle.blob_writing.specs.declared.fault.WriteFault.TheVariants as write
-use Rattle.hol_refusals.specs.declared.refusal.Refusal.{Refusal}
-use Rattle.hol_refusals.specs.declared.refusal.Refusal.TheVariants.{TooLarge}
+use Rattle.hol_answers.specs.declared.refusal.Refusal.{Refusal}
+use Rattle.hol_answers.specs.declared.refusal.Refusal.TheVariants.{TooLarge}
 use Rattle.hol_orders.specs.declared.order_stop.OrderStop.{OrderStop}
 use Rattle.hol_orders.specs.declared.order_stop.OrderStop.TheVariants as stop
 use Rattle.producer_orders.specs.declared.cycle_end.CycleEnd.{CycleEnd}

@@ -8,15 +8,16 @@ use Rattle.write_engine.specs.CycleLimit.{TellsCycle, TellsTypes}
 use Rattle.write_engine.specs.Production.{Production}
 use Rattle.write_engine.specs.declared.producer.Closed.{Closed}
 use Rattle.read_engine.specs.Position.{Position}
-use Rattle.hol_refusals.specs.declared.refusal.Refusal.{Refusal}
-use Rattle.hol_refusals.specs.declared.refusal.Refusal.TheVariants.{TooLarge}
+use Rattle.hol_answers.specs.declared.refusal.Refusal.{Refusal}
+use Rattle.hol_answers.specs.declared.refusal.Refusal.TheVariants.{TooLarge}
 use Rattle.hol_answers.specs.declared.reply.Reply.{Reply}
 use Rattle.hol_answers.specs.declared.reply.Reply.TheVariants.{Cycle}
 use Rattle.hollow_machine.specs.CycleOrder.{AreNamed, CycleStep, Leaves, Makes, Publishes, RefusesAfter}
 use Rattle.hollow_machine.specs.Follow.{MayFollow, MayNotFollow}
-use Rattle.hollow_machine.specs.Puts.{AreBlobs, IsShort, Put, puts_of, put_all}
+use Rattle.state_blobs.specs.Puts.{AreBlobs, IsShort, Put, puts_of, put_all}
 use Rattle.hollow_machine.specs.Records.{AreTypes}
-use Rattle.hollow_machine.specs.State.{Machine, Published}
+use Rattle.hollow_machine.specs.State.{Machine}
+use Rattle.state_blobs.specs.Published.{Published}
 use Rattle.state_blobs.specs.Blobs.{puts_in}
 use Rattle.producer_orders.specs.Ends.{IsAnyStop, TellsEnd}
 use Rattle.producer_orders.specs.declared.cycle_end.CycleEnd.{CycleEnd}

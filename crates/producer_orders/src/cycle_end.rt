@@ -1,7 +1,7 @@
 //! Why a cycle ends before its state is published.
 use hol_io::PutFault;
 use hol_orders::OrderStop;
-use hol_refusals::Refusal;
+use hol_answers::Refusal;
 use schema_model::Limit;
 use blob_writing::WriteFault;
 use std::alloc::AllocError;

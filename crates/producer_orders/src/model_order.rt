@@ -7,9 +7,8 @@ ghost use Rattle.read_engine.specs.Position.{Position};
 ghost use Rattle.hollow_machine.specs.Kept.{IsResting, machine_of};
 ghost use Rattle.hollow_machine.specs.ModelOrder.{BreaksRule, IsNamed, ModelStep};
 
-use hol_answers::Reply;
+use hol_answers::{Refusal, Reply};
 use hol_orders::OrderStop;
-use hol_refusals::Refusal;
 use json_values::{JsonFault, schemas_from};
 use schema_model::{ModelFault, Name, Rule, model_of};
 use serde_json::Value;

@@ -12,7 +12,7 @@ ghost use Rattle.producer_orders.specs.Parts.{AreAdded, TellsAdded, TellsRecords
 use crate::record_fault::RecordFault;
 use json_values::JsonFault;
 use ordinal_map::PutRowFault;
-use record_json::laws::read_tree_fits;
+use record_json::laws;
 use record_json::tree_from;
 use schema_model::Model;
 use serde_json::Value;
@@ -105,7 +105,7 @@ fn add_value(
         → TellsAdded producer.old.schemas producer.old.previous (done ++ record { type_index = type_index; place = place; value = view value.now } ∷ []) producer.new.current result }
     ensures kept { producer.new ≡ record producer.old { current = producer.new.current } }
 {
-    read_tree_fits();
+    laws::read_tree_fits();
     let tree = match tree_from(alloc, producer.model(), type_index, value) {
         Ok(tree) => tree,
         Err(JsonFault::Field(reason)) => {

@@ -17,7 +17,7 @@ use Rattle.schema_model.specs.Model.{IsKept}
 use Rattle.schema_model.specs.Parts.{index_of_type, type_names}
 use Rattle.row_model.specs.Table.{IsClosed, RowMap, Table}
 use Rattle.schema_model.proofs.ModelFacts.{index_at}
-use Rattle.row_walk.specs.BothStates.{rows_in}
+use Rattle.row_model.specs.BothStates.{rows_in}
 use Rattle.type_rows.specs.Holds.{Holds, KeepsLimits}
 use Rattle.type_rows.specs.Layout.{places_of}
 use Rattle.type_rows.specs.Patches.{AddsRows, FitsOrdinals, MovesRows, patch_layout}

@@ -18,7 +18,7 @@ use Rattle.schema_model.specs.declared.schema.Shape.{Shape}
 use Rattle.schema_model.specs.Limit.{number_of_limit}
 use Rattle.schema_model.specs.Model.{IsKept}
 use Rattle.row_model.specs.Table.{IsClosed, RowMap, Table}
-use Rattle.row_walk.specs.BothStates.{rows_in}
+use Rattle.row_model.specs.BothStates.{rows_in}
 use Rattle.type_rows.specs.declared.patch.PatchSection.{PatchSection}
 use Rattle.type_rows.specs.Holds.{Holds, KeepsLimits}
 use Rattle.type_rows.specs.Layout.{Layout, places_of}

@@ -11,8 +11,7 @@ use Rattle.type_state.specs.State.{Half}
 use Rattle.blob_frame.specs.declared.fault.BlobFault.{BlobFault}
 use Rattle.blob_frame.specs.declared.fault.BlobFault.TheVariants as fault
 use Rattle.blob_frame.specs.declared.header.Header.{Header}
-use Rattle.blob_frame.specs.Header.{StuckInHeader}
-use Rattle.blob_frame.specs.Header.{HasHeader}
+use Rattle.blob_frame.specs.Header.{StuckInHeader, HasHeader}
 use Rattle.type_state.specs.Views.{next_halves, table_of}
 use Rattle.snapshot_blob.specs.declared.body.Body.{Body}
 use Rattle.snapshot_blob.specs.Snapshot.{IsAccepted, IsRefused}

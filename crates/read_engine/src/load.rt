@@ -17,7 +17,7 @@ use crate::stand::Stand;
 use blob_cursor::opened;
 use blob_frame::BlobFault;
 use hol_io::{BlobName, BlobStore};
-use snapshot_blob::laws::header_and_body;
+use snapshot_blob::laws;
 use snapshot_blob::{Body, read_body};
 use state_moves::{PastParts, flip_all, no_past};
 use std::alloc::Global;
@@ -35,7 +35,7 @@ pub(crate) fn load<S: BlobStore>(
     ensures later { (S.seen store.old).faults ≤ (S.seen store.new).faults }
     ensures unput { (S.seen store.new).puts ≡ (S.seen store.old).puts }
 {
-    header_and_body();
+    laws::header_and_body();
     let name = BlobName::Snapshot(version);
     let (header, mut cursor) = opened(alloc, store, &name)?;
     match read_body(alloc, &mut cursor, store) {

@@ -22,12 +22,10 @@ use blob_frame::BlobFault;
 use delta_blob::{PatchPart, read_patch};
 use hol_io::{BlobName, BlobStore, Steps};
 use key_index::KeyIndex;
-use key_index::laws::kept_key;
 use schema_model::Model;
 use state_moves::{PastParts, flip_named, move_state};
 use std::alloc::Global;
 use std::sync::ledger::Ledger;
-use type_rows::laws::one_move;
 use type_state::TypeState;
 
 /// Moves a state by the delta of a name. After a fault it is as before.
@@ -48,7 +46,7 @@ pub(crate) fn step<S: BlobStore, L: Ledger>(
     ensures counted { OnOk result (CountsStep stand.new steps.old steps.new) }
     ensures uncounted { IfErr result (λ fault. fault ≢ TakeFault.Blob MemoryRefused → steps.new ≡ steps.old) }
 {
-    one_move();
+    type_rows::laws::one_move();
     let (header, mut cursor) = opened(alloc, store, name)?;
     let current = stand.tag;
     if header.origin != current {
@@ -107,7 +105,7 @@ fn take_parts<L: Ledger>(
     ensures refused { IfErr result (Refuses (RefusesParts model.now parts.now states.old)) }
     ensures uncounted { IfErr result (λ fault. fault ≢ TakeFault.Blob MemoryRefused → steps.new ≡ steps.old) }
 {
-    kept_key();
+    key_index::laws::kept_key();
     let past = move_state(alloc, model, states, parts)?;
     let kept = past.as_slice();
     reserve_all(indexes, model, states, kept, steps)?;

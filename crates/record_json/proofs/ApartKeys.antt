@@ -4,9 +4,9 @@ use Rattle.std.specs.Prelude.{slice_index_or, All, AllPairs, Any}
 use Rattle.std.proofs.lemmas.List.{drop_all, get_or_default}
 use Rattle.std.proofs.lemmas.List.Kept.{AllPairs-cons}
 use Rattle.row_model.specs.PlainTree.{PlainTree, SameTree, pairs_of_list}
-use Rattle.typed_trees.specs.FitsTree.{AreKeysApart}
-use Rattle.same_trees.proofs.Arms.{of_pairs}
-use Rattle.same_trees.proofs.Passing.{left_at, yes, no}
+use Rattle.record_trees.specs.FitsTree.{AreKeysApart}
+use Rattle.record_trees.proofs.Arms.{of_pairs}
+use Rattle.record_trees.proofs.Passing.{left_at, yes, no}
 
 -- two pairs whose keys are other records
 abbrev AreApart : PlainTree × PlainTree → PlainTree × PlainTree → Type 0

@@ -15,9 +15,9 @@ use Rattle.schema_model.specs.declared.reason.Reason.TheVariants.{UnknownField}
 use Rattle.schema_model.specs.Model.{IsModel}
 use Rattle.schema_model.specs.Parts.{index_of_type, shape_names}
 use Rattle.row_model.specs.PlainTree.{PlainTree, PlainPairs, leaf, object, list, set, map, trees_of_list, pairs_of_list}
-use Rattle.typed_trees.specs.FitsTree.{FitsLeaf, IsLeafOr, AreKeysApart, FitsTree, FitFields, FitAll, FitPairs}
-use Rattle.typed_trees.specs.Types.{object_fields, list_element, set_element, map_types, referred, shape_at}
-use Rattle.same_trees.proofs.Deciding.{keys_apart_or_not}
+use Rattle.record_trees.specs.FitsTree.{FitsLeaf, IsLeafOr, AreKeysApart, FitsTree, FitFields, FitAll, FitPairs}
+use Rattle.record_trees.specs.Types.{object_fields, list_element, set_element, map_types, referred, shape_at}
+use Rattle.record_trees.proofs.Deciding.{keys_apart_or_not}
 use Rattle.json_values.specs.ReadValue.{before, made_of, read_bytes, read_each, read_flag, read_kind, read_number, read_text, read_value}
 use Rattle.record_json.specs.ReadTree.{are_fields, key_then, made, map_apart, read_at, read_both, read_field, read_fields, read_map, read_pair, read_present, read_reference, read_shape, read_typed, read_within}
 

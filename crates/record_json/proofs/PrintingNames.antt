@@ -16,7 +16,7 @@ use Rattle.schema_model.specs.Model.{HasChain, named_indexes, type_graph}
 use Rattle.schema_model.specs.Parts.{index_of_type, referenced, referenced_names, shape_names}
 use Rattle.row_model.specs.Row.{FitsKind, FitsShape, references_of_row, references_of_value}
 use Rattle.row_model.specs.Table.{Table, IsClosed, IsLive, IsTableOf, row_at}
-use Rattle.same_trees.proofs.Passing.{any_is_some}
+use Rattle.record_trees.proofs.Passing.{any_is_some}
 use Rattle.record_json.specs.Printing.{CanPrint, CanPrintPair, CanPrintValue, IsShallow}
 
 -- ---- what holds of all pieces

@@ -22,9 +22,9 @@ use Rattle.schema_model.specs.Model.{IsModel}
 use Rattle.schema_model.specs.Parts.{field_names, fields_of, index_of_type, shape_fields}
 use Rattle.row_model.specs.PlainTree.{PlainTree, PlainTrees, PlainPairs, leaf, object, list, set, map as map_tree, no_trees, tree_then, no_pairs, pair_then, list_of_trees, list_of_pairs, pairs_of_list, trees_of_list}
 use Rattle.schema_model.proofs.Ways.{one_field}
-use Rattle.typed_trees.specs.FitsTree.{AreKeysApart, FitAll, FitFields, FitPairs, FitsLeaf, FitsTree, IsLeafOr}
-use Rattle.typed_trees.specs.Types.{list_element, map_types, object_fields, referred, set_element}
-use Rattle.same_trees.proofs.Deciding.{keys_apart_or_not}
+use Rattle.record_trees.specs.FitsTree.{AreKeysApart, FitAll, FitFields, FitPairs, FitsLeaf, FitsTree, IsLeafOr}
+use Rattle.record_trees.specs.Types.{list_element, map_types, object_fields, referred, set_element}
+use Rattle.record_trees.proofs.Deciding.{keys_apart_or_not}
 use Rattle.json_values.specs.ReadValue.{before, read_each}
 use Rattle.json_rows.specs.StoredRow.{members_of_fields}
 use Rattle.record_json.specs.InRange.{ArePairsInRange, AreTreesInRange, IsTreeInRange}

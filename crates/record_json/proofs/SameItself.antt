@@ -3,7 +3,7 @@ use Rattle.std.proofs.Common.{refl, List, ◌∷◌, inl, inr}
 use Rattle.std.specs.Prelude.{All}
 use Rattle.std.proofs.lemmas.List.Elements.{All-nil, All-cons, All-weaker}
 use Rattle.row_model.specs.PlainTree.{PlainTree, PlainTrees, PlainPairs, leaf, object, list, set, map, no_trees, tree_then, no_pairs, pair_then, SameTree, SameTrees, EachAmong, IsAmongTrees, EachPairAmong, IsAmongPairs, list_of_trees, list_of_pairs}
-use Rattle.same_trees.proofs.Passing.{any_is_some}
+use Rattle.record_trees.proofs.Passing.{any_is_some}
 
 -- what is among others is among more
 each_more : (trees : PlainTrees) (other : PlainTree) (others : List PlainTree) → EachAmong trees others → EachAmong trees (other ∷ others)

@@ -17,10 +17,10 @@ use Rattle.row_model.specs.declared.tree.Trees.{Trees}
 use Rattle.row_model.specs.declared.tree.TreePairs.{TreePairs}
 use Rattle.row_model.specs.PlainTree.{PlainTree, PlainPairs, object, list, set, map as map_tree, trees_of_list, pairs_of_list}
 use Rattle.row_model.specs.Tree.{plain, plain_pair, plain_trees, plain_pairs}
-use Rattle.same_trees.proofs.Arms.{object_plain, list_plain, set_plain, map_plain}
-use Rattle.same_trees.proofs.Deciding.{keys_apart_or_not}
-use Rattle.same_trees.proofs.Passing.{refuted}
-use Rattle.typed_trees.specs.FitsTree.{AreKeysApart}
+use Rattle.record_trees.proofs.Arms.{object_plain, list_plain, set_plain, map_plain}
+use Rattle.record_trees.proofs.Deciding.{keys_apart_or_not}
+use Rattle.record_trees.proofs.Passing.{refuted}
+use Rattle.record_trees.specs.FitsTree.{AreKeysApart}
 use Rattle.json_values.specs.declared.fault.JsonFault.{JsonFault}
 use Rattle.record_json.specs.ReadTree.{TellsAs, made, map_apart, key_then, are_fields, read_both, read_fields, read_map, read_members, read_named, read_shape, read_within}
 

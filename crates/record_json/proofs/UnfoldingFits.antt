@@ -20,8 +20,8 @@ use Rattle.row_model.specs.Row.{FitsKind, FitsShape, references_of_row}
 use Rattle.row_model.specs.Table.{IsClosed, IsLive, IsTableOf, Table, row_at}
 use Rattle.row_model.specs.Unfold.{tree_of_live, tree_of_row, tree_of_type, tree_of_value, unfold_within}
 use Rattle.schema_model.proofs.Ways.{deep_enough}
-use Rattle.typed_trees.specs.FitsTree.{FitAll, FitFields, FitPairs, FitsTree}
-use Rattle.typed_trees.specs.Types.{list_element, map_types, object_fields, set_element}
+use Rattle.record_trees.specs.FitsTree.{FitAll, FitFields, FitPairs, FitsTree}
+use Rattle.record_trees.specs.Types.{list_element, map_types, object_fields, set_element}
 use Rattle.record_json.specs.KeysApart.{HasKeysApart, HaveKeysApart, HaveKeysApartEach}
 use Rattle.record_json.specs.Printing.{CanPrint, CanPrintPair, CanPrintValue, IsShallow, unfold_named}
 use Rattle.record_json.proofs.Fitting.{AreNamed, FitsField, FitsNamed, null_fits, pairs_of_types, record_fits, some_and, some_type}

@@ -10,7 +10,7 @@ use Rattle.serde_json.specs.Find.{as_i64, of_integer}
 use Rattle.serde_json.specs.View.{items_of}
 use Rattle.schema_model.specs.declared.schema.FieldKind.{FieldKind}
 use Rattle.row_model.specs.declared.row.Value.{Value}
-use Rattle.typed_trees.specs.FitsTree.{FitsLeaf}
+use Rattle.record_trees.specs.FitsTree.{FitsLeaf}
 use Rattle.json_values.specs.ReadValue.{before, decoded, has_bits, made_of, read_each, read_signed, read_unit, read_value}
 use Rattle.json_rows.specs.StoredRow.{IsTextData, IsValueData}
 use Rattle.record_json.specs.InRange.{IsLeafInRange}

@@ -1,6 +1,6 @@
 -- When no map in a tree has two keys that are the same record.
 use Rattle.row_model.specs.PlainTree.{PlainTree, PlainTrees, PlainPairs, leaf, object, list, set, map, no_trees, tree_then, no_pairs, pair_then}
-use Rattle.typed_trees.specs.FitsTree.{AreKeysApart}
+use Rattle.record_trees.specs.FitsTree.{AreKeysApart}
 
 -- the keys of each map in the tree are apart
 abbrev mutual

@@ -14,8 +14,8 @@ use Rattle.schema_model.specs.declared.reason.Reason.{Reason}
 use Rattle.schema_model.specs.declared.reason.Reason.TheVariants.{OtherKind, UnknownField, NullRecord, SameKeys}
 use Rattle.schema_model.specs.Parts.{index_of_type}
 use Rattle.row_model.specs.PlainTree.{PlainTree, PlainPairs, leaf, object, list, set, map, trees_of_list, pairs_of_list}
-use Rattle.same_trees.proofs.Deciding.{keys_apart_or_not}
-use Rattle.typed_trees.specs.FitsTree.{AreKeysApart}
+use Rattle.record_trees.proofs.Deciding.{keys_apart_or_not}
+use Rattle.record_trees.specs.FitsTree.{AreKeysApart}
 use Rattle.json_values.specs.ReadValue.{before, read_each, read_value}
 use Rattle.json_values.specs.declared.fault.JsonFault.{JsonFault}
 

@@ -6,7 +6,7 @@ ghost use Rattle.row_model.specs.PlainTree.{PlainTree, SameTree};
 ghost use Rattle.row_model.specs.Table.{EachRow, IsClosed, IsLive, IsTableOf, Table};
 ghost use Rattle.row_model.specs.Unfold.{unfold_row};
 ghost use Rattle.schema_model.specs.declared.schema.Schema.{Schema};
-ghost use Rattle.typed_trees.specs.FitsTree.{FitsTree};
+ghost use Rattle.record_trees.specs.FitsTree.{FitsTree};
 ghost use Rattle.record_json.specs.InRange.{HasValuesInRange, IsTreeInRange};
 ghost use Rattle.record_json.specs.KeysApart.{HasKeysApart};
 ghost use Rattle.record_json.specs.PrintTree.{PrintsTree};

@@ -7,3 +7,5 @@ pub mod Row
 pub mod Table
 pub mod Tree
 pub mod Unfold
+pub mod RowKey
+pub mod BothStates

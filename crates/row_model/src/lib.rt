@@ -1,12 +1,15 @@
-//! Rows, the tables that they stand in, and trees: what the types of a model hold, and what it means.
+//! Rows, the tables that they stand in, and trees: what the types of a model hold, and what it means; the keys of rows, and a walk over those of two states.
 #![tactic(auto)]
 
 mod dangling;
+pub mod laws;
 mod lent;
 mod lists;
 mod packed;
 mod parts;
 mod row;
+mod row_keys;
+mod row_walk;
 mod rows;
 mod tree;
 
@@ -16,5 +19,7 @@ pub use lists::{Areas, Pairs, Places, Values, Widths, Words};
 pub use packed::{Packed, PlaceFault};
 pub use parts::{Parts, area_byte, area_size};
 pub use row::{Row, Value};
+pub use row_keys::{row_key, values_key};
+pub use row_walk::RowWalk;
 pub use rows::Rows;
 pub use tree::{Tree, TreePairs, Trees};

@@ -11,7 +11,7 @@ use Rattle.row_model.specs.Row.{FitsShape}
 use Rattle.row_model.specs.Table.{Table, row_at}
 use Rattle.row_model.specs.declared.row.Row.{Row}
 use Rattle.schema_model.specs.declared.schema.Shape.{Shape}
-use Rattle.row_walk.specs.BothStates.{rows_of_both}
+use Rattle.row_model.specs.BothStates.{rows_of_both}
 use Rattle.bucket_codec.specs.BucketCount.{bucket_count}
 use Rattle.bucket_codec.specs.Packed.{set_pair, pairs_of, buckets_of, bucket_total, HoldsRow, IsPackableRow, IsPackable}
 use Rattle.bucket_codec.specs.Run.{keys_of}

@@ -13,8 +13,8 @@ use Rattle.row_model.specs.declared.row.Value.{Value}
 use Rattle.schema_model.specs.declared.schema.Field.{Field}
 use Rattle.schema_model.specs.declared.schema.FieldKind.{FieldKind}
 use Rattle.schema_model.specs.declared.schema.Shape.{Shape}
-use Rattle.row_walk.specs.BothStates.{rows_in, rows_added, rows_from, rows_of_both}
-use Rattle.row_walk.proofs.RowsFrom.{get_in, added_some, added_none, added_live}
+use Rattle.row_model.specs.BothStates.{rows_in, rows_added, rows_from, rows_of_both}
+use Rattle.row_model.proofs.RowsFrom.{get_in, added_some, added_none, added_live}
 use Rattle.object_codec.specs.Stored.{values_of_row, value_at, column}
 use Rattle.object_codec.specs.Widths.{value_bits, most_bits, byte_count, width_for, records_of}
 use Rattle.object_codec.proofs.Spreads.{widths_from}

@@ -11,7 +11,7 @@ use Rattle.row_model.specs.declared.row.Value.{Value}
 use Rattle.schema_model.specs.declared.schema.Field.{Field}
 use Rattle.schema_model.specs.declared.schema.FieldKind.{FieldKind}
 use Rattle.schema_model.specs.declared.schema.Shape.{Shape}
-use Rattle.row_walk.specs.BothStates.{rows_of_both}
+use Rattle.row_model.specs.BothStates.{rows_of_both}
 use Rattle.object_codec.specs.ObjectPlace.{IsKindWidth}
 use Rattle.object_codec.specs.Packing.{HasBytes, HoldsValue}
 use Rattle.object_codec.specs.Stored.{values_of_row, element_number}

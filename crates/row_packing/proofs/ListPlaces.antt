@@ -7,7 +7,7 @@ use Rattle.bit_array.specs.Digits.{digit_count}
 use Rattle.row_model.specs.declared.row.Row.{Row}
 use Rattle.schema_model.specs.declared.schema.Shape.{Shape}
 use Rattle.row_model.specs.Table.{Table}
-use Rattle.row_walk.specs.BothStates.{rows_of_both}
+use Rattle.row_model.specs.BothStates.{rows_of_both}
 use Rattle.list_codec.specs.Packing.{CanPack, elements_of_place, elements_of_places}
 use Rattle.list_codec.specs.Widths.{elements_of_row, elements_of_both, greatest, widths_for}
 use Rattle.row_packing.specs.Chosen.{IsRowOf}

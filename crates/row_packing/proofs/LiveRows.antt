@@ -14,8 +14,8 @@ use Rattle.ordinal_set.specs.Population.{AreUpTo}
 use Rattle.ordinal_set.proofs.Members.{no_member, same_rising, rising-with_ordinal, Contains-with_ordinal_cases, Contains-with_ordinal_itself, Contains-with_ordinal_kept}
 use Rattle.row_model.proofs.RowEntries.{Entry, from_below}
 use Rattle.row_model.specs.Table.{IsBound, IsLive, RowMap, Table}
-use Rattle.row_walk.specs.BothStates.{rows_in}
-use Rattle.row_walk.proofs.RowsFrom.{get_in}
+use Rattle.row_model.specs.BothStates.{rows_in}
+use Rattle.row_model.proofs.RowsFrom.{get_in}
 use Rattle.row_packing.specs.Chosen.{IsGreatestOrdinal}
 use Rattle.row_packing.proofs.RowsUnder.{all_found}
 

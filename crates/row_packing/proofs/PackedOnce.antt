@@ -3,9 +3,9 @@ use Rattle.std.proofs.Common.{◌≡◌, ℕ, List, Option, sym, ◌∙◌}
 use Rattle.row_model.specs.declared.row.Row.{Row}
 use Rattle.schema_model.specs.declared.schema.Shape.{Shape}
 use Rattle.object_codec.specs.Packing as object
-use Rattle.bucket_codec.specs.Packed.{AreWords}
+use Rattle.bit_array.specs.Element.{AreWords}
 use Rattle.bucket_codec.specs.Packed as buckets
-use Rattle.packing_laws.proofs.Lists as list
+use Rattle.list_codec.proofs.OnePacking as list
 use Rattle.row_packing.specs.Packs.{CanPackPlaces, PacksPlaces}
 
 -- the law of records

@@ -13,8 +13,8 @@ use Rattle.std.proofs.lemmas.List.Elements.{All-append, All-cons, All-head, All-
 use Rattle.row_model.specs.declared.row.Row.{Row}
 use Rattle.row_model.proofs.RowEntries.{Entry, AreFrom, skips, finds, from_below, finds_none}
 use Rattle.row_model.specs.Table.{RowMap, Table, row_at}
-use Rattle.row_walk.specs.BothStates.{rows_in, rows_added, rows_from, rows_of_both}
-use Rattle.row_walk.proofs.RowsFrom.{rows_skip, rows_take, rows_past, get_in, added_some, added_none, added_live}
+use Rattle.row_model.specs.BothStates.{rows_in, rows_added, rows_from, rows_of_both}
+use Rattle.row_model.proofs.RowsFrom.{rows_skip, rows_take, rows_past, get_in, added_some, added_none, added_live}
 use Rattle.row_packing.specs.Places.{places_under, Agree}
 use Rattle.row_packing.proofs.Greatest.{all_left, all_right}
 

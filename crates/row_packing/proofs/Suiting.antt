@@ -17,8 +17,8 @@ use Rattle.schema_model.specs.declared.schema.Field.{Field}
 use Rattle.schema_model.specs.declared.schema.Schema.{Schema}
 use Rattle.schema_model.specs.declared.schema.Shape.{Shape}
 use Rattle.schema_model.proofs.RuleTests.{few_fields}
-use Rattle.row_walk.specs.BothStates.{rows_in, rows_from, rows_of_both}
-use Rattle.row_walk.proofs.RowsFrom.{get_in}
+use Rattle.row_model.specs.BothStates.{rows_in, rows_from, rows_of_both}
+use Rattle.row_model.proofs.RowsFrom.{get_in}
 use Rattle.object_codec.specs.Widths.{fields_at, rows_bytes, widths_for as object_widths}
 use Rattle.list_codec.specs.Widths.{elements_of_row, widths_for as list_widths, total_for as list_total}
 use Rattle.bucket_codec.specs.Widths.{buckets_of_rows, widths_for as bucket_widths, total_for as bucket_total}

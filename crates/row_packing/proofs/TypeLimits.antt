@@ -8,8 +8,8 @@ use Rattle.row_model.specs.Table.{Table, IsTableOf, row_at}
 use Rattle.row_model.specs.declared.row.Row.{Row}
 use Rattle.schema_model.specs.declared.schema.Schema.{Schema}
 use Rattle.schema_model.specs.declared.schema.Shape.{Shape}
-use Rattle.row_walk.specs.BothStates.{rows_in, rows_added, rows_from, rows_of_both}
-use Rattle.row_walk.proofs.RowsFrom.{rows_past, added_none, added_live}
+use Rattle.row_model.specs.BothStates.{rows_in, rows_added, rows_from, rows_of_both}
+use Rattle.row_model.proofs.RowsFrom.{rows_past, added_none, added_live}
 use Rattle.object_codec.specs.Widths.{live_rows, bytes_for}
 use Rattle.type_rows.specs.Layout.{items_of_row, item_count, item_bits, words_needed, fixed_words}
 use Rattle.row_packing.specs.declared.chosen.Chosen.{Chosen}

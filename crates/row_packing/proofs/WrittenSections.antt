@@ -14,8 +14,8 @@ use Rattle.row_model.specs.Table.{RowMap, Table, row_at}
 use Rattle.row_model.specs.declared.row.Row.{Row}
 use Rattle.schema_model.specs.declared.schema.Field.{Field}
 use Rattle.schema_model.specs.declared.schema.Shape.{Shape}
-use Rattle.row_walk.specs.BothStates.{rows_in, rows_from, rows_of_both}
-use Rattle.row_walk.proofs.RowsFrom.{get_in}
+use Rattle.row_model.specs.BothStates.{rows_in, rows_from, rows_of_both}
+use Rattle.row_model.proofs.RowsFrom.{get_in}
 use Rattle.object_codec.specs.ObjectPlace.{SpellsObjectRow}
 use Rattle.list_codec.specs.ListPlace.{SpellsListRow}
 use Rattle.list_codec.specs.Packing.{elements_of_places}

@@ -8,7 +8,7 @@ use Rattle.schema_model.specs.declared.schema.Shape.{Shape}
 use Rattle.schema_model.specs.Limit.{number_of_limit}
 use Rattle.row_model.specs.Row.{FitsShape, IsRowInRange}
 use Rattle.row_model.specs.Table.{Table, IsLive}
-use Rattle.row_walk.specs.BothStates.{rows_of_both}
+use Rattle.row_model.specs.BothStates.{rows_of_both}
 use Rattle.object_codec.specs.Widths.{live_rows, widths_for as object_widths}
 use Rattle.list_codec.specs.Widths.{elements_of_row, widths_for as list_widths, total_for as list_total}
 use Rattle.bucket_codec.specs.Widths.{widths_for as bucket_widths, total_for as bucket_total}

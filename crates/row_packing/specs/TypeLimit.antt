@@ -5,7 +5,7 @@ use Rattle.schema_model.specs.declared.limit.Limit.TheVariants.{Items, Words, By
 use Rattle.schema_model.specs.declared.schema.Shape.{Shape}
 use Rattle.schema_model.specs.Limit.{number_of_limit}
 use Rattle.row_model.specs.Table.{Table}
-use Rattle.row_walk.specs.BothStates.{rows_of_both}
+use Rattle.row_model.specs.BothStates.{rows_of_both}
 use Rattle.object_codec.specs.Widths.{live_rows}
 use Rattle.type_rows.specs.Layout.{Layout, fixed_words}
 use Rattle.type_rows.specs.WordsHeld.{bytes_held}

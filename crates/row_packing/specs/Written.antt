@@ -6,7 +6,7 @@ use Rattle.row_model.specs.Row.{stored_row}
 use Rattle.row_model.specs.Table.{Table}
 use Rattle.row_model.specs.declared.row.Row.{Row}
 use Rattle.schema_model.specs.declared.schema.Shape.{Shape}
-use Rattle.row_walk.specs.BothStates.{rows_in, rows_of_both}
+use Rattle.row_model.specs.BothStates.{rows_in, rows_of_both}
 use Rattle.type_rows.specs.declared.section.Section.{Section}
 use Rattle.row_packing.specs.declared.chosen.Chosen.{Chosen}
 use Rattle.row_packing.specs.Chosen.{Suits}

@@ -1,6 +1,6 @@
 //! What is chosen for a type over the rows of two states.
 ghost use Rattle.std.specs.Prelude.{◌≡◌, ◌<◌, ℕ, length, slice_get, IfOk, Some};
-ghost use Rattle.row_walk.specs.BothStates.{rows_of_both};
+ghost use Rattle.row_model.specs.BothStates.{rows_of_both};
 ghost use Rattle.row_packing.specs.Chosen.{shape_at, chosen_widths, chosen_total, IsGreatestOrdinal, KeepsCounts, IsChosen};
 
 use row_model::{Rows, Widths};

@@ -6,8 +6,8 @@ ghost use Rattle.schema_model.specs.Limit.{number_of_limit};
 ghost use Rattle.row_model.specs.declared.row.Row.{Row};
 ghost use Rattle.schema_model.specs.declared.schema.Shape.{Shape};
 ghost use Rattle.row_model.specs.Table.{Table, row_at};
-ghost use Rattle.row_walk.specs.BothStates.{rows_in};
-ghost use Rattle.bucket_codec.specs.Packed.{AreWords};
+ghost use Rattle.row_model.specs.BothStates.{rows_in};
+ghost use Rattle.bit_array.specs.Element.{AreWords};
 ghost use Rattle.type_rows.specs.declared.section.Section.{Section};
 ghost use Rattle.type_rows.specs.Holds.{Holds};
 ghost use Rattle.type_rows.specs.Layout.{fixed_words};
@@ -19,8 +19,6 @@ ghost use Rattle.row_packing.specs.Chosen.{KeepsCounts, IsChosen, Suits};
 ghost use Rattle.row_packing.specs.Places.{Agree, AreAdded};
 ghost use Rattle.row_packing.specs.Written.{CanBeWritten, IsWritten, ArePacked};
 
-use bucket_codec::laws::one_packing;
-use packing_laws::one_record_packing;
 
 /// A section of a snapshot that has what was chosen and the packed rows is that of the state's rows, can be read, and its layout holds the rows
 /// of both states for which it was chosen. Where its fixed words keep their limit it loads.
@@ -48,6 +46,6 @@ pub fn written_places()
 pub fn one_packing_of_places()
     ensures { (shape : Shape) (widths : List ℕ) (places : List (Option Row)) (first first' second second' : List ℕ) (areas areas' : List (List ℕ)) → CanPackPlaces shape widths places → AreWords first → AreWords first' → AreWords second → AreWords second' → PacksPlaces shape widths places first second areas → PacksPlaces shape widths places first' second' areas' → (first ≡ first') × (second ≡ second') × (areas ≡ areas') }
 {
-    one_record_packing();
-    one_packing();
+    object_codec::laws::one_record_packing();
+    bucket_codec::laws::one_packing();
 }

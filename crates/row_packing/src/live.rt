@@ -1,7 +1,7 @@
 //! The live ordinals of a type.
 ghost use Rattle.std.specs.Prelude.{◌≡◌, IfOk};
 ghost use Rattle.std.specs.FinMap.{keys};
-ghost use Rattle.row_walk.specs.BothStates.{rows_in};
+ghost use Rattle.row_model.specs.BothStates.{rows_in};
 
 use ordinal_set::OrdinalSet;
 use row_model::Rows;

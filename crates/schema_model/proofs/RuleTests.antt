@@ -1,6 +1,6 @@
 -- From what a loop over the types finds to what the test of a rule tells.
 use Rattle.std.proofs.Common.{◌≡◌, ℕ, ◌∷◌, ◌<◌, ◌≤◌, ◌∙◌, sym, ap, subst, refl, List, Some, length, slice_get, ◌++◌, arith, inl, inr, true, false, Bool, get_or, []}
-use Rattle.std.specs.Prelude.{IsTrue, ◌↔◌, ◌||◌}
+use Rattle.std.specs.Prelude.{IsTrue, ◌↔◌, ◌||◌, SomeIndex, Any}
 use Rattle.std.proofs.lemmas.Option.{slice_get_within, slice_get-get_or}
 use Rattle.std.proofs.lemmas.Bool.{cases_lt, lt-ltb, ltb-true}
 use Rattle.std.proofs.lemmas.List.Folds.{list_any-append, Any-from_list_any, list_any-from_Any}
@@ -8,7 +8,6 @@ use Rattle.std.specs.List.{list_any, flat_map}
 use Rattle.hol_varint.specs.JavaUtf.{java_bytes}
 use Rattle.hol_varint.specs.TextUnits.{text_units}
 use Rattle.schema_model.specs.Checked.{is_long_text}
-use Rattle.std.specs.Prelude.{SomeIndex, Any}
 use Rattle.std.proofs.lemmas.List.{get_or_default}
 use Rattle.schema_model.specs.Model.{BreaksAt, Breaks, IsKept, StandsEarlier}
 use Rattle.schema_model.specs.Parts.{fields_of, field_names, type_names, texts_of}

@@ -5,7 +5,7 @@ use Rattle.std.proofs.lemmas.Bool.{cases_lt}
 use Rattle.std.proofs.lemmas.List.{take-append-le, take_all}
 use Rattle.hol_io.specs.declared.store.PutFault.{PutFault}
 use Rattle.hol_io.specs.Store.{Store, with_content}
-use Rattle.hollow_machine.specs.Puts.{Put, put_all}
+use Rattle.state_blobs.specs.Puts.{Put, put_all}
 use Rattle.state_blobs.specs.Blobs.{IsPartlyPut}
 
 -- what the store holds behind these puts

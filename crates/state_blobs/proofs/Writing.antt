@@ -8,8 +8,8 @@ use Rattle.blob_writing.specs.declared.fault.WriteFault.TheVariants.{Large, Memo
 use Rattle.blob_writing.specs.Limits.{MeansLarge}
 use Rattle.blob_writing.specs.Snapshot.{IsWrittenSnapshot}
 use Rattle.blob_writing.specs.Changes.{IsDeltaBetween}
-use Rattle.hollow_machine.specs.Puts.{AreFirst, AreLater, IsShort, Put}
-use Rattle.hollow_machine.specs.State.{Published}
+use Rattle.state_blobs.specs.Puts.{AreFirst, AreLater, IsShort, Put}
+use Rattle.state_blobs.specs.Published.{Published}
 use Rattle.state_blobs.specs.Blobs.{AreLong, AreNotShort}
 
 -- what a refusal means, it means of what follows from it

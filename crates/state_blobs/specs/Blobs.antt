@@ -3,7 +3,7 @@ use Rattle.std.specs.Prelude.{◌≡◌, ◌<◌, ◌^◌, ℕ, List, [], ◌∷
 use Rattle.std.specs.Option.{option_map}
 use Rattle.hol_io.specs.declared.name.BlobName.TheVariants as name
 use Rattle.hol_io.specs.Store.{Store}
-use Rattle.hollow_machine.specs.Puts.{IsShort, Put, put_all}
+use Rattle.state_blobs.specs.Puts.{IsShort, Put, put_all}
 use Rattle.state_blobs.specs.declared.write.Blobs.{Blobs}
 use Rattle.state_blobs.specs.declared.write.Blobs.TheVariants.{First, Later}
 

@@ -2,7 +2,7 @@
 ghost use Rattle.std.specs.Prelude.{◌≡◌, OnErr, OnOk};
 ghost use Rattle.std.specs.Option.{option_map};
 ghost use Rattle.hol_io.specs.Causes.{HasPutCause};
-ghost use Rattle.hollow_machine.specs.Puts.{put_all, puts_of};
+ghost use Rattle.state_blobs.specs.Puts.{put_all, puts_of};
 ghost use Rattle.state_blobs.specs.Blobs.{IsPartlyPut, puts_in};
 
 use crate::write::Blobs;

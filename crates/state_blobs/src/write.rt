@@ -4,14 +4,14 @@ ghost use Rattle.blob_writing.specs.Limits.{MeansLarge};
 ghost use Rattle.blob_writing.specs.Snapshot.{IsWrittenSnapshot};
 ghost use Rattle.blob_writing.specs.Changes.{IsDeltaBetween};
 ghost use Rattle.write_engine.specs.CycleLimit.{TellsTypes};
-ghost use Rattle.hollow_machine.specs.Kept.{published_of};
-ghost use Rattle.hollow_machine.specs.Puts.{AreBlobs, AreFirst, AreLater, IsShort};
+ghost use Rattle.state_blobs.specs.Published.{published_of};
+ghost use Rattle.state_blobs.specs.Puts.{AreBlobs, AreFirst, AreLater, IsShort};
 ghost use Rattle.state_blobs.specs.Blobs.{AreLong, AreNotShort, puts_in};
 
 use blob_writing::{WriteFault, write_delta, write_snapshot};
 use std::alloc::Global;
 use write_engine::Producer;
-use write_engine::laws::can_be_written;
+use write_engine::laws;
 
 /// The blobs that are put for a state.
 #[derive(Drop)]
@@ -105,7 +105,7 @@ fn write_whole(alloc: Global, producer: &Producer, tag: i64) -> Result<Vec<u8>, 
     ensures short { IfOk result (λ blob. length blob.items ≤ 2 ^ 28) }
     ensures large { IfErr result (MeansLarge (AreLong (IsWrittenSnapshot producer.now.schemas producer.now.previous producer.now.current producer.now.tag tag))) }
 {
-    can_be_written();
+    laws::can_be_written();
     let previous = producer.previous();
     let current = producer.current();
     write_snapshot(alloc, &previous, &current, producer.tag(), tag)
@@ -118,7 +118,7 @@ fn write_forth(alloc: Global, producer: &Producer, tag: i64) -> Result<Vec<u8>, 
     ensures short { IfOk result (λ blob. length blob.items ≤ 2 ^ 28) }
     ensures large { IfErr result (MeansLarge (AreLong (IsDeltaBetween producer.now.schemas producer.now.previous producer.now.current producer.now.tag tag))) }
 {
-    can_be_written();
+    laws::can_be_written();
     let previous = producer.previous();
     let current = producer.current();
     write_delta(alloc, &previous, &current, producer.tag(), tag)
@@ -131,7 +131,7 @@ fn write_back(alloc: Global, producer: &Producer, tag: i64) -> Result<Vec<u8>, W
     ensures short { IfOk result (λ blob. length blob.items ≤ 2 ^ 28) }
     ensures large { IfErr result (MeansLarge (AreLong (IsDeltaBetween producer.now.schemas producer.now.current producer.now.previous tag producer.now.tag))) }
 {
-    can_be_written();
+    laws::can_be_written();
     let previous = producer.previous();
     let current = producer.current();
     write_delta(alloc, &current, &previous, tag, producer.tag())

@@ -13,7 +13,7 @@ use crate::past::PastParts;
 use delta_blob::PatchPart;
 use schema_model::Model;
 use std::alloc::Global;
-use type_rows::laws::moved_rows_fit;
+use type_rows::laws;
 use type_state::TypeState;
 
 /// Moves the types of a model by the parts of a patch, each into its next half, and answers what is to be kept of each type. The current halves
@@ -34,7 +34,7 @@ pub fn move_state(
     ensures refused { IfErr result (TellsRefusal (RefusesParts model.now parts.now states.old)) }
     ensures stays { StaysCurrent states.old states.new }
 {
-    moved_rows_fit();
+    laws::moved_rows_fit();
     let past = move_types(alloc, model.len(), states, parts)?;
     check_closed(alloc, model, states, past.as_slice())?;
     Ok(past)

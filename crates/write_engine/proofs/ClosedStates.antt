@@ -21,9 +21,9 @@ use Rattle.row_model.specs.Row.{FitsKind, FitsShape, IsValueInRange, IsRowInRang
 use Rattle.row_model.specs.Table.{Table, RowMap, row_at, IsLive, IsLiveByName}
 use Rattle.ordinal_map.proofs.SlotRows.{get_inserted, get_beside}
 use Rattle.write_engine.specs.Cycle.{Adds, AddsFields, AddsAll, AddsPairs, AddsRecords, Next, PutsRow, no_rows, rows_in, with_row}
-use Rattle.typed_trees.specs.FitsTree.{FitsLeaf, IsLeafOr}
+use Rattle.record_trees.specs.FitsTree.{FitsLeaf, IsLeafOr}
 use Rattle.write_engine.specs.Soundness.{IsClosedTableOf}
-use Rattle.typed_trees.specs.Types.{object_fields, list_element, set_element, map_types, referred, shape_at}
+use Rattle.record_trees.specs.Types.{object_fields, list_element, set_element, map_types, referred, shape_at}
 use Rattle.write_engine.proofs.Members.{all_members, all_entries}
 
 -- what holds of a row in its type and table

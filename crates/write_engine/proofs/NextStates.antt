@@ -14,7 +14,7 @@ use Rattle.ordinal_map.specs.Assign.{Agree, Holds, IsTaken}
 use Rattle.ordinal_map.proofs.Puts.{agree_put}
 use Rattle.write_engine.specs.Agreement.{HoldsOnce, TablesAgree}
 use Rattle.write_engine.specs.Cycle.{Adds, AddsFields, AddsAll, AddsPairs, AddsRecords, Next, PutsRow, no_rows, rows_in}
-use Rattle.typed_trees.specs.FitsTree.{IsLeafOr}
+use Rattle.record_trees.specs.FitsTree.{IsLeafOr}
 
 -- ---- the rows of a type after a row is put
 

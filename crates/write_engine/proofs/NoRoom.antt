@@ -12,7 +12,7 @@ use Rattle.schema_model.specs.declared.schema.name.Name.{Name}
 use Rattle.schema_model.specs.Parts.{index_of_type}
 use Rattle.row_model.specs.PlainTree.{PlainTree, PlainTrees, PlainPairs, object, list, set, map as of_map, trees_of_list, pairs_of_list, tree_then, pair_then}
 use Rattle.row_model.specs.Table.{Table}
-use Rattle.typed_trees.specs.Types.{object_fields, list_element, set_element, map_types, referred, shape_at}
+use Rattle.record_trees.specs.Types.{object_fields, list_element, set_element, map_types, referred, shape_at}
 use Rattle.write_engine.specs.Agreement.{TablesAgree}
 use Rattle.write_engine.specs.Cycle.{Adds, AddsFields, AddsAll, AddsPairs, IsMapOf, IsSetOf, PutsRow}
 use Rattle.write_engine.specs.Leaf.{TellsLeaf}

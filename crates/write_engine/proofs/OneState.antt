@@ -10,8 +10,8 @@ use Rattle.ordinal_map.specs.Assign.{IsPut}
 use Rattle.ordinal_map.proofs.Puts.{put_once}
 use Rattle.write_engine.specs.Agreement.{HoldsOnce, TablesAgree}
 use Rattle.write_engine.specs.Cycle.{Adds, AddsFields, AddsAll, AddsPairs, AddsRecords, IsMapOf, IsSetOf, Next, PutsRow, no_rows, rows_in, with_row}
-use Rattle.typed_trees.specs.FitsTree.{IsLeafOr}
-use Rattle.typed_trees.specs.Types.{referred}
+use Rattle.record_trees.specs.FitsTree.{IsLeafOr}
+use Rattle.record_trees.specs.Types.{referred}
 use Rattle.write_engine.proofs.NextStates.{adds_agree, fields_agree, all_agree, pairs_agree, start_agree}
 use Rattle.write_engine.proofs.Parts.{AddsField}
 use Rattle.write_engine.proofs.RisingLists.{one_set, one_map}

@@ -13,8 +13,8 @@ use Rattle.write_engine.specs.Cycle.{Adds, AddsFields, AddsAll, AddsPairs, IsMap
 use Rattle.ordinal_map.specs.declared.fault.PutRowFault.{PutRowFault}
 use Rattle.row_model.specs.Row.{IsValueInRange, stored_value}
 use Rattle.write_engine.specs.Leaf.{TellsLeaf}
-use Rattle.typed_trees.specs.FitsTree.{FitsTree, FitFields, FitAll, FitPairs, IsConsAnd, IsLeafOr, FitsLeaf}
-use Rattle.typed_trees.specs.Types.{object_fields, list_element, set_element, map_types, referred, shape_at}
+use Rattle.record_trees.specs.FitsTree.{FitsTree, FitFields, FitAll, FitPairs, IsConsAnd, IsLeafOr, FitsLeaf}
+use Rattle.record_trees.specs.Types.{object_fields, list_element, set_element, map_types, referred, shape_at}
 use Rattle.schema_model.specs.declared.schema.Shape.{Shape}
 use Rattle.schema_model.specs.declared.schema.name.Name.{Name}
 use Rattle.row_model.specs.declared.row.Row.{Row}

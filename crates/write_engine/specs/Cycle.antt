@@ -1,7 +1,6 @@
 -- How a cycle's records make the next state: each entrys rows are added children first, each under the ordinal that it gets.
-use Rattle.std.specs.Prelude.{List, [], ◌∷◌, ℕ, ◌≡◌, ◌<◌, ◌^◌, nat_eq, ◌↔◌, Some, Contains, map as images, option_and_then, slice_set, replicate, length}
+use Rattle.std.specs.Prelude.{List, [], ◌∷◌, ℕ, ◌≡◌, ◌<◌, ◌^◌, nat_eq, ◌↔◌, Some, Contains, map as images, option_and_then, slice_set, replicate, length, slice_get}
 use Rattle.std.specs.Option.{unwrap_or}
-use Rattle.std.specs.Prelude.{slice_get}
 use Rattle.std.specs.FinMap.{insert, empty}
 use Rattle.std.specs.Map.{lookup}
 use Rattle.schema_model.specs.declared.schema.Field.{Field}
@@ -12,8 +11,8 @@ use Rattle.row_model.specs.Row.{IsValueInRange, Rises, stored_value}
 use Rattle.row_model.specs.Table.{Table, RowMap}
 use Rattle.row_model.specs.PlainTree.{PlainTree, PlainTrees, PlainPairs, leaf, object, list, set, map, no_trees, tree_then, no_pairs, pair_then}
 use Rattle.ordinal_map.specs.Assign.{IsPut}
-use Rattle.typed_trees.specs.FitsTree.{FitsLeaf, IsLeafOr}
-use Rattle.typed_trees.specs.Types.{object_fields, list_element, set_element, map_types, referred, shape_at}
+use Rattle.record_trees.specs.FitsTree.{FitsLeaf, IsLeafOr}
+use Rattle.record_trees.specs.Types.{object_fields, list_element, set_element, map_types, referred, shape_at}
 
 -- the rows of a type
 abbrev pub rows_in : Table → ℕ → RowMap

@@ -3,7 +3,7 @@ use Rattle.std.specs.Prelude.{◌≡◌, Option, Some, None}
 use Rattle.row_model.specs.declared.row.Value.{Value}
 use Rattle.row_model.specs.Row.{IsValueInRange, stored_value}
 use Rattle.row_model.specs.PlainTree.{PlainTree, IsLeafAnd}
-use Rattle.typed_trees.specs.FitsTree.{IsLeafOr}
+use Rattle.record_trees.specs.FitsTree.{IsLeafOr}
 
 -- the tree is a value, of which a blob holds this one; or it is a row
 abbrev pub TellsLeaf : PlainTree → Option Value → Type 0

@@ -7,8 +7,8 @@ ghost use Rattle.row_model.specs.declared.row.Value.{Value as RowValue};
 ghost use Rattle.row_model.specs.Table.{Table};
 ghost use Rattle.write_engine.specs.Agreement.{TablesAgree};
 ghost use Rattle.write_engine.specs.Cycle.{PutsRow, Adds, AddsFields, AddsAll, AddsPairs};
-ghost use Rattle.typed_trees.specs.FitsTree.{FitsTree, FitFields, FitAll, FitPairs};
-ghost use Rattle.typed_trees.specs.Types.{referred};
+ghost use Rattle.record_trees.specs.FitsTree.{FitsTree, FitFields, FitAll, FitPairs};
+ghost use Rattle.record_trees.specs.Types.{referred};
 ghost use Rattle.write_engine.specs.Production.{previous_of, current_of};
 
 use crate::gather::{map_of, set_of};

@@ -5,7 +5,7 @@ ghost use Rattle.row_model.specs.Tree.{plain};
 ghost use Rattle.write_engine.specs.Agreement.{TablesAgree};
 ghost use Rattle.write_engine.specs.Cycle.{Adds, no_rows};
 ghost use Rattle.write_engine.specs.CycleLimit.{TellsCycle};
-ghost use Rattle.typed_trees.specs.FitsTree.{FitsTree};
+ghost use Rattle.record_trees.specs.FitsTree.{FitsTree};
 ghost use Rattle.write_engine.specs.Production.{AreChanged, IsProducing, IsStart, advanced_to, current_of, previous_of, without_rows};
 ghost use Rattle.write_engine.specs.Soundness.{IsClosedTableOf};
 

@@ -5,7 +5,7 @@ use Rattle.std.specs.List.{All, AllZip, cons_option, filter_map, range_with_len}
 use Rattle.std.proofs.lemmas.List.Elements.{All-cons, All-nil, All-head, All-tail}
 use Rattle.ordinal_set.proofs.Members.{first_or_other, no_member}
 use Rattle.row_model.specs.Table.{RowMap, Table}
-use Rattle.row_walk.specs.BothStates.{rows_in}
+use Rattle.row_model.specs.BothStates.{rows_in}
 use Rattle.blob_writing.specs.Placed.{placed}
 
 module _ {X : Type 0} (R : ℕ → X → Type 0) where

@@ -7,8 +7,8 @@ use Rattle.row_model.specs.declared.row.Row.{Row}
 use Rattle.schema_model.specs.declared.schema.Field.{Field}
 use Rattle.schema_model.specs.declared.schema.Shape.{Shape}
 use Rattle.row_model.specs.Table.{Table, IsLive}
-use Rattle.row_walk.specs.BothStates.{rows_from, rows_in, rows_of_both}
-use Rattle.row_walk.proofs.RowsFrom.{get_in}
+use Rattle.row_model.specs.BothStates.{rows_from, rows_in, rows_of_both}
+use Rattle.row_model.proofs.RowsFrom.{get_in}
 use Rattle.type_rows.specs.Holds.{FitsRow, Holds, HoldsRows}
 use Rattle.type_rows.specs.Layout.{item_count, items_of_row, place_bits, places_of}
 use Rattle.type_rows.specs.WellFormed.{AreWidths}

@@ -10,7 +10,7 @@ use Rattle.schema_model.specs.declared.model.rule.Rule.TheVariants.{DuplicateNam
 use Rattle.schema_model.specs.declared.schema.Schema.{Schema}
 use Rattle.schema_model.specs.Model.{IsKept}
 use Rattle.row_model.specs.Table.{Table}
-use Rattle.row_walk.specs.BothStates.{rows_in}
+use Rattle.row_model.specs.BothStates.{rows_in}
 use Rattle.row_packing.proofs.Greatest.{all_gives, all_images}
 use Rattle.blob_frame.specs.Written.{header_bytes, schema_list_bytes}
 use Rattle.blob_writing.specs.Placed.{placed}

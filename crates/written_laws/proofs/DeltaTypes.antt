@@ -7,8 +7,8 @@ use Rattle.bit_array.specs.Element.{words_of}
 use Rattle.schema_model.specs.declared.schema.Schema.{Schema}
 use Rattle.schema_model.specs.declared.schema.Shape.{Shape}
 use Rattle.row_model.specs.Table.{Table, IsLive, row_at}
-use Rattle.row_walk.specs.BothStates.{rows_in, rows_of_both}
-use Rattle.row_walk.proofs.RowsFrom.{get_in}
+use Rattle.row_model.specs.BothStates.{rows_in, rows_of_both}
+use Rattle.row_model.proofs.RowsFrom.{get_in}
 use Rattle.type_rows.specs.Holds.{Holds}
 use Rattle.type_rows.specs.Layout.{place_bits, places_of}
 use Rattle.type_rows.specs.Patches.{places_in}

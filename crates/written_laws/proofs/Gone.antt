@@ -13,8 +13,8 @@ use Rattle.ordinal_set.specs.Ordinals.{lacking}
 use Rattle.ordinal_set.proofs.Members.{passes-from_filter, Contains-kept}
 use Rattle.row_model.specs.Table.{Table, IsLive, RowMap, row_at}
 use Rattle.row_model.specs.declared.row.Row.{Row}
-use Rattle.row_walk.specs.BothStates.{rows_in}
-use Rattle.row_walk.proofs.RowsFrom.{get_in}
+use Rattle.row_model.specs.BothStates.{rows_in}
+use Rattle.row_model.proofs.RowsFrom.{get_in}
 use Rattle.row_packing.specs.Places.{Agree}
 use Rattle.row_packing.proofs.LiveRows.{is_live, live_is}
 use Rattle.blob_writing.specs.Changes.{IsChanged, gone}

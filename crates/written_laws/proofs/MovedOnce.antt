@@ -10,7 +10,7 @@ use Rattle.row_model.specs.declared.row.Row.{Row}
 use Rattle.schema_model.specs.declared.schema.Schema.{Schema}
 use Rattle.schema_model.specs.Model.{IsKept}
 use Rattle.row_model.specs.Table.{Table, RowMap}
-use Rattle.row_walk.specs.BothStates.{rows_in}
+use Rattle.row_model.specs.BothStates.{rows_in}
 use Rattle.type_rows.specs.Patches.{MovesRows}
 use Rattle.delta_blob.specs.Moved.{EachNamed, IsAt, IsUnnamed, Moved, MovesType}
 use Rattle.delta_blob.specs.Patch.{TypePatch}

@@ -2,7 +2,7 @@
 use Rattle.std.proofs.Common.{◌≤◌, ◌<◌, ◌^◌, ℕ, List, [], length, refl, Option, Some, None, inl, inr, subst}
 use Rattle.schema_model.specs.declared.schema.Schema.{Schema}
 use Rattle.row_model.specs.Table.{Table}
-use Rattle.row_walk.specs.BothStates.{rows_of_both}
+use Rattle.row_model.specs.BothStates.{rows_of_both}
 use Rattle.object_codec.specs.Widths.{live_rows}
 use Rattle.type_rows.specs.Layout.{fixed_words}
 use Rattle.row_packing.specs.declared.chosen.Chosen.{Chosen}

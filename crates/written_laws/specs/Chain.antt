@@ -10,7 +10,7 @@ use Rattle.schema_model.specs.declared.schema.Schema.{Schema}
 use Rattle.schema_model.specs.Limit.{number_of_limit}
 use Rattle.schema_model.specs.Model.{IsModel}
 use Rattle.row_model.specs.Table.{Table, IsClosed, IsLive, IsTableOf, row_at}
-use Rattle.row_walk.specs.BothStates.{rows_in}
+use Rattle.row_model.specs.BothStates.{rows_in}
 use Rattle.row_packing.specs.Places.{Agree}
 use Rattle.type_rows.specs.WordsHeld.{bytes_held}
 

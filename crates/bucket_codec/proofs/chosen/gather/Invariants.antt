@@ -1,5 +1,5 @@
 use Rattle.std.proofs.Common.{length}
-use Rattle.row_walk.specs.BothStates.{rows_left, rows_of_both}
+use Rattle.row_model.specs.BothStates.{rows_left, rows_of_both}
 use Rattle.bucket_codec.proofs.Spreads.{IsGathered}
 use Rattle.bucket_codec.proofs.chosen.gather.Given as goal
 

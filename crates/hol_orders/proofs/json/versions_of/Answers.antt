@@ -1,6 +1,5 @@
-use Rattle.std.proofs.Common.{arith}
+use Rattle.std.proofs.Common.{arith, subst, sym}
 use Rattle.hol_orders.proofs.Walks.{versions_stop, versions_step, versions_more}
-use Rattle.std.proofs.Common.{subst, sym}
 use Rattle.hol_orders.specs.Shapes.{AreVersions}
 use Rattle.hol_orders.proofs.json.versions_of.Goals as goal
 

@@ -8,8 +8,7 @@ use Rattle.serde_json.specs.Events.{SendsMembers}
 use Rattle.json_rows.specs.StoredRow.{IsValueData}
 use Rattle.json_rows.specs.FieldOrder.{members_at}
 use Rattle.json_rows.proofs.Orders.{place_within}
-use Rattle.json_rows.proofs.Sent.{members_len-at}
-use Rattle.json_rows.proofs.Sent.{at_place}
+use Rattle.json_rows.proofs.Sent.{members_len-at, at_place}
 use Rattle.json_rows.proofs.line.send_record.Goals as goal
 
 pub loop-member-preserved : goal.loop-member-preserved

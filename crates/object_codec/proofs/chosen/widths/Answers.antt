@@ -1,5 +1,5 @@
 use Rattle.std.proofs.Common.{arith}
-use Rattle.row_walk.specs.BothStates.{rows_of_both}
+use Rattle.row_model.specs.BothStates.{rows_of_both}
 use Rattle.object_codec.proofs.Spreads.{spread_is, widths_more}
 use Rattle.object_codec.proofs.chosen.widths.Goals as goal
 

@@ -1,5 +1,5 @@
 use Rattle.std.proofs.Common.{◌≡◌, ◌++◌, drop}
-use Rattle.row_walk.specs.BothStates.{rows_of_both}
+use Rattle.row_model.specs.BothStates.{rows_of_both}
 use Rattle.object_codec.specs.Widths.{widths_for}
 use Rattle.object_codec.proofs.Spreads.{widths_from}
 use Rattle.object_codec.proofs.chosen.widths.Given as goal

@@ -1,6 +1,6 @@
 use Rattle.std.proofs.Common.{Err, Ok}
 use Rattle.serde_json.specs.View.{view}
-use Rattle.hollow_machine.specs.Kept.{published_of}
+use Rattle.state_blobs.specs.Published.{published_of}
 use Rattle.hol_orders.specs.declared.order_stop.OrderStop.{OrderStop}
 use Rattle.producer_orders.specs.declared.cycle_end.CycleEnd.TheVariants.{Refused}
 use Rattle.producer_orders.specs.Making.{Steps}

@@ -2,7 +2,7 @@ use Rattle.std.proofs.Common.{Err, List, Ok, inl, inr, subst}
 use Rattle.std.proofs.lemmas.Result.{err_from_is_err_and}
 use Rattle.schema_model.specs.declared.schema.Schema.{Schema}
 use Rattle.hollow_machine.specs.CycleOrder.{AreNamed, Publishes}
-use Rattle.hollow_machine.specs.Kept.{published_of}
+use Rattle.state_blobs.specs.Published.{published_of}
 use Rattle.producer_orders.specs.Making.{EndsPublished}
 use Rattle.state_blobs.proofs.Tags.{at_tag}
 use Rattle.producer_orders.proofs.Cycling.{changes, not_published, published, unpublished}

@@ -2,8 +2,8 @@ use Rattle.std.proofs.Common.{None, rules}
 use Rattle.std.proofs.lemmas.Result.{err_from_is_err_and}
 use Rattle.blob_writing.specs.Limits.{MeansLarge}
 use Rattle.write_engine.specs.CycleLimit.{TellsTypes}
-use Rattle.hollow_machine.specs.Kept.{published_of}
-use Rattle.hollow_machine.specs.Puts.{AreBlobs}
+use Rattle.state_blobs.specs.Published.{published_of}
+use Rattle.state_blobs.specs.Puts.{AreBlobs}
 use Rattle.state_blobs.specs.Blobs.{AreNotShort}
 use Rattle.state_blobs.proofs.Tags.{at_tag}
 use Rattle.producer_orders.proofs.Cycling.{not_written}

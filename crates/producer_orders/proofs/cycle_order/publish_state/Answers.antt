@@ -1,7 +1,7 @@
 use Rattle.std.proofs.Common.{Err, ◌≡◌}
 use Rattle.std.proofs.lemmas.Result.{err_from_is_err_and}
 use Rattle.write_engine.specs.Production.{advanced_to}
-use Rattle.hollow_machine.specs.Kept.{published_of}
+use Rattle.state_blobs.specs.Published.{published_of}
 use Rattle.state_blobs.specs.declared.write.Blobs.{Blobs}
 use Rattle.producer_orders.specs.Ends.{IsMemory, TellsEnd}
 use Rattle.producer_orders.specs.Making.{IsTooLarge, IsWithin}

@@ -1,6 +1,6 @@
 use Rattle.std.proofs.Common.{Ok, subst, ℕ}
 use Rattle.serde_json.specs.View.{view}
-use Rattle.hollow_machine.specs.Kept.{published_of}
+use Rattle.state_blobs.specs.Published.{published_of}
 use Rattle.producer_orders.specs.Making.{Ends, Follows}
 use Rattle.state_blobs.proofs.Tags.{at_tag}
 use Rattle.producer_orders.proofs.Cycling.{ends}

@@ -2,7 +2,7 @@
 use Rattle.std.proofs.Common.{◌↔◌, map, drop}
 use Rattle.row_model.specs.PlainTree.{pairs_of_list}
 use Rattle.row_model.specs.Tree.{plain_pair}
-use Rattle.typed_trees.specs.FitsTree.{AreKeysApart}
+use Rattle.record_trees.specs.FitsTree.{AreKeysApart}
 use Rattle.record_json.proofs.keys.are_keys_apart.Given as goal
 
 abbrev pub invariant-loop-place : goal.invariant-loop-place

@@ -1,6 +1,6 @@
 use Rattle.std.proofs.Common.{sym, ap, ◌∙◌, slice_get, List}
 use Rattle.schema_model.specs.declared.schema.Schema.{Schema}
-use Rattle.row_walk.specs.BothStates.{rows_of_both}
+use Rattle.row_model.specs.BothStates.{rows_of_both}
 use Rattle.row_packing.proofs.Suiting.{answer_same, object_total_is, list_total_is, buckets_total_is}
 use Rattle.row_packing.proofs.chosen.total.Goals as goal
 

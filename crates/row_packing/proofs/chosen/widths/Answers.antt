@@ -1,6 +1,6 @@
 use Rattle.std.proofs.Common.{sym, ap, ◌∙◌, slice_get, List}
 use Rattle.schema_model.specs.declared.schema.Schema.{Schema}
-use Rattle.row_walk.specs.BothStates.{rows_of_both}
+use Rattle.row_model.specs.BothStates.{rows_of_both}
 use Rattle.row_packing.specs.Chosen.{shape_at}
 use Rattle.row_packing.proofs.Suiting.{rows_bytes_few, answer_same, object_widths_are, list_widths_are, buckets_widths_are}
 use Rattle.row_packing.proofs.chosen.widths.Goals as goal

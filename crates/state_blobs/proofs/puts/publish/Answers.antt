@@ -2,7 +2,7 @@ use Rattle.std.proofs.Common.{[], ◌∷◌}
 use Rattle.std.specs.Fmt.{decimal}
 use Rattle.std.proofs.lemmas.Result.{err_from_is_err_and}
 use Rattle.hol_io.specs.declared.name.BlobName.TheVariants.{Announced}
-use Rattle.hollow_machine.specs.Puts.{Put}
+use Rattle.state_blobs.specs.Puts.{Put}
 use Rattle.state_blobs.specs.Blobs.{puts_in}
 use Rattle.state_blobs.proofs.Putting.{last_refused, part_of_more}
 use Rattle.state_blobs.proofs.puts.publish.Goals as goal

@@ -2,7 +2,7 @@ use Rattle.std.proofs.Common.{List, [], ◌∷◌, ◌≡◌, ap, ◌∙◌}
 use Rattle.std.proofs.lemmas.Result.{err_from_is_err_and}
 use Rattle.hol_io.specs.declared.name.BlobName.TheVariants as name
 use Rattle.hol_io.specs.Store.{with_content}
-use Rattle.hollow_machine.specs.Puts.{Put}
+use Rattle.state_blobs.specs.Puts.{Put}
 use Rattle.state_blobs.proofs.Putting.{one_stands, two_refused}
 use Rattle.state_blobs.proofs.puts.put_blobs.Goals as goal
 

@@ -1,8 +1,8 @@
 use Rattle.std.proofs.lemmas.Result.{err_from_is_err_and}
 use Rattle.blob_writing.specs.Limits.{MeansLarge}
 use Rattle.blob_writing.specs.Snapshot.{IsWrittenSnapshot}
-use Rattle.hollow_machine.specs.Kept.{published_of}
-use Rattle.hollow_machine.specs.Puts.{AreFirst}
+use Rattle.state_blobs.specs.Published.{published_of}
+use Rattle.state_blobs.specs.Puts.{AreFirst}
 use Rattle.state_blobs.specs.Blobs.{AreLong, AreNotShort}
 use Rattle.state_blobs.proofs.Tags.{at_tag}
 use Rattle.state_blobs.proofs.Writing.{first_long, means_more}

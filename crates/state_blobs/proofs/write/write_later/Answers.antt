@@ -2,8 +2,8 @@ use Rattle.std.proofs.lemmas.Result.{err_from_is_err_and}
 use Rattle.blob_writing.specs.Limits.{MeansLarge}
 use Rattle.blob_writing.specs.Snapshot.{IsWrittenSnapshot}
 use Rattle.blob_writing.specs.Changes.{IsDeltaBetween}
-use Rattle.hollow_machine.specs.Kept.{published_of}
-use Rattle.hollow_machine.specs.Puts.{AreLater}
+use Rattle.state_blobs.specs.Published.{published_of}
+use Rattle.state_blobs.specs.Puts.{AreLater}
 use Rattle.state_blobs.specs.Blobs.{AreLong, AreNotShort}
 use Rattle.state_blobs.proofs.Tags.{at_tag}
 use Rattle.state_blobs.proofs.Writing.{delta_long, means_more, reverse_long, snapshot_long}

@@ -1,18 +1,16 @@
-use Rattle.row_model.specs.PlainTree.{trees_of_list}
+use Rattle.row_model.specs.PlainTree.{trees_of_list, pairs_of_list}
 use Rattle.std.proofs.Common.{rules, refl, ◌∙◌, ap, sym, subst, arith, map, max, ◌≡◌, ◌+◌, ◌*◌}
 use denote.Param.Weighed.{at_most, most}
 use Rattle.row_model.proofs.tree.Tree.TheLaws.{the_size}
 use Rattle.row_model.specs.Tree.{plain, plain_pair}
-use Rattle.row_model.specs.PlainTree.{pairs_of_list}
-use Rattle.write_engine.specs.Production.{previous_of}
+use Rattle.write_engine.specs.Production.{previous_of, current_of}
 use Rattle.std.specs.Prelude.{IsSome, Some, IfOk}
 use Rattle.write_engine.specs.Cycle.{Adds, AddsFields, AddsPairs, IsMapOf, IsSetOf}
 use Rattle.write_engine.specs.Leaf.{TellsLeaf}
-use Rattle.same_trees.proofs.Arms.{map_image, object_image, list_image, set_image}
+use Rattle.record_trees.proofs.Arms.{map_image, object_image, list_image, set_image}
 use Rattle.write_engine.proofs.NextStates.{fields_agree, all_agree, pairs_agree}
 use Rattle.write_engine.proofs.NoRoom.{agree_now, passed_on, added_agree, all_refused, all_rest, field_refused, key_refused, value_refused, pairs_rest, kept_field, object_unput, list_unput, set_unput, map_unput}
-use Rattle.typed_trees.specs.Types.{referred}
-use Rattle.write_engine.specs.Production.{current_of}
+use Rattle.record_trees.specs.Types.{referred}
 use Rattle.write_engine.proofs.Parts.{all_fits, all_more, all_done, pairs_done, pair_fits, pairs_more, fits_index, length_images, image_at, field_fits, map_put, read_at, of_row, as_leaf, as_reference, referred_fits, some_and, fields_done}
 use Rattle.std.proofs.lemmas.Option.{slice_get_within}
 use Rattle.write_engine.proofs.adding.+adding.Goals as goal

@@ -4,7 +4,7 @@ use Rattle.row_model.specs.Table.{Table}
 use Rattle.row_model.specs.Tree.{plain, plain_pair}
 use Rattle.row_model.specs.declared.row.Value.{Value}
 use Rattle.write_engine.specs.Cycle.{AddsFields, AddsAll, AddsPairs}
-use Rattle.typed_trees.specs.FitsTree.{FitFields, FitAll, FitPairs}
+use Rattle.record_trees.specs.FitsTree.{FitFields, FitAll, FitPairs}
 use Rattle.write_engine.specs.Agreement.{TablesAgree}
 use Rattle.write_engine.specs.Production.{previous_of, current_of}
 use Rattle.write_engine.proofs.NoRoom.{CanAddAll, CanAddFields, CanAddPairs}

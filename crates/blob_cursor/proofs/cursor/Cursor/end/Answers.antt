@@ -1,5 +1,4 @@
-use Rattle.std.proofs.Common.{arith, ap}
-use Rattle.std.proofs.Common.{Err}
+use Rattle.std.proofs.Common.{arith, ap, Err}
 use Rattle.blob_cursor.proofs.Runs.{reads_end, reads_trailing}
 use Rattle.blob_cursor.proofs.cursor.Cursor.end.Goals as goal
 

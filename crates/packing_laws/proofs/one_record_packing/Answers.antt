@@ -1,5 +1,0 @@
-use Rattle.packing_laws.proofs.Records.{records_packed_once}
-use Rattle.packing_laws.proofs.one_record_packing.Goals as goal
-
-pub returns : goal.returns
-returns c = λ shape widths rows first first' areas areas'. records_packed_once shape widths rows first first' areas areas' c.one_zigzag.ensures.forth

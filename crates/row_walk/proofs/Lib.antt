@@ -1,2 +1,0 @@
-pub mod RowsFrom
-pub mod Steps

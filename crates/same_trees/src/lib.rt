@@ -1,7 +1,0 @@
-//! When two trees are the same record.
-#![tactic(auto)]
-
-mod same;
-mod values;
-
-pub use same::same_tree;
