@@ -7,7 +7,7 @@ use Rattle.serde_json.specs.Find.{at}
 use Rattle.schema_model.specs.declared.model.rule.Rule.{Rule}
 use Rattle.schema_model.specs.declared.schema.Schema.{Schema}
 use Rattle.schema_model.specs.Model.{BreaksAt, IsFirstBroken, IsModel, rule_place}
-use Rattle.json_values.specs.declared.fault.JsonFault.TheVariants as fault
+use Rattle.json_values.specs.declared.fault.SchemasFault.TheVariants as fault
 use Rattle.json_values.specs.SchemaJson.{HasText, StandsFor}
 use Rattle.json_values.specs.SchemasFrom.{IsRefused}
 use Rattle.json_values.proofs.OneSchemaList.{one_list, rule_exactly}

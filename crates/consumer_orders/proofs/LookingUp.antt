@@ -8,8 +8,8 @@ use Rattle.row_model.specs.declared.row.Value.{Value}
 use Rattle.schema_model.specs.declared.schema.Schema.{Schema}
 use Rattle.row_model.specs.Key.{AreMatches}
 use Rattle.row_model.specs.Table.{Table}
-use Rattle.json_values.specs.declared.fault.JsonFault.{JsonFault}
-use Rattle.json_values.specs.declared.fault.JsonFault.TheVariants as json_fault
+use Rattle.json_values.specs.declared.fault.KeyFault.{KeyFault}
+use Rattle.json_values.specs.declared.fault.KeyFault.TheVariants as key_fault
 use Rattle.json_values.specs.KeyFrom.{SpellsKey, TellsKey}
 use Rattle.read_engine.specs.Indexes.{index_by}
 use Rattle.read_engine.specs.Position.{Index, Position, rows_now}
@@ -54,13 +54,13 @@ found_rows (Some now) schemas number t paths json key ordinals same at spells ma
 )
 
 -- The JSON is no key.
-pub no_key : (consumer : Option Position) (schemas : List Schema) (number t : ℕ) (paths : List Path) (json : Data) (fault : JsonFault) → IsSomeAnd consumer (λ now. now.schemas ≡ schemas) →
-    IsSomeAnd consumer (λ now. slice_get now.indexes number ≡ Some (index_by t paths)) → fault ≡ json_fault.Shape → TellsKey schemas paths json (Err fault) →
+pub no_key : (consumer : Option Position) (schemas : List Schema) (number t : ℕ) (paths : List Path) (json : Data) (fault : KeyFault) → IsSomeAnd consumer (λ now. now.schemas ≡ schemas) →
+    IsSomeAnd consumer (λ now. slice_get now.indexes number ≡ Some (index_by t paths)) → fault ≡ key_fault.Shape → TellsKey schemas paths json (Err fault) →
     IsSomeAnd consumer (λ now. TellsAlong paths json now t (found.Refused refusal.BadKey))
 no_key None schemas number t paths json fault same at is tells = absurd same
 no_key (Some now) schemas number t paths json fault same at is tells = (
   in_list now.indexes number (index_by t paths) at,
-  subst (λ (s : List Schema). (key : List Value) → SpellsKey s paths json key → ⊥) (sym same) (subst (λ (f : JsonFault). TellsKey schemas paths json (Err f)) is tells),
+  subst (λ (s : List Schema). (key : List Value) → SpellsKey s paths json key → ⊥) (sym same) (subst (λ (f : KeyFault). TellsKey schemas paths json (Err f)) is tells),
 )
 
 -- What a look-up that finds no rows tells is what `find` answers.

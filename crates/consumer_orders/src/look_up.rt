@@ -7,7 +7,7 @@ ghost use Rattle.consumer_orders.specs.Sought.{TellsAlong, TellsFound};
 use crate::key_paths::{KeyPaths, key_paths};
 use hol_answers::Refusal;
 use hol_varint::Ordinals;
-use json_values::{JsonFault, key_from};
+use json_values::{KeyFault, key_from};
 use read_engine::Consumer;
 use schema_model::{Model, Name, Names, Paths};
 use serde_json::Value;
@@ -65,8 +65,7 @@ fn look_up_along(
     };
     match key_from(alloc, model, paths, values) {
         Ok(key) => Ok(Found::Ordinals(consumer.find(index, &key)?)),
-        Err(JsonFault::Shape) => Ok(Found::Refused(Refusal::BadKey)),
-        Err(JsonFault::Memory) => Err(AllocError),
-        Err(JsonFault::Rule(_, _) | JsonFault::Field(_)) => unreachable!(),
+        Err(KeyFault::Shape) => Ok(Found::Refused(Refusal::BadKey)),
+        Err(KeyFault::Memory) => Err(AllocError),
     }
 }

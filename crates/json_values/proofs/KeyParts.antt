@@ -17,7 +17,7 @@ use Rattle.row_model.specs.Dangling.{IsPlain}
 use Rattle.row_model.specs.Key.{IsResolved, kind_along, kind_in, type_behind, with_first}
 use Rattle.schema_model.specs.Parts.{referenced}
 use Rattle.schema_model.specs.Path.{HasField, RefersTo, GoesOn, Leads, path_names}
-use Rattle.json_values.specs.declared.fault.JsonFault.{JsonFault}
+use Rattle.json_values.specs.declared.fault.KeyFault.{KeyFault}
 use Rattle.json_values.specs.KeyFrom.{AreKinds, SpellsKey, TellsKey, TellsPart, key_part, key_parts, key_values}
 use Rattle.json_values.specs.ReadValue.{read_value}
 
@@ -192,16 +192,14 @@ path_ends schemas paths i path fields resolved inside at are =
     subst (λ fs. IsSomeAnd (kind_along schemas path.type_index fs) IsPlain) (sym are) (ends_plain schemas path.type_index path here)
 
 -- what a value that is refused tells of the JSON
-pub stops : (schemas : List Schema) (paths : List Path) (values : List Json) (i : ℕ) (path : Path) (fields : List ℕ) (kind : FieldKind) (value : Json) (key : List Value) (fault : JsonFault) → All (λ path. IsResolved schemas path.type_index path) paths
+pub stops : (schemas : List Schema) (paths : List Path) (values : List Json) (i : ℕ) (path : Path) (fields : List ℕ) (kind : FieldKind) (value : Json) (key : List Value) (fault : KeyFault) → All (λ path. IsResolved schemas path.type_index path) paths
     → length values ≡ length paths → i < length values → path ≡ slice_index_or paths i path → fields ≡ path.fields → value ≡ slice_index_or values i value → kind_along schemas path.type_index fields ≡ Some kind
     → WasTaken schemas paths values i key → TellsPart (key_part (read_value kind (view value))) (Err fault) → TellsKey schemas paths (array (items_view values)) (Err fault)
-stops schemas paths values i path fields kind value key JsonFault.Shape resolved long inside at are here is was none =
+stops schemas paths values i path fields kind value key KeyFault.Shape resolved long inside at are here is was none =
     none_spelled schemas paths values resolved (taken_stops schemas paths values i path kind value key long inside at here (ap (kind_along schemas path.type_index) (sym are) ∙ is) was none)
-stops schemas paths values i path fields kind value key JsonFault.Memory resolved long inside at are here is was none = tt
-stops schemas paths values i path fields kind value key (JsonFault.Rule rule type_index) resolved long inside at are here is was none = none
-stops schemas paths values i path fields kind value key (JsonFault.Field reason) resolved long inside at are here is was none = none
+stops schemas paths values i path fields kind value key KeyFault.Memory resolved long inside at are here is was none = tt
 
 -- the fault of a value is that of the whole
-pub passed_on : (schemas : List Schema) (paths : List Path) (json : Data) (fault : JsonFault) (r : Result (List Value) JsonFault) → IsErrAnd r (λ e. e ≡ fault) → TellsKey schemas paths json (Err fault) → TellsKey schemas paths json r
+pub passed_on : (schemas : List Schema) (paths : List Path) (json : Data) (fault : KeyFault) (r : Result (List Value) KeyFault) → IsErrAnd r (λ e. e ≡ fault) → TellsKey schemas paths json (Err fault) → TellsKey schemas paths json r
 passed_on schemas paths json fault (Ok key) is tells = absurd is
-passed_on schemas paths json fault (Err e) is tells = subst (λ (f : JsonFault). TellsKey schemas paths json (Err f)) (sym is) tells
+passed_on schemas paths json fault (Err e) is tells = subst (λ (f : KeyFault). TellsKey schemas paths json (Err f)) (sym is) tells

@@ -15,9 +15,9 @@ use Rattle.schema_model.specs.declared.schema.FieldKind.{FieldKind}
 use Rattle.schema_model.specs.declared.schema.Schema.{Schema}
 use Rattle.schema_model.specs.declared.schema.Shape.{Shape}
 use Rattle.schema_model.specs.declared.model.rule.Rule.{Rule}
-use Rattle.json_values.specs.declared.fault.JsonFault.{JsonFault}
+use Rattle.json_values.specs.declared.fault.SchemasFault.{SchemasFault}
 use Rattle.json_values.specs.SchemaJson.{AreSchemas, HasKey, HasParts, HasTarget, HasText, IsArrayOf, IsField, IsKindName, IsKindOrFloat, IsSchema, IsText, ItemsAre, StandsFor, StandsForWithFloats, shape_name}
-use Rattle.json_values.specs.SchemasFrom.{HasFloat, HasFloatAt, BreaksWithFloats, IsFirstWithFloats, IsFloatField, IsFreeJson, IsRefused, TellsSchemas}
+use Rattle.json_values.specs.SchemasFrom.{HasFloat, HasFloatAt, BreaksWithFloats, IsFirstWithFloats, IsFloatField, IsFreeSchemas, IsRefused, TellsSchemas}
 use Rattle.json_values.proofs.SchemaShapes.{differ, same_text, reference_kind}
 
 -- the plain kind of a name; FLOAT and DOUBLE go with BOOLEAN
@@ -247,33 +247,30 @@ refused_once value rule other t u (schemas, are, some, is) (others, are', some',
     first_once value others rule other t u (subst (λ s. IsFirstWithFloats value s rule t) same is) is'
 
 -- `Shape` comes exactly where there is no list of schemas
-pub shape_exactly : (value : Data) (result : Result (List Schema) JsonFault) → TellsSchemas value result → Yields IsFreeJson result (Err JsonFault.Shape) (AreSchemas value → ⊥)
+pub shape_exactly : (value : Data) (result : Result (List Schema) SchemasFault) → TellsSchemas value result → Yields IsFreeSchemas result (Err SchemasFault.Shape) (AreSchemas value → ⊥)
 shape_exactly value (Ok schemas) tells = (λ e. absurd cc, λ none. absurd (none (schemas, schemas_wider value schemas tells)))
-shape_exactly value (Err JsonFault.Shape) tells = (λ e. tells, λ none. inl refl)
-shape_exactly value (Err (JsonFault.Rule rule t)) tells = (λ e. absurd cc, λ none. absurd (none (tells.0, tells.1)))
-shape_exactly value (Err (JsonFault.Field reason)) tells = absurd tells
-shape_exactly value (Err JsonFault.Memory) tells = (λ e. absurd cc, λ none. inr tt)
+shape_exactly value (Err SchemasFault.Shape) tells = (λ e. tells, λ none. inl refl)
+shape_exactly value (Err (SchemasFault.Rule rule t)) tells = (λ e. absurd cc, λ none. absurd (none (tells.0, tells.1)))
+shape_exactly value (Err SchemasFault.Memory) tells = (λ e. absurd cc, λ none. inr tt)
 
 -- the schemas come exactly where the value stands for them
-pub made_exactly : (value : Data) (result : Result (List Schema) JsonFault) → TellsSchemas value result → (schemas : List Schema)
-    → Yields IsFreeJson result (Ok schemas) (StandsFor value schemas)
+pub made_exactly : (value : Data) (result : Result (List Schema) SchemasFault) → TellsSchemas value result → (schemas : List Schema)
+    → Yields IsFreeSchemas result (Ok schemas) (StandsFor value schemas)
 made_exactly value (Ok found) tells schemas = (
   λ e. let same : found ≡ schemas = cc in subst (StandsFor value) same tells,
   λ stands. inl (ap Ok (schemas_once value found schemas (schemas_wider value found tells) (schemas_wider value schemas stands))),
 )
-made_exactly value (Err JsonFault.Shape) tells schemas = (λ e. absurd cc, λ stands. absurd (tells (schemas, schemas_wider value schemas stands)))
-made_exactly value (Err (JsonFault.Rule rule t)) tells schemas = (λ e. absurd cc, λ stands. absurd (none_has_float value schemas stands tells.2.0 tells.2.1))
-made_exactly value (Err (JsonFault.Field reason)) tells schemas = absurd tells
-made_exactly value (Err JsonFault.Memory) tells schemas = (λ e. absurd cc, λ stands. inr tt)
+made_exactly value (Err SchemasFault.Shape) tells schemas = (λ e. absurd cc, λ stands. absurd (tells (schemas, schemas_wider value schemas stands)))
+made_exactly value (Err (SchemasFault.Rule rule t)) tells schemas = (λ e. absurd cc, λ stands. absurd (none_has_float value schemas stands tells.2.0 tells.2.1))
+made_exactly value (Err SchemasFault.Memory) tells schemas = (λ e. absurd cc, λ stands. inr tt)
 
 -- a rule is named exactly where a list with a FLOAT or a DOUBLE breaks it first
-pub rule_exactly : (value : Data) (result : Result (List Schema) JsonFault) → TellsSchemas value result → (rule : Rule) (t : ℕ)
-    → Yields IsFreeJson result (Err (JsonFault.Rule rule t)) (IsRefused value rule t)
+pub rule_exactly : (value : Data) (result : Result (List Schema) SchemasFault) → TellsSchemas value result → (rule : Rule) (t : ℕ)
+    → Yields IsFreeSchemas result (Err (SchemasFault.Rule rule t)) (IsRefused value rule t)
 rule_exactly value (Ok schemas) tells rule t = (λ e. absurd cc, λ is. absurd (none_has_float value schemas tells is.2.0 is.2.1))
-rule_exactly value (Err JsonFault.Shape) tells rule t = (λ e. absurd cc, λ is. absurd (tells (is.0, is.1)))
-rule_exactly value (Err (JsonFault.Rule found u)) tells rule t = (
+rule_exactly value (Err SchemasFault.Shape) tells rule t = (λ e. absurd cc, λ is. absurd (tells (is.0, is.1)))
+rule_exactly value (Err (SchemasFault.Rule found u)) tells rule t = (
   λ e. let same : found ≡ rule = cc in let at : u ≡ t = cc in subst (λ r. IsRefused value r t) same (subst (λ v. IsRefused value found v) at tells),
-  λ is. let (same, at) = refused_once value found rule u t tells is in inl (λ i. Err (JsonFault.Rule (same i) (at i))),
+  λ is. let (same, at) = refused_once value found rule u t tells is in inl (λ i. Err (SchemasFault.Rule (same i) (at i))),
 )
-rule_exactly value (Err (JsonFault.Field reason)) tells rule t = absurd tells
-rule_exactly value (Err JsonFault.Memory) tells rule t = (λ e. absurd cc, λ is. inr tt)
+rule_exactly value (Err SchemasFault.Memory) tells rule t = (λ e. absurd cc, λ is. inr tt)

@@ -9,7 +9,7 @@ use Rattle.schema_model.specs.declared.schema.Shape.{Shape}
 use Rattle.schema_model.specs.declared.model.rule.Rule.{Rule}
 use Rattle.schema_model.specs.Model.{BreaksAt, IsFirstBroken, IsModel, rule_place}
 use Rattle.schema_model.proofs.RuleTests.{few_types}
-use Rattle.json_values.specs.declared.fault.JsonFault.{JsonFault}
+use Rattle.json_values.specs.declared.fault.SchemasFault.{SchemasFault}
 use Rattle.json_values.specs.SchemaJson.{HasParts, HasText, shape_name, IsArrayOf, IsField, IsKindName, IsKindOrFloat, IsSchema, ItemsAre}
 use Rattle.json_values.specs.SchemasFrom.{BreaksWithFloats, HasFloat, IsFloatField, KeepsFirstRules, TellsFloat, TellsRefusal, TellsSchemas}
 
@@ -80,12 +80,11 @@ breaks_same value schemas Rule.TooDeep t early breaks = breaks
 breaks_same value schemas Rule.BadPath t early breaks = breaks
 
 -- what a refusal tells of the value
-pub refused : (items : Items) (schemas : List Schema) (first : ℕ) (fault : JsonFault) → ItemsAre (IsSchema IsKindOrFloat) items schemas → TellsFloat (array items) (Some first)
+pub refused : (items : Items) (schemas : List Schema) (first : ℕ) (fault : SchemasFault) → ItemsAre (IsSchema IsKindOrFloat) items schemas → TellsFloat (array items) (Some first)
     → TellsRefusal schemas first fault → TellsSchemas (array items) (Err fault)
-refused items schemas first JsonFault.Shape are found tells = absurd tells
-refused items schemas first (JsonFault.Field reason) are found tells = absurd tells
-refused items schemas first JsonFault.Memory are found tells = tt
-refused items schemas first (JsonFault.Rule rule t) are found (inl (early, broken)) = (
+refused items schemas first SchemasFault.Shape are found tells = absurd tells
+refused items schemas first SchemasFault.Memory are found tells = tt
+refused items schemas first (SchemasFault.Rule rule t) are found (inl (early, broken)) = (
   schemas,
   are,
   (first, found.0),
@@ -95,9 +94,9 @@ refused items schemas first (JsonFault.Rule rule t) are found (inl (early, broke
     least = λ u below breaks. broken.least u below (same_breaks (array items) schemas rule u early breaks);
   },
 )
-refused items schemas first (JsonFault.Rule rule t) are found (inr (is, at, kept)) =
-    subst (λ r. TellsSchemas (array items) (Err (JsonFault.Rule r t))) (sym is)
-    (subst (λ u. TellsSchemas (array items) (Err (JsonFault.Rule Rule.FloatField u))) (sym at) (
+refused items schemas first (SchemasFault.Rule rule t) are found (inr (is, at, kept)) =
+    subst (λ r. TellsSchemas (array items) (Err (SchemasFault.Rule r t))) (sym is)
+    (subst (λ u. TellsSchemas (array items) (Err (SchemasFault.Rule Rule.FloatField u))) (sym at) (
       schemas,
       are,
       (first, found.0),

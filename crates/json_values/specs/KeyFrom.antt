@@ -9,7 +9,7 @@ use Rattle.row_model.specs.declared.row.Value.{Value}
 use Rattle.schema_model.specs.declared.reason.Reason.{Reason}
 use Rattle.row_model.specs.Key.{kind_along, with_first}
 use Rattle.row_model.specs.Row.{stored_value}
-use Rattle.json_values.specs.declared.fault.JsonFault.{JsonFault}
+use Rattle.json_values.specs.declared.fault.KeyFault.{KeyFault}
 use Rattle.json_values.specs.ReadValue.{read_value}
 
 -- a value that is not null once it is stored: the least INT and the least LONG count as null
@@ -23,11 +23,10 @@ key_part (Ok value) = if_stored value (stored_value value)
 key_part (Err reason) = None
 
 -- What each answer tells of one value of a key.
-abbrev pub TellsPart : Option Value → Result Value JsonFault → Type 0
+abbrev pub TellsPart : Option Value → Result Value KeyFault → Type 0
 TellsPart part (Ok value) = part ≡ Some value
-TellsPart part (Err JsonFault.Shape) = part ≡ None
-TellsPart part (Err JsonFault.Memory) = Unit {0}
-TellsPart part (Err _) = ⊥
+TellsPart part (Err KeyFault.Shape) = part ≡ None
+TellsPart part (Err KeyFault.Memory) = Unit {0}
 
 -- the values of a key, one for each field of these kinds
 abbrev pub key_parts : List FieldKind → Items → Option (List Value)
@@ -51,8 +50,7 @@ pub record SpellsKey (schemas : List Schema) (paths : List Path) (json : Data) (
   pub values : key_values kinds json ≡ Some key
 
 -- What each answer tells of the JSON.
-abbrev pub TellsKey : List Schema → List Path → Data → Result (List Value) JsonFault → Type 0
+abbrev pub TellsKey : List Schema → List Path → Data → Result (List Value) KeyFault → Type 0
 TellsKey schemas paths json (Ok key) = SpellsKey schemas paths json key
-TellsKey schemas paths json (Err JsonFault.Shape) = (key : List Value) → SpellsKey schemas paths json key → ⊥
-TellsKey schemas paths json (Err JsonFault.Memory) = Unit {0}
-TellsKey schemas paths json (Err _) = ⊥
+TellsKey schemas paths json (Err KeyFault.Shape) = (key : List Value) → SpellsKey schemas paths json key → ⊥
+TellsKey schemas paths json (Err KeyFault.Memory) = Unit {0}

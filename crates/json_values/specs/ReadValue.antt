@@ -9,7 +9,7 @@ use Rattle.schema_model.specs.declared.schema.FieldKind.{FieldKind}
 use Rattle.row_model.specs.declared.row.Value.{Value}
 use Rattle.schema_model.specs.declared.reason.Reason.{Reason}
 use Rattle.schema_model.specs.declared.reason.Reason.TheVariants.{OtherKind, NumberOutOfRange, NotHexadecimal, UnitOutOfRange}
-use Rattle.json_values.specs.declared.fault.JsonFault.{JsonFault}
+use Rattle.json_values.specs.declared.fault.ValueFault.{ValueFault}
 
 -- whether a signed number has so many bits
 abbrev pub has_bits : ℕ → ℤ → Bool
@@ -85,8 +85,7 @@ read_value kind null = Ok Value.Null
 read_value kind value = read_kind kind value
 
 -- What each answer tells of what there is to read.
-abbrev pub Tells : {A : Type 0} → Result A Reason → Result A JsonFault → Type 0
+abbrev pub Tells : {A : Type 0} → Result A Reason → Result A ValueFault → Type 0
 Tells read (Ok x) = read ≡ Ok x
-Tells read (Err (JsonFault.Field reason)) = read ≡ Err reason
-Tells read (Err JsonFault.Memory) = Unit {0}
-Tells read (Err _) = ⊥
+Tells read (Err (ValueFault.Field reason)) = read ≡ Err reason
+Tells read (Err ValueFault.Memory) = Unit {0}

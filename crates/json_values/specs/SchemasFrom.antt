@@ -7,8 +7,8 @@ use Rattle.schema_model.specs.declared.model.rule.Rule.{Rule}
 use Rattle.schema_model.specs.Model.{BreaksAt, IsFirstBroken, IsKept, rule_place}
 use Rattle.schema_model.specs.declared.model.faults.ModelFault.{ModelFault}
 use Rattle.json_values.specs.SchemaJson.{AreSchemas, HasText, IsFloatName, StandsFor, StandsForWithFloats}
-use Rattle.json_values.specs.declared.fault.JsonFault.{JsonFault}
-use Rattle.json_values.specs.declared.fault.JsonFault.TheVariants.{Shape, Rule as Broken, Field, Memory}
+use Rattle.json_values.specs.declared.fault.SchemasFault.{SchemasFault}
+use Rattle.json_values.specs.declared.fault.SchemasFault.TheVariants.{Shape, Rule as Broken, Memory}
 
 -- The JSON of a field has the type FLOAT or DOUBLE.
 abbrev pub IsFloatField : Data → Type 0
@@ -43,17 +43,16 @@ IsRefused value rule t =
     (schemas : List Schema) × StandsForWithFloats value schemas × ((u : ℕ) × HasFloatAt value u) × IsFirstWithFloats value schemas rule t
 
 -- What each answer tells of the value.
-abbrev pub TellsSchemas : Data → Result (List Schema) JsonFault → Type 0
+abbrev pub TellsSchemas : Data → Result (List Schema) SchemasFault → Type 0
 TellsSchemas value (Ok schemas) = StandsFor value schemas
 TellsSchemas value (Err Shape) = AreSchemas value → ⊥
 TellsSchemas value (Err (Broken rule t)) = IsRefused value rule t
-TellsSchemas value (Err (Field reason)) = ⊥
 TellsSchemas value (Err Memory) = Unit {0}
 
 -- Want of memory may come in place of any answer.
-abbrev pub IsFreeJson : JsonFault → Type 0
-IsFreeJson Memory = Unit {0}
-IsFreeJson _ = ⊥
+abbrev pub IsFreeSchemas : SchemasFault → Type 0
+IsFreeSchemas Memory = Unit {0}
+IsFreeSchemas _ = ⊥
 
 -- What a search for the first type with a FLOAT or a DOUBLE tells.
 abbrev pub TellsFloat : Data → Option ℕ → Type 0
@@ -75,7 +74,7 @@ TellsFirstRules schemas (Err (ModelFault.Broken rule t)) = BreaksFirstRule schem
 TellsFirstRules schemas (Err ModelFault.Memory) = Unit {0}
 
 -- What the refusal of schemas whose first type with a FLOAT or a DOUBLE is at this index tells.
-abbrev pub TellsRefusal : List Schema → ℕ → JsonFault → Type 0
+abbrev pub TellsRefusal : List Schema → ℕ → SchemasFault → Type 0
 TellsRefusal schemas first (Broken rule t) = BreaksFirstRule schemas rule t ⊎ ((rule ≡ Rule.FloatField) × (t ≡ first) × KeepsFirstRules schemas)
 TellsRefusal schemas first Memory = Unit {0}
 TellsRefusal schemas first _ = ⊥

@@ -8,8 +8,8 @@ ghost use Rattle.row_model.specs.Row.{stored_value};
 ghost use Rattle.json_values.specs.KeyFrom.{TellsKey, TellsPart, if_stored, key_part};
 ghost use Rattle.json_values.specs.ReadValue.{read_value};
 
-use crate::JsonFault;
 use crate::values::value_from;
+use crate::{KeyFault, ValueFault};
 use row_model::{Value as FieldValue, Values};
 use schema_model::{FieldKind, Model, Path, Paths};
 use serde_json::Value;
@@ -17,19 +17,18 @@ use std::alloc::Global;
 
 /// The values of a key, one for each path, in their order. `Shape` where the JSON is no array of as many values as there are
 /// paths, each a value of the field at the end of its path that is not null. The least INT and the least LONG count as null.
-/// `Rule` and `Field` never come.
 pub fn key_from(
     alloc: Global,
     model: &Model,
     paths: &Paths,
     values: &Value,
-) -> Result<Values, JsonFault>
+) -> Result<Values, KeyFault>
     requires resolved { All (λ path. IsResolved model.now path.type_index path) paths.now }
     ensures tells { TellsKey model.now paths.now (view values.now) result }
 {
     match values {
         Value::Array(values) => parts_from(alloc, model, paths.as_slice(), values.as_slice()),
-        _ => Err(JsonFault::Shape),
+        _ => Err(KeyFault::Shape),
     }
 }
 
@@ -39,12 +38,12 @@ fn parts_from(
     model: &Model,
     paths: &[Path],
     values: &[Value],
-) -> Result<Values, JsonFault>
+) -> Result<Values, KeyFault>
     requires resolved { All (λ path. IsResolved model.now path.type_index path) paths.now }
     ensures tells { TellsKey model.now paths.now (array (items_view values.now)) result }
 {
     if values.len() != paths.len() {
-        return Err(JsonFault::Shape);
+        return Err(KeyFault::Shape);
     }
     let mut key = Values::with_capacity(alloc, paths.len())?;
     for (place, value) in values.iter().enumerate() {
@@ -75,24 +74,24 @@ fn kind_behind<'a>(model: &'a Model, type_index: u32, fields: &[u32]) -> &'a Fie
 }
 
 // One value of a key.
-fn part_from(alloc: Global, kind: &FieldKind, value: &Value) -> Result<FieldValue, JsonFault>
+fn part_from(alloc: Global, kind: &FieldKind, value: &Value) -> Result<FieldValue, KeyFault>
     requires plain { IsPlain kind.now }
     ensures { TellsPart (key_part (read_value kind.now (view value.now))) result }
 {
     match value_from(alloc, kind, value) {
         Ok(value) => unless_null(value),
-        Err(JsonFault::Memory) => Err(JsonFault::Memory),
-        Err(_) => Err(JsonFault::Shape),
+        Err(ValueFault::Memory) => Err(KeyFault::Memory),
+        Err(ValueFault::Field(_)) => Err(KeyFault::Shape),
     }
 }
 
 // A value that is not null once it is stored.
-fn unless_null(value: FieldValue) -> Result<FieldValue, JsonFault>
+fn unless_null(value: FieldValue) -> Result<FieldValue, KeyFault>
     ensures { TellsPart (if_stored value (stored_value value)) result }
 {
     match value {
         FieldValue::Null | FieldValue::Int(i32::MIN) | FieldValue::Long(i64::MIN) => {
-            Err(JsonFault::Shape)
+            Err(KeyFault::Shape)
         }
         value => Ok(value),
     }

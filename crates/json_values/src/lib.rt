@@ -11,7 +11,7 @@ mod schema_shape;
 mod schemas;
 mod values;
 
-pub use fault::JsonFault;
+pub use fault::{KeyFault, SchemasFault, ValueFault};
 pub use key::key_from;
 pub use schema_shape::are_schemas;
 pub use schemas::schemas_from;

@@ -7,9 +7,9 @@ ghost use Rattle.schema_model.specs.declared.schema.Schema.{Schema};
 ghost use Rattle.schema_model.specs.declared.model.rule.Rule.{Rule};
 ghost use Rattle.schema_model.specs.Model.{rule_place};
 ghost use Rattle.json_values.specs.SchemaJson.{AreSchemas, StandsFor};
-ghost use Rattle.json_values.specs.SchemasFrom.{IsFreeJson, IsRefused, TellsFirstRules, TellsRefusal, TellsSchemas};
+ghost use Rattle.json_values.specs.SchemasFrom.{IsFreeSchemas, IsRefused, TellsFirstRules, TellsRefusal, TellsSchemas};
 
-use crate::JsonFault;
+use crate::SchemasFault;
 use crate::floats::first_float;
 use crate::json_form::all_from_forms;
 use crate::schema_shape::are_schemas;
@@ -21,20 +21,20 @@ use std::alloc::Global;
 /// FLOAT or a DOUBLE: the first rule that the list breaks, and the first type that breaks it, which are these fields'
 /// unless the list has too many types or fields, too long a name, or a name twice.
 #[tactic(auto, using(crate::proofs::OneSchemaList::shape_exactly, crate::proofs::OneSchemaList::made_exactly))]
-pub fn schemas_from(alloc: Global, value: &Value) -> Result<Schemas, JsonFault>
+pub fn schemas_from(alloc: Global, value: &Value) -> Result<Schemas, SchemasFault>
     ensures tells { TellsSchemas (view value.now) result }
-    ensures made { (schemas : List Schema) → Yields IsFreeJson result (Ok schemas) (StandsFor (view value.now) schemas) }
-    ensures shape { Yields IsFreeJson result (Err JsonFault.Shape) (AreSchemas (view value.now) → ⊥) }
-    ensures rule { (rule : Rule) (type_index : ℕ) → Yields IsFreeJson result (Err (JsonFault.Rule rule type_index)) (IsRefused (view value.now) rule type_index) }
+    ensures made { (schemas : List Schema) → Yields IsFreeSchemas result (Ok schemas) (StandsFor (view value.now) schemas) }
+    ensures shape { Yields IsFreeSchemas result (Err SchemasFault.Shape) (AreSchemas (view value.now) → ⊥) }
+    ensures rule { (rule : Rule) (type_index : ℕ) → Yields IsFreeSchemas result (Err (SchemasFault.Rule rule type_index)) (IsRefused (view value.now) rule type_index) }
 {
     read_schemas(alloc, value)
 }
 
-fn read_schemas(alloc: Global, value: &Value) -> Result<Schemas, JsonFault>
+fn read_schemas(alloc: Global, value: &Value) -> Result<Schemas, SchemasFault>
     ensures { TellsSchemas (view value.now) result }
 {
     if !are_schemas(value) {
-        return Err(JsonFault::Shape);
+        return Err(SchemasFault::Shape);
     }
     match value {
         Value::Array(types) => listed(alloc, types.as_slice()),
@@ -43,7 +43,7 @@ fn read_schemas(alloc: Global, value: &Value) -> Result<Schemas, JsonFault>
 }
 
 // The schemas for which the values of an array stand, or the rule that they break first.
-fn listed(alloc: Global, types: &[Value]) -> Result<Schemas, JsonFault>
+fn listed(alloc: Global, types: &[Value]) -> Result<Schemas, SchemasFault>
     requires { AreSchemas (array (items_view types.now)) }
     ensures { TellsSchemas (array (items_view types.now)) result }
 {
@@ -55,14 +55,14 @@ fn listed(alloc: Global, types: &[Value]) -> Result<Schemas, JsonFault>
 }
 
 // Why schemas are refused of which the type at this index is the first that has a FLOAT or a DOUBLE.
-fn refusal(alloc: Global, schemas: Schemas, type_index: usize) -> JsonFault
+fn refusal(alloc: Global, schemas: Schemas, type_index: usize) -> SchemasFault
     requires { type_index < length schemas }
     ensures { TellsRefusal schemas type_index result }
 {
     match check_first_rules(alloc, schemas) {
-        Ok(()) => JsonFault::Rule(Rule::FloatField, type_index as u32),
-        Err(ModelFault::Broken(rule, broken)) => JsonFault::Rule(rule, broken),
-        Err(ModelFault::Memory) => JsonFault::Memory,
+        Ok(()) => SchemasFault::Rule(Rule::FloatField, type_index as u32),
+        Err(ModelFault::Broken(rule, broken)) => SchemasFault::Rule(rule, broken),
+        Err(ModelFault::Memory) => SchemasFault::Memory,
     }
 }
 

@@ -4,7 +4,7 @@ ghost use Rattle.serde_json.specs.View.{view, items_view};
 ghost use Rattle.row_model.specs.Dangling.{IsPlain};
 ghost use Rattle.json_values.specs.ReadValue.{Tells, read_bytes, read_flag, read_kind, read_number, read_text, read_each, read_unit, read_value};
 
-use crate::JsonFault;
+use crate::ValueFault;
 use hex::FromHexError;
 use hol_varint::{Octets, Units, units_of};
 use row_model::Value as FieldValue;
@@ -15,8 +15,8 @@ use std::alloc::Global;
 /// The value of a field of a kind without a reference. `Field` where the JSON value gives none: `OtherKind` where it is
 /// of another kind of JSON, `NumberOutOfRange` where it is no whole number in the range of an INT or a LONG,
 /// `UnitOutOfRange` where a number among the units of a STRING is none of 16 bits, and `NotHexadecimal` where a BYTES is
-/// no text of two digits a byte. A null is the null of every kind. `Shape` and `Rule` never come.
-pub fn value_from(alloc: Global, kind: &FieldKind, value: &Value) -> Result<FieldValue, JsonFault>
+/// no text of two digits a byte. A null is the null of every kind.
+pub fn value_from(alloc: Global, kind: &FieldKind, value: &Value) -> Result<FieldValue, ValueFault>
     requires plain { IsPlain kind.now }
     ensures { Tells (read_value kind.now (view value.now)) result }
 {
@@ -27,7 +27,7 @@ pub fn value_from(alloc: Global, kind: &FieldKind, value: &Value) -> Result<Fiel
 }
 
 // The same of a value that is not null.
-fn kind_value(alloc: Global, kind: &FieldKind, value: &Value) -> Result<FieldValue, JsonFault>
+fn kind_value(alloc: Global, kind: &FieldKind, value: &Value) -> Result<FieldValue, ValueFault>
     requires plain { IsPlain kind.now }
     ensures { Tells (read_kind kind.now (view value.now)) result }
 {
@@ -41,50 +41,50 @@ fn kind_value(alloc: Global, kind: &FieldKind, value: &Value) -> Result<FieldVal
     }
 }
 
-fn int_of(value: &Value) -> Result<i32, JsonFault>
+fn int_of(value: &Value) -> Result<i32, ValueFault>
     ensures { Tells (read_number 32 (view value.now)) result }
 {
     let number = long_of(value)?;
     match i32::try_from(number) {
         Ok(number) => Ok(number),
-        Err(_) => Err(JsonFault::Field(Reason::NumberOutOfRange)),
+        Err(_) => Err(ValueFault::Field(Reason::NumberOutOfRange)),
     }
 }
 
-fn long_of(value: &Value) -> Result<i64, JsonFault>
+fn long_of(value: &Value) -> Result<i64, ValueFault>
     ensures { Tells (read_number 64 (view value.now)) result }
 {
     match value {
         Value::Number(number) => match number.as_i64() {
             Some(number) => Ok(number),
-            None => Err(JsonFault::Field(Reason::NumberOutOfRange)),
+            None => Err(ValueFault::Field(Reason::NumberOutOfRange)),
         },
-        _ => Err(JsonFault::Field(Reason::OtherKind)),
+        _ => Err(ValueFault::Field(Reason::OtherKind)),
     }
 }
 
-fn flag_of(value: &Value) -> Result<bool, JsonFault>
+fn flag_of(value: &Value) -> Result<bool, ValueFault>
     ensures { Tells (read_flag (view value.now)) result }
 {
     match value {
         Value::Bool(flag) => Ok(*flag),
-        _ => Err(JsonFault::Field(Reason::OtherKind)),
+        _ => Err(ValueFault::Field(Reason::OtherKind)),
     }
 }
 
 // The units of a STRING.
-fn text_units_of(alloc: Global, value: &Value) -> Result<Units, JsonFault>
+fn text_units_of(alloc: Global, value: &Value) -> Result<Units, ValueFault>
     ensures { Tells (read_text (view value.now)) result }
 {
     match value {
         Value::String(text) => Ok(units_of(alloc, text.as_str())?),
         Value::Array(numbers) => numbers_of(alloc, numbers.as_slice()),
-        _ => Err(JsonFault::Field(Reason::OtherKind)),
+        _ => Err(ValueFault::Field(Reason::OtherKind)),
     }
 }
 
 // The units of a STRING that is given by the array of them.
-fn numbers_of(alloc: Global, numbers: &[Value]) -> Result<Units, JsonFault>
+fn numbers_of(alloc: Global, numbers: &[Value]) -> Result<Units, ValueFault>
     ensures { Tells (read_each read_unit (items_view numbers.now)) result }
 {
     let mut units = Units::with_capacity(alloc, numbers.len())?;
@@ -94,28 +94,28 @@ fn numbers_of(alloc: Global, numbers: &[Value]) -> Result<Units, JsonFault>
     Ok(units)
 }
 
-fn unit_of(value: &Value) -> Result<u16, JsonFault>
+fn unit_of(value: &Value) -> Result<u16, ValueFault>
     ensures { Tells (read_unit (view value.now)) result }
 {
     match value {
         Value::Number(number) => match number.as_u64() {
             Some(unit) if unit < 0x1_0000 => Ok(unit as u16),
-            _ => Err(JsonFault::Field(Reason::UnitOutOfRange)),
+            _ => Err(ValueFault::Field(Reason::UnitOutOfRange)),
         },
-        _ => Err(JsonFault::Field(Reason::OtherKind)),
+        _ => Err(ValueFault::Field(Reason::OtherKind)),
     }
 }
 
 // The bytes of a text of hexadecimal digits.
-fn bytes_of(alloc: Global, value: &Value) -> Result<Octets, JsonFault>
+fn bytes_of(alloc: Global, value: &Value) -> Result<Octets, ValueFault>
     ensures { Tells (read_bytes (view value.now)) result }
 {
     match value {
         Value::String(text) => match hex::decode(alloc, text.as_str()) {
             Ok(bytes) => Ok(Octets::from_vec(bytes)),
-            Err(FromHexError::OutOfMemory) => Err(JsonFault::Memory),
-            Err(_) => Err(JsonFault::Field(Reason::NotHexadecimal)),
+            Err(FromHexError::OutOfMemory) => Err(ValueFault::Memory),
+            Err(_) => Err(ValueFault::Field(Reason::NotHexadecimal)),
         },
-        _ => Err(JsonFault::Field(Reason::OtherKind)),
+        _ => Err(ValueFault::Field(Reason::OtherKind)),
     }
 }

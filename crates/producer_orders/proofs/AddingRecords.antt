@@ -11,8 +11,8 @@ use Rattle.schema_model.specs.declared.reason.Reason.{Reason}
 use Rattle.schema_model.specs.declared.schema.Schema.{Schema}
 use Rattle.row_model.specs.Tree.{plain}
 use Rattle.row_model.specs.declared.tree.Tree.{Tree}
-use Rattle.json_values.specs.declared.fault.JsonFault.{JsonFault}
-use Rattle.json_values.specs.declared.fault.JsonFault.TheVariants as field_fault
+use Rattle.json_values.specs.declared.fault.ValueFault.{ValueFault}
+use Rattle.json_values.specs.declared.fault.ValueFault.TheVariants as field_fault
 use Rattle.record_json.specs.ReadTree.{TellsAs, read_tree}
 use Rattle.write_engine.specs.Agreement.{HoldsOnce, TablesAgree}
 use Rattle.write_engine.specs.Cycle.{Adds, AddsRecords, no_rows}
@@ -39,8 +39,8 @@ all_read schemas recorded trees read = all_ok (λ entry. read_tree schemas entry
 pub same_reads : (ss schemas : List Schema) (t : ℕ) (value : Data) (read : Result PlainTree Reason) → ss ≡ schemas → read_tree ss t value ≡ read → read_tree schemas t value ≡ read
 same_reads ss schemas t value read same reads = subst (λ (xs : List Schema). read_tree xs t value ≡ read) same reads
 
-pub bad_reads : (schemas : List Schema) (t : ℕ) (value : Data) (reason : Reason) (refused : JsonFault) → refused ≡ field_fault.Field reason → TellsAs {A = Tree} plain (read_tree schemas t value) (Err refused) → read_tree schemas t value ≡ Err reason
-bad_reads schemas t value reason refused is told = subst (λ (f : JsonFault). TellsAs {A = Tree} plain (read_tree schemas t value) (Err f)) is told
+pub bad_reads : (schemas : List Schema) (t : ℕ) (value : Data) (reason : Reason) (refused : ValueFault) → refused ≡ field_fault.Field reason → TellsAs {A = Tree} plain (read_tree schemas t value) (Err refused) → read_tree schemas t value ≡ Err reason
+bad_reads schemas t value reason refused is told = subst (λ (f : ValueFault). TellsAs {A = Tree} plain (read_tree schemas t value) (Err f)) is told
 
 -- a record more gives its tree
 read_more : (schemas : List Schema) (recorded : List Entry) (trees : List (ℕ × PlainTree)) (t place : ℕ) (value : Data) (tree : PlainTree) → AreRead schemas recorded trees → read_tree schemas t value ≡ Ok tree

@@ -10,8 +10,8 @@ use Rattle.schema_model.specs.declared.schema.FieldKind.{FieldKind}
 use Rattle.schema_model.specs.declared.schema.Schema.{Schema}
 use Rattle.json_values.specs.SchemaJson.{HasText, IsSchema, ItemsAre}
 use Rattle.json_values.specs.SchemasFrom.{TellsSchemas}
-use Rattle.json_values.specs.declared.fault.JsonFault.{JsonFault}
-use Rattle.json_values.specs.declared.fault.JsonFault.TheVariants as rule_fault
+use Rattle.json_values.specs.declared.fault.SchemasFault.{SchemasFault}
+use Rattle.json_values.specs.declared.fault.SchemasFault.TheVariants as rule_fault
 use Rattle.hol_answers.specs.declared.refusal.Refusal.TheVariants.{BadModel}
 use Rattle.hol_answers.specs.declared.reply.Reply.{Reply}
 use Rattle.hol_answers.specs.declared.reply.Reply.TheVariants.{Refused}
@@ -51,5 +51,5 @@ rule_refuses machine value broken t (Ok reply) none breaks (name, is, named) =
 rule_refuses machine value broken t (Err stop) none breaks told = tt
 
 -- schemas that are refused break a rule
-pub schemas_refused : (value : Data) (broken : Rule) (t : ℕ) (fault : JsonFault) → fault ≡ rule_fault.Rule broken t → TellsSchemas value (Err fault) → BreaksRule value broken t
+pub schemas_refused : (value : Data) (broken : Rule) (t : ℕ) (fault : SchemasFault) → fault ≡ rule_fault.Rule broken t → TellsSchemas value (Err fault) → BreaksRule value broken t
 schemas_refused value broken t fault is tells = inr (subst (λ f. TellsSchemas value (Err f)) is tells)

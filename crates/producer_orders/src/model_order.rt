@@ -9,7 +9,7 @@ ghost use Rattle.hollow_machine.specs.ModelOrder.{BreaksRule, IsNamed, ModelStep
 
 use hol_answers::{Refusal, Reply};
 use hol_orders::OrderStop;
-use json_values::{JsonFault, schemas_from};
+use json_values::{SchemasFault, schemas_from};
 use schema_model::{ModelFault, Name, Rule, model_of};
 use serde_json::Value;
 use std::alloc::Global;
@@ -35,9 +35,11 @@ pub fn model(
     }
     let schemas = match schemas_from(alloc, value) {
         Ok(schemas) => schemas,
-        Err(JsonFault::Rule(rule, type_index)) => return bad_model(alloc, value, rule, type_index),
-        Err(JsonFault::Memory) => return Err(OrderStop::Memory),
-        Err(JsonFault::Shape | JsonFault::Field(_)) => unreachable!(),
+        Err(SchemasFault::Rule(rule, type_index)) => return bad_model(
+            alloc, value, rule, type_index,
+        ),
+        Err(SchemasFault::Memory) => return Err(OrderStop::Memory),
+        Err(SchemasFault::Shape) => unreachable!(),
     };
     match model_of(alloc, schemas) {
         Ok(made) => {

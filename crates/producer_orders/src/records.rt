@@ -10,7 +10,7 @@ ghost use Rattle.hollow_machine.specs.Records.{Entry, entries, entries_at, value
 ghost use Rattle.producer_orders.specs.Parts.{AreAdded, TellsAdded, TellsRecords};
 
 use crate::record_fault::RecordFault;
-use json_values::JsonFault;
+use json_values::ValueFault;
 use ordinal_map::PutRowFault;
 use record_json::laws;
 use record_json::tree_from;
@@ -108,15 +108,14 @@ fn add_value(
     laws::read_tree_fits();
     let tree = match tree_from(alloc, producer.model(), type_index, value) {
         Ok(tree) => tree,
-        Err(JsonFault::Field(reason)) => {
+        Err(ValueFault::Field(reason)) => {
             return Err(RecordFault::Bad {
                 type_index,
                 place,
                 reason,
             });
         }
-        Err(JsonFault::Memory) => return Err(RecordFault::Memory),
-        Err(JsonFault::Shape | JsonFault::Rule(_, _)) => unreachable!(),
+        Err(ValueFault::Memory) => return Err(RecordFault::Memory),
     };
     if full {
         return Ok(true);

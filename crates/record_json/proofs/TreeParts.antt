@@ -21,14 +21,12 @@ use Rattle.record_trees.proofs.Arms.{object_plain, list_plain, set_plain, map_pl
 use Rattle.record_trees.proofs.Deciding.{keys_apart_or_not}
 use Rattle.record_trees.proofs.Passing.{refuted}
 use Rattle.record_trees.specs.FitsTree.{AreKeysApart}
-use Rattle.json_values.specs.declared.fault.JsonFault.{JsonFault}
+use Rattle.json_values.specs.declared.fault.ValueFault.{ValueFault}
 use Rattle.record_json.specs.ReadTree.{TellsAs, made, map_apart, key_then, are_fields, read_both, read_fields, read_map, read_members, read_named, read_shape, read_within}
 
-pub made_not : {A B S U : Type 0} (seen : A → B) (seen' : S → U) (make : B → U) (read : Result B Reason) (fault : JsonFault) → TellsAs {A = A} seen read (Err fault) → TellsAs {A = S} seen' (made make read) (Err fault)
-made_not seen seen' make read JsonFault.Shape told = told
-made_not seen seen' make read (JsonFault.Rule rule t) told = told
-made_not seen seen' make read (JsonFault.Field reason) told = ap (made make) told
-made_not seen seen' make read JsonFault.Memory told = told
+pub made_not : {A B S U : Type 0} (seen : A → B) (seen' : S → U) (make : B → U) (read : Result B Reason) (fault : ValueFault) → TellsAs {A = A} seen read (Err fault) → TellsAs {A = S} seen' (made make read) (Err fault)
+made_not seen seen' make read (ValueFault.Field reason) told = ap (made make) told
+made_not seen seen' make read ValueFault.Memory told = told
 
 pub keys_apart : (pairs : PlainPairs) (decided : Dec (AreKeysApart pairs)) → AreKeysApart pairs → map_apart pairs decided ≡ Ok (map_tree pairs)
 keys_apart pairs (yes apart) holds = refl
@@ -58,27 +56,21 @@ pub same_keys : (read : Result (List (PlainTree × PlainTree)) Reason) (pairs : 
 same_keys read pairs apart decides is told =
     ap read_map told ∙ keys_same (pairs_of_list (plain_pairs pairs)) (keys_apart_or_not (pairs_of_list (plain_pairs pairs))) (refuted apart is decides)
 
-pub map_not : (read : Result (List (PlainTree × PlainTree)) Reason) (fault : JsonFault) → TellsAs plain_pairs read (Err fault) → TellsAs plain (read_map read) (Err fault)
-map_not read JsonFault.Shape told = told
-map_not read (JsonFault.Rule rule t) told = told
-map_not read (JsonFault.Field reason) told = ap read_map told
-map_not read JsonFault.Memory told = told
+pub map_not : (read : Result (List (PlainTree × PlainTree)) Reason) (fault : ValueFault) → TellsAs plain_pairs read (Err fault) → TellsAs plain (read_map read) (Err fault)
+map_not read (ValueFault.Field reason) told = ap read_map told
+map_not read ValueFault.Memory told = told
 
 pub pair_made : (key value : Tree) (read : Result PlainTree Reason) → read ≡ Ok (plain value) → key_then (Ok (plain key)) read ≡ Ok (plain_pair (key, value))
 pair_made key value read told = ap (key_then (Ok (plain key))) told
 
-pub pair_not : (key : PlainTree) (read : Result PlainTree Reason) (fault : JsonFault) → TellsAs plain read (Err fault) → TellsAs plain_pair (key_then (Ok key) read) (Err fault)
-pair_not key read JsonFault.Shape told = told
-pair_not key read (JsonFault.Rule rule t) told = told
-pair_not key read (JsonFault.Field reason) told = ap (key_then (Ok key)) told
-pair_not key read JsonFault.Memory told = told
+pub pair_not : (key : PlainTree) (read : Result PlainTree Reason) (fault : ValueFault) → TellsAs plain read (Err fault) → TellsAs plain_pair (key_then (Ok key) read) (Err fault)
+pair_not key read (ValueFault.Field reason) told = ap (key_then (Ok key)) told
+pair_not key read ValueFault.Memory told = told
 
 -- a key that is none
-pub key_not : (read rest : Result PlainTree Reason) (fault : JsonFault) → TellsAs plain read (Err fault) → TellsAs plain_pair (key_then read rest) (Err fault)
-key_not read rest JsonFault.Shape told = told
-key_not read rest (JsonFault.Rule rule t) told = told
-key_not read rest (JsonFault.Field reason) told = ap (λ r. key_then r rest) told
-key_not read rest JsonFault.Memory told = told
+pub key_not : (read rest : Result PlainTree Reason) (fault : ValueFault) → TellsAs plain read (Err fault) → TellsAs plain_pair (key_then read rest) (Err fault)
+key_not read rest (ValueFault.Field reason) told = ap (λ r. key_then r rest) told
+key_not read rest ValueFault.Memory told = told
 
 -- the record of a type is that of its shape
 pub opened : (schemas : List Schema) (depth below t : ℕ) (schema : Schema) (value : Data) → (depth ≡ 0 → ⊥) → below ≡ depth - 1 → slice_get schemas t ≡ Some schema
@@ -89,7 +81,7 @@ opened schemas (suc depth) below t schema value some less found =
     rw (found, same) refl
 
 -- what the shape gives is what the type gives
-pub arm : (schemas : List Schema) (depth t : ℕ) (schema : Schema) (shape : Shape) (value json : Data) (read : Result PlainTree Reason) (r : Result Tree JsonFault)
+pub arm : (schemas : List Schema) (depth t : ℕ) (schema : Schema) (shape : Shape) (value json : Data) (read : Result PlainTree Reason) (r : Result Tree ValueFault)
     → (depth ≡ 0 → ⊥) → slice_get schemas t ≡ Some schema → schema.shape ≡ shape → value ≡ json → read_shape (read_named schemas (depth - 1)) shape json ≡ read
     → TellsAs plain read r → TellsAs plain (read_within schemas depth t value) r
 arm schemas depth t schema shape value json read r some found is shown gives told =
@@ -117,14 +109,14 @@ two_items (a ∷ []) v w two first second = absurd (omega arith)
 two_items (a ∷ b ∷ []) v w two first second = ap (λ x. item (view x) (item (view b) no_items)) (sym first) ∙ ap (λ x. item (view v) (item (view x) no_items)) (sym second)
 two_items (a ∷ b ∷ c ∷ values) v w two first second = absurd (omega arith)
 
-pub both_read : (read_key read_part : Data → Result PlainTree Reason) (values : List Value) (v w : Value) (r : Result (Tree × Tree) JsonFault)
+pub both_read : (read_key read_part : Data → Result PlainTree Reason) (values : List Value) (v w : Value) (r : Result (Tree × Tree) ValueFault)
     → length values ≡ 2 → v ≡ slice_index_or values 0 v → w ≡ slice_index_or values 1 w → TellsAs plain_pair (key_then (read_key (view v)) (read_part (view w))) r
     → TellsAs plain_pair (read_both read_key read_part (items_view values)) r
 both_read read_key read_part values v w r two first second told =
     subst (λ items. TellsAs plain_pair (read_both read_key read_part items) r) (sym (two_items values v w two first second)) told
 
 -- the record of an OBJECT
-pub object_arm : (schemas : List Schema) (depth t : ℕ) (schema : Schema) (key : Option (List Name)) (fields xs ys : List Field) (value : Data) (members : Members) (r : Result Tree JsonFault)
+pub object_arm : (schemas : List Schema) (depth t : ℕ) (schema : Schema) (key : Option (List Name)) (fields xs ys : List Field) (value : Data) (members : Members) (r : Result Tree ValueFault)
     → (depth ≡ 0 → ⊥) → slice_get schemas t ≡ Some schema → schema.shape ≡ Shape.Object key fields → value ≡ object_data members → xs ≡ fields → true ≡ are_fields xs members → ys ≡ fields
     → TellsAs plain (made (λ trees. object (trees_of_list trees)) (read_fields (read_named schemas (depth - 1)) ys value)) r → TellsAs plain (read_within schemas depth t value) r
 object_arm schemas depth t schema key fields xs ys value members r some found is shown first known second told =
@@ -135,7 +127,7 @@ object_arm schemas depth t schema key fields xs ys value members r some found is
     arm schemas depth t schema (Shape.Object key fields) value (object_data members) _ r some found is shown (members_known follow fields members all) (subst (λ x. TellsAs plain x r) same told)
 
 -- an array of two whose key is none
-pub both_stops : (read_key read_part : Data → Result PlainTree Reason) (values : List Value) (v : Value) (fault : JsonFault)
+pub both_stops : (read_key read_part : Data → Result PlainTree Reason) (values : List Value) (v : Value) (fault : ValueFault)
     → length values ≡ 2 → v ≡ slice_index_or values 0 v → TellsAs plain (read_key (view v)) (Err fault) → TellsAs plain_pair (read_both read_key read_part (items_view values)) (Err fault)
 both_stops read_key read_part [] v fault two first told = absurd (omega arith)
 both_stops read_key read_part (a ∷ []) v fault two first told = absurd (omega arith)

@@ -17,7 +17,7 @@ use Rattle.row_model.specs.PlainTree.{PlainTree, PlainPairs, leaf, object, list,
 use Rattle.record_trees.proofs.Deciding.{keys_apart_or_not}
 use Rattle.record_trees.specs.FitsTree.{AreKeysApart}
 use Rattle.json_values.specs.ReadValue.{before, read_each, read_value}
-use Rattle.json_values.specs.declared.fault.JsonFault.{JsonFault}
+use Rattle.json_values.specs.declared.fault.ValueFault.{ValueFault}
 
 -- what is made of what was read
 abbrev pub made : {A B : Type 0} → (A → B) → Result A Reason → Result B Reason
@@ -116,8 +116,7 @@ abbrev pub read_tree : List Schema → ℕ → Data → Result PlainTree Reason
 read_tree schemas t value = read_within schemas 32 t value
 
 -- What each answer tells of what there is to read.
-abbrev pub TellsAs : {A B : Type 0} → (A → B) → Result B Reason → Result A JsonFault → Type 0
+abbrev pub TellsAs : {A B : Type 0} → (A → B) → Result B Reason → Result A ValueFault → Type 0
 TellsAs seen read (Ok x) = read ≡ Ok (seen x)
-TellsAs seen read (Err (JsonFault.Field reason)) = read ≡ Err reason
-TellsAs seen read (Err JsonFault.Memory) = Unit {0}
-TellsAs seen read (Err _) = ⊥
+TellsAs seen read (Err (ValueFault.Field reason)) = read ≡ Err reason
+TellsAs seen read (Err ValueFault.Memory) = Unit {0}

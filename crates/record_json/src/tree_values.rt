@@ -7,14 +7,14 @@ ghost use Rattle.row_model.specs.Tree.{plain};
 ghost use Rattle.record_json.specs.ReadTree.{TellsAs, are_fields, is_field, made};
 ghost use Rattle.json_values.specs.ReadValue.{read_value};
 
-use json_values::{JsonFault, value_from};
+use json_values::{ValueFault, value_from};
 use row_model::{Tree, Value as FieldValue};
 use schema_model::{Field, FieldKind};
 use serde_json::{Map, Value};
 use std::alloc::Global;
 
 /// The value of a field of a kind without a reference, as a tree.
-pub(crate) fn value_tree(alloc: Global, kind: &FieldKind, value: &Value) -> Result<Tree, JsonFault>
+pub(crate) fn value_tree(alloc: Global, kind: &FieldKind, value: &Value) -> Result<Tree, ValueFault>
     requires plain { IsPlain kind.now }
     ensures { TellsAs plain (made leaf (read_value kind.now (view value.now))) result }
 {

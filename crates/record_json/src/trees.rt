@@ -8,7 +8,7 @@ ghost use Rattle.json_values.specs.ReadValue.{read_each, read_kind};
 
 use crate::tree_parts::{list_of, map_of, object_of, pair_of, set_of};
 use crate::tree_values::{are_all_fields, value_tree};
-use json_values::JsonFault;
+use json_values::ValueFault;
 use row_model::{Tree, TreePairs, Trees};
 use schema_model::{Field, FieldKind, Model, Name, Reason, Shape};
 use serde_json::Value;
@@ -19,14 +19,13 @@ use std::alloc::Global;
 /// `UnknownField` where an object has a member that is no field, which is tried before its fields; `NullRecord` where the
 /// record itself, an element, a key or a value of a map is null; `SameKeys` where two keys of a map are the same record,
 /// which is tried once all its pairs are read; and those of `value_from` for a field that is a value. Fields are read in
-/// the order of the schema, a missing one as null, elements and pairs in their order, a key before its value. `Shape` and
-/// `Rule` never come.
+/// the order of the schema, a missing one as null, elements and pairs in their order, a key before its value.
 pub fn tree_from(
     alloc: Global,
     model: &Model,
     type_index: u32,
     value: &Value,
-) -> Result<Tree, JsonFault>
+) -> Result<Tree, ValueFault>
     requires { type_index < length model.now }
     ensures { TellsAs plain (read_tree model.now type_index (view value.now)) result }
 {
@@ -41,19 +40,19 @@ fn tree_within(
     depth: u32,
     type_index: u32,
     value: &Value,
-) -> Result<Tree, JsonFault>
+) -> Result<Tree, ValueFault>
     requires { type_index < length model.now }
     ensures { TellsAs plain (read_within model.now depth type_index (view value.now)) result }
 {
     if depth == 0 {
-        return Err(JsonFault::Field(Reason::OtherKind));
+        return Err(ValueFault::Field(Reason::OtherKind));
     }
     let below = depth - 1;
     match (&model.schema(type_index).shape, value) {
-        (_, Value::Null) => Err(JsonFault::Field(Reason::NullRecord)),
+        (_, Value::Null) => Err(ValueFault::Field(Reason::NullRecord)),
         (Shape::Object(_, fields), Value::Object(members)) => {
             if !are_all_fields(fields.as_slice(), members) {
-                return Err(JsonFault::Field(Reason::UnknownField));
+                return Err(ValueFault::Field(Reason::UnknownField));
             }
             object_of(fields_from(alloc, model, below, fields.as_slice(), value))
         }
@@ -79,7 +78,7 @@ fn tree_within(
             part,
             items.as_slice(),
         )),
-        _ => Err(JsonFault::Field(Reason::OtherKind)),
+        _ => Err(ValueFault::Field(Reason::OtherKind)),
     }
 }
 
@@ -91,12 +90,12 @@ fn named_from(
     depth: u32,
     name: &Name,
     value: &Value,
-) -> Result<Tree, JsonFault>
+) -> Result<Tree, ValueFault>
     ensures { TellsAs plain (read_named model.now depth name.now (view value.now)) result }
 {
     match model.index_of(name.text()) {
         Some(type_index) => tree_within(alloc, model, depth, type_index, value),
-        None => Err(JsonFault::Field(Reason::OtherKind)),
+        None => Err(ValueFault::Field(Reason::OtherKind)),
     }
 }
 
@@ -108,7 +107,7 @@ fn fields_from(
     depth: u32,
     fields: &[Field],
     value: &Value,
-) -> Result<Trees, JsonFault>
+) -> Result<Trees, ValueFault>
     ensures { TellsAs plain_trees (read_fields (read_named model.now depth) fields.now (view value.now)) result }
 {
     let mut trees = Trees::new(alloc);
@@ -127,7 +126,7 @@ fn field_from(
     depth: u32,
     kind: &FieldKind,
     value: Option<&Value>,
-) -> Result<Tree, JsonFault>
+) -> Result<Tree, ValueFault>
     ensures { TellsAs plain (read_field (read_named model.now depth) kind.now (option_map (λ v. view v.now) value.entry)) result }
 {
     match (kind, value) {
@@ -146,7 +145,7 @@ fn elements_from(
     depth: u32,
     element: &Name,
     items: &[Value],
-) -> Result<Trees, JsonFault>
+) -> Result<Trees, ValueFault>
     ensures { TellsAs plain_trees (read_each (read_named model.now depth element.now) (items_view items.now)) result }
 {
     let mut trees = Trees::new(alloc);
@@ -165,7 +164,7 @@ fn pairs_from(
     key: &Name,
     part: &Name,
     items: &[Value],
-) -> Result<TreePairs, JsonFault>
+) -> Result<TreePairs, ValueFault>
     ensures { TellsAs plain_pairs (read_each (read_pair (read_named model.now depth key.now) (read_named model.now depth part.now)) (items_view items.now)) result }
 {
     let mut pairs = TreePairs::new(alloc);
@@ -184,12 +183,12 @@ fn pair_from(
     key: &Name,
     part: &Name,
     item: &Value,
-) -> Result<(Tree, Tree), JsonFault>
+) -> Result<(Tree, Tree), ValueFault>
     ensures { TellsAs plain_pair (read_pair (read_named model.now depth key.now) (read_named model.now depth part.now) (view item.now)) result }
 {
     match item {
         Value::Array(both) => both_from(alloc, model, depth, key, part, both.as_slice()),
-        _ => Err(JsonFault::Field(Reason::OtherKind)),
+        _ => Err(ValueFault::Field(Reason::OtherKind)),
     }
 }
 
@@ -202,11 +201,11 @@ fn both_from(
     key: &Name,
     part: &Name,
     both: &[Value],
-) -> Result<(Tree, Tree), JsonFault>
+) -> Result<(Tree, Tree), ValueFault>
     ensures { TellsAs plain_pair (read_both (read_named model.now depth key.now) (read_named model.now depth part.now) (items_view both.now)) result }
 {
     if both.len() != 2 {
-        return Err(JsonFault::Field(Reason::OtherKind));
+        return Err(ValueFault::Field(Reason::OtherKind));
     }
     match named_from(alloc, model, depth, key, &both[0]) {
         Err(fault) => Err(fault),
