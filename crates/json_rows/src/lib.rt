@@ -9,4 +9,4 @@ mod view;
 
 pub use line::row_line;
 pub use order::field_order;
-pub use stored::row_value;
+pub use stored::{leaf_value, row_value};

@@ -3,7 +3,6 @@
 
 mod keys;
 pub mod laws;
-mod leaves;
 mod print_fault;
 mod printed;
 mod tree_parts;

@@ -11,7 +11,7 @@ ghost use Rattle.record_json.specs.PrintTree.{PrintsField, PrintsPair, PrintsSha
 ghost use Rattle.record_json.specs.Printing.{CanPrint, CanPrintPair, CanPrintValue, IsFreePrint, IsShallow, PrintsItems, PrintsNamed, PrintsValued, TellsPrinted, count_of, count_pair, tree_of_field, unfold_named, unfold_pair};
 
 use crate::PrintFault;
-use crate::leaves::leaf_value;
+use json_rows::leaf_value;
 use row_model::{Row, Rows, Value as FieldValue};
 use schema_model::{Field, FieldKind, Name, Shape};
 use serde_json::{Map, Value};
