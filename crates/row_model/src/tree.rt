@@ -1,8 +1,8 @@
 //! Records with all that they refer to, as orders give them.
-ghost use Rattle.std.specs.Prelude.{◌≡◌, ◌<◌, ◌++◌, ◌∷◌, [], length, slice_get, Some, IfOk, IsTrue, ◌↔◌, OnOk, OnErr};
-ghost use Rattle.row_model.specs.Tree.{plain, plain_trees, plain_pairs, trees, tree_pairs};
+ghost use Rattle.std.specs.Prelude.{◌≡◌, ◌<◌, ◌++◌, ◌∷◌, [], length, slice_get, Some, IsTrue, ◌↔◌, OnOk, OnErr};
+ghost use Rattle.row_model.specs.Tree.{trees, tree_pairs};
 
-use hol_varint::{Duplicate, Octets, Units};
+use hol_varint::{Octets, Units};
 use std::alloc::{AllocError, Global};
 
 /// A record with all that it refers to, as an order gives it: no ordinals.
@@ -43,27 +43,6 @@ pub struct Trees {
 #[derive(Drop)]
 pub struct TreePairs {
     items: Vec<(Tree, Tree)>,
-}
-
-impl Tree {
-    /// A tree of its own that stands for the same record.
-    #[cycle(copies)]
-    pub fn copy(&self, alloc: Global) -> Result<Tree, AllocError>
-        ensures { IfOk result (λ copy. plain copy ≡ plain self.now) }
-    {
-        match self {
-            Tree::Null => Ok(Tree::Null),
-            Tree::Int(number) => Ok(Tree::Int(*number)),
-            Tree::Long(number) => Ok(Tree::Long(*number)),
-            Tree::Bool(flag) => Ok(Tree::Bool(*flag)),
-            Tree::Text(units) => Ok(Tree::Text(units.copy(alloc)?)),
-            Tree::Bytes(bytes) => Ok(Tree::Bytes(bytes.copy(alloc)?)),
-            Tree::Object(parts) => Ok(Tree::Object(parts.copy(alloc)?)),
-            Tree::List(parts) => Ok(Tree::List(parts.copy(alloc)?)),
-            Tree::Set(parts) => Ok(Tree::Set(parts.copy(alloc)?)),
-            Tree::Map(pairs) => Ok(Tree::Map(pairs.copy(alloc)?)),
-        }
-    }
 }
 
 impl Trees {
@@ -113,18 +92,6 @@ impl Trees {
     {
         self.items.as_slice()
     }
-
-    /// A list of its own that stands for the same records.
-    #[cycle(copies)]
-    pub fn copy(&self, alloc: Global) -> Result<Self, AllocError>
-        ensures { IfOk result (λ copy. plain_trees copy ≡ plain_trees self.now) }
-    {
-        let mut copy = Trees::new(alloc);
-        for item in self.items.iter() {
-            copy.push(item.copy(alloc)?)?;
-        }
-        Ok(copy)
-    }
 }
 
 impl TreePairs {
@@ -173,17 +140,5 @@ impl TreePairs {
         ensures { result.now ≡ tree_pairs self.now }
     {
         self.items.as_slice()
-    }
-
-    /// A list of its own that stands for the same records.
-    #[cycle(copies)]
-    pub fn copy(&self, alloc: Global) -> Result<Self, AllocError>
-        ensures { IfOk result (λ copy. plain_pairs copy ≡ plain_pairs self.now) }
-    {
-        let mut copy = TreePairs::new(alloc);
-        for item in self.items.iter() {
-            copy.push((item.0.copy(alloc)?, item.1.copy(alloc)?))?;
-        }
-        Ok(copy)
     }
 }
