@@ -28,7 +28,6 @@ ghost use Rattle.chain_laws.specs.Headline.{AreTrueLines, StandsOn, IsOfState};
 ghost use Rattle.chain_laws.specs.KeptIndexes.{AsksFor};
 ghost use Rattle.chain_laws.specs.Producers.{HoldsBytes, IsProducerOf, KeepsChain};
 
-
 /// A store of bytes that holds a chain keeps it: the tag of each state is that of a blob.
 pub fn chain_is_kept()
     ensures { (store : Store) (chain : Chain) → HoldsChain store chain → HoldsBytes store → KeepsChain store chain }

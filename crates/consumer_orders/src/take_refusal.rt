@@ -3,9 +3,9 @@ ghost use Rattle.std.specs.Prelude.{◌≡◌};
 ghost use Rattle.consumer_orders.specs.Taken.{refusal_of, refusal_of_blob};
 
 use blob_frame::BlobFault;
+use hol_answers::{ItemFault, OriginFault, Refusal, RowPlace};
 use hol_io::BlobName;
 use hol_orders::OrderStop;
-use hol_answers::{ItemFault, OriginFault, Refusal, RowPlace};
 use read_engine::TakeFault;
 
 /// The refusal of the blob of this name, or why the order stops. Which fault it is behind the header is not told.

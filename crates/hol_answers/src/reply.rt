@@ -4,11 +4,11 @@ ghost use Rattle.serde_json.specs.View.{view};
 ghost use Rattle.hol_answers.specs.Plain.{IsPlain};
 ghost use Rattle.hol_answers.specs.Reply.{reply_data, head_data, model_data, cycle_data, load_data, step_data, tag_data, index_data, get_data, ordinals_data, row_data, has_data, at_data, past_data, past_item, texts_data, names_data, numbers_data, tags_data, tag_item, is_refusal, line_of};
 
+use crate::Content::{Integer, Json, Number, Text};
 use crate::line::{line_text, put_line};
 use crate::plain::PlainValue;
-use blob_frame::Header;
-use crate::Content::{Integer, Json, Number, Text};
 use crate::{Content, Refusal, object_of, refusal_value};
+use blob_frame::Header;
 use hol_varint::{List, Ordinals};
 use schema_model::{Name, NamePairs, Names, Schemas};
 use serde_json::{Value, json};

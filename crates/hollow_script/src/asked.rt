@@ -3,8 +3,8 @@ ghost use Rattle.std.specs.Prelude.{◌≤◌, length, IfOk, IsErrOf};
 ghost use Rattle.hollow_machine.specs.Script.{longest_line};
 ghost use Rattle.hollow_script.specs.Asked.{Asks, MeetsOrder};
 
-use hol_orders::{Order, OrderFault, OrderStop, order_of};
 use hol_answers::Refusal;
+use hol_orders::{Order, OrderFault, OrderStop, order_of};
 use std::alloc::Global;
 
 /// What a line asks for.

@@ -57,13 +57,15 @@ one_there (reply ∷ replies) is = by_flag (is_refusal reply) refl (λ others. o
         let (refusal, same) = refused_line reply refused in
         (refusal, ([], flat_map line_of replies, All-nil IsOnePiece, ap (λ t. t ++ flat_map line_of replies) same))
     by_flag false not others =
-        let (refusal, (before, rest, pieces_are, there)) = others (sym (ap (λ b. b || list_any is_refusal replies) not) ∙ is) in
-        (refusal, (
-          compact_text (reply_data reply) ∷ before,
-          rest,
-          All-cons IsOnePiece (compact_text (reply_data reply)) before (json_piece (reply_data reply)) pieces_are,
-          ap (λ t. line_of reply ++ t) there ∙ sym (append_assoc (line_of reply) (flat_map (λ piece. piece ++ 10 ∷ []) before) (refusal_line refusal ++ rest)),
-        ))
+        let (refusal, (before, rest, pieces_are, there)) = others (sym (ap (λ b. b || list_any is_refusal replies) not) ∙ is) in (
+          refusal,
+          (
+            compact_text (reply_data reply) ∷ before,
+            rest,
+            All-cons IsOnePiece (compact_text (reply_data reply)) before (json_piece (reply_data reply)) pieces_are,
+            ap (λ t. line_of reply ++ t) there ∙ sym (append_assoc (line_of reply) (flat_map (λ piece. piece ++ 10 ∷ []) before) (refusal_line refusal ++ rest)),
+          ),
+        )
 
 -- where its line is there, one is a refusal
 there_one : AreApart → (refusal : Refusal) (replies : List Reply) (before : List (List ℕ)) (rest : List ℕ) → All IsOnePiece before →
@@ -80,7 +82,7 @@ there_one apart refusal (reply ∷ replies) [] rest are is = by_flag (is_refusal
         absurd (apart refusal reply not (ap (λ t. t ++ 10 ∷ []) same.0))
 there_one apart refusal (reply ∷ replies) (p ∷ ps) rest are is =
     let same = same_first (compact_text (reply_data reply)) p (flat_map line_of replies) (flat_map (λ piece. piece ++ 10 ∷ []) ps ++ (refusal_line refusal ++ rest))
-        (json_piece (reply_data reply)) (All-head IsOnePiece p ps are) (is ∙ append_assoc (p ++ 10 ∷ []) (flat_map (λ piece. piece ++ 10 ∷ []) ps) (refusal_line refusal ++ rest)) in
+    (json_piece (reply_data reply)) (All-head IsOnePiece p ps are) (is ∙ append_assoc (p ++ 10 ∷ []) (flat_map (λ piece. piece ++ 10 ∷ []) ps) (refusal_line refusal ++ rest)) in
     ap (λ b. is_refusal reply || b) (there_one apart refusal replies ps rest (All-tail IsOnePiece p ps are) same.1) ∙ or_true (is_refusal reply)
 
 -- the status of a script is 1 exactly where the line of a refusal was gained
@@ -93,6 +95,6 @@ script_status_tells apart (Some xs) (Some ys) true status is (replies, gained, f
 script_status_tells apart (Some xs) (Some ys) false status is (replies, gained, flag) = (
   (λ one. absurd (omega (arith, one, is))),
   (λ (refusal, text, gains, (before, rest, are, there)).
-    (let same : flat_map line_of replies ≡ text = append_cancel_left xs (flat_map line_of replies) text (sym gained ∙ gains) in
-    absurd (let both = flag ∙ there_one apart refusal replies before rest are (same ∙ there) in cc))),
+      (let same : flat_map line_of replies ≡ text = append_cancel_left xs (flat_map line_of replies) text (sym gained ∙ gains) in
+      absurd (let both = flag ∙ there_one apart refusal replies before rest are (same ∙ there) in cc))),
 )

@@ -12,8 +12,7 @@ use blob_cursor::opened;
 use blob_frame::BlobFault;
 use hol_answers::{Refusal, Reply};
 use hol_io::{BlobName, BlobStore, Sink};
-use snapshot_blob::laws;
-use snapshot_blob::read_body;
+use snapshot_blob::{laws, read_body};
 use std::alloc::Global;
 
 /// Writes a line for each row of the snapshot of a version, types in model order and the ordinals of each type rising,

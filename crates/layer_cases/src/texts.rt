@@ -1,8 +1,7 @@
 //! Texts: their units, as STRINGs and in Java UTF, against worked bytes, and as names of blobs.
 use crate::case::{Subject, pass};
 use hol_io::{BlobName, name_text, parse_name};
-use hol_varint::laws;
-use hol_varint::{put_units, put_utf, units_of};
+use hol_varint::{laws, put_units, put_utf, units_of};
 use std::alloc::{AllocError, Global};
 use std::test::Fail;
 

@@ -1,9 +1,9 @@
 //! Why a cycle ends before its state is published.
+use blob_writing::WriteFault;
+use hol_answers::Refusal;
 use hol_io::PutFault;
 use hol_orders::OrderStop;
-use hol_answers::Refusal;
 use schema_model::Limit;
-use blob_writing::WriteFault;
 use std::alloc::AllocError;
 
 /// Why a cycle ends before its state is published.

@@ -6,9 +6,9 @@ ghost use Rattle.hol_answers.specs.Refusal.{bad_item};
 ghost use Rattle.producer_orders.specs.Parts.{TellsFollow};
 
 use chain_store::{Announcement, announced_version, greatest_version, is_tag_taken, names_of};
+use hol_answers::{ItemFault, Refusal};
 use hol_io::{BlobName, BlobStore};
 use hol_orders::OrderStop;
-use hol_answers::{ItemFault, Refusal};
 use schema_model::Reason;
 use std::alloc::Global;
 

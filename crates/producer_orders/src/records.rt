@@ -12,8 +12,7 @@ ghost use Rattle.producer_orders.specs.Parts.{AreAdded, TellsAdded, TellsRecords
 use crate::record_fault::RecordFault;
 use json_values::ValueFault;
 use ordinal_map::PutRowFault;
-use record_json::laws;
-use record_json::tree_from;
+use record_json::{laws, tree_from};
 use schema_model::Model;
 use serde_json::Value;
 use std::alloc::Global;

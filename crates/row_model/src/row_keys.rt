@@ -3,8 +3,8 @@ ghost use Rattle.std.specs.Prelude.{◌≡◌, ◌∷◌, ◌++◌, [], length, 
 ghost use Rattle.hol_varint.specs.Varint.{varint_bytes};
 ghost use Rattle.row_model.specs.RowKey.{flag_byte, numbers_key, value_key, pair_key, row_key as key_of, values_key as key_of_values};
 
-use hol_varint::{put_units, put_vint, put_vlong, zigzag32, zigzag64};
 use crate::{Row, Value, Values};
+use hol_varint::{put_units, put_vint, put_vlong, zigzag32, zigzag64};
 use std::alloc::{AllocError, Global};
 
 /// The key of a row: its kind, the number of its parts, and each part.

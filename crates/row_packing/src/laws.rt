@@ -19,7 +19,6 @@ ghost use Rattle.row_packing.specs.Chosen.{KeepsCounts, IsChosen, Suits};
 ghost use Rattle.row_packing.specs.Places.{Agree, AreAdded};
 ghost use Rattle.row_packing.specs.Written.{CanBeWritten, IsWritten, ArePacked};
 
-
 /// A section of a snapshot that has what was chosen and the packed rows is that of the state's rows, can be read, and its layout holds the rows
 /// of both states for which it was chosen. Where its fixed words keep their limit it loads.
 pub fn written_section()

@@ -10,8 +10,7 @@ ghost use Rattle.state_blobs.specs.Blobs.{AreLong, AreNotShort, puts_in};
 
 use blob_writing::{WriteFault, write_delta, write_snapshot};
 use std::alloc::Global;
-use write_engine::Producer;
-use write_engine::laws;
+use write_engine::{Producer, laws};
 
 /// The blobs that are put for a state.
 #[derive(Drop)]
