@@ -6,7 +6,8 @@ use Rattle.hol_orders.specs.declared.order.Order.TheVariants as order
 use Rattle.hol_answers.specs.declared.reply.Reply.{Reply}
 use Rattle.hollow_machine.specs.Script.{LineStep}
 use Rattle.hollow_machine.specs.State.{Machine}
-use Rattle.hollow_machine.specs.Step.{Refuses, Step}
+use Rattle.hollow_machine.specs.Forms.{Refuses}
+use Rattle.hollow_machine.specs.Step.{Step}
 use Rattle.hollow_script.specs.declared.asked.Asked.{Asked}
 use Rattle.hollow_script.specs.declared.asked.Asked.TheVariants as asked
 
