@@ -1,12 +1,12 @@
 //! The loop over the lines of a script.
 ghost use Rattle.std.specs.Prelude.{◌≡◌, ◌<◌, ◌≤◌, ◌⊎◌, ℕ, List, [], Bool, true, Option, None, IfOk, IfErr, IfSome, Some, Ok, IsErrOf};
 ghost use Rattle.std.specs.Io.KnownBytes.{IsAtEnd};
-ghost use Rattle.hol_io.specs.Causes.{Rose};
+ghost use Rattle.hol_io.specs.Causes.{HasCause, Rose};
 ghost use Rattle.hol_io.specs.Lines.{Takes};
 ghost use Rattle.hol_io.specs.Store.{Store};
 ghost use Rattle.hol_io.specs.Turn.{EndsInput, HasLimits, LendsLine};
 ghost use Rattle.hollow_machine.specs.Kept.{IsResting};
-ghost use Rattle.hollow_script.specs.Asked.{AskedMayPut, AskedStep, MeetsOrder};
+ghost use Rattle.hollow_script.specs.Asked.{AskedMayPut, AskedStep, MayPut, MeetsOrder};
 ghost use Rattle.hollow_script.specs.Kept.{KeepsNothing, MovesKept};
 ghost use Rattle.hollow_script.specs.Scripted.{AllAnswered, AllWritten, AnswersNext, AsksNext, HasGiven, HasReplied, IsAnswered, PutsAnswer, RepliesNext, ServesNext, TakesPast, TurnsNext, WritesReplies};
 
@@ -16,7 +16,8 @@ use crate::order::{answer, may_put};
 use crate::script_stop::ScriptStop;
 use crate::waiting::{put_answer, write_waiting};
 use hol_answers::{MAX_LINE_BYTES, Refusal, Reply};
-use hol_io::{BlobStore, Lines, Sink, Source, Turn, write_all};
+use hol_io::{BlobStore, Lines, Sink, Source, Turn, WriteFailed, write_all};
+use hol_orders::Order;
 use std::alloc::Global;
 
 /// How many bytes an input has at most.
@@ -218,6 +219,18 @@ fn next_turn<I: Source, O: Sink>(
     Ok(lines.next(input)?)
 }
 
+// Writes what waits where an order may put.
+fn make_way<O: Sink>(order: &Order, out: &mut O, waiting: &mut Vec<u8>) -> Result<(), WriteFailed>
+    ensures put { IfOk result (λ done. PutsAnswer [] (O.taken out.old) (O.taken out.new) waiting.old.items waiting.new.items) }
+    ensures none { IfOk result (λ done. MayPut order.now → waiting.new.items ≡ []) }
+    ensures cause { HasCause (O.faults out.old) (O.faults out.new) result }
+{
+    if may_put(order) {
+        return write_waiting(waiting, out);
+    }
+    Ok(())
+}
+
 // Answers what is asked for. What waits is written before an order that may put begins.
 fn answer_asked<O: Sink, S: BlobStore>(
     alloc: Global,
@@ -242,9 +255,7 @@ fn answer_asked<O: Sink, S: BlobStore>(
 {
     match asked {
         Asked::Order(order) => {
-            if may_put(&order) {
-                write_waiting(waiting, out)?;
-            }
+            make_way(&order, out, waiting)?;
             Ok(answer(alloc, &order, store, keep)?)
         }
         Asked::Refused(refusal) => Ok(Reply::Refused(refusal)),
