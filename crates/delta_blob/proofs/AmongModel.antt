@@ -31,7 +31,7 @@ use Rattle.delta_blob.specs.Reads.{AreOfModel, IsOfModel, IsWholePart, KeepsCoun
 pub refused : {T U : Type 0} (P : T → Type 0) (Q : U → Type 0) → ((u : U) → Q u → (t : T) × P t) → (e : BlobFault) → Refuses T P e → Refuses U Q e
 refused P Q asks (fault.Bad place why) none = λ u q. let asked = asks u q in none asked.0 asked.1
 refused P Q asks (fault.OtherModel of) none = λ u q. let asked = asks u q in none asked.0 asked.1
-refused P Q asks (fault.Large limit) none = λ u q. let asked = asks u q in none asked.0 asked.1
+refused P Q asks (fault.Large limit) (of, none) = (of, λ u q. let asked = asks u q in none asked.0 asked.1)
 refused P Q asks fault.Memory none = tt
 refused P Q asks _ none = absurd none
 
@@ -91,7 +91,7 @@ taken_named : (schemas : List Schema) (parts : List DeltaPart) (named : List Pat
     → AllZip (IsOfModel schemas) parts named
 taken_named schemas [] [] taken each = tt
 taken_named schemas (part ∷ parts) (n ∷ named) taken each =
-    (record { schema = each.0; at = taken.0.at; section = taken.0.section }, taken_named schemas parts named taken.1 each.1)
+    (record { means = each.0; at = taken.0.at; section = taken.0.section }, taken_named schemas parts named taken.1 each.1)
 taken_named schemas [] (n ∷ named) taken each = absurd taken
 taken_named schemas (part ∷ parts) [] taken each = absurd taken
 
@@ -106,7 +106,7 @@ named_of_model schemas parts named indexes among counts taken same = record {
 
 indexes_named : (schemas : List Schema) (parts : List DeltaPart) (named : List PatchPart) → AllZip (IsOfModel schemas) parts named → AllZip (IsIndexOf schemas) parts (map (λ (n : PatchPart). n.type_index) named)
 indexes_named schemas [] [] each = tt
-indexes_named schemas (part ∷ parts) (n ∷ named) each = (each.0.schema, indexes_named schemas parts named each.1)
+indexes_named schemas (part ∷ parts) (n ∷ named) each = (each.0.means, indexes_named schemas parts named each.1)
 indexes_named schemas [] (n ∷ named) each = absurd each
 indexes_named schemas (part ∷ parts) [] each = absurd each
 
@@ -126,11 +126,11 @@ parts_whole schemas model (part ∷ parts) (n ∷ named) well counts each =
     let keeps = All-head KeepsCounts part parts counts in
     let readable : IsReadablePatch part.schema.shape part.section = record {
       well = All-head IsWellFormedPart part parts well;
-      many = few_fields schemas n.type_index part.schema model each.0.schema;
+      many = few_fields schemas n.type_index part.schema model each.0.means.equal;
       few = keeps.ordinals;
       items = keeps.items;
     } in
-    let here : IsWholePart schemas n = (part.schema, each.0.schema, subst (IsReadablePatch part.schema.shape) (sym each.0.section) readable) in
+    let here : IsWholePart schemas n = (part.schema, each.0.means.equal, subst (IsReadablePatch part.schema.shape) (sym each.0.section) readable) in
     All-cons (IsWholePart schemas) n named here
     (parts_whole schemas model parts named (All-tail IsWellFormedPart part parts well) (All-tail KeepsCounts part parts counts) each.1)
 parts_whole schemas model [] (n ∷ named) well counts each = absurd each

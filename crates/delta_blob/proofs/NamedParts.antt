@@ -1,5 +1,5 @@
--- The types of a delta whose patch names types of a model, within the limits, are parts of the model.
-use Rattle.std.proofs.Common.{◌≡◌, ◌≤◌, ℕ, ℤ, List, [], ◌∷◌, Some, refl, ap, ◌∙◌, subst}
+-- The types of a blob that is a delta against a model, within the limits, are parts of the model.
+use Rattle.std.proofs.Common.{◌≡◌, ◌≤◌, ℕ, ℤ, List, [], ◌∷◌, refl, subst}
 use Rattle.std.specs.Prelude.{All}
 use Rattle.std.specs.List.{AllZip}
 use Rattle.std.proofs.lemmas.List.Elements.{All-cons, All-head, All-nil, All-tail}
@@ -11,7 +11,6 @@ use Rattle.type_rows.specs.Layout.{Layout, places_of}
 use Rattle.blob_frame.specs.Header.{HeaderIs}
 use Rattle.delta_blob.specs.declared.part.DeltaPart.{DeltaPart}
 use Rattle.delta_blob.specs.declared.patch.PatchPart.{PatchPart}
-use Rattle.delta_blob.specs.Moved.{IsAt}
 use Rattle.delta_blob.specs.Patch.{DeltaIs, PartIs, TypePatch}
 use Rattle.delta_blob.specs.Reads.{IsOfModel, IsPatchAt, KeepsCounts}
 use Rattle.delta_blob.specs.Within.{IsTypeWithin, KeepItems, Within}
@@ -22,16 +21,16 @@ HasFewItems part = part.section.total ≤ number_of_limit Items
 
 module _ (schemas : List Schema) (table : Table) where
   abbrev IsNamed : TypePatch → Type 0
-  IsNamed named = (type_index : ℕ) × IsAt schemas type_index named × IsTypeWithin table type_index named
+  IsNamed named = IsTypeWithin table named.type_index named
 
-  parts_named : (parts : List DeltaPart) (patch : List TypePatch) → AllZip PartIs parts patch → All IsNamed patch → All HasFewItems parts
+  parts_named : (parts : List DeltaPart) (patch : List TypePatch) → AllZip (PartIs schemas) parts patch → All IsNamed patch → All HasFewItems parts
       → (named : List PatchPart) × AllZip (IsOfModel schemas) parts named × All KeepsCounts parts
   parts_named [] [] are named items = ([], tt, All-nil KeepsCounts)
   parts_named (part ∷ parts) (of ∷ patch) are named items =
-      let (index, at, within) = All-head IsNamed of patch named in
+      let within = All-head IsNamed of patch named in
       let (rest, each, counts) = parts_named parts patch are.1 (All-tail IsNamed of patch named) (All-tail HasFewItems part parts items) in
-      let here : PatchPart = record { type_index = index; at = part.at; section = part.section } in
-      let own : IsOfModel schemas part here = record { schema = at ∙ ap Some are.0.schema; at = refl; section = refl } in
+      let here : PatchPart = record { type_index = of.type_index; at = part.at; section = part.section } in
+      let own : IsOfModel schemas part here = record { means = are.0.means; at = refl; section = refl } in
       let keeps : KeepsCounts part = record {
         ordinals = subst (λ (layout : Layout). places_of layout.max ≤ number_of_limit Ordinals) are.0.layout within.ordinals;
         items = All-head HasFewItems part parts items;
@@ -40,9 +39,9 @@ module _ (schemas : List Schema) (table : Table) where
   parts_named [] (of ∷ patch) are named items = absurd are
   parts_named (part ∷ parts) [] are named items = absurd are
 
-pub stands_of_model : (blob : List ℕ) (origin destination : ℤ) (patch : List TypePatch) (schemas : List Schema) (table : Table) → (is : DeltaIs blob origin destination patch) → Within schemas table patch → KeepItems is.parts
+pub stands_of_model : (schemas : List Schema) (blob : List ℕ) (origin destination : ℤ) (patch : List TypePatch) (table : Table) → (is : DeltaIs schemas blob origin destination patch) → Within table patch → KeepItems is.parts
     → (n : ℕ) × HeaderIs blob n is.head × ((named : List PatchPart) × IsPatchAt blob n schemas named)
-stands_of_model blob origin destination patch schemas table is within items =
-    let (n, header, stands) = begins blob origin destination patch is in
+stands_of_model schemas blob origin destination patch table is within items =
+    let (n, header, stands) = begins schemas blob origin destination patch is in
     let (named, each, counts) = parts_named schemas table is.parts patch is.types within items in
     (n, header, (named, (is.parts, stands, record { once = is.items.once; each = each; counts = counts })))

@@ -1,28 +1,30 @@
 -- What the types of a delta that are read say of the blob.
-use Rattle.std.proofs.Common.{◌≡◌, ℕ, List, length, Option, Some, None, Result, Ok, Err, IfSome, inl, inr, sym, subst}
+use Rattle.std.proofs.Common.{◌≡◌, ℕ, List, length, Option, Some, None, Result, Ok, Err, IfErr, IfSome, inl, inr, sym, subst}
 use Rattle.std.specs.Prelude.{MatchResult, OnOk}
 use Rattle.schema_model.specs.declared.reason.Reason.{Reason}
 use Rattle.schema_model.specs.declared.schema.Schema.{Schema}
 use Rattle.blob_frame.specs.declared.fault.BlobFault.{BlobFault}
 use Rattle.blob_frame.specs.declared.fault.BlobFault.TheVariants as fault
-use Rattle.blob_cursor.specs.Scene.{Tells}
+use Rattle.blob_cursor.specs.Scene.{IsItemFault, Tells}
 use Rattle.delta_blob.specs.declared.part.DeltaPart.{DeltaPart}
 use Rattle.delta_blob.specs.declared.patch.PatchPart.{PatchPart}
 use Rattle.delta_blob.specs.OfModel.{Refuses}
 use Rattle.delta_blob.specs.Parts.{body}
-use Rattle.delta_blob.specs.Reads.{AreOfModel, HasNoPatch, StopsPatch, TellsPatch}
+use Rattle.delta_blob.specs.Reads.{AreOfModel, HasNoPatch, HasOtherTypes, IsPatchFault, StopsPatch, TellsPatch}
 use Rattle.delta_blob.proofs.WholeDeltas.{body_ends}
 
-stuck_none : (blob : List ℕ) (at : ℕ) (schemas : List Schema) (place : ℕ) (why : Reason) → body.Stuck blob at place why → HasNoPatch blob at schemas
+-- where reading the types is stuck there are none of the model
+pub stuck_none : (blob : List ℕ) (at : ℕ) (schemas : List Schema) (place : ℕ) (why : Reason) → body.Stuck blob at place why → HasNoPatch blob at schemas
 stuck_none blob at schemas place why stuck named is = body.decided.apart blob at is.0 (length blob) place why is.1 stuck
 
-other_none : (blob : List ℕ) (at : ℕ) (schemas : List Schema) (parts : List DeltaPart) → body.Stands blob at parts (length blob) → ((named : List PatchPart) → AreOfModel schemas parts named → ⊥) → HasNoPatch blob at schemas
-other_none blob at schemas parts stands none named is =
+-- where other types stand there are none of the model
+pub other_none : (blob : List ℕ) (at : ℕ) (schemas : List Schema) → HasOtherTypes blob at schemas → HasNoPatch blob at schemas
+other_none blob at schemas (parts, stands, none) named is =
     let same : is.0 ≡ parts = (body.decided.one blob at is.0 parts (length blob) (length blob) is.1 stands).0 in
     none named (subst (λ (ps : List DeltaPart). AreOfModel schemas ps named) same is.2)
 
 stop_tells : (blob : List ℕ) (at next : ℕ) (schemas : List Schema) (e : BlobFault) → Tells body (Some blob) at (Err e) next → TellsPatch blob at schemas (Err e)
-stop_tells blob at next schemas (fault.Bad place why) tells = stuck_none blob at schemas place why tells
+stop_tells blob at next schemas (fault.Bad place why) tells = inl tells
 stop_tells blob at next schemas fault.Store tells = tt
 stop_tells blob at next schemas fault.Memory tells = tt
 stop_tells blob at next schemas _ tells = absurd tells
@@ -35,9 +37,9 @@ told_stop (Some blob) at next schemas e answer is tells = subst (λ (a : Result 
 parts_tell : (blob : List ℕ) (at : ℕ) (schemas : List Schema) (parts : List DeltaPart) (answer : Result (List PatchPart) BlobFault) → body.Stands blob at parts (length blob)
     → MatchResult answer (AreOfModel schemas parts) (Refuses (List PatchPart) (AreOfModel schemas parts)) → TellsPatch blob at schemas answer
 parts_tell blob at schemas parts (Ok named) stands are = (parts, stands, are)
-parts_tell blob at schemas parts (Err (fault.Bad place why)) stands none = other_none blob at schemas parts stands none
-parts_tell blob at schemas parts (Err (fault.OtherModel of)) stands none = other_none blob at schemas parts stands none
-parts_tell blob at schemas parts (Err (fault.Large limit)) stands none = other_none blob at schemas parts stands none
+parts_tell blob at schemas parts (Err (fault.Bad place why)) stands none = inr (parts, stands, none)
+parts_tell blob at schemas parts (Err (fault.OtherModel of)) stands none = (parts, stands, none)
+parts_tell blob at schemas parts (Err (fault.Large limit)) stands (of, none) = (parts, stands, none)
 parts_tell blob at schemas parts (Err fault.Memory) stands none = tt
 parts_tell blob at schemas parts (Err _) stands none = absurd none
 
@@ -77,3 +79,24 @@ pub not_store : (schemas : List Schema) (parts : List DeltaPart) (answer : Resul
 not_store schemas parts (Ok named) are is = absurd cc
 not_store schemas parts (Err fault.Store) none is = none
 not_store schemas parts (Err _) none is = absurd cc
+
+-- ---- which faults come
+
+item_kind : (e : BlobFault) → IsItemFault e → IsPatchFault e
+item_kind (fault.Bad place why) kind = tt
+item_kind fault.Store kind = tt
+item_kind fault.Memory kind = tt
+item_kind _ kind = absurd kind
+
+-- the faults of the items
+pub items_kind : {T : Type 0} (e : BlobFault) (answer : Result T BlobFault) → answer ≡ Err e → IsItemFault e → IfErr answer IsPatchFault
+items_kind e answer is kind = subst (λ a. IfErr a IsPatchFault) (sym is) (item_kind e kind)
+
+-- the faults of the types
+pub parts_kind : (schemas : List Schema) (parts : List DeltaPart) (answer : Result (List PatchPart) BlobFault) → MatchResult answer (AreOfModel schemas parts) (Refuses (List PatchPart) (AreOfModel schemas parts)) → IfErr answer IsPatchFault
+parts_kind schemas parts (Ok named) are = tt
+parts_kind schemas parts (Err (fault.Bad place why)) none = tt
+parts_kind schemas parts (Err (fault.OtherModel of)) none = tt
+parts_kind schemas parts (Err (fault.Large limit)) (of, none) = of
+parts_kind schemas parts (Err fault.Memory) none = tt
+parts_kind schemas parts (Err _) none = absurd none

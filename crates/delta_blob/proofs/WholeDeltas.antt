@@ -1,5 +1,6 @@
 -- A header and the types behind it are a delta, and a delta begins with its header.
 use Rattle.std.proofs.Common.{◌≡◌, ℕ, ℤ, List, length, refl, ap, sym, ◌∙◌, subst}
+use Rattle.schema_model.specs.declared.schema.Schema.{Schema}
 use Rattle.blob_grammar.specs.Form.{◌>>=◌, nothing, both}
 use Rattle.blob_frame.specs.declared.header.Header.{Header}
 use Rattle.blob_frame.specs.Header.{header, HeaderIs}
@@ -23,5 +24,5 @@ split blob head parts next (h, n, begins, (ps, m, stands, is)) =
     let of : ps ≡ parts = ap (λ p. p.1) (sym is.0) in
     (n, subst (λ (h : Header). header.Stands blob 0 h n) (ap (λ p. p.0) (sym is.0)) begins, subst (λ k. body.Stands blob n parts k) (sym is.1) (subst (λ (ps : List DeltaPart). body.Stands blob n ps m) of stands))
 
-pub begins : (blob : List ℕ) (origin destination : ℤ) (patch : List TypePatch) → (is : DeltaIs blob origin destination patch) → (n : ℕ) × HeaderIs blob n is.head × body.Stands blob n is.parts (length blob)
-begins blob origin destination patch is = split blob is.head is.parts (length blob) is.items.items
+pub begins : (schemas : List Schema) (blob : List ℕ) (origin destination : ℤ) (patch : List TypePatch) → (is : DeltaIs schemas blob origin destination patch) → (n : ℕ) × HeaderIs blob n is.head × body.Stands blob n is.parts (length blob)
+begins schemas blob origin destination patch is = split blob is.head is.parts (length blob) is.items.items

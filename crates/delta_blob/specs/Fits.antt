@@ -16,11 +16,11 @@ FitsTable table type_index patch = FitsOrdinals (rows_in table type_index) patch
 abbrev pub HoldsTable : Table → ℕ → TypePatch → Type 0
 HoldsTable table type_index patch = Holds patch.schema.shape patch.layout (rows_in table type_index)
 
--- The patch fits the table: each type that it names is the model's, its ordinals fit, and the table that it moves to is closed, and held by
--- the patch's layouts.
+-- The patch fits the table of a model: in each type that it names its ordinals fit, and the table that it moves to is closed, and held by the
+-- patch's layouts.
 pub record Fits (schemas : List Schema) (table : Table) (patch : List TypePatch) : Type 0 where
-  pub ordinals : EachNamed schemas patch (FitsTable table)
+  pub ordinals : EachNamed patch (FitsTable table)
   pub moved : Table
-  pub moves : Moved schemas patch table moved
+  pub moves : Moved patch table moved
   pub closed : IsClosed schemas moved
-  pub held : EachNamed schemas patch (HoldsTable moved)
+  pub held : EachNamed patch (HoldsTable moved)

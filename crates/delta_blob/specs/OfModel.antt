@@ -1,18 +1,19 @@
 -- The types of a delta against a model: which of its types they are, and what a refusal of them tells.
-use Rattle.std.specs.Prelude.{◌≡◌, ℕ, List, Some, slice_get}
+use Rattle.std.specs.Prelude.{◌≡◌, ℕ, List}
 use Rattle.std.specs.List.{AllZip}
 use Rattle.schema_model.specs.declared.schema.Schema.{Schema}
 use Rattle.blob_frame.specs.declared.fault.BlobFault.{BlobFault}
 use Rattle.blob_frame.specs.declared.fault.BlobFault.TheVariants as fault
 use Rattle.delta_blob.specs.declared.part.DeltaPart.{DeltaPart}
 use Rattle.delta_blob.specs.declared.patch.PatchPart.{PatchPart}
-use Rattle.delta_blob.specs.Patch.{NamesOnce}
+use Rattle.delta_blob.specs.Patch.{Means, NamesOnce}
+use Rattle.delta_blob.specs.Reads.{IsCountLimit}
 
--- A type of the delta is the one at this index of the model.
+-- A type of the delta means the one at this index of the model.
 abbrev pub IsIndexOf : List Schema → DeltaPart → ℕ → Type 0
-IsIndexOf schemas part type_index = slice_get schemas type_index ≡ Some part.schema
+IsIndexOf schemas part type_index = Means schemas part.schema type_index
 
--- The types of the delta are those at these indexes of the model, and no two have one name.
+-- The types of the delta mean those at these indexes of the model, and no two have one name.
 pub record AreAmong (schemas : List Schema) (parts : List DeltaPart) (indexes : List ℕ) : Type 0 where
   pub once : NamesOnce parts
   pub each : AllZip (IsIndexOf schemas) parts indexes
@@ -26,7 +27,7 @@ pub record IsTaken (part : DeltaPart) (named : PatchPart) : Type 0 where
 abbrev pub Refuses : (T : Type 0) → (T → Type 0) → BlobFault → Type 0
 Refuses T P (fault.Bad place why) = (t : T) → P t → ⊥
 Refuses T P (fault.OtherModel of) = (t : T) → P t → ⊥
-Refuses T P (fault.Large limit) = (t : T) → P t → ⊥
+Refuses T P (fault.Large limit) = IsCountLimit limit × ((t : T) → P t → ⊥)
 Refuses T P fault.Memory = Unit {0}
 Refuses T P _ = ⊥
 

@@ -2,6 +2,7 @@
 use Rattle.std.specs.Prelude.{◌≡◌, ◌≤◌, ◌<◌, ◌⊎◌, ℕ, ℤ, List, Option, Some, None, Result, Ok, Err, All, length, slice_get, IsErrAnd}
 use Rattle.std.specs.List.{AllZip}
 use Rattle.hol_io.specs.declared.name.BlobName.{BlobName}
+use Rattle.schema_model.specs.declared.limit.Limit.{Limit}
 use Rattle.schema_model.specs.declared.limit.Limit.TheVariants.{Blob, Ordinals, Items}
 use Rattle.schema_model.specs.declared.reason.Reason.{Reason}
 use Rattle.schema_model.specs.declared.schema.Schema.{Schema}
@@ -17,20 +18,20 @@ use Rattle.delta_blob.specs.declared.part.DeltaPart.{DeltaPart}
 use Rattle.delta_blob.specs.declared.patch.Patch.{Patch}
 use Rattle.delta_blob.specs.declared.patch.PatchPart.{PatchPart}
 use Rattle.delta_blob.specs.Parts.{body}
-use Rattle.delta_blob.specs.Patch.{NamesOnce}
+use Rattle.delta_blob.specs.Patch.{Means, NamesOnce}
 
 -- The limits on a type's ordinals, and on its elements or buckets, are kept.
 pub record KeepsCounts (part : DeltaPart) : Type 0 where
   pub ordinals : places_of part.section.max ≤ number_of_limit Ordinals
   pub items : part.section.total ≤ number_of_limit Items
 
--- A type of the delta is this type of the model: it has its schema, and this is its offset and its section.
+-- A type of the delta is this type of the model: its schema means it, and this is its offset and its section.
 pub record IsOfModel (schemas : List Schema) (part : DeltaPart) (named : PatchPart) : Type 0 where
-  pub schema : slice_get schemas named.type_index ≡ Some part.schema
+  pub means : Means schemas part.schema named.type_index
   pub at : named.at ≡ part.at
   pub section : named.section ≡ part.section
 
--- The types of the delta are these of the model: no two have one name, each has the schema of its type, and they keep the limits on ordinals
+-- The types of the delta are these of the model: no two have one name, the schema of each means its type, and they keep the limits on ordinals
 -- and items.
 pub record AreOfModel (schemas : List Schema) (parts : List DeltaPart) (named : List PatchPart) : Type 0 where
   pub once : NamesOnce parts
@@ -45,12 +46,32 @@ IsPatchAt blob at schemas named = (parts : List DeltaPart) × body.Stands blob a
 abbrev pub HasNoPatch : List ℕ → ℕ → List Schema → Type 0
 HasNoPatch blob at schemas = (named : List PatchPart) → IsPatchAt blob at schemas named → ⊥
 
+-- Types stand there up to the end of the blob, and they are none of the model within the limits on ordinals and items.
+abbrev pub HasOtherTypes : List ℕ → ℕ → List Schema → Type 0
+HasOtherTypes blob at schemas =
+    (parts : List DeltaPart) × body.Stands blob at parts (length blob) × ((named : List PatchPart) → AreOfModel schemas parts named → ⊥)
+
+-- The limits that a type of a delta may pass as it stands in the blob.
+abbrev pub IsCountLimit : Limit → Type 0
+IsCountLimit Ordinals = Unit {0}
+IsCountLimit Items = Unit {0}
+IsCountLimit _ = ⊥
+
+-- The faults of the types of a delta.
+abbrev pub IsPatchFault : BlobFault → Type 0
+IsPatchFault (fault.Bad place why) = Unit {0}
+IsPatchFault (fault.OtherModel of) = Unit {0}
+IsPatchFault (fault.Large limit) = IsCountLimit limit
+IsPatchFault fault.Store = Unit {0}
+IsPatchFault fault.Memory = Unit {0}
+IsPatchFault _ = ⊥
+
 -- What each answer tells of the blob.
 abbrev pub TellsPatch : List ℕ → ℕ → List Schema → Result (List PatchPart) BlobFault → Type 0
 TellsPatch blob at schemas (Ok named) = IsPatchAt blob at schemas named
-TellsPatch blob at schemas (Err (fault.Bad place why)) = HasNoPatch blob at schemas
-TellsPatch blob at schemas (Err (fault.OtherModel of)) = HasNoPatch blob at schemas
-TellsPatch blob at schemas (Err (fault.Large limit)) = HasNoPatch blob at schemas
+TellsPatch blob at schemas (Err (fault.Bad place why)) = body.Stuck blob at place why ⊎ HasOtherTypes blob at schemas
+TellsPatch blob at schemas (Err (fault.OtherModel of)) = HasOtherTypes blob at schemas
+TellsPatch blob at schemas (Err (fault.Large limit)) = HasOtherTypes blob at schemas
 TellsPatch blob at schemas (Err fault.Store) = Unit {0}
 TellsPatch blob at schemas (Err fault.Memory) = Unit {0}
 TellsPatch blob at schemas (Err _) = ⊥
@@ -63,6 +84,10 @@ StopsPatch blob at answer = (place : ℕ) (why : Reason) → body.Stuck blob at 
 abbrev pub IsWholePart : List Schema → PatchPart → Type 0
 IsWholePart schemas part = (schema : Schema) × (slice_get schemas part.type_index ≡ Some schema) × IsReadablePatch schema.shape part.section
 
+-- The blob is not too large and begins with a header of this origin tag, and from the place behind it on this holds.
+abbrev pub IsBehind : List ℕ → ℤ → (ℕ → Type 0) → Type 0
+IsBehind blob origin Holds = (head : Header) × (n : ℕ) × HeaderIs blob n head × (length blob ≤ number_of_limit Blob) × (head.origin ≡ origin) × Holds n
+
 -- What each answer of the reader of a delta tells of what the store has under its name, where the consumer is at this tag.
 abbrev pub TellsDelta : BlobName → ℤ → List Schema → Option (List ℕ) → Result Patch BlobFault → Type 0
 TellsDelta name current schemas None answer = (answer ≡ Err (fault.NoBlob name)) ⊎ IsErrAnd answer IsFree
@@ -72,13 +97,19 @@ TellsDelta name current schemas (Some blob) (Ok patch) =
 TellsDelta name current schemas (Some blob) (Err (fault.OtherOrigin found at)) =
     (head : Header) × (n : ℕ) × HeaderIs blob n head × (length blob ≤ number_of_limit Blob) × (head.origin ≡ found) × (at ≡ current) × (found ≡ current → ⊥)
 TellsDelta name current schemas (Some blob) (Err (fault.Large limit)) =
-    ((limit ≡ Blob) × (number_of_limit Blob < length blob))
-    ⊎ ((head : Header) × (n : ℕ) × HeaderIs blob n head × (length blob ≤ number_of_limit Blob) × (head.origin ≡ current) × HasNoPatch blob n schemas)
+    ((limit ≡ Blob) × (number_of_limit Blob < length blob)) ⊎ (IsCountLimit limit × IsBehind blob current (λ n. HasOtherTypes blob n schemas))
 TellsDelta name current schemas (Some blob) (Err (fault.Bad place why)) =
     ((length blob ≤ number_of_limit Blob) × StuckInHeader blob place why)
-    ⊎ ((head : Header) × (n : ℕ) × HeaderIs blob n head × (length blob ≤ number_of_limit Blob) × (head.origin ≡ current) × HasNoPatch blob n schemas)
-TellsDelta name current schemas (Some blob) (Err (fault.OtherModel of)) =
-    (head : Header) × (n : ℕ) × HeaderIs blob n head × (length blob ≤ number_of_limit Blob) × (head.origin ≡ current) × HasNoPatch blob n schemas
+    ⊎ IsBehind blob current (λ n. body.Stuck blob n place why ⊎ HasOtherTypes blob n schemas)
+TellsDelta name current schemas (Some blob) (Err (fault.OtherModel of)) = IsBehind blob current (λ n. HasOtherTypes blob n schemas)
 TellsDelta name current schemas (Some blob) (Err fault.Store) = Unit {0}
 TellsDelta name current schemas (Some blob) (Err fault.Memory) = Unit {0}
 TellsDelta name current schemas (Some blob) (Err _) = ⊥
+
+-- The faults of a delta of this name, for a consumer at this tag.
+abbrev pub IsDeltaFault : BlobName → ℤ → BlobFault → Type 0
+IsDeltaFault name current (fault.NoBlob other) = other ≡ name
+IsDeltaFault name current (fault.Large limit) = (limit ≡ Blob) ⊎ IsCountLimit limit
+IsDeltaFault name current (fault.OtherOrigin found at) = (at ≡ current) × (found ≡ current → ⊥)
+IsDeltaFault name current (fault.BadRow place why of ordinal) = ⊥
+IsDeltaFault name current _ = Unit {0}

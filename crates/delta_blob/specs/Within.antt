@@ -1,7 +1,6 @@
 -- The limits on the types that a patch names, in the table that it moves to.
 use Rattle.std.specs.Prelude.{◌≤◌, ℕ, List, All}
 use Rattle.schema_model.specs.declared.limit.Limit.TheVariants.{Ordinals, Items}
-use Rattle.schema_model.specs.declared.schema.Schema.{Schema}
 use Rattle.schema_model.specs.Limit.{number_of_limit}
 use Rattle.row_model.specs.Table.{Table}
 use Rattle.row_model.specs.BothStates.{rows_in}
@@ -17,8 +16,8 @@ pub record IsTypeWithin (table : Table) (type_index : ℕ) (patch : TypePatch) :
   pub kept : KeepsLimits patch.schema.shape patch.layout (rows_in table type_index)
 
 -- They are kept in each type that the patch names.
-abbrev pub Within : List Schema → Table → List TypePatch → Type 0
-Within schemas table patch = EachNamed schemas patch (IsTypeWithin table)
+abbrev pub Within : Table → List TypePatch → Type 0
+Within table patch = EachNamed patch (IsTypeWithin table)
 
 -- The limit on the elements or buckets of each type is kept.
 abbrev pub KeepItems : List DeltaPart → Type 0

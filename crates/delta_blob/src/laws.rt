@@ -36,15 +36,15 @@ pub fn each_place()
 pub fn header_and_body()
     ensures items { (blob : List ℕ) (head : Header) (n : ℕ) (parts : List DeltaPart) → HeaderIs blob n head → body.Stands blob n parts (length blob)
         → delta.Stands blob 0 (head, parts) (length blob) }
-    ensures begins { (blob : List ℕ) (origin destination : ℤ) (patch : List TypePatch) → (is : DeltaIs blob origin destination patch)
+    ensures begins { (schemas : List Schema) (blob : List ℕ) (origin destination : ℤ) (patch : List TypePatch) → (is : DeltaIs schemas blob origin destination patch)
         → (n : ℕ) × HeaderIs blob n is.head × body.Stands blob n is.parts (length blob) }
 {}
 
-/// Behind the header of a delta whose patch names types of a model alone, within the limits of a table, stand types of the model, as
-/// `read_patch` answers them: so a blob of which it answers that there are none is no such delta.
+/// Behind the header of a blob that is a delta against a model, within the limits of a table, stand types of the model, as `read_patch` answers
+/// them: so a blob of which it answers that there are none is no such delta.
 pub fn parts_of_model()
-    ensures { (blob : List ℕ) (origin destination : ℤ) (patch : List TypePatch) (schemas : List Schema) (table : Table) → (is : DeltaIs blob origin destination patch)
-        → Within schemas table patch → KeepItems is.parts → (n : ℕ) × HeaderIs blob n is.head × ((named : List PatchPart) × IsPatchAt blob n schemas named) }
+    ensures { (schemas : List Schema) (blob : List ℕ) (origin destination : ℤ) (patch : List TypePatch) (table : Table) → (is : DeltaIs schemas blob origin destination patch)
+        → Within table patch → KeepItems is.parts → (n : ℕ) × HeaderIs blob n is.head × ((named : List PatchPart) × IsPatchAt blob n schemas named) }
 {}
 
 /// With as many places as there are ordinals up to the max ordinal, the packed rows of a delta are those of a snapshot.

@@ -1,11 +1,11 @@
 //! The types of a delta, as they stand in the blob, against a model.
-ghost use Rattle.std.specs.Prelude.{◌≡◌, ◌↔◌, ℕ, List, All, Contains, IfErr, IfOk, IsTrue, MatchOption, MatchResult, Some, length, map, slice_get};
+ghost use Rattle.std.specs.Prelude.{◌≡◌, ◌↔◌, ℕ, List, All, Contains, IfErr, IfOk, IsTrue, MatchOption, MatchResult, length, map};
 ghost use Rattle.std.specs.List.{AllZip};
 ghost use Rattle.schema_model.specs.Faults.{TellsFault};
 ghost use Rattle.schema_model.specs.Model.{IsModel};
 ghost use Rattle.delta_blob.specs.OfModel.{AreAmong, IsTaken, IsUnlike, Refuses};
 ghost use Rattle.delta_blob.specs.Parts.{IsWellFormedPart};
-ghost use Rattle.delta_blob.specs.Patch.{schemas_in};
+ghost use Rattle.delta_blob.specs.Patch.{Means, schemas_in};
 ghost use Rattle.delta_blob.specs.Reads.{AreOfModel, IsWholePart, KeepsCounts};
 ghost use Rattle.delta_blob.specs.declared.patch.PatchPart.{PatchPart};
 
@@ -52,10 +52,10 @@ fn indexes_of(alloc: Global, parts: &[DeltaPart], model: &Model) -> Result<Ordin
     Ok(indexes)
 }
 
-// The index of a schema in a model, unless it was taken.
+// The index of the type of a model that a schema means, unless it was taken.
 fn new_index(model: &Model, schema: &Schema, taken: &[u32]) -> Option<u32>
-    ensures { MatchOption result ((index : ℕ) → slice_get model.now index ≡ Some schema.now → Contains taken.now index)
-        (λ index. (slice_get model.now index ≡ Some schema.now) × (Contains taken.now index → ⊥)) }
+    ensures { MatchOption result ((index : ℕ) → Means model.now schema.now index → Contains taken.now index)
+        (λ index. Means model.now schema.now index × (Contains taken.now index → ⊥)) }
 {
     let type_index = model.index_of(schema.name.text())?;
     if same_schema(model.schema(type_index), schema) && !has_number(taken, type_index) {

@@ -1,9 +1,9 @@
 //! Reading a delta against a model.
-ghost use Rattle.std.specs.Prelude.{◌≡◌, ◌≤◌, All, Err, IfOk, IfSome, OnOk, length};
+ghost use Rattle.std.specs.Prelude.{◌≡◌, ◌≤◌, All, Err, IfErr, IfOk, IfSome, OnOk, length};
 ghost use Rattle.hol_io.specs.Causes.{Rose};
 ghost use Rattle.hol_io.specs.Store.{told};
 ghost use Rattle.blob_cursor.specs.Scene.{IsAbove};
-ghost use Rattle.delta_blob.specs.Reads.{IsWholePart, StopsPatch, TellsDelta, TellsPatch};
+ghost use Rattle.delta_blob.specs.Reads.{IsDeltaFault, IsPatchFault, IsWholePart, StopsPatch, TellsDelta, TellsPatch};
 
 use crate::of_model::parts_of;
 use crate::part::body;
@@ -28,6 +28,7 @@ pub fn read_patch<S: BlobStore>(
     requires over { IsAbove S.seen store.old cursor.old }
     ensures tells { IfSome (told (S.seen store.old).held cursor.old.name) (λ blob. TellsPatch blob cursor.old.at model.now result) }
     ensures stuck { IfSome (told (S.seen store.old).held cursor.old.name) (λ blob. StopsPatch blob cursor.old.at result) }
+    ensures kind { IfErr result IsPatchFault }
     ensures whole { IfOk result (All (IsWholePart model.now)) }
     ensures ends { OnOk result (IfSome (told (S.seen store.old).held cursor.old.name) (λ blob. cursor.new.at ≡ length blob)) }
     ensures kept { (S.seen store.new).held ≡ (S.seen store.old).held }
@@ -52,6 +53,7 @@ pub fn read_delta<S: BlobStore>(
     model: &Model,
 ) -> Result<Patch, BlobFault>
     ensures tells { IfSome (S.seen store.old).held (λ held. TellsDelta name.now current model.now (told (S.seen store.old).held name.now) result) }
+    ensures kind { IfErr result (IsDeltaFault name.now current) }
     ensures whole { IfOk result (λ patch. All (IsWholePart model.now) patch.parts) }
     ensures kept { (S.seen store.new).held ≡ (S.seen store.old).held }
     ensures unput { (S.seen store.new).puts ≡ (S.seen store.old).puts }

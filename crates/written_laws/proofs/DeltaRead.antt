@@ -25,7 +25,7 @@ use Rattle.blob_writing.proofs.ChangedTypes.{all_below}
 use Rattle.blob_writing.proofs.SpelledDeltas.{delta_stands}
 use Rattle.written_laws.specs.Delta.{IsDeltaTo, LeadsTo}
 use Rattle.delta_blob.specs.Fits.{FitsTable, HoldsTable}
-use Rattle.delta_blob.specs.Moved.{EachNamed, IsAt, IsUnnamed, Moved, MovesType}
+use Rattle.delta_blob.specs.Moved.{EachNamed, IsUnnamed, Moved, MovesType}
 use Rattle.delta_blob.specs.Patch.{TypePatch, PartIs}
 use Rattle.written_laws.specs.States.{AreStates}
 use Rattle.delta_blob.specs.Within.{IsTypeWithin}
@@ -93,26 +93,27 @@ module _ (schemas : List Schema) (old new : Table) (are : AreStates schemas old 
       subst (λ (listed : List Schema). IsKept listed DuplicateName) (sym (placed_alike change_bytes part_of (λ part. part.schema) (λ c. c.schema) (λ c at. refl) is.changes start))
       (named_once schemas (are.model.model DuplicateName) types is.are.changed.rising (schemas_of is.changes) at)
 
-  parts_are : AllZip PartIs parts patch
+  parts_are : AllZip (PartIs schemas) parts patch
   parts_are =
-      subst (λ (ps : List DeltaPart). AllZip PartIs ps patch) (placed_seconds (IsChangeOf schemas old new) change_bytes part_of types is.changes is.are.carried start)
-      (placed_beside Changes PartIs (λ entry. change_bytes entry.1) (λ entry at. part_of entry.1 at) (patch_of new) (λ entry at of. part_is schemas old new are entry of at) entries change start)
+      subst (λ (ps : List DeltaPart). AllZip (PartIs schemas) ps patch) (placed_seconds (IsChangeOf schemas old new) change_bytes part_of types is.changes is.are.carried start)
+      (placed_beside Changes (PartIs schemas) (λ entry. change_bytes entry.1) (λ entry at. part_of entry.1 at) (patch_of new) (λ entry at of. part_is schemas old new are entry of at) entries change start)
 
-  each_named : (P : ℕ → TypePatch → Type 0) → ((entry : ℕ × TypeChange) → Changes entry → P entry.0 (patch_of new entry)) → EachNamed schemas patch P
+  each_named : (P : ℕ → TypePatch → Type 0) → ((entry : ℕ × TypeChange) → Changes entry → P entry.0 (patch_of new entry)) → EachNamed patch P
   each_named P each =
-      let Of = λ (named : TypePatch). (type_index : ℕ) × IsAt schemas type_index named × P type_index named in
-      All-map Of (patch_of new) entries (all_gives Changes (λ entry. Of (patch_of new entry)) entries (λ entry of. (entry.0, of.schema, each entry of)) change)
+      let Of = λ (named : TypePatch). P named.type_index named in
+      All-map Of (patch_of new) entries (all_gives Changes (λ entry. Of (patch_of new entry)) entries each change)
 
-  stays : (type_index : ℕ) → type_index < length schemas → IsUnnamed schemas patch type_index → rows_in new type_index ≡ rows_in old type_index
-  stays type_index inside unnamed =
+  stays : (type_index : ℕ) → type_index < length old → IsUnnamed patch type_index → rows_in new type_index ≡ rows_in old type_index
+  stays type_index in_old unnamed =
+      let inside : type_index < length schemas = subst (λ (n : ℕ). type_index < n) are.before.rows.types in_old in
       unchanged_rows old new type_index (are.together.agree type_index inside)
       (λ changed.
-      let none = all_images (λ named. IsAt schemas type_index named → ⊥) (patch_of new) entries unnamed in
-      let (c, of, not) = at_index (IsChangeOf schemas old new) (λ entry. IsAt schemas type_index (patch_of new entry) → ⊥) types is.changes is.are.carried none type_index
+      let none = all_images (λ named. named.type_index ≡ type_index → ⊥) (patch_of new) entries unnamed in
+      let (c, of, not) = at_index (IsChangeOf schemas old new) (λ entry. entry.0 ≡ type_index → ⊥) types is.changes is.are.carried none type_index
       ((is.are.changed.are type_index).1 (inside, changed)) in
-      not of.schema)
+      not refl)
 
-  moved : Moved schemas patch old new
+  moved : Moved patch old new
   moved = record {
     types = are.after.rows.types ∙ sym are.before.rows.types;
     named = each_named (MovesType old new) (rows_move schemas old new are);

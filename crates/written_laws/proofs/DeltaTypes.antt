@@ -2,7 +2,9 @@
 use Rattle.std.proofs.Common.{◌≡◌, ◌≤◌, ◌<◌, ◌*◌, ◌^◌, ℕ, List, length, None, refl, ap, ◌∙◌, sym, subst, inl, inr, arith}
 use Rattle.std.specs.Prelude.{All, Contains, IsSome, is_some}
 use Rattle.std.specs.FinMap.{get}
+use Rattle.std.specs.Option.{option_map}
 use Rattle.std.proofs.lemmas.List.{length-map}
+use Rattle.std.proofs.lemmas.Option.{slice_get-map}
 use Rattle.bit_array.specs.Element.{words_of}
 use Rattle.schema_model.specs.declared.schema.Schema.{Schema}
 use Rattle.schema_model.specs.declared.schema.Shape.{Shape}
@@ -29,7 +31,7 @@ use Rattle.blob_writing.specs.Delta.{TypeChange, AreGaps, IsCarried, part_of}
 use Rattle.blob_writing.proofs.OneDelta.{all_of, gone_live}
 use Rattle.delta_blob.specs.Fits.{FitsTable, HoldsTable}
 use Rattle.delta_blob.specs.Moved.{MovesType}
-use Rattle.delta_blob.specs.Patch.{TypePatch, PartIs}
+use Rattle.delta_blob.specs.Patch.{Means, PartIs, TypePatch}
 use Rattle.written_laws.specs.States.{AreStates}
 use Rattle.delta_blob.specs.Within.{IsTypeWithin}
 use Rattle.written_laws.proofs.Carrying.{both_are, both_stored, can_write, has_parts, limits_kept, shape_here, small_max, spellable_at, texts_at}
@@ -54,6 +56,7 @@ are_gaps table index ordinals are below =
 -- what is changed of a type
 abbrev pub patch_of : Table → ℕ × TypeChange → TypePatch
 patch_of new entry = record {
+  type_index = entry.0;
   schema = entry.1.schema;
   layout = record { max = entry.1.max; widths = entry.1.rows.widths };
   removed = entry.1.removed;
@@ -130,8 +133,16 @@ module _ (schemas : List Schema) (old new : Table) (are : AreStates schemas old 
     rows = carried;
   }
 
-  pub part_is : (at : ℕ) → PartIs (part_of entry.1 at) (patch_of new entry)
+  -- the schema that it has means its type
+  its_type : Means schemas entry.1.schema entry.0
+  its_type = record {
+    named = slice_get-map (λ (s : Schema). s.name) schemas entry.0 ∙ ap (option_map (λ (s : Schema). s.name)) is.schema;
+    equal = is.schema;
+  }
+
+  pub part_is : (at : ℕ) → PartIs schemas (part_of entry.1 at) (patch_of new entry)
   part_is at = record {
+    means = its_type;
     schema = refl;
     layout = refl;
     removed = refl;

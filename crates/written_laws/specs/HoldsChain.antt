@@ -65,15 +65,15 @@ IsStep (Delta from to) = Unit {0}
 IsStep (Reverse from to) = Unit {0}
 IsStep _ = ⊥
 
--- A delta leads from this state to another one of the chain, by the patch that it is, and passes no limit.
-pub record LeadsOn (chain : Chain) (state : ChainState) (blob : List ℕ) (origin destination : ℤ) (patch : List TypePatch) (is : DeltaIs blob origin destination patch) : Type 0 where
+-- A delta leads from this state to another one of the chain, by the patch that it is against the state's model, and passes no limit.
+pub record LeadsOn (chain : Chain) (state : ChainState) (blob : List ℕ) (origin destination : ℤ) (patch : List TypePatch) (is : DeltaIs state.model blob origin destination patch) : Type 0 where
   pub version : ℕ
   pub next : ChainState
   pub there : HasVersion chain version next
   pub tag : next.tag ≡ destination
   pub model : next.model ≡ state.model
   pub fits : Fits state.model state.table patch
-  pub moved : Moved state.model patch state.table next.table
-  pub within : Within state.model next.table patch
+  pub moved : Moved patch state.table next.table
+  pub within : Within next.table patch
   pub items : KeepItems is.parts
   pub short : length blob ≤ number_of_limit Blob

@@ -52,11 +52,13 @@ pub fn short_delta()
         → length blob ≤ 2 ^ 28 → IsDeltaBetween schemas new old destination origin blob → LeadsTo schemas new old destination origin blob }
 {}
 
-/// A blob is a delta of one patch at most, between two tags, and a patch moves a table of a model to one table at most.
+/// A blob is a delta between two tags alone, whatever the model, and against a model in which no two types have one name it is one of one patch at
+/// most. A patch moves a table to one table at most.
 pub fn one_patch()
-    ensures patch { (blob : List ℕ) (a b c d : ℤ) (p q : List TypePatch) → DeltaIs blob a b p → DeltaIs blob c d q → (a ≡ c) × (b ≡ d) × (p ≡ q) }
-    ensures table { (schemas : List Schema) (patch : List TypePatch) (old a b : Table) → IsKept schemas DuplicateName → length old ≡ length schemas
-        → Moved schemas patch old a → Moved schemas patch old b → a ≡ b }
+    ensures tags { (schemas others : List Schema) (blob : List ℕ) (a b c d : ℤ) (p q : List TypePatch) → DeltaIs schemas blob a b p → DeltaIs others blob c d q → (a ≡ c) × (b ≡ d) }
+    ensures patch { (schemas : List Schema) (blob : List ℕ) (a b c d : ℤ) (p q : List TypePatch) → IsKept schemas DuplicateName → DeltaIs schemas blob a b p → DeltaIs schemas blob c d q
+        → p ≡ q }
+    ensures table { (patch : List TypePatch) (old a b : Table) → Moved patch old a → Moved patch old b → a ≡ b }
 {}
 
 /// A store without blobs holds the chain without states.
@@ -68,6 +70,6 @@ pub fn empty_chain()
 /// passes no limit.
 pub fn chain_step()
     ensures { (store : Store) (chain : Chain) (name : BlobName) (blob : List ℕ) (origin destination : ℤ) (patch : List TypePatch) (version : ℕ) (state : ChainState)
-        → HoldsChain store chain → IsStep name → get store name ≡ Some blob → (is : DeltaIs blob origin destination patch) → HasVersion chain version state → state.tag ≡ origin
+        → HoldsChain store chain → IsStep name → get store name ≡ Some blob → (is : DeltaIs state.model blob origin destination patch) → HasVersion chain version state → state.tag ≡ origin
         → LeadsOn chain state blob origin destination patch is }
 {}

@@ -1,5 +1,6 @@
 use Rattle.std.proofs.Common.{◌≡◌, ℕ, Option, None, Some, refl, rules, subst, sym}
-use Rattle.std.specs.Prelude.{Contains, MatchOption, slice_get}
+use Rattle.std.specs.Prelude.{Contains, MatchOption}
+use Rattle.delta_blob.specs.Patch.{Means}
 use Rattle.delta_blob.proofs.Indexed.{its_index, no_index, other_schema, type_inside}
 use Rattle.delta_blob.proofs.of_model.new_index.Goals.{else-same_schema-via-then-same_schema+else-not-has_number, else-same_schema-via-else-same_schema}
 use Rattle.delta_blob.proofs.of_model.new_index.Goals as goal
@@ -8,8 +9,8 @@ pub returns-in_err-type_index : goal.returns-in_err-type_index
 returns-in_err-type_index c =
     let none : c.from_residual.result ≡ None = search rules in
     subst
-    (λ (found : Option ℕ). MatchOption found ((index : ℕ) → slice_get c.args.model.now index ≡ Some c.args.schema.now → Contains c.args.taken.now index)
-    (λ index. (slice_get c.args.model.now index ≡ Some c.args.schema.now) × (Contains c.args.taken.now index → ⊥)))
+    (λ (found : Option ℕ). MatchOption found ((index : ℕ) → Means c.args.model.now c.args.schema.now index → Contains c.args.taken.now index)
+    (λ index. Means c.args.model.now c.args.schema.now index × (Contains c.args.taken.now index → ⊥)))
     (sym none)
     (λ index at. absurd (no_index c.args.model.now c.args.schema.now c.text.result.now c.text.ensures (c.in_err-type_index.ensures.missing.0 refl) index at))
 

@@ -1,6 +1,6 @@
 use Rattle.std.proofs.Common.{rules}
 use Rattle.hol_io.specs.Store.{told}
-use Rattle.delta_blob.proofs.PatchTelling.{not_store, on_ok, told_end, told_free, told_parts, told_stop, told_stuck}
+use Rattle.delta_blob.proofs.PatchTelling.{items_kind, not_store, on_ok, parts_kind, told_end, told_free, told_parts, told_stop, told_stuck}
 use Rattle.delta_blob.proofs.read.read_patch.Goals as goal
 
 pub returns-in_err-parts-clause-tells : goal.returns-in_err-parts-clause-tells
@@ -24,3 +24,9 @@ returns-in_err-parts-clause-stuck g c =
 pub returns-clause-stuck : goal.returns-clause-stuck
 returns-clause-stuck g c =
     told_free (told (g.S.BlobStore.seen c.args.store.now).held c.args.cursor.now.name) c.args.cursor.now.at _ c.in_ok-parts.parts c.parts_of.result c.in_ok-parts.ensures.reads.tells
+
+pub returns-in_err-parts-clause-kind : goal.returns-in_err-parts-clause-kind
+returns-in_err-parts-clause-kind g c = items_kind _ _ (search rules) c.in_err-parts.ensures.reads.kind
+
+pub returns-clause-kind : goal.returns-clause-kind
+returns-clause-kind g c = parts_kind c.args.model.now c.in_ok-parts.parts c.parts_of.result c.parts_of.ensures.tells
