@@ -1,5 +1,6 @@
 mod Answered
 mod Counted
+mod Exactly
 mod Follow
 mod Left
 mod LoadedOnce

@@ -1,31 +1,25 @@
 -- What a load leaves: where it stands, and what is told of the blob.
-use Rattle.std.proofs.Common.{◌≡◌, ◌≤◌, ◌⊎◌, inl, inr, ℕ, ℤ, List, [], length, map, Option, Some, None, Result, Ok, Err, IfSome, refl, sym, ap, ◌∙◌, subst, lit≤, replicate}
+use Rattle.std.proofs.Common.{◌≡◌, inl, inr, ℕ, ℤ, List, [], length, map, Option, Some, None, Result, Ok, Err, IfSome, refl, sym, ap, ◌∙◌, subst, lit≤, replicate}
 use Rattle.std.specs.List.{AllZip}
 use Rattle.std.proofs.lemmas.List.Elements.{All-nil}
 use Rattle.hol_io.specs.declared.name.BlobName.{BlobName}
 use Rattle.hol_io.specs.Store.{Store, told}
-use Rattle.schema_model.specs.declared.limit.Limit.TheVariants as limit
-use Rattle.schema_model.specs.Limit.{number_of_limit}
 use Rattle.schema_model.specs.Model.{IsModel}
 use Rattle.type_state.specs.State.{State}
 use Rattle.type_state.specs.Views.{next_halves, table_of}
 use Rattle.blob_frame.specs.declared.fault.BlobFault.{BlobFault}
 use Rattle.blob_frame.specs.declared.fault.BlobFault.TheVariants as fault
-use Rattle.blob_frame.specs.declared.header.Header.{Header}
-use Rattle.blob_frame.specs.Header.{HeaderIs}
-use Rattle.blob_cursor.specs.Opened.{TellsHeader}
-use Rattle.blob_cursor.specs.Scene.{Place, IsFree}
+use Rattle.blob_cursor.specs.Scene.{IsFree}
 use Rattle.snapshot_blob.specs.declared.body.Body.{Body}
-use Rattle.snapshot_blob.specs.Body.{IsWholeBody, TellsBody}
-use Rattle.snapshot_blob.specs.Snapshot.{IsAccepted, IsRefused}
-use Rattle.read_engine.specs.declared.fault.TakeFault.{TakeFault}
-use Rattle.read_engine.specs.declared.fault.TakeFault.TheVariants as take
+use Rattle.snapshot_blob.specs.declared.loaded.Loaded.{Loaded}
+use Rattle.snapshot_blob.specs.Body.{IsWholeBody}
+use Rattle.snapshot_blob.specs.Snapshot.{TellsSnapshot}
 use Rattle.state_moves.specs.Past.{FitsPast, PastPart, no_part, table_before}
 use Rattle.read_engine.specs.Kept.{IsKept}
 use Rattle.read_engine.specs.Position.{IsIndexOf, IsPosition, Position}
 use Rattle.state_moves.specs.Halves.{current_halves}
 use Rattle.read_engine.specs.Standing.{IsStanding, position_of}
-use Rattle.read_engine.specs.Taking.{TellsStand, body_fault_of, loaded_position}
+use Rattle.read_engine.specs.Taking.{RefusesLoad, TellsStand, loaded_position}
 use Rattle.state_moves.proofs.Unchanged.{all_fit_none, same_table}
 
 -- ---- where a load stands
@@ -62,50 +56,36 @@ module _ (tag : ℤ) (body : Body) (states : List State) (past : List PastPart) 
 
 -- ---- what is told of the blob
 
-abbrev pub AcceptsBody : Type 0
-AcceptsBody = (blob : List ℕ) (head : Header) (n : ℕ) (found : Body) → HeaderIs blob n head → length blob ≤ number_of_limit limit.Blob → TellsBody blob n (Ok found) →
-    IsAccepted blob head found.model (next_halves found.states)
-
-abbrev pub RefusesBody : Type 0
-RefusesBody = (blob : List ℕ) (head : Header) (n : ℕ) (found : BlobFault) → HeaderIs blob n head → TellsBody blob n (Err found) → IsFree found ⊎ IsRefused blob
-
--- what was read behind the header of what a name holds
-abbrev pub IsRead : Option (List ℕ) → Header × Place → Result Body BlobFault → Type 0
-IsRead content opened answer =
-    (blob : List ℕ) × (content ≡ Some blob) × (length blob ≤ number_of_limit limit.Blob) × HeaderIs blob opened.1.at opened.0 × TellsBody blob opened.1.at answer
-
 module _ (name : BlobName) where
-  pub is_read : (held mid : Option Store) (opened : Header × Place) (answer : Result Body BlobFault) → mid ≡ held → opened.1.name ≡ name →
-      IfSome held (λ store. TellsHeader name (told held name) (Ok opened)) → IfSome (told mid opened.1.name) (λ blob. TellsBody blob opened.1.at answer) →
-      IfSome held (λ store. IsRead (told held name) opened answer)
-  is_read None mid opened answer same named head body = tt
-  is_read (Some store) mid opened answer same named (blob, there, short, stands) body =
-      let content : told mid opened.1.name ≡ Some blob = (λ i. told (same i) (named i)) ∙ there in
-      (blob, there, short, stands, subst (λ c. IfSome c (λ b. TellsBody b opened.1.at answer)) content body)
+  free_told : (content : Option (List ℕ)) (found : BlobFault) → IsFree found → RefusesLoad name content found
+  free_told content fault.Store free = tt
+  free_told content fault.Memory free = tt
+  free_told content _ free = absurd free
 
-  pub body_told : RefusesBody → (held : Option Store) (opened : Header × Place) (found : BlobFault) (given : TakeFault) → IfSome held (λ store. IsRead (told held name) opened (Err found)) → given ≡ body_fault_of found
-      → IfSome held (λ store. TellsStand name (told held name) (Err given))
-  body_told law None opened found given read is = tt
-  body_told law (Some store) opened found given (blob, there, short, stands, tells) is =
-      subst (λ (f : TakeFault). TellsStand name (told (Some store) name) (Err f)) (sym is) (of_fault found tells)
-    where
-      never : (f : BlobFault) → TellsBody blob opened.1.at (Err f) → (IsFree f → ⊥) → TellsStand name (told (Some store) name) (Err take.Body)
-      never f told_so apart = elim (law blob opened.0 opened.1.at f stands told_so) [
-        | inl free ↦ absurd (apart free)
-        | inr refused ↦ (opened.0, blob, (blob, opened.1.at, there, short, stands), there, refused)
-      ]
+  refused : (content : Option (List ℕ)) (found : BlobFault) → TellsSnapshot name content (Err found) → RefusesLoad name content found
+  refused None found (inl is) = let same : found ≡ fault.NoBlob name = cc in subst (RefusesLoad name None) (sym same) (refl, refl)
+  refused None found (inr free) = free_told None found free
+  refused (Some blob) (fault.Large limit) tells = (blob, refl, tells)
+  refused (Some blob) (fault.Bad place why) tells = (blob, refl, tells)
+  refused (Some blob) (fault.BadRow place why of ordinal) tells = (blob, refl, tells)
+  refused (Some blob) fault.Store tells = tt
+  refused (Some blob) fault.Memory tells = tt
+  refused (Some blob) _ tells = absurd tells
 
-      of_fault : (f : BlobFault) → TellsBody blob opened.1.at (Err f) → TellsStand name (told (Some store) name) (Err (body_fault_of f))
-      of_fault fault.Store told_so = tt
-      of_fault fault.Memory told_so = tt
-      of_fault (fault.Large what) told_so = never (fault.Large what) told_so (λ free. free)
-      of_fault (fault.Bad at why) told_so = never (fault.Bad at why) told_so (λ free. free)
-      of_fault (fault.BadRow at why of ordinal) told_so = never (fault.BadRow at why of ordinal) told_so (λ free. free)
-      of_fault _ told_so = absurd told_so
+  -- a snapshot that is refused
+  pub refused_told : (held : Option Store) (found : BlobFault) (answer : Result Position BlobFault) → answer ≡ Err found → IfSome held (λ store. TellsSnapshot name (told held name) (Err found))
+      → IfSome held (λ store. TellsStand name (told held name) answer)
+  refused_told None found answer is tells = tt
+  refused_told (Some store) found answer is tells = subst (TellsStand name (told (Some store) name)) (sym is) (refused (told (Some store) name) found tells)
 
-  pub load_told : AcceptsBody → (held : Option Store) (opened : Header × Place) (found : Body) (position : Position) → IfSome held (λ store. IsRead (told held name) opened (Ok found))
-      → position ≡ loaded_position opened.0.destination found → IfSome held (λ store. TellsStand name (told held name) (Ok position))
-  load_told law None opened found position read is = tt
-  load_told law (Some store) opened found position (blob, there, short, stands, tells) is =
-      subst (λ (p : Position). TellsStand name (told (Some store) name) (Ok p)) (sym is)
-      (blob, there, (opened.0, law blob opened.0 opened.1.at found stands short tells, refl, refl, refl))
+  loads : (content : Option (List ℕ)) (loaded : Loaded) (position : Position) → position ≡ loaded_position loaded.header.destination (record { model = loaded.model; states = loaded.states }) → TellsSnapshot name content (Ok loaded)
+      → TellsStand name content (Ok position)
+  loads None loaded position is (inl other) = absurd cc
+  loads None loaded position is (inr free) = absurd free
+  loads (Some blob) loaded position is accepted = subst (λ (p : Position). TellsStand name (Some blob) (Ok p)) (sym is) (blob, refl, (loaded.header, accepted, refl, refl, refl))
+
+  -- a snapshot that is loaded
+  pub loaded_told : (held : Option Store) (loaded : Loaded) (position : Position) → position ≡ loaded_position loaded.header.destination (record { model = loaded.model; states = loaded.states })
+      → IfSome held (λ store. TellsSnapshot name (told held name) (Ok loaded)) → IfSome held (λ store. TellsStand name (told held name) (Ok position))
+  loaded_told None loaded position is tells = tt
+  loaded_told (Some store) loaded position is tells = loads (told (Some store) name) loaded position is tells

@@ -14,9 +14,7 @@ use Rattle.schema_model.specs.declared.schema.Shape.{Shape}
 use Rattle.schema_model.specs.declared.limit.Limit.TheVariants.{Ordinals}
 use Rattle.schema_model.specs.Limit.{number_of_limit}
 use Rattle.schema_model.specs.Model.{IsKept}
-use Rattle.schema_model.specs.Parts.{index_of_type, type_names}
 use Rattle.row_model.specs.Table.{IsClosed, RowMap, Table}
-use Rattle.schema_model.proofs.ModelFacts.{index_at}
 use Rattle.row_model.specs.BothStates.{rows_in}
 use Rattle.type_rows.specs.Holds.{Holds, KeepsLimits}
 use Rattle.type_rows.specs.Layout.{places_of}
@@ -26,29 +24,18 @@ use Rattle.type_state.specs.Views.{table_of}
 use Rattle.delta_blob.specs.declared.part.DeltaPart.{DeltaPart}
 use Rattle.delta_blob.specs.declared.patch.PatchPart.{PatchPart}
 use Rattle.delta_blob.specs.Fits.{Fits, FitsTable, HoldsTable}
-use Rattle.delta_blob.specs.Moved.{EachNamed, IsAt, IsUnnamed, Moved, MovesType}
-use Rattle.delta_blob.specs.Patch.{PartIs, TypePatch, schemas_in}
+use Rattle.delta_blob.specs.Moved.{EachNamed, IsUnnamed, Moved, MovesType}
+use Rattle.delta_blob.specs.Patch.{Means, PartIs, TypePatch, schemas_in}
 use Rattle.delta_blob.specs.Reads.{AreOfModel, IsOfModel}
 use Rattle.delta_blob.specs.Within.{IsTypeWithin, Within}
 use Rattle.state_moves.specs.Past.{PastPart, no_part}
 use Rattle.state_moves.specs.Moving.{AreMoved, MovesState, TypeIs, coming_half, coming_halves}
 use Rattle.state_moves.specs.Halves.{current_halves}
 use Rattle.read_engine.specs.Taking.{layout_at}
+use Rattle.delta_blob.proofs.Indexed.{one_index, one_name}
 use Rattle.state_moves.proofs.Changed.{comes_moved, coming_long, state_there, zip_from}
 use Rattle.state_moves.proofs.Comings.{coming_at, half_at}
 use Rattle.state_moves.proofs.Tables.{current_at}
-
--- ---- names
-
-name_at : (schemas : List Schema) (t : ℕ) (schema : Schema) → slice_get schemas t ≡ Some schema → slice_get (type_names schemas) t ≡ Some schema.name
-name_at schemas t schema is = slice_get-map (λ (s : Schema). s.name) schemas t ∙ ap (option_map (λ (s : Schema). s.name)) is
-
--- a schema stands at one index
-pub one_index : (schemas : List Schema) → IsKept schemas DuplicateName → (t u : ℕ) (schema : Schema) → slice_get schemas t ≡ Some schema → slice_get schemas u ≡ Some schema → t ≡ u
-one_index schemas apart t u schema one other =
-    let here : index_of_type schemas schema.name ≡ Some t = (index_at schemas schema.name apart t).1 (name_at schemas t schema one) in
-    let there : index_of_type schemas schema.name ≡ Some u = (index_at schemas schema.name apart u).1 (name_at schemas u schema other) in
-    cc
 
 pub rows_at : (table : Table) (t : ℕ) (rows : RowMap) → slice_get table t ≡ Some rows → rows_in table t ≡ rows
 rows_at table t rows is = ap (λ (o : Option RowMap). unwrap_or o (empty {R = nat_cmp})) is
@@ -85,25 +72,25 @@ module _ (schemas : List Schema) (mid : List State) (past : List PastPart) (name
   one_place i j a b one other same =
       let (c, at_c, is_c) = zip_at (IsOfModel schemas) parts named of.each i a one in
       let (d, at_d, is_d) = zip_at (IsOfModel schemas) parts named of.each j b other in
-      let alike : Some c.schema ≡ Some d.schema = sym is_c.schema ∙ ap (slice_get schemas) same ∙ is_d.schema in
+      let name : c.schema.name ≡ d.schema.name = one_name schemas b.type_index c.schema d.schema (subst (Means schemas c.schema) same is_c.means) is_d.means in
       let here : slice_get (schemas_in parts) i ≡ Some c.schema = slice_get-map (λ (p : DeltaPart). p.schema) parts i ∙ ap (option_map (λ (p : DeltaPart). p.schema)) at_c in
       let there : slice_get (schemas_in parts) j ≡ Some d.schema = slice_get-map (λ (p : DeltaPart). p.schema) parts j ∙ ap (option_map (λ (p : DeltaPart). p.schema)) at_d in
-      one_index (schemas_in parts) of.once i j c.schema here (there ∙ sym alike)
+      one_index (schemas_in parts) of.once i j c.schema d.schema here there name
 
   -- What one part did.
   pub record PatchOf (part : DeltaPart) (t : ℕ) (patch : TypePatch) : Type 0 where
-    pub is : PartIs part patch
-    pub at : IsAt schemas t patch
-    pub fits : FitsTable old t patch
-    pub holds : HoldsTable new t patch
-    pub moves : MovesType old new t patch
-    pub within : IsTypeWithin new t patch
-    pub layout : layout_at (coming_halves mid past) t ≡ Some patch.layout
+    pub is : PartIs schemas part patch
+    pub index : patch.type_index ≡ t
+    pub fits : FitsTable old patch.type_index patch
+    pub holds : HoldsTable new patch.type_index patch
+    pub moves : MovesType old new patch.type_index patch
+    pub within : IsTypeWithin new patch.type_index patch
+    pub layout : layout_at (coming_halves mid past) patch.type_index ≡ Some patch.layout
 
   -- the type that a part moved
   moved_by : (k : ℕ) (d : DeltaPart) (n : PatchPart) → slice_get named k ≡ Some n → IsOfModel schemas d n → (state : State) × (part : PastPart) × (slice_get mid n.type_index ≡ Some state) × (slice_get past n.type_index ≡ Some part) × (state.schema ≡ d.schema) × MovesState n.section state part
   moved_by k d n at is =
-      let (state, there, schema) = state_there mid schemas n.type_index d.schema are is.schema in
+      let (state, there, schema) = state_there mid schemas n.type_index d.schema are is.means.equal in
       let kept = slice_get-get_or past n.type_index no_part (omega (arith, slice_get_within mid n.type_index state there, moved.long)) in
       (state, get_or past n.type_index no_part, there, kept, schema, by_type state (get_or past n.type_index no_part) (moved.types n.type_index state (get_or past n.type_index no_part) there kept))
     where
@@ -120,7 +107,7 @@ module _ (schemas : List Schema) (mid : List State) (past : List PastPart) (name
   patch_at k d n at_d at is =
       let (state, part, there, kept, schema, moves) = moved_by k d n at is in
       let rows = moves.moved.added in
-      let patch : TypePatch = record { schema = state.schema; layout = patch_layout n.section; removed = n.section.removed; added = n.section.added; rows = rows } in
+      let patch : TypePatch = record { type_index = n.type_index; schema = state.schema; layout = patch_layout n.section; removed = n.section.removed; added = n.section.added; rows = rows } in
       let was : rows_in old n.type_index ≡ state.current.rows = rows_at old n.type_index state.current.rows (current_at mid n.type_index state there) in
       let half : coming_half state part ≡ state.other = comes_moved n.section state part moves in
       let is_new : rows_in new n.type_index ≡ state.other.rows = rows_at new n.type_index (coming_half state part).rows (coming_at mid past n.type_index state part there kept) ∙ ap (λ (h : Half). h.rows) half in
@@ -128,13 +115,14 @@ module _ (schemas : List Schema) (mid : List State) (past : List PastPart) (name
         patch,
         record {
           is = record {
+            means = is.means;
             schema = schema;
             layout = ap patch_layout is.section;
             removed = ap (λ s. s.removed) is.section;
             added = ap (λ s. s.added) is.section;
             spelled = subst (λ (s : Schema). AddsRows s.shape d.section rows) schema (subst (λ s. AddsRows state.schema.shape s rows) is.section moves.moved.adds);
           };
-          at = is.schema ∙ ap Some (sym schema);
+          index = refl;
           fits = subst (λ (r : RowMap). FitsOrdinals r (patch_layout n.section) n.section.removed n.section.added) (sym was) moves.moved.ordinals;
           holds = subst (Holds state.schema.shape (patch_layout n.section)) (sym is_new) moves.moved.held;
           moves = subst (λ (r : RowMap). MovesRows r (rows_in new n.type_index) n.section.removed n.section.added rows) (sym was) (subst (λ (r : RowMap). MovesRows state.current.rows r n.section.removed n.section.added rows) (sym is_new) moves.moved.moves);
@@ -170,44 +158,44 @@ module _ (schemas : List Schema) (mid : List State) (past : List PastPart) (name
   patches (d ∷ ds) [] all = []
   patches (d ∷ ds) (n ∷ ns) all = all.0.0 ∷ patches ds ns all.1
 
-  parts_are : (ds : List DeltaPart) (ns : List PatchPart) (all : AllZip Chosen ds ns) → AllZip PartIs ds (patches ds ns all)
+  parts_are : (ds : List DeltaPart) (ns : List PatchPart) (all : AllZip Chosen ds ns) → AllZip (PartIs schemas) ds (patches ds ns all)
   unfolding patches
   parts_are [] [] all = tt
   parts_are [] (n ∷ ns) all = absurd all
   parts_are (d ∷ ds) [] all = absurd all
   parts_are (d ∷ ds) (n ∷ ns) all = (all.0.1.is, parts_are ds ns all.1)
 
-  each_named : (Q : ℕ → TypePatch → Type 0) → ((d : DeltaPart) (t : ℕ) (p : TypePatch) → PatchOf d t p → Q t p) → (ds : List DeltaPart) (ns : List PatchPart) (all : AllZip Chosen ds ns) → EachNamed schemas (patches ds ns all) Q
+  each_named : (Q : ℕ → TypePatch → Type 0) → ((d : DeltaPart) (t : ℕ) (p : TypePatch) → PatchOf d t p → Q p.type_index p) → (ds : List DeltaPart) (ns : List PatchPart) (all : AllZip Chosen ds ns) → EachNamed (patches ds ns all) Q
   unfolding patches
-  each_named Q gives [] [] all = All-nil (λ p. (t : ℕ) × IsAt schemas t p × Q t p)
+  each_named Q gives [] [] all = All-nil (λ p. Q p.type_index p)
   each_named Q gives [] (n ∷ ns) all = absurd all
   each_named Q gives (d ∷ ds) [] all = absurd all
   each_named Q gives (d ∷ ds) (n ∷ ns) all =
-      All-cons (λ p. (t : ℕ) × IsAt schemas t p × Q t p) all.0.0 (patches ds ns all.1) (n.type_index, all.0.1.at, gives d n.type_index all.0.0 all.0.1) (each_named Q gives ds ns all.1)
+      All-cons (λ p. Q p.type_index p) all.0.0 (patches ds ns all.1) (gives d n.type_index all.0.0 all.0.1) (each_named Q gives ds ns all.1)
 
-  none_named : (t : ℕ) (ds : List DeltaPart) (ns : List PatchPart) (all : AllZip Chosen ds ns) → IsUnnamed schemas (patches ds ns all) t → All (λ n. n.type_index ≡ t → ⊥) ns
+  none_named : (t : ℕ) (ds : List DeltaPart) (ns : List PatchPart) (all : AllZip Chosen ds ns) → IsUnnamed (patches ds ns all) t → All (λ n. n.type_index ≡ t → ⊥) ns
   unfolding patches
   none_named t [] [] all none = All-nil (λ n. n.type_index ≡ t → ⊥)
   none_named t [] (n ∷ ns) all none = absurd all
   none_named t (d ∷ ds) [] all none = absurd all
   none_named t (d ∷ ds) (n ∷ ns) all none =
       All-cons (λ n. n.type_index ≡ t → ⊥) n ns
-      (λ same. All-head (λ p. IsAt schemas t p → ⊥) all.0.0 (patches ds ns all.1) none (subst (λ (u : ℕ). IsAt schemas u all.0.0) same all.0.1.at))
-      (none_named t ds ns all.1 (All-tail (λ p. IsAt schemas t p → ⊥) all.0.0 (patches ds ns all.1) none))
+      (λ same. All-head (λ p. p.type_index ≡ t → ⊥) all.0.0 (patches ds ns all.1) none (all.0.1.index ∙ same))
+      (none_named t ds ns all.1 (All-tail (λ p. p.type_index ≡ t → ⊥) all.0.0 (patches ds ns all.1) none))
 
   pub patch : List TypePatch
   patch = patches parts named all_chosen
 
-  pub is_patch : AllZip PartIs parts patch
+  pub is_patch : AllZip (PartIs schemas) parts patch
   unfolding patch
   is_patch = parts_are parts named all_chosen
 
-  pub each_of_patch : (Q : ℕ → TypePatch → Type 0) → ((d : DeltaPart) (t : ℕ) (p : TypePatch) → PatchOf d t p → Q t p) → EachNamed schemas patch Q
+  pub each_of_patch : (Q : ℕ → TypePatch → Type 0) → ((d : DeltaPart) (t : ℕ) (p : TypePatch) → PatchOf d t p → Q p.type_index p) → EachNamed patch Q
   unfolding patch
   each_of_patch Q gives = each_named Q gives parts named all_chosen
 
   -- a type that the patch does not name keeps its half
-  pub half_stays : (t : ℕ) → t < length schemas → IsUnnamed schemas patch t → slice_get (coming_halves mid past) t ≡ slice_get (current_halves mid) t
+  pub half_stays : (t : ℕ) → t < length schemas → IsUnnamed patch t → slice_get (coming_halves mid past) t ≡ slice_get (current_halves mid) t
   unfolding patch
   half_stays t inside none =
       let (state, there, same) = state_there mid schemas t (get_or schemas t some_schema) are (slice_get-get_or schemas t some_schema inside) in
@@ -224,21 +212,24 @@ module _ (schemas : List Schema) (mid : List State) (past : List PastPart) (name
       by_type state part (TypeIs.Named place n at same moves) =
           absurd (subst (λ (p : PatchPart). p.type_index ≡ t → ⊥) (get_or_from_slice_get named place n n at) (none_of place n (slice_get_within named place n at)) same)
 
-  pub moves_patch : Moved schemas patch old new
+  old_long : length old ≡ length schemas
+  old_long = length-map (current_halves mid) (λ (h : Half). h.rows) ∙ length-map mid (λ (s : State). s.current) ∙ sym (length-map mid (λ (s : State). s.schema)) ∙ ap (λ (ss : List Schema). length ss) are
+
+  pub moves_patch : Moved patch old new
   moves_patch = record {
     types = coming_long mid past moved.long ∙ sym (length-map mid (λ (s : State). s.current)) ∙ sym (length-map (current_halves mid) (λ (h : Half). h.rows));
     named = each_of_patch (MovesType old new) (λ d t p of_part. of_part.moves);
     others = λ t inside none. ap (λ (o : Option RowMap). unwrap_or o (empty {R = nat_cmp}))
-        (slice_get-map (λ (h : Half). h.rows) (coming_halves mid past) t ∙ ap (option_map (λ (h : Half). h.rows)) (half_stays t inside none) ∙ sym (slice_get-map (λ (h : Half). h.rows) (current_halves mid) t));
+        (slice_get-map (λ (h : Half). h.rows) (coming_halves mid past) t ∙ ap (option_map (λ (h : Half). h.rows)) (half_stays t (subst (λ (n : ℕ). t < n) old_long inside) none) ∙ sym (slice_get-map (λ (h : Half). h.rows) (current_halves mid) t));
   }
 
-  pub within_patch : Within schemas new patch
+  pub within_patch : Within new patch
   within_patch = each_of_patch (IsTypeWithin new) (λ d t p of_part. of_part.within)
 
-  pub layouts_of_patch : EachNamed schemas patch (λ t p. layout_at (coming_halves mid past) t ≡ Some p.layout)
+  pub layouts_of_patch : EachNamed patch (λ t p. layout_at (coming_halves mid past) t ≡ Some p.layout)
   layouts_of_patch = each_of_patch (λ t p. layout_at (coming_halves mid past) t ≡ Some p.layout) (λ d t p of_part. of_part.layout)
 
-  pub other_layouts : (t : ℕ) → t < length schemas → IsUnnamed schemas patch t → layout_at (coming_halves mid past) t ≡ layout_at (current_halves mid) t
+  pub other_layouts : (t : ℕ) → t < length schemas → IsUnnamed patch t → layout_at (coming_halves mid past) t ≡ layout_at (current_halves mid) t
   other_layouts t inside none = ap (option_map (λ (h : Half). h.layout)) (half_stays t inside none)
 
   pub fits_patch : IsClosed schemas new → Fits schemas old patch

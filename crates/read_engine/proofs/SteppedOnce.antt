@@ -17,12 +17,12 @@ use Rattle.type_rows.proofs.Loading.{one_row}
 use Rattle.blob_frame.specs.declared.header.Header.{Header}
 use Rattle.snapshot_blob.proofs.Zipped.{zip_once}
 use Rattle.delta_blob.specs.declared.part.DeltaPart.{DeltaPart}
-use Rattle.delta_blob.specs.Moved.{EachNamed, IsAt, IsUnnamed, Moved, MovesType}
+use Rattle.delta_blob.specs.Moved.{EachNamed, IsUnnamed, Moved, MovesType}
 use Rattle.delta_blob.specs.Parts.{delta}
 use Rattle.delta_blob.specs.Patch.{PartIs, TypePatch}
+use Rattle.delta_blob.proofs.Indexed.{one_type}
 use Rattle.read_engine.specs.Position.{Position, IsPosition, rows_now}
 use Rattle.read_engine.specs.Taking.{StepsBy, layout_at}
-use Rattle.read_engine.proofs.Patches.{one_index}
 use Rattle.read_engine.proofs.StepsTold.{one_move, same_tables}
 
 -- ---- one patch
@@ -37,32 +37,35 @@ same_rows (x ∷ xs) (y ∷ ys) long each =
     let rest = same_rows xs ys (omega (arith, long)) (λ k. each (suc k)) in
     λ i. one i ∷ rest i
 
-part_once : (part : DeltaPart) (p q : TypePatch) → PartIs part p → PartIs part q → p ≡ q
-part_once part p q one other =
+part_once : (schemas : List Schema) → IsKept schemas DuplicateName → (part : DeltaPart) (p q : TypePatch) → PartIs schemas part p → PartIs schemas part q → p ≡ q
+part_once schemas apart part p q one other =
+    let index = one_type schemas apart p.type_index q.type_index part.schema part.schema one.means other.means refl in
     let schema = one.schema ∙ sym other.schema in
     let layout = one.layout ∙ sym other.layout in
     let removed = one.removed ∙ sym other.removed in
     let added = one.added ∙ sym other.added in
     let long = one.spelled.each ∙ sym other.spelled.each in
     let rows = same_rows p.rows q.rows long (λ k x y at_x at_y. (one_row part.schema.shape (places_in part.section)).once k x y (one.spelled.spelled k x at_x) (other.spelled.spelled k y at_y)) in
-    λ i. record { schema = schema i; layout = layout i; removed = removed i; added = added i; rows = rows i }
+    λ i. record { type_index = index i; schema = schema i; layout = layout i; removed = removed i; added = added i; rows = rows i }
 
 -- ---- each type
 
-module _ (schemas : List Schema) (apart : IsKept schemas DuplicateName) (P Q : ℕ → TypePatch → Type 0) where
+module _ (P Q : ℕ → TypePatch → Type 0) where
   -- what a patch names a type by, or that it does not
-  named_or : (patch : List TypePatch) → EachNamed schemas patch P → EachNamed schemas patch Q → (index : ℕ) → ((named : TypePatch) × P index named × Q index named) ⊎ IsUnnamed schemas patch index
-  named_or [] one other index = inr (All-nil (λ named. IsAt schemas index named → ⊥))
+  named_or : (patch : List TypePatch) → EachNamed patch P → EachNamed patch Q → (index : ℕ) → ((named : TypePatch) × P index named × Q index named) ⊎ IsUnnamed patch index
+  named_or [] one other index = inr (All-nil (λ named. named.type_index ≡ index → ⊥))
   named_or (named ∷ patch) one other index =
-      let (i, at_i, p) = All-head (λ n. (t : ℕ) × IsAt schemas t n × P t n) named patch one in
-      let (j, at_j, q) = All-head (λ n. (t : ℕ) × IsAt schemas t n × Q t n) named patch other in
-      let same = one_index schemas apart j i named.schema at_j at_i in
-      elim (cases_eq i index) [
-        | inl here ↦ inl (named, subst (λ t. P t named) here p, subst (λ t. Q t named) (same ∙ here) q)
-        | inr apart_here ↦
-            elim (named_or patch (All-tail (λ n. (t : ℕ) × IsAt schemas t n × P t n) named patch one) (All-tail (λ n. (t : ℕ) × IsAt schemas t n × Q t n) named patch other) index) [
+      elim (cases_eq named.type_index index) [
+        | inl here ↦
+            inl (
+              named,
+              subst (λ t. P t named) here (All-head (λ n. P n.type_index n) named patch one),
+              subst (λ t. Q t named) here (All-head (λ n. Q n.type_index n) named patch other),
+            )
+        | inr apart ↦
+            elim (named_or patch (All-tail (λ n. P n.type_index n) named patch one) (All-tail (λ n. Q n.type_index n) named patch other) index) [
               | inl found ↦ inl found
-              | inr none ↦ inr (All-cons (λ n. IsAt schemas index n → ⊥) named patch (λ at. apart_here (one_index schemas apart i index named.schema at_i at)) none)
+              | inr none ↦ inr (All-cons (λ n. n.type_index ≡ index → ⊥) named patch apart none)
             ]
       ]
 
@@ -85,32 +88,32 @@ module _ (blob : List ℕ) (from a b : Position) (position : IsPosition from) (o
 
   same_patch : other.patch ≡ one.patch
   same_patch =
-      zip_once PartIs part_once one.is.parts other.patch one.patch
-      (subst (λ (ps : List DeltaPart). AllZip PartIs ps other.patch) (sym (ap (λ (v : Header × List DeltaPart). v.1) same_items)) other.is.types) one.is.types
+      zip_once (PartIs from.schemas) (part_once from.schemas (position.model DuplicateName)) one.is.parts other.patch one.patch
+      (subst (λ (ps : List DeltaPart). AllZip (PartIs from.schemas) ps other.patch) (sym (ap (λ (v : Header × List DeltaPart). v.1) same_items)) other.is.types) one.is.types
 
-  also_moved : Moved from.schemas one.patch (rows_now from) (rows_now b)
-  also_moved = subst (λ (patch : List TypePatch). Moved from.schemas patch (rows_now from) (rows_now b)) same_patch other.moved
+  also_moved : Moved one.patch (rows_now from) (rows_now b)
+  also_moved = subst (λ (patch : List TypePatch). Moved patch (rows_now from) (rows_now b)) same_patch other.moved
 
-  rows_of : (t : ℕ) → t < length from.schemas → rows_in (rows_now a) t ≡ rows_in (rows_now b) t
+  rows_of : (t : ℕ) → t < length (rows_now from) → rows_in (rows_now a) t ≡ rows_in (rows_now b) t
   rows_of t inside =
-      elim (named_or from.schemas (position.model DuplicateName) (MovesType (rows_now from) (rows_now a)) (MovesType (rows_now from) (rows_now b)) one.patch one.moved.named also_moved.named t) [
+      elim (named_or (MovesType (rows_now from) (rows_now a)) (MovesType (rows_now from) (rows_now b)) one.patch one.moved.named also_moved.named t) [
         | inl named ↦ one_move (rows_in (rows_now from) t) (rows_in (rows_now a) t) (rows_in (rows_now b) t) named.0.removed named.0.added named.0.rows named.1 named.2
         | inr none ↦ one.moved.others t inside none ∙ sym (also_moved.others t inside none)
       ]
 
   layouts_of : (t : ℕ) → t < length from.schemas → layout_at a.halves t ≡ layout_at b.halves t
   layouts_of t inside =
-      elim (named_or from.schemas (position.model DuplicateName) (λ t named. layout_at a.halves t ≡ Some named.layout) (λ t named. layout_at b.halves t ≡ Some named.layout) one.patch one.layouts
-      (subst (λ (patch : List TypePatch). EachNamed from.schemas patch (λ t named. layout_at b.halves t ≡ Some named.layout)) same_patch other.layouts) t) [
+      elim (named_or (λ t named. layout_at a.halves t ≡ Some named.layout) (λ t named. layout_at b.halves t ≡ Some named.layout) one.patch one.layouts
+      (subst (λ (patch : List TypePatch). EachNamed patch (λ t named. layout_at b.halves t ≡ Some named.layout)) same_patch other.layouts) t) [
         | inl named ↦ named.1 ∙ sym named.2
-        | inr none ↦ one.others t inside none ∙ sym (other.others t inside (subst (λ (patch : List TypePatch). IsUnnamed from.schemas patch t) (sym same_patch) none))
+        | inr none ↦ one.others t inside none ∙ sym (other.others t inside (subst (λ (patch : List TypePatch). IsUnnamed patch t) (sym same_patch) none))
       ]
 
   long_rows : length (rows_now a) ≡ length from.schemas
   long_rows = one.moved.types ∙ position.rows.types
 
   same_now : rows_now a ≡ rows_now b
-  same_now = same_tables (rows_now a) (rows_now b) (one.moved.types ∙ sym also_moved.types) (λ t inside. rows_of t (omega (arith, inside, long_rows)))
+  same_now = same_tables (rows_now a) (rows_now b) (one.moved.types ∙ sym also_moved.types) (λ t inside. rows_of t (subst (λ (n : ℕ). t < n) one.moved.types inside))
 
   long_halves : length a.halves ≡ length from.schemas
   long_halves = sym (length-map a.halves (λ (h : Half). h.rows)) ∙ long_rows

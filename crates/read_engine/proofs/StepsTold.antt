@@ -1,16 +1,16 @@
 -- What a step tells of a blob: that it leads to a position, or that it leads to none.
-use Rattle.std.proofs.Common.{◌≡◌, ◌<◌, ◌≤◌, ◌⊎◌, inl, inr, ℕ, zero, suc, List, [], ◌∷◌, length, get_or, map, Bool, true, false, Option, Some, None, Result, Ok, Err, IfSome, refl, sym, ap, ◌∙◌, subst, arith, eqb}
+use Rattle.std.proofs.Common.{◌≡◌, ◌<◌, ◌≤◌, ◌⊎◌, inl, inr, ℕ, ℤ, zero, suc, List, [], ◌∷◌, length, get_or, map, Bool, true, false, Option, Some, None, Result, Ok, Err, IfErr, IfSome, refl, sym, ap, ◌∙◌, subst, arith, eqb}
 use Rattle.std.specs.Prelude.{All, Contains, slice_get}
 use Rattle.std.specs.List.{AllZip, list_any}
 use Rattle.std.specs.Cmp.{nat_cmp_total}
 use Rattle.std.specs.FinMap.{get, nat_cmp-IsAntisymmetric, same_map}
 use Rattle.std.proofs.lemmas.Bool.{false≢true}
 use Rattle.std.proofs.lemmas.List.{get_or_default, length-map}
-use Rattle.std.proofs.lemmas.List.Elements.{All-head, All-tail}
 use Rattle.std.proofs.lemmas.Option.{get_or_from_slice_get, slice_get-get_or, slice_get_within}
 use Rattle.hol_io.specs.declared.name.BlobName.{BlobName}
 use Rattle.hol_io.specs.Store.{Store, told}
-use Rattle.schema_model.specs.declared.limit.Limit.TheVariants.{Blob, Ordinals}
+use Rattle.schema_model.specs.declared.limit.Limit.{Limit}
+use Rattle.schema_model.specs.declared.limit.Limit.TheVariants.{Blob, Bytes, Items, Ordinals, Words}
 use Rattle.schema_model.specs.declared.model.rule.Rule.TheVariants.{DuplicateName}
 use Rattle.row_model.specs.declared.row.Row.{Row}
 use Rattle.schema_model.specs.declared.schema.Schema.{Schema}
@@ -25,77 +25,65 @@ use Rattle.type_rows.specs.Layout.{Layout, places_of}
 use Rattle.type_rows.specs.Patches.{AddsRows, FitsOrdinals, IsMovedBy, MovesRows, patch_layout}
 use Rattle.type_state.specs.State.{Half, State, empty_half}
 use Rattle.type_state.specs.Views.{table_of}
-use Rattle.blob_grammar.specs.Form.{◌>>=◌, nothing, both}
 use Rattle.blob_frame.specs.declared.fault.BlobFault.{BlobFault}
 use Rattle.blob_frame.specs.declared.fault.BlobFault.TheVariants as fault
 use Rattle.blob_frame.specs.declared.header.Header.{Header}
-use Rattle.blob_cursor.specs.Opened.{TellsHeader}
-use Rattle.blob_cursor.specs.Scene.{Place}
+use Rattle.blob_cursor.specs.Scene.{IsFree}
 use Rattle.blob_frame.specs.Header.{header, HeaderIs}
 use Rattle.delta_blob.specs.declared.part.DeltaPart.{DeltaPart}
+use Rattle.delta_blob.specs.declared.patch.Patch.{Patch}
 use Rattle.delta_blob.specs.declared.patch.PatchPart.{PatchPart}
 use Rattle.delta_blob.specs.Fits.{Fits, FitsTable, HoldsTable}
-use Rattle.delta_blob.specs.Moved.{EachNamed, IsAt, IsUnnamed, Moved, MovesType}
+use Rattle.delta_blob.specs.Moved.{EachNamed, IsUnnamed, Moved, MovesType}
 use Rattle.delta_blob.specs.Parts.{body, delta}
 use Rattle.delta_blob.specs.Patch.{PartIs, TypePatch}
-use Rattle.delta_blob.specs.Reads.{HasNoPatch, IsOfModel, IsPatchAt, KeepsCounts, TellsPatch}
+use Rattle.delta_blob.specs.Reads.{HasNoPatch, HasOtherTypes, IsBehind, IsCountLimit, IsDeltaFault, IsOfModel, IsPatchAt, KeepsCounts, TellsDelta}
 use Rattle.delta_blob.specs.Within.{IsTypeWithin, Within}
-use Rattle.read_engine.specs.declared.fault.TakeFault.{TakeFault}
-use Rattle.read_engine.specs.declared.fault.TakeFault.TheVariants as take
 use Rattle.state_moves.specs.Past.{PastPart, no_part}
-use Rattle.state_moves.specs.Moving.{AreMoved, IsStuck, RefusesParts, TypeIs, coming_half, coming_halves}
-use Rattle.read_engine.specs.Taken.{IsNotTaken, IsTaken, TellsTaken}
+use Rattle.state_moves.specs.declared.fault.MoveFault.{MoveFault}
+use Rattle.state_moves.specs.declared.fault.MoveFault.TheVariants as move_fault
+use Rattle.state_moves.specs.Moving.{AreMoved, IsMoveLimit, IsStuck, RefusesParts, TellsRefusal, TypeIs, coming_half, coming_halves}
+use Rattle.snapshot_blob.specs.Stated.{IsTypeLimit}
+use Rattle.read_engine.specs.Faults.{step_fault}
+use Rattle.read_engine.specs.Taken.{CountsTaken, IsNotTaken, IsTaken}
 use Rattle.read_engine.specs.Position.{Position, IsPosition, rows_now}
 use Rattle.state_moves.specs.Halves.{current_halves}
-use Rattle.read_engine.specs.Taking.{StepsBy, TellsStep, body_fault_of, layout_at}
+use Rattle.read_engine.specs.Taking.{CountsPart, IsStepFault, IsUntaken, RefusesStep, StepsBy, TellsStep, layout_at}
 use Rattle.state_moves.proofs.Changed.{any_place, comes_moved, coming_long, state_there}
 use Rattle.state_moves.proofs.Comings.{coming_at}
 use Rattle.read_engine.proofs.Patches as patches
-use Rattle.read_engine.proofs.Patches.{one_index, rows_at, zip_at}
+use Rattle.read_engine.proofs.Patches.{rows_at, zip_at}
 use Rattle.state_moves.proofs.PastRows.{any_at}
 use Rattle.state_moves.proofs.Tables.{current_at}
-
--- ---- header and body
-
-joined : (blob : List ℕ) (head : Header) (n : ℕ) (parts : List DeltaPart) → HeaderIs blob n head → body.Stands blob n parts (length blob) → delta.Stands blob 0 (head, parts) (length blob)
-unfolding delta both ◌>>=◌ nothing
-joined blob head n parts begins stands = (head, n, begins, (parts, length blob, stands, (refl, refl)))
-
-split : (blob : List ℕ) (head : Header) (parts : List DeltaPart) (next : ℕ) → delta.Stands blob 0 (head, parts) next → (n : ℕ) × HeaderIs blob n head × body.Stands blob n parts next
-unfolding delta both ◌>>=◌ nothing
-split blob head parts next (h, n, begins, (ps, m, stands, is)) =
-    let of : ps ≡ parts = ap (λ p. p.1) (sym is.0) in
-    (n, subst (λ (h : Header). header.Stands blob 0 h n) (ap (λ p. p.0) (sym is.0)) begins, subst (λ k. body.Stands blob n parts k) (sym is.1) (subst (λ (ps : List DeltaPart). body.Stands blob n ps m) of stands))
+use Rattle.delta_blob.proofs.Indexed.{one_type}
+use Rattle.delta_blob.proofs.PatchTelling.{other_none}
+use Rattle.delta_blob.proofs.WholeDeltas.{joined, split}
 
 -- ---- a step that is taken
 
 module _ (blob : List ℕ) (n : ℕ) (head : Header) (named : List PatchPart) (from to : Position) (position : IsPosition from) (taken : IsTaken head.destination named from to) (read : IsPatchAt blob n from.schemas named)
     (begins : HeaderIs blob n head) (short : length blob ≤ number_of_limit Blob) (origin : head.origin ≡ from.tag) where
   abbrev pub mid : List State
-  mid = taken.takes.mid
+  mid = taken.mid
 
   abbrev pub apart : IsKept from.schemas DuplicateName
   apart = position.model DuplicateName
 
   abbrev pub are : map (λ (s : State). s.schema) mid ≡ from.schemas
-  are = taken.takes.stays.schemas ∙ taken.at.schemas
+  are = taken.moves.stays.schemas ∙ taken.at.schemas
 
   abbrev pub patch : List TypePatch
-  patch = patches.patch from.schemas mid taken.past named read.0 apart read.2 taken.takes.moved are
+  patch = patches.patch from.schemas mid taken.past named read.0 apart read.2 taken.moves.moved are
 
   old_is : table_of (current_halves mid) ≡ rows_now from
-  old_is = ap table_of (taken.takes.stays.halves ∙ taken.at.halves)
+  old_is = ap table_of (taken.moves.stays.halves ∙ taken.at.halves)
 
-  new_is : table_of (coming_halves mid taken.past) ≡ table_of (current_halves taken.after)
-  new_is = ap table_of (sym taken.takes.halves)
-
-  lengths : length (current_halves taken.after) ≡ length from.halves
+  lengths : length (coming_halves mid taken.past) ≡ length from.halves
   lengths =
-      ap length taken.takes.halves
-      ∙ sym (length-map (coming_halves mid taken.past) (λ (h : Half). h.rows))
-      ∙ coming_long mid taken.past taken.takes.moved.long
+      sym (length-map (coming_halves mid taken.past) (λ (h : Half). h.rows))
+      ∙ coming_long mid taken.past taken.moves.moved.long
       ∙ sym (length-map mid (λ (s : State). s.current))
-      ∙ ap length (taken.takes.stays.halves ∙ taken.at.halves)
+      ∙ ap length (taken.moves.stays.halves ∙ taken.at.halves)
 
   pub steps_by : StepsBy blob from to
   steps_by = subst (StepsBy blob from) (sym taken.is) record {
@@ -106,22 +94,19 @@ module _ (blob : List ℕ) (n : ℕ) (head : Header) (named : List PatchPart) (f
       items = record { items = joined blob head n read.0 begins read.1; once = read.2.once };
       from_tag = origin;
       to_tag = refl;
-      types = patches.is_patch from.schemas mid taken.past named read.0 apart read.2 taken.takes.moved are;
+      types = patches.is_patch from.schemas mid taken.past named read.0 apart read.2 taken.moves.moved are;
     };
-    fits = subst (λ (t : Table). Fits from.schemas t patch) old_is (patches.fits_patch from.schemas mid taken.past named read.0 apart read.2 taken.takes.moved are taken.takes.closed);
-    moved = subst (λ (t : Table). Moved from.schemas patch t (table_of (current_halves taken.after))) old_is
-        (subst (Moved from.schemas patch (table_of (current_halves mid))) new_is (patches.moves_patch from.schemas mid taken.past named read.0 apart read.2 taken.takes.moved are));
-    within = subst (λ (t : Table). Within from.schemas t patch) new_is (patches.within_patch from.schemas mid taken.past named read.0 apart read.2 taken.takes.moved are);
+    fits = subst (λ (t : Table). Fits from.schemas t patch) old_is (patches.fits_patch from.schemas mid taken.past named read.0 apart read.2 taken.moves.moved are taken.moves.closed);
+    moved = subst (λ (t : Table). Moved patch t (table_of (coming_halves mid taken.past))) old_is (patches.moves_patch from.schemas mid taken.past named read.0 apart read.2 taken.moves.moved are);
+    within = patches.within_patch from.schemas mid taken.past named read.0 apart read.2 taken.moves.moved are;
     items = λ k d inside. (read.2.counts k d inside).items;
     short = short;
     model = refl;
     types = lengths;
-    layouts = subst (λ (hs : List Half). EachNamed from.schemas patch (λ t p. layout_at hs t ≡ Some p.layout)) (sym taken.takes.halves)
-        (patches.layouts_of_patch from.schemas mid taken.past named read.0 apart read.2 taken.takes.moved are);
+    layouts = patches.layouts_of_patch from.schemas mid taken.past named read.0 apart read.2 taken.moves.moved are;
     others = λ t inside none.
-        ap (λ (hs : List Half). layout_at hs t) taken.takes.halves
-        ∙ patches.other_layouts from.schemas mid taken.past named read.0 apart read.2 taken.takes.moved are t inside none
-        ∙ ap (λ (hs : List Half). layout_at hs t) (taken.takes.stays.halves ∙ taken.at.halves);
+        patches.other_layouts from.schemas mid taken.past named read.0 apart read.2 taken.moves.moved are t inside none
+        ∙ ap (λ (hs : List Half). layout_at hs t) (taken.moves.stays.halves ∙ taken.at.halves);
     before = refl;
     indexes = refl;
   }
@@ -172,10 +157,9 @@ zip_beside R (w ∷ xs) (y ∷ ys) all zero x is = let same : w ≡ x = cc in (y
 zip_beside R (w ∷ xs) (y ∷ ys) all (suc k) x is = zip_beside R xs ys all.1 k x is
 
 -- what holds of each type that a patch names
-at_named : (schemas : List Schema) (patch : List TypePatch) (Q : ℕ → TypePatch → Type 0) (k t : ℕ) (p : TypePatch) → IsKept schemas DuplicateName → EachNamed schemas patch Q → slice_get patch k ≡ Some p → slice_get schemas t ≡ Some p.schema → Q t p
-at_named schemas patch Q k t p apart each there is =
-    let (u, at, holds) = subst (λ (q : TypePatch). (u : ℕ) × IsAt schemas u q × Q u q) (get_or_from_slice_get patch k p p there) (each k p (slice_get_within patch k p there)) in
-    subst (λ (v : ℕ). Q v p) (one_index schemas apart u t p.schema at is) holds
+at_named : (patch : List TypePatch) (Q : ℕ → TypePatch → Type 0) (k t : ℕ) (p : TypePatch) → EachNamed patch Q → slice_get patch k ≡ Some p → p.type_index ≡ t → Q t p
+at_named patch Q k t p each there is =
+    subst (λ (u : ℕ). Q u p) is (subst (λ (q : TypePatch). Q q.type_index q) (get_or_from_slice_get patch k p p there) (each k p (slice_get_within patch k p there)))
 
 module _ (blob : List ℕ) (n : ℕ) (head : Header) (named : List PatchPart) (from to : Position) (position : IsPosition from) (read : IsPatchAt blob n from.schemas named) (begins : HeaderIs blob n head) (steps : StepsBy blob from to) where
   same_parts : steps.is.parts ≡ read.0
@@ -184,10 +168,14 @@ module _ (blob : List ℕ) (n : ℕ) (head : Header) (named : List PatchPart) (f
       let place = (header.decided.one blob 0 steps.is.head head m n other begins).1 in
       (body.decided.one blob n steps.is.parts read.0 (length blob) (length blob) (subst (λ (k : ℕ). body.Stands blob k steps.is.parts (length blob)) place stands) read.1).0
 
-  types : AllZip PartIs read.0 steps.patch
-  types = subst (λ (ps : List DeltaPart). AllZip PartIs ps steps.patch) same_parts steps.is.types
+  types : AllZip (PartIs from.schemas) read.0 steps.patch
+  types = subst (λ (ps : List DeltaPart). AllZip (PartIs from.schemas) ps steps.patch) same_parts steps.is.types
 
-  module _ (k : ℕ) (part : PatchPart) (d : DeltaPart) (p : TypePatch) (is_part : IsOfModel from.schemas d part) (is : PartIs d p) (there : slice_get steps.patch k ≡ Some p) where
+  -- a type of the delta has one index
+  index : (part : PatchPart) (d : DeltaPart) (p : TypePatch) → IsOfModel from.schemas d part → PartIs from.schemas d p → p.type_index ≡ part.type_index
+  index part d p is_part is = one_type from.schemas (position.model DuplicateName) p.type_index part.type_index d.schema d.schema is.means is_part.means refl
+
+  module _ (k : ℕ) (part : PatchPart) (d : DeltaPart) (p : TypePatch) (is_part : IsOfModel from.schemas d part) (is : PartIs from.schemas d p) (there : slice_get steps.patch k ≡ Some p) where
     abbrev pub t : ℕ
     t = part.type_index
 
@@ -197,8 +185,8 @@ module _ (blob : List ℕ) (n : ℕ) (head : Header) (named : List PatchPart) (f
     abbrev pub new : RowMap
     new = rows_in steps.fits.moved t
 
-    at : slice_get from.schemas t ≡ Some p.schema
-    at = is_part.schema ∙ ap Some (sym is.schema)
+    at : p.type_index ≡ t
+    at = index part d p is_part is
 
     layout : p.layout ≡ patch_layout part.section
     layout = is.layout ∙ ap patch_layout (sym is_part.section)
@@ -210,22 +198,22 @@ module _ (blob : List ℕ) (n : ℕ) (head : Header) (named : List PatchPart) (f
     added = is.added ∙ ap (λ (s : PatchSection). s.added) (sym is_part.section)
 
     moves : MovesType (rows_now from) steps.fits.moved t p
-    moves = at_named from.schemas steps.patch (MovesType (rows_now from) steps.fits.moved) k t p (position.model DuplicateName) steps.fits.moves.named there at
+    moves = at_named steps.patch (MovesType (rows_now from) steps.fits.moved) k t p steps.fits.moves.named there at
 
     moves_to : MovesType (rows_now from) (rows_now to) t p
-    moves_to = at_named from.schemas steps.patch (MovesType (rows_now from) (rows_now to)) k t p (position.model DuplicateName) steps.moved.named there at
+    moves_to = at_named steps.patch (MovesType (rows_now from) (rows_now to)) k t p steps.moved.named there at
 
     same_rows : rows_in (rows_now to) t ≡ new
     same_rows = one_move old (rows_in (rows_now to) t) new p.removed p.added p.rows moves_to moves
 
     fit : FitsOrdinals old p.layout p.removed p.added
-    fit = at_named from.schemas steps.patch (FitsTable (rows_now from)) k t p (position.model DuplicateName) steps.fits.ordinals there at
+    fit = at_named steps.patch (FitsTable (rows_now from)) k t p steps.fits.ordinals there at
 
     holds : Holds p.schema.shape p.layout new
-    holds = at_named from.schemas steps.patch (HoldsTable steps.fits.moved) k t p (position.model DuplicateName) steps.fits.held there at
+    holds = at_named steps.patch (HoldsTable steps.fits.moved) k t p steps.fits.held there at
 
     within : KeepsLimits p.schema.shape p.layout (rows_in (rows_now to) t)
-    within = (at_named from.schemas steps.patch (IsTypeWithin (rows_now to)) k t p (position.model DuplicateName) steps.within there at).kept
+    within = (at_named steps.patch (IsTypeWithin (rows_now to)) k t p steps.within there at).kept
 
     -- the part moves the rows of its type
     pub part_moves : IsMovedBy d.schema.shape part.section old new
@@ -244,18 +232,17 @@ module _ (blob : List ℕ) (n : ℕ) (head : Header) (named : List PatchPart) (f
       × IsMovedBy schema.shape part.section (rows_in (rows_now from) part.type_index) (rows_in steps.fits.moved part.type_index)
   each_moves k part is =
       let (d, at_d, is_part) = zip_at (IsOfModel from.schemas) read.0 named read.2.each k part is in
-      let (p, there, is_patch) = zip_beside PartIs read.0 steps.patch types k d at_d in
-      (d.schema, is_part.schema, part_moves k part d p is_part is_patch there)
+      let (p, there, is_patch) = zip_beside (PartIs from.schemas) read.0 steps.patch types k d at_d in
+      (d.schema, is_part.means.equal, part_moves k part d p is_part is_patch there)
 
   -- a type that no part names is not named
-  pub unnamed : (t : ℕ) → All (λ part. part.type_index ≡ t → ⊥) named → IsUnnamed from.schemas steps.patch t
+  pub unnamed : (t : ℕ) → All (λ part. part.type_index ≡ t → ⊥) named → IsUnnamed steps.patch t
   unnamed t none k default inside =
       let p = get_or steps.patch k default in
       let there : slice_get steps.patch k ≡ Some p = slice_get-get_or steps.patch k default inside in
-      let (d, at_d, is) = zip_at PartIs read.0 steps.patch types k p there in
+      let (d, at_d, is) = zip_at (PartIs from.schemas) read.0 steps.patch types k p there in
       let (part, at_part, is_part) = zip_beside (IsOfModel from.schemas) read.0 named read.2.each k d at_d in
-      λ at.
-      none_at k part at_part (one_index from.schemas (position.model DuplicateName) part.type_index t p.schema (is_part.schema ∙ ap Some (sym is.schema)) at)
+      λ at. none_at k part at_part (sym (index part d p is_part is) ∙ at)
     where
       none_at : (k : ℕ) (part : PatchPart) → slice_get named k ≡ Some part → part.type_index ≡ t → ⊥
       none_at k part at_part = subst (λ (x : PatchPart). x.type_index ≡ t → ⊥) (get_or_from_slice_get named k part part at_part) (none k part (slice_get_within named k part at_part))
@@ -279,7 +266,7 @@ module _ (blob : List ℕ) (n : ℕ) (head : Header) (named : List PatchPart) (f
 
     by_type : (t : ℕ) → t < length from.schemas → (state : State) (part : PastPart) → slice_get mid t ≡ Some state → TypeIs named t state part → rows_in steps.fits.moved t ≡ (coming_half state part).rows
     by_type t inside state part there (TypeIs.Unnamed none all) =
-        steps.fits.moves.others t inside (unnamed t all) ∙ old_rows t state there ∙ ap (λ (p : PastPart). (coming_half state p).rows) (sym none)
+        steps.fits.moves.others t (subst (λ (n : ℕ). t < n) (sym position.rows.types) inside) (unnamed t all) ∙ old_rows t state there ∙ ap (λ (p : PastPart). (coming_half state p).rows) (sym none)
     by_type t inside state part there (TypeIs.Named place by at same moves) =
         let (schema, at_schema, theirs) = each_moves place by at in
         let (other, also, is_schema) = state_there mid from.schemas by.type_index schema are at_schema in
@@ -320,20 +307,19 @@ module _ (blob : List ℕ) (n : ℕ) (head : Header) (named : List PatchPart) (f
 -- ---- a delta that is no patch of the model
 
 -- the parts of a patch are of types of the model
-name_parts : (schemas : List Schema) (Q : ℕ → TypePatch → Type 0) (ds : List DeltaPart) (ps : List TypePatch) → AllZip PartIs ds ps → EachNamed schemas ps Q → (named : List PatchPart) × AllZip (IsOfModel schemas) ds named
-name_parts schemas Q [] ps are each = ([], tt)
-name_parts schemas Q (d ∷ ds) [] are each = absurd are
-name_parts schemas Q (d ∷ ds) (p ∷ ps) are each =
-    let (t, at, holds) = All-head (λ q. (u : ℕ) × IsAt schemas u q × Q u q) p ps each in
-    let rest = name_parts schemas Q ds ps are.1 (All-tail (λ q. (u : ℕ) × IsAt schemas u q × Q u q) p ps each) in
-    (record { type_index = t; at = d.at; section = d.section } ∷ rest.0, (record { schema = at ∙ ap Some are.0.schema; at = refl; section = refl }, rest.1))
+name_parts : (schemas : List Schema) (ds : List DeltaPart) (ps : List TypePatch) → AllZip (PartIs schemas) ds ps → (named : List PatchPart) × AllZip (IsOfModel schemas) ds named
+name_parts schemas [] ps are = ([], tt)
+name_parts schemas (d ∷ ds) [] are = absurd are
+name_parts schemas (d ∷ ds) (p ∷ ps) are =
+    let rest = name_parts schemas ds ps are.1 in
+    (record { type_index = p.type_index; at = d.at; section = d.section } ∷ rest.0, (record { means = are.0.means; at = refl; section = refl }, rest.1))
 
 module _ (blob : List ℕ) (n : ℕ) (head : Header) (from to : Position) (begins : HeaderIs blob n head) (none : HasNoPatch blob n from.schemas) (steps : StepsBy blob from to) where
   counts : All KeepsCounts steps.is.parts
   counts k default inside =
       let d = get_or steps.is.parts k default in
-      let (p, there, is) = zip_beside PartIs steps.is.parts steps.patch steps.is.types k d (slice_get-get_or steps.is.parts k default inside) in
-      let (t, at, within) = subst (λ (q : TypePatch). (u : ℕ) × IsAt from.schemas u q × IsTypeWithin (rows_now to) u q) (get_or_from_slice_get steps.patch k p p there) (steps.within k p (slice_get_within steps.patch k p there)) in
+      let (p, there, is) = zip_beside (PartIs from.schemas) steps.is.parts steps.patch steps.is.types k d (slice_get-get_or steps.is.parts k default inside) in
+      let within = at_named steps.patch (IsTypeWithin (rows_now to)) k p.type_index p steps.within there refl in
       record {
         ordinals = subst (λ (l : Layout). places_of l.max ≤ number_of_limit Ordinals) is.layout within.ordinals;
         items = steps.items k default inside;
@@ -343,55 +329,122 @@ module _ (blob : List ℕ) (n : ℕ) (head : Header) (from to : Position) (begin
   never_read =
       let (m, other, stands) = split blob steps.is.head steps.is.parts (length blob) steps.is.items.items in
       let place = (header.decided.one blob 0 steps.is.head head m n other begins).1 in
-      let named = name_parts from.schemas (FitsTable (rows_now from)) steps.is.parts steps.patch steps.is.types steps.fits.ordinals in
+      let named = name_parts from.schemas steps.is.parts steps.patch steps.is.types in
       none named.0 (steps.is.parts, subst (λ (k : ℕ). body.Stands blob k steps.is.parts (length blob)) place stands, record { once = steps.is.items.once; each = named.1; counts = counts })
 
 -- ---- what is told of what a name holds
 
--- what was read behind the header of what a name holds
-abbrev pub IsPatchRead : Option (List ℕ) → Header × Place → List Schema → Result (List PatchPart) BlobFault → Type 0
-IsPatchRead content opened schemas answer =
-    (blob : List ℕ) × (content ≡ Some blob) × (length blob ≤ number_of_limit Blob) × HeaderIs blob opened.1.at opened.0 × TellsPatch blob opened.1.at schemas answer
+count_limit : (limit : Limit) → IsCountLimit limit → IsTypeLimit limit
+count_limit Ordinals of = tt
+count_limit Items of = tt
+count_limit _ of = absurd of
 
-module _ (name : BlobName) (opened : Header × Place) where
-  pub patch_read : (held mid : Option Store) (schemas : List Schema) (answer : Result (List PatchPart) BlobFault) → mid ≡ held → opened.1.name ≡ name →
-      IfSome held (λ store. TellsHeader name (told held name) (Ok opened)) → IfSome (told mid opened.1.name) (λ blob. TellsPatch blob opened.1.at schemas answer) →
-      IfSome held (λ store. IsPatchRead (told held name) opened schemas answer)
-  patch_read None mid schemas answer same called head read = tt
-  patch_read (Some store) mid schemas answer same called (blob, there, short, stands) read =
-      let content : told mid opened.1.name ≡ Some blob = (λ i. told (same i) (called i)) ∙ there in
-      (blob, there, short, stands, subst (λ c. IfSome c (λ b. TellsPatch b opened.1.at schemas answer)) content read)
+move_limit : (limit : Limit) → IsMoveLimit limit → IsTypeLimit limit
+move_limit Words of = tt
+move_limit Bytes of = tt
+move_limit _ of = absurd of
 
-  module _ (from to : Position) (origin : opened.0.origin ≡ from.tag) where
-    pub take_told : OnceLaw → IsPosition from → (held : Option Store) (named : List PatchPart) (r : Result (Unit {0}) TakeFault) → IfSome held (λ store. IsPatchRead (told held name) opened from.schemas (Ok named))
-        → TellsTaken opened.0.destination named from to r → IfSome held (λ store. TellsStep name (told held name) from (Some to) r)
-    take_told once position None named r read taken = tt
-    take_told once position (Some store) named (Ok done) (blob, there, short, begins, patch_is) taken =
-        (blob, to, there, refl, steps_by blob opened.1.at opened.0 named from to position taken patch_is begins short origin)
-    take_told once position (Some store) named (Err take.Body) (blob, there, short, begins, patch_is) refused = (
-      opened.0,
-      blob,
-      (blob, opened.1.at, there, short, begins),
-      there,
-      origin,
-      λ other steps. never_taken blob opened.1.at opened.0 named from other position patch_is begins steps once refused,
-    )
-    take_told once position (Some store) named (Err (take.Blob fault.Memory)) read refused = tt
-    take_told once position (Some store) named (Err (take.Blob _)) read refused = absurd refused
+module _ (name : BlobName) (from : Position) where
+  free_told : (content : Option (List ℕ)) (found : BlobFault) → IsFree found → RefusesStep name content from found
+  free_told content fault.Store free = tt
+  free_told content fault.Memory free = tt
+  free_told content _ free = absurd free
 
-    pub read_told : (held : Option Store) (found : BlobFault) (given : TakeFault) → IfSome held (λ store. IsPatchRead (told held name) opened from.schemas (Err found)) → given ≡ body_fault_of found
-        → IfSome held (λ store. TellsStep name (told held name) from (Some to) (Err given))
-    read_told None found given read is = tt
-    read_told (Some store) found given (blob, there, short, begins, tells) is =
-        subst (λ (f : TakeFault). TellsStep name (told (Some store) name) from (Some to) (Err f)) (sym is) (of_fault found tells)
-      where
-        never : HasNoPatch blob opened.1.at from.schemas → TellsStep name (told (Some store) name) from (Some to) (Err take.Body)
-        never none = (opened.0, blob, (blob, opened.1.at, there, short, begins), there, origin, λ other steps. never_read blob opened.1.at opened.0 from other begins none steps)
+  -- types that are none of the model lead nowhere
+  no_types : (blob : List ℕ) → IsBehind blob from.tag (λ n. HasOtherTypes blob n from.schemas) → IsUntaken blob from
+  no_types blob (head, n, begins, short, origin, (parts, stands, none)) = record {
+    short = short;
+    head = head;
+    place = n;
+    begins = begins;
+    origin = origin;
+    parts = parts;
+    types = stands;
+    never = λ to steps. never_read blob n head from to begins (other_none blob n from.schemas (parts, stands, none)) steps;
+  }
 
-        of_fault : (f : BlobFault) → TellsPatch blob opened.1.at from.schemas (Err f) → TellsStep name (told (Some store) name) from (Some to) (Err (body_fault_of f))
-        of_fault fault.Store told_so = tt
-        of_fault fault.Memory told_so = tt
-        of_fault (fault.Large what) none = never none
-        of_fault (fault.Bad at why) none = never none
-        of_fault (fault.OtherModel of) none = never none
-        of_fault _ told_so = absurd told_so
+  refused : (content : Option (List ℕ)) (found : BlobFault) → TellsDelta name from.tag from.schemas content (Err found) → RefusesStep name content from found
+  refused None found (inl is) = let same : found ≡ fault.NoBlob name = cc in subst (RefusesStep name None from) (sym same) (refl, refl)
+  refused None found (inr free) = free_told None found free
+  refused (Some blob) (fault.Large limit) (inl long) = (blob, refl, inl long)
+  refused (Some blob) (fault.Large limit) (inr (of, other)) = (blob, refl, inr (count_limit limit of, no_types blob other))
+  refused (Some blob) (fault.Bad place why) (inl stuck) = (blob, refl, inl stuck)
+  refused (Some blob) (fault.Bad place why) (inr (head, n, begins, short, origin, inl stuck)) = (blob, refl, inr (inl (head, n, begins, short, origin, stuck)))
+  refused (Some blob) (fault.Bad place why) (inr (head, n, begins, short, origin, inr other)) = (blob, refl, inr (inr (no_types blob (head, n, begins, short, origin, other))))
+  refused (Some blob) (fault.OtherModel of) other = (blob, refl, no_types blob other)
+  refused (Some blob) (fault.OtherOrigin found at) (head, n, begins, short, is, here, apart) = (head, (blob, n, refl, short, begins), sym is, here, λ same. apart (same ∙ here))
+  refused (Some blob) fault.Store tells = tt
+  refused (Some blob) fault.Memory tells = tt
+  refused (Some blob) _ tells = absurd tells
+
+  -- a delta that cannot be read against the model
+  pub refused_told : (held : Option Store) (now : Option Position) (found : BlobFault) (answer : Result (Unit {0}) BlobFault) → answer ≡ Err found
+      → IfSome held (λ store. TellsDelta name from.tag from.schemas (told held name) (Err found)) → IfSome held (λ store. TellsStep name (told held name) from now answer)
+  refused_told None now found answer is tells = tt
+  refused_told (Some store) now found answer is tells = subst (TellsStep name (told (Some store) name) from now) (sym is) (refused (told (Some store) name) found tells)
+
+  module _ (once : OnceLaw) (position : IsPosition from) (patch : Patch) where
+    steps_along : (blob : List ℕ) (to : Position) → TellsDelta name from.tag from.schemas (Some blob) (Ok patch) → IsTaken patch.destination patch.parts from to → StepsBy blob from to
+    steps_along blob to (head, n, begins, origin, destination, size, short, is) taken =
+        steps_by blob n head patch.parts from to position (subst (λ (tag : ℤ). IsTaken tag patch.parts from to) (sym destination) taken) is begins short origin
+
+    untaken : (blob : List ℕ) → TellsDelta name from.tag from.schemas (Some blob) (Ok patch) → IsNotTaken patch.parts from → IsUntaken blob from
+    untaken blob (head, n, begins, origin, destination, size, short, is) refuses = record {
+      short = short;
+      head = head;
+      place = n;
+      begins = begins;
+      origin = origin;
+      parts = is.0;
+      types = is.1;
+      never = λ to steps. never_taken blob n head patch.parts from to position is begins steps once refuses;
+    }
+
+    there : (content : Option (List ℕ)) → TellsDelta name from.tag from.schemas content (Ok patch) → (blob : List ℕ) × (content ≡ Some blob) × TellsDelta name from.tag from.schemas (Some blob) (Ok patch)
+    there None (inl other) = absurd cc
+    there None (inr free) = absurd free
+    there (Some blob) tells = (blob, refl, tells)
+
+    -- a delta whose parts are taken
+    pub taken_told : (held : Option Store) (to : Position) → IfSome held (λ store. TellsDelta name from.tag from.schemas (told held name) (Ok patch)) → IsTaken patch.destination patch.parts from to
+        → IfSome held (λ store. TellsStep name (told held name) from (Some to) (Ok tt))
+    taken_told None to tells taken = tt
+    taken_told (Some store) to tells taken = let (blob, is, read) = there (told (Some store) name) tells in (blob, to, is, refl, steps_along blob to read taken)
+
+    -- a delta whose parts are not taken
+    pub untaken_told : (held : Option Store) (now : Option Position) (moved : MoveFault) → IfSome held (λ store. TellsDelta name from.tag from.schemas (told held name) (Ok patch)) → TellsRefusal (IsNotTaken patch.parts from) moved
+        → IfSome held (λ store. TellsStep name (told held name) from now (Err (step_fault patch.length moved)))
+    untaken_told None now moved tells refuses = tt
+    untaken_told (Some store) now (move_fault.Refused why) tells refuses = let (blob, is, read) = there (told (Some store) name) tells in (blob, is, inr (inr (untaken blob read refuses)))
+    untaken_told (Some store) now (move_fault.Large limit) tells (of, refuses) = let (blob, is, read) = there (told (Some store) name) tells in (blob, is, inr (move_limit limit of, untaken blob read refuses))
+    untaken_told (Some store) now move_fault.Memory tells refuses = tt
+
+    -- what is counted where memory is refused
+    pub part_counted : (held : Option Store) (before after : ℕ) → IfSome held (λ store. TellsDelta name from.tag from.schemas (told held name) (Ok patch)) → (after ≡ before) ⊎ CountsTaken patch.destination patch.parts from before after
+        → IfSome held (λ store. (after ≡ before) ⊎ CountsPart (told held name) from before after)
+    part_counted None before after tells counts = tt
+    part_counted (Some store) before after tells (inl same) = inl same
+    part_counted (Some store) before after tells (inr (to, taken, most)) = let (blob, is, read) = there (told (Some store) name) tells in inr (blob, to, is, steps_along blob to read taken, most)
+
+-- ---- which faults come
+
+read_kind : (name : BlobName) (tag : ℤ) (found : BlobFault) → IsDeltaFault name tag found → IsStepFault name tag found
+read_kind name tag (fault.NoBlob other) kind = kind
+read_kind name tag (fault.Large limit) (inl whole) = inl whole
+read_kind name tag (fault.Large limit) (inr of) = inr (count_limit limit of)
+read_kind name tag (fault.OtherOrigin found at) kind = kind
+read_kind name tag (fault.BadRow place why of ordinal) kind = absurd kind
+read_kind name tag (fault.Bad place why) kind = tt
+read_kind name tag (fault.OtherModel of) kind = tt
+read_kind name tag fault.Store kind = tt
+read_kind name tag fault.Memory kind = tt
+
+-- the faults of the delta
+pub delta_kind : {T : Type 0} (name : BlobName) (tag : ℤ) (found : BlobFault) (answer : Result T BlobFault) → answer ≡ Err found → IsDeltaFault name tag found → IfErr answer (IsStepFault name tag)
+delta_kind name tag found answer is kind = subst (λ a. IfErr a (IsStepFault name tag)) (sym is) (read_kind name tag found kind)
+
+-- the faults of the move
+pub moved_kind : (name : BlobName) (tag : ℤ) (size : ℕ) (Fact : Type 0) (moved : MoveFault) → TellsRefusal Fact moved → IsStepFault name tag (step_fault size moved)
+moved_kind name tag size Fact (move_fault.Refused why) refuses = tt
+moved_kind name tag size Fact (move_fault.Large limit) (of, refuses) = inr (move_limit limit of)
+moved_kind name tag size Fact move_fault.Memory refuses = tt

@@ -1,6 +1,6 @@
 -- What a step takes and leaves.
-use Rattle.std.proofs.Common.{◌≡◌, ◌≤◌, ◌<◌, ◌+◌, ℕ, ℤ, List, length, map, Result, Ok, Err, IfErr, refl, sym, ap, ◌∙◌, subst, arith}
-use Rattle.std.specs.Prelude.{All, IsErrAnd, OnErr, sum_by}
+use Rattle.std.proofs.Common.{◌≡◌, ◌≤◌, ◌<◌, ◌+◌, ◌⊎◌, inl, inr, ℕ, ℤ, List, length, map, Result, Ok, Err, refl, sym, ap, ◌∙◌, subst, arith}
+use Rattle.std.specs.Prelude.{All, OnErr, sum_by}
 use Rattle.std.specs.List.{AllZip}
 use Rattle.schema_model.specs.declared.schema.Schema.{Schema}
 use Rattle.schema_model.specs.declared.limit.Limit.TheVariants.{Indexes}
@@ -12,18 +12,13 @@ use Rattle.delta_blob.specs.declared.patch.PatchPart.{PatchPart}
 use Rattle.key_index.specs.Indexed.{Indexed}
 use Rattle.state_moves.specs.Past.{FitsPast, PastPart, table_before}
 use Rattle.read_engine.specs.Indexes.{CountsNew, CountsStep}
-use Rattle.state_moves.specs.Moving.{MovesParts, StaysCurrent, TellsRefusal, coming_halves}
-use Rattle.state_moves.specs.declared.fault.MoveFault.{MoveFault}
-use Rattle.state_moves.specs.declared.fault.MoveFault.TheVariants as move_fault
-use Rattle.read_engine.specs.declared.fault.TakeFault.{TakeFault}
-use Rattle.read_engine.specs.Faults.{taken_fault}
-use Rattle.read_engine.specs.Taken.{IsTaken, Refuses, TakesParts}
+use Rattle.state_moves.specs.Moving.{MovesParts, StaysCurrent, coming_halves}
+use Rattle.read_engine.specs.Taken.{CountsTaken, IsTaken, ReadsSome, TakesParts}
 use Rattle.read_engine.specs.Kept.{FollowsPart, IsKept, count_came, index_kept}
-use Rattle.read_engine.specs.Position.{Index, IsIndexOf, IsPosition, Position}
+use Rattle.read_engine.specs.Position.{Index, IsIndexOf, IsPosition, Position, rows_now}
 use Rattle.state_moves.specs.Halves.{current_halves}
 use Rattle.read_engine.specs.Standing.{IsStanding, position_of}
 use Rattle.read_engine.proofs.Counted.{counts_new}
-use Rattle.state_moves.proofs.Changed.{all_before, all_changed, all_fit}
 use Rattle.read_engine.proofs.Follow.{KeyLaw, all_follow}
 
 -- ---- exits
@@ -31,15 +26,6 @@ use Rattle.read_engine.proofs.Follow.{KeyLaw, all_follow}
 pub on_err : {T E : Type 0} (r : Result T E) (P : Type 0) → P → OnErr r P
 on_err (Ok x) P p = tt
 on_err (Err e) P p = p
-
--- the exit by a fault of the move
-pub refused_exit : {T : Type 0} (Fact : Type 0) (r : Result T TakeFault) (moved : MoveFault) → IsErrAnd r (λ f. f ≡ taken_fault moved) → TellsRefusal Fact moved → IfErr r (Refuses Fact)
-refused_exit Fact (Ok x) moved is refuses = absurd is
-refused_exit Fact (Err f) moved is refuses = subst (Refuses Fact) (sym is) (of_fault moved refuses)
-  where
-    of_fault : (m : MoveFault) → TellsRefusal Fact m → Refuses Fact (taken_fault m)
-    of_fault move_fault.Refused fact = fact
-    of_fault move_fault.Memory fact = tt
 
 -- ---- before the moves
 
@@ -69,19 +55,16 @@ module _ (tag other : ℤ) (schemas : List Schema) (parts : List PatchPart) (bef
   here = ap table_of takes.halves
 
   before_is : table_before (table_of (current_halves after)) past ≡ table_of (current_halves before)
-  before_is =
-      ap (λ (table : Table). table_before table past) here
-      ∙ all_before takes.mid past (all_changed parts takes.mid past takes.moved)
-      ∙ ap table_of takes.stays.halves
+  before_is = ap (λ (table : Table). table_before table past) here ∙ takes.moves.was
 
   pub stands_after : IsStanding tag schemas after past moved
   stands_after = record {
     named = takes.same ∙ stands.named;
-    fits = subst (λ (table : Table). AllZip FitsPast table past) (sym here) (all_fit takes.mid past (all_changed parts takes.mid past takes.moved));
+    fits = subst (λ (table : Table). AllZip FitsPast table past) (sym here) takes.moves.fits;
     position = record {
       model = stands.position.model;
-      rows = subst (IsTableOf schemas) (sym here) takes.fits;
-      closed = subst (IsClosed schemas) (sym here) takes.closed;
+      rows = subst (IsTableOf schemas) (sym here) takes.moves.coming.fits;
+      closed = subst (IsClosed schemas) (sym here) takes.moves.closed;
       rows_before = subst (IsTableOf schemas) (sym before_is) stands.position.rows;
       closed_before = subst (IsClosed schemas) (sym before_is) stands.position.closed;
       indexes = subst (All (IsIndexOf schemas)) (sym same) stands.position.indexes;
@@ -93,15 +76,15 @@ module _ (tag other : ℤ) (schemas : List Schema) (parts : List PatchPart) (bef
   pub is_taken : (from : Position) → position_of other schemas before kept indexes ≡ from → IsTaken tag parts from (position_of tag schemas after past moved)
   is_taken from view = subst (λ (p : Position). IsTaken tag parts p (position_of tag schemas after past moved)) view record {
     before = before;
-    after = after;
+    mid = takes.mid;
     past = past;
     at = record { schemas = stands.named; halves = refl };
-    takes = takes;
-    is = λ i. record { tag = tag; schemas = schemas; halves = current_halves after; before = before_is i; indexes = same i };
+    moves = takes.moves;
+    is = λ i. record { tag = tag; schemas = schemas; halves = takes.halves i; before = before_is i; indexes = same i };
   }
 
   within : All (λ (kept : Indexed). kept.type_index < length (table_of (current_halves after))) indexes
-  within k d inside = let known = (stands.indexes k d inside).of.type_there in omega (arith, known, ap length here, takes.fits.types)
+  within k d inside = let known = (stands.indexes k d inside).of.type_there in omega (arith, known, ap length here, takes.moves.coming.fits.types)
 
   -- how many came, of each index
   pub counts_step : (was is : ℕ) → is ≡ was + sum_by (λ kept. count_came past kept.type_index) indexes → CountsStep (position_of tag schemas after past moved) was is
@@ -111,3 +94,35 @@ module _ (tag other : ℤ) (schemas : List Schema) (parts : List PatchPart) (bef
         subst (λ (xs : List Index). CountsNew to xs (sum_by (λ kept. count_came past kept.type_index) indexes)) (sym same) (counts_new to past stands_after.fits refl indexes within),
         rose,
       )
+
+-- ---- where memory is refused
+
+module _ (tag other : ℤ) (schemas : List Schema) (parts : List PatchPart) (before : List State) (kept : List PastPart) (indexes : List Indexed) (stands : IsStanding other schemas before kept indexes) (was is : ℕ)
+    (reads : ReadsSome schemas parts before indexes was is) where
+  -- where the step would have led
+  abbrev pub goes_to : Position
+  goes_to = record { tag = tag; schemas = schemas; halves = coming_halves reads.mid reads.past; before = table_of (current_halves before); indexes = map index_kept indexes }
+
+  inside : All (λ (kept : Indexed). kept.type_index < length (rows_now goes_to)) indexes
+  inside k d within = let known = (stands.indexes k d within).of.type_there in omega (arith, known, reads.moves.coming.fits.types)
+
+  -- and what was counted of it
+  pub counts_taken : (from : Position) → position_of other schemas before kept indexes ≡ from → CountsTaken tag parts from was is
+  counts_taken from view = subst (λ (p : Position). CountsTaken tag parts p was is) view (
+    goes_to,
+    record {
+      before = before;
+      mid = reads.mid;
+      past = reads.past;
+      at = record { schemas = stands.named; halves = refl };
+      moves = reads.moves;
+      is = refl;
+    },
+    (sum_by (λ kept. count_came reads.past kept.type_index) indexes, counts_new goes_to reads.past reads.moves.fits (sym reads.moves.was) indexes inside, reads.later, reads.most),
+  )
+
+-- nothing was counted, or what the step would count
+pub part_counted : (tag other : ℤ) (schemas : List Schema) (parts : List PatchPart) (before : List State) (kept : List PastPart) (indexes : List Indexed) → IsStanding other schemas before kept indexes → (was is : ℕ)
+    → (is ≡ was) ⊎ ReadsSome schemas parts before indexes was is → (from : Position) → position_of other schemas before kept indexes ≡ from → (is ≡ was) ⊎ CountsTaken tag parts from was is
+part_counted tag other schemas parts before kept indexes stands was is (inl same) from view = inl same
+part_counted tag other schemas parts before kept indexes stands was is (inr reads) from view = inr (counts_taken tag other schemas parts before kept indexes stands was is reads from view)

@@ -51,3 +51,7 @@ CountsNew position (index ∷ rest) count =
 -- A count of steps rose by one for each new ordinal in the type of each index that is kept.
 abbrev pub CountsStep : Position → ℕ → ℕ → Type 0
 CountsStep position before after = (count : ℕ) × CountsNew position position.indexes count × (after ≡ before + count)
+
+-- It rose by at most so many.
+abbrev pub CountsAtMost : Position → ℕ → ℕ → Type 0
+CountsAtMost position before after = (count : ℕ) × CountsNew position position.indexes count × (before ≤ after) × (after ≤ before + count)

@@ -1,5 +1,5 @@
 //! A consumer: at first it has no state; a load gives it one, and steps move it.
-ghost use Rattle.std.specs.Prelude.{◌≡◌, ◌≢◌, ◌≤◌, ◌<◌, ◌↔◌, All, Contains, Some, None, Err, IfErr, IfOk, IfSome, IsSome, IsSomeAnd, IsTrue, MatchOption, OnErr, OnOk, length, slice_get};
+ghost use Rattle.std.specs.Prelude.{◌≡◌, ◌≢◌, ◌≤◌, ◌<◌, ◌↔◌, ◌⊎◌, All, Contains, Some, None, Err, IfErr, IfOk, IfSome, IsSome, IsSomeAnd, IsTrue, MatchOption, OnErr, OnOk, length, slice_get};
 ghost use Rattle.std.specs.Option.{option_map};
 ghost use Rattle.hol_io.specs.declared.name.BlobName.TheVariants.{Snapshot};
 ghost use Rattle.hol_io.specs.Causes.{Rose};
@@ -8,16 +8,17 @@ ghost use Rattle.row_model.specs.Key.{AreMatches, IsResolved};
 ghost use Rattle.row_model.specs.Table.{row_at};
 ghost use Rattle.bucket_codec.specs.Run.{FindsIn};
 ghost use Rattle.type_state.specs.Lookup.{elements_of, pairs_of};
-ghost use Rattle.blob_frame.specs.declared.fault.BlobFault.TheVariants.{Memory as MemoryRefused, Store as StoreFailed};
+ghost use Rattle.snapshot_blob.specs.Snapshot.{IsSnapshotFault};
 ghost use Rattle.read_engine.specs.Gone.{AreGone};
 ghost use Rattle.read_engine.specs.Indexes.{AddsIndex, CountsAdded, CountsKeyed, CountsStep, HasNoRoom, index_by};
 ghost use Rattle.read_engine.specs.Position.{IsPosition, Position, rows_now};
-ghost use Rattle.read_engine.specs.Taking.{IsStepName, TellsLoad, TellsStep};
+ghost use Rattle.read_engine.specs.Taking.{CountsPart, IsStepFault, IsStepName, LoadsExactly, StepsExactly, TellsLoad, TellsStep};
 
 use crate::load::load;
 use crate::stand::Stand;
 use crate::step::step;
-use crate::{IndexFault, TakeFault};
+use crate::{IndexFault, laws};
+use blob_frame::BlobFault;
 use hol_io::{BlobName, BlobStore, Steps};
 use hol_varint::Ordinals;
 use row_model::Values;
@@ -53,19 +54,28 @@ impl Consumer {
         Consumer { alloc, stand: None }
     }
 
+    /// What the consumer takes memory from.
+    pub fn allocator(&self) -> Global {
+        self.alloc
+    }
+
     /// Loads the state of the snapshot of a version, in place of the state that it has; the rows before it are the same, and no index is kept.
     ///
-    /// The faults of `Blob` are those of the blob as a whole and of its header: `NoBlob`, `Large` with `Blob`, `Bad`, and `Store` and `Memory`.
-    /// `Body` comes where the header can be read and the blob is no snapshot within the limits. After a fault everything is as before.
-    pub fn load<S: BlobStore>(&mut self, store: &mut S, version: u64) -> Result<(), TakeFault>
+    /// `NoBlob` comes exactly where the store has no such name, `Large` with `Blob` exactly where the blob has more than 2^28 bytes, and `Bad`
+    /// with the first item that cannot be read, if there is one. Where all can be read, any of `Bad`, `BadRow` and `Large` says only that the
+    /// blob is no snapshot within the limits. `Store` comes only where the store's count of faults rose. After a fault everything is as before.
+    pub fn load<S: BlobStore>(&mut self, store: &mut S, version: u64) -> Result<(), BlobFault>
         ensures tells { IfSome (S.seen store.old).held (λ held. TellsLoad (Snapshot version) (told (S.seen store.old).held (Snapshot version)) self.new result) }
+        ensures exact { IfSome (S.seen store.old).held (λ held. LoadsExactly (Snapshot version) (told (S.seen store.old).held (Snapshot version)) self.new result) }
+        ensures kind { IfErr result (IsSnapshotFault (Snapshot version)) }
         ensures state { OnOk result (IsSome self.new) }
         ensures refused { OnErr result (self.new ≡ self.old) }
-        ensures cause { result ≡ Err (TakeFault.Blob StoreFailed) → Rose (S.seen store.old).faults (S.seen store.new).faults }
+        ensures cause { result ≡ Err (BlobFault.Store) → Rose (S.seen store.old).faults (S.seen store.new).faults }
         ensures kept { (S.seen store.new).held ≡ (S.seen store.old).held }
         ensures later { (S.seen store.old).faults ≤ (S.seen store.new).faults }
         ensures unput { (S.seen store.new).puts ≡ (S.seen store.old).puts }
     {
+        laws::one_loaded_position();
         let stand = load(self.alloc, store, version)?;
         self.stand = Some(stand);
         Ok(())
@@ -73,30 +83,37 @@ impl Consumer {
 
     /// Moves its state by the delta or the reverse delta of a name; the rows before it are then those that it had.
     ///
-    /// The faults of `Blob` are those of the blob as a whole and of its header, and `OtherOrigin` with both tags, where the delta starts from
-    /// another tag than that of the state. `Body` comes where the header can be read and starts from that tag, and the blob is no delta that
-    /// moves the state within the limits. After a fault everything is as before, the rows before the last step too.
+    /// `NoBlob` comes exactly where the store has no such name, `Large` with `Blob` exactly where the blob has more than 2^28 bytes, `Bad` with
+    /// the first item of the header that cannot be read, then `OtherOrigin` with both tags exactly where the blob starts from another tag than
+    /// that of the state, and then `Bad` with the first item behind the header that cannot be read. Where all can be read, any of `Bad`,
+    /// `OtherModel` and `Large` says only that the blob is no delta that moves the state within the limits. `Store` comes only where the store's
+    /// count of faults rose. After a fault everything is as before, the rows before the last step too.
     ///
-    /// The indexes stay, and answer of the new rows. A step is counted for each ordinal that comes in the type of each index; after a fault
-    /// other than want of memory none is.
+    /// The indexes stay, and answer of the new rows. A step is counted for each ordinal that comes in the type of each index. After want of
+    /// memory no more are, and only where the blob moves the state; after another fault none is.
     pub fn step<S: BlobStore, L: Ledger>(
         &mut self,
         store: &mut S,
         name: &BlobName,
         steps: &mut Steps<L>,
-    ) -> Result<(), TakeFault>
+    ) -> Result<(), BlobFault>
         requires standing { IsSome self.old }
         requires named { IsStepName name.now }
         ensures tells { IfSome (S.seen store.old).held
             (λ held. IfSome self.old (λ from. TellsStep name.now (told (S.seen store.old).held name.now) from self.new result)) }
+        ensures exact { IfSome (S.seen store.old).held
+            (λ held. IfSome self.old (λ from. StepsExactly name.now (told (S.seen store.old).held name.now) from self.new result)) }
+        ensures kind { IfErr result (λ fault. IfSome self.old (λ from. IsStepFault name.now from.tag fault)) }
         ensures state { IsSome self.new }
         ensures refused { OnErr result (self.new ≡ self.old) }
-        ensures cause { result ≡ Err (TakeFault.Blob StoreFailed) → Rose (S.seen store.old).faults (S.seen store.new).faults }
+        ensures cause { result ≡ Err (BlobFault.Store) → Rose (S.seen store.old).faults (S.seen store.new).faults }
         ensures kept { (S.seen store.new).held ≡ (S.seen store.old).held }
         ensures later { (S.seen store.old).faults ≤ (S.seen store.new).faults }
         ensures unput { (S.seen store.new).puts ≡ (S.seen store.old).puts }
         ensures counted { OnOk result (IsSomeAnd self.new (λ to. CountsStep to steps.old steps.new)) }
-        ensures uncounted { IfErr result (λ fault. fault ≢ TakeFault.Blob MemoryRefused → steps.new ≡ steps.old) }
+        ensures uncounted { IfErr result (λ fault. fault ≢ BlobFault.Memory → steps.new ≡ steps.old) }
+        ensures part { OnErr result (IfSome (S.seen store.old).held
+            (λ held. IfSome self.old (λ from. (steps.new ≡ steps.old) ⊎ CountsPart (told (S.seen store.old).held name.now) from steps.old steps.new))) }
     {
         match &mut self.stand {
             Some(stand) => step(self.alloc, stand, store, name, steps),

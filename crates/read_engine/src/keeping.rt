@@ -1,5 +1,5 @@
 //! Keeping the indexes over a step: each is made ready for the rows that come before any type is turned, and follows behind it.
-ghost use Rattle.std.specs.Prelude.{◌≡◌, ◌+◌, All, IsSome, OnErr, OnOk, map, sum_by};
+ghost use Rattle.std.specs.Prelude.{◌≡◌, ◌+◌, ◌≤◌, All, IsSome, OnErr, OnOk, map, sum_by};
 ghost use Rattle.row_model.specs.Table.{IsClosed};
 ghost use Rattle.type_state.specs.Views.{table_of};
 ghost use Rattle.read_engine.specs.Kept.{FollowsPart, IsReserved, count_came, moved_on, settled};
@@ -27,6 +27,7 @@ pub(crate) fn reserve_all<L: Ledger>(
     ensures reserved { OnOk result (All (IsReserved model.now (table_of (coming_halves states.now past.now))) indexes.new) }
     ensures kept { map settled indexes.new ≡ map settled indexes.old }
     ensures counted { OnOk result (steps.new ≡ steps.old + sum_by (λ kept. count_came past.now kept.type_index) indexes.old) }
+    ensures bounded { (steps.old ≤ steps.new) × (steps.new ≤ steps.old + sum_by (λ kept. count_came past.now kept.type_index) indexes.old) }
     ensures refused { OnErr result (indexes.new ≡ map settled indexes.old) }
 {
     let rows = Coming::new(model, states, past);
@@ -61,6 +62,7 @@ fn reserve_each<L: Ledger>(
     ensures reserved { OnOk result (All (IsReserved rows.now.schemas rows.now.table) indexes.new) }
     ensures kept { map settled indexes.new ≡ map settled indexes.old }
     ensures counted { OnOk result (steps.new ≡ steps.old + sum_by (λ kept. count_came past.now kept.type_index) indexes.old) }
+    ensures bounded { (steps.old ≤ steps.new) × (steps.new ≤ steps.old + sum_by (λ kept. count_came past.now kept.type_index) indexes.old) }
 {
     for place in 0..indexes.len() {
         reserve(&mut indexes[place], rows, past, steps)?;
@@ -80,6 +82,7 @@ fn reserve<L: Ledger>(
     ensures reserved { OnOk result (IsReserved rows.now.schemas rows.now.table index.new) }
     ensures kept { settled index.new ≡ settled index.old }
     ensures counted { OnOk result (steps.new ≡ steps.old + count_came past.now index.old.type_index) }
+    ensures bounded { (steps.old ≤ steps.new) × (steps.new ≤ steps.old + count_came past.now index.old.type_index) }
 {
     let part = part_at(past, index.type_index());
     index.reserve(rows, part.gone(), part.came(), steps)

@@ -11,4 +11,4 @@ mod stand;
 mod step;
 
 pub use consumer::Consumer;
-pub use fault::{IndexFault, TakeFault};
+pub use fault::IndexFault;

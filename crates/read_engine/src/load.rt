@@ -1,23 +1,21 @@
 //! Loading the state of a snapshot.
-ghost use Rattle.std.specs.Prelude.{◌≡◌, ◌≤◌, Err, All, IfSome, length, map, replicate};
+ghost use Rattle.std.specs.Prelude.{◌≡◌, ◌≤◌, Err, All, IfErr, IfSome, length, map, replicate};
 ghost use Rattle.hol_io.specs.declared.name.BlobName.TheVariants.{Snapshot};
 ghost use Rattle.hol_io.specs.Causes.{Rose};
 ghost use Rattle.hol_io.specs.Store.{told};
 ghost use Rattle.schema_model.specs.Model.{IsModel};
 ghost use Rattle.type_state.specs.State.{IsLaidOut};
 ghost use Rattle.type_state.specs.Views.{next_halves};
-ghost use Rattle.blob_frame.specs.declared.fault.BlobFault.TheVariants.{Store as StoreFailed};
 ghost use Rattle.snapshot_blob.specs.Body.{IsWholeBody};
+ghost use Rattle.snapshot_blob.specs.Snapshot.{IsSnapshotFault};
 ghost use Rattle.state_moves.specs.Past.{no_part};
 ghost use Rattle.state_moves.specs.Halves.{current_halves};
-ghost use Rattle.read_engine.specs.Taking.{TellsStand, body_fault_of, loaded_position};
+ghost use Rattle.read_engine.specs.Taking.{TellsStand, loaded_position};
 
-use crate::TakeFault;
 use crate::stand::Stand;
-use blob_cursor::opened;
 use blob_frame::BlobFault;
 use hol_io::{BlobName, BlobStore};
-use snapshot_blob::{Body, laws, read_body};
+use snapshot_blob::{Body, Loaded, read_snapshot};
 use state_moves::{PastParts, flip_all, no_past};
 use std::alloc::Global;
 use type_state::{TypeState, TypeStates};
@@ -27,23 +25,22 @@ pub(crate) fn load<S: BlobStore>(
     alloc: Global,
     store: &mut S,
     version: u64,
-) -> Result<Stand, TakeFault>
+) -> Result<Stand, BlobFault>
     ensures tells { IfSome (S.seen store.old).held (λ held. TellsStand (Snapshot version) (told (S.seen store.old).held (Snapshot version)) result) }
-    ensures cause { result ≡ Err (TakeFault.Blob StoreFailed) → Rose (S.seen store.old).faults (S.seen store.new).faults }
+    ensures kind { IfErr result (IsSnapshotFault (Snapshot version)) }
+    ensures cause { result ≡ Err BlobFault.Store → Rose (S.seen store.old).faults (S.seen store.new).faults }
     ensures kept { (S.seen store.new).held ≡ (S.seen store.old).held }
     ensures later { (S.seen store.old).faults ≤ (S.seen store.new).faults }
     ensures unput { (S.seen store.new).puts ≡ (S.seen store.old).puts }
 {
-    laws::header_and_body();
     let name = BlobName::Snapshot(version);
-    let (header, mut cursor) = opened(alloc, store, &name)?;
-    match read_body(alloc, &mut cursor, store) {
-        Ok(body) => {
-            let past = no_past(alloc, body.model.len())?;
-            Ok(stand_of(alloc, header.destination, body, past))
-        }
-        Err(fault) => Err(body_fault(fault)),
-    }
+    let Loaded {
+        header,
+        model,
+        states,
+    } = read_snapshot(alloc, store, &name)?;
+    let past = no_past(alloc, model.len())?;
+    Ok(stand_of(alloc, header.destination, Body { model, states }, past))
 }
 
 // The state of a body, with this tag; nothing changed of its types, and no index is kept.
@@ -61,17 +58,6 @@ fn stand_of(alloc: Global, tag: i64, body: Body, past: PastParts) -> Stand
         states,
         past,
         indexes: Vec::new(alloc),
-    }
-}
-
-// The fault for one of a blob whose header can be read. Which fault it is of the blob's body is not told.
-pub(crate) fn body_fault(fault: BlobFault) -> TakeFault
-    ensures { result ≡ body_fault_of fault }
-{
-    match fault {
-        BlobFault::Store => TakeFault::Blob(BlobFault::Store),
-        BlobFault::Memory => TakeFault::Blob(BlobFault::Memory),
-        _ => TakeFault::Body,
     }
 }
 

@@ -1,29 +1,27 @@
 //! A step of a consumer: the rows of its state are moved by the parts of a delta.
-ghost use Rattle.std.specs.Prelude.{◌≡◌, ◌≢◌, ◌+◌, ◌≤◌, All, Err, IfErr, IfOk, IfSome, OnErr, OnOk, Some, map, sum_by};
+ghost use Rattle.std.specs.Prelude.{◌≡◌, ◌≢◌, ◌+◌, ◌≤◌, ◌⊎◌, All, Err, IfErr, IfOk, IfSome, OnErr, OnOk, Some, map, sum_by};
 ghost use Rattle.hol_io.specs.Causes.{Rose};
 ghost use Rattle.hol_io.specs.Store.{told};
-ghost use Rattle.blob_frame.specs.declared.fault.BlobFault.TheVariants.{Memory as MemoryRefused, Store as StoreFailed};
 ghost use Rattle.row_model.specs.Table.{IsClosed, IsTableOf};
 ghost use Rattle.type_state.specs.Views.{table_of};
 ghost use Rattle.delta_blob.specs.Reads.{IsWholePart};
+ghost use Rattle.state_moves.specs.Halves.{current_halves};
+ghost use Rattle.state_moves.specs.Moving.{RefusesParts, StaysCurrent, TellsRefusal};
+ghost use Rattle.read_engine.specs.Faults.{step_fault};
 ghost use Rattle.read_engine.specs.Indexes.{CountsStep};
 ghost use Rattle.read_engine.specs.Kept.{IsKept, count_came, index_kept};
-ghost use Rattle.state_moves.specs.Moving.{RefusesParts, StaysCurrent};
-ghost use Rattle.read_engine.specs.Taken.{Refuses, TakesParts, TellsTaken};
-ghost use Rattle.state_moves.specs.Halves.{current_halves};
-ghost use Rattle.read_engine.specs.Taking.{TellsStep};
+ghost use Rattle.read_engine.specs.Position.{IsPosition};
+ghost use Rattle.read_engine.specs.Taken.{CountsTaken, ReadsSome, TakesParts, TellsTaken};
+ghost use Rattle.read_engine.specs.Taking.{CountsPart, IsStepFault, TellsStep};
 
-use crate::TakeFault;
 use crate::keeping::{reserve_all, update_all};
-use crate::load::body_fault;
 use crate::stand::Stand;
-use blob_cursor::opened;
 use blob_frame::BlobFault;
-use delta_blob::{PatchPart, read_patch};
+use delta_blob::{PatchPart, read_delta};
 use hol_io::{BlobName, BlobStore, Steps};
 use key_index::KeyIndex;
 use schema_model::Model;
-use state_moves::{PastParts, flip_named, move_state};
+use state_moves::{MoveFault, PastParts, flip_named, move_state};
 use std::alloc::Global;
 use std::sync::ledger::Ledger;
 use type_state::TypeState;
@@ -35,27 +33,38 @@ pub(crate) fn step<S: BlobStore, L: Ledger>(
     store: &mut S,
     name: &BlobName,
     steps: &mut Steps<L>,
-) -> Result<(), TakeFault>
+) -> Result<(), BlobFault>
     ensures tells { IfSome (S.seen store.old).held
         (λ held. TellsStep name.now (told (S.seen store.old).held name.now) stand.old (Some stand.new) result) }
+    ensures position { IsPosition stand.old }
     ensures refused { OnErr result (stand.new ≡ stand.old) }
-    ensures cause { result ≡ Err (TakeFault.Blob StoreFailed) → Rose (S.seen store.old).faults (S.seen store.new).faults }
+    ensures kind { IfErr result (IsStepFault name.now stand.old.tag) }
+    ensures cause { result ≡ Err BlobFault.Store → Rose (S.seen store.old).faults (S.seen store.new).faults }
     ensures kept { (S.seen store.new).held ≡ (S.seen store.old).held }
     ensures later { (S.seen store.old).faults ≤ (S.seen store.new).faults }
     ensures unput { (S.seen store.new).puts ≡ (S.seen store.old).puts }
     ensures counted { OnOk result (CountsStep stand.new steps.old steps.new) }
-    ensures uncounted { IfErr result (λ fault. fault ≢ TakeFault.Blob MemoryRefused → steps.new ≡ steps.old) }
+    ensures uncounted { IfErr result (λ fault. fault ≢ BlobFault.Memory → steps.new ≡ steps.old) }
+    ensures part { OnErr result (IfSome (S.seen store.old).held
+        (λ held. (steps.new ≡ steps.old) ⊎ CountsPart (told (S.seen store.old).held name.now) stand.old steps.old steps.new)) }
 {
     type_rows::laws::one_move();
-    let (header, mut cursor) = opened(alloc, store, name)?;
-    let current = stand.tag;
-    if header.origin != current {
-        let fault = BlobFault::OtherOrigin(header.origin, current);
-        return Err(TakeFault::Blob(fault));
+    let patch = read_delta(alloc, store, name, stand.tag, &stand.model)?;
+    let parts = patch.parts.as_slice();
+    match take(alloc, stand, parts, patch.destination, steps) {
+        Ok(()) => Ok(()),
+        Err(fault) => Err(fault_of(patch.length, fault)),
     }
-    match read_patch(alloc, &mut cursor, store, &stand.model) {
-        Ok(parts) => take(alloc, stand, parts.as_slice(), header.destination, steps),
-        Err(fault) => Err(body_fault(fault)),
+}
+
+// The fault of a step along a blob of this length whose parts do not move the state.
+fn fault_of(length: u64, fault: MoveFault) -> BlobFault
+    ensures { result ≡ step_fault length fault }
+{
+    match fault {
+        MoveFault::Refused(reason) => BlobFault::Bad(length, reason),
+        MoveFault::Large(limit) => BlobFault::Large(limit),
+        MoveFault::Memory => BlobFault::Memory,
     }
 }
 
@@ -66,12 +75,13 @@ fn take<L: Ledger>(
     parts: &[PatchPart],
     tag: i64,
     steps: &mut Steps<L>,
-) -> Result<(), TakeFault>
+) -> Result<(), MoveFault>
     requires { All (IsWholePart stand.old.schemas) parts.now }
     ensures tells { TellsTaken tag parts.now stand.old stand.new result }
     ensures refused { OnErr result (stand.new ≡ stand.old) }
     ensures counted { OnOk result (CountsStep stand.new steps.old steps.new) }
-    ensures uncounted { IfErr result (λ fault. fault ≢ TakeFault.Blob MemoryRefused → steps.new ≡ steps.old) }
+    ensures uncounted { IfErr result (λ fault. fault ≢ MoveFault.Memory → steps.new ≡ steps.old) }
+    ensures part { OnErr result ((steps.new ≡ steps.old) ⊎ CountsTaken tag parts.now stand.old steps.old steps.new) }
 {
     let states = stand.states.as_mut_slice();
     let indexes = stand.indexes.as_mut_slice();
@@ -90,7 +100,7 @@ fn take_parts<L: Ledger>(
     parts: &[PatchPart],
     indexes: &mut [KeyIndex],
     steps: &mut Steps<L>,
-) -> Result<PastParts, TakeFault>
+) -> Result<PastParts, MoveFault>
     requires named { map (λ state. state.schema) states.old ≡ model.now }
     requires fits { IsTableOf model.now (table_of (current_halves states.old)) }
     requires closed { IsClosed model.now (table_of (current_halves states.old)) }
@@ -102,8 +112,9 @@ fn take_parts<L: Ledger>(
     ensures counted { IfOk result (λ past. steps.new ≡ steps.old + sum_by (λ kept. count_came past kept.type_index) indexes.old) }
     ensures stays { OnErr result (StaysCurrent states.old states.new) }
     ensures unmoved { OnErr result (indexes.new ≡ indexes.old) }
-    ensures refused { IfErr result (Refuses (RefusesParts model.now parts.now states.old)) }
-    ensures uncounted { IfErr result (λ fault. fault ≢ TakeFault.Blob MemoryRefused → steps.new ≡ steps.old) }
+    ensures refused { IfErr result (TellsRefusal (RefusesParts model.now parts.now states.old)) }
+    ensures uncounted { IfErr result (λ fault. fault ≢ MoveFault.Memory → steps.new ≡ steps.old) }
+    ensures part { OnErr result ((steps.new ≡ steps.old) ⊎ ReadsSome model.now parts.now states.old indexes.old steps.old steps.new) }
 {
     key_index::laws::kept_key();
     let past = move_state(alloc, model, states, parts)?;

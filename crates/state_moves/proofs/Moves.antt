@@ -16,7 +16,7 @@ use Rattle.type_rows.specs.Patches.{IsMovedBy, IsReadablePatch}
 use Rattle.type_state.specs.State.{Half, State}
 use Rattle.delta_blob.specs.declared.patch.PatchPart.{PatchPart}
 use Rattle.state_moves.specs.declared.fault.MoveFault.{MoveFault}
-use Rattle.state_moves.specs.declared.fault.MoveFault.TheVariants.{Memory, Refused}
+use Rattle.state_moves.specs.declared.fault.MoveFault.TheVariants.{Large, Memory, Refused}
 use Rattle.state_moves.specs.Past.{PastPart}
 use Rattle.state_moves.specs.Moving.{AreMoved, IsReadableIn, IsStuck, MovesState, StaysCurrent, TellsRefusal, TypeIs}
 use Rattle.state_moves.proofs.PastRows.{current_bound}
@@ -163,7 +163,8 @@ module _ (initial states : List State) (parts : List PatchPart) (i : ℕ) (part 
 -- ---- refusals
 
 pub refuses_as : (P Q : Type 0) (e : MoveFault) → (P → Q) → TellsRefusal P e → TellsRefusal Q e
-refuses_as P Q Refused gives is = gives is
+refuses_as P Q (Refused why) gives is = gives is
+refuses_as P Q (Large limit) gives (of, is) = (of, gives is)
 refuses_as P Q Memory gives is = tt
 
 pub refused_exit : {T : Type 0} (P : Type 0) (r : Result T MoveFault) (e : MoveFault) → IsErrAnd r (λ f. f ≡ e) → TellsRefusal P e → IfErr r (TellsRefusal P)

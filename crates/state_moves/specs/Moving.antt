@@ -3,6 +3,8 @@
 use Rattle.std.specs.Prelude.{◌≡◌, ◌<◌, ◌-◌, ◌^◌, ℕ, List, [], ◌∷◌, Some, true, if◌then◌else◌, All, length, map, slice_get}
 use Rattle.std.specs.List.{AllZip}
 use Rattle.std.specs.FinMap.{get}
+use Rattle.schema_model.specs.declared.limit.Limit.{Limit}
+use Rattle.schema_model.specs.declared.limit.Limit.TheVariants.{Bytes, Words}
 use Rattle.schema_model.specs.declared.schema.Schema.{Schema}
 use Rattle.row_model.specs.Table.{RowMap, IsClosed, IsTableOf}
 use Rattle.type_rows.specs.declared.patch.PatchSection.{PatchSection}
@@ -11,7 +13,7 @@ use Rattle.type_state.specs.State.{Half, State, IsLaidOut}
 use Rattle.type_state.specs.Views.{table_of}
 use Rattle.delta_blob.specs.declared.patch.PatchPart.{PatchPart}
 use Rattle.state_moves.specs.declared.fault.MoveFault.{MoveFault}
-use Rattle.state_moves.specs.declared.fault.MoveFault.TheVariants.{Memory, Refused}
+use Rattle.state_moves.specs.declared.fault.MoveFault.TheVariants.{Large, Memory, Refused}
 use Rattle.state_moves.specs.Halves.{current_halves}
 use Rattle.state_moves.specs.Past.{FitsPast, PastPart, no_part, table_before}
 
@@ -92,9 +94,16 @@ pub record MovesParts (schemas : List Schema) (parts : List PatchPart) (before s
   pub fits : AllZip FitsPast (table_of (coming_halves states past)) past
   pub was : table_before (table_of (coming_halves states past)) past ≡ table_of (current_halves before)
 
+-- The limits that a move may pass.
+abbrev pub IsMoveLimit : Limit → Type 0
+IsMoveLimit Words = Unit {0}
+IsMoveLimit Bytes = Unit {0}
+IsMoveLimit _ = ⊥
+
 -- What a fault of a move tells: want of memory nothing, and a refusal this.
 abbrev pub TellsRefusal : Type 0 → MoveFault → Type 0
-TellsRefusal Fact Refused = Fact
+TellsRefusal Fact (Refused why) = Fact
+TellsRefusal Fact (Large limit) = IsMoveLimit limit × Fact
 TellsRefusal Fact Memory = Unit {0}
 
 -- Why the parts are refused: the rows of a type cannot be moved, or the rows that come are not closed.

@@ -14,7 +14,7 @@ use crate::MoveFault;
 use crate::coming::Coming;
 use crate::past::{PastPart, part_at};
 use row_model::{Rows, dangling_in, is_closed_at};
-use schema_model::{Field, FieldKind, Model, Name, Shape};
+use schema_model::{Field, FieldKind, Model, Name, Reason, Shape};
 use std::alloc::{AllocError, Global};
 use type_state::TypeState;
 
@@ -37,7 +37,7 @@ pub(crate) fn check_closed(
     };
     for type_index in 0..model.len() {
         if !is_type_closed(alloc, &rows, past, type_index)? {
-            return Err(MoveFault::Refused);
+            return Err(MoveFault::Refused(Reason::Dangling));
         }
     }
     Ok(())

@@ -12,12 +12,13 @@ use crate::past::{PastPart, PastParts, no_past};
 use delta_blob::PatchPart;
 use hol_varint::{List, Ordinals};
 use row_model::Row;
+use schema_model::Limit;
 use std::alloc::{AllocError, Global};
 use type_rows::{PatchSection, RowFault};
 use type_state::TypeState;
 
 /// Moves the types, of which there are so many, by the parts of a patch, each into its next half, and answers what is to be kept of each type. The current halves stay as
-/// they are. `Refused` comes where a part moves the rows of its type to no rows.
+/// they are. `Refused` and `Large` come where a part moves the rows of its type to no rows.
 pub(crate) fn move_types(
     alloc: Global,
     count: u32,
@@ -71,8 +72,9 @@ fn move_type(
     match state.move_next(section) {
         Ok(()) => Ok(kept_part(alloc, state, section)?),
         Err(RowFault::Memory) => Err(MoveFault::Memory),
-        Err(RowFault::At(_, _)) => Err(MoveFault::Refused),
-        Err(RowFault::Limit(_)) => Err(MoveFault::Refused),
+        Err(RowFault::At(reason, _)) => Err(MoveFault::Refused(reason)),
+        Err(RowFault::Limit(Limit::Words)) => Err(MoveFault::Large(Limit::Words)),
+        Err(RowFault::Limit(_)) => Err(MoveFault::Large(Limit::Bytes)),
     }
 }
 

@@ -19,7 +19,8 @@ use type_state::TypeState;
 /// Moves the types of a model by the parts of a patch, each into its next half, and answers what is to be kept of each type. The current halves
 /// stay as they are; what comes is made current by `flip_named`.
 ///
-/// `Refused` comes only where a part moves the rows of its type to no rows, or where a row that comes names an ordinal that is not live.
+/// `Refused` comes only where a part moves the rows of its type to no rows, or where a row that comes names an ordinal that is not live, and
+/// `Large`, with the limit on words or on bytes, only where a part moves them to no rows.
 pub fn move_state(
     alloc: Global,
     model: &Model,

@@ -1,25 +1,18 @@
-use Rattle.std.proofs.Common.{◌≡◌, ℤ, Ok, Err, ap, ◌∙◌, w64, of_z, to_z, arith}
+use Rattle.std.proofs.Common.{◌≡◌, ℤ, ap, ◌∙◌, w64, of_z, to_z, arith, rules}
 use Rattle.std.proofs.lemmas.Int.{ints, to_z-of_z}
 use Rattle.hol_io.specs.declared.name.BlobName.TheVariants.{Snapshot}
-use Rattle.blob_frame.specs.declared.header.Header.{Header}
-use Rattle.blob_cursor.specs.Scene.{Place}
+use Rattle.snapshot_blob.specs.declared.loaded.Loaded.{Loaded}
 use Rattle.read_engine.specs.Taking.{loaded_position}
-use Rattle.read_engine.proofs.Loads.{is_read, body_told, load_told}
+use Rattle.read_engine.proofs.Loads.{loaded_told, refused_told}
 use Rattle.read_engine.proofs.load.load.Goals as goal
 
-pub returns-in-Ok-clause-tells : goal.returns-in-Ok-clause-tells
-returns-in-Ok-clause-tells g c =
-    let held = (g.S.BlobStore.seen c.args.store.now).held in
-    let opened : Header × Place = (c.in_ok-header.header, c.in_ok-header.cursor) in
-    let same : to_z w64 (of_z w64 c.in_ok-header.header.destination) ≡ c.in_ok-header.header.destination = grind (arith, ints, to_z-of_z) in
-    load_told (Snapshot c.args.version) c.header_and_body.ensures.accepted held opened c.in-Ok.body c.stand_of.result
-    (is_read (Snapshot c.args.version) held (g.S.BlobStore.seen c.opened.new.store).held opened (Ok c.in-Ok.body) c.in_ok-header.ensures.kept c.in_ok-header.ensures.named c.in_ok-header.ensures.tells c.in-Ok.ensures.tells)
-    (c.stand_of.ensures ∙ ap (λ (tag : ℤ). loaded_position tag c.in-Ok.body) same)
+pub returns-in_err-header-clause-tells : goal.returns-in_err-header-clause-tells
+returns-in_err-header-clause-tells g c = refused_told (Snapshot c.args.version) (g.S.BlobStore.seen c.args.store.now).held c.in_err-header.field-0.0 _ (search rules) c.in_err-header.ensures.tells
 
 pub returns-clause-tells : goal.returns-clause-tells
 returns-clause-tells g c =
-    let held = (g.S.BlobStore.seen c.args.store.now).held in
-    let opened : Header × Place = (c.in_ok-header.header, c.in_ok-header.cursor) in
-    body_told (Snapshot c.args.version) c.header_and_body.ensures.refused held opened c.in-Err.fault c.body_fault.result
-    (is_read (Snapshot c.args.version) held (g.S.BlobStore.seen c.opened.new.store).held opened (Err c.in-Err.fault) c.in_ok-header.ensures.kept c.in_ok-header.ensures.named c.in_ok-header.ensures.tells c.in-Err.ensures.tells)
-    c.body_fault.ensures
+    let loaded : Loaded = c.in_ok-header.field-0 in
+    let same : to_z w64 (of_z w64 loaded.header.destination) ≡ loaded.header.destination = grind (arith, ints, to_z-of_z) in
+    loaded_told (Snapshot c.args.version) (g.S.BlobStore.seen c.args.store.now).held loaded c.stand_of.result
+    (c.stand_of.ensures ∙ ap (λ (tag : ℤ). loaded_position tag (record { model = loaded.model; states = loaded.states })) same)
+    c.in_ok-header.ensures.tells

@@ -1,4 +1,4 @@
-use Rattle.std.proofs.Common.{◌≡◌, ◌+◌, ◌∙◌, ℤ, List, map, w64, of_z, to_z, ap, sym, subst, arith}
+use Rattle.std.proofs.Common.{◌≡◌, ◌+◌, ◌∙◌, ◌⊎◌, ℤ, List, map, w64, of_z, to_z, ap, sym, subst, arith}
 use Rattle.std.specs.Vec.{with_items}
 use Rattle.std.proofs.lemmas.List.{with_items_is}
 use Rattle.std.specs.Prelude.{All, sum_by}
@@ -11,11 +11,11 @@ use Rattle.delta_blob.specs.Reads.{IsWholePart}
 use Rattle.read_engine.specs.Indexes.{CountsStep}
 use Rattle.read_engine.specs.Kept.{count_came, index_kept}
 use Rattle.state_moves.specs.Moving.{StaysCurrent}
-use Rattle.read_engine.specs.Taken.{IsTaken, TakesParts}
+use Rattle.read_engine.specs.Taken.{IsTaken, ReadsSome, TakesParts}
 use Rattle.read_engine.specs.Position.{Position}
 use Rattle.state_moves.specs.Halves.{current_halves}
 use Rattle.read_engine.specs.Standing.{IsStanding, position_of}
-use Rattle.read_engine.proofs.Taken.{counts_step, is_taken, stands_after, stands_still}
+use Rattle.read_engine.proofs.Taken.{counts_step, is_taken, on_err, part_counted, stands_after, stands_still}
 use Rattle.read_engine.proofs.step.take.Goals as goal
 
 pub take_parts-requires-clause-whole : goal.take_parts-requires-clause-whole
@@ -72,3 +72,11 @@ returns-clause-counted g c =
     (subst (λ (xs : List Indexed). CountsStep (position_of c.args.tag c.stand.inside.model c.take_parts.new.states c.in_ok-past.past xs) c.args.steps.now c.take_parts.new.steps) (sym indexes)
     (counts_step c.args.tag c.stand.inside.tag c.stand.inside.model c.args.parts.now c.stand.inside.states.items c.take_parts.new.states c.stand.inside.past c.in_ok-past.past c.stand.inside.indexes.items c.take_parts.new.indexes
     c.stand.invariant takes same c.in_ok-past.ensures.follow c.args.steps.now c.take_parts.new.steps rose)))
+
+pub returns-in_err-past-clause-part : goal.returns-in_err-past-clause-part
+returns-in_err-past-clause-part g c =
+    on_err c.from_residual.result _
+    (part_counted c.args.tag c.stand.inside.tag c.stand.inside.model c.args.parts.now c.stand.inside.states.items c.stand.inside.past c.stand.inside.indexes.items c.stand.invariant c.args.steps.now c.take_parts.new.steps
+    (subst (λ (xs : List State). (c.take_parts.new.steps ≡ c.args.steps.now) ⊎ ReadsSome c.stand.inside.model c.args.parts.now xs c.stand.inside.indexes.items c.args.steps.now c.take_parts.new.steps) c.as_mut_slice-states.ensures.value
+    (subst (λ (xs : List Indexed). (c.take_parts.new.steps ≡ c.args.steps.now) ⊎ ReadsSome c.stand.inside.model c.args.parts.now c.as_mut_slice-states.result.now xs c.args.steps.now c.take_parts.new.steps) c.as_mut_slice-indexes.ensures.value
+    c.in_err-past.ensures.part)) c.args.stand.now c.stand.view_is)

@@ -1,12 +1,14 @@
-use Rattle.std.proofs.Common.{ap, map, sym, subst, ◌∙◌, List}
-use Rattle.std.specs.Prelude.{All}
+use Rattle.std.proofs.Common.{◌≤◌, ◌+◌, inr, ap, map, sym, subst, ◌∙◌, List}
+use Rattle.std.specs.Prelude.{All, sum_by}
 use Rattle.type_state.specs.State.{Half}
 use Rattle.type_state.specs.Views.{table_of}
 use Rattle.state_moves.specs.Halves.{current_halves}
 use Rattle.state_moves.specs.Moving.{MovesParts, RefusesParts, coming_halves}
-use Rattle.read_engine.specs.Kept.{IsKept, index_kept}
+use Rattle.state_moves.specs.Past.{PastPart}
+use Rattle.read_engine.specs.Kept.{IsKept, count_came, index_kept}
 use Rattle.read_engine.proofs.Follow.{all_moved, all_reserved, all_settled, same_indexes}
-use Rattle.read_engine.proofs.Taken.{all_ready, on_err, refused_exit}
+use Rattle.state_moves.proofs.Moves.{refused_exit}
+use Rattle.read_engine.proofs.Taken.{all_ready, on_err}
 use Rattle.read_engine.proofs.step.take_parts.Goals as goal
 
 pub returns-in_err-past-clause-refused : goal.returns-in_err-past-clause-refused
@@ -40,10 +42,7 @@ update_all-requires g c = all_reserved c.args.model.now (table_of (coming_halves
 pub returns-clause-takes : goal.returns-clause-takes
 returns-clause-takes g c = record {
   mid = c.move_state.new.states;
-  moved = c.in_ok-past.ensures.moves.moved;
-  stays = c.in_ok-past.ensures.moves.stays;
-  fits = c.in_ok-past.ensures.moves.coming.fits;
-  closed = c.in_ok-past.ensures.moves.closed;
+  moves = c.in_ok-past.ensures.moves;
   halves = c.flip_named.ensures.halves ∙ ap (coming_halves c.move_state.new.states) c.as_slice-kept.ensures;
   same = c.flip_named.ensures.schemas ∙ c.in_ok-past.ensures.moves.stays.schemas;
 }
@@ -57,3 +56,12 @@ returns-clause-follow g c =
 
 pub returns-clause-same : goal.returns-clause-same
 returns-clause-same g c = ap (map index_kept) c.update_all.ensures ∙ same_indexes c.reserve_all.new.indexes c.args.indexes.now c.in_ok-reserve_all.ensures.kept
+
+pub returns-in_err-reserve_all-clause-part : goal.returns-in_err-reserve_all-clause-part
+returns-in_err-reserve_all-clause-part g c = on_err c.from_residual-in_err-reserve_all.result _ (inr record {
+  mid = c.move_state.new.states;
+  past = c.in_ok-past.past;
+  moves = c.in_ok-past.ensures.moves;
+  later = c.in_err-reserve_all.ensures.bounded.0;
+  most = subst (λ (past : List PastPart). c.reserve_all.new.steps ≤ c.args.steps.now + sum_by (λ kept. count_came past kept.type_index) c.args.indexes.now) c.as_slice-kept.ensures c.in_err-reserve_all.ensures.bounded.1;
+})
