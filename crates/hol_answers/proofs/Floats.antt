@@ -7,11 +7,11 @@ use Rattle.serde_json.specs.declared.value.Value.{Value}
 use Rattle.serde_json.specs.Written.{has_float, items_have_float, compact_text}
 use Rattle.json_rows.proofs.Printed.{items_have_float-items_of, integer_has_none}
 use Rattle.hol_answers.specs.declared.reply.Reply.{Reply}
-use Rattle.hol_answers.specs.declared.reply.Reply.TheVariants.{Head, Model, Cycle, Load, Step, Index, Get, Find, Live, Row, Has, At, Past, Refused}
+use Rattle.hol_answers.specs.declared.reply.Reply.TheVariants.{Head, Cycle, Load, Step, Get, Find, Live, Row, At, Past, Refused}
 use Rattle.hol_answers.specs.declared.refusal.ItemFault.{ItemFault}
 use Rattle.hol_answers.specs.declared.refusal.Refusal.{Refusal}
 use Rattle.hol_answers.specs.declared.refusal.RowPlace.{RowPlace}
-use Rattle.hol_answers.specs.declared.refusal.Refusal.TheVariants.{BadOrder, LineTooLong, BadModel, NoModel, ModelFixed, BadRecord, BadVersion, TagUsed, NoBlob, BadBlob, OtherOrigin, NoState, NoType, NoRow, BadPath, NoMatch, Ambiguous, Mismatch, TooLarge, DuplicateRow, OtherModel, NotLast, NoIndex, WrongKind, BadKey, NotYet, BadBody}
+use Rattle.hol_answers.specs.declared.refusal.Refusal.TheVariants.{BadBlob, Mismatch, OtherOrigin, TagUsed}
 use Rattle.schema_model.specs.declared.schema.name.Name.{Name}
 use Rattle.blob_frame.specs.declared.header.Header.{Header}
 use Rattle.hol_orders.specs.Parts.{whole}
@@ -35,33 +35,11 @@ has_float-bad_blob_data fault None = refl
 has_float-bad_blob_data fault (Some row) = refl
 
 has_float-refusal_data : (refusal : Refusal) → has_float (refusal_data refusal) ≡ false
-has_float-refusal_data BadOrder = refl
-has_float-refusal_data LineTooLong = refl
-has_float-refusal_data (BadModel rule type_name) = refl
-has_float-refusal_data NoModel = refl
-has_float-refusal_data ModelFixed = refl
-has_float-refusal_data (BadRecord fault) = refl
-has_float-refusal_data (BadVersion last) = refl
 has_float-refusal_data (TagUsed tag) = rw (integer_has_none tag) refl
-has_float-refusal_data (NoBlob blob) = refl
 has_float-refusal_data (BadBlob fault) = has_float-bad_blob_data fault fault.row
 has_float-refusal_data (OtherOrigin fault) = rw (integer_has_none fault.found, integer_has_none fault.current) refl
-has_float-refusal_data NoState = refl
-has_float-refusal_data (NoType name) = refl
-has_float-refusal_data (NoRow row) = refl
-has_float-refusal_data (BadPath path) = refl
-has_float-refusal_data NoMatch = refl
-has_float-refusal_data (Ambiguous first second) = refl
 has_float-refusal_data (Mismatch difference) = rw (has_float-text_or_null difference.type_name, has_float-number_or_null difference.ordinal) refl
-has_float-refusal_data (TooLarge limit) = refl
-has_float-refusal_data (DuplicateRow rows) = refl
-has_float-refusal_data (OtherModel blob type_name) = refl
-has_float-refusal_data (NotLast announced) = refl
-has_float-refusal_data NoIndex = refl
-has_float-refusal_data (WrongKind name) = refl
-has_float-refusal_data BadKey = refl
-has_float-refusal_data NotYet = refl
-has_float-refusal_data (BadBody blob) = refl
+has_float-refusal_data _ = refl
 
 -- the other answers have none: those that hold no JSON value
 pub has_float-head_data : (header : Header) → has_float (head_data header) ≡ false
@@ -95,19 +73,17 @@ IsBare _ = Unit {0}
 
 has_float-reply_data : (reply : Reply) → IsBare reply → has_float (reply_data reply) ≡ false
 has_float-reply_data (Head header) is = has_float-head_data header
-has_float-reply_data (Model types) is = refl
 has_float-reply_data (Cycle changed published version) is = has_float-cycle_data changed published version
 has_float-reply_data (Load tag) is = has_float-tag_data (codes "load") tag
 has_float-reply_data (Step tag) is = has_float-tag_data (codes "step") tag
-has_float-reply_data (Index keys) is = refl
 has_float-reply_data (Get ordinal row) is = absurd is
 has_float-reply_data (Find ordinals) is = has_float-ordinals_data (codes "find") ordinals
 has_float-reply_data (Live ordinals) is = has_float-ordinals_data (codes "live") ordinals
 has_float-reply_data (Row row) is = absurd is
-has_float-reply_data (Has there) is = refl
 has_float-reply_data (At value) is = has_float-at_data value
 has_float-reply_data (Past entries) is = absurd is
 has_float-reply_data (Refused refusal) is = has_float-refusal_data refusal
+has_float-reply_data _ is = refl
 
 pub plain_answer : {E : Type 0} (reply : Reply) (r : Result Value E) → IsBare reply → IfOk r (λ value. view value ≡ reply_data reply) → IfOk r IsPlain
 plain_answer reply (Ok value) bare is = ap has_float is ∙ has_float-reply_data reply bare

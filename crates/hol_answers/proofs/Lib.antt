@@ -1,4 +1,4 @@
 mod Floats
 mod Pasts
-pub mod ThirdBytes
+pub mod FirstNames
 mod Members

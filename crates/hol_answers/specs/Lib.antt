@@ -1,3 +1,4 @@
+pub mod BlobRefusal
 pub mod Marks
 pub mod Plain
 pub mod Reply

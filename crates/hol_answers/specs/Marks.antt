@@ -1,5 +1,5 @@
 -- What refusals have in common: a member `error`; and what their lines have.
-use Rattle.std.specs.Prelude.{◌≡◌, ◌⊎◌, ◌+◌, ◌*◌, ◌==◌, ℕ, List, [], ◌∷◌, codes, drop, Bool, true, false, if◌then◌else◌}
+use Rattle.std.specs.Prelude.{◌+◌, ◌*◌, ◌==◌, ℕ, List, [], ◌∷◌, codes, drop, Bool, true, false, if◌then◌else◌}
 use Rattle.serde_json.specs.Data.{Data, object, Members, no_members, member}
 
 -- the bytes of a text as one number

@@ -1,6 +1,7 @@
 //! Answers and refusals: the JSON object of each, and its line.
 #![tactic(auto)]
 
+mod faults;
 pub mod laws;
 mod line;
 mod member;
@@ -9,6 +10,7 @@ mod refusal;
 mod refusal_json;
 mod reply;
 
+pub use faults::{blob_refusal, body_refusal};
 pub use line::put_line;
 pub use member::{Content, object_of};
 pub use plain::PlainValue;

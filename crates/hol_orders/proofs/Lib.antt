@@ -6,3 +6,4 @@ mod OfKind
 mod Words
 mod Told
 mod Walks
+mod Spelled

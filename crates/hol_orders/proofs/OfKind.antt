@@ -1,22 +1,23 @@
 -- An order of a kind has the content of this kind, and no other.
-use Rattle.std.proofs.Common.{◌≡◌, ℕ, List, Result, Err, refl, ◌∙◌}
-use Rattle.std.specs.Prelude.{IsErrAnd, FitsSigned}
-use Rattle.std.specs.Int.{w64}
-use Rattle.serde_json.specs.Data.{Data, string}
+use Rattle.std.proofs.Common.{◌≡◌, ◌↔◌, ℕ, List, Bool, true, false, Result, Ok, Err, refl, sym, ap, subst, ◌∙◌}
+use Rattle.std.specs.Prelude.{IsErrAnd, IsTrue}
+use Rattle.serde_json.specs.Data.{Data, boolean, string}
 use Rattle.serde_json.specs.View.{view}
 use Rattle.hol_io.specs.Name.{IsVersion}
 use Rattle.json_values.specs.SchemaJson.{AreSchemas}
 use Rattle.hol_orders.specs.declared.json.KeyValues.{KeyValues}
-use Rattle.hol_orders.specs.declared.json.NextState.{NextState}
+use Rattle.hol_orders.specs.declared.order.NextState.{NextState}
 use Rattle.hol_orders.specs.declared.json.Paths.{Paths}
 use Rattle.hol_orders.specs.declared.json.SchemaList.{SchemaList}
 use Rattle.hol_orders.specs.declared.kind.Kind.{Kind}
 use Rattle.hol_orders.specs.declared.order.Order.{Order}
-use Rattle.hol_orders.specs.declared.order.Order.TheVariants.{Model, Cycle, Step, Index, Get, Find, Row, Has, At}
+use Rattle.hol_orders.specs.declared.order.Order.TheVariants.{Model, Cycle, Step, Index, Get, Find, Row, Has, At, Stat}
 use Rattle.hol_orders.specs.declared.order.OrderFault.{OrderFault}
-use Rattle.hol_orders.specs.Order.{IsOfKind, content_of, IsOrdinal}
-use Rattle.hol_orders.specs.Parts.{whole, pair, triple, cycle_data}
-use Rattle.hol_orders.specs.Shapes.{Finds, ArePaths, IsArray, AreRecords}
+use Rattle.hol_orders.specs.declared.order.OrderFault.TheVariants.{BadOrder}
+use Rattle.hol_orders.specs.Kind.{IsNextState, shape}
+use Rattle.hol_orders.specs.Order.{IsOfKind, asked_of, content_of}
+use Rattle.hol_orders.specs.Parts.{whole, pair, triple, asked_state, state_asked}
+use Rattle.hol_orders.specs.Shapes.{Finds, ArePaths, IsArray, IsOrdinal, IsTruth}
 use Rattle.hol_orders.proofs.Missing.{no_whole}
 
 -- The content of each order of a kind spells such a thing.
@@ -30,12 +31,38 @@ none_of_kind : {T : Type 0} (Fits : T → Type 0) (spelled : T → Data) (kind :
 none_of_kind Fits spelled kind has json r fault is none =
     no_whole Fits spelled (IsOfKind kind) content_of json json r fault is (λ order of same. ((has order of).0, (has order of).1, (has order of).2 ∙ same)) none
 
+-- an order of a kind has what it asks for
+has_asked : (kind : Kind) → IsContent (shape kind).Fits (shape kind).spelled kind
+has_asked k order of =
+    subst (λ (j : Kind). (thing : (shape j).Asked) × (shape j).Fits thing × ((shape j).spelled thing ≡ content_of order)) of.1 (asked_of order, of.0, refl)
+
+pub none_asked : (kind : Kind) (json : Data) (r : Result Order OrderFault) (fault : OrderFault) → IsErrAnd r (λ e. e ≡ fault) →
+    Finds (shape kind).Fits (shape kind).spelled json (Err fault) → Finds (IsOfKind kind) content_of json r
+none_asked k json r fault is none = none_of_kind (shape k).Fits (shape k).spelled k (has_asked k) json r fault is none
+
+-- neither does `step` lead to where it leads from
+pub no_still : (from to : ℕ) (json : Data) → from ≡ to → pair (whole from) (whole to) ≡ json → Finds (IsOfKind Kind.Step) content_of json (Err BadOrder)
+no_still from to json same found (Step u v) of is = let first : u ≡ from = cc in let second : v ≡ to = cc in of.0.2 (first ∙ same ∙ sym second)
+no_still from to json same found _ of is = absurd cc
+
+-- the order `stat` has the value `true`, and no other
+truth_is : (json : Data) → IsTruth json → boolean true ≡ json
+truth_is (boolean b) is = ap boolean (sym is)
+truth_is _ is = absurd is
+
+pub stat_found : (json : Data) (truth : Bool) → IsTrue truth ↔ IsTruth json → truth ≡ true → Finds (IsOfKind Kind.Stat) content_of json (Ok Stat)
+stat_found json truth tells is = ((tt, refl), truth_is json (tells.0 (subst IsTrue (sym is) refl)))
+
+pub no_stat : (json : Data) (truth : Bool) → IsTrue truth ↔ IsTruth json → truth ≡ false → Finds (IsOfKind Kind.Stat) content_of json (Err BadOrder)
+no_stat json truth tells is Stat of same = let yes = tells.1 (subst IsTruth same refl) in absurd cc
+no_stat json truth tells is _ of same = absurd cc
+
 has_model : IsContent {T = SchemaList} (λ schemas. AreSchemas (view schemas.0)) (λ schemas. view schemas.0) Kind.Model
 has_model (Model schemas) is = (record { 0 = schemas }, is.0, refl)
 has_model _ is = absurd cc
 
-has_cycle : IsContent {T = NextState} (λ next. IsVersion next.version × FitsSigned w64 next.tag × AreRecords (view next.add)) (λ next. cycle_data next.version next.tag (view next.add)) Kind.Cycle
-has_cycle (Cycle version tag add) is = (record { version = version; tag = tag; add = add }, is.0, refl)
+has_cycle : IsContent {T = NextState} (λ next. IsNextState (asked_state next)) (λ next. state_asked (asked_state next)) Kind.Cycle
+has_cycle (Cycle next) is = (next, is.0, refl)
 has_cycle _ is = absurd cc
 
 has_step : IsContent {T = ℕ × ℕ} (λ both. IsVersion both.0 × IsVersion both.1) (λ both. pair (whole both.0) (whole both.1)) Kind.Step
@@ -71,8 +98,8 @@ pub no_model : (json : Data) (r : Result Order OrderFault) (fault : OrderFault) 
 no_model = none_of_kind {T = SchemaList} (λ schemas. AreSchemas (view schemas.0)) (λ schemas. view schemas.0) Kind.Model has_model
 
 pub no_cycle : (json : Data) (r : Result Order OrderFault) (fault : OrderFault) → IsErrAnd r (λ e. e ≡ fault) →
-    Finds {T = NextState} (λ next. IsVersion next.version × FitsSigned w64 next.tag × AreRecords (view next.add)) (λ next. cycle_data next.version next.tag (view next.add)) json (Err fault) → Finds (IsOfKind Kind.Cycle) content_of json r
-no_cycle = none_of_kind {T = NextState} (λ next. IsVersion next.version × FitsSigned w64 next.tag × AreRecords (view next.add)) (λ next. cycle_data next.version next.tag (view next.add)) Kind.Cycle has_cycle
+    Finds {T = NextState} (λ next. IsNextState (asked_state next)) (λ next. state_asked (asked_state next)) json (Err fault) → Finds (IsOfKind Kind.Cycle) content_of json r
+no_cycle = none_of_kind {T = NextState} (λ next. IsNextState (asked_state next)) (λ next. state_asked (asked_state next)) Kind.Cycle has_cycle
 
 pub no_step : (json : Data) (r : Result Order OrderFault) (fault : OrderFault) → IsErrAnd r (λ e. e ≡ fault) →
     Finds {T = ℕ × ℕ} (λ both. IsVersion both.0 × IsVersion both.1) (λ both. pair (whole both.0) (whole both.1)) json (Err fault) → Finds (IsOfKind Kind.Step) content_of json r

@@ -1,15 +1,14 @@
 -- Pairs, triples and what a cycle asks for: where a part is missing, so is the whole.
 use Rattle.std.proofs.Common.{◌≡◌, [], ◌∷◌, Result, Ok, Err, refl, sym, subst}
-use Rattle.std.specs.Prelude.{IsErrAnd, FitsSigned}
-use Rattle.std.specs.Int.{w64}
+use Rattle.std.specs.Prelude.{IsErrAnd}
 use Rattle.serde_json.specs.Data.{Data}
 use Rattle.serde_json.specs.View.{view}
-use Rattle.hol_io.specs.Name.{IsVersion}
-use Rattle.hol_orders.specs.declared.json.NextState.{NextState}
+use Rattle.hol_orders.specs.declared.order.NextState.{NextState}
 use Rattle.hol_orders.specs.declared.json.Records.{Records}
 use Rattle.hol_orders.specs.declared.order.OrderFault.{OrderFault}
 use Rattle.hol_orders.specs.declared.order.OrderFault.TheVariants.{BadOrder, Memory}
-use Rattle.hol_orders.specs.Parts.{pair, triple, state_data, cycle_data}
+use Rattle.hol_orders.specs.Kind.{IsNextState}
+use Rattle.hol_orders.specs.Parts.{pair, triple, state_data, asked_state, state_asked}
 use Rattle.hol_orders.specs.Shapes.{Finds, AreRecords}
 use Rattle.hol_orders.specs.Taken.{TellsItems, TellsThree}
 use Rattle.hol_orders.proofs.Missing.{no_whole}
@@ -58,11 +57,11 @@ no_third FitsA FitsB FitsC spelled_a spelled_b spelled_c json r fault is x y z t
 -- what a cycle asks for has an object of arrays
 pub no_records : (json add tag version : Data) (r : Result NextState OrderFault) (fault : OrderFault) → IsErrAnd r (λ e. e ≡ fault) → state_data add tag version ≡ json →
     Finds {T = Records} (λ records. AreRecords (view records.0)) (λ records. view records.0) add (Err fault) →
-    Finds {T = NextState} (λ next. IsVersion next.version × FitsSigned w64 next.tag × AreRecords (view next.add)) (λ next. cycle_data next.version next.tag (view next.add)) json r
+    Finds {T = NextState} (λ next. IsNextState (asked_state next)) (λ next. state_asked (asked_state next)) json r
 no_records json add tag version r fault is there none =
     no_whole {A = Records} {T = NextState} (λ records. AreRecords (view records.0)) (λ records. view records.0)
-    (λ next. IsVersion next.version × FitsSigned w64 next.tag × AreRecords (view next.add)) (λ next. cycle_data next.version next.tag (view next.add)) add json r fault is
+    (λ next. IsNextState (asked_state next)) (λ next. state_asked (asked_state next)) add json r fault is
     (λ next fits same. (record { 0 = next.add }, fits.2, same_add next same)) none
   where
-    same_add : (next : NextState) → cycle_data next.version next.tag (view next.add) ≡ json → view next.add ≡ add
+    same_add : (next : NextState) → state_asked (asked_state next) ≡ json → view next.add ≡ add
     same_add next same = cc

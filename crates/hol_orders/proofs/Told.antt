@@ -9,8 +9,9 @@ use Rattle.hol_orders.specs.declared.order.Order.{Order}
 use Rattle.hol_orders.specs.declared.order.OrderFault.{OrderFault}
 use Rattle.hol_orders.specs.declared.order.OrderFault.TheVariants.{BadOrder, Memory}
 use Rattle.hol_orders.specs.Kind.{word_of_kind}
-use Rattle.hol_orders.specs.Order.{Orders, TellsOrder, IsFreeOrder, IsOfKind, kind_of, content_of, order_data}
+use Rattle.hol_orders.specs.Order.{Orders, TellsOrder, IsFreeOrder, IsOfKind, asking, kind_of, content_of, order_data}
 use Rattle.hol_orders.specs.Shapes.{Finds}
+use Rattle.hol_orders.proofs.Spelled.{one_asking}
 use Rattle.hol_orders.proofs.Words.{one_word}
 
 pub found_told : (line : List ℕ) (r : Result Order OrderFault) → TellsOrder line r → (order : Order) → Orders line order →
@@ -40,10 +41,10 @@ told_kind line word kind content (Err BadOrder) utf8 reads named found = λ orde
 told_kind line word kind content (Err Memory) utf8 reads named found = tt
 
 -- a line is one order at most
-pub one_order : (line : List ℕ) (one other : Order) → Orders line one → Orders line other → (kind_of one ≡ kind_of other) × (content_of one ≡ content_of other)
+pub one_order : (line : List ℕ) (one other : Order) → Orders line one → Orders line other → asking one ≡ asking other
 one_order line one other is also =
     let e = is.2 in
     let f = also.2 in
     let words : word_of_kind (kind_of one) ≡ word_of_kind (kind_of other) = cc in
     let contents : content_of one ≡ content_of other = cc in
-    (one_word (kind_of one) (kind_of other) words, contents)
+    one_asking one other (one_word (kind_of one) (kind_of other) words) contents

@@ -2,7 +2,8 @@
 use Rattle.std.specs.Prelude.{ℕ, ℤ, List, map, codes}
 use Rattle.serde_json.specs.Data.{Data, number, unsigned, array, object, no_items, item, no_members, member}
 use Rattle.serde_json.specs.Find.{of_integer}
-use Rattle.serde_json.specs.View.{items_of}
+use Rattle.serde_json.specs.View.{items_of, view}
+use Rattle.hol_orders.specs.declared.order.NextState.{NextState}
 
 -- a whole number
 abbrev pub whole : ℕ → Data
@@ -27,6 +28,14 @@ state_data add tag version = object
     (member (codes "tag") tag
     (member (codes "version") version no_members)))
 
--- what a cycle asks for
-abbrev pub cycle_data : ℕ → ℤ → Data → Data
-cycle_data version tag add = state_data add (number (of_integer tag)) (whole version)
+-- What a cycle asks for: the version and the tag of the next state, and the records that it adds, by type.
+pub record AskedState : Type 0 where
+  pub version : ℕ
+  pub tag : ℤ
+  pub add : Data
+
+abbrev pub asked_state : NextState → AskedState
+asked_state next = record { version = next.version; tag = next.tag; add = view next.add }
+
+abbrev pub state_asked : AskedState → Data
+state_asked asked = state_data asked.add (number (of_integer asked.tag)) (whole asked.version)

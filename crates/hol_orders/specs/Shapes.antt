@@ -1,6 +1,6 @@
 -- The parts of orders that stay JSON, and the numbers in them: which there are.
-use Rattle.std.specs.Prelude.{◌≡◌, ◌≢◌, ℕ, ◌+◌, ◌<◌, List, [], ◌∷◌, length, slice_index, Result, Ok, Err}
-use Rattle.serde_json.specs.Data.{Data, string, array, object, Items, no_items, item, Members, no_members, member}
+use Rattle.std.specs.Prelude.{◌≡◌, ◌≢◌, ℕ, ◌+◌, ◌<◌, ◌^◌, List, [], ◌∷◌, length, slice_index, IsTrue, Result, Ok, Err}
+use Rattle.serde_json.specs.Data.{Data, boolean, string, array, object, Items, no_items, item, Members, no_members, member}
 use Rattle.hol_io.specs.Name.{IsVersion}
 use Rattle.hol_orders.specs.declared.order.OrderFault.{OrderFault}
 use Rattle.hol_orders.specs.declared.order.OrderFault.TheVariants.{BadOrder, Memory}
@@ -14,6 +14,10 @@ IsText _ = ⊥
 abbrev pub AreTexts : Items → Type 0
 AreTexts no_items = Unit {0}
 AreTexts (item json rest) = IsText json × AreTexts rest
+
+-- An ordinal is a number below 2^32.
+abbrev pub IsOrdinal : ℕ → Type 0
+IsOrdinal ordinal = ordinal < 2 ^ 32
 
 -- key paths: an array of texts
 abbrev pub ArePaths : Data → Type 0
@@ -34,6 +38,11 @@ AreArrays (member name json rest) = IsArray json × AreArrays rest
 abbrev pub AreRecords : Data → Type 0
 AreRecords (object types) = AreArrays types
 AreRecords _ = ⊥
+
+-- the value `true`
+abbrev pub IsTruth : Data → Type 0
+IsTruth (boolean truth) = IsTrue truth
+IsTruth _ = ⊥
 
 -- Each is a version.
 abbrev pub AreVersions : List ℕ → Type 0

@@ -4,10 +4,10 @@ ghost use Rattle.serde_json.specs.Data.{array};
 ghost use Rattle.serde_json.specs.View.{view, items_view, members_view};
 ghost use Rattle.hol_io.specs.Name.{IsVersion};
 ghost use Rattle.hol_orders.specs.Parts.{whole as whole_data, triple, state_data, versions_data};
-ghost use Rattle.hol_orders.specs.Shapes.{ArePaths, AreTexts, AreRecords, AreArrays, AreVersions, DoNeighboursDiffer, Finds};
+ghost use Rattle.hol_orders.specs.Shapes.{ArePaths, AreTexts, AreRecords, AreArrays, AreVersions, DoNeighboursDiffer, Finds, IsTruth};
 ghost use Rattle.hol_orders.specs.Taken.{TellsItems, TellsMember, TellsNext, TellsThree};
 
-use crate::order::{OrderFault, Versions};
+use crate::order::{NextState, OrderFault, Versions};
 use json_values::are_schemas;
 use schema_model::Name;
 use serde_json::{Map, Value};
@@ -46,14 +46,6 @@ pub(crate) struct Records(pub(crate) Value);
 #[derive(Drop)]
 pub(crate) struct SchemaList(pub(crate) Value);
 
-/// What a cycle asks for.
-#[derive(Drop)]
-pub(crate) struct NextState {
-    pub(crate) version: u64,
-    pub(crate) tag: i64,
-    pub(crate) add: Value,
-}
-
 impl FromJson for Name {
     ghost use Rattle.serde_json.specs.Data.{string};
 
@@ -85,7 +77,7 @@ impl FromJson for u64 {
 
 // An ordinal.
 impl FromJson for u32 {
-    ghost use Rattle.hol_orders.specs.Order.{IsOrdinal};
+    ghost use Rattle.hol_orders.specs.Shapes.{IsOrdinal};
     ghost use Rattle.hol_orders.specs.Parts.{whole};
 
     ghost fits = { IsOrdinal };
@@ -188,16 +180,12 @@ impl FromJson for SchemaList {
 }
 
 impl FromJson for NextState {
-    ghost use Rattle.std.specs.Prelude.{FitsSigned};
-    ghost use Rattle.std.specs.Int.{w64};
-    ghost use Rattle.serde_json.specs.View.{view};
-    ghost use Rattle.hol_io.specs.Name.{IsVersion};
-    ghost use Rattle.hol_orders.specs.Parts.{cycle_data};
-    ghost use Rattle.hol_orders.specs.Shapes.{AreRecords};
+    ghost use Rattle.hol_orders.specs.Kind.{IsNextState};
+    ghost use Rattle.hol_orders.specs.Parts.{asked_state, state_asked};
 
-    ghost fits = { λ next. IsVersion next.version × FitsSigned w64 next.tag × AreRecords (view next.add) };
+    ghost fits = { λ next. IsNextState (asked_state next) };
 
-    ghost spelled = { λ next. cycle_data next.version next.tag (view next.add) };
+    ghost spelled = { λ next. state_asked (asked_state next) };
 
     fn from_json(alloc: Global, value: Value) -> Result<NextState, OrderFault> {
         let (add, tag, version) = state_members(value)?;
@@ -364,6 +352,16 @@ fn next_named(members: &mut Map<String, Value>, name: &str) -> Result<Value, Ord
     match members.pop_first() {
         Some((found, value)) if found.as_str() == name => Ok(value),
         _ => Err(OrderFault::BadOrder),
+    }
+}
+
+/// Whether a value is `true`.
+pub(crate) fn is_true(value: &Value) -> bool
+    ensures { IsTrue result ↔ IsTruth (view value.now) }
+{
+    match value {
+        Value::Bool(truth) => *truth,
+        _ => false,
     }
 }
 

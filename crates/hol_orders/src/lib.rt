@@ -9,5 +9,5 @@ mod order_stop;
 mod shapes;
 
 pub use kind::Kind;
-pub use order::{Order, OrderFault, Versions, order_of};
+pub use order::{NextState, Order, OrderFault, Versions, order_of};
 pub use order_stop::OrderStop;

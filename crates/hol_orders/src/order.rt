@@ -14,20 +14,24 @@ use std::alloc::{AllocError, AllocFailed, Global};
 /// Versions that are walked, in their order.
 pub type Versions = List<u64>;
 
+/// What a cycle asks for: the next state.
+#[derive(Debug, Drop)]
+pub struct NextState {
+    /// The version that it is to have.
+    pub version: u64,
+    /// The tag that it is to have.
+    pub tag: i64,
+    /// The records that it adds by type, still JSON: an object of arrays.
+    pub add: Value,
+}
+
 /// What one line of a script asks for. Versions are numbers from 1 to 2^63 - 1.
 #[derive(Debug, Drop)]
 pub enum Order {
     /// `{"model":[S1,S2]}`: makes a new producer of these schemas, which are still JSON.
     Model(Value),
     /// `{"cycle":{"version":V,"tag":T,"add":{type:[records]}}}`: publishes the next state.
-    Cycle {
-        /// The version that it is to have.
-        version: u64,
-        /// The tag that it is to have.
-        tag: i64,
-        /// Its records by type, still JSON: an object of arrays.
-        add: Value,
-    },
+    Cycle(NextState),
     /// `{"restore":V}`: takes a producer up again at a version.
     Restore(u64),
     /// `{"load":V}`: loads the snapshot of a version into the consumer.

@@ -3,7 +3,7 @@ ghost use Rattle.serde_json.specs.View.{view};
 ghost use Rattle.hol_orders.specs.Order.{IsOfKind, content_of};
 ghost use Rattle.hol_orders.specs.Shapes.{Finds};
 
-use crate::json::{FromJson, KeyValues, NextState, Paths, SchemaList};
+use crate::json::{FromJson, KeyValues, Paths, SchemaList, is_true};
 use crate::kind::Kind;
 use crate::order::{Order, OrderFault};
 use serde_json::Value;
@@ -42,22 +42,24 @@ fn model_order(alloc: Global, content: Value) -> Result<Order, OrderFault>
 fn cycle_order(alloc: Global, content: Value) -> Result<Order, OrderFault>
     ensures { Finds (IsOfKind Kind.Cycle) content_of (view content) result }
 {
-    let NextState { version, tag, add } = FromJson::from_json(alloc, content)?;
-    Ok(Order::Cycle { version, tag, add })
+    Ok(Order::Cycle(FromJson::from_json(alloc, content)?))
 }
 
+#[tactic(auto, using(crate::proofs::OfKind::none_asked))]
 fn restore_order(alloc: Global, content: Value) -> Result<Order, OrderFault>
     ensures { Finds (IsOfKind Kind.Restore) content_of (view content) result }
 {
     Ok(Order::Restore(FromJson::from_json(alloc, content)?))
 }
 
+#[tactic(auto, using(crate::proofs::OfKind::none_asked))]
 fn load_order(alloc: Global, content: Value) -> Result<Order, OrderFault>
     ensures { Finds (IsOfKind Kind.Load) content_of (view content) result }
 {
     Ok(Order::Load(FromJson::from_json(alloc, content)?))
 }
 
+#[tactic(auto, using(crate::proofs::OfKind::no_still))]
 fn step_order(alloc: Global, content: Value) -> Result<Order, OrderFault>
     ensures { Finds (IsOfKind Kind.Step) content_of (view content) result }
 {
@@ -94,6 +96,7 @@ fn find_order(alloc: Global, content: Value) -> Result<Order, OrderFault>
     })
 }
 
+#[tactic(auto, using(crate::proofs::OfKind::none_asked))]
 fn live_order(alloc: Global, content: Value) -> Result<Order, OrderFault>
     ensures { Finds (IsOfKind Kind.Live) content_of (view content) result }
 {
@@ -129,23 +132,26 @@ fn at_order(alloc: Global, content: Value) -> Result<Order, OrderFault>
     })
 }
 
+#[tactic(auto, using(crate::proofs::OfKind::none_asked))]
 fn past_order(alloc: Global, content: Value) -> Result<Order, OrderFault>
     ensures { Finds (IsOfKind Kind.Past) content_of (view content) result }
 {
     Ok(Order::Past(FromJson::from_json(alloc, content)?))
 }
 
+#[tactic(auto, using(crate::proofs::OfKind::none_asked))]
 fn check_order(alloc: Global, content: Value) -> Result<Order, OrderFault>
     ensures { Finds (IsOfKind Kind.Check) content_of (view content) result }
 {
     Ok(Order::Check(FromJson::from_json(alloc, content)?))
 }
 
+#[tactic(auto, using(crate::proofs::OfKind::stat_found))]
 fn stat_order(content: Value) -> Result<Order, OrderFault>
     ensures { Finds (IsOfKind Kind.Stat) content_of (view content) result }
 {
-    match content {
-        Value::Bool(true) => Ok(Order::Stat),
-        _ => Err(OrderFault::BadOrder),
+    if !is_true(&content) {
+        return Err(OrderFault::BadOrder);
     }
+    Ok(Order::Stat)
 }

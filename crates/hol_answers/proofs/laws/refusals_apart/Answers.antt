@@ -1,4 +1,4 @@
-use Rattle.hol_answers.proofs.ThirdBytes.{apart}
+use Rattle.hol_answers.proofs.FirstNames.{apart}
 use Rattle.hol_answers.proofs.laws.refusals_apart.Goals as goal
 
 pub returns : goal.returns

@@ -1,4 +1,4 @@
-use Rattle.hol_answers.proofs.ThirdBytes.{marked}
+use Rattle.hol_answers.proofs.FirstNames.{marked}
 use Rattle.hol_answers.proofs.laws.refusals_marked.Goals as goal
 
 pub returns : goal.returns
