@@ -8,7 +8,7 @@ use Rattle.hol_answers.specs.declared.reply.Reply.TheVariants as reply
 use Rattle.read_engine.specs.Indexes.{KeepsIndex}
 use Rattle.read_engine.specs.Position.{Index, Position}
 use Rattle.hollow_machine.specs.IndexOrder.{IndexStep}
-use Rattle.hollow_machine.specs.State.{Machine}
+use Rattle.hollow_machine.specs.State.{Machine, with_consumer}
 use Rattle.chain_laws.specs.KeptIndexes.{AreIndexes, AsksFor, IsAsked}
 use Rattle.chain_laws.proofs.StoreNames.{found_with}
 
@@ -20,7 +20,7 @@ pub record IsAdded (machine : Machine) (name : Name) (texts : List (List ℕ)) (
   pub asks : AsksFor now.schemas name texts index
   pub after : List Index
   pub keeps : KeepsIndex now.indexes index after
-  pub is : next ≡ record machine { consumer = Some (record now { indexes = after }) }
+  pub is : next ≡ with_consumer machine (Some (record now { indexes = after }))
 
 pub index_added : (machine : Machine) (name : Name) (texts : List (List ℕ)) (keys : ℕ) (next : Machine) → IndexStep machine name texts (reply.Index keys) next → IsAdded machine name texts next
 index_added machine name texts keys next step =

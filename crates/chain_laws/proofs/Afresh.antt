@@ -1,28 +1,24 @@
 -- What is answered of a consumer's state is answered as where the consumer has it afresh, and the other way round.
 use Rattle.std.proofs.Common.{◌≡◌, List, true, Option, Some, None, sym, ap, subst, ◌∙◌}
-use Rattle.std.specs.Prelude.{IsSomeAnd, ◌↔◌}
+use Rattle.std.specs.Prelude.{◌↔◌}
 use Rattle.schema_model.specs.declared.schema.Schema.{Schema}
 use Rattle.hol_orders.specs.declared.order.Order.{Order}
-use Rattle.hol_orders.specs.Order.{content_of, kind_of}
+use Rattle.hol_orders.specs.Order.{asked_of, kind_of}
 use Rattle.hol_answers.specs.declared.reply.Reply.{Reply}
-use Rattle.hollow_machine.specs.State.{Machine}
-use Rattle.hollow_machine.specs.Step.{Step, form}
+use Rattle.hollow_machine.specs.State.{Machine, with_consumer}
+use Rattle.hollow_machine.specs.Step.{Step}
 use Rattle.written_laws.specs.Chain.{Chain, IsChain}
 use Rattle.written_laws.specs.HoldsChain.{HoldsChain}
 use Rattle.chain_laws.specs.Consumers.{Fresh, IsConsumerOf, IsIn}
+use Rattle.chain_laws.specs.Headline.{IsOfState}
 use Rattle.chain_laws.specs.KeptIndexes.{AreIndexes}
 use Rattle.chain_laws.proofs.EachKind.{laws}
 use Rattle.chain_laws.proofs.FreshAnswers.{stands, stood}
 
-some_both : {A : Type 0} (o : Option A) (P Q : A → Type 0) → ((a : A) → P a → Q a) → IsSomeAnd o P → IsSomeAnd o Q
-some_both None P Q gives some = absurd some
-some_both (Some a) P Q gives some = gives a some
-
-pub afresh_there : (machine fresh next : Machine) (chain : Chain) (asked : Order) (answer : Reply) → (form (kind_of asked)).of_state ≡ true → IsChain chain → IsConsumerOf chain machine.consumer → Fresh chain machine fresh
+pub afresh_there : (machine fresh next : Machine) (chain : Chain) (asked : Order) (answer : Reply) → IsOfState (kind_of asked) → IsChain chain → IsConsumerOf chain machine.consumer → Fresh chain machine fresh
     → Step machine asked answer next → Step fresh asked answer fresh
 afresh_there machine fresh next chain asked answer of_state sound of afresh step =
-    some_both ((form (kind_of asked)).asked (content_of asked)) (λ a. (form (kind_of asked)).Answers machine a answer next) (λ a. (form (kind_of asked)).Answers fresh a answer fresh)
-    (λ a is. (laws (kind_of asked)).afresh of_state machine fresh chain sound of afresh a answer next is) step
+    (laws (kind_of asked)).afresh of_state machine fresh chain sound of afresh (asked_of asked) answer next step
 
 module _ (machine fresh : Machine) (chain : Chain) (sound : IsChain chain) (of : IsConsumerOf chain machine.consumer) (afresh : Fresh chain machine fresh) where
   fresh_is_in : IsIn chain afresh.position
@@ -48,10 +44,10 @@ module _ (machine fresh : Machine) (chain : Chain) (sound : IsChain chain) (of :
     position = afresh.now;
     stands = stands machine fresh chain sound of afresh;
     indexes = sym afresh.indexes;
-    is = (λ i. record machine { consumer = afresh.was i }) ∙ (λ i. record (sym afresh.is i) { consumer = Some afresh.now });
+    is = (λ i. with_consumer machine (afresh.was i)) ∙ (λ i. with_consumer (sym afresh.is i) (Some afresh.now));
   }
 
-pub answered_afresh : (machine fresh : Machine) (chain : Chain) (asked : Order) (answer : Reply) → (form (kind_of asked)).of_state ≡ true → HoldsChain machine.store chain → IsConsumerOf chain machine.consumer
+pub answered_afresh : (machine fresh : Machine) (chain : Chain) (asked : Order) (answer : Reply) → IsOfState (kind_of asked) → HoldsChain machine.store chain → IsConsumerOf chain machine.consumer
     → Fresh chain machine fresh → Step machine asked answer machine ↔ Step fresh asked answer fresh
 answered_afresh machine fresh chain asked answer of_state holds of afresh = (
   (λ step. afresh_there machine fresh machine chain asked answer of_state holds.sound of afresh step),

@@ -9,6 +9,7 @@ use Rattle.std.proofs.lemmas.Nat.{be_bytes_4}
 use Rattle.hol_io.specs.declared.name.BlobName.{BlobName}
 use Rattle.hol_io.specs.declared.name.BlobName.TheVariants.{Snapshot, Delta}
 use Rattle.hol_io.specs.Store.{Store}
+use Rattle.schema_model.specs.declared.schema.Schema.{Schema}
 use Rattle.blob_grammar.specs.Decided.{AreBytes}
 use Rattle.blob_grammar.specs.Form.{◌>>=◌, both, judged, nothing}
 use Rattle.blob_frame.specs.declared.header.Header.{Header}
@@ -66,8 +67,8 @@ pub delta_begins : (blob : List ℕ) (head : Header) (parts : List DeltaPart) (n
 unfolding delta both ◌>>=◌ nothing
 delta_begins blob head parts next (h, n, begin, rest) = (n, subst (λ (x : Header). header.Stands blob 0 x n) (ap (λ (p : Header × List DeltaPart). p.0) (sym rest.3.0)) begin)
 
-delta_tagged : (blob : List ℕ) (origin destination : ℤ) (patch : List TypePatch) → AreBytes blob → DeltaIs blob origin destination patch → HasTag (cast_unsigned w64 destination) blob
-delta_tagged blob origin destination patch all is =
+delta_tagged : (schemas : List Schema) (blob : List ℕ) (origin destination : ℤ) (patch : List TypePatch) → AreBytes blob → DeltaIs schemas blob origin destination patch → HasTag (cast_unsigned w64 destination) blob
+delta_tagged schemas blob origin destination patch all is =
     let (n, begin) = delta_begins blob is.head is.parts (length blob) is.items.items in
     subst (λ (tag : ℤ). HasTag (cast_unsigned w64 tag) blob) is.to_tag (header_tagged blob n is.head all begin)
 
@@ -98,7 +99,7 @@ module _ (store : Store) (chain : Chain) (holds : HoldsChain store chain) (bytes
             let (before, after, was, also, parent, leads) = holds.each (Delta state.parent version) blob at in
             let leads_here : LeadsBetween before state blob = subst (λ (s : ChainState). LeadsBetween before s blob) (one version after state also there) leads in
             taken store state.tag (Delta state.parent version) blob tt at
-            (delta_tagged blob before.tag state.tag leads_here.patch (bytes_of (Delta state.parent version) blob at) leads_here.is))
+            (delta_tagged state.model blob before.tag state.tag leads_here.patch (bytes_of (Delta state.parent version) blob at) leads_here.is))
       ]
 
   pub kept_of_bytes : KeepsChain store chain

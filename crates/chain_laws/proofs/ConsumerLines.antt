@@ -1,12 +1,10 @@
 -- Where a consumer stands after each line, over a store that holds a chain.
 use Rattle.std.proofs.Common.{ℕ, List, [], ◌∷◌, Bool, Option, Some, None, inl, inr, refl, sym, subst}
 use Rattle.hol_answers.specs.declared.reply.Reply.{Reply}
-use Rattle.hol_orders.specs.Order.{content_of, kind_of}
+use Rattle.hol_orders.specs.Order.{asked_of, kind_of}
 use Rattle.read_engine.specs.Position.{Position}
-use Rattle.hollow_machine.proofs.Asking.{asked_of}
 use Rattle.hollow_machine.specs.Script.{LineStep, Script}
 use Rattle.hollow_machine.specs.State.{Machine}
-use Rattle.hollow_machine.specs.Step.{form}
 use Rattle.written_laws.specs.Chain.{Chain}
 use Rattle.written_laws.specs.HoldsChain.{HoldsChain}
 use Rattle.chain_laws.specs.Consumers.{IsConsumerOf}
@@ -20,8 +18,7 @@ module _ (machine : Machine) (chain : Chain) (holds : HoldsChain machine.store c
   line_moves : (line : List ℕ) (answer : Reply) (next : Machine) → LineStep machine line answer next → IsConsumerOf chain next.consumer
   line_moves line answer next (inl long) = same_of machine chain of next long.1.1
   line_moves line answer next (inr (short, inl none)) = same_of machine chain of next none.1.1
-  line_moves line answer next (inr (short, inr (order, orders, step))) =
-      let (asked, read, is) = asked_of (form (kind_of order)) machine (content_of order) answer next step in (laws (kind_of order)).moves machine chain holds of asked answer next is
+  line_moves line answer next (inr (short, inr (order, orders, step))) = (laws (kind_of order)).moves machine chain holds of (asked_of order) answer next step
 
 -- a state of a chain is one of a longer chain
 still_in : (chain after : Chain) (consumer : Option Position) → Extends chain after → IsConsumerOf chain consumer → IsConsumerOf after consumer

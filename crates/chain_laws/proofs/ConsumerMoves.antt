@@ -3,26 +3,25 @@ use Rattle.std.proofs.Common.{◌≡◌, ℕ, ℤ, List, length, Some, refl, sym
 use Rattle.std.proofs.lemmas.List.{length-map}
 use Rattle.std.specs.FinMap.{get}
 use Rattle.hol_io.specs.declared.name.BlobName.{BlobName}
-use Rattle.hol_io.specs.declared.name.BlobName.TheVariants.{Snapshot}
+use Rattle.hol_io.specs.declared.name.BlobName.TheVariants.{Announced, Delta, Reverse, Snapshot}
 use Rattle.hol_io.specs.Store.{Store}
-use Rattle.schema_model.specs.declared.model.rule.Rule.TheVariants.{DuplicateName}
 use Rattle.schema_model.specs.declared.schema.Schema.{Schema}
-use Rattle.schema_model.specs.Model.{IsKept}
 use Rattle.row_model.specs.Table.{Table}
 use Rattle.type_state.specs.State.{Half}
 use Rattle.type_state.specs.Views.{table_of}
 use Rattle.blob_frame.specs.declared.header.Header.{Header}
 use Rattle.snapshot_blob.proofs.Whole.{one_snapshot}
-use Rattle.delta_blob.specs.Fits.{Fits, FitsTable}
+use Rattle.delta_blob.specs.Fits.{Fits}
 use Rattle.delta_blob.specs.Moved.{Moved}
 use Rattle.delta_blob.specs.Patch.{TypePatch, DeltaIs}
-use Rattle.delta_blob.specs.Within.{Within}
+use Rattle.delta_blob.specs.Within.{KeepItems, Within}
 use Rattle.read_engine.specs.Position.{Position, rows_now}
 use Rattle.read_engine.specs.Taking.{LoadsFrom, StepsBy}
 use Rattle.written_laws.specs.Chain.{Chain, ChainState, HasVersion}
 use Rattle.written_laws.specs.HoldsChain.{HoldsChain, IsStep, LeadsOn}
-use Rattle.written_laws.proofs.ChainSteps.{step_leads}
+use Rattle.written_laws.proofs.ChainSteps.{same_model, step_leads}
 use Rattle.written_laws.proofs.MovedOnce.{moved_once}
+use Rattle.written_laws.proofs.PatchOnce.{parts_once}
 use Rattle.chain_laws.specs.Consumers.{IsIn, StandsAt}
 use Rattle.chain_laws.specs.KeptIndexes.{AreIndexes}
 use Rattle.chain_laws.proofs.AddedIndexes.{no_indexes}
@@ -62,14 +61,39 @@ module _ (store : Store) (chain : Chain) (holds : HoldsChain store chain) where
   rows_are : (version : ℕ) (state : ChainState) → HasVersion chain version state → length state.table ≡ length state.model
   rows_are version state there = (holds.sound.sound version state there).rows.types
 
-  names_once : (version : ℕ) (state : ChainState) → HasVersion chain version state → IsKept state.model DuplicateName
-  names_once version state there = (holds.sound.sound version state there).model DuplicateName
+  -- a delta of the chain is one against the model of the state that it starts from
+  pub delta_of : (name : BlobName) (blob : List ℕ) → IsStep name → get store name ≡ Some blob
+      → (version : ℕ) × (from : ChainState) × HasVersion chain version from × (destination : ℤ) × (patch : List TypePatch) × DeltaIs from.model blob from.tag destination patch
+  delta_of (Delta from to) blob step at =
+      let (before, after, was, there, parent, leads) = holds.each (Delta from to) blob at in
+      let model = same_model chain holds.sound from to before after was there parent in
+      (from, before, was, after.tag, leads.patch, subst (λ (m : List Schema). DeltaIs m blob before.tag after.tag leads.patch) model leads.is)
+  delta_of (Reverse from to) blob step at =
+      let (before, after, was, there, parent, leads) = holds.each (Reverse from to) blob at in
+      let model = same_model chain holds.sound to from before after was there parent in
+      (from, after, there, before.tag, leads.patch, subst (λ (m : List Schema). DeltaIs m blob after.tag before.tag leads.patch) (sym model) leads.is)
+  delta_of (Snapshot version) blob step at = absurd step
+  delta_of Announced blob step at = absurd step
+
+  -- where this is the state that a consumer has it is one against the consumer's own model
+  pub own_delta : (now : Position) → IsIn chain now → (version : ℕ) (from : ChainState) (blob : List ℕ) (destination : ℤ) (patch : List TypePatch) → HasVersion chain version from → from.tag ≡ now.tag
+      → DeltaIs from.model blob from.tag destination patch → DeltaIs now.schemas blob now.tag destination patch
+  own_delta now is version from blob destination patch there starts delta =
+      let here = holds.sound.tags version is.version from is.state there is.there (starts ∙ is.stands.tag) in
+      let same : from ≡ is.state = one is.version from is.state (subst (λ (v : ℕ). HasVersion chain v from) here there) is.there in
+      let model : from.model ≡ now.schemas = ap (λ (s : ChainState). s.model) same ∙ sym is.stands.model in
+      subst (λ (tag : ℤ). DeltaIs now.schemas blob tag destination patch) starts (subst (λ (m : List Schema). DeltaIs m blob from.tag destination patch) model delta)
+
+  -- a delta against the model of a consumer is one against that of its state
+  delta_there : (now : Position) (is : IsIn chain now) (blob : List ℕ) (destination : ℤ) (patch : List TypePatch) → DeltaIs now.schemas blob now.tag destination patch
+      → DeltaIs is.state.model blob now.tag destination patch
+  delta_there now is blob destination patch delta = subst (λ (m : List Schema). DeltaIs m blob now.tag destination patch) is.stands.model delta
 
   pub steps_in : (name : BlobName) (blob : List ℕ) (now to : Position) → IsStep name → get store name ≡ Some blob → IsIn chain now → StepsBy blob now to → IsIn chain to
   steps_in name blob now to of_step at is steps =
-      let leads = step_leads store chain name blob now.tag to.tag steps.patch is.version is.state holds of_step at steps.is is.there (sym is.stands.tag) in
-      let moved : Moved is.state.model steps.patch is.state.table (rows_now to) =
-      subst (λ (t : Table). Moved is.state.model steps.patch t (rows_now to)) is.stands.rows (subst (λ (m : List Schema). Moved m steps.patch (rows_now now) (rows_now to)) is.stands.model steps.moved) in
+      let delta = delta_there now is blob to.tag steps.patch steps.is in
+      let leads = step_leads store chain name blob now.tag to.tag steps.patch is.version is.state holds of_step at delta is.there (sym is.stands.tag) in
+      let moved : Moved steps.patch is.state.table (rows_now to) = subst (λ (t : Table). Moved steps.patch t (rows_now to)) is.stands.rows steps.moved in
       record {
         version = leads.version;
         state = leads.next;
@@ -77,43 +101,42 @@ module _ (store : Store) (chain : Chain) (holds : HoldsChain store chain) where
         stands = record {
           tag = sym leads.tag;
           model = steps.model ∙ is.stands.model ∙ sym leads.model;
-          rows = moved_once is.state.model steps.patch is.state.table (rows_now to) leads.next.table (names_once is.version is.state is.there) (rows_are is.version is.state is.there) moved leads.moved;
+          rows = moved_once steps.patch is.state.table (rows_now to) leads.next.table moved leads.moved;
         };
         indexes = subst (λ (m : List Schema). AreIndexes m to.indexes) (sym steps.model) (subst (AreIndexes now.schemas) (sym steps.indexes) is.indexes);
       }
 
   -- a delta of the chain from where the consumer stands is one that it can take
-  pub step_there : (name : BlobName) (blob : List ℕ) (now : Position) (destination : ℤ) (patch : List TypePatch) → IsStep name → get store name ≡ Some blob → IsIn chain now → DeltaIs blob now.tag destination patch
-      → (to : Position) × StepsBy blob now to
+  pub step_there : (name : BlobName) (blob : List ℕ) (now : Position) (destination : ℤ) (patch : List TypePatch) → IsStep name → get store name ≡ Some blob → IsIn chain now
+      → DeltaIs now.schemas blob now.tag destination patch → (to : Position) × StepsBy blob now to
   step_there name blob now destination patch of_step at is delta =
-      let leads : LeadsOn chain is.state blob now.tag destination patch delta =
-      step_leads store chain name blob now.tag destination patch is.version is.state holds of_step at delta is.there (sym is.stands.tag) in
+      let there = delta_there now is blob destination patch delta in
+      let leads : LeadsOn chain is.state blob now.tag destination patch there =
+      step_leads store chain name blob now.tag destination patch is.version is.state holds of_step at there is.there (sym is.stands.tag) in
       let model : now.schemas ≡ is.state.model = is.stands.model in
       let rows : rows_now now ≡ is.state.table = is.stands.rows in
       let fits : Fits now.schemas (rows_now now) patch =
       subst (λ (m : List Schema). Fits m (rows_now now) patch) (sym model) (subst (λ (t : Table). Fits is.state.model t patch) (sym rows) leads.fits) in
-      let moved : Moved now.schemas patch (rows_now now) leads.next.table =
-      subst (λ (m : List Schema). Moved m patch (rows_now now) leads.next.table) (sym model) (subst (λ (t : Table). Moved is.state.model patch t leads.next.table) (sym rows) leads.moved) in
-      let within : Within now.schemas leads.next.table patch = subst (λ (m : List Schema). Within m leads.next.table patch) (sym model) leads.within in
-      let once : IsKept now.schemas DuplicateName = subst (λ (m : List Schema). IsKept m DuplicateName) (sym model) (names_once is.version is.state is.there) in
+      let moved : Moved patch (rows_now now) leads.next.table = subst (λ (t : Table). Moved patch t leads.next.table) (sym rows) leads.moved in
+      let parts = parts_once is.state.model now.schemas blob now.tag destination now.tag destination patch patch there delta in
       let old_types : length (rows_now now) ≡ length now.schemas = ap (λ (t : Table). length t) rows ∙ rows_are is.version is.state is.there ∙ ap (λ (m : List Schema). length m) (sym model) in
       let types : length leads.next.table ≡ length now.schemas = moved.types ∙ old_types in
       let count : length now.halves ≡ length now.schemas = sym (length-map now.halves (λ (half : Half). half.rows)) ∙ old_types in
-      let halves = next_halves now.schemas once (FitsTable (rows_now now)) now.halves delta.parts patch delta.items.once delta.types fits.ordinals leads.next.table types count in
-      let table : table_of halves ≡ leads.next.table = next_table now.schemas once (FitsTable (rows_now now)) now.halves delta.parts patch delta.items.once delta.types fits.ordinals leads.next.table types count in (
+      let halves = next_halves now.schemas now.halves delta.parts patch delta.items.once delta.types leads.next.table types count in
+      let table : table_of halves ≡ leads.next.table = next_table now.schemas now.halves delta.parts patch delta.items.once delta.types leads.next.table types count in (
         record { tag = destination; schemas = now.schemas; halves = halves; before = rows_now now; indexes = now.indexes },
         record {
           patch = patch;
           is = delta;
           fits = fits;
-          moved = subst (λ (t : Table). Moved now.schemas patch (rows_now now) t) (sym table) moved;
-          within = subst (λ (t : Table). Within now.schemas t patch) (sym table) within;
-          items = leads.items;
+          moved = subst (λ (t : Table). Moved patch (rows_now now) t) (sym table) moved;
+          within = subst (λ (t : Table). Within t patch) (sym table) leads.within;
+          items = subst KeepItems parts leads.items;
           short = leads.short;
           model = refl;
-          types = next_count now.schemas once (FitsTable (rows_now now)) now.halves delta.parts patch delta.items.once delta.types fits.ordinals leads.next.table types count;
-          layouts = next_named now.schemas once (FitsTable (rows_now now)) now.halves delta.parts patch delta.items.once delta.types fits.ordinals leads.next.table types count;
-          others = next_others now.schemas once (FitsTable (rows_now now)) now.halves delta.parts patch delta.items.once delta.types fits.ordinals leads.next.table types count;
+          types = next_count now.schemas now.halves delta.parts patch delta.items.once delta.types leads.next.table types count;
+          layouts = next_named now.schemas now.halves delta.parts patch delta.items.once delta.types leads.next.table types count;
+          others = next_others now.schemas now.halves delta.parts patch delta.items.once delta.types leads.next.table types count;
           before = refl;
           indexes = refl;
         },

@@ -4,6 +4,7 @@ use Rattle.std.specs.Prelude.{IsSomeAnd, nat_lt}
 use Rattle.std.specs.FinMap.{get}
 use Rattle.hol_io.specs.declared.name.BlobName.{BlobName}
 use Rattle.hol_io.specs.declared.name.BlobName.TheVariants.{Snapshot, Delta, Reverse, Announced}
+use Rattle.schema_model.specs.declared.schema.Schema.{Schema}
 use Rattle.type_state.specs.Views.{table_of}
 use Rattle.blob_frame.specs.declared.header.Header.{Header}
 use Rattle.blob_frame.specs.Header.{HeaderIs, header, HasHeader}
@@ -20,13 +21,13 @@ use Rattle.hol_answers.specs.declared.reply.Reply.TheVariants as reply
 use Rattle.hollow_machine.proofs.Refusals.{one_header, some_one}
 use Rattle.hollow_machine.specs.Blobs.{SnapshotRefusal}
 use Rattle.hollow_machine.specs.LoadOrder.{LoadStep}
-use Rattle.hollow_machine.specs.State.{Machine}
+use Rattle.hollow_machine.specs.State.{Machine, with_consumer}
 use Rattle.hollow_machine.specs.StepOrder.{StepRefusal, StepStep, step_name}
 use Rattle.written_laws.specs.Chain.{Chain, ChainState, HasVersion}
-use Rattle.written_laws.specs.HoldsChain.{HoldsChain, IsOfChain, IsStep, IsThere}
+use Rattle.written_laws.specs.HoldsChain.{HoldsChain, IsStep, IsThere}
 use Rattle.chain_laws.specs.Consumers.{Fresh, IsIn, StandsAt, StartsAt}
 use Rattle.chain_laws.proofs.BlobTags.{delta_begins}
-use Rattle.chain_laws.proofs.ConsumerMoves.{loads_state, steps_in, step_there}
+use Rattle.chain_laws.proofs.ConsumerMoves.{delta_of, loads_state, own_delta, step_there, steps_in}
 use Rattle.chain_laws.proofs.StoreNames.{found, found_with}
 
 -- ---- names and headers
@@ -39,9 +40,10 @@ step_named from to = by_order (nat_lt from to)
     by_order false = tt
 
 -- a delta starts where its header says
-delta_origin : (content : Option (List ℕ)) (blob : List ℕ) (head : Header) (origin destination : ℤ) (patch : List TypePatch) → content ≡ Some blob → HasHeader content head → DeltaIs blob origin destination patch
+delta_origin : (content : Option (List ℕ)) (schemas : List Schema) (blob : List ℕ) (head : Header) (origin destination : ℤ) (patch : List TypePatch) → content ≡ Some blob → HasHeader content head
+    → DeltaIs schemas blob origin destination patch
     → head.origin ≡ origin
-delta_origin content blob head origin destination patch at (x, n, at_x, short, begin) is =
+delta_origin content schemas blob head origin destination patch at (x, n, at_x, short, begin) is =
     let same : x ≡ blob = some_one content x blob at_x at in
     let (m, also) = delta_begins blob is.head is.parts (length blob) is.items.items in
     let one = header.decided.one blob 0 head is.head n m (subst (λ (b : List ℕ). HeaderIs b n head) same begin) also in
@@ -69,31 +71,26 @@ module _ (machine : Machine) (chain : Chain) (name : BlobName) (now : Position) 
   abbrev stored : Option (List ℕ)
   stored = get machine.store name
 
-  delta_of : (named : BlobName) (blob : List ℕ) → IsStep named → IsOfChain chain named blob → (origin destination : ℤ) × (patch : List TypePatch) × DeltaIs blob origin destination patch
-  delta_of (Delta from to) blob step (before, after, at, at_after, parent, leads) = (before.tag, after.tag, leads.patch, leads.is)
-  delta_of (Reverse from to) blob step (before, after, at, at_after, parent, leads) = (after.tag, before.tag, leads.patch, leads.is)
-  delta_of (Snapshot version) blob step is = absurd step
-  delta_of Announced blob step is = absurd step
-
   can_step : (blob : List ℕ) × (to : Position) × (stored ≡ Some blob) × StepsBy blob now to
   can_step =
       let (head, has, starts_at) = starts in
       let (blob, n, at, short, begin) = has in
-      let (origin, destination, patch, delta) = delta_of name blob of_step (holds.each name blob at) in
-      let same : origin ≡ now.tag = sym (delta_origin stored blob head origin destination patch at has delta) ∙ starts_at in
-      let (to, steps) = step_there machine.store chain holds name blob now destination patch of_step at is (subst (λ (tag : ℤ). DeltaIs blob tag destination patch) same delta) in
+      let (version, from, there, destination, patch, delta) = delta_of machine.store chain holds name blob of_step at in
+      let same : from.tag ≡ now.tag = sym (delta_origin stored from.model blob head from.tag destination patch at has delta) ∙ starts_at in
+      let own = own_delta machine.store chain holds now is version from blob destination patch there same delta in
+      let (to, steps) = step_there machine.store chain holds name blob now destination patch of_step at is own in
       (blob, to, at, steps)
 
-  pub step_taken : (position : Position) × StepStep machine name (reply.Step position.tag) (record machine { consumer = Some position })
+  pub step_taken : (position : Position) × StepStep machine name (reply.Step position.tag) (with_consumer machine (Some position))
   step_taken =
       let (blob, to, at, steps) = can_step in (
         to,
         subst (λ (consumer : Option Position). IsSomeAnd consumer (λ here. (b : List ℕ) × (p : Position) × (stored ≡ Some b) × StepsBy b here p × (to.tag ≡ p.tag)
-            × (record machine { consumer = Some to } ≡ record machine { consumer = Some p }))) (sym was) (blob, to, at, steps, refl, refl),
+            × (with_consumer machine (Some to) ≡ with_consumer machine (Some p)))) (sym was) (blob, to, at, steps, refl, refl),
       )
 
   pub step_only : (answer : Reply) (next : Machine) → StepStep machine name answer next
-      → (position : Position) × IsIn chain position × (answer ≡ reply.Step position.tag) × (next ≡ record machine { consumer = Some position })
+      → (position : Position) × IsIn chain position × (answer ≡ reply.Step position.tag) × (next ≡ with_consumer machine (Some position))
   step_only (reply.Step tag) next step =
       let (here, also, (blob, to, at, steps, tag_is, next_is)) = found_with machine.consumer _ step in
       let same : here ≡ now = some_one machine.consumer here now also was in
@@ -135,7 +132,7 @@ module _ (machine : Machine) (name : BlobName) (now : Position) (origin : ℤ) (
   other_only (reply.Step tag) next step =
       let (here, also, (blob, to, at, steps, tag_is, next_is)) = found_with machine.consumer _ step in
       let same : here ≡ now = some_one machine.consumer here now also was in
-      absurd (apart (sym starts.2 ∙ delta_origin content blob starts.0 here.tag to.tag steps.patch at starts.1 steps.is ∙ ap (λ (p : Position). p.tag) same))
+      absurd (apart (sym starts.2 ∙ delta_origin content here.schemas blob starts.0 here.tag to.tag steps.patch at starts.1 steps.is ∙ ap (λ (p : Position). p.tag) same))
   other_only (reply.Refused refusal) next step = (
     ap (λ (r : Refusal). reply.Refused r)
         (other_refusal name content starts.0 now origin starts.1 starts.2 apart refusal (subst (λ (consumer : Option Position). StepRefusal name content consumer refusal) was step.0)),
@@ -165,14 +162,14 @@ module _ (machine : Machine) (chain : Chain) (version : ℕ) (state : ChainState
       let (other, also, (head, tag, is)) = holds.each (Snapshot version) blob at in
       (blob, record { tag = head.destination; schemas = other.model; halves = is.halves; before = table_of is.halves; indexes = [] }, at, (head, is.accepted, refl, refl, refl))
 
-  pub load_taken : (position : Position) × LoadStep machine version (reply.Load state.tag) (record machine { consumer = Some position })
+  pub load_taken : (position : Position) × LoadStep machine version (reply.Load state.tag) (with_consumer machine (Some position))
   load_taken =
       let (blob, position, at, loads) = can_load in
       let stands = loads_state machine.store chain holds version state blob position there at loads in
       (position, (blob, position, at, loads, sym stands.tag, refl))
 
   pub load_only : (answer : Reply) (next : Machine) → LoadStep machine version answer next
-      → (position : Position) × StandsAt state position × (position.indexes ≡ []) × (answer ≡ reply.Load state.tag) × (next ≡ record machine { consumer = Some position })
+      → (position : Position) × StandsAt state position × (position.indexes ≡ []) × (answer ≡ reply.Load state.tag) × (next ≡ with_consumer machine (Some position))
   load_only (reply.Load tag) next (blob, position, at, loads, tag_is, next_is) =
       let stands = loads_state machine.store chain holds version state blob position there at loads in
       (position, stands, loads.4, ap (λ (t : ℤ). reply.Load t) (tag_is ∙ stands.tag), next_is)

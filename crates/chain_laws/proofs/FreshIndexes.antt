@@ -24,7 +24,7 @@ use Rattle.read_engine.specs.Indexes.{KeepsIndex, index_by}
 use Rattle.read_engine.specs.Position.{Index, Position, rows_now}
 use Rattle.hollow_machine.specs.IndexOrder.{IndexStep}
 use Rattle.hollow_machine.specs.LoadOrder.{LoadStep}
-use Rattle.hollow_machine.specs.State.{Machine}
+use Rattle.hollow_machine.specs.State.{Machine, with_consumer}
 use Rattle.written_laws.specs.Chain.{Chain, ChainState, HasVersion}
 use Rattle.written_laws.specs.HoldsChain.{HoldsChain, IsThere}
 use Rattle.chain_laws.specs.Afresh.{AreAdded, AskForAll}
@@ -38,26 +38,26 @@ use Rattle.chain_laws.proofs.OneKey.{Counts, paths_once}
 
 module _ (machine next : Machine) (now : Position) (name : Name) (texts : List (List ℕ)) (index : Index) (keys : ℕ) (was : machine.consumer ≡ Some now) (names : IsKept now.schemas DuplicateName)
     (asks : AsksFor now.schemas name texts index) (step : IndexStep machine name texts (reply.Index keys) next) where
-  keeps_now : (after : List Index) × KeepsIndex now.indexes index after × (next ≡ record machine { consumer = Some (record now { indexes = after }) })
+  keeps_now : (after : List Index) × KeepsIndex now.indexes index after × (next ≡ with_consumer machine (Some (record now { indexes = after })))
   keeps_now =
       let here = subst (λ (consumer : Option Position). IsSomeAnd consumer (λ at. IsSomeAnd (index_of_type at.schemas name) (λ t. Counts machine name texts at t keys next))) was step in
       let (shape, (found, are, counts, (after, keeps, next_is))) = subst (λ (type_index : Option ℕ). IsSomeAnd type_index (λ t. Counts machine name texts now t keys next)) asks.of_type here in
       let same = paths_once now.schemas names index.type_index texts found index.paths are asks.paths in
       (after, subst (λ (ps : List Path). KeepsIndex now.indexes (index_by index.type_index ps) after) same keeps, next_is)
 
-  pub index_new : (Contains now.indexes index → ⊥) → next ≡ record machine { consumer = Some (record now { indexes = now.indexes ++ index ∷ [] }) }
+  pub index_new : (Contains now.indexes index → ⊥) → next ≡ with_consumer machine (Some (record now { indexes = now.indexes ++ index ∷ [] }))
   index_new none =
       let (after, keeps, next_is) = keeps_now in
       elim keeps [
         | inl kept ↦ absurd (none kept.0)
-        | inr new ↦ next_is ∙ (λ i. record machine { consumer = Some (record now { indexes = new.2 i }) })
+        | inr new ↦ next_is ∙ (λ i. with_consumer machine (Some (record now { indexes = new.2 i })))
       ]
 
   pub index_kept : Contains now.indexes index → next ≡ machine
   index_kept there =
       let (after, keeps, next_is) = keeps_now in
       elim keeps [
-        | inl kept ↦ next_is ∙ (λ i. record machine { consumer = Some (record now { indexes = kept.1 i }) }) ∙ (λ i. record machine { consumer = sym was i })
+        | inl kept ↦ next_is ∙ (λ i. with_consumer machine (Some (record now { indexes = kept.1 i }))) ∙ (λ i. with_consumer machine (sym was i))
         | inr new ↦ absurd (new.0 there)
       ]
 
@@ -76,10 +76,10 @@ new_behind before after index apart (k, inside, is) =
     apart k (length before + 0) index (omega (arith, inside)) (omega (arith, long)) (here ∙ sym there)
 
 added_all : (machine : Machine) (position : Position) (asked : List (Name × List (List ℕ))) (before after : List Index) (now next : Machine) → IsKept position.schemas DuplicateName → AskForAll position.schemas asked after
-    → AreApart (before ++ after) → now ≡ record machine { consumer = Some (record position { indexes = before }) } → AreAdded now asked next
-    → next ≡ record machine { consumer = Some (record position { indexes = before ++ after }) }
+    → AreApart (before ++ after) → now ≡ with_consumer machine (Some (record position { indexes = before })) → AreAdded now asked next
+    → next ≡ with_consumer machine (Some (record position { indexes = before ++ after }))
 added_all machine position [] before [] now next names asks apart now_is added =
-    added ∙ now_is ∙ (λ i. record machine { consumer = Some (record position { indexes = sym (append-nil before) i }) })
+    added ∙ now_is ∙ (λ i. with_consumer machine (Some (record position { indexes = sym (append-nil before) i })))
 added_all machine position [] before (index ∷ after) now next names asks apart now_is added = absurd asks
 added_all machine position (first ∷ asked) before [] now next names asks apart now_is added = absurd asks
 added_all machine position (first ∷ asked) before (index ∷ after) now next names asks apart now_is (keys, between, step, more) =
@@ -87,9 +87,9 @@ added_all machine position (first ∷ asked) before (index ∷ after) now next n
     let was : now.consumer ≡ Some here = ap (λ (m : Machine). m.consumer) now_is in
     let joined = append_assoc before (index ∷ []) after in
     let between_is = index_new now between here first.0 first.1 index keys was names asks.0 step (new_behind before after index apart)
-    ∙ ap (λ (m : Machine). record m { consumer = Some (record position { indexes = before ++ index ∷ [] }) }) now_is in
+    ∙ ap (λ (m : Machine). with_consumer m (Some (record position { indexes = before ++ index ∷ [] }))) now_is in
     added_all machine position asked (before ++ index ∷ []) after between next names asks.1 (subst AreApart (sym joined) apart) between_is more
-    ∙ (λ i. record machine { consumer = Some (record position { indexes = joined i }) })
+    ∙ (λ i. with_consumer machine (Some (record position { indexes = joined i })))
 
 -- ---- the orders are answered
 
@@ -111,19 +111,19 @@ module _ (schemas : List Schema) (table : Table) (t : ℕ) (paths : List Path) w
   }
 
 asked_there : (machine : Machine) (now : Position) (name : Name) (texts : List (List ℕ)) (index : Index) → AsksFor now.schemas name texts index → (Contains now.indexes index → ⊥) → length now.indexes < number_of_limit Indexes
-    → (keys : ℕ) × IndexStep (record machine { consumer = Some now }) name texts (reply.Index keys) (record machine { consumer = Some (record now { indexes = now.indexes ++ index ∷ [] }) })
+    → (keys : ℕ) × IndexStep (with_consumer machine (Some now)) name texts (reply.Index keys) (with_consumer machine (Some (record now { indexes = now.indexes ++ index ∷ [] })))
 asked_there machine now name texts index asks none room =
-    let standing : Machine = record machine { consumer = Some now } in
-    let next : Machine = record machine { consumer = Some (record now { indexes = now.indexes ++ index ∷ [] }) } in
+    let standing : Machine = with_consumer machine (Some now) in
+    let next : Machine = with_consumer machine (Some (record now { indexes = now.indexes ++ index ∷ [] })) in
     let keyed = filter (has_key now.schemas (rows_now now) index.type_index index.paths) (ordinals now.schemas (rows_now now) index.type_index index.paths) in (
       length keyed,
       subst (λ (type_index : Option ℕ). IsSomeAnd type_index (λ t. Counts standing name texts now t (length keyed) next)) (sym asks.of_type)
           (asks.records, (index.paths, asks.paths, (keyed, keyed_there now.schemas (rows_now now) index.type_index index.paths, refl), (now.indexes ++ index ∷ [], inr (none, room, refl), refl))),
     )
 
-added_there : (machine : Machine) (position : Position) (before after : List Index) (now : Machine) → AreIndexes position.schemas (before ++ after) → now ≡ record machine { consumer = Some (record position { indexes = before }) }
-    → (asked : List (Name × List (List ℕ))) × AskForAll position.schemas asked after × AreAdded now asked (record machine { consumer = Some (record position { indexes = before ++ after }) })
-added_there machine position before [] now are now_is = ([], tt, (λ i. record machine { consumer = Some (record position { indexes = append-nil before i }) }) ∙ sym now_is)
+added_there : (machine : Machine) (position : Position) (before after : List Index) (now : Machine) → AreIndexes position.schemas (before ++ after) → now ≡ with_consumer machine (Some (record position { indexes = before }))
+    → (asked : List (Name × List (List ℕ))) × AskForAll position.schemas asked after × AreAdded now asked (with_consumer machine (Some (record position { indexes = before ++ after })))
+added_there machine position before [] now are now_is = ([], tt, (λ i. with_consumer machine (Some (record position { indexes = append-nil before i }))) ∙ sym now_is)
 added_there machine position before (index ∷ after) now are now_is =
     let all = before ++ index ∷ after in
     let long = length-append before (index ∷ after) in
@@ -133,7 +133,7 @@ added_there machine position before (index ∷ after) now are now_is =
     let here : Position = record position { indexes = before } in
     let joined = append_assoc before (index ∷ []) after in
     let (keys, step) = asked_there machine here name texts index asks (new_behind before after index are.apart) (omega (arith, long, few)) in
-    let between : Machine = record machine { consumer = Some (record position { indexes = before ++ index ∷ [] }) } in
+    let between : Machine = with_consumer machine (Some (record position { indexes = before ++ index ∷ [] })) in
     let (asked, ask, added) = added_there machine position (before ++ index ∷ []) after between (subst (AreIndexes position.schemas) (sym joined) are) refl in (
       (name, texts) ∷ asked,
       (asks, ask),
@@ -141,7 +141,7 @@ added_there machine position before (index ∷ after) now are now_is =
         keys,
         between,
         subst (λ (m : Machine). IndexStep m name texts (reply.Index keys) between) (sym now_is) step,
-        subst (λ (indexes : List Index). AreAdded between asked (record machine { consumer = Some (record position { indexes = indexes }) })) joined added,
+        subst (λ (indexes : List Index). AreAdded between asked (with_consumer machine (Some (record position { indexes = indexes })))) joined added,
       ),
     )
 
@@ -150,7 +150,7 @@ module _ (machine : Machine) (chain : Chain) (version : ℕ) (state : ChainState
   is_in : IsIn chain now
   is_in = subst (λ (consumer : Option Position). IfSome consumer (IsIn chain)) was of
 
-  is_fresh : (position : Position) (next : Machine) → StandsAt state position → next ≡ record machine { consumer = Some (record position { indexes = now.indexes }) } → Fresh chain machine next
+  is_fresh : (position : Position) (next : Machine) → StandsAt state position → next ≡ with_consumer machine (Some (record position { indexes = now.indexes })) → Fresh chain machine next
   is_fresh position next stands next_is = record {
     now = now;
     was = was;
@@ -170,7 +170,7 @@ module _ (machine : Machine) (chain : Chain) (version : ℕ) (state : ChainState
       let (position, stands, none, answer_is, loaded_is) = load_only machine chain version state holds there whole answer loaded step in
       let names = subst (λ (m : List Schema). IsKept m DuplicateName) (sym stands.model) ((holds.sound.sound version state there).model DuplicateName) in
       let asks_here = subst (λ (m : List Schema). AskForAll m asked now.indexes) (sym stands.model) asks in
-      let bare = loaded_is ∙ (λ i. record machine { consumer = Some (record position { indexes = none i }) }) in
+      let bare = loaded_is ∙ (λ i. with_consumer machine (Some (record position { indexes = none i }))) in
       is_fresh position next stands (added_all machine position asked [] now.indexes loaded next names asks_here is_in.indexes.apart bare added)
 
   pub fresh_there : (loaded next : Machine) × (asked : List (Name × List (List ℕ)))
@@ -178,10 +178,10 @@ module _ (machine : Machine) (chain : Chain) (version : ℕ) (state : ChainState
   unfolding is_fresh
   fresh_there =
       let (first, step) = load_taken machine chain version state holds there whole in
-      let loaded : Machine = record machine { consumer = Some first } in
+      let loaded : Machine = with_consumer machine (Some first) in
       let (position, stands, none, answer_is, loaded_is) = load_only machine chain version state holds there whole (reply.Load state.tag) loaded step in
-      let bare = loaded_is ∙ (λ i. record machine { consumer = Some (record position { indexes = none i }) }) in
-      let next : Machine = record machine { consumer = Some (record position { indexes = now.indexes }) } in
+      let bare = loaded_is ∙ (λ i. with_consumer machine (Some (record position { indexes = none i }))) in
+      let next : Machine = with_consumer machine (Some (record position { indexes = now.indexes })) in
       let fresh = is_fresh position next stands refl in
       let model = schemas_same machine next chain holds.sound of fresh in
       let (asked, asks, added) = added_there machine position [] now.indexes loaded (subst (λ (m : List Schema). AreIndexes m now.indexes) model is_in.indexes) bare in

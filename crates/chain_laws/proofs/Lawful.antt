@@ -1,17 +1,16 @@
 -- What every law of lines asks of the orders of a kind.
 use Rattle.std.proofs.Common.{◌≡◌, ℕ, List, Bool, true, Option, Some, refl, sym, ap, subst, ◌∙◌, inl, inr, ◌⊎◌, false}
 use Rattle.std.specs.Prelude.{IfSome}
-use Rattle.serde_json.specs.Data.{Data}
 use Rattle.hol_orders.specs.declared.kind.Kind.{Kind}
 use Rattle.hol_orders.specs.declared.order.Order.{Order}
-use Rattle.hol_orders.specs.Order.{Orders, content_of, kind_of}
+use Rattle.hol_orders.specs.Kind.{shape}
+use Rattle.hol_orders.specs.Order.{Orders, asking, asks}
 use Rattle.hol_answers.specs.declared.refusal.Refusal.{Refusal}
 use Rattle.hol_answers.specs.declared.reply.Reply.{Reply}
 use Rattle.hol_answers.specs.declared.reply.Reply.TheVariants as reply
 use Rattle.read_engine.specs.Position.{Position}
-use Rattle.hollow_machine.proofs.Asking.{asked_of}
-use Rattle.hollow_machine.specs.Forms.{Meets, OrderForm, Refuses, looking, unbuilt}
-use Rattle.hollow_machine.specs.State.{Machine}
+use Rattle.hollow_machine.specs.Forms.{OrderForm, Refuses, looking, unbuilt}
+use Rattle.hollow_machine.specs.State.{Machine, with_consumer}
 use Rattle.written_laws.specs.Chain.{Chain, ChainState, HasVersion, IsChain}
 use Rattle.written_laws.specs.HoldsChain.{HoldsChain}
 use Rattle.chain_laws.specs.Answers.{SaysOne}
@@ -37,31 +36,31 @@ Keeps machine line answer chain next =
     (after : Chain) × GrowsBy machine line answer chain after × KeepsChain next.store after × IsProducerOf after next.producer × Extends chain after
 
 -- the orders of a kind are answered in one way
-abbrev pub IsOneOf : OrderForm → Type 0
-IsOneOf form = WrittenOnce → (machine : Machine) → IsSoundMachine machine → (asked : form.Asked) (one other : Reply) (next after : Machine)
+abbrev pub IsOneOf : {Asked : Type 0} → OrderForm Asked → Type 0
+IsOneOf {Asked} form = WrittenOnce → (machine : Machine) → IsSoundMachine machine → (asked : Asked) (one other : Reply) (next after : Machine)
     → form.Answers machine asked one next → form.Answers machine asked other after → SaysOne one other × (next ≡ after)
 
 -- they leave a sound machine sound
-abbrev pub IsSoundOf : OrderForm → Type 0
-IsSoundOf form = (machine : Machine) → IsSoundMachine machine → (asked : form.Asked) (answer : Reply) (next : Machine) → form.Answers machine asked answer next → IsSoundMachine next
+abbrev pub IsSoundOf : {Asked : Type 0} → OrderForm Asked → Type 0
+IsSoundOf {Asked} form = (machine : Machine) → IsSoundMachine machine → (asked : Asked) (answer : Reply) (next : Machine) → form.Answers machine asked answer next → IsSoundMachine next
 
 -- they keep the chain of a store, and a producer over it
-abbrev pub KeepsOf : Kind → OrderForm → Type 0
+abbrev pub KeepsOf : (kind : Kind) → OrderForm (shape kind).Asked → Type 0
 KeepsOf kind form = (machine : Machine) (chain : Chain) → KeepsChain machine.store chain → IsProducerOf chain machine.producer
-    → (line : List ℕ) (order : Order) → Orders line order → kind_of order ≡ kind
-    → (answer : Reply) (next : Machine) → Meets form machine (content_of order) answer next → Keeps machine line answer chain next
+    → (line : List ℕ) (order : Order) → Orders line order → (asked : (shape kind).Asked) → asking order ≡ asks kind asked
+    → (answer : Reply) (next : Machine) → form.Answers machine asked answer next → Keeps machine line answer chain next
 
 -- they leave the consumer at a state of the chain
-abbrev pub MovesOf : OrderForm → Type 0
-MovesOf form = (machine : Machine) (chain : Chain) → HoldsChain machine.store chain → IsConsumerOf chain machine.consumer
-    → (asked : form.Asked) (answer : Reply) (next : Machine) → form.Answers machine asked answer next → IsConsumerOf chain next.consumer
+abbrev pub MovesOf : {Asked : Type 0} → OrderForm Asked → Type 0
+MovesOf {Asked} form = (machine : Machine) (chain : Chain) → HoldsChain machine.store chain → IsConsumerOf chain machine.consumer
+    → (asked : Asked) (answer : Reply) (next : Machine) → form.Answers machine asked answer next → IsConsumerOf chain next.consumer
 
 -- they are answered as where the consumer has its state afresh
-abbrev pub IsFreshOf : OrderForm → Type 0
-IsFreshOf form = (machine fresh : Machine) (chain : Chain) → IsChain chain → IsConsumerOf chain machine.consumer → Fresh chain machine fresh
-    → (asked : form.Asked) (answer : Reply) (next : Machine) → form.Answers machine asked answer next → form.Answers fresh asked answer fresh
+abbrev pub IsFreshOf : {Asked : Type 0} → OrderForm Asked → Type 0
+IsFreshOf {Asked} form = (machine fresh : Machine) (chain : Chain) → IsChain chain → IsConsumerOf chain machine.consumer → Fresh chain machine fresh
+    → (asked : Asked) (answer : Reply) (next : Machine) → form.Answers machine asked answer next → form.Answers fresh asked answer fresh
 
-pub record IsLawful (kind : Kind) (form : OrderForm) : Type 0 where
+pub record IsLawful (kind : Kind) (form : OrderForm (shape kind).Asked) : Type 0 where
   pub once : IsOneOf form
   pub sound : IsSoundOf form
   pub keeps : KeepsOf kind form
@@ -72,7 +71,7 @@ pub record IsLawful (kind : Kind) (form : OrderForm) : Type 0 where
 
 module _ (machine : Machine) (line : List ℕ) (chain : Chain) (kept : KeepsChain machine.store chain) (over : IsProducerOf chain machine.producer) where
   -- the store and the producer stay
-  pub beside_keeps : (answer : Reply) (next : Machine) (consumer : Option Position) → GrowsBy machine line answer chain chain → next ≡ record machine { consumer = consumer } → Keeps machine line answer chain next
+  pub beside_keeps : (answer : Reply) (next : Machine) (consumer : Option Position) → GrowsBy machine line answer chain chain → next ≡ with_consumer machine consumer → Keeps machine line answer chain next
   beside_keeps answer next consumer grows same =
       let both = subst (λ (m : Machine). KeepsChain m.store chain × IsProducerOf chain m.producer) (sym same) (kept, over) in
       (chain, grows, both.0, both.1, (λ v s there. there))
@@ -87,7 +86,7 @@ module _ (machine : Machine) (line : List ℕ) (chain : Chain) (kept : KeepsChai
 pub stays_sound : (machine : Machine) → IsSoundMachine machine → (next : Machine) → next ≡ machine → IsSoundMachine next
 stays_sound machine sound next same = subst IsSoundMachine (sym same) sound
 
-pub moved_sound : (machine : Machine) → IsSoundMachine machine → (next : Machine) (position : Position) → next ≡ record machine { consumer = Some position } → IsTyped position → IsSoundMachine next
+pub moved_sound : (machine : Machine) → IsSoundMachine machine → (next : Machine) (position : Position) → next ≡ with_consumer machine (Some position) → IsTyped position → IsSoundMachine next
 moved_sound machine sound next position next_is typed = subst IsSoundMachine (sym next_is) (sound.0, typed)
 
 pub stays_of : (machine : Machine) (chain : Chain) → IsConsumerOf chain machine.consumer → (next : Machine) → next.consumer ≡ machine.consumer → IsConsumerOf chain next.consumer
@@ -97,7 +96,7 @@ pub same_of : (machine : Machine) (chain : Chain) → IsConsumerOf chain machine
 same_of machine chain of next same = stays_of machine chain of next (ap (λ (m : Machine). m.consumer) same)
 
 -- the consumer is this one, which stands in the chain
-pub moved_of : (machine : Machine) (chain : Chain) (next : Machine) (position : Position) → next ≡ record machine { consumer = Some position } → IsIn chain position → IsConsumerOf chain next.consumer
+pub moved_of : (machine : Machine) (chain : Chain) (next : Machine) (position : Position) → next ≡ with_consumer machine (Some position) → IsIn chain position → IsConsumerOf chain next.consumer
 moved_of machine chain next position next_is is_in = subst (λ (m : Machine). IsConsumerOf chain m.consumer) (sym next_is) is_in
 
 pub says_both : (one other : Reply) (next after : Machine) → (one ≡ other) × (next ≡ after) → SaysOne one other × (next ≡ after)
@@ -105,72 +104,64 @@ says_both one other next after (same, and) = (says one other same, and)
 
 -- ---- orders that look, and orders that are not built
 
-pub looks_lawful : {A : Type 0} (kind : Kind) (asked : Data → Option A) (Answers : Option Position → A → Reply → Type 0) (of_state : Bool)
-    → ((consumer : Option Position) (a : A) (one other : Reply) → IfSome consumer IsTyped → Answers consumer a one → Answers consumer a other → SaysOne one other)
-    → ((consumer : Option Position) (a : A) (answer : Reply) → Answers consumer a answer → IsNoCycle answer)
-    → (of_state ≡ true → (machine fresh : Machine) (chain : Chain) → IsChain chain → IsConsumerOf chain machine.consumer → Fresh chain machine fresh → (a : A) (answer : Reply)
-    → Answers machine.consumer a answer → Answers fresh.consumer a answer)
-    → IsLawful kind (looking asked Answers of_state)
-looks_lawful k asked Answers of_state one none afresh = record {
-  once = λ written machine sound a answer other next after is also. (one machine.consumer a answer other sound.1 is.0 also.0, is.1 ∙ sym also.1);
-  sound = λ machine sound a answer next is. stays_sound machine sound next is.1;
-  keeps = λ machine chain kept over line order orders of answer next meets.
-      let (a, read, is) = asked_of (looking asked Answers of_state) machine (content_of order) answer next meets in
-      same_keeps machine line chain kept over answer next (unless_cycle machine line chain answer (none machine.consumer a answer is.0)) is.1;
-  moves = λ machine chain holds of a answer next is. same_of machine chain of next is.1;
-  afresh = λ can machine fresh chain sound of is_fresh a answer next is. (afresh can machine fresh chain sound of is_fresh a answer is.0, refl);
+pub looks_lawful : (kind : Kind) (Answers : Option Position → (shape kind).Asked → Reply → Type 0) (of_state : Bool)
+    → ((consumer : Option Position) (asked : (shape kind).Asked) (one other : Reply) → IfSome consumer IsTyped → Answers consumer asked one → Answers consumer asked other → SaysOne one other)
+    → ((consumer : Option Position) (asked : (shape kind).Asked) (answer : Reply) → Answers consumer asked answer → IsNoCycle answer)
+    → (of_state ≡ true → (machine fresh : Machine) (chain : Chain) → IsChain chain → IsConsumerOf chain machine.consumer → Fresh chain machine fresh → (asked : (shape kind).Asked) (answer : Reply)
+    → Answers machine.consumer asked answer → Answers fresh.consumer asked answer)
+    → IsLawful kind (looking Answers of_state)
+looks_lawful k Answers of_state one none afresh = record {
+  once = λ written machine sound asked answer other next after is also. (one machine.consumer asked answer other sound.1 is.0 also.0, is.1 ∙ sym also.1);
+  sound = λ machine sound asked answer next is. stays_sound machine sound next is.1;
+  keeps = λ machine chain kept over line order orders asked asks_it answer next is.
+      same_keeps machine line chain kept over answer next (unless_cycle machine line chain answer (none machine.consumer asked answer is.0)) is.1;
+  moves = λ machine chain holds of asked answer next is. same_of machine chain of next is.1;
+  afresh = λ can machine fresh chain sound of is_fresh asked answer next is. (afresh can machine fresh chain sound of is_fresh asked answer is.0, refl);
 }
 
 pub unbuilt_lawful : (kind : Kind) → IsLawful kind unbuilt
 unbuilt_lawful k = record {
-  once = λ written machine sound a one other next after is also. says_both one other next after (is.0 ∙ sym also.0, is.1 ∙ sym also.1);
-  sound = λ machine sound a answer next is. stays_sound machine sound next is.1;
-  keeps = λ machine chain kept over line order orders of answer next is. refused_keeps machine line chain kept over answer next _ is;
-  moves = λ machine chain holds of a answer next is. same_of machine chain of next is.1;
+  once = λ written machine sound asked one other next after is also. says_both one other next after (is.0 ∙ sym also.0, is.1 ∙ sym also.1);
+  sound = λ machine sound asked answer next is. stays_sound machine sound next is.1;
+  keeps = λ machine chain kept over line order orders asked asks_it answer next is. refused_keeps machine line chain kept over answer next _ is;
+  moves = λ machine chain holds of asked answer next is. same_of machine chain of next is.1;
   afresh = λ can. absurd cc;
 }
 
 -- ---- orders that move the consumer, or leave it
 
--- what such an order leaves: the machine, or a consumer at this position, whose rows are of a model, and which stands in the chain
-abbrev pub LeavesOf : OrderForm → Type 0
-LeavesOf form = (machine : Machine) (asked : form.Asked) (answer : Reply) (next : Machine) → form.Answers machine asked answer next
-    → IsNoCycle answer × ((next ≡ machine) ⊎ ((position : Position) × (next ≡ record machine { consumer = Some position }) × (IfSome machine.consumer IsTyped → IsTyped position)
-    × ((chain : Chain) → HoldsChain machine.store chain → IsConsumerOf chain machine.consumer → IsIn chain position)))
+-- the machine, or one whose consumer is at this position, whose rows are of a model, and which stands in the chain
+abbrev pub IsLeft : Machine → Machine → Type 0
+IsLeft machine next =
+    (next ≡ machine)
+    ⊎ ((position : Position) × (next ≡ with_consumer machine (Some position)) × (IfSome machine.consumer IsTyped → IsTyped position)
+    × ((chain : Chain) → HoldsChain machine.store chain → IsConsumerOf chain machine.consumer → IsIn chain position))
 
-module _ (form : OrderForm) (leaves : LeavesOf form) where
-  moving_sound : IsSoundOf form
-  moving_sound machine sound asked answer next is = on (leaves machine asked answer next is).1
-    where
-      on : (next ≡ machine) ⊎ ((position : Position) × (next ≡ record machine { consumer = Some position }) × (IfSome machine.consumer IsTyped → IsTyped position)
-          × ((chain : Chain) → HoldsChain machine.store chain → IsConsumerOf chain machine.consumer → IsIn chain position)) → IsSoundMachine next
-      on (inl same) = stays_sound machine sound next same
-      on (inr (position, next_is, typed, is_in)) = moved_sound machine sound next position next_is (typed sound.1)
+left_sound : (machine : Machine) → IsSoundMachine machine → (next : Machine) → IsLeft machine next → IsSoundMachine next
+left_sound machine sound next (inl same) = stays_sound machine sound next same
+left_sound machine sound next (inr (position, next_is, typed, is_in)) = moved_sound machine sound next position next_is (typed sound.1)
 
-  moving_moves : MovesOf form
-  moving_moves machine chain holds of asked answer next is = on (leaves machine asked answer next is).1
-    where
-      on : (next ≡ machine) ⊎ ((position : Position) × (next ≡ record machine { consumer = Some position }) × (IfSome machine.consumer IsTyped → IsTyped position)
-          × ((chain : Chain) → HoldsChain machine.store chain → IsConsumerOf chain machine.consumer → IsIn chain position)) → IsConsumerOf chain next.consumer
-      on (inl same) = same_of machine chain of next same
-      on (inr (position, next_is, typed, is_in)) = moved_of machine chain next position next_is (is_in chain holds of)
+left_moves : (machine : Machine) (chain : Chain) → HoldsChain machine.store chain → IsConsumerOf chain machine.consumer → (next : Machine) → IsLeft machine next → IsConsumerOf chain next.consumer
+left_moves machine chain holds of next (inl same) = same_of machine chain of next same
+left_moves machine chain holds of next (inr (position, next_is, typed, is_in)) = moved_of machine chain next position next_is (is_in chain holds of)
 
-  moving_keeps : (kind : Kind) → KeepsOf kind form
-  moving_keeps k machine chain kept over line order orders of_kind answer next meets =
-      let (asked, read, is) = asked_of form machine (content_of order) answer next meets in
-      let (none, left) = leaves machine asked answer next is in
-      on (unless_cycle machine line chain answer none) left
-    where
-      on : GrowsBy machine line answer chain chain → (next ≡ machine) ⊎ ((position : Position) × (next ≡ record machine { consumer = Some position }) × (IfSome machine.consumer IsTyped → IsTyped position)
-          × ((chain : Chain) → HoldsChain machine.store chain → IsConsumerOf chain machine.consumer → IsIn chain position)) → Keeps machine line answer chain next
-      on grows (inl same) = same_keeps machine line chain kept over answer next grows same
-      on grows (inr (position, next_is, typed, is_in)) = beside_keeps machine line chain kept over answer next (Some position) grows next_is
+left_keeps : (machine : Machine) (line : List ℕ) (chain : Chain) → KeepsChain machine.store chain → IsProducerOf chain machine.producer → (answer : Reply) (next : Machine)
+    → IsNoCycle answer → IsLeft machine next → Keeps machine line answer chain next
+left_keeps machine line chain kept over answer next none (inl same) = same_keeps machine line chain kept over answer next (unless_cycle machine line chain answer none) same
+left_keeps machine line chain kept over answer next none (inr (position, next_is, typed, is_in)) =
+    beside_keeps machine line chain kept over answer next (Some position) (unless_cycle machine line chain answer none) next_is
 
-pub moves_lawful : (kind : Kind) (form : OrderForm) → form.of_state ≡ false → IsOneOf form → LeavesOf form → IsLawful kind form
+-- what such an order leaves, with an answer that is no cycle's
+abbrev pub LeavesOf : {Asked : Type 0} → OrderForm Asked → Type 0
+LeavesOf {Asked} form =
+    (machine : Machine) (asked : Asked) (answer : Reply) (next : Machine) → form.Answers machine asked answer next → IsNoCycle answer × IsLeft machine next
+
+pub moves_lawful : (kind : Kind) (form : OrderForm (shape kind).Asked) → form.of_state ≡ false → IsOneOf form → LeavesOf form → IsLawful kind form
 moves_lawful k form not one leaves = record {
   once = one;
-  sound = moving_sound form leaves;
-  keeps = moving_keeps form leaves k;
-  moves = moving_moves form leaves;
+  sound = λ machine sound asked answer next is. left_sound machine sound next (leaves machine asked answer next is).1;
+  keeps = λ machine chain kept over line order orders asked asks_it answer next is.
+      (let (none, left) = leaves machine asked answer next is in left_keeps machine line chain kept over answer next none left);
+  moves = λ machine chain holds of asked answer next is. left_moves machine chain holds of next (leaves machine asked answer next is).1;
   afresh = λ can. absurd cc;
 }

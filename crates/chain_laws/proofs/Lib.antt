@@ -29,6 +29,7 @@ mod OneLook
 mod OneMember
 mod OneModel
 mod OneMove
+mod OneRecords
 mod OneScript
 mod PastLaws
 mod PrintedOnce

@@ -1,7 +1,7 @@
 -- What a line leaves of the chain that a store holds, and of the producer over it.
 use Rattle.std.proofs.Common.{ℕ, List, [], ◌∷◌, Bool, inl, inr, refl, sym, subst}
 use Rattle.hol_answers.specs.declared.reply.Reply.{Reply}
-use Rattle.hol_orders.specs.Order.{kind_of}
+use Rattle.hol_orders.specs.Order.{asked_of, kind_of}
 use Rattle.hollow_machine.specs.Script.{LineStep, Script}
 use Rattle.hollow_machine.specs.State.{Machine}
 use Rattle.written_laws.specs.Chain.{Chain}
@@ -14,7 +14,7 @@ module _ (machine : Machine) (line : List ℕ) (chain : Chain) (kept : KeepsChai
   pub line_keeps : (answer : Reply) (next : Machine) → LineStep machine line answer next → Keeps machine line answer chain next
   line_keeps answer next (inl long) = refused_keeps machine line chain kept over answer next _ long.1
   line_keeps answer next (inr (short, inl none)) = refused_keeps machine line chain kept over answer next _ none.1
-  line_keeps answer next (inr (short, inr (asked, orders, step))) = (laws (kind_of asked)).keeps machine chain kept over line asked orders refl answer next step
+  line_keeps answer next (inr (short, inr (order, orders, step))) = (laws (kind_of order)).keeps machine chain kept over line order orders (asked_of order) refl answer next step
 
 pub script_keeps : (machine next : Machine) (lines : List (List ℕ)) (text : List ℕ) (refused : Bool) (chain : Chain) → Script machine lines text refused next
     → KeepsChain machine.store chain → IsProducerOf chain machine.producer

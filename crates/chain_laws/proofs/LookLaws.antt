@@ -1,7 +1,6 @@
 -- The laws of the orders that look at a consumer.
 use Rattle.std.proofs.Common.{true}
 use Rattle.hol_orders.specs.declared.kind.Kind.{Kind}
-use Rattle.hollow_machine.specs.Contents.{json_in, pair_in, text_in, triple_in, whole_in}
 use Rattle.hollow_machine.specs.KeyOrders.{FindReply, GetReply, find_form, get_form}
 use Rattle.hollow_machine.specs.KeyPaths.{texts_of_array}
 use Rattle.hollow_machine.specs.MemberOrders.{AtReply, HasReply, at_form, has_form}
@@ -15,37 +14,37 @@ use Rattle.chain_laws.proofs.OneLook.{one_live, one_row}
 use Rattle.chain_laws.proofs.OneMember.{one_at, one_has}
 
 pub live_lawful : IsLawful Kind.Live live_form
-live_lawful = looks_lawful Kind.Live text_in (λ consumer name answer. LiveReply consumer name answer) true
+live_lawful = looks_lawful Kind.Live (λ consumer name answer. LiveReply consumer name answer) true
     (λ consumer name one other typed is also. one_live consumer name one other is also)
     (λ consumer name answer is. live_no_cycle consumer name answer is)
     (λ can machine fresh chain sound of afresh name answer is. live_afresh machine fresh chain sound of afresh name answer is)
 
 pub row_lawful : IsLawful Kind.Row row_form
-row_lawful = looks_lawful Kind.Row (pair_in text_in whole_in) (λ consumer asked answer. RowReply consumer asked.0 asked.1 answer) true
+row_lawful = looks_lawful Kind.Row (λ consumer asked answer. RowReply consumer asked.0 asked.1 answer) true
     (λ consumer asked one other typed is also. one_row consumer asked.0 asked.1 one other is also)
     (λ consumer asked answer is. row_no_cycle consumer asked.0 asked.1 answer is)
     (λ can machine fresh chain sound of afresh asked answer is. row_afresh machine fresh chain sound of afresh asked.0 asked.1 answer is)
 
 pub has_lawful : IsLawful Kind.Has has_form
-has_lawful = looks_lawful Kind.Has (triple_in text_in whole_in whole_in) (λ consumer asked answer. HasReply consumer asked.0 asked.1 asked.2 answer) true
+has_lawful = looks_lawful Kind.Has (λ consumer asked answer. HasReply consumer asked.0 asked.1 asked.2 answer) true
     (λ consumer asked one other typed is also. one_has consumer asked.0 asked.1 asked.2 one other is also)
     (λ consumer asked answer is. has_no_cycle consumer asked.0 asked.1 asked.2 answer is)
     (λ can machine fresh chain sound of afresh asked answer is. has_afresh machine fresh chain sound of afresh asked.0 asked.1 asked.2 answer is)
 
 pub at_lawful : IsLawful Kind.At at_form
-at_lawful = looks_lawful Kind.At (triple_in text_in whole_in whole_in) (λ consumer asked answer. AtReply consumer asked.0 asked.1 asked.2 answer) true
+at_lawful = looks_lawful Kind.At (λ consumer asked answer. AtReply consumer asked.0 asked.1 asked.2 answer) true
     (λ consumer asked one other typed is also. one_at consumer asked.0 asked.1 asked.2 one other typed is also)
     (λ consumer asked answer is. at_no_cycle consumer asked.0 asked.1 asked.2 answer is)
     (λ can machine fresh chain sound of afresh asked answer is. at_afresh machine fresh chain sound of afresh asked.0 asked.1 asked.2 answer is)
 
 pub get_lawful : IsLawful Kind.Get get_form
-get_lawful = looks_lawful Kind.Get (pair_in text_in json_in) (λ consumer asked answer. GetReply consumer asked.0 asked.1 answer) true
+get_lawful = looks_lawful Kind.Get (λ consumer asked answer. GetReply consumer asked.0 asked.1 answer) true
     (λ consumer asked one other typed is also. one_get consumer asked.0 asked.1 one other typed is also)
     (λ consumer asked answer is. get_no_cycle consumer asked.0 asked.1 answer is)
     (λ can machine fresh chain sound of afresh asked answer is. get_afresh machine fresh chain sound of afresh asked.0 asked.1 answer is)
 
 pub find_lawful : IsLawful Kind.Find find_form
-find_lawful = looks_lawful Kind.Find (triple_in text_in json_in json_in) (λ consumer asked answer. FindReply consumer asked.0 (texts_of_array asked.1) asked.2 answer) true
+find_lawful = looks_lawful Kind.Find (λ consumer asked answer. FindReply consumer asked.0 (texts_of_array asked.1) asked.2 answer) true
     (λ consumer asked one other typed is also. one_find consumer asked.0 (texts_of_array asked.1) asked.2 one other typed is also)
     (λ consumer asked answer is. find_no_cycle consumer asked.0 (texts_of_array asked.1) asked.2 answer is)
     (λ can machine fresh chain sound of afresh asked answer is. find_afresh machine fresh chain sound of afresh asked.0 (texts_of_array asked.1) asked.2 answer is)

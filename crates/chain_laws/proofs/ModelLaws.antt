@@ -1,13 +1,13 @@
 -- The laws of the order `model`.
 use Rattle.std.proofs.Common.{◌≡◌, ℕ, List, length, inl, refl, sym, subst, ap}
-use Rattle.serde_json.specs.Data.{Data}
+use Rattle.serde_json.specs.Data.{Data, null}
 use Rattle.serde_json.specs.View.{view}
 use Rattle.serde_json.specs.declared.value.Value.{Value}
-use Rattle.hol_orders.specs.declared.order.Order.{Order}
 use Rattle.hol_orders.specs.declared.order.Order.TheVariants as order
 use Rattle.hol_answers.specs.declared.reply.Reply.{Reply}
 use Rattle.hol_answers.specs.declared.reply.Reply.TheVariants as reply
-use Rattle.hol_orders.specs.Order.{Orders, content_of, kind_of}
+use Rattle.hol_orders.specs.Kind.{shape}
+use Rattle.hol_orders.specs.Order.{Asking}
 use Rattle.hollow_machine.specs.ModelOrder.{ModelStep, model_form}
 use Rattle.hollow_machine.specs.State.{Machine}
 use Rattle.state_blobs.specs.Published.{new_producer}
@@ -18,9 +18,8 @@ use Rattle.written_laws.specs.HoldsChain.{HoldsChain}
 use Rattle.chain_laws.specs.Consumers.{IsConsumerOf}
 use Rattle.chain_laws.proofs.LastState.{none_once}
 use Rattle.chain_laws.proofs.OneCycle.{IsOnce}
-use Rattle.chain_laws.proofs.Lawful.{IsLawful, IsSoundMachine, Keeps, same_keeps, stays_sound, stays_of, same_of, says_both}
+use Rattle.chain_laws.proofs.Lawful.{IsLawful, IsSoundMachine, Keeps, KeepsOf, same_keeps, stays_sound, stays_of, same_of, says_both}
 use Rattle.hol_orders.specs.declared.kind.Kind.{Kind}
-use Rattle.hollow_machine.specs.Forms.{Meets}
 use Rattle.chain_laws.proofs.OneModel.{one_model}
 
 module _ (machine : Machine) (line : List ℕ) (chain : Chain) (kept : KeepsChain machine.store chain) (over : IsProducerOf chain machine.producer) where
@@ -46,10 +45,16 @@ module _ (machine : Machine) (chain : Chain) (holds : HoldsChain machine.store c
   model_moves value (reply.Refused refusal) next step = same_of machine chain of next step.1
   model_moves value _ next step = absurd step
 
-model_order_keeps : (machine : Machine) (chain : Chain) → KeepsChain machine.store chain → IsProducerOf chain machine.producer → (line : List ℕ) (asked : Order) → Orders line asked → kind_of asked ≡ Kind.Model
-    → (answer : Reply) (next : Machine) → Meets model_form machine (content_of asked) answer next → Keeps machine line answer chain next
-model_order_keeps machine chain kept over line (order.Model value) orders is answer next step = model_keeps machine line chain kept over value answer next step
-model_order_keeps machine chain kept over line _ orders is answer next step = absurd cc
+-- what an order of this kind asks for
+abbrev schemas_in : (kind : Kind) → (shape kind).Asked → Data
+schemas_in Kind.Model schemas = schemas
+schemas_in _ asked = null
+
+model_order_keeps : KeepsOf Kind.Model model_form
+model_order_keeps machine chain kept over line (order.Model value) orders schemas asks_it answer next step =
+    model_keeps machine line chain kept over value answer next
+    (subst (λ (json : Data). ModelStep machine json answer next) (sym (ap (λ (asking : Asking). schemas_in asking.kind asking.asked) asks_it)) step)
+model_order_keeps machine chain kept over line _ orders schemas asks_it answer next step = let kinds = ap (λ (asking : Asking). asking.kind) asks_it in absurd cc
 
 pub model_lawful : IsLawful Kind.Model model_form
 model_lawful = record {

@@ -7,18 +7,16 @@ use Rattle.std.specs.List.{AllZip}
 use Rattle.std.proofs.lemmas.Bool.{cases_eq}
 use Rattle.std.proofs.lemmas.List.Elements.{All-head, All-tail}
 use Rattle.std.proofs.lemmas.Option.{slice_get-get_or, slice_get-map}
-use Rattle.schema_model.specs.declared.model.rule.Rule.TheVariants.{DuplicateName}
 use Rattle.schema_model.specs.declared.schema.Schema.{Schema}
-use Rattle.schema_model.specs.Model.{IsKept}
 use Rattle.row_model.specs.Table.{Table}
 use Rattle.type_rows.specs.Layout.{Layout}
 use Rattle.type_state.specs.State.{Half}
 use Rattle.type_state.specs.Views.{table_of}
 use Rattle.delta_blob.specs.declared.part.DeltaPart.{DeltaPart}
-use Rattle.delta_blob.specs.Moved.{EachNamed, IsAt, IsUnnamed}
-use Rattle.delta_blob.specs.Patch.{NamesOnce, PartIs, TypePatch, schemas_in}
+use Rattle.delta_blob.specs.Moved.{EachNamed, IsUnnamed}
+use Rattle.delta_blob.specs.Patch.{Means, NamesOnce, PartIs, TypePatch, schemas_in}
 use Rattle.read_engine.specs.Taking.{layout_at}
-use Rattle.delta_blob.proofs.Indexed.{one_index, zip_beside}
+use Rattle.delta_blob.proofs.Indexed.{one_index, one_name, type_inside, zip_beside}
 
 -- ---- the layouts
 
@@ -34,46 +32,36 @@ chosen_not : {A X : Type 0} (c : A ⊎ (A → ⊥)) (x y : X) → (A → ⊥) �
 chosen_not (inl here) x y not = absurd (not here)
 chosen_not (inr apart) x y not = refl
 
-module _ (schemas : List Schema) (once : IsKept schemas DuplicateName) (P : ℕ → TypePatch → Type 0) (base : ℕ → Layout) where
-  abbrev Named : TypePatch → Type 0
-  Named named = (t : ℕ) × IsAt schemas t named × P t named
-
+module _ (base : ℕ → Layout) where
   -- that of the patch of the type, and else the one as it was
-  abbrev layouts : (patch : List TypePatch) → EachNamed schemas patch P → ℕ → Layout
-  layouts [] each t = base t
-  layouts (named ∷ patch) each t =
-      chosen (cases_eq (All-head Named named patch each).0 t) named.layout (layouts patch (All-tail Named named patch each) t)
+  abbrev layouts : List TypePatch → ℕ → Layout
+  layouts [] t = base t
+  layouts (named ∷ patch) t = chosen (cases_eq named.type_index t) named.layout (layouts patch t)
 
-  layouts_other : (patch : List TypePatch) (each : EachNamed schemas patch P) (t : ℕ) → IsUnnamed schemas patch t → layouts patch each t ≡ base t
-  layouts_other [] each t none = refl
-  layouts_other (named ∷ patch) each t none =
-      let (i, at, p) = All-head Named named patch each in
-      chosen_not (cases_eq i t) _ _ (λ same. All-head (λ n. IsAt schemas t n → ⊥) named patch none (subst (λ k. IsAt schemas k named) same at))
-      ∙ layouts_other patch (All-tail Named named patch each) t (All-tail (λ n. IsAt schemas t n → ⊥) named patch none)
+  layouts_other : (patch : List TypePatch) (t : ℕ) → IsUnnamed patch t → layouts patch t ≡ base t
+  layouts_other [] t none = refl
+  layouts_other (named ∷ patch) t none =
+      chosen_not (cases_eq named.type_index t) _ _ (All-head (λ n. n.type_index ≡ t → ⊥) named patch none)
+      ∙ layouts_other patch t (All-tail (λ n. n.type_index ≡ t → ⊥) named patch none)
 
-  layouts_named : (patch : List TypePatch) (each : EachNamed schemas patch P) (t k : ℕ) (named : TypePatch) → slice_get patch k ≡ Some named → IsAt schemas t named
-      → ((j : ℕ) (other : TypePatch) → slice_get patch j ≡ Some other → IsAt schemas t other → j ≡ k) → layouts patch each t ≡ named.layout
-  layouts_named [] each t k named at is one = absurd cc
-  layouts_named (first ∷ patch) each t zero named at is one =
+  layouts_named : (patch : List TypePatch) (t k : ℕ) (named : TypePatch) → slice_get patch k ≡ Some named → named.type_index ≡ t
+      → ((j : ℕ) (other : TypePatch) → slice_get patch j ≡ Some other → other.type_index ≡ t → j ≡ k) → layouts patch t ≡ named.layout
+  layouts_named [] t k named at is one = absurd cc
+  layouts_named (first ∷ patch) t zero named at is one =
       let same : first ≡ named = cc in
-      let (i, of_first, p) = All-head Named first patch each in
-      let here : i ≡ t = one_index schemas once i t first.schema named.schema of_first is (ap (λ (n : TypePatch). n.schema.name) same) in
-      chosen_here (cases_eq i t) _ _ here ∙ ap (λ (n : TypePatch). n.layout) same
-  layouts_named (first ∷ patch) each t (suc k) named at is one =
-      let (i, of_first, p) = All-head Named first patch each in
-      chosen_not (cases_eq i t) _ _ (λ same. (let no = one 0 first refl (subst (λ n. IsAt schemas n first) same of_first) in omega (arith, no)))
-      ∙ layouts_named patch (All-tail Named first patch each) t k named at is (λ j other at_other of_other. (let next = one (suc j) other at_other of_other in omega (arith, next)))
+      chosen_here (cases_eq first.type_index t) _ _ (ap (λ (n : TypePatch). n.type_index) same ∙ is) ∙ ap (λ (n : TypePatch). n.layout) same
+  layouts_named (first ∷ patch) t (suc k) named at is one =
+      chosen_not (cases_eq first.type_index t) _ _ (λ same. (let no = one 0 first refl same in omega (arith, no)))
+      ∙ layouts_named patch t k named at is (λ j other at_other of_other. (let next = one (suc j) other at_other of_other in omega (arith, next)))
 
 -- of one type a patch has one part
-pub one_part : (schemas : List Schema) (parts : List DeltaPart) (patch : List TypePatch) → NamesOnce parts → AllZip PartIs parts patch → (t j k : ℕ) (a b : TypePatch)
-    → slice_get patch j ≡ Some a → slice_get patch k ≡ Some b → IsAt schemas t a → IsAt schemas t b → j ≡ k
+pub one_part : (schemas : List Schema) (parts : List DeltaPart) (patch : List TypePatch) → NamesOnce parts → AllZip (PartIs schemas) parts patch → (t j k : ℕ) (a b : TypePatch)
+    → slice_get patch j ≡ Some a → slice_get patch k ≡ Some b → a.type_index ≡ t → b.type_index ≡ t → j ≡ k
 one_part schemas parts patch once are t j k a b at_a at_b of_a of_b =
-    let (x, at_x, is_x) = zip_beside PartIs parts patch j a are at_a in
-    let (y, at_y, is_y) = zip_beside PartIs parts patch k b are at_b in
-    let both : Some a.schema ≡ Some b.schema = sym of_a ∙ of_b in
-    let same : a.schema ≡ b.schema = cc in
+    let (x, at_x, is_x) = zip_beside (PartIs schemas) parts patch j a are at_a in
+    let (y, at_y, is_y) = zip_beside (PartIs schemas) parts patch k b are at_b in
     one_index (schemas_in parts) once j k x.schema y.schema (in_parts parts j x at_x) (in_parts parts k y at_y)
-    (ap (λ (s : Schema). s.name) (sym is_x.schema ∙ same ∙ is_y.schema))
+    (one_name schemas t x.schema y.schema (subst (Means schemas x.schema) of_a is_x.means) (subst (Means schemas y.schema) of_b is_y.means))
   where
     in_parts : (all : List DeltaPart) (i : ℕ) (part : DeltaPart) → slice_get all i ≡ Some part → slice_get (schemas_in all) i ≡ Some part.schema
     in_parts all i part at = slice_get-map (λ (p : DeltaPart). p.schema) all i ∙ ap (option_map (λ (p : DeltaPart). p.schema)) at
@@ -111,10 +99,10 @@ layout_there [] t inside = absurd (omega (arith, inside))
 layout_there (half ∷ halves) zero inside = refl
 layout_there (half ∷ halves) (suc t) inside = layout_there halves t (omega (arith, inside))
 
-module _ (schemas : List Schema) (once : IsKept schemas DuplicateName) (P : ℕ → TypePatch → Type 0) (halves : List Half) (parts : List DeltaPart) (patch : List TypePatch) (names : NamesOnce parts)
-    (are : AllZip PartIs parts patch) (each : EachNamed schemas patch P) (table : Table) (types : length table ≡ length schemas) (count : length halves ≡ length schemas) where
+module _ (schemas : List Schema) (halves : List Half) (parts : List DeltaPart) (patch : List TypePatch) (names : NamesOnce parts) (are : AllZip (PartIs schemas) parts patch) (table : Table)
+    (types : length table ≡ length schemas) (count : length halves ≡ length schemas) where
   abbrev layout : ℕ → Layout
-  layout = layouts schemas once P (layout_of halves) patch each
+  layout = layouts (layout_of halves) patch
 
   abbrev pub next_halves : List Half
   next_halves = halves_of layout 0 table
@@ -130,21 +118,16 @@ module _ (schemas : List Schema) (once : IsKept schemas DuplicateName) (P : ℕ 
       let at : 0 + t ≡ t = omega arith in
       halves_layout layout 0 table t (omega (arith, inside, types)) ∙ ap (λ n. Some (layout n)) at
 
-  pub next_others : (t : ℕ) → t < length schemas → IsUnnamed schemas patch t → layout_at next_halves t ≡ layout_at halves t
+  pub next_others : (t : ℕ) → t < length schemas → IsUnnamed patch t → layout_at next_halves t ≡ layout_at halves t
   next_others t inside unnamed =
-      next_layout t inside ∙ ap (λ (l : Layout). Some l) (layouts_other schemas once P (layout_of halves) patch each t unnamed) ∙ sym (layout_there halves t (omega (arith, inside, count)))
+      next_layout t inside ∙ ap (λ (l : Layout). Some l) (layouts_other (layout_of halves) patch t unnamed) ∙ sym (layout_there halves t (omega (arith, inside, count)))
 
-  pub next_named : EachNamed schemas patch (λ t named. layout_at next_halves t ≡ Some named.layout)
+  pub next_named : EachNamed patch (λ t named. layout_at next_halves t ≡ Some named.layout)
   next_named k d within =
-      let (t, at, p) = each k d within in
-      let there = slice_get-get_or patch k d within in (
-        t,
-        at,
-        next_layout t (inside_of schemas t (get_or patch k d) at) ∙ ap (λ (l : Layout). Some l) (layouts_named schemas once P (layout_of halves) patch each t k (get_or patch k d) there at
-            (λ j other at_other of_other. one_part schemas parts patch names are t j k other (get_or patch k d) at_other there of_other at)),
-      )
-    where
-      inside_of : (all : List Schema) (i : ℕ) (named : TypePatch) → IsAt all i named → i < length all
-      inside_of [] i named at = absurd cc
-      inside_of (schema ∷ all) zero named at = omega arith
-      inside_of (schema ∷ all) (suc i) named at = let rest = inside_of all i named at in omega (arith, rest)
+      let named = get_or patch k d in
+      let there : slice_get patch k ≡ Some named = slice_get-get_or patch k d within in
+      let (part, at, is) = zip_beside (PartIs schemas) parts patch k named are there in
+      next_layout named.type_index (type_inside schemas part.schema.name named.type_index is.means.named)
+      ∙ ap (λ (l : Layout). Some l)
+      (layouts_named (layout_of halves) patch named.type_index k named there refl
+      (λ j other at_other of_other. one_part schemas parts patch names are named.type_index j k other named at_other there of_other refl))

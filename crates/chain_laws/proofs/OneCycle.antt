@@ -32,34 +32,22 @@ use Rattle.blob_writing.specs.Snapshot.{IsWrittenSnapshot}
 use Rattle.blob_writing.specs.Changes.{IsDeltaBetween}
 use Rattle.chain_store.specs.Announced.{Announces, IsAnnounced, IsBadlyAnnounced, IsNoVersion}
 use Rattle.chain_store.specs.Versions.{last_version}
+use Rattle.hol_orders.specs.Parts.{AskedState}
 use Rattle.hol_answers.specs.declared.refusal.Refusal.{Refusal}
 use Rattle.hol_answers.specs.declared.refusal.Refusal.TheVariants as refused
 use Rattle.hol_answers.specs.Refusal.{bad_item, bad_record}
 use Rattle.hol_answers.specs.declared.reply.Reply.{Reply}
 use Rattle.hol_answers.specs.declared.reply.Reply.TheVariants as reply
-use Rattle.hollow_machine.specs.CycleOrder.{AreNamed, CycleRefusal, CycleStep, Leaves, Makes, PassesLimit, Publishes, RefusesAfter, Succeeds}
+use Rattle.hollow_machine.specs.CycleOrder.{AreNamed, CycleRefusal, CycleStep, Leaves, Makes, PassesLimit, Publishes, RefusesAfter, Succeeds, SucceedsAfter}
 use Rattle.hollow_machine.specs.Follow.{MayFollow, MayNotFollow}
 use Rattle.state_blobs.specs.Puts.{AreBlobs, IsShort, Put, puts_of, put_all}
-use Rattle.hollow_machine.specs.Records.{AreRead, AreTypes, Entry, GivesTree, IsFirstUnknown, IsFirstUnread, entries}
-use Rattle.hollow_machine.specs.State.{Machine}
+use Rattle.hollow_machine.specs.Records.{AreRead, AreTypes, Entry, GivesTree, GivesTrees, IsFirstUnknown, IsFirstUnread, entries}
+use Rattle.hollow_machine.specs.State.{Machine, with_producer, with_store}
 use Rattle.state_blobs.specs.Published.{Published}
 use Rattle.chain_laws.proofs.OneLook.{rising_one}
+use Rattle.chain_laws.proofs.OneRecords.{no_tree, no_type, trees_one, unknown_one, unread_one}
 use Rattle.chain_laws.proofs.PrintedOnce.{each_once}
 use Rattle.chain_laws.proofs.StoreNames.{found_with, one_announced}
-
--- ---- the first of a list for which something does not hold
-
-first_one : {A : Type 0} (P : A → Type 0) (before other : List A) (x y : A) (rest more : List A) → All P before → All P other → (P x → ⊥) → (P y → ⊥) → before ++ (x ∷ rest) ≡ other ++ (y ∷ more) → x ≡ y
-first_one P [] [] x y rest more all also not nor same = cc
-first_one P [] (b ∷ other) x y rest more all also not nor same = let here : b ≡ x = cc in absurd (not (subst P here (All-head P b other also)))
-first_one P (a ∷ before) [] x y rest more all also not nor same = let here : a ≡ y = cc in absurd (nor (subst P here (All-head P a before all)))
-first_one P (a ∷ before) (b ∷ other) x y rest more all also not nor same =
-    let tails : before ++ (x ∷ rest) ≡ other ++ (y ∷ more) = cc in
-    first_one P before other x y rest more (All-tail P a before all) (All-tail P b other also) not nor tails
-
-in_all : {A : Type 0} (P : A → Type 0) (before : List A) (x : A) (rest : List A) → All P (before ++ (x ∷ rest)) → P x
-in_all P [] x rest all = All-head P x rest all
-in_all P (a ∷ before) x rest all = in_all P before x rest (All-tail P a (before ++ (x ∷ rest)) all)
 
 -- ---- whether a state may follow
 
@@ -163,67 +151,16 @@ module _ (schemas : List Schema) (old new : Table) where
             ]
       ]
 
--- ---- the records of a cycle
+-- ---- the state that trees make
 
-module _ (last : Published) (add : Data) (once : HoldsOnce last.rows) where
-  abbrev recorded : List Entry
-  recorded = entries last.model add
-
-  tree_one : (entry : Entry) (a b : ℕ × PlainTree) → GivesTree last.model entry a → GivesTree last.model entry b → a ≡ b
-  tree_one entry a b one other =
-      let index = one.0 ∙ sym other.0 in
-      let both : Ok a.1 ≡ Ok b.1 = sym one.1 ∙ other.1 in
-      let tree : a.1 ≡ b.1 = cc in
-      λ i. (index i, tree i)
-
-  trees_one : (trees others : List (ℕ × PlainTree)) → AreRead last.model recorded trees → AreRead last.model recorded others → trees ≡ others
-  trees_one trees others one other = each_once (GivesTree last.model) tree_one recorded trees others one other
-
-  rows_one : (rows others : Table) (changed also : List ℕ) → Makes last add rows changed → Makes last add others also → rows ≡ others
-  rows_one rows others changed also one other =
-      let same = trees_one one.trees other.trees one.read other.read in
-      next_is_one last.model last.rows rows others one.trees once one.state
-      (subst (λ (ts : List (ℕ × PlainTree)). Next last.model last.rows ts others) (sym same) other.state)
+module _ (last : Published) (trees : List (ℕ × PlainTree)) (once : HoldsOnce last.rows) where
+  rows_one : (rows others : Table) (changed also : List ℕ) → Makes last trees rows changed → Makes last trees others also → rows ≡ others
+  rows_one rows others changed also one other = next_is_one last.model last.rows rows others trees once one.state other.state
 
   changed_one : (rows others : Table) (changed also : List ℕ) → rows ≡ others → AreChanged last.rows rows changed → AreChanged last.rows others also → changed ≡ also
   changed_one rows others changed also same one other =
       let here : AreChanged last.rows rows also = subst (λ (t : Table). AreChanged last.rows t also) (sym same) other in
       rising_one changed also one.rising here.rising (λ q. ((λ among. (here.same q).1 ((one.same q).0 among)), (λ among. (one.same q).1 ((here.same q).0 among))))
-
-  no_tree : (trees : List (ℕ × PlainTree)) (type_index place : ℕ) (reason : Reason) → AreRead last.model recorded trees → IsFirstUnread last.model recorded type_index place reason → ⊥
-  no_tree trees type_index place reason read first =
-      let all : All (λ (entry : Entry). IsOk (read_tree last.model entry.type_index entry.value)) recorded = each_ok recorded trees read in
-      let ok : IsOk (read_tree last.model type_index first.value) =
-      in_all (λ (entry : Entry). IsOk (read_tree last.model entry.type_index entry.value)) first.before (record { type_index = type_index; place = place; value = first.value }) first.rest
-      (subst (λ (es : List Entry). All (λ (entry : Entry). IsOk (read_tree last.model entry.type_index entry.value)) es) first.split all) in
-      let bad = subst IsOk first.unread ok in absurd cc
-    where
-      each_ok : (es : List Entry) (ts : List (ℕ × PlainTree)) → AllZip (GivesTree last.model) es ts → All (λ (entry : Entry). IsOk (read_tree last.model entry.type_index entry.value)) es
-      each_ok [] [] are = All-nil (λ (entry : Entry). IsOk (read_tree last.model entry.type_index entry.value))
-      each_ok [] (t ∷ ts) are = absurd are
-      each_ok (e ∷ es) [] are = absurd are
-      each_ok (e ∷ es) (t ∷ ts) are =
-          All-cons (λ (entry : Entry). IsOk (read_tree last.model entry.type_index entry.value)) e es (subst IsOk (sym are.0.1) refl) (each_ok es ts are.1)
-
-  no_type : (name : List ℕ) → AreTypes last.model add → IsFirstUnknown last.model add name → ⊥
-  no_type name types first =
-      let known = in_all (λ (n : List ℕ). IsSome (index_of_type last.model n)) first.before name first.rest
-      (subst (λ (names : List (List ℕ)). All (λ (n : List ℕ). IsSome (index_of_type last.model n)) names) first.split types) in
-      let bad = subst IsSome first.unknown known in absurd cc
-
-  unknown_one : (a b : List ℕ) → IsFirstUnknown last.model add a → IsFirstUnknown last.model add b → a ≡ b
-  unknown_one a b one other =
-      first_one (λ (n : List ℕ). IsSome (index_of_type last.model n)) one.before other.before a b one.rest other.rest one.known other.known
-      (λ known. (let bad = subst IsSome one.unknown known in absurd cc)) (λ known. (let bad = subst IsSome other.unknown known in absurd cc)) (sym one.split ∙ other.split)
-
-  unread_one : (t u place other_place : ℕ) (reason why_too : Reason) → IsFirstUnread last.model recorded t place reason → IsFirstUnread last.model recorded u other_place why_too
-      → (t ≡ u) × (place ≡ other_place) × (reason ≡ why_too)
-  unread_one t u place other_place reason why_too one other =
-      let same = first_one (λ (entry : Entry). IsOk (read_tree last.model entry.type_index entry.value)) one.before other.before
-      (record { type_index = t; place = place; value = one.value }) (record { type_index = u; place = other_place; value = other.value }) one.rest other.rest one.read other.read
-      (λ ok. (let bad = subst IsOk one.unread ok in absurd cc)) (λ ok. (let bad = subst IsOk other.unread ok in absurd cc)) (sym one.split ∙ other.split) in
-      let both : Err reason ≡ Err why_too = sym one.unread ∙ ap (λ (e : Entry). read_tree last.model e.type_index e.value) same ∙ other.unread in
-      (ap (λ (e : Entry). e.type_index) same, ap (λ (e : Entry). e.place) same, cc)
 
 -- ---- a cycle of a producer
 
@@ -235,19 +172,16 @@ WrittenOnce =
     × ((schemas : List Schema) (old new : Table) (origin destination : ℤ) (a b : List ℕ) → IsModel schemas → AreWritable schemas old new → IsDeltaBetween schemas old new origin destination a
     → IsDeltaBetween schemas old new origin destination b → a ≡ b)
 
-module _ (written : WrittenOnce) (machine : Machine) (last : Published) (version : ℕ) (tag : ℤ) (add : Data) (model : IsModel last.model) (once : HoldsOnce last.rows) where
-  abbrev store : Store
-  store = machine.store
-
-  blobs_one : (rows : Table) (trees : List (ℕ × PlainTree)) → Next last.model last.rows trees rows → TellsTypes last.model last.rows rows None → (blobs others : List Put)
+module _ (written : WrittenOnce) (machine : Machine) (last : Published) (version : ℕ) (tag : ℤ) (trees : List (ℕ × PlainTree)) (model : IsModel last.model) (once : HoldsOnce last.rows) where
+  blobs_one : (rows : Table) → Next last.model last.rows trees rows → TellsTypes last.model last.rows rows None → (blobs others : List Put)
       → AreBlobs last rows version tag blobs → AreBlobs last rows version tag others → blobs ≡ others
-  blobs_one rows trees made keeps blobs others (inl (zero_before, (snapshot, one, is))) (inl (zero_too, (other, also, other_is))) =
+  blobs_one rows made keeps blobs others (inl (zero_before, (snapshot, one, is))) (inl (zero_too, (other, also, other_is))) =
       let can = writable last.model last.rows rows (next_agree last.model last.rows rows trees once made) keeps in
       let same = written.0 last.model last.rows rows last.tag tag snapshot other model can one also in
       is ∙ ap (λ (b : List ℕ). (Snapshot version, b) ∷ []) same ∙ sym other_is
-  blobs_one rows trees made keeps blobs others (inl first) (inr later) = absurd (later.0 first.0)
-  blobs_one rows trees made keeps blobs others (inr later) (inl first) = absurd (later.0 first.0)
-  blobs_one rows trees made keeps blobs others (inr (nonzero, (delta, reverse, snapshot, forth, back, one, is))) (inr (nonzero_too, (d, r, s, forth_too, back_too, also, other_is))) =
+  blobs_one rows made keeps blobs others (inl first) (inr later) = absurd (later.0 first.0)
+  blobs_one rows made keeps blobs others (inr later) (inl first) = absurd (later.0 first.0)
+  blobs_one rows made keeps blobs others (inr (nonzero, (delta, reverse, snapshot, forth, back, one, is))) (inr (nonzero_too, (d, r, s, forth_too, back_too, also, other_is))) =
       let agree = next_agree last.model last.rows rows trees once made in
       let can = writable last.model last.rows rows agree keeps in
       let deltas = written.1 last.model last.rows rows last.tag tag delta d model can forth forth_too in
@@ -260,16 +194,16 @@ module _ (written : WrittenOnce) (machine : Machine) (last : Published) (version
   not_both changed (inl zero_before) nonzero none = nonzero zero_before
   not_both changed (inr some) nonzero none = some none
 
-  leaves_one : (rows : Table) (trees : List (ℕ × PlainTree)) (changed : List ℕ) → Next last.model last.rows trees rows → (published also : Bool) (next after : Machine)
+  leaves_one : (rows : Table) (changed : List ℕ) → Next last.model last.rows trees rows → (published also : Bool) (next after : Machine)
       → Leaves machine last rows changed version tag published next → Leaves machine last rows changed version tag also after → (published ≡ also) × (next ≡ after)
-  leaves_one rows trees changed made false false next after one other = (refl, one.2 ∙ sym other.2)
-  leaves_one rows trees changed made false true next after one other = absurd (not_both changed other.0 one.0 one.1)
-  leaves_one rows trees changed made true false next after one other = absurd (not_both changed one.0 other.0 other.1)
-  leaves_one rows trees changed made true true next after (publishes, keeps, (blobs, are, short, next_is)) (publishes_too, keeps_too, (others, are_too, short_too, after_is)) =
-      let same = blobs_one rows trees made keeps blobs others are are_too in (
+  leaves_one rows changed made false false next after one other = (refl, one.2 ∙ sym other.2)
+  leaves_one rows changed made false true next after one other = absurd (not_both changed other.0 one.0 one.1)
+  leaves_one rows changed made true false next after one other = absurd (not_both changed one.0 other.0 other.1)
+  leaves_one rows changed made true true next after (publishes, keeps, (blobs, are, short, next_is)) (publishes_too, keeps_too, (others, are_too, short_too, after_is)) =
+      let same = blobs_one rows made keeps blobs others are are_too in (
         refl,
         next_is
-            ∙ ap (λ (bs : List Put). record machine { store = put_all machine.store (puts_of bs version); producer = Some (record { model = last.model; rows = rows; tag = tag; version = version }) }) same
+            ∙ ap (λ (bs : List Put). with_producer (with_store machine (put_all machine.store (puts_of bs version))) (Some (record { model = last.model; rows = rows; tag = tag; version = version }))) same
             ∙ sym after_is,
       )
 
@@ -281,56 +215,47 @@ module _ (written : WrittenOnce) (machine : Machine) (last : Published) (version
       name_one t a b None x y = absurd x
       name_one t a b (Some s) x y = sym x ∙ y
 
-  succeeds_one : (names others : List (List ℕ)) (published also : Bool) (next after : Machine) → Succeeds machine last version tag add names published next
-      → Succeeds machine last version tag add others also after → (names ≡ others) × (published ≡ also) × (next ≡ after)
-  succeeds_one names others published also next after (may, types, (rows, changed, makes, named, leaves)) (may_too, types_too, (table, ts, makes_too, named_too, leaves_too)) =
-      let same = rows_one last add once rows table changed ts makes makes_too in
-      let list = changed_one last add once rows table changed ts same makes.types makes_too.types in
+  succeeds_one : (names others : List (List ℕ)) (published also : Bool) (next after : Machine) → Succeeds machine last version tag trees names published next
+      → Succeeds machine last version tag trees others also after → (names ≡ others) × (published ≡ also) × (next ≡ after)
+  succeeds_one names others published also next after (rows, changed, makes, named, leaves) (table, ts, makes_too, named_too, leaves_too) =
+      let same = rows_one last trees once rows table changed ts makes makes_too in
+      let list = changed_one last trees once rows table changed ts same makes.types makes_too.types in
       let here = subst (λ (t : Table). Leaves machine last t changed version tag also after) (sym same) (subst (λ (cs : List ℕ). Leaves machine last table cs version tag also after) (sym list) leaves_too) in
-      let left = leaves_one rows makes.trees changed makes.state published also next after leaves here in
+      let left = leaves_one rows changed makes.state published also next after leaves here in
       (named_one last.model changed names others named (subst (λ (cs : List ℕ). AreNamed last.model cs others) (sym list) named_too), left.0, left.1)
 
   -- ---- why a cycle is refused
 
   abbrev NoNext : Type 0
-  NoNext = (trees : List (ℕ × PlainTree)) × AreRead last.model (entries last.model add) trees × ((rows : Table) → Next last.model last.rows trees rows → ⊥)
+  NoNext = (rows : Table) → Next last.model last.rows trees rows → ⊥
 
   -- a blob of what is published is too long
   abbrev TooLong : Type 0
   TooLong =
-      (rows : Table) × (changed : List ℕ) × Makes last add rows changed × Publishes last changed × TellsTypes last.model last.rows rows None
+      (rows : Table) × (changed : List ℕ) × Makes last trees rows changed × Publishes last changed × TellsTypes last.model last.rows rows None
       × ((blobs : List Put) → AreBlobs last rows version tag blobs → All IsShort blobs → ⊥)
 
   -- a type of what is published passes this limit
   abbrev TypePasses : Limit → Type 0
-  TypePasses passed = (rows : Table) × (changed : List ℕ) × Makes last add rows changed × Publishes last changed × TellsTypes last.model last.rows rows (Some passed)
+  TypePasses passed = (rows : Table) × (changed : List ℕ) × Makes last trees rows changed × Publishes last changed × TellsTypes last.model last.rows rows (Some passed)
 
   abbrev PassKind : Limit → Type 0
   PassKind passed = ((passed ≡ limit.Ordinals) × NoNext) ⊎ (((passed ≡ limit.Blob) × TooLong) ⊎ TypePasses passed)
 
-  pass_kind : (passed : Limit) → PassesLimit last version tag add passed → PassKind passed
+  pass_kind : (passed : Limit) → PassesLimit last version tag trees passed → PassKind passed
   pass_kind limit.Ordinals is = inl (refl, is)
   pass_kind limit.Blob is = inr (inl (refl, is))
   pass_kind _ is = inr (inr is)
 
-  read_of : (passed : Limit) → PassKind passed → (trees : List (ℕ × PlainTree)) × AreRead last.model (entries last.model add) trees
-  read_of passed (inl none) = (none.1.0, none.1.1)
-  read_of passed (inr (inl (is, (rows, changed, makes, publishes, keeps, not)))) = (makes.trees, makes.read)
-  read_of passed (inr (inr (rows, changed, makes, publishes, tells))) = (makes.trees, makes.read)
-
-  no_next : NoNext → (rows : Table) (changed : List ℕ) → Makes last add rows changed → ⊥
-  no_next (trees, read, none) rows changed makes =
-      none rows (subst (λ (ts : List (ℕ × PlainTree)). Next last.model last.rows ts rows) (trees_one last add once makes.trees trees makes.read read) makes.state)
-
-  same_rows : (P : Table → Type 0) (rows others : Table) (changed also : List ℕ) → Makes last add rows changed → Makes last add others also → P others → P rows
-  same_rows P rows others changed also makes makes_too p = subst P (sym (rows_one last add once rows others changed also makes makes_too)) p
+  same_rows : (P : Table → Type 0) (rows others : Table) (changed also : List ℕ) → Makes last trees rows changed → Makes last trees others also → P others → P rows
+  same_rows P rows others changed also makes makes_too p = subst P (sym (rows_one last trees once rows others changed also makes makes_too)) p
 
   passes_one : (l m : Limit) → PassKind l → PassKind m → l ≡ m
   passes_one l m (inl none) (inl also) = none.0 ∙ sym also.0
-  passes_one l m (inl none) (inr (inl (is, (rows, changed, makes, publishes, keeps, not)))) = absurd (no_next none.1 rows changed makes)
-  passes_one l m (inl none) (inr (inr (rows, changed, makes, publishes, tells))) = absurd (no_next none.1 rows changed makes)
-  passes_one l m (inr (inl (is, (rows, changed, makes, publishes, keeps, not)))) (inl none) = absurd (no_next none.1 rows changed makes)
-  passes_one l m (inr (inr (rows, changed, makes, publishes, tells))) (inl none) = absurd (no_next none.1 rows changed makes)
+  passes_one l m (inl none) (inr (inl (is, (rows, changed, makes, publishes, keeps, not)))) = absurd (none.1 rows makes.state)
+  passes_one l m (inl none) (inr (inr (rows, changed, makes, publishes, tells))) = absurd (none.1 rows makes.state)
+  passes_one l m (inr (inl (is, (rows, changed, makes, publishes, keeps, not)))) (inl none) = absurd (none.1 rows makes.state)
+  passes_one l m (inr (inr (rows, changed, makes, publishes, tells))) (inl none) = absurd (none.1 rows makes.state)
   passes_one l m (inr (inl one)) (inr (inl other)) = one.0 ∙ sym other.0
   passes_one l m (inr (inl (is, (rows, changed, makes, publishes, keeps, not)))) (inr (inr (others, also, makes_too, publishes_too, tells))) =
       absurd (types_apart last.model last.rows rows m keeps
@@ -341,6 +266,42 @@ module _ (written : WrittenOnce) (machine : Machine) (last : Published) (version
   passes_one l m (inr (inr (rows, changed, makes, publishes, tells))) (inr (inr (others, also, makes_too, publishes_too, tells_too))) =
       types_one last.model last.rows rows l m tells (same_rows (λ (t : Table). TellsTypes last.model last.rows t (Some m)) rows others changed also makes makes_too tells_too)
 
+  -- ---- a cycle that succeeds passes no limit
+
+  left_not : (rows : Table) (changed : List ℕ) (published : Bool) (next : Machine) (passed : Limit) → Makes last trees rows changed → Leaves machine last rows changed version tag published next → PassKind passed → ⊥
+  left_not rows changed false next passed makes leaves (inl none) = none.1 rows makes.state
+  left_not rows changed true next passed makes leaves (inl none) = none.1 rows makes.state
+  left_not rows changed false next passed makes (nonzero, none, next_is) (inr (inl (is, (others, also, makes_too, publishes, keeps, not)))) =
+      let same = rows_one last trees once rows others changed also makes makes_too in
+      let list = changed_one last trees once rows others changed also same makes.types makes_too.types in
+      not_both changed (subst (λ (cs : List ℕ). Publishes last cs) (sym list) publishes) nonzero none
+  left_not rows changed false next passed makes (nonzero, none, next_is) (inr (inr (others, also, makes_too, publishes, tells))) =
+      let same = rows_one last trees once rows others changed also makes makes_too in
+      let list = changed_one last trees once rows others changed also same makes.types makes_too.types in
+      not_both changed (subst (λ (cs : List ℕ). Publishes last cs) (sym list) publishes) nonzero none
+  left_not rows changed true next passed makes (publishes, keeps, (blobs, are, short, next_is)) (inr (inl (is, (others, also, makes_too, publishes_too, keeps_too, not)))) =
+      (same_rows (λ (t : Table). (bs : List Put) → AreBlobs last t version tag bs → All IsShort bs → ⊥) rows others changed also makes makes_too not) blobs are short
+  left_not rows changed true next passed makes (publishes, keeps, (blobs, are, short, next_is)) (inr (inr (others, also, makes_too, publishes_too, tells))) =
+      types_apart last.model last.rows rows passed keeps (same_rows (λ (t : Table). TellsTypes last.model last.rows t (Some passed)) rows others changed also makes makes_too tells)
+
+  succeeds_not : (names : List (List ℕ)) (published : Bool) (next : Machine) (passed : Limit) → Succeeds machine last version tag trees names published next → PassKind passed → ⊥
+  succeeds_not names published next passed (rows, changed, makes, named, leaves) kind = left_not rows changed published next passed makes leaves kind
+
+-- ---- a cycle of the records of an order
+
+module _ (written : WrittenOnce) (machine : Machine) (last : Published) (asked : AskedState) (model : IsModel last.model) (once : HoldsOnce last.rows) where
+  abbrev store : Store
+  store = machine.store
+
+  abbrev version : ℕ
+  version = asked.version
+
+  abbrev tag : ℤ
+  tag = asked.tag
+
+  abbrev add : Data
+  add = asked.add
+
   abbrev May : Type 0
   May = MayFollow store last.version version tag
 
@@ -349,16 +310,20 @@ module _ (written : WrittenOnce) (machine : Machine) (last : Published) (version
       (name : List ℕ) × (place : ℕ) × (reason : Reason) × (refusal ≡ bad_record name place reason)
       × ((t : ℕ) × IsSomeAnd (slice_get last.model t) (λ (s : Schema). s.name ≡ name) × IsFirstUnread last.model (entries last.model add) t place reason)
 
+  -- the records give trees, and these pass this limit
+  abbrev PassedBy : Limit → Type 0
+  PassedBy passed = (trees : List (ℕ × PlainTree)) × GivesTrees last.model add trees × PassKind written machine last version tag trees model once passed
+
   abbrev AfterKind : Refusal → Type 0
   AfterKind refusal =
       MayNotFollow store last.version version tag refusal
       ⊎ (May × (((name : List ℕ) × (refusal ≡ refused.NoType name) × IsFirstUnknown last.model add name)
-      ⊎ (AreTypes last.model add × (Unread refusal ⊎ ((passed : Limit) × (refusal ≡ refused.TooLarge passed) × PassKind passed)))))
+      ⊎ ((AreTypes last.model add × Unread refusal) ⊎ ((passed : Limit) × (refusal ≡ refused.TooLarge passed) × PassedBy passed))))
 
-  after_kind : (refusal : Refusal) → RefusesAfter store last version tag add refusal → AfterKind refusal
+  after_kind : (refusal : Refusal) → RefusesAfter store last asked refusal → AfterKind refusal
   after_kind (refused.NoType name) is = inr (is.0, inl (name, refl, is.1))
-  after_kind (refused.BadRecord fault) is = inr (is.0, inr (is.1, inl (fault.type_name, fault.index, fault.reason, refl, is.2)))
-  after_kind (refused.TooLarge passed) is = inr (is.0, inr (is.1, inr (passed, refl, pass_kind passed is.2)))
+  after_kind (refused.BadRecord fault) is = inr (is.0, inr (inl (is.1.0, (fault.type_name, fault.index, fault.reason, refl, is.1.1))))
+  after_kind (refused.TooLarge passed) (may, (trees, gives, passes)) = inr (may, inr (inr (passed, refl, (trees, gives, pass_kind written machine last version tag trees model once passed passes))))
   after_kind _ is = inl is
 
   name_at : (found : Option Schema) (a b : List ℕ) → IsSomeAnd found (λ (s : Schema). s.name ≡ a) → IsSomeAnd found (λ (s : Schema). s.name ≡ b) → a ≡ b
@@ -367,51 +332,50 @@ module _ (written : WrittenOnce) (machine : Machine) (last : Published) (version
 
   unread_same : (r s : Refusal) → Unread r → Unread s → r ≡ s
   unread_same r s (name, place, reason, is, (t, named, first)) (other, place_too, reason_too, is_too, (u, named_too, first_too)) =
-      let same = unread_one last add once t u place place_too reason reason_too first first_too in
+      let same = unread_one last.model add t u place place_too reason reason_too first first_too in
       let names = name_at (slice_get last.model u) name other (subst (λ k. IsSomeAnd (slice_get last.model k) (λ (s : Schema). s.name ≡ name)) same.0 named) named_too in
       is ∙ (λ i. bad_record (names i) (same.1 i) (same.2 i)) ∙ sym is_too
 
-  unread_apart : (r : Refusal) (trees : List (ℕ × PlainTree)) → AreRead last.model (entries last.model add) trees → Unread r → ⊥
-  unread_apart r trees read (name, place, reason, is, (t, named, first)) = no_tree last add once trees t place reason read first
+  unread_apart : (r : Refusal) (trees : List (ℕ × PlainTree)) → GivesTrees last.model add trees → Unread r → ⊥
+  unread_apart r trees gives (name, place, reason, is, (t, named, first)) = no_tree last.model add trees t place reason gives.read first
+
+  same_trees : (trees others : List (ℕ × PlainTree)) → GivesTrees last.model add trees → GivesTrees last.model add others → trees ≡ others
+  same_trees trees others gives also = trees_one last.model add trees others gives.read also.read
+
+  passed_one : (l m : Limit) → PassedBy l → PassedBy m → l ≡ m
+  passed_one l m (trees, gives, kind) (others, gives_too, also) =
+      passes_one written machine last version tag trees model once l m kind
+      (subst (λ (ts : List (ℕ × PlainTree)). PassKind written machine last version tag ts model once m) (sym (same_trees trees others gives gives_too)) also)
 
   after_one : (r s : Refusal) → AfterKind r → AfterKind s → r ≡ s
   after_one r s (inl not) (inl also) = one_why store last.version version tag r s (why store last.version version tag r not) (why store last.version version tag s also)
   after_one r s (inl not) (inr may) = absurd (may_apart store last.version version tag r not may.0)
   after_one r s (inr may) (inl not) = absurd (may_apart store last.version version tag s not may.0)
-  after_one r s (inr (may, inl (name, is, first))) (inr (may_too, inl (other, is_too, first_too))) = is ∙ ap (λ n. refused.NoType n) (unknown_one last add once name other first first_too) ∙ sym is_too
-  after_one r s (inr (may, inl (name, is, first))) (inr (may_too, inr (types, more))) = absurd (no_type last add once name types first)
-  after_one r s (inr (may, inr (types, more))) (inr (may_too, inl (name, is, first))) = absurd (no_type last add once name types first)
-  after_one r s (inr (may, inr (types, inl unread))) (inr (may_too, inr (types_too, inl also))) = unread_same r s unread also
-  after_one r s (inr (may, inr (types, inl unread))) (inr (may_too, inr (types_too, inr (passed, is, kind)))) =
-      let (trees, read) = read_of passed kind in absurd (unread_apart r trees read unread)
-  after_one r s (inr (may, inr (types, inr (passed, is, kind)))) (inr (may_too, inr (types_too, inl unread))) =
-      let (trees, read) = read_of passed kind in absurd (unread_apart s trees read unread)
-  after_one r s (inr (may, inr (types, inr (l, is, kind)))) (inr (may_too, inr (types_too, inr (m, is_too, also)))) = is ∙ ap (λ p. refused.TooLarge p) (passes_one l m kind also) ∙ sym is_too
+  after_one r s (inr (may, inl (name, is, first))) (inr (may_too, inl (other, is_too, first_too))) = is ∙ ap (λ n. refused.NoType n) (unknown_one last.model add name other first first_too) ∙ sym is_too
+  after_one r s (inr (may, inl (name, is, first))) (inr (may_too, inr (inl (types, unread)))) = absurd (no_type last.model add name types first)
+  after_one r s (inr (may, inl (name, is, first))) (inr (may_too, inr (inr (passed, is_too, (trees, gives, kind))))) = absurd (no_type last.model add name gives.types first)
+  after_one r s (inr (may, inr (inl (types, unread)))) (inr (may_too, inl (name, is, first))) = absurd (no_type last.model add name types first)
+  after_one r s (inr (may, inr (inr (passed, is_too, (trees, gives, kind))))) (inr (may_too, inl (name, is, first))) = absurd (no_type last.model add name gives.types first)
+  after_one r s (inr (may, inr (inl (types, unread)))) (inr (may_too, inr (inl (types_too, also)))) = unread_same r s unread also
+  after_one r s (inr (may, inr (inl (types, unread)))) (inr (may_too, inr (inr (passed, is, (trees, gives, kind))))) = absurd (unread_apart r trees gives unread)
+  after_one r s (inr (may, inr (inr (passed, is, (trees, gives, kind))))) (inr (may_too, inr (inl (types, unread)))) = absurd (unread_apart s trees gives unread)
+  after_one r s (inr (may, inr (inr (l, is, kind)))) (inr (may_too, inr (inr (m, is_too, also)))) = is ∙ ap (λ p. refused.TooLarge p) (passed_one l m kind also) ∙ sym is_too
+
+  after_succeeds_one : (names others : List (List ℕ)) (published also : Bool) (next after : Machine) → SucceedsAfter machine last asked names published next
+      → SucceedsAfter machine last asked others also after → (names ≡ others) × (published ≡ also) × (next ≡ after)
+  after_succeeds_one names others published also next after (may, (trees, gives, one)) (may_too, (ts, gives_too, other)) =
+      succeeds_one written machine last version tag trees model once names others published also next after one
+      (subst (λ (list : List (ℕ × PlainTree)). Succeeds machine last version tag list others also after) (sym (same_trees trees ts gives gives_too)) other)
 
   -- ---- a cycle that succeeds is not refused
 
-  left_not : (rows : Table) (changed : List ℕ) (published : Bool) (next : Machine) (passed : Limit) → Makes last add rows changed → Leaves machine last rows changed version tag published next → PassKind passed → ⊥
-  left_not rows changed false next passed makes leaves (inl none) = no_next none.1 rows changed makes
-  left_not rows changed true next passed makes leaves (inl none) = no_next none.1 rows changed makes
-  left_not rows changed false next passed makes (nonzero, none, next_is) (inr (inl (is, (others, also, makes_too, publishes, keeps, not)))) =
-      let same = rows_one last add once rows others changed also makes makes_too in
-      let list = changed_one last add once rows others changed also same makes.types makes_too.types in
-      not_both changed (subst (λ (cs : List ℕ). Publishes last cs) (sym list) publishes) nonzero none
-  left_not rows changed false next passed makes (nonzero, none, next_is) (inr (inr (others, also, makes_too, publishes, tells))) =
-      let same = rows_one last add once rows others changed also makes makes_too in
-      let list = changed_one last add once rows others changed also same makes.types makes_too.types in
-      not_both changed (subst (λ (cs : List ℕ). Publishes last cs) (sym list) publishes) nonzero none
-  left_not rows changed true next passed makes (publishes, keeps, (blobs, are, short, next_is)) (inr (inl (is, (others, also, makes_too, publishes_too, keeps_too, not)))) =
-      (same_rows (λ (t : Table). (bs : List Put) → AreBlobs last t version tag bs → All IsShort bs → ⊥) rows others changed also makes makes_too not) blobs are short
-  left_not rows changed true next passed makes (publishes, keeps, (blobs, are, short, next_is)) (inr (inr (others, also, makes_too, publishes_too, tells))) =
-      types_apart last.model last.rows rows passed keeps (same_rows (λ (t : Table). TellsTypes last.model last.rows t (Some passed)) rows others changed also makes makes_too tells)
-
-  succeeds_not : (names : List (List ℕ)) (published : Bool) (next : Machine) (refusal : Refusal) → Succeeds machine last version tag add names published next → AfterKind refusal → ⊥
-  succeeds_not names published next refusal (may, types, more) (inl not) = may_apart store last.version version tag refusal not may
-  succeeds_not names published next refusal (may, types, more) (inr (may_too, inl (name, is, first))) = no_type last add once name types first
-  succeeds_not names published next refusal (may, types, (rows, changed, makes, named, leaves)) (inr (may_too, inr (types_too, inl unread))) = unread_apart refusal makes.trees makes.read unread
-  succeeds_not names published next refusal (may, types, (rows, changed, makes, named, leaves)) (inr (may_too, inr (types_too, inr (passed, is, kind)))) =
-      left_not rows changed published next passed makes leaves kind
+  after_succeeds_not : (names : List (List ℕ)) (published : Bool) (next : Machine) (refusal : Refusal) → SucceedsAfter machine last asked names published next → AfterKind refusal → ⊥
+  after_succeeds_not names published next refusal (may, more) (inl not) = may_apart store last.version version tag refusal not may
+  after_succeeds_not names published next refusal (may, (trees, gives, one)) (inr (may_too, inl (name, is, first))) = no_type last.model add name gives.types first
+  after_succeeds_not names published next refusal (may, (trees, gives, one)) (inr (may_too, inr (inl (types, unread)))) = unread_apart refusal trees gives unread
+  after_succeeds_not names published next refusal (may, (trees, gives, one)) (inr (may_too, inr (inr (passed, is, (others, gives_too, kind))))) =
+      succeeds_not written machine last version tag trees model once names published next passed one
+      (subst (λ (list : List (ℕ × PlainTree)). PassKind written machine last version tag list model once passed) (sym (same_trees trees others gives gives_too)) kind)
 
 -- ---- the order
 
@@ -420,56 +384,56 @@ pub record IsOnce (last : Published) : Type 0 where
   pub model : IsModel last.model
   pub once : HoldsOnce last.rows
 
-abbrev RefusalOf : Machine → ℕ → ℤ → Data → Refusal → Type 0
-RefusalOf machine version tag add refusal =
-    ((machine.producer ≡ None) × (refusal ≡ refused.NoModel)) ⊎ IsSomeAnd machine.producer (λ last. RefusesAfter machine.store last version tag add refusal)
+abbrev RefusalOf : Machine → AskedState → Refusal → Type 0
+RefusalOf machine asked refusal =
+    ((machine.producer ≡ None) × (refusal ≡ refused.NoModel)) ⊎ IsSomeAnd machine.producer (λ last. RefusesAfter machine.store last asked refusal)
 
-refusal_of : (machine : Machine) (version : ℕ) (tag : ℤ) (add : Data) (refusal : Refusal) → CycleRefusal machine version tag add refusal → RefusalOf machine version tag add refusal
-refusal_of machine version tag add refused.NoModel is = inl (is, refl)
-refusal_of machine version tag add _ is = inr is
+refusal_of : (machine : Machine) (asked : AskedState) (refusal : Refusal) → CycleRefusal machine asked refusal → RefusalOf machine asked refusal
+refusal_of machine asked refused.NoModel is = inl (is, refl)
+refusal_of machine asked _ is = inr is
 
-module _ (written : WrittenOnce) (machine : Machine) (version : ℕ) (tag : ℤ) (add : Data) (known : IfSome machine.producer IsOnce) where
+module _ (written : WrittenOnce) (machine : Machine) (asked : AskedState) (known : IfSome machine.producer IsOnce) where
   known_of : (last : Published) → machine.producer ≡ Some last → IsOnce last
   known_of last is = subst (λ (producer : Option Published). IfSome producer IsOnce) is known
 
   same_last : (last other : Published) → machine.producer ≡ Some last → machine.producer ≡ Some other → other ≡ last
   same_last last other is also = let both : Some other ≡ Some last = sym also ∙ is in cc
 
-  refusals_one : (r s : Refusal) → RefusalOf machine version tag add r → RefusalOf machine version tag add s → r ≡ s
+  refusals_one : (r s : Refusal) → RefusalOf machine asked r → RefusalOf machine asked s → r ≡ s
   refusals_one r s (inl none) (inl also) = none.1 ∙ sym also.1
   refusals_one r s (inl none) (inr some) = let (last, is, refuses) = found_with machine.producer _ some in let no : Some last ≡ None = sym is ∙ none.0 in absurd cc
   refusals_one r s (inr some) (inl none) = let (last, is, refuses) = found_with machine.producer _ some in let no : Some last ≡ None = sym is ∙ none.0 in absurd cc
   refusals_one r s (inr one) (inr other) =
       let (last, is, refuses) = found_with machine.producer _ one in
       let (same, also, refuses_too) = found_with machine.producer _ other in
-      let here = subst (λ (l : Published). RefusesAfter machine.store l version tag add s) (same_last last same is also) refuses_too in
+      let here = subst (λ (l : Published). RefusesAfter machine.store l asked s) (same_last last same is also) refuses_too in
       let facts = known_of last is in
-      after_one written machine last version tag add facts.model facts.once r s (after_kind written machine last version tag add facts.model facts.once r refuses)
-      (after_kind written machine last version tag add facts.model facts.once s here)
+      after_one written machine last asked facts.model facts.once r s (after_kind written machine last asked facts.model facts.once r refuses)
+      (after_kind written machine last asked facts.model facts.once s here)
 
-  not_refused : (names : List (List ℕ)) (published : Bool) (next : Machine) (refusal : Refusal) → IsSomeAnd machine.producer (λ last. Succeeds machine last version tag add names published next)
-      → RefusalOf machine version tag add refusal → ⊥
+  not_refused : (names : List (List ℕ)) (published : Bool) (next : Machine) (refusal : Refusal) → IsSomeAnd machine.producer (λ last. SucceedsAfter machine last asked names published next)
+      → RefusalOf machine asked refusal → ⊥
   not_refused names published next refusal some (inl none) = let (last, is, succeeds) = found_with machine.producer _ some in let no : Some last ≡ None = sym is ∙ none.0 in absurd cc
   not_refused names published next refusal some (inr other) =
       let (last, is, succeeds) = found_with machine.producer _ some in
       let (same, also, refuses) = found_with machine.producer _ other in
-      let here = subst (λ (l : Published). RefusesAfter machine.store l version tag add refusal) (same_last last same is also) refuses in
+      let here = subst (λ (l : Published). RefusesAfter machine.store l asked refusal) (same_last last same is also) refuses in
       let facts = known_of last is in
-      succeeds_not written machine last version tag add facts.model facts.once names published next refusal succeeds (after_kind written machine last version tag add facts.model facts.once refusal here)
+      after_succeeds_not written machine last asked facts.model facts.once names published next refusal succeeds (after_kind written machine last asked facts.model facts.once refusal here)
 
-  pub one_cycle : (one other : Reply) (next after : Machine) → CycleStep machine version tag add one next → CycleStep machine version tag add other after → (one ≡ other) × (next ≡ after)
+  pub one_cycle : (one other : Reply) (next after : Machine) → CycleStep machine asked one next → CycleStep machine asked other after → (one ≡ other) × (next ≡ after)
   one_cycle (reply.Cycle names published v) (reply.Cycle others also w) next after one other =
       let (last, is, succeeds) = found_with machine.producer _ one.1 in
       let (same, is_too, succeeds_too) = found_with machine.producer _ other.1 in
-      let here = subst (λ (l : Published). Succeeds machine l version tag add others also after) (same_last last same is is_too) succeeds_too in
+      let here = subst (λ (l : Published). SucceedsAfter machine l asked others also after) (same_last last same is is_too) succeeds_too in
       let facts = known_of last is in
-      let all = succeeds_one written machine last version tag add facts.model facts.once names others published also next after succeeds here in
+      let all = after_succeeds_one written machine last asked facts.model facts.once names others published also next after succeeds here in
       let versions = one.0 ∙ sym other.0 in
       ((λ i. reply.Cycle (all.0 i) (all.1 i) (versions i)), all.2)
-  one_cycle (reply.Cycle names published v) (reply.Refused refusal) next after one other = absurd (not_refused names published next refusal one.1 (refusal_of machine version tag add refusal other.0))
-  one_cycle (reply.Refused refusal) (reply.Cycle names published v) next after one other = absurd (not_refused names published after refusal other.1 (refusal_of machine version tag add refusal one.0))
+  one_cycle (reply.Cycle names published v) (reply.Refused refusal) next after one other = absurd (not_refused names published next refusal one.1 (refusal_of machine asked refusal other.0))
+  one_cycle (reply.Refused refusal) (reply.Cycle names published v) next after one other = absurd (not_refused names published after refusal other.1 (refusal_of machine asked refusal one.0))
   one_cycle (reply.Refused r) (reply.Refused s) next after one other =
-      (ap (λ x. reply.Refused x) (refusals_one r s (refusal_of machine version tag add r one.0) (refusal_of machine version tag add s other.0)), one.1 ∙ sym other.1)
+      (ap (λ x. reply.Refused x) (refusals_one r s (refusal_of machine asked r one.0) (refusal_of machine asked s other.0)), one.1 ∙ sym other.1)
   one_cycle (reply.Cycle names published v) _ next after one other = absurd other
   one_cycle (reply.Refused r) _ next after one other = absurd other
   one_cycle _ other_answer next after one other = absurd one

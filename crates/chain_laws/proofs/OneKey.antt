@@ -32,7 +32,7 @@ use Rattle.hollow_machine.specs.IndexOrder.{IndexRefusal, IndexStep, RefusesInde
 use Rattle.hollow_machine.specs.KeyOrders.{FindReply, FindsUnder, GetRefusal, GetReply, ListsFound, LookUpRefusal, ShowsFound}
 use Rattle.hollow_machine.specs.KeyPaths.{AreKeyPaths, HasShape, IsBadPath, IsFirstLost, IsObject, HasKeyTexts, key_texts}
 use Rattle.hollow_machine.specs.RowOrders.{record_at}
-use Rattle.hollow_machine.specs.State.{Machine}
+use Rattle.hollow_machine.specs.State.{Machine, with_consumer}
 use Rattle.chain_laws.specs.Answers.{SaysOne}
 use Rattle.chain_laws.proofs.OneLook.{one_typed, rising_one, says}
 use Rattle.chain_laws.proofs.PrintedOnce.{tree_once}
@@ -266,7 +266,7 @@ module _ (machine : Machine) (name : Name) (texts : List (List ℕ)) where
     Kept paths left =
         (HasNoRoom now (index_by t paths) × (left ≡ refused (TooLarge Indexes)))
         ⊎ ((keys : ℕ) × CountsKeyed now (index_by t paths) keys
-        × ((after : List Index) × KeepsIndex now.indexes (index_by t paths) after × (left ≡ (reply.Index keys, record machine { consumer = Some (record now { indexes = after }) }))))
+        × ((after : List Index) × KeepsIndex now.indexes (index_by t paths) after × (left ≡ (reply.Index keys, with_consumer machine (Some (record now { indexes = after }))))))
 
     room_apart : (index : Index) (after : List Index) → HasNoRoom now index → KeepsIndex now.indexes index after → ⊥
     room_apart index after none (inl kept) = none.0 kept.0
@@ -290,7 +290,7 @@ module _ (machine : Machine) (name : Name) (texts : List (List ℕ)) where
     kept_once paths a b (inr (keys, counts, (after, keeps, a_is))) (inr (also, counts_too, (behind, keeps_too, b_is))) =
         let numbers = count_once (index_by t paths) keys also counts counts_too in
         let lists = after_once (index_by t paths) after behind keeps keeps_too in
-        alike a b (a_is ∙ (λ i. (reply.Index (numbers i), record machine { consumer = Some (record now { indexes = lists i }) })) ∙ sym b_is)
+        alike a b (a_is ∙ (λ i. (reply.Index (numbers i), with_consumer machine (Some (record now { indexes = lists i })))) ∙ sym b_is)
 
   abbrev KeptAt : Position → Option ℕ → Left → Type 0
   KeptAt now None left = left ≡ refused (NoType name)
@@ -334,7 +334,7 @@ module _ (machine : Machine) (name : Name) (texts : List (List ℕ)) where
   Counts now t keys next =
       HasShape IsObject now.schemas t
       × ((paths : List Path) × AreKeyPaths now.schemas t texts paths × CountsKeyed now (index_by t paths) keys
-      × ((after : List Index) × KeepsIndex now.indexes (index_by t paths) after × (next ≡ record machine { consumer = Some (record now { indexes = after }) })))
+      × ((after : List Index) × KeepsIndex now.indexes (index_by t paths) after × (next ≡ with_consumer machine (Some (record now { indexes = after })))))
 
   counted_at : (now : Position) (found : Option ℕ) (keys : ℕ) (next : Machine) → IsSomeAnd found (λ t. Counts now t keys next) → KeptAt now found (reply.Index keys, next)
   counted_at now None keys next is = absurd is

@@ -16,7 +16,7 @@ use Rattle.hol_answers.specs.declared.refusal.Refusal.TheVariants as refused
 use Rattle.hol_answers.specs.declared.reply.Reply.{Reply}
 use Rattle.hol_answers.specs.declared.reply.Reply.TheVariants as reply
 use Rattle.hollow_machine.specs.ModelOrder.{BreaksRule, IsNamed, ModelRefusal, ModelStep}
-use Rattle.hollow_machine.specs.State.{Machine}
+use Rattle.hollow_machine.specs.State.{Machine, with_producer}
 use Rattle.state_blobs.specs.Published.{new_producer}
 
 -- ---- the first rule that is broken
@@ -113,7 +113,7 @@ module _ (machine : Machine) (value : Data) where
   one_model (reply.Model n) (reply.Model m) next after (schemas, none, stands, model, count, next_is) (others, none_too, also, model_too, count_too, after_is) =
       let same = one_list value schemas others stands also in (
         ap (λ k. reply.Model k) (count ∙ ap (λ (s : List Schema). length s) same ∙ sym count_too),
-        next_is ∙ ap (λ (s : List Schema). record machine { producer = Some (new_producer s) }) same ∙ sym after_is,
+        next_is ∙ ap (λ (s : List Schema). with_producer machine (Some (new_producer s))) same ∙ sym after_is,
       )
   one_model (reply.Model n) (reply.Refused refusal) next after (schemas, none, stands, model, count, next_is) other = absurd (not_kind schemas refusal none stands model (kind refusal other.0))
   one_model (reply.Refused refusal) (reply.Model n) next after one (schemas, none, stands, model, count, next_is) = absurd (not_kind schemas refusal none stands model (kind refusal one.0))

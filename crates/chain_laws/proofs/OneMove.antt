@@ -7,15 +7,12 @@ use Rattle.std.proofs.lemmas.List.{length-map}
 use Rattle.std.proofs.lemmas.List.Elements.{All-cons, All-head, All-nil, All-tail}
 use Rattle.hol_io.specs.declared.name.BlobName.{BlobName}
 use Rattle.hol_io.specs.declared.name.BlobName.TheVariants.{Snapshot}
-use Rattle.schema_model.specs.declared.model.rule.Rule.TheVariants.{DuplicateName}
-use Rattle.schema_model.specs.declared.schema.Schema.{Schema}
-use Rattle.schema_model.specs.Model.{IsKept}
 use Rattle.type_state.specs.State.{Half}
 use Rattle.type_state.specs.Views.{table_of}
 use Rattle.blob_frame.specs.declared.header.Header.{Header}
 use Rattle.blob_frame.specs.Header.{HasHeader}
 use Rattle.snapshot_blob.proofs.Whole.{one_snapshot}
-use Rattle.delta_blob.specs.Moved.{EachNamed, IsAt, IsUnnamed, Moved}
+use Rattle.delta_blob.specs.Moved.{EachNamed, IsUnnamed, Moved}
 use Rattle.delta_blob.specs.Patch.{TypePatch}
 use Rattle.hol_answers.specs.declared.refusal.Refusal.{Refusal}
 use Rattle.hol_answers.specs.declared.refusal.Refusal.TheVariants.{BadBody, NoState, OtherOrigin}
@@ -27,11 +24,10 @@ use Rattle.read_engine.specs.Taking.{LoadsFrom, StepsBy, layout_at}
 use Rattle.hollow_machine.specs.Blobs.{HeadRefusal}
 use Rattle.hollow_machine.proofs.Refusals.{head_apart, one_head_refusal, one_header, one_snapshot_refusal, some_one}
 use Rattle.hollow_machine.specs.LoadOrder.{LoadStep}
-use Rattle.hollow_machine.specs.State.{Machine}
+use Rattle.hollow_machine.specs.State.{Machine, with_consumer}
 use Rattle.hollow_machine.specs.StepOrder.{StepRefusal, StepStep}
 use Rattle.written_laws.proofs.MovedOnce.{moved_once}
-use Rattle.delta_blob.proofs.Indexed.{one_index}
-use Rattle.written_laws.proofs.PatchOnce.{patch_once}
+use Rattle.written_laws.proofs.PatchOnce.{patch_once, tags_once}
 use Rattle.chain_laws.specs.Answers.{SaysOne}
 use Rattle.chain_laws.proofs.BlobTags.{delta_begins}
 use Rattle.chain_laws.proofs.ConsumerOrders.{no_load_refusal, no_refusal}
@@ -61,7 +57,7 @@ one_load machine version (reply.Load tag) (reply.Load also) next after (blob, po
     let same = some_one (get machine.store (Snapshot version)) x blob at_x at in
     let here : position ≡ place = load_once blob position place loads (subst (λ (b : List ℕ). LoadsFrom b place) same loads_x) in
     alike (reply.Load tag) (reply.Load also) next after (ap (λ t. reply.Load t) (tag_is ∙ ap (λ (p : Position). p.tag) here ∙ sym also_is))
-    (next_is ∙ ap (λ (p : Position). record machine { consumer = Some p }) here ∙ sym after_is)
+    (next_is ∙ ap (λ (p : Position). with_consumer machine (Some p)) here ∙ sym after_is)
 one_load machine version (reply.Load tag) (reply.Refused refusal) next after (blob, position, at, loads, tag_is, next_is) step =
     absurd (no_load_refusal version (get machine.store (Snapshot version)) blob position at loads refusal step.0)
 one_load machine version (reply.Refused refusal) (reply.Load tag) next after step (blob, position, at, loads, tag_is, next_is) =
@@ -90,42 +86,42 @@ halves_once (a ∷ xs) (b ∷ bs) rows each =
     λ i. record { layout = layout i; rows = row i } ∷ others i
 
 -- the types that a patch names are laid out in one way
-named_alike : (schemas : List Schema) → IsKept schemas DuplicateName → (xs bs : List Half) (patch : List TypePatch) → EachNamed schemas patch (λ t named. layout_at xs t ≡ Some named.layout)
-    → EachNamed schemas patch (λ t named. layout_at bs t ≡ Some named.layout) → (index : ℕ) → (layout_at xs index ≡ layout_at bs index) ⊎ IsUnnamed schemas patch index
-named_alike schemas apart xs bs [] one other index = inr (All-nil (λ named. IsAt schemas index named → ⊥))
-named_alike schemas apart xs bs (named ∷ patch) one other index =
-    let (i, at_i, p) = All-head (λ n. (t : ℕ) × IsAt schemas t n × (layout_at xs t ≡ Some n.layout)) named patch one in
-    let (j, at_j, q) = All-head (λ n. (t : ℕ) × IsAt schemas t n × (layout_at bs t ≡ Some n.layout)) named patch other in
-    let same = one_index schemas apart j i named.schema named.schema at_j at_i refl in
-    elim (cases_eq i index) [
-      | inl here ↦ inl (subst (λ t. layout_at xs t ≡ layout_at bs t) here (p ∙ sym (subst (λ t. layout_at bs t ≡ Some named.layout) same q)))
-      | inr apart_here ↦
-          elim (named_alike schemas apart xs bs patch (All-tail (λ n. (t : ℕ) × IsAt schemas t n × (layout_at xs t ≡ Some n.layout)) named patch one)
-          (All-tail (λ n. (t : ℕ) × IsAt schemas t n × (layout_at bs t ≡ Some n.layout)) named patch other) index) [
+named_alike : (xs bs : List Half) (patch : List TypePatch) → EachNamed patch (λ t named. layout_at xs t ≡ Some named.layout) → EachNamed patch (λ t named. layout_at bs t ≡ Some named.layout) → (index : ℕ)
+    → (layout_at xs index ≡ layout_at bs index) ⊎ IsUnnamed patch index
+named_alike xs bs [] one other index = inr (All-nil (λ named. named.type_index ≡ index → ⊥))
+named_alike xs bs (named ∷ patch) one other index =
+    elim (cases_eq named.type_index index) [
+      | inl here ↦
+          inl
+          (subst (λ t. layout_at xs t ≡ layout_at bs t) here
+          (All-head (λ n. layout_at xs n.type_index ≡ Some n.layout) named patch one ∙ sym (All-head (λ n. layout_at bs n.type_index ≡ Some n.layout) named patch other)))
+      | inr apart ↦
+          elim (named_alike xs bs patch (All-tail (λ n. layout_at xs n.type_index ≡ Some n.layout) named patch one) (All-tail (λ n. layout_at bs n.type_index ≡ Some n.layout) named patch other) index) [
             | inl found ↦ inl found
-            | inr none ↦ inr (All-cons (λ n. IsAt schemas index n → ⊥) named patch (λ at. apart_here (one_index schemas apart i index named.schema named.schema at_i at refl)) none)
+            | inr none ↦ inr (All-cons (λ n. n.type_index ≡ index → ⊥) named patch apart none)
           ]
     ]
 
 step_once : (blob : List ℕ) (now a b : Position) → IsTyped now → StepsBy blob now a → StepsBy blob now b → a ≡ b
 step_once blob now a b typed one other =
-    let once = patch_once blob now.tag a.tag now.tag b.tag one.patch other.patch one.is other.is in
-    let moved : Moved now.schemas one.patch (rows_now now) (rows_now b) = subst (λ (p : List TypePatch). Moved now.schemas p (rows_now now) (rows_now b)) (sym once.2) other.moved in
-    let rows : rows_now a ≡ rows_now b = moved_once now.schemas one.patch (rows_now now) (rows_now a) (rows_now b) typed.names typed.types one.moved moved in
+    let tags = tags_once now.schemas now.schemas blob now.tag a.tag now.tag b.tag one.patch other.patch one.is other.is in
+    let once = patch_once now.schemas blob now.tag a.tag now.tag b.tag one.patch other.patch typed.names one.is other.is in
+    let moved : Moved one.patch (rows_now now) (rows_now b) = subst (λ (p : List TypePatch). Moved p (rows_now now) (rows_now b)) (sym once) other.moved in
+    let rows : rows_now a ≡ rows_now b = moved_once one.patch (rows_now now) (rows_now a) (rows_now b) one.moved moved in
     let count : length a.halves ≡ length now.schemas = one.types ∙ sym (length-map now.halves (λ (half : Half). half.rows)) ∙ typed.types in
-    let layouts = subst (λ (p : List TypePatch). EachNamed now.schemas p (λ t named. layout_at b.halves t ≡ Some named.layout)) (sym once.2) other.layouts in
-    let others : (t : ℕ) → t < length now.schemas → IsUnnamed now.schemas one.patch t → layout_at b.halves t ≡ layout_at now.halves t =
-    subst (λ (p : List TypePatch). (t : ℕ) → t < length now.schemas → IsUnnamed now.schemas p t → layout_at b.halves t ≡ layout_at now.halves t) (sym once.2) other.others in
+    let layouts = subst (λ (p : List TypePatch). EachNamed p (λ t named. layout_at b.halves t ≡ Some named.layout)) (sym once) other.layouts in
+    let others : (t : ℕ) → t < length now.schemas → IsUnnamed one.patch t → layout_at b.halves t ≡ layout_at now.halves t =
+    subst (λ (p : List TypePatch). (t : ℕ) → t < length now.schemas → IsUnnamed p t → layout_at b.halves t ≡ layout_at now.halves t) (sym once) other.others in
     let halves = halves_once a.halves b.halves rows (λ t inside.
     (let within : t < length now.schemas = omega (arith, inside, count) in
-    elim (named_alike now.schemas typed.names a.halves b.halves one.patch one.layouts layouts t) [
+    elim (named_alike a.halves b.halves one.patch one.layouts layouts t) [
       | inl same ↦ same
       | inr unnamed ↦ one.others t within unnamed ∙ sym (others t within unnamed)
     ])) in
     let schemas = one.model ∙ sym other.model in
     let before = one.before ∙ sym other.before in
     let indexes = one.indexes ∙ sym other.indexes in
-    λ i. record { tag = once.1 i; schemas = schemas i; halves = halves i; before = before i; indexes = indexes i }
+    λ i. record { tag = tags.1 i; schemas = schemas i; halves = halves i; before = before i; indexes = indexes i }
 
 module _ (name : BlobName) (content : Option (List ℕ)) (now : Position) where
   abbrev StepKind : Refusal → Type 0
@@ -179,7 +175,7 @@ module _ (machine : Machine) (name : BlobName) (typed : IfSome machine.consumer 
       let steps_too : StepsBy blob now place = subst (λ (b : List ℕ). StepsBy b now place) bytes (subst (λ (p : Position). StepsBy x p place) here steps_x) in
       let there : to ≡ place = step_once blob now to place (subst (λ (consumer : Option Position). IfSome consumer IsTyped) is typed) steps steps_too in
       alike (reply.Step tag) (reply.Step also) next after (ap (λ t. reply.Step t) (tag_is ∙ ap (λ (p : Position). p.tag) there ∙ sym also_is))
-      (next_is ∙ ap (λ (p : Position). record machine { consumer = Some p }) there ∙ sym after_is)
+      (next_is ∙ ap (λ (p : Position). with_consumer machine (Some p)) there ∙ sym after_is)
   one_move (reply.Step tag) (reply.Refused refusal) next after one other =
       let (now, is, (blob, to, at, steps, tag_is, next_is)) = found_with machine.consumer _ one in
       absurd (taken_not now to blob refusal is at steps other.0)

@@ -1,15 +1,13 @@
 -- A script has one text and one verdict, and leaves one machine.
 use Rattle.std.proofs.Common.{◌≡◌, ◌++◌, ℕ, List, [], ◌∷◌, Bool, true, if◌then◌else◌, Option, Some, None, inl, inr, sym, subst, ◌∙◌, arith}
 use Rattle.std.specs.Prelude.{IfSome, IsSomeAnd}
-use Rattle.serde_json.specs.Data.{Data}
 use Rattle.serde_json.specs.Written.{compact_text}
-use Rattle.hol_orders.specs.declared.kind.Kind.{Kind}
 use Rattle.hol_orders.specs.declared.order.Order.{Order}
-use Rattle.hol_orders.specs.Order.{Orders, content_of, kind_of}
+use Rattle.hol_orders.specs.Order.{Asking, Orders, asked_of, asking, kind_of}
 use Rattle.hol_answers.specs.declared.refusal.Refusal.{Refusal}
 use Rattle.hol_answers.specs.declared.reply.Reply.{Reply}
 use Rattle.hol_io.specs.Store.{Store}
-use Rattle.hollow_machine.specs.Forms.{Meets, OrderForm, Refuses}
+use Rattle.hollow_machine.specs.Forms.{Refuses}
 use Rattle.hollow_machine.specs.Script.{LineStep, Script}
 use Rattle.hollow_machine.specs.State.{Machine}
 use Rattle.state_blobs.specs.Published.{Published}
@@ -20,33 +18,24 @@ use Rattle.chain_laws.specs.Consumers.{IsConsumerOf}
 use Rattle.chain_laws.specs.Producers.{IsProducerOf, KeepsChain}
 use Rattle.chain_laws.proofs.EachKind.{laws}
 use Rattle.chain_laws.proofs.LastState.{last_is}
-use Rattle.chain_laws.proofs.Lawful.{IsOneOf, IsSoundMachine, says_both}
+use Rattle.chain_laws.proofs.Lawful.{IsSoundMachine, says_both}
 use Rattle.chain_laws.proofs.OneCycle.{IsOnce, WrittenOnce}
 use Rattle.chain_laws.proofs.SoundMachines.{line_sound}
 use Rattle.chain_laws.proofs.TypedConsumers.{typed_in}
 
 -- a line is one order at most
 abbrev pub OrderOnce : Type 0
-OrderOnce = (line : List ℕ) (one other : Order) → Orders line one → Orders line other → (kind_of one ≡ kind_of other) × (content_of one ≡ content_of other)
+OrderOnce = (line : List ℕ) (one other : Order) → Orders line one → Orders line other → asking one ≡ asking other
 
 pub known : (store : Store) (chain : Chain) (producer : Option Published) → KeepsChain store chain → IsProducerOf chain producer → IfSome producer IsOnce
 known store chain None kept over = tt
 known store chain (Some last) kept over = record { model = over.model; once = (last_is store chain last kept over).once }
 
-both_some : {A : Type 0} (o : Option A) (P Q : A → Type 0) (R : Type 0) → ((a : A) → P a → Q a → R) → IsSomeAnd o P → IsSomeAnd o Q → R
-both_some None P Q R gives one other = absurd one
-both_some (Some a) P Q R gives one other = gives a one other
-
 module _ (written : WrittenOnce) (machine : Machine) (sound : IsSoundMachine machine) (one other : Reply) (next after : Machine) where
-  meets_one : (form : OrderForm) → IsOneOf form → (content : Data) → Meets form machine content one next → Meets form machine content other after → SaysOne one other × (next ≡ after)
-  meets_one form once content is also =
-      both_some (form.asked content) (λ asked. form.Answers machine asked one next) (λ asked. form.Answers machine asked other after) (SaysOne one other × (next ≡ after))
-      (λ asked first second. once written machine sound asked one other next after first second) is also
-
-  pub steps_one : (a b : Order) → kind_of a ≡ kind_of b → content_of a ≡ content_of b → Step machine a one next → Step machine b other after → SaysOne one other × (next ≡ after)
-  steps_one a b kinds contents step step_too =
-      meets_one (form (kind_of a)) (laws (kind_of a)).once (content_of a) step
-      (subst (λ (k : Kind). Meets (form k) machine (content_of a) other after) (sym kinds) (subst (λ (d : Data). Meets (form (kind_of b)) machine d other after) (sym contents) step_too))
+  pub steps_one : (a b : Order) → asking a ≡ asking b → Step machine a one next → Step machine b other after → SaysOne one other × (next ≡ after)
+  steps_one a b same step step_too =
+      (laws (kind_of a)).once written machine sound (asked_of a) one other next after step
+      (subst (λ (x : Asking). (form x.kind).Answers machine x.asked other after) (sym same) step_too)
 
   both_refused : (refusal : Refusal) → Refuses machine refusal one next → Refuses machine refusal other after → SaysOne one other × (next ≡ after)
   both_refused refusal first second = says_both one other next after (first.0 ∙ sym second.0, first.1 ∙ sym second.1)
@@ -59,7 +48,7 @@ module _ (written : WrittenOnce) (machine : Machine) (sound : IsSoundMachine mac
   line_one orders line (inr (short, inl none)) (inr (also, inr (asked, is, step))) = absurd (none.0 asked is)
   line_one orders line (inr (short, inr (asked, is, step))) (inr (also, inl none)) = absurd (none.0 asked is)
   line_one orders line (inr (short, inr (asked, is, step))) (inr (also, inr (again, is_too, step_too))) =
-      let same = orders line asked again is is_too in steps_one asked again same.0 same.1 step step_too
+      steps_one asked again (orders line asked again is is_too) step step_too
 
 pub script_one : WrittenOnce → OrderOnce → (machine next after : Machine) (lines : List (List ℕ)) (text other : List ℕ) (refused also : Bool) → IsSoundMachine machine
     → Script machine lines text refused next → Script machine lines other also after → (text ≡ other) × (refused ≡ also) × (next ≡ after)

@@ -20,7 +20,6 @@ use Rattle.hollow_machine.specs.RowOrders.{PastReply, past_form, ShowsGone, Show
 use Rattle.chain_laws.specs.Answers.{SaysOne}
 use Rattle.chain_laws.proofs.PrintedOnce.{tree_once}
 use Rattle.hol_orders.specs.declared.kind.Kind.{Kind}
-use Rattle.hollow_machine.specs.Contents.{text_in}
 use Rattle.chain_laws.proofs.Answering.{IsNoCycle, of_answers}
 use Rattle.chain_laws.proofs.Lawful.{IsLawful, looks_lawful}
 use Rattle.chain_laws.proofs.OneLook.{one_of, rising_one, says}
@@ -77,7 +76,7 @@ past_no_cycle : (consumer : Option Position) (name : Name) (answer : Reply) → 
 past_no_cycle consumer name answer is = of_answers IsNoCycle name ShowsPast tt tt past_no_cycle_at consumer answer is
 
 pub past_lawful : IsLawful Kind.Past past_form
-past_lawful = looks_lawful Kind.Past text_in (λ consumer name answer. PastReply consumer name answer) false
+past_lawful = looks_lawful Kind.Past (λ consumer name answer. PastReply consumer name answer) false
     (λ consumer name one other typed is also. one_past consumer name one other is also)
     (λ consumer name answer is. past_no_cycle consumer name answer is)
     (λ can. absurd cc)

@@ -1,6 +1,6 @@
 -- A consumer whose rows are of its model: it is so behind each load, and behind each step from one that is so.
-use Rattle.std.proofs.Common.{◌≡◌, ◌⊎◌, ℕ, zero, suc, List, [], ◌∷◌, length, Option, Some, None, inl, inr, refl, sym, ap, subst, ◌∙◌}
-use Rattle.std.specs.Prelude.{IfSome}
+use Rattle.std.proofs.Common.{◌≡◌, ◌<◌, ◌⊎◌, ℕ, zero, suc, List, [], ◌∷◌, length, Option, Some, None, inl, inr, refl, sym, ap, subst, ◌∙◌}
+use Rattle.std.specs.Prelude.{IfSome, slice_get}
 use Rattle.std.specs.FinMap.{get}
 use Rattle.std.specs.List.{AllZip}
 use Rattle.std.proofs.lemmas.Bool.{cases_eq}
@@ -23,9 +23,8 @@ use Rattle.type_rows.proofs.SectionRows.{row_fits, rows_fit}
 use Rattle.snapshot_blob.specs.declared.part.TypePart.{TypePart}
 use Rattle.snapshot_blob.specs.Stated.{TypeIs, schemas_of}
 use Rattle.delta_blob.specs.declared.part.DeltaPart.{DeltaPart}
-use Rattle.delta_blob.specs.Moved.{EachNamed, IsAt, IsUnnamed, MovesType}
+use Rattle.delta_blob.specs.Moved.{EachNamed, IsUnnamed, MovesType}
 use Rattle.delta_blob.specs.Patch.{PartIs, TypePatch}
-use Rattle.delta_blob.proofs.Indexed.{one_index}
 use Rattle.read_engine.specs.Position.{IsPosition, Position, rows_now}
 use Rattle.read_engine.specs.Taking.{LoadsFrom, StepsBy}
 use Rattle.written_laws.specs.Chain.{Chain, IsChain}
@@ -89,36 +88,39 @@ load_typed blob position (head, accepted, tag, before, bare) =
 
 -- ---- steps
 
-module _ (schemas : List Schema) (names : IsKept schemas DuplicateName) (old new : Table) (t : ℕ) where
+module _ (schemas : List Schema) (old new : Table) (t : ℕ) where
   -- the part of a delta that moves the type
   record IsMovedBy (part : DeltaPart) (named : TypePatch) : Type 0 where
-    is : PartIs part named
-    at : IsAt schemas t named
+    is : PartIs schemas part named
+    at : named.type_index ≡ t
     moves : MovesType old new t named
 
-  moved_or_unnamed : (parts : List DeltaPart) (patch : List TypePatch) → AllZip PartIs parts patch → EachNamed schemas patch (MovesType old new)
-      → ((part : DeltaPart) × (named : TypePatch) × IsMovedBy part named) ⊎ IsUnnamed schemas patch t
-  moved_or_unnamed parts [] are each = inr (All-nil (λ named. IsAt schemas t named → ⊥))
+  moved_or_unnamed : (parts : List DeltaPart) (patch : List TypePatch) → AllZip (PartIs schemas) parts patch → EachNamed patch (MovesType old new)
+      → ((part : DeltaPart) × (named : TypePatch) × IsMovedBy part named) ⊎ IsUnnamed patch t
+  moved_or_unnamed parts [] are each = inr (All-nil (λ named. named.type_index ≡ t → ⊥))
   moved_or_unnamed [] (named ∷ patch) are each = absurd are
   moved_or_unnamed (part ∷ parts) (named ∷ patch) are each =
-      let (i, at, moves) = All-head (λ n. (k : ℕ) × IsAt schemas k n × MovesType old new k n) named patch each in
-      elim (cases_eq i t) [
+      elim (cases_eq named.type_index t) [
         | inl here ↦
             inl (
               part,
               named,
               record {
                 is = are.0;
-                at = subst (λ (k : ℕ). IsAt schemas k named) here at;
-                moves = subst (λ (k : ℕ). MovesType old new k named) here moves;
+                at = here;
+                moves = subst (λ (k : ℕ). MovesType old new k named) here (All-head (λ n. MovesType old new n.type_index n) named patch each);
               },
             )
         | inr apart ↦
-            elim (moved_or_unnamed parts patch are.1 (All-tail (λ n. (k : ℕ) × IsAt schemas k n × MovesType old new k n) named patch each)) [
+            elim (moved_or_unnamed parts patch are.1 (All-tail (λ n. MovesType old new n.type_index n) named patch each)) [
               | inl found ↦ inl found
-              | inr none ↦ inr (All-cons (λ n. IsAt schemas t n → ⊥) named patch (λ here. apart (one_index schemas names i t named.schema named.schema at here refl)) none)
+              | inr none ↦ inr (All-cons (λ n. n.type_index ≡ t → ⊥) named patch apart none)
             ]
       ]
+
+  -- the schema of its patch is that of the type
+  its_schema : (part : DeltaPart) (named : TypePatch) → IsMovedBy part named → slice_get schemas t ≡ Some named.schema
+  its_schema part named moved = subst (λ (k : ℕ). slice_get schemas k ≡ Some named.schema) moved.at (moved.is.means.equal ∙ ap Some (sym moved.is.schema))
 
   moved_fit : (part : DeltaPart) (named : TypePatch) → IsMovedBy part named → ((ordinal : ℕ) (row : Row) → row_at old t ordinal ≡ Some row → FitsShape named.schema.shape row) → (ordinal : ℕ) (row : Row) → row_at new t ordinal ≡ Some row
       → FitsShape named.schema.shape row
@@ -134,14 +136,15 @@ module _ (schemas : List Schema) (names : IsKept schemas DuplicateName) (old new
 
 steps_fit : (blob : List ℕ) (now to : Position) → IsTyped now → StepsBy blob now to → FitTypes now.schemas (rows_now to)
 steps_fit blob now to typed steps t ordinal schema row is at =
-    elim (moved_or_unnamed now.schemas typed.names (rows_now now) (rows_now to) t steps.is.parts steps.patch steps.is.types steps.moved.named) [
+    elim (moved_or_unnamed now.schemas (rows_now now) (rows_now to) t steps.is.parts steps.patch steps.is.types steps.moved.named) [
       | inl (part, named, moved) ↦
-          (let both : Some named.schema ≡ Some schema = sym moved.at ∙ is in
+          (let there = its_schema now.schemas (rows_now now) (rows_now to) t part named moved in
+          let both : Some named.schema ≡ Some schema = sym there ∙ is in
           let same : named.schema ≡ schema = cc in
           subst (λ (s : Schema). FitsShape s.shape row) same
-          (moved_fit now.schemas typed.names (rows_now now) (rows_now to) t part named moved (λ o r was. typed.rows t o named.schema r moved.at was) ordinal row at))
+          (moved_fit now.schemas (rows_now now) (rows_now to) t part named moved (λ o r was. typed.rows t o named.schema r there was) ordinal row at))
       | inr unnamed ↦
-          (let kept = steps.moved.others t (slice_get_within now.schemas t schema is) unnamed in
+          (let kept = steps.moved.others t (subst (λ (n : ℕ). t < n) (sym typed.types) (slice_get_within now.schemas t schema is)) unnamed in
           typed.rows t ordinal schema row is (sym (get_in (rows_now now) t ordinal) ∙ ap (λ (rows : RowMap). get rows ordinal) (sym kept) ∙ get_in (rows_now to) t ordinal ∙ at))
     ]
 

@@ -5,7 +5,7 @@ use Rattle.hol_io.specs.Store.{Store, told}
 use Rattle.blob_frame.specs.declared.header.Header.{Header}
 use Rattle.blob_frame.specs.Header.{HasHeader}
 use Rattle.read_engine.specs.Position.{Position, rows_now}
-use Rattle.hollow_machine.specs.State.{Machine}
+use Rattle.hollow_machine.specs.State.{Machine, with_consumer}
 use Rattle.written_laws.specs.Chain.{Chain, ChainState, HasVersion}
 use Rattle.chain_laws.specs.KeptIndexes.{AreIndexes}
 
@@ -43,4 +43,4 @@ pub record Fresh (chain : Chain) (machine fresh : Machine) : Type 0 where
   pub position : Position
   pub stands : StandsAt state position
   pub indexes : position.indexes ≡ now.indexes
-  pub is : fresh ≡ record machine { consumer = Some position }
+  pub is : fresh ≡ with_consumer machine (Some position)

@@ -7,6 +7,7 @@ ghost use Rattle.hol_io.specs.declared.name.BlobName.TheVariants.{Snapshot};
 ghost use Rattle.hol_io.specs.Store.{Store};
 ghost use Rattle.hol_orders.specs.declared.kind.Kind.TheVariants as Kind;
 ghost use Rattle.hol_orders.specs.Order.{kind_of};
+ghost use Rattle.hol_orders.specs.declared.order.NextState.{NextState};
 ghost use Rattle.hol_orders.specs.declared.order.Order.{Order};
 ghost use Rattle.hol_orders.specs.declared.order.Order.TheVariants as order;
 ghost use Rattle.hol_answers.specs.Refusal.{other_origin};
@@ -15,7 +16,7 @@ ghost use Rattle.hol_answers.specs.declared.reply.Reply.TheVariants as reply;
 ghost use Rattle.read_engine.specs.Position.{Index, IsPosition, Position};
 ghost use Rattle.hollow_machine.specs.KeyPaths.{texts_of_array};
 ghost use Rattle.hollow_machine.specs.Script.{LineStep, Script};
-ghost use Rattle.hollow_machine.specs.State.{Machine, started};
+ghost use Rattle.hollow_machine.specs.State.{Machine, started, with_consumer};
 ghost use Rattle.hollow_machine.specs.Step.{Step};
 ghost use Rattle.hollow_machine.specs.StepOrder.{step_name};
 ghost use Rattle.written_laws.specs.Chain.{Chain, ChainState, HasVersion};
@@ -74,10 +75,10 @@ pub fn script_keeps_consumer()
 pub fn chain_step_taken()
     ensures taken { (machine : Machine) (chain : Chain) (from to : ℕ) (now : Position)
         → HoldsChain machine.store chain → machine.consumer ≡ Some now → IsIn chain now → StartsAt machine.store (step_name from to) now.tag
-        → (position : Position) × Step machine (order.Step from to) (reply.Step position.tag) (record machine { consumer = Some position }) }
+        → (position : Position) × Step machine (order.Step from to) (reply.Step position.tag) (with_consumer machine (Some position)) }
     ensures only { (machine next : Machine) (chain : Chain) (from to : ℕ) (now : Position) (answer : Reply)
         → HoldsChain machine.store chain → machine.consumer ≡ Some now → IsIn chain now → StartsAt machine.store (step_name from to) now.tag → Step machine (order.Step from to) answer next
-        → (position : Position) × IsIn chain position × (answer ≡ reply.Step position.tag) × (next ≡ record machine { consumer = Some position }) }
+        → (position : Position) × IsIn chain position × (answer ≡ reply.Step position.tag) × (next ≡ with_consumer machine (Some position)) }
 {}
 
 /// A step whose blob starts at another tag than the consumer's is refused as such, and nothing changes, whatever else the store has.
@@ -95,10 +96,10 @@ pub fn other_origin_refused()
 pub fn chain_load_taken()
     ensures taken { (machine : Machine) (chain : Chain) (version : ℕ) (state : ChainState)
         → HoldsChain machine.store chain → HasVersion chain version state → IsThere machine.store (Snapshot version)
-        → (position : Position) × Step machine (order.Load version) (reply.Load state.tag) (record machine { consumer = Some position }) }
+        → (position : Position) × Step machine (order.Load version) (reply.Load state.tag) (with_consumer machine (Some position)) }
     ensures only { (machine next : Machine) (chain : Chain) (version : ℕ) (state : ChainState) (answer : Reply)
         → HoldsChain machine.store chain → HasVersion chain version state → IsThere machine.store (Snapshot version) → Step machine (order.Load version) answer next
-        → (position : Position) × StandsAt state position × (position.indexes ≡ []) × (answer ≡ reply.Load state.tag) × (next ≡ record machine { consumer = Some position }) }
+        → (position : Position) × StandsAt state position × (position.indexes ≡ []) × (answer ≡ reply.Load state.tag) × (next ≡ with_consumer machine (Some position)) }
     ensures fresh { (machine next : Machine) (chain : Chain) (version : ℕ) (state : ChainState) (now : Position) (answer : Reply)
         → HoldsChain machine.store chain → HasVersion chain version state → IsThere machine.store (Snapshot version) → machine.consumer ≡ Some now → now.tag ≡ state.tag
         → now.indexes ≡ [] → Step machine (order.Load version) answer next → Fresh chain machine next }
@@ -108,7 +109,7 @@ pub fn chain_load_taken()
 pub fn index_is_kept()
     ensures new { (machine next : Machine) (now : Position) (name : Name) (paths : Value) (index : Index) (keys : ℕ)
         → machine.consumer ≡ Some now → IsPosition now → AsksFor now.schemas name (texts_of_array (view paths)) index → (Contains now.indexes index → ⊥) → Step machine (order.Index name paths) (reply.Index keys) next
-        → next ≡ record machine { consumer = Some (record now { indexes = now.indexes ++ index ∷ [] }) } }
+        → next ≡ with_consumer machine (Some (record now { indexes = now.indexes ++ index ∷ [] })) }
     ensures kept { (machine next : Machine) (now : Position) (name : Name) (paths : Value) (index : Index) (keys : ℕ)
         → machine.consumer ≡ Some now → IsPosition now → AsksFor now.schemas name (texts_of_array (view paths)) index → Contains now.indexes index → Step machine (order.Index name paths) (reply.Index keys) next
         → next ≡ machine }
@@ -183,9 +184,9 @@ pub fn one_index()
 /// Over a store that keeps a chain, with a producer of it, a cycle has one answer and leaves one machine: there is one next state, and it is written
 /// in one way.
 pub fn one_cycle()
-    ensures { (machine next after : Machine) (chain : Chain) (version : ℕ) (tag : ℤ) (add : Value) (answer other : Reply)
+    ensures { (machine next after : Machine) (chain : Chain) (asked : NextState) (answer other : Reply)
         → KeepsChain machine.store chain → IsProducerOf chain machine.producer
-        → Step machine (order.Cycle version tag add) answer next → Step machine (order.Cycle version tag add) other after → (answer ≡ other) × (next ≡ after) }
+        → Step machine (order.Cycle asked) answer next → Step machine (order.Cycle asked) other after → (answer ≡ other) × (next ≡ after) }
 {
     blob_writing::laws::one_written_snapshot();
     blob_writing::laws::one_written_delta();

@@ -13,7 +13,7 @@ use Rattle.hol_answers.specs.declared.refusal.Refusal.TheVariants as refusal
 use Rattle.hol_answers.specs.declared.reply.Reply.{Reply}
 use Rattle.hol_answers.specs.declared.reply.Reply.TheVariants as reply
 use Rattle.hollow_machine.specs.IndexOrder.{IndexRefusal, IndexStep, RefusesIndex}
-use Rattle.hollow_machine.specs.Kept.{MovesConsumer, machine_of}
+use Rattle.hollow_machine.specs.Kept.{MovesConsumer, kept_with_consumer, machine_of}
 use Rattle.hollow_machine.specs.KeyPaths.{AreKeyPaths, HasShape, IsObject}
 use Rattle.consumer_orders.specs.Asked.{TellsType}
 use Rattle.consumer_orders.specs.Sought.{TellsKept, TellsKeyPaths}
@@ -68,10 +68,10 @@ of_kept E store now new name texts t (reply.Index keys) known (shape, (paths, ar
     let moved = subst (λ (o : Option ℕ). IsSomeAnd o (λ u. HasShape IsObject now.schemas u
     × ((ps : List Path) × AreKeyPaths now.schemas u texts ps × CountsKeyed now (index_by u ps) keys
     × ((after : List Index) × KeepsIndex now.indexes (index_by u ps) after
-    × (machine_of store kept new ≡ machine_of store kept (Some (record now { indexes = after }))))))) (sym known)
-    (shape, (paths, are, counts, (indexes, keeps, ap (machine_of store kept) is))) in
+    × (machine_of store (kept_with_consumer kept new) ≡ machine_of store (kept_with_consumer kept (Some (record now { indexes = after })))))))) (sym known)
+    (shape, (paths, are, counts, (indexes, keeps, ap (λ at. machine_of store (kept_with_consumer kept at)) is))) in
     (store, refl, moved)
-of_kept E store now new name texts t (reply.Refused why) known (causes, is) = λ kept. (store, refl, (of_type now name texts t why known causes, ap (machine_of store kept) is))
+of_kept E store now new name texts t (reply.Refused why) known (causes, is) = λ kept. (store, refl, (of_type now name texts t why known causes, ap (λ at. machine_of store (kept_with_consumer kept at)) is))
 of_kept E store now new name texts t _ known tells = absurd tells
 
 -- What is told of the type moves the machine, or the order stops.

@@ -1,28 +1,30 @@
 -- The refusal of a blob that a consumer does not take, by the fault.
-use Rattle.std.specs.Prelude.{Some, Result, Ok, Err}
+use Rattle.std.specs.Prelude.{◌≡◌, ℕ, List, Option, Result, Ok}
 use Rattle.hol_io.specs.declared.name.BlobName.{BlobName}
+use Rattle.schema_model.specs.declared.limit.Limit.TheVariants.{Blob}
 use Rattle.blob_frame.specs.declared.fault.BlobFault.{BlobFault}
 use Rattle.blob_frame.specs.declared.fault.BlobFault.TheVariants as fault
-use Rattle.read_engine.specs.declared.fault.TakeFault.{TakeFault}
-use Rattle.read_engine.specs.declared.fault.TakeFault.TheVariants as take
+use Rattle.blob_frame.specs.declared.header.Header.{Header}
+use Rattle.blob_frame.specs.Header.{HasHeader}
 use Rattle.hol_orders.specs.declared.order_stop.OrderStop.{OrderStop}
-use Rattle.hol_orders.specs.declared.order_stop.OrderStop.TheVariants as stop
 use Rattle.hol_answers.specs.declared.refusal.Refusal.{Refusal}
-use Rattle.hol_answers.specs.declared.refusal.Refusal.TheVariants as refusal
-use Rattle.hol_answers.specs.Refusal.{bad_item, other_origin}
+use Rattle.hol_answers.specs.declared.refusal.Refusal.TheVariants.{BadBody}
+use Rattle.hol_answers.specs.BlobRefusal.{refusal_of_blob, refusal_of_body}
+use Rattle.hollow_machine.specs.Blobs.{HeadRefusal}
 
--- the refusal for a fault of a blob, or why the order stops
-abbrev pub refusal_of_blob : BlobName → BlobFault → Result Refusal OrderStop
-refusal_of_blob name (fault.NoBlob other) = Ok (refusal.NoBlob name)
-refusal_of_blob name (fault.Large limit) = Ok (refusal.TooLarge limit)
-refusal_of_blob name (fault.Bad at reason) = Ok (bad_item name at reason)
-refusal_of_blob name (fault.BadRow at reason type_name ordinal) = Ok (refusal.BadBlob (record { blob = name; at = at; reason = reason; row = Some (record { type_name = type_name; ordinal = ordinal }) }))
-refusal_of_blob name (fault.OtherOrigin found current) = Ok (other_origin name found current)
-refusal_of_blob name (fault.OtherModel type_name) = Ok (refusal.OtherModel name type_name)
-refusal_of_blob name fault.Store = Err stop.Store
-refusal_of_blob name fault.Memory = Err stop.Memory
+-- the refusal for a fault other than that of an item, or why the order stops: a fault behind the header is the one refusal
+abbrev pub refusal_of : BlobName → BlobFault → Result Refusal OrderStop
+refusal_of name (fault.NoBlob other) = refusal_of_blob name (fault.NoBlob other)
+refusal_of name (fault.Large Blob) = refusal_of_blob name (fault.Large Blob)
+refusal_of name (fault.OtherOrigin found current) = refusal_of_blob name (fault.OtherOrigin found current)
+refusal_of name other = refusal_of_body name other
 
--- the same for whatever a consumer does not take
-abbrev pub refusal_of : BlobName → TakeFault → Result Refusal OrderStop
-refusal_of name (take.Blob fault) = refusal_of_blob name fault
-refusal_of name take.Body = Ok (refusal.BadBody name)
+-- The refusal of a blob of which an item cannot be read: what a name holds has no header, or it has one.
+abbrev pub IsItemRefusal : BlobName → Option (List ℕ) → Refusal → Type 0
+IsItemRefusal name content (BadBody other) = (other ≡ name) × ((header : Header) × HasHeader content header)
+IsItemRefusal name content refusal = HeadRefusal name content refusal
+
+-- The refusal of what a name holds for a fault by which a consumer does not take it.
+abbrev pub IsTakeRefusal : BlobName → Option (List ℕ) → BlobFault → Refusal → Type 0
+IsTakeRefusal name content (fault.Bad place why) refusal = IsItemRefusal name content refusal
+IsTakeRefusal name content other refusal = refusal_of name other ≡ Ok refusal

@@ -26,7 +26,9 @@ pub fn load<S: BlobStore>(
     ensures later { (S.seen store.old).faults ≤ (S.seen store.new).faults }
 {
     if let Err(fault) = consumer.load(store, version) {
-        return Ok(Reply::Refused(take_refusal(&BlobName::Snapshot(version), fault)?));
+        let name = BlobName::Snapshot(version);
+        let refusal = take_refusal(consumer.allocator(), store, &name, fault)?;
+        return Ok(Reply::Refused(refusal));
     }
     match consumer.tag() {
         Some(tag) => Ok(Reply::Load(tag)),

@@ -57,7 +57,8 @@ fn move_along<S: BlobStore, L: Ledger>(
 {
     let mut steps = Steps::<L>::new(blank);
     if let Err(fault) = consumer.step(store, name, &mut steps) {
-        return Ok(Reply::Refused(take_refusal(name, fault)?));
+        let refusal = take_refusal(consumer.allocator(), store, name, fault)?;
+        return Ok(Reply::Refused(refusal));
     }
     match consumer.tag() {
         Some(tag) => Ok(Reply::Step(tag)),

@@ -1,52 +1,54 @@
 //! The refusal of a blob that a consumer does not take.
-ghost use Rattle.std.specs.Prelude.{◌≡◌};
-ghost use Rattle.consumer_orders.specs.Taken.{refusal_of, refusal_of_blob};
+ghost use Rattle.std.specs.Prelude.{◌≡◌, ◌≤◌, ◌⊎◌, IfOk, IfSome, IsErrOf};
+ghost use Rattle.hol_io.specs.Causes.{Rose};
+ghost use Rattle.hol_io.specs.Store.{told};
+ghost use Rattle.consumer_orders.specs.Taken.{IsItemRefusal, IsTakeRefusal};
 
+use blob_cursor::opened;
 use blob_frame::BlobFault;
-use hol_answers::{ItemFault, OriginFault, Refusal, RowPlace};
-use hol_io::BlobName;
+use hol_answers::{Refusal, blob_refusal, body_refusal};
+use hol_io::{BlobName, BlobStore};
 use hol_orders::OrderStop;
-use read_engine::TakeFault;
+use schema_model::Limit;
+use std::alloc::Global;
 
-/// The refusal of the blob of this name, or why the order stops. Which fault it is behind the header is not told.
-pub(crate) fn take_refusal(name: &BlobName, fault: TakeFault) -> Result<Refusal, OrderStop>
-    ensures { result ≡ refusal_of name.now fault }
+/// The refusal of the blob of this name for the fault by which a consumer does not take it, or why the order stops. Each fault that lies behind
+/// the header is `BadBody`.
+pub(crate) fn take_refusal<S: BlobStore>(
+    alloc: Global,
+    store: &mut S,
+    name: &BlobName,
+    fault: BlobFault,
+) -> Result<Refusal, OrderStop>
+    ensures tells { IfSome (S.seen store.old).held (λ held. IfOk result (IsTakeRefusal name.now (told (S.seen store.old).held name.now) fault)) }
+    ensures store_fault { IsErrOf result OrderStop.Store → (fault ≡ BlobFault.Store) ⊎ Rose (S.seen store.old).faults (S.seen store.new).faults }
+    ensures kept { (S.seen store.new).held ≡ (S.seen store.old).held }
+    ensures later { (S.seen store.old).faults ≤ (S.seen store.new).faults }
+    ensures unput { (S.seen store.new).puts ≡ (S.seen store.old).puts }
 {
     match fault {
-        TakeFault::Blob(fault) => blob_refusal(name, fault),
-        TakeFault::Body => Ok(Refusal::BadBody(*name)),
+        BlobFault::Bad(_, _) => item_refusal(alloc, store, name),
+        BlobFault::NoBlob(_) | BlobFault::Large(Limit::Blob) | BlobFault::OtherOrigin(_, _) => {
+            blob_refusal(name, fault)
+        }
+        _ => body_refusal(name, fault),
     }
 }
 
-// The refusal for a fault of the blob as a whole, of its header or of where it starts. The others do not come.
-fn blob_refusal(name: &BlobName, fault: BlobFault) -> Result<Refusal, OrderStop>
-    ensures { result ≡ refusal_of_blob name.now fault }
+// The refusal of a blob of which an item cannot be read: that of its header, which is read again, or else that of what stands behind it.
+fn item_refusal<S: BlobStore>(
+    alloc: Global,
+    store: &mut S,
+    name: &BlobName,
+) -> Result<Refusal, OrderStop>
+    ensures tells { IfSome (S.seen store.old).held (λ held. IfOk result (IsItemRefusal name.now (told (S.seen store.old).held name.now))) }
+    ensures store_fault { IsErrOf result OrderStop.Store → Rose (S.seen store.old).faults (S.seen store.new).faults }
+    ensures kept { (S.seen store.new).held ≡ (S.seen store.old).held }
+    ensures later { (S.seen store.old).faults ≤ (S.seen store.new).faults }
+    ensures unput { (S.seen store.new).puts ≡ (S.seen store.old).puts }
 {
-    match fault {
-        BlobFault::NoBlob(_) => Ok(Refusal::NoBlob(*name)),
-        BlobFault::Large(limit) => Ok(Refusal::TooLarge(limit)),
-        BlobFault::Bad(at, reason) => Ok(Refusal::BadBlob(ItemFault {
-            blob: *name,
-            at,
-            reason,
-            row: None,
-        })),
-        BlobFault::BadRow(at, reason, type_name, ordinal) => Ok(Refusal::BadBlob(ItemFault {
-            blob: *name,
-            at,
-            reason,
-            row: Some(RowPlace { type_name, ordinal }),
-        })),
-        BlobFault::OtherOrigin(found, current) => Ok(Refusal::OtherOrigin(OriginFault {
-            blob: *name,
-            found,
-            current,
-        })),
-        BlobFault::OtherModel(type_name) => Ok(Refusal::OtherModel {
-            blob: *name,
-            type_name,
-        }),
-        BlobFault::Store => Err(OrderStop::Store),
-        BlobFault::Memory => Err(OrderStop::Memory),
+    match opened(alloc, store, name) {
+        Ok(_) => Ok(Refusal::BadBody(*name)),
+        Err(fault) => blob_refusal(name, fault),
     }
 }

@@ -2,23 +2,22 @@
 use Rattle.std.proofs.Common.{◌≡◌, inl, inr, ℕ, List, [], ◌∷◌, ◌++◌, Bool, true, false, if◌then◌else◌, refl, sym, ap, ◌∙◌, append_assoc, subst}
 use Rattle.hol_orders.specs.declared.order.Order.{Order}
 use Rattle.hol_orders.specs.declared.kind.Kind.{Kind}
-use Rattle.hol_orders.specs.Order.{content_of, kind_of}
+use Rattle.hol_orders.specs.Kind.{shape}
+use Rattle.hol_orders.specs.Order.{asked_of, kind_of}
 use Rattle.hol_answers.specs.declared.refusal.Refusal.{Refusal}
 use Rattle.hol_answers.specs.declared.reply.Reply.TheVariants.{Refused}
 use Rattle.hol_answers.specs.Reply.{is_refusal, line_of}
 use Rattle.hollow_machine.specs.Script.{LineStep, Script}
 use Rattle.hollow_machine.specs.State.{Machine}
 use Rattle.hollow_machine.specs.Step.{Step, form}
-use Rattle.hollow_machine.proofs.Asking.{asked_of}
 
 -- an order that is refused changes nothing
-kind_unchanged : (kind : Kind) (machine next : Machine) (asked : (form kind).Asked) (refusal : Refusal) → (form kind).Answers machine asked (Refused refusal) next → next ≡ machine
+kind_unchanged : (kind : Kind) (machine next : Machine) (asked : (shape kind).Asked) (refusal : Refusal) → (form kind).Answers machine asked (Refused refusal) next → next ≡ machine
 kind_unchanged Kind.Model machine next asked refusal is = is.1
 kind_unchanged _ machine next asked refusal is = is.1
 
 order_unchanged : (machine next : Machine) (order : Order) (refusal : Refusal) → Step machine order (Refused refusal) next → next ≡ machine
-order_unchanged machine next order refusal step =
-    let (asked, read, is) = asked_of (form (kind_of order)) machine (content_of order) (Refused refusal) next step in kind_unchanged (kind_of order) machine next asked refusal is
+order_unchanged machine next order refusal step = kind_unchanged (kind_of order) machine next (asked_of order) refusal step
 
 pub unchanged : (machine next : Machine) (line : List ℕ) (refusal : Refusal) → LineStep machine line (Refused refusal) next → next ≡ machine
 unchanged machine next line refusal (inl long) = long.1.1

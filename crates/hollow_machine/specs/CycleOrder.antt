@@ -1,7 +1,6 @@
 -- The order `cycle`: what it answers, and the machine behind it.
 use Rattle.std.specs.Prelude.{◌≡◌, ◌≢◌, ◌⊎◌, ℕ, ℤ, List, [], All, Bool, true, false, Some, None, IsSomeAnd, slice_get}
 use Rattle.std.specs.List.{AllZip}
-use Rattle.serde_json.specs.Data.{Data}
 use Rattle.hol_io.specs.Store.{Store}
 use Rattle.schema_model.specs.declared.limit.Limit.{Limit}
 use Rattle.schema_model.specs.declared.limit.Limit.TheVariants as limit
@@ -11,22 +10,20 @@ use Rattle.row_model.specs.Table.{Table}
 use Rattle.write_engine.specs.Cycle.{Next}
 use Rattle.write_engine.specs.CycleLimit.{TellsTypes}
 use Rattle.write_engine.specs.Production.{AreChanged}
+use Rattle.hol_orders.specs.Parts.{AskedState}
 use Rattle.hol_answers.specs.declared.refusal.Refusal.{Refusal}
 use Rattle.hol_answers.specs.declared.refusal.Refusal.TheVariants.{NoModel, NoType, BadRecord, TooLarge}
 use Rattle.hol_answers.specs.declared.reply.Reply.{Reply}
 use Rattle.hol_answers.specs.declared.reply.Reply.TheVariants.{Cycle, Refused}
 use Rattle.hollow_machine.specs.Follow.{MayFollow, MayNotFollow}
 use Rattle.state_blobs.specs.Puts.{AreBlobs, IsShort, Put, puts_of, put_all}
-use Rattle.hollow_machine.specs.Records.{AreRead, AreTypes, IsFirstUnknown, IsFirstUnread, entries}
-use Rattle.hollow_machine.specs.State.{Machine}
+use Rattle.hollow_machine.specs.Records.{GivesNoTrees, GivesTrees}
+use Rattle.hollow_machine.specs.State.{Machine, with_producer, with_store}
 use Rattle.state_blobs.specs.Published.{Published}
 use Rattle.hollow_machine.specs.Forms.{OrderForm}
-use Rattle.hollow_machine.specs.Contents.{state_in}
 
--- The records make this next state, and these types change by it.
-pub record Makes (last : Published) (add : Data) (rows : Table) (changed : List ℕ) : Type 0 where
-  pub trees : List (ℕ × PlainTree)
-  pub read : AreRead last.model (entries last.model add) trees
+-- The records of these types and trees make this next state, and these types change by it.
+pub record Makes (last : Published) (trees : List (ℕ × PlainTree)) (rows : Table) (changed : List ℕ) : Type 0 where
   pub state : Next last.model last.rows trees rows
   pub types : AreChanged last.rows rows changed
 
@@ -34,32 +31,29 @@ pub record Makes (last : Published) (add : Data) (rows : Table) (changed : List 
 abbrev pub Publishes : Published → List ℕ → Type 0
 Publishes last changed = (last.version ≡ 0) ⊎ (changed ≢ [])
 
--- Which limit is passed: a row would get the ordinal 2^22; or the first limit that a type of the next state passes; or each type keeps all, and a
--- blob is too long.
-abbrev pub PassesLimit : Published → ℕ → ℤ → Data → Limit → Type 0
-PassesLimit last version tag add limit.Ordinals =
-    (trees : List (ℕ × PlainTree)) × AreRead last.model (entries last.model add) trees × ((rows : Table) → ¬ Next last.model last.rows trees rows)
-PassesLimit last version tag add limit.Blob =
-    (rows : Table) × (changed : List ℕ) × Makes last add rows changed × Publishes last changed × TellsTypes last.model last.rows rows None
+-- Which limit is passed by the records of these types and trees: a row would get the ordinal 2^22; or the first limit that a type of the next state
+-- passes; or each type keeps all, and a blob is too long.
+abbrev pub PassesLimit : Published → ℕ → ℤ → List (ℕ × PlainTree) → Limit → Type 0
+PassesLimit last version tag trees limit.Ordinals = (rows : Table) → ¬ Next last.model last.rows trees rows
+PassesLimit last version tag trees limit.Blob =
+    (rows : Table) × (changed : List ℕ) × Makes last trees rows changed × Publishes last changed × TellsTypes last.model last.rows rows None
     × ((blobs : List Put) → AreBlobs last rows version tag blobs → ¬ All IsShort blobs)
-PassesLimit last version tag add passed =
-    (rows : Table) × (changed : List ℕ) × Makes last add rows changed × Publishes last changed × TellsTypes last.model last.rows rows (Some passed)
+PassesLimit last version tag trees passed =
+    (rows : Table) × (changed : List ℕ) × Makes last trees rows changed × Publishes last changed × TellsTypes last.model last.rows rows (Some passed)
 
--- Why the order is refused, where there is a producer.
-abbrev pub RefusesAfter : Store → Published → ℕ → ℤ → Data → Refusal → Type 0
-RefusesAfter store last version tag add (NoType name) = MayFollow store last.version version tag × IsFirstUnknown last.model add name
-RefusesAfter store last version tag add (BadRecord fault) =
-    MayFollow store last.version version tag × AreTypes last.model add
-    × ((t : ℕ) × IsSomeAnd (slice_get last.model t) (λ schema. schema.name ≡ fault.type_name)
-    × IsFirstUnread last.model (entries last.model add) t fault.index fault.reason)
-RefusesAfter store last version tag add (TooLarge passed) =
-    MayFollow store last.version version tag × AreTypes last.model add × PassesLimit last version tag add passed
-RefusesAfter store last version tag add refusal = MayNotFollow store last.version version tag refusal
+-- Why the order is refused, where there is a producer: the state may not follow; or its records give no trees; or these pass a limit.
+abbrev pub RefusesAfter : Store → Published → AskedState → Refusal → Type 0
+RefusesAfter store last asked (NoType name) = MayFollow store last.version asked.version asked.tag × GivesNoTrees last.model asked.add (NoType name)
+RefusesAfter store last asked (BadRecord fault) = MayFollow store last.version asked.version asked.tag × GivesNoTrees last.model asked.add (BadRecord fault)
+RefusesAfter store last asked (TooLarge passed) =
+    MayFollow store last.version asked.version asked.tag
+    × ((trees : List (ℕ × PlainTree)) × GivesTrees last.model asked.add trees × PassesLimit last asked.version asked.tag trees passed)
+RefusesAfter store last asked refusal = MayNotFollow store last.version asked.version asked.tag refusal
 
 -- Why the order is refused: there is no producer, or what there is to it.
-abbrev pub CycleRefusal : Machine → ℕ → ℤ → Data → Refusal → Type 0
-CycleRefusal machine version tag add NoModel = machine.producer ≡ None
-CycleRefusal machine version tag add refusal = IsSomeAnd machine.producer (λ last. RefusesAfter machine.store last version tag add refusal)
+abbrev pub CycleRefusal : Machine → AskedState → Refusal → Type 0
+CycleRefusal machine asked NoModel = machine.producer ≡ None
+CycleRefusal machine asked refusal = IsSomeAnd machine.producer (λ last. RefusesAfter machine.store last asked refusal)
 
 -- The names of the types at these indexes.
 abbrev pub AreNamed : List Schema → List ℕ → List (List ℕ) → Type 0
@@ -71,26 +65,26 @@ Leaves machine last rows changed version tag false next = (last.version ≢ 0) �
 Leaves machine last rows changed version tag true next =
     Publishes last changed × TellsTypes last.model last.rows rows None
     × ((blobs : List Put) × AreBlobs last rows version tag blobs × All IsShort blobs
-    × (next ≡ record machine { store = put_all machine.store (puts_of blobs version); producer = Some (record { model = last.model; rows = rows; tag = tag; version = version }) }))
+    × (next ≡ with_producer (with_store machine (put_all machine.store (puts_of blobs version))) (Some (record { model = last.model; rows = rows; tag = tag; version = version }))))
 
--- What a cycle answers that is not refused, and the machine behind it.
-abbrev pub Succeeds : Machine → Published → ℕ → ℤ → Data → List (List ℕ) → Bool → Machine → Type 0
-Succeeds machine last version tag add names published next =
-    MayFollow machine.store last.version version tag × AreTypes last.model add
-    × ((rows : Table) × (changed : List ℕ) × Makes last add rows changed × AreNamed last.model changed names
-    × Leaves machine last rows changed version tag published next)
+-- What is answered that is not refused of a state that may follow with the records of these types and trees, and the machine behind it.
+abbrev pub Succeeds : Machine → Published → ℕ → ℤ → List (ℕ × PlainTree) → List (List ℕ) → Bool → Machine → Type 0
+Succeeds machine last version tag trees names published next =
+    (rows : Table) × (changed : List ℕ) × Makes last trees rows changed × AreNamed last.model changed names
+    × Leaves machine last rows changed version tag published next
+
+-- The state may follow, and its records give trees, of which this is answered.
+abbrev pub SucceedsAfter : Machine → Published → AskedState → List (List ℕ) → Bool → Machine → Type 0
+SucceedsAfter machine last asked names published next =
+    MayFollow machine.store last.version asked.version asked.tag
+    × ((trees : List (ℕ × PlainTree)) × GivesTrees last.model asked.add trees × Succeeds machine last asked.version asked.tag trees names published next)
 
 -- What the order answers, and the machine behind it.
-abbrev pub CycleStep : Machine → ℕ → ℤ → Data → Reply → Machine → Type 0
-CycleStep machine version tag add (Cycle names published version') next =
-    (version' ≡ version) × IsSomeAnd machine.producer (λ last. Succeeds machine last version tag add names published next)
-CycleStep machine version tag add (Refused refusal) next = CycleRefusal machine version tag add refusal × (next ≡ machine)
-CycleStep machine version tag add _ next = ⊥
+abbrev pub CycleStep : Machine → AskedState → Reply → Machine → Type 0
+CycleStep machine asked (Cycle names published version) next =
+    (version ≡ asked.version) × IsSomeAnd machine.producer (λ last. SucceedsAfter machine last asked names published next)
+CycleStep machine asked (Refused refusal) next = CycleRefusal machine asked refusal × (next ≡ machine)
+CycleStep machine asked _ next = ⊥
 
-abbrev pub cycle_form : OrderForm
-cycle_form = record {
-  Asked = ℕ × ℤ × Data;
-  asked = state_in;
-  Answers = λ machine asked reply next. CycleStep machine asked.0 asked.1 asked.2 reply next;
-  of_state = false;
-}
+abbrev pub cycle_form : OrderForm AskedState
+cycle_form = record { Answers = λ machine asked reply next. CycleStep machine asked reply next; of_state = false }

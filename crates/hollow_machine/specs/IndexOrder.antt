@@ -12,9 +12,8 @@ use Rattle.hol_answers.specs.declared.refusal.Refusal.TheVariants.{NoState, NoTy
 use Rattle.hol_answers.specs.declared.reply.Reply.{Reply}
 use Rattle.hol_answers.specs.declared.reply.Reply.TheVariants as reply
 use Rattle.hollow_machine.specs.KeyPaths.{AreKeyPaths, HasShape, IsObject, PathsRefusal, texts_of_array}
-use Rattle.hollow_machine.specs.State.{Machine}
+use Rattle.hollow_machine.specs.State.{Machine, with_consumer}
 use Rattle.hollow_machine.specs.Forms.{OrderForm}
-use Rattle.hollow_machine.specs.Contents.{json_in, pair_in, text_in}
 
 -- Why no index of the type at an index is kept: there is no such key; or there is no room.
 abbrev pub RefusesIndex : Name → List (List ℕ) → Position → ℕ → Refusal → Type 0
@@ -34,14 +33,9 @@ abbrev pub IndexStep : Machine → Name → List (List ℕ) → Reply → Machin
 IndexStep machine name texts (reply.Index keys) next =
     IsSomeAnd machine.consumer (λ now. IsSomeAnd (index_of_type now.schemas name) (λ t. HasShape IsObject now.schemas t
     × ((paths : List Path) × AreKeyPaths now.schemas t texts paths × CountsKeyed now (index_by t paths) keys
-    × ((after : List Index) × KeepsIndex now.indexes (index_by t paths) after × (next ≡ record machine { consumer = Some (record now { indexes = after }) })))))
+    × ((after : List Index) × KeepsIndex now.indexes (index_by t paths) after × (next ≡ with_consumer machine (Some (record now { indexes = after })))))))
 IndexStep machine name texts (reply.Refused refusal) next = IndexRefusal machine.consumer name texts refusal × (next ≡ machine)
 IndexStep machine name texts _ next = ⊥
 
-abbrev pub index_form : OrderForm
-index_form = record {
-  Asked = Name × Data;
-  asked = pair_in text_in json_in;
-  Answers = λ machine asked reply next. IndexStep machine asked.0 (texts_of_array asked.1) reply next;
-  of_state = false;
-}
+abbrev pub index_form : OrderForm (Name × Data)
+index_form = record { Answers = λ machine asked reply next. IndexStep machine asked.0 (texts_of_array asked.1) reply next; of_state = false }

@@ -20,7 +20,6 @@ use Rattle.hol_answers.specs.declared.reply.Reply.TheVariants as reply
 use Rattle.hollow_machine.specs.KeyPaths.{AreKeyPaths, HasShape, IsObject, PathsRefusal, texts_of_array}
 use Rattle.hollow_machine.specs.RowOrders.{AnswersOf, record_at}
 use Rattle.hollow_machine.specs.Forms.{OrderForm, looking}
-use Rattle.hollow_machine.specs.Contents.{json_in, pair_in, text_in, triple_in}
 
 -- An index is kept of a type by the paths of these texts.
 abbrev pub IsKept : List (List ℕ) → Position → ℕ → List Path → Type 0
@@ -68,8 +67,8 @@ ShowsFound name values now t _ = ⊥
 abbrev pub GetReply : Option Position → Name → Data → Reply → Type 0
 GetReply consumer name values answer = AnswersOf consumer name (ShowsFound name values) answer
 
-abbrev pub get_form : OrderForm
-get_form = looking (pair_in text_in json_in) (λ consumer asked answer. GetReply consumer asked.0 asked.1 answer) true
+abbrev pub get_form : OrderForm (Name × Data)
+get_form = looking (λ consumer asked answer. GetReply consumer asked.0 asked.1 answer) true
 
-abbrev pub find_form : OrderForm
-find_form = looking (triple_in text_in json_in json_in) (λ consumer asked answer. FindReply consumer asked.0 (texts_of_array asked.1) asked.2 answer) true
+abbrev pub find_form : OrderForm (Name × Data × Data)
+find_form = looking (λ consumer asked answer. FindReply consumer asked.0 (texts_of_array asked.1) asked.2 answer) true

@@ -1,5 +1,4 @@
 pub mod Blobs
-pub mod Contents
 pub mod CycleOrder
 pub mod Follow
 pub mod Forms

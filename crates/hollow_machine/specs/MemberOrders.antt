@@ -13,7 +13,6 @@ use Rattle.hol_answers.specs.declared.reply.Reply.TheVariants as reply
 use Rattle.hollow_machine.specs.KeyPaths.{HasShape, IsMap, IsSet}
 use Rattle.hollow_machine.specs.RowOrders.{AnswersOf}
 use Rattle.hollow_machine.specs.Forms.{OrderForm, looking}
-use Rattle.hollow_machine.specs.Contents.{text_in, triple_in, whole_in}
 
 -- Why a row of a type is not looked into: the rows of the type have another shape, or the ordinal is not live.
 abbrev pub MemberRefusal : (Shape → Type 0) → Name → ℕ → Position → ℕ → Refusal → Type 0
@@ -45,8 +44,8 @@ TellsValue name ordinal key now t _ = ⊥
 abbrev pub AtReply : Option Position → Name → ℕ → ℕ → Reply → Type 0
 AtReply consumer name ordinal key answer = AnswersOf consumer name (TellsValue name ordinal key) answer
 
-abbrev pub has_form : OrderForm
-has_form = looking (triple_in text_in whole_in whole_in) (λ consumer asked answer. HasReply consumer asked.0 asked.1 asked.2 answer) true
+abbrev pub has_form : OrderForm (Name × ℕ × ℕ)
+has_form = looking (λ consumer asked answer. HasReply consumer asked.0 asked.1 asked.2 answer) true
 
-abbrev pub at_form : OrderForm
-at_form = looking (triple_in text_in whole_in whole_in) (λ consumer asked answer. AtReply consumer asked.0 asked.1 asked.2 answer) true
+abbrev pub at_form : OrderForm (Name × ℕ × ℕ)
+at_form = looking (λ consumer asked answer. AtReply consumer asked.0 asked.1 asked.2 answer) true

@@ -11,10 +11,9 @@ use Rattle.hol_answers.specs.declared.refusal.Refusal.{Refusal}
 use Rattle.hol_answers.specs.declared.refusal.Refusal.TheVariants.{BadModel, ModelFixed}
 use Rattle.hol_answers.specs.declared.reply.Reply.{Reply}
 use Rattle.hol_answers.specs.declared.reply.Reply.TheVariants.{Model, Refused}
-use Rattle.hollow_machine.specs.State.{Machine}
+use Rattle.hollow_machine.specs.State.{Machine, with_producer}
 use Rattle.state_blobs.specs.Published.{new_producer}
 use Rattle.hollow_machine.specs.Forms.{OrderForm}
-use Rattle.hollow_machine.specs.Contents.{json_in}
 
 -- The schemas that the value stands for break this rule first, and the type at this index is the first that breaks it. A
 -- FLOAT or a DOUBLE breaks a rule too, though no schema has one.
@@ -37,9 +36,9 @@ ModelRefusal machine value _ = ⊥
 abbrev pub ModelStep : Machine → Data → Reply → Machine → Type 0
 ModelStep machine value (Model types) next =
     (schemas : List Schema) × (machine.producer ≡ None) × StandsFor value schemas × IsModel schemas × (types ≡ length schemas)
-    × (next ≡ record machine { producer = Some (new_producer schemas) })
+    × (next ≡ with_producer machine (Some (new_producer schemas)))
 ModelStep machine value (Refused refusal) next = ModelRefusal machine value refusal × (next ≡ machine)
 ModelStep machine value _ next = ⊥
 
-abbrev pub model_form : OrderForm
-model_form = record { Asked = Data; asked = json_in; Answers = λ machine value reply next. ModelStep machine value reply next; of_state = false }
+abbrev pub model_form : OrderForm Data
+model_form = record { Answers = λ machine value reply next. ModelStep machine value reply next; of_state = false }

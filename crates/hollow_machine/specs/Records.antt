@@ -1,5 +1,5 @@
 -- The records of a cycle: those under the name of each type of the model, types in model order, and which trees they give.
-use Rattle.std.specs.Prelude.{◌≡◌, ℕ, List, [], ◌∷◌, ◌++◌, All, IsOk, IsSome, None, Ok, Err, length, map, flat_map}
+use Rattle.std.specs.Prelude.{◌≡◌, ℕ, List, [], ◌∷◌, ◌++◌, All, IsOk, IsSome, IsSomeAnd, None, Ok, Err, length, map, flat_map, slice_get}
 use Rattle.std.specs.List.{AllZip, range_with_len, zip}
 use Rattle.std.specs.Option.{option_map_or, option_and_then}
 use Rattle.serde_json.specs.Data.{Data, Items, no_items, item, Members, no_members, member}
@@ -9,6 +9,8 @@ use Rattle.schema_model.specs.declared.schema.Schema.{Schema}
 use Rattle.schema_model.specs.Parts.{index_of_type}
 use Rattle.row_model.specs.PlainTree.{PlainTree}
 use Rattle.record_json.specs.ReadTree.{read_tree}
+use Rattle.hol_answers.specs.declared.refusal.Refusal.{Refusal}
+use Rattle.hol_answers.specs.declared.refusal.Refusal.TheVariants.{BadRecord, NoType}
 
 -- A record of a cycle: the index of its type, its place among the records of the type, from 0, and its JSON.
 pub record Entry : Type 0 where
@@ -78,3 +80,17 @@ pub record IsFirstUnknown (schemas : List Schema) (add : Data) (name : List ℕ)
   pub split : names_of add ≡ before ++ name ∷ rest
   pub known : All (λ earlier. IsSome (index_of_type schemas earlier)) before
   pub unknown : index_of_type schemas name ≡ None
+
+-- The records give these trees, each with its type: each name is that of a type.
+pub record GivesTrees (schemas : List Schema) (add : Data) (trees : List (ℕ × PlainTree)) : Type 0 where
+  pub types : AreTypes schemas add
+  pub read : AreRead schemas (entries schemas add) trees
+
+-- Why the records give no trees: a name is that of no type; or a record, of this type, gives none.
+abbrev pub GivesNoTrees : List Schema → Data → Refusal → Type 0
+GivesNoTrees schemas add (NoType name) = IsFirstUnknown schemas add name
+GivesNoTrees schemas add (BadRecord fault) =
+    AreTypes schemas add
+    × ((t : ℕ) × IsSomeAnd (slice_get schemas t) (λ schema. schema.name ≡ fault.type_name)
+    × IsFirstUnread schemas (entries schemas add) t fault.index fault.reason)
+GivesNoTrees schemas add _ = ⊥

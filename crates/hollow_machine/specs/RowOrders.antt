@@ -20,7 +20,6 @@ use Rattle.hol_answers.specs.declared.reply.Reply.{Reply}
 use Rattle.hol_answers.specs.declared.reply.Reply.TheVariants as reply
 use Rattle.hollow_machine.specs.State.{Machine}
 use Rattle.hollow_machine.specs.Forms.{OrderForm, looking}
-use Rattle.hollow_machine.specs.Contents.{pair_in, text_in, whole_in}
 
 -- What is answered of the type at an index, where there is one of the name.
 abbrev pub AnswersAt : Position → Option ℕ → Name → (Position → ℕ → Reply → Type 0) → Reply → Type 0
@@ -88,11 +87,11 @@ PastReply consumer name answer = AnswersOf consumer name ShowsPast answer
 abbrev pub Looks : (Option Position → Reply → Type 0) → Machine → Reply → Machine → Type 0
 Looks Answers machine answer next = Answers machine.consumer answer × (next ≡ machine)
 
-abbrev pub live_form : OrderForm
-live_form = looking text_in (λ consumer name answer. LiveReply consumer name answer) true
+abbrev pub live_form : OrderForm Name
+live_form = looking (λ consumer name answer. LiveReply consumer name answer) true
 
-abbrev pub row_form : OrderForm
-row_form = looking (pair_in text_in whole_in) (λ consumer asked answer. RowReply consumer asked.0 asked.1 answer) true
+abbrev pub row_form : OrderForm (Name × ℕ)
+row_form = looking (λ consumer asked answer. RowReply consumer asked.0 asked.1 answer) true
 
-abbrev pub past_form : OrderForm
-past_form = looking text_in (λ consumer name answer. PastReply consumer name answer) false
+abbrev pub past_form : OrderForm Name
+past_form = looking (λ consumer name answer. PastReply consumer name answer) false

@@ -10,6 +10,16 @@ pub record Machine : Type 0 where
   pub producer : Option Published
   pub consumer : Option Position
 
+-- The machine with this store, with this producer, and with this consumer.
+abbrev pub with_store : Machine → Store → Machine
+with_store machine store = record machine { store = store }
+
+abbrev pub with_producer : Machine → Option Published → Machine
+with_producer machine producer = record machine { producer = producer }
+
+abbrev pub with_consumer : Machine → Option Position → Machine
+with_consumer machine consumer = record machine { consumer = consumer }
+
 -- The machine at the begin of a run.
 abbrev pub started : Store → Machine
 started store = record { store = store; producer = None; consumer = None }

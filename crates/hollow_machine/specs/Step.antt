@@ -2,10 +2,11 @@
 use Rattle.hol_orders.specs.declared.kind.Kind.{Kind}
 use Rattle.hol_orders.specs.declared.kind.Kind.TheVariants.{Model, Cycle, Restore, Load, Step as StepKind, Index, Get, Find, Live, Row, Has, At, Past, Check, Stat}
 use Rattle.hol_orders.specs.declared.order.Order.{Order}
-use Rattle.hol_orders.specs.Order.{content_of, kind_of}
+use Rattle.hol_orders.specs.Kind.{shape}
+use Rattle.hol_orders.specs.Order.{asked_of, kind_of}
 use Rattle.hol_answers.specs.declared.reply.Reply.{Reply}
 use Rattle.hollow_machine.specs.CycleOrder.{cycle_form}
-use Rattle.hollow_machine.specs.Forms.{Meets, OrderForm, unbuilt}
+use Rattle.hollow_machine.specs.Forms.{OrderForm, unbuilt}
 use Rattle.hollow_machine.specs.IndexOrder.{index_form}
 use Rattle.hollow_machine.specs.KeyOrders.{find_form, get_form}
 use Rattle.hollow_machine.specs.LoadOrder.{load_form}
@@ -15,8 +16,8 @@ use Rattle.hollow_machine.specs.RowOrders.{live_form, past_form, row_form}
 use Rattle.hollow_machine.specs.State.{Machine}
 use Rattle.hollow_machine.specs.StepOrder.{step_form}
 
--- What the orders of each kind are. Those of the last line are not built.
-abbrev pub form : Kind → OrderForm
+-- What the orders of each kind are answered. Those of the last line are not built.
+abbrev pub form : (kind : Kind) → OrderForm (shape kind).Asked
 form Model = model_form
 form Cycle = cycle_form
 form Load = load_form
@@ -33,4 +34,4 @@ form _ = unbuilt
 
 -- What an order is answered.
 abbrev pub Step : Machine → Order → Reply → Machine → Type 0
-Step machine order reply next = Meets (form (kind_of order)) machine (content_of order) reply next
+Step machine order reply next = (form (kind_of order)).Answers machine (asked_of order) reply next

@@ -12,9 +12,8 @@ use Rattle.hol_answers.specs.declared.refusal.Refusal.TheVariants.{BadBody, NoSt
 use Rattle.hol_answers.specs.declared.reply.Reply.{Reply}
 use Rattle.hol_answers.specs.declared.reply.Reply.TheVariants.{Refused, Step}
 use Rattle.hollow_machine.specs.Blobs.{HeadRefusal}
-use Rattle.hollow_machine.specs.State.{Machine}
+use Rattle.hollow_machine.specs.State.{Machine, with_consumer}
 use Rattle.hollow_machine.specs.Forms.{OrderForm}
-use Rattle.hollow_machine.specs.Contents.{pair_in, whole_in}
 
 -- The blob that leads from one version to another one: the delta where versions rise, and else the reverse delta.
 abbrev pub step_name : ℕ → ℕ → BlobName
@@ -43,14 +42,9 @@ StepRefusal name content consumer refusal = IsSomeAnd consumer (λ now. DeltaRef
 abbrev pub StepStep : Machine → BlobName → Reply → Machine → Type 0
 StepStep machine name (Step tag) next =
     IsSomeAnd machine.consumer (λ now. (blob : List ℕ) × (to : Position) × (told (Some machine.store) name ≡ Some blob) × StepsBy blob now to × (tag ≡ to.tag)
-    × (next ≡ record machine { consumer = Some to }))
+    × (next ≡ with_consumer machine (Some to)))
 StepStep machine name (Refused refusal) next = StepRefusal name (told (Some machine.store) name) machine.consumer refusal × (next ≡ machine)
 StepStep machine name _ next = ⊥
 
-abbrev pub step_form : OrderForm
-step_form = record {
-  Asked = ℕ × ℕ;
-  asked = pair_in whole_in whole_in;
-  Answers = λ machine asked reply next. StepStep machine (step_name asked.0 asked.1) reply next;
-  of_state = false;
-}
+abbrev pub step_form : OrderForm (ℕ × ℕ)
+step_form = record { Answers = λ machine asked reply next. StepStep machine (step_name asked.0 asked.1) reply next; of_state = false }

@@ -57,7 +57,7 @@ none_answered bytes first left reading kept before waiting none nothing has = re
   gone = [];
   given = has;
   told = refl;
-  script = (refl, refl, (λ i. machine_of first (none.producer i) (none.consumer i)));
+  script = (refl, refl, (λ i. machine_of first (record { producer = none.producer i; consumer = none.consumer i })));
   split = sym nothing;
   gained = Appends-nil before;
 }

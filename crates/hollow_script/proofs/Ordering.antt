@@ -1,11 +1,8 @@
 -- What an order is answered, and what its line is.
-use Rattle.std.proofs.Common.{◌≡◌, ◌⊎◌, inl, inr, List, ℕ, ℤ, Option, Some, None, Result, Ok, Err, IfOk, refl, sym, subst, to_z, of_z, FitsSigned}
-use Rattle.std.specs.Int.{w64}
-use Rattle.std.proofs.lemmas.Int.{to_z-of_z}
+use Rattle.std.proofs.Common.{◌≡◌, ◌⊎◌, inl, inr, List, ℕ, Option, Some, None, Result, Ok, Err, IfOk, refl, sym, subst}
 use Rattle.serde_json.specs.View.{view}
 use Rattle.serde_json.specs.declared.value.Value.{Value}
 use Rattle.hol_io.specs.Store.{Store}
-use Rattle.schema_model.specs.declared.schema.name.Name.{Name}
 use Rattle.write_engine.specs.Production.{Production}
 use Rattle.read_engine.specs.Position.{Position}
 use Rattle.hol_orders.specs.declared.order.Order.{Order}
@@ -15,98 +12,67 @@ use Rattle.hol_answers.specs.declared.reply.Reply.{Reply}
 use Rattle.hol_answers.specs.declared.reply.Reply.TheVariants.{Refused}
 use Rattle.hol_orders.specs.declared.order.OrderFault.{OrderFault}
 use Rattle.hol_orders.specs.declared.order.OrderFault.TheVariants as order_fault
-use Rattle.hol_orders.specs.Order.{IsOrder, Orders, TellsOrder}
-use Rattle.hollow_machine.proofs.Asking.{cycle_answered}
+use Rattle.hol_orders.specs.declared.order.NextState.{NextState}
+use Rattle.hol_orders.specs.Order.{Orders, TellsOrder}
+use Rattle.hol_orders.specs.Parts.{asked_state}
 use Rattle.hollow_machine.specs.CycleOrder.{CycleStep}
-use Rattle.hollow_machine.specs.IndexOrder.{IndexStep}
-use Rattle.hollow_machine.specs.Kept.{Moves, MovesConsumer, MovesProducer, machine_of}
-use Rattle.hollow_machine.specs.KeyPaths.{texts_of_array}
-use Rattle.hollow_machine.specs.LoadOrder.{LoadStep}
+use Rattle.hollow_machine.specs.Kept.{Kept, Moves, MovesConsumer, MovesProducer, kept_with_consumer, kept_with_producer, machine_of}
 use Rattle.hollow_machine.specs.ModelOrder.{ModelStep}
 use Rattle.hollow_machine.specs.RowOrders.{Looks}
 use Rattle.hollow_machine.specs.Script.{ShortStep}
 use Rattle.hollow_machine.specs.State.{Machine}
 use Rattle.hollow_machine.specs.Step.{Step}
-use Rattle.hollow_machine.specs.StepOrder.{StepStep, step_name}
 use Rattle.hol_orders.specs.declared.order_stop.OrderStop.{OrderStop}
-use Rattle.hollow_script.specs.Kept.{MovesKept}
+use Rattle.hollow_script.specs.Kept.{MovesKept, kept_of}
 use Rattle.hollow_script.specs.declared.keep.Keep.{Keep}
 
 -- an answer that leaves the machine as it was moves it so
 pub stays : (IsStep : Machine → Reply → Machine → Type 0) (held : Option Store) (keep : Keep) (reply : Reply) → ((machine : Machine) → IsStep machine reply machine) →
     MovesKept {E = OrderStop} IsStep held keep held keep (Ok reply)
 stays IsStep None keep reply steps = tt
-stays IsStep (Some store) keep reply steps = (store, refl, steps (machine_of store keep.producer keep.consumer))
+stays IsStep (Some store) keep reply steps = (store, refl, steps (machine_of store (kept_of keep)))
 
 -- an order that moves the machine in a way that is that of its kind
-module _ (held held' : Option Store) (kept kept' : Option Production) (consumer consumer' : Option Position) (asked : Order) (r : Result Reply OrderStop) where
-  abbrev pub MovesBy : (Machine → Reply → Machine → Type 0) → Type 0
-  MovesBy IsStep = Moves {E = OrderStop} IsStep held kept consumer held' kept' consumer' r
+pub asked_moves : (held held' : Option Store) (kept kept' : Kept) (asked other : Order) (r : Result Reply OrderStop) → asked ≡ other →
+    Moves (λ machine reply next. Step machine other reply next) held kept held' kept' r → Moves (λ machine reply next. Step machine asked reply next) held kept held' kept' r
+asked_moves held held' kept kept' asked other r is moves = subst (λ order. Moves (λ machine reply next. Step machine order reply next) held kept held' kept' r) (sym is) moves
 
-  pub asked_moves : (other : Order) → asked ≡ other → MovesBy (λ machine reply next. Step machine other reply next) → MovesBy (λ machine reply next. Step machine asked reply next)
-  asked_moves other is moves = subst (λ order. MovesBy (λ machine reply next. Step machine order reply next)) (sym is) moves
-
-module _ (held : Option Store) (kept kept' : Option Production) (consumer : Option Position) (asked : Order) (r : Result Reply OrderStop) where
+module _ (held : Option Store) (kept : Kept) (producer : Option Production) (asked : Order) (r : Result Reply OrderStop) where
   -- what the order `model` is answered over each store moves the machine, for it leaves the store and the consumer
   pub model_moves : (schemas : Value) → asked ≡ order.Model schemas →
-      ((store : Store) (at : Option Position) → IfOk r (λ reply. ModelStep (machine_of store kept at) (view schemas) reply (machine_of store kept' at))) →
-      Moves (λ machine reply next. Step machine asked reply next) held kept consumer held kept' consumer r
-  model_moves schemas is answers = asked_moves held held kept kept' consumer consumer asked r (order.Model schemas) is (over held r answers)
+      ((store : Store) (beside : Kept) → IfOk r (λ reply. ModelStep (machine_of store (kept_with_producer beside kept.producer)) (view schemas) reply (machine_of store (kept_with_producer beside producer)))) →
+      Moves (λ machine reply next. Step machine asked reply next) held kept held (kept_with_producer kept producer) r
+  model_moves schemas is answers = asked_moves held held kept (kept_with_producer kept producer) asked (order.Model schemas) r is (over held r answers)
     where
       over : (told : Option Store) (answer : Result Reply OrderStop) →
-          ((store : Store) (at : Option Position) → IfOk answer (λ reply. ModelStep (machine_of store kept at) (view schemas) reply (machine_of store kept' at))) →
-          Moves (λ machine reply next. ModelStep machine (view schemas) reply next) told kept consumer told kept' consumer answer
+          ((store : Store) (beside : Kept) → IfOk answer (λ reply. ModelStep (machine_of store (kept_with_producer beside kept.producer)) (view schemas) reply (machine_of store (kept_with_producer beside producer)))) →
+          Moves (λ machine reply next. ModelStep machine (view schemas) reply next) told kept told (kept_with_producer kept producer) answer
       over None answer gives = tt
       over (Some store) (Err stop) gives = tt
-      over (Some store) (Ok reply) gives = (store, refl, gives store consumer)
+      over (Some store) (Ok reply) gives = (store, refl, gives store kept)
 
-  -- as the order `cycle` moves the machine, with its tag handed on, so does an order that is one
-  pub cycle_moves : (held' : Option Store) (version : ℕ) (tag : ℤ) (add : Value) → asked ≡ order.Cycle version tag add → IsOrder asked →
-      MovesProducer (λ machine reply next. CycleStep machine version (to_z w64 (of_z w64 tag)) (view add) reply next) held kept held' kept' r →
-      Moves (λ machine reply next. Step machine asked reply next) held kept consumer held' kept' consumer r
-  cycle_moves held' version tag add is fits moves =
-      let same = to_z-of_z w64 tag (subst IsOrder is fits).1 in
-      asked_moves held held' kept kept' consumer consumer asked r (order.Cycle version tag add) is
-      (over held (subst (λ t. Moves (λ machine reply next. CycleStep machine version t (view add) reply next) held kept consumer held' kept' consumer r) same (moves consumer)))
-    where
-      over : (told : Option Store) → Moves (λ machine reply next. CycleStep machine version tag (view add) reply next) told kept consumer held' kept' consumer r
-          → Moves (λ machine reply next. Step machine (order.Cycle version tag add) reply next) told kept consumer held' kept' consumer r
-      over None answers = tt
-      over (Some store) answers = on r answers
-        where
-          on : (answer : Result Reply OrderStop) → IfOk answer (λ reply. (next : Store) × (held' ≡ Some next) × CycleStep (machine_of store kept consumer) version tag (view add) reply (machine_of next kept' consumer))
-              → IfOk answer (λ reply. (next : Store) × (held' ≡ Some next) × Step (machine_of store kept consumer) (order.Cycle version tag add) reply (machine_of next kept' consumer))
-          on (Err stop) is = tt
-          on (Ok reply) (next, is, step) = (next, is, cycle_answered (machine_of store kept consumer) version tag add reply (machine_of next kept' consumer) step)
+  -- as the order `cycle` moves the machine, so does an order that is one
+  pub cycle_moves : (held' : Option Store) (next_state : NextState) → asked ≡ order.Cycle next_state →
+      MovesProducer (λ machine reply next. CycleStep machine (asked_state next_state) reply next) held kept.producer held' producer r →
+      Moves (λ machine reply next. Step machine asked reply next) held kept held' (kept_with_producer kept producer) r
+  cycle_moves held' next_state is moves = asked_moves held held' kept (kept_with_producer kept producer) asked (order.Cycle next_state) r is (moves kept)
 
 -- the orders of a consumer, which leave the store and the producer
-module _ (held held' : Option Store) (kept : Option Production) (consumer consumer' : Option Position) (asked : Order) (r : Result Reply OrderStop) where
-  pub consumer_moves : (IsStep : Machine → Reply → Machine → Type 0) → held' ≡ held → MovesConsumer IsStep held consumer consumer' r → Moves IsStep held kept consumer held' kept consumer' r
-  consumer_moves IsStep same moves = subst (λ (h : Option Store). Moves IsStep held kept consumer h kept consumer' r) (sym same) (moves kept)
-
-  pub load_moves : (version : ℕ) → asked ≡ order.Load version → held' ≡ held → MovesConsumer (λ machine reply next. LoadStep machine version reply next) held consumer consumer' r →
-      Moves (λ machine reply next. Step machine asked reply next) held kept consumer held' kept consumer' r
-  load_moves version is same moves =
-      asked_moves held held' kept kept consumer consumer' asked r (order.Load version) is (consumer_moves (λ machine reply next. LoadStep machine version reply next) same moves)
-
-  pub step_moves : (from to : ℕ) → asked ≡ order.Step from to → held' ≡ held → MovesConsumer (λ machine reply next. StepStep machine (step_name from to) reply next) held consumer consumer' r →
-      Moves (λ machine reply next. Step machine asked reply next) held kept consumer held' kept consumer' r
-  step_moves from to is same moves =
-      asked_moves held held' kept kept consumer consumer' asked r (order.Step from to) is (consumer_moves (λ machine reply next. StepStep machine (step_name from to) reply next) same moves)
-
-  pub index_moves : (name : Name) (paths : Value) → asked ≡ order.Index name paths →
-      ((told : Option Store) → MovesConsumer (λ machine reply next. IndexStep machine name (texts_of_array (view paths)) reply next) told consumer consumer' r) →
-      Moves (λ machine reply next. Step machine asked reply next) held kept consumer held kept consumer' r
-  index_moves name paths is moves = asked_moves held held kept kept consumer consumer' asked r (order.Index name paths) is (moves held kept)
+module _ (held held' : Option Store) (kept : Kept) (consumer : Option Position) (asked other : Order) (r : Result Reply OrderStop) where
+  pub consumer_moves : asked ≡ other → held' ≡ held → MovesConsumer (λ machine reply next. Step machine other reply next) held kept.consumer consumer r →
+      Moves (λ machine reply next. Step machine asked reply next) held kept held' (kept_with_consumer kept consumer) r
+  consumer_moves is same moves =
+      asked_moves held held' kept (kept_with_consumer kept consumer) asked other r is
+      (subst (λ (h : Option Store). Moves (λ machine reply next. Step machine other reply next) held kept h (kept_with_consumer kept consumer) r) (sym same) (moves kept))
 
 -- as an order that asks a consumer is answered, an order that is one moves the machine, which stays as it was
 pub looks : (Answers : Option Position → Reply → Type 0) (other : Order) → ((machine : Machine) (reply : Reply) (next : Machine) → Looks Answers machine reply next → Step machine other reply next) →
-    (held : Option Store) (kept : Option Production) (consumer : Option Position) (asked : Order) (r : Result Reply OrderStop) → asked ≡ other → IfOk r (Answers consumer) →
-    Moves (λ machine reply next. Step machine asked reply next) held kept consumer held kept consumer r
-looks Answers other is_look None kept consumer asked r is answers = tt
-looks Answers other is_look (Some store) kept consumer asked (Err stop) is answers = tt
-looks Answers other is_look (Some store) kept consumer asked (Ok reply) is answers =
-    let machine = machine_of store kept consumer in
+    (held : Option Store) (kept : Kept) (asked : Order) (r : Result Reply OrderStop) → asked ≡ other → IfOk r (Answers kept.consumer) →
+    Moves (λ machine reply next. Step machine asked reply next) held kept held kept r
+looks Answers other is_look None kept asked r is answers = tt
+looks Answers other is_look (Some store) kept asked (Err stop) is answers = tt
+looks Answers other is_look (Some store) kept asked (Ok reply) is answers =
+    let machine = machine_of store kept in
     (store, refl, subst (λ o. Step machine o reply machine) (sym is) (is_look machine reply machine (answers, refl)))
 
 -- an order that is not built is told so

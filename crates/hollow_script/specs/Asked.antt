@@ -4,16 +4,16 @@ use Rattle.hol_orders.specs.Order.{IsOrder}
 use Rattle.hol_orders.specs.declared.order.Order.{Order}
 use Rattle.hol_orders.specs.declared.order.Order.TheVariants as order
 use Rattle.hol_answers.specs.declared.reply.Reply.{Reply}
+use Rattle.hollow_machine.specs.Forms.{Refuses}
 use Rattle.hollow_machine.specs.Script.{LineStep}
 use Rattle.hollow_machine.specs.State.{Machine}
-use Rattle.hollow_machine.specs.Forms.{Refuses}
 use Rattle.hollow_machine.specs.Step.{Step}
 use Rattle.hollow_script.specs.declared.asked.Asked.{Asked}
 use Rattle.hollow_script.specs.declared.asked.Asked.TheVariants as asked
 
 -- The order may put blobs.
 abbrev pub MayPut : Order → Type 0
-MayPut (order.Cycle version tag add) = Unit {0}
+MayPut (order.Cycle next_state) = Unit {0}
 MayPut _ = ⊥
 
 -- What is asked for may put blobs.

@@ -2,7 +2,7 @@
 use Rattle.std.specs.Prelude.{◌≡◌, Option, None, Result}
 use Rattle.hol_io.specs.Store.{Store}
 use Rattle.hol_answers.specs.declared.reply.Reply.{Reply}
-use Rattle.hollow_machine.specs.Kept.{Moves, machine_of}
+use Rattle.hollow_machine.specs.Kept.{Kept, Moves, machine_of}
 use Rattle.hollow_machine.specs.State.{Machine}
 use Rattle.hollow_script.specs.declared.keep.Keep.{Keep}
 
@@ -11,10 +11,14 @@ pub record KeepsNothing (keep : Keep) : Type 0 where
   pub producer : keep.producer ≡ None
   pub consumer : keep.consumer ≡ None
 
+-- What is kept of the machine.
+abbrev pub kept_of : Keep → Kept
+kept_of keep = record { producer = keep.producer; consumer = keep.consumer }
+
 -- The machine over a store whose producer and consumer are those that are kept.
 abbrev pub machine_with : Store → Keep → Machine
-machine_with store keep = machine_of store keep.producer keep.consumer
+machine_with store keep = machine_of store (kept_of keep)
 
 -- What the answer means, where the store tells what it holds: it moves the machine of what is kept by this relation.
 abbrev pub MovesKept : {E : Type 0} → (Machine → Reply → Machine → Type 0) → Option Store → Keep → Option Store → Keep → Result Reply E → Type 0
-MovesKept IsStep held keep held' keep' result = Moves IsStep held keep.producer keep.consumer held' keep'.producer keep'.consumer result
+MovesKept IsStep held keep held' keep' result = Moves IsStep held (kept_of keep) held' (kept_of keep') result

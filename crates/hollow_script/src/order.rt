@@ -19,7 +19,7 @@ use std::alloc::Global;
 pub fn may_put(order: &Order) -> bool
     ensures { MayPut order.now → result ≡ true }
 {
-    matches!(order, Order::Cycle { .. })
+    matches!(order, Order::Cycle(_))
 }
 
 /// Answers an order. Those of the last arm are not built.
@@ -39,9 +39,7 @@ pub fn answer<S: BlobStore>(
 {
     match order {
         Order::Model(schemas) => model(alloc, schemas, &mut keep.producer),
-        Order::Cycle { version, tag, add } => {
-            cycle(alloc, store, &mut keep.producer, *version, *tag, add)
-        }
+        Order::Cycle(next) => cycle(alloc, store, &mut keep.producer, next),
         Order::Load(version) => load(store, &mut keep.consumer, *version),
         Order::Step { from, to } => step(store, &mut keep.consumer, *from, *to),
         Order::Index { type_name, paths } => index(alloc, &mut keep.consumer, type_name, paths),

@@ -11,10 +11,10 @@ use Rattle.hol_answers.specs.declared.refusal.Refusal.{Refusal}
 use Rattle.hol_answers.specs.declared.refusal.Refusal.TheVariants.{NoBlob, TooLarge}
 use Rattle.hol_answers.specs.Refusal.{bad_item}
 use Rattle.hollow_machine.specs.Blobs.{HeadRefusal}
-use Rattle.hollow_top.specs.Head.{refusal_of}
+use Rattle.hol_answers.specs.BlobRefusal.{refusal_of_blob}
 
 -- the refusal for a fault of the header is that of the content
-pub refused : (name : BlobName) (content : Option (List ℕ)) (found : BlobFault) (refusal : Refusal) → TellsHeader name content (Err found) → Ok refusal ≡ refusal_of name found →
+pub refused : (name : BlobName) (content : Option (List ℕ)) (found : BlobFault) (refusal : Refusal) → TellsHeader name content (Err found) → Ok refusal ≡ refusal_of_blob name found →
     HeadRefusal name content refusal
 refused name content (fault.NoBlob other) refusal tells is =
     let same : refusal ≡ NoBlob name = cc in subst (HeadRefusal name content) (sym same) (refl, tells.1)

@@ -75,7 +75,7 @@ pub finishes : (words : List (List ℕ)) (input : Option (List ℕ)) (held after
     IfSome held (λ store. Finishes words input store after_held kept before after status)
 finishes words input None after_held kept command before after refused status none asked is served = tt
 finishes words input (Some store) after_held kept command before after refused status none asked is (text, next, writes, same, gained) =
-    (text, refused, next, (command, asked, subst (λ machine. Writes input store command text refused machine) (λ i. machine_of next (sym none.producer i) (sym none.consumer i)) writes), same, gained, is)
+    (text, refused, next, (command, asked, subst (λ machine. Writes input store command text refused machine) (λ i. machine_of next (record { producer = sym none.producer i; consumer = sym none.consumer i })) writes), same, gained, is)
 
 pub part_written : (words : List (List ℕ)) (input : Option (List ℕ)) (held after_held : Option Store) (command : Command) (before after : Option (List ℕ)) (stop : Stop) → stop ≡ Sink →
     Asks words command → ServesHeld input held after_held command before after (Err stop) →

@@ -27,10 +27,11 @@ use Rattle.hollow_top.specs.declared.stop.Stop.{Stop}
 use Rattle.hollow_top.specs.declared.stop.Stop.TheVariants.{Memory, Sink, Store as StoreFailed}
 use Rattle.hollow_top.specs.Command.{IsLineOf}
 use Rattle.hollow_machine.specs.Blobs.{HeadRefusal, SnapshotRefusal}
-use Rattle.hollow_top.specs.Head.{refusal_of}
+use Rattle.hol_orders.specs.declared.order_stop.OrderStop.{OrderStop}
+use Rattle.hol_answers.specs.BlobRefusal.{refusal_of_blob, refusal_of_body}
 use Rattle.hol_answers.specs.Reply.{is_refusal, line_of}
 use Rattle.hollow_top.specs.RowLines.{AreLinesOf, Listed, LeavesLines, rows_in_order}
-use Rattle.hollow_top.specs.Show.{ShowsContent, ShowsRows, Shows, body_refusal_of}
+use Rattle.hollow_top.specs.Show.{ShowsContent, ShowsRows, Shows}
 use Rattle.hollow_top.specs.Stopping.{GainsFront, Leaves}
 use Rattle.hollow_top.proofs.Heads.{refused}
 use Rattle.hollow_top.proofs.Writes.{failed, failure}
@@ -67,19 +68,19 @@ is_read (Some store) mid name opened answer same named (blob, there, short, stan
 
 -- a fault of the body of a blob that has a header is the refusal of it
 body_refuses : RefusesBody → (name : BlobName) (content : Option (List ℕ)) (opened : Header × Place) (refusal : Refusal) (found : BlobFault) →
-    IsRead content opened (Err found) → Ok refusal ≡ body_refusal_of name found → SnapshotRefusal name content refusal
+    IsRead content opened (Err found) → Ok refusal ≡ refusal_of_body name found → SnapshotRefusal name content refusal
 body_refuses law name content opened refusal found (blob, there, short, stands, tells) is =
     elim (law blob opened.0 opened.1.at found stands tells) [
       | inl free ↦ absurd (not_free found free is)
       | inr never ↦ subst (SnapshotRefusal name content) (sym (bad_body found tells is)) (refl, (opened.0, blob, (blob, opened.1.at, there, short, stands), there, never))
     ]
   where
-    not_free : (f : BlobFault) → IsFree f → Ok refusal ≡ body_refusal_of name f → ⊥
+    not_free : (f : BlobFault) → IsFree f → Ok refusal ≡ refusal_of_body name f → ⊥
     not_free fault.Store free e = cc
     not_free fault.Memory free e = cc
     not_free _ free e = free
 
-    bad_body : (f : BlobFault) → TellsBody blob opened.1.at (Err f) → Ok refusal ≡ body_refusal_of name f → refusal ≡ BadBody name
+    bad_body : (f : BlobFault) → TellsBody blob opened.1.at (Err f) → Ok refusal ≡ refusal_of_body name f → refusal ≡ BadBody name
     bad_body fault.Store tells e = absurd cc
     bad_body fault.Memory tells e = absurd cc
     bad_body _ tells e = cc
@@ -99,8 +100,8 @@ module _ (version : ℕ) (before after : Option (List ℕ)) where
   abbrev pub ServesShow : Option Store → Result Bool Stop → Type 0
   ServesShow held r = IfSome held (λ store. Leaves (Shows store version) before after r)
 
-  pub body_served : RefusesBody → (held : Option Store) (opened : Header × Place) (found : BlobFault) (refusal : Refusal) (given : Result Refusal Stop) (r : Result Bool Stop) →
-      IfSome held (λ store. IsRead (told held (Snapshot version)) opened (Err found)) → given ≡ body_refusal_of (Snapshot version) found → given ≡ Ok refusal →
+  pub body_served : RefusesBody → (held : Option Store) (opened : Header × Place) (found : BlobFault) (refusal : Refusal) (given : Result Refusal OrderStop) (r : Result Bool Stop) →
+      IfSome held (λ store. IsRead (told held (Snapshot version)) opened (Err found)) → given ≡ refusal_of_body (Snapshot version) found → given ≡ Ok refusal →
       Leaves (IsLineOf (λ answer. answer ≡ Refused refusal)) before after r → ServesShow held r
   body_served law None opened found refusal given r read is was left = tt
   body_served law (Some store) opened found refusal given r read is was left =
@@ -109,8 +110,8 @@ module _ (version : ℕ) (before after : Option (List ℕ)) where
       leaves_as (IsLineOf (λ answer. answer ≡ Refused refusal)) (Shows store version) before after r (refusal_shown (Snapshot version) content refusal refuses) left
 
   -- where the header cannot be read, its refusal is what is shown
-  pub header_served : (held : Option Store) (found : BlobFault) (refusal : Refusal) (given : Result Refusal Stop) (r : Result Bool Stop) →
-      IfSome held (λ store. TellsHeader (Snapshot version) (told held (Snapshot version)) (Err found)) → given ≡ refusal_of (Snapshot version) found → given ≡ Ok refusal →
+  pub header_served : (held : Option Store) (found : BlobFault) (refusal : Refusal) (given : Result Refusal OrderStop) (r : Result Bool Stop) →
+      IfSome held (λ store. TellsHeader (Snapshot version) (told held (Snapshot version)) (Err found)) → given ≡ refusal_of_blob (Snapshot version) found → given ≡ Ok refusal →
       Leaves (IsLineOf (λ answer. answer ≡ Refused refusal)) before after r → ServesShow held r
   header_served None found refusal given r tells is was left = tt
   header_served (Some store) found refusal given r tells is was left =

@@ -14,7 +14,7 @@ use Rattle.hol_answers.specs.Reply.{is_refusal, line_of}
 use Rattle.hollow_top.specs.RowLines.{Listed, IsRowLine, AreLinesOf, LeavesLines}
 use Rattle.hollow_top.specs.Run.{status_of}
 use Rattle.hol_answers.specs.Marks.{is_marked}
-use Rattle.hol_answers.proofs.ThirdBytes.{marked, apart}
+use Rattle.hol_answers.proofs.FirstNames.{marked, apart}
 use Rattle.hollow_top.specs.Stopping.{GainsRefusal, IsVerdict, Leaves}
 
 -- a text that is not marked is no refusal's line

@@ -1,20 +1,15 @@
 -- What `show` writes: a line for each row of the snapshot of a version, or the one line of a refusal.
-use Rattle.std.specs.Prelude.{◌≡◌, ℕ, List, Bool, true, false, Option, Some, Result, Ok, Err}
+use Rattle.std.specs.Prelude.{◌≡◌, ℕ, List, Bool, true, false, Option, Some}
 use Rattle.hol_io.specs.declared.name.BlobName.{BlobName}
 use Rattle.hol_io.specs.declared.name.BlobName.TheVariants.{Snapshot}
 use Rattle.hol_io.specs.Store.{Store, told}
 use Rattle.schema_model.specs.declared.schema.Schema.{Schema}
 use Rattle.type_state.specs.State.{Half}
 use Rattle.type_state.specs.Views.{table_of}
-use Rattle.blob_frame.specs.declared.fault.BlobFault.{BlobFault}
-use Rattle.blob_frame.specs.declared.fault.BlobFault.TheVariants as fault
 use Rattle.blob_frame.specs.declared.header.Header.{Header}
 use Rattle.snapshot_blob.specs.Snapshot.{IsAccepted}
 use Rattle.hol_answers.specs.declared.refusal.Refusal.{Refusal}
-use Rattle.hol_answers.specs.declared.refusal.Refusal.TheVariants.{BadBody}
 use Rattle.hollow_machine.specs.Blobs.{SnapshotRefusal}
-use Rattle.hollow_top.specs.declared.stop.Stop.{Stop}
-use Rattle.hollow_top.specs.declared.stop.Stop.TheVariants as stop
 use Rattle.hol_answers.specs.Refusal.{refusal_line}
 use Rattle.hollow_top.specs.RowLines.{AreRowLines}
 
@@ -32,9 +27,3 @@ ShowsContent name content text true = (refusal : Refusal) × SnapshotRefusal nam
 -- What `show` writes over a store for the snapshot of a version, and whether that is a refusal.
 abbrev pub Shows : Store → ℕ → List ℕ → Bool → Type 0
 Shows store version text refused = ShowsContent (Snapshot version) (told (Some store) (Snapshot version)) text refused
-
--- The refusal for a fault of a blob whose header can be read. The faults of its body are one refusal.
-abbrev pub body_refusal_of : BlobName → BlobFault → Result Refusal Stop
-body_refusal_of name fault.Store = Err stop.Store
-body_refusal_of name fault.Memory = Err stop.Memory
-body_refusal_of name _ = Ok (BadBody name)

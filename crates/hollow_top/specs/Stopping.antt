@@ -4,10 +4,17 @@ use Rattle.std.specs.Io.KnownBytes.{Appends}
 use Rattle.std.specs.List.{flat_map}
 use Rattle.hol_io.specs.Causes.{Rose}
 use Rattle.hol_io.specs.Lines.{IsOnePiece}
+use Rattle.hol_orders.specs.declared.order_stop.OrderStop.{OrderStop}
+use Rattle.hol_orders.specs.declared.order_stop.OrderStop.TheVariants as order
 use Rattle.hol_answers.specs.declared.refusal.Refusal.{Refusal}
 use Rattle.hollow_top.specs.declared.stop.Stop.{Stop}
 use Rattle.hollow_top.specs.declared.stop.Stop.TheVariants.{Memory, Sink, Store as StoreFailed}
 use Rattle.hol_answers.specs.Refusal.{refusal_line}
+
+-- why a command stops where its answer would be the refusal of a blob
+abbrev pub stop_of : OrderStop → Stop
+stop_of order.Memory = Memory
+stop_of order.Store = StoreFailed
 
 -- A command that has written nothing stops for want of memory, or where the store's count of faults rose.
 abbrev pub StopsBefore : ℕ → ℕ → Stop → Type 0

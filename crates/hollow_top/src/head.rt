@@ -1,12 +1,11 @@
 //! `head`: the header of a blob.
 ghost use Rattle.std.specs.Prelude.{◌≡◌, ◌≤◌, IfOk, IfErr, IfSome};
-ghost use Rattle.hollow_top.specs.Head.{HeadReply, refusal_of};
+ghost use Rattle.hollow_top.specs.Head.{HeadReply};
 ghost use Rattle.hollow_top.specs.Stopping.{StopsBefore};
 
 use crate::stop::Stop;
 use blob_cursor::opened;
-use blob_frame::BlobFault;
-use hol_answers::{ItemFault, Refusal, Reply};
+use hol_answers::{Reply, blob_refusal};
 use hol_io::{BlobName, BlobStore};
 use std::alloc::Global;
 
@@ -22,27 +21,6 @@ pub fn head<S: BlobStore>(alloc: Global, store: &mut S, name: &BlobName) -> Resu
 {
     match opened(alloc, store, name) {
         Ok((header, _cursor)) => Ok(Reply::Head(header)),
-        Err(fault) => Ok(Reply::Refused(refusal(name, fault)?)),
-    }
-}
-
-/// The refusal for a fault of the header of a name's blob. The faults of the last line are none of a header.
-pub fn refusal(name: &BlobName, fault: BlobFault) -> Result<Refusal, Stop>
-    ensures { result ≡ refusal_of name.now fault }
-{
-    match fault {
-        BlobFault::NoBlob(_) => Ok(Refusal::NoBlob(*name)),
-        BlobFault::Large(limit) => Ok(Refusal::TooLarge(limit)),
-        BlobFault::Bad(at, reason) => Ok(Refusal::BadBlob(ItemFault {
-            blob: *name,
-            at,
-            reason,
-            row: None,
-        })),
-        BlobFault::Store => Err(Stop::Store),
-        BlobFault::Memory => Err(Stop::Memory),
-        BlobFault::BadRow(..) | BlobFault::OtherOrigin(..) | BlobFault::OtherModel(_) => {
-            Err(Stop::Memory)
-        }
+        Err(fault) => Ok(Reply::Refused(blob_refusal(name, fault)?)),
     }
 }

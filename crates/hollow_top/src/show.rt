@@ -1,16 +1,14 @@
 //! `show`: the rows of a snapshot.
 ghost use Rattle.std.specs.Prelude.{◌≡◌, ◌≤◌, ◌⊎◌, IfSome, IsErrOf};
 ghost use Rattle.hol_io.specs.Causes.{Rose};
-ghost use Rattle.hollow_top.specs.Show.{Shows, body_refusal_of};
+ghost use Rattle.hollow_top.specs.Show.{Shows};
 ghost use Rattle.hollow_top.specs.Stopping.{GainsFront, IsVerdict, Leaves};
 
 use crate::answer::write_reply;
-use crate::head::refusal;
 use crate::row_lines::show_rows;
 use crate::stop::Stop;
 use blob_cursor::opened;
-use blob_frame::BlobFault;
-use hol_answers::{Refusal, Reply};
+use hol_answers::{Reply, blob_refusal, body_refusal};
 use hol_io::{BlobName, BlobStore, Sink};
 use snapshot_blob::{laws, read_body};
 use std::alloc::Global;
@@ -40,7 +38,7 @@ pub fn show<O: Sink, S: BlobStore>(
     laws::header_and_body();
     let (_header, mut cursor) = match opened(alloc, store, &name) {
         Ok(opened) => opened,
-        Err(fault) => return write_reply(alloc, Reply::Refused(refusal(&name, fault)?), out),
+        Err(fault) => return write_reply(alloc, Reply::Refused(blob_refusal(&name, fault)?), out),
     };
     match read_body(alloc, &mut cursor, store) {
         Ok(body) => {
@@ -48,16 +46,5 @@ pub fn show<O: Sink, S: BlobStore>(
             Ok(false)
         }
         Err(fault) => write_reply(alloc, Reply::Refused(body_refusal(&name, fault)?), out),
-    }
-}
-
-// The refusal for a fault of a blob whose header can be read. Which fault it is of the blob's body is not told.
-fn body_refusal(name: &BlobName, fault: BlobFault) -> Result<Refusal, Stop>
-    ensures { result ≡ body_refusal_of name.now fault }
-{
-    match fault {
-        BlobFault::Store => Err(Stop::Store),
-        BlobFault::Memory => Err(Stop::Memory),
-        _ => Ok(Refusal::BadBody(*name)),
     }
 }

@@ -1,5 +1,6 @@
 //! Why a command stops before its answer is written.
 use hol_io::WriteFailed;
+use hol_orders::OrderStop;
 use std::alloc::AllocError;
 
 /// Why a command stops before its answer is written whole.
@@ -32,5 +33,19 @@ impl From<WriteFailed> for Stop {
 
     fn from(_failed: WriteFailed) -> Stop {
         Stop::Sink
+    }
+}
+
+impl From<OrderStop> for Stop {
+    ghost use Rattle.std.specs.Prelude.{◌≡◌};
+    ghost use Rattle.hollow_top.specs.Stopping.{stop_of};
+
+    ghost from_gives = { λ stopped stop. stop ≡ stop_of stopped };
+
+    fn from(stopped: OrderStop) -> Stop {
+        match stopped {
+            OrderStop::Memory => Stop::Memory,
+            OrderStop::Store => Stop::Store,
+        }
     }
 }

@@ -10,10 +10,12 @@ use Rattle.write_engine.specs.Cycle.{rows_in}
 use Rattle.write_engine.specs.CycleLimit.{TellsCycle}
 use Rattle.write_engine.specs.Production.{AreChanged, Production}
 use Rattle.write_engine.specs.declared.producer.Closed.{Closed}
+use Rattle.schema_model.specs.declared.limit.Limit.TheVariants.{Ordinals}
+use Rattle.hol_answers.specs.declared.refusal.Refusal.TheVariants.{TooLarge}
 use Rattle.hollow_machine.specs.CycleOrder.{Makes}
-use Rattle.state_blobs.specs.Published.{published_of}
+use Rattle.state_blobs.specs.Published.{published_of, Published}
 use Rattle.hollow_machine.specs.Records.{AreTypes, entries}
-use Rattle.producer_orders.specs.Making.{IsMade}
+use Rattle.producer_orders.specs.Making.{AreRefused, IsMade}
 use Rattle.producer_orders.specs.Parts.{AreAdded}
 
 -- a table has no rows past its types
@@ -46,12 +48,17 @@ is_made old taken new add closed kept ok types (trees, read, state) are first ov
     let limits : TellsCycle old.schemas old.previous taken.current old.version closed.changed new.over = subst (λ (p : Production). TellsCycle p.schemas p.previous p.current p.version closed.changed new.over) kept over in
     let before : length old.previous ≡ length old.schemas = subst (λ (p : Production). length p.previous ≡ length p.schemas) whole previous_types in
     let after : length taken.current ≡ length old.schemas = subst (λ (p : Production). length p.current ≡ length p.schemas) whole current_types in
-    let makes : Makes (published_of old) add taken.current closed.changed = record { trees = trees; read = read; state = state; types = changed } in
+    let makes : Makes (published_of old) trees taken.current closed.changed = record { state = state; types = changed } in
     record {
-      types = types;
-      makes = subst (λ (rows : Table). Makes (published_of old) add rows closed.changed) same makes;
+      trees = trees;
+      gives = record { types = types; read = read };
+      makes = subst (λ (rows : Table). Makes (published_of old) trees rows closed.changed) same makes;
       over = subst (λ (rows : Table). TellsCycle old.schemas old.previous rows old.version closed.changed new.over) same limits;
       first = subst (λ (p : Production). IsTrue closed.first ↔ (p.version ≡ 0)) kept first;
       in_model = changed_within (length old.schemas) old.previous taken.current closed.changed before after changed;
       is_closed = ap (λ (p : Production). p.closed) whole;
     }
+
+-- records that are too many are refused
+pub too_many : (last : Published) (add : Data) (rows : Table) → AreTypes last.model add → AreAdded last.model last.rows (entries last.model add) rows true → AreRefused last add (TooLarge Ordinals)
+too_many last add rows types (trees, read, none) = (trees, record { types = types; read = read }, none)

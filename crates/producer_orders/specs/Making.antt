@@ -3,11 +3,13 @@ use Rattle.std.specs.Prelude.{◌≡◌, ◌<◌, ◌↔◌, ℕ, ℤ, List, All
 use Rattle.serde_json.specs.Data.{Data}
 use Rattle.hol_io.specs.Store.{Store}
 use Rattle.schema_model.specs.declared.limit.Limit.TheVariants as limit
+use Rattle.row_model.specs.PlainTree.{PlainTree}
 use Rattle.row_model.specs.Table.{Table}
+use Rattle.write_engine.specs.Cycle.{Next}
 use Rattle.write_engine.specs.CycleLimit.{TellsCycle, TellsTypes}
 use Rattle.write_engine.specs.Production.{Production}
 use Rattle.write_engine.specs.declared.producer.Closed.{Closed}
-use Rattle.read_engine.specs.Position.{Position}
+use Rattle.hol_orders.specs.Parts.{AskedState}
 use Rattle.hol_answers.specs.declared.refusal.Refusal.{Refusal}
 use Rattle.hol_answers.specs.declared.refusal.Refusal.TheVariants.{TooLarge}
 use Rattle.hol_answers.specs.declared.reply.Reply.{Reply}
@@ -15,26 +17,29 @@ use Rattle.hol_answers.specs.declared.reply.Reply.TheVariants.{Cycle}
 use Rattle.hollow_machine.specs.CycleOrder.{AreNamed, CycleStep, Leaves, Makes, Publishes, RefusesAfter}
 use Rattle.hollow_machine.specs.Follow.{MayFollow, MayNotFollow}
 use Rattle.state_blobs.specs.Puts.{AreBlobs, IsShort, Put, puts_of, put_all}
-use Rattle.hollow_machine.specs.Records.{AreTypes}
-use Rattle.hollow_machine.specs.State.{Machine}
+use Rattle.hollow_machine.specs.Records.{GivesNoTrees, GivesTrees}
+use Rattle.hollow_machine.specs.State.{Machine, with_producer, with_store}
 use Rattle.state_blobs.specs.Published.{Published}
 use Rattle.state_blobs.specs.Blobs.{puts_in}
 use Rattle.producer_orders.specs.Ends.{IsAnyStop, TellsEnd}
 use Rattle.producer_orders.specs.declared.cycle_end.CycleEnd.{CycleEnd}
 use Rattle.state_blobs.specs.declared.write.Blobs.{Blobs}
 
--- A closed cycle: the state that the records make and the types that it changes, and the limit that it passes.
+-- A closed cycle: the trees that the records give, the state that these make and the types that it changes, and the limit that it passes.
 pub record IsMade (last : Published) (add : Data) (made : Production) (closed : Closed) : Type 0 where
-  pub types : AreTypes last.model add
-  pub makes : Makes last add made.current closed.changed
+  pub trees : List (ℕ × PlainTree)
+  pub gives : GivesTrees last.model add trees
+  pub makes : Makes last trees made.current closed.changed
   pub over : TellsCycle last.model last.rows made.current last.version closed.changed made.over
   pub first : IsTrue closed.first ↔ (last.version ≡ 0)
   pub in_model : All (λ t. t < length last.model) closed.changed
   pub is_closed : made.closed ≡ true
 
--- The records are refused so, whatever the store, the version and the tag of a state that may follow.
-abbrev pub IsRefusedFor : Published → Data → Refusal → Type 0
-IsRefusedFor last add refusal = (store : Store) (version : ℕ) (tag : ℤ) → MayFollow store last.version version tag → RefusesAfter store last version tag add refusal
+-- The records are refused so: they give no trees; or they do, and a row would get the ordinal 2^22.
+abbrev pub AreRefused : Published → Data → Refusal → Type 0
+AreRefused last add (TooLarge limit.Ordinals) =
+    (trees : List (ℕ × PlainTree)) × GivesTrees last.model add trees × ((rows : Table) → ¬ Next last.model last.rows trees rows)
+AreRefused last add refusal = GivesNoTrees last.model add refusal
 
 -- A state that is to be published is refused so: a type passes a limit; or each type keeps all, and a blob is too long.
 abbrev pub IsTooLarge : Published → Table → ℕ → ℤ → Refusal → Type 0
@@ -50,16 +55,16 @@ IsPublished store last rows version tag held now =
     × ((blobs : List Put) × AreBlobs last rows version tag blobs × All IsShort blobs
     × (held ≡ Some (put_all store (puts_of blobs version))) × (now ≡ record { model = last.model; rows = rows; tag = tag; version = version }))
 
--- the machine of a store, of what a producer has published, and of where the consumer stands
-abbrev pub machine_with : Store → Published → Option Position → Machine
-machine_with store last consumer = record { store = store; producer = Some last; consumer = consumer }
+-- the machine with this store, and a producer that has published so
+abbrev pub machine_with : Machine → Store → Published → Machine
+machine_with machine store last = with_producer (with_store machine store) (Some last)
 
--- The answer to a closed cycle, and what it leaves, wherever the consumer stands.
+-- The answer to a closed cycle, and what it leaves, whatever else the machine has.
 abbrev pub IsEnded : Store → Published → Table → List ℕ → ℕ → ℤ → Option Store → Published → Reply → Type 0
 IsEnded store last rows changed version tag held now (Cycle names published version') =
     (version' ≡ version) × AreNamed last.model changed names
     × ((next : Store) × (held ≡ Some next)
-    × ((consumer : Option Position) → Leaves (machine_with store last consumer) last rows changed version tag published (machine_with next now consumer)))
+    × ((machine : Machine) → Leaves (machine_with machine store last) last rows changed version tag published (machine_with machine next now)))
 IsEnded store last rows changed version tag held now _ = ⊥
 
 -- The blobs of a state that keeps all limits.
@@ -67,12 +72,12 @@ abbrev pub IsWithin : Published → Table → ℕ → ℤ → Blobs → Type 0
 IsWithin last rows version tag blobs =
     TellsTypes last.model last.rows rows None × AreBlobs last rows version tag (puts_in blobs) × All IsShort (puts_in blobs)
 
--- What a cycle of a producer answers or is refused for, over what the store tells, and what it leaves, wherever the consumer stands.
-abbrev pub Steps : ℕ → ℤ → Data → Option Store → Published → Option Store → Published → Result Reply CycleEnd → Type 0
-Steps version tag add held last held' now result = IfSome held (λ store. TellsEnd
+-- What a cycle of a producer answers or is refused for, over what the store tells, and what it leaves, whatever else the machine has.
+abbrev pub Steps : AskedState → Option Store → Published → Option Store → Published → Result Reply CycleEnd → Type 0
+Steps asked held last held' now result = IfSome held (λ store. TellsEnd
     (λ reply. (next : Store) × (held' ≡ Some next)
-    × ((consumer : Option Position) → CycleStep (machine_with store last consumer) version tag add reply (machine_with next now consumer)))
-    (λ refusal. (held' ≡ Some store) × RefusesAfter store last version tag add refusal) IsAnyStop result)
+    × ((machine : Machine) → CycleStep (machine_with machine store last) asked reply (machine_with machine next now)))
+    (λ refusal. (held' ≡ Some store) × RefusesAfter store last asked refusal) IsAnyStop result)
 
 -- What the check says of a state that is to follow the last one.
 abbrev pub Follows : Option Store → ℕ → ℕ → ℤ → Result ⊤ CycleEnd → Type 0

@@ -1,12 +1,10 @@
 //! The order `cycle`.
-ghost use Rattle.std.specs.Prelude.{◌≡◌, ◌≤◌, ◌<◌, ◌↔◌, All, FitsSigned, IfOk, IfSome, IsTrue, OnErr, Some, None, true, length};
-ghost use Rattle.std.specs.Int.{w64};
+ghost use Rattle.std.specs.Prelude.{◌≡◌, ◌≤◌, ◌<◌, ◌↔◌, All, IfOk, IfSome, IsTrue, OnErr, Some, None, true, length};
 ghost use Rattle.std.specs.Result.{IsErrOf};
-ghost use Rattle.serde_json.specs.View.{view};
 ghost use Rattle.hol_io.specs.Causes.{Rose};
-ghost use Rattle.hol_io.specs.Name.{IsVersion};
 ghost use Rattle.write_engine.specs.CycleLimit.{TellsCycle, TellsTypes};
-ghost use Rattle.hol_orders.specs.Shapes.{AreRecords};
+ghost use Rattle.hol_orders.specs.Kind.{IsNextState};
+ghost use Rattle.hol_orders.specs.Parts.{asked_state};
 ghost use Rattle.hollow_machine.specs.CycleOrder.{CycleStep};
 ghost use Rattle.hollow_machine.specs.Kept.{IsResting, MovesProducer};
 ghost use Rattle.state_blobs.specs.Published.{published_of};
@@ -18,32 +16,29 @@ use crate::follow::why_not;
 use crate::make::{make_state, names_of_types};
 use hol_answers::{Refusal, Reply};
 use hol_io::BlobStore;
-use hol_orders::OrderStop;
-use serde_json::Value;
+use hol_orders::{NextState, OrderStop};
 use state_blobs::{Blobs, publish, write_blobs};
 use std::alloc::Global;
 use write_engine::{Closed, Producer};
 
-/// Publishes the next state of the producer: the records under this version and tag, where a type changes by them or it is the first state. A
+/// Publishes the next state of the producer, where a type changes by its records or it is the first state. A
 /// refusal leaves the store and the producer as they were. `Store` comes only where the store's count of faults rose.
 pub fn cycle<S: BlobStore>(
     alloc: Global,
     store: &mut S,
     producer: &mut Option<Producer>,
-    version: u64,
-    tag: i64,
-    add: &Value,
+    next: &NextState,
 ) -> Result<Reply, OrderStop>
-    requires order { IsVersion version × FitsSigned w64 tag × AreRecords (view add.now) }
+    requires order { IsNextState (asked_state next.now) }
     requires resting { IfSome producer.old IsResting }
-    ensures step { MovesProducer (λ machine reply next. CycleStep machine version tag (view add.now) reply next)
+    ensures step { MovesProducer (λ machine reply after. CycleStep machine (asked_state next.now) reply after)
         (S.seen store.old).held producer.old (S.seen store.new).held producer.new result }
     ensures resting { IfSome producer.new IsResting }
     ensures store_fault { IsErrOf result OrderStop.Store → Rose (S.seen store.old).faults (S.seen store.new).faults }
     ensures later { (S.seen store.old).faults ≤ (S.seen store.new).faults }
 {
     match producer {
-        Some(producer) => cycle_of(alloc, store, producer, version, tag, add),
+        Some(producer) => cycle_of(alloc, store, producer, next),
         None => Ok(Reply::Refused(Refusal::NoModel)),
     }
 }
@@ -53,19 +48,17 @@ fn cycle_of<S: BlobStore>(
     alloc: Global,
     store: &mut S,
     producer: &mut Producer,
-    version: u64,
-    tag: i64,
-    add: &Value,
+    next: &NextState,
 ) -> Result<Reply, OrderStop>
-    requires records { AreRecords (view add.now) }
+    requires order { IsNextState (asked_state next.now) }
     requires resting { IsResting producer.old }
-    ensures step { MovesProducer (λ machine reply next. CycleStep machine version tag (view add.now) reply next)
+    ensures step { MovesProducer (λ machine reply after. CycleStep machine (asked_state next.now) reply after)
         (S.seen store.old).held (Some producer.old) (S.seen store.new).held (Some producer.new) result }
     ensures resting { IsResting producer.new }
     ensures store_fault { IsErrOf result OrderStop.Store → Rose (S.seen store.old).faults (S.seen store.new).faults }
     ensures later { (S.seen store.old).faults ≤ (S.seen store.new).faults }
 {
-    let ended = run_cycle(alloc, store, producer, version, tag, add);
+    let ended = run_cycle(alloc, store, producer, next);
     producer.undo();
     match ended {
         Ok(reply) => Ok(reply),
@@ -79,19 +72,17 @@ fn run_cycle<S: BlobStore>(
     alloc: Global,
     store: &mut S,
     producer: &mut Producer,
-    version: u64,
-    tag: i64,
-    add: &Value,
+    next: &NextState,
 ) -> Result<Reply, CycleEnd>
-    requires records { AreRecords (view add.now) }
+    requires order { IsNextState (asked_state next.now) }
     requires resting { IsResting producer.old }
-    ensures steps { Steps version tag (view add.now) (S.seen store.old).held (published_of producer.old) (S.seen store.new).held (published_of producer.new) result }
+    ensures steps { Steps (asked_state next.now) (S.seen store.old).held (published_of producer.old) (S.seen store.new).held (published_of producer.new) result }
     ensures kept { OnErr result (published_of producer.new ≡ published_of producer.old) }
     ensures cause { HasEndCause (S.seen store.old).faults (S.seen store.new).faults result }
 {
-    check_follow(alloc, store, producer.version(), version, tag)?;
-    let closed = make_state(alloc, producer, add)?;
-    end_cycle(alloc, store, producer, &closed, version, tag)
+    check_follow(alloc, store, producer.version(), next.version, next.tag)?;
+    let closed = make_state(alloc, producer, &next.add)?;
+    end_cycle(alloc, store, producer, &closed, next.version, next.tag)
 }
 
 // Refuses a state that may not follow the last one.

@@ -9,7 +9,7 @@ ghost use Rattle.hollow_machine.specs.Kept.{IsResting};
 ghost use Rattle.state_blobs.specs.Published.{published_of};
 ghost use Rattle.hollow_machine.specs.Records.{AreTypes, entries};
 ghost use Rattle.producer_orders.specs.Ends.{IsMemory, TellsEnd};
-ghost use Rattle.producer_orders.specs.Making.{IsMade, IsRefusedFor};
+ghost use Rattle.producer_orders.specs.Making.{AreRefused, IsMade};
 ghost use Rattle.producer_orders.specs.Parts.{AreAdded};
 
 use crate::cycle_end::CycleEnd;
@@ -33,7 +33,7 @@ pub(crate) fn make_state(
 ) -> Result<Closed, CycleEnd>
     requires resting { IsResting producer.old }
     requires records { AreRecords (view add.now) }
-    ensures tells { TellsEnd (IsMade (published_of producer.old) (view add.now) producer.new) (IsRefusedFor (published_of producer.old) (view add.now)) IsMemory result }
+    ensures tells { TellsEnd (IsMade (published_of producer.old) (view add.now) producer.new) (AreRefused (published_of producer.old) (view add.now)) IsMemory result }
     ensures kept { published_of producer.new ≡ published_of producer.old }
 {
     if let Some(name) = unknown_type(alloc, producer.model(), add)? {
@@ -48,12 +48,13 @@ pub(crate) fn make_state(
 }
 
 // Adds the records to a producer.
+#[tactic(auto, using(crate::proofs::Makings::too_many))]
 fn take_records(alloc: Global, producer: &mut Producer, add: &Value) -> Result<(), CycleEnd>
     requires resting { IsResting producer.old }
     requires types { AreTypes producer.old.schemas (view add.now) }
     ensures tells { TellsEnd
         (λ _. AreAdded producer.old.schemas producer.old.previous (entries producer.old.schemas (view add.now)) producer.new.current false)
-        (IsRefusedFor (published_of producer.old) (view add.now)) IsMemory result }
+        (AreRefused (published_of producer.old) (view add.now)) IsMemory result }
     ensures kept { producer.new ≡ record producer.old { current = producer.new.current } }
 {
     match add_records(alloc, producer, add) {

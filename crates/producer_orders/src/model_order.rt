@@ -1,10 +1,9 @@
 //! The order `model`.
-ghost use Rattle.std.specs.Prelude.{◌≡◌, ℕ, List, Option, IfOk, IfErr, IfSome};
+ghost use Rattle.std.specs.Prelude.{◌≡◌, ℕ, List, IfOk, IfErr, IfSome};
 ghost use Rattle.serde_json.specs.View.{view};
 ghost use Rattle.hol_io.specs.Store.{Store};
 ghost use Rattle.json_values.specs.SchemaJson.{AreSchemas};
-ghost use Rattle.read_engine.specs.Position.{Position};
-ghost use Rattle.hollow_machine.specs.Kept.{IsResting, machine_of};
+ghost use Rattle.hollow_machine.specs.Kept.{IsResting, Kept, kept_with_producer, machine_of};
 ghost use Rattle.hollow_machine.specs.ModelOrder.{BreaksRule, IsNamed, ModelStep};
 
 use hol_answers::{Refusal, Reply};
@@ -25,8 +24,8 @@ pub fn model(
 ) -> Result<Reply, OrderStop>
     requires schemas { AreSchemas (view value.now) }
     requires resting { IfSome producer.old IsResting }
-    ensures step { (store : Store) (consumer : Option Position) → IfOk result
-        (λ reply. ModelStep (machine_of store producer.old consumer) (view value.now) reply (machine_of store producer.new consumer)) }
+    ensures step { (store : Store) (kept : Kept) → IfOk result
+        (λ reply. ModelStep (machine_of store (kept_with_producer kept producer.old)) (view value.now) reply (machine_of store (kept_with_producer kept producer.new))) }
     ensures resting { IfSome producer.new IsResting }
     ensures stop { IfErr result (λ stop. stop ≡ OrderStop.Memory) }
 {

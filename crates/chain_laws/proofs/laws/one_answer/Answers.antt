@@ -5,5 +5,5 @@ use Rattle.chain_laws.proofs.laws.one_answer.Goals as goal
 
 pub returns : goal.returns
 returns c = λ machine next after chain asked answer other kept over is one also.
-    steps_one (c.one_written_snapshot.ensures, c.one_written_delta.ensures) machine (known machine.store chain machine.producer kept over, typed_if machine.consumer is) answer other next after asked asked refl refl
+    steps_one (c.one_written_snapshot.ensures, c.one_written_delta.ensures) machine (known machine.store chain machine.producer kept over, typed_if machine.consumer is) answer other next after asked asked refl
     one also

@@ -54,4 +54,4 @@ returns-clause-served g c =
 pub returns-in-Err-clause-served : goal.returns-in-Err-clause-served
 returns-in-Err-clause-served g c =
     header_served c.args.version (g.O.Sink.taken c.args.out.now) (g.O.Sink.taken c.write_reply.new.out) (g.S.BlobStore.seen c.args.store.now).held c.in-Err.fault
-    c.in_ok-refusal-in-Err.field-0 c.refusal.result c.write_reply.result c.in-Err.ensures.tells c.refusal.ensures c.in_ok-refusal-in-Err.was c.write_reply.ensures.written
+    c.in_ok-blob_refusal-in-Err.field-0 c.blob_refusal.result c.write_reply.result c.in-Err.ensures.tells c.blob_refusal.ensures c.in_ok-blob_refusal-in-Err.was c.write_reply.ensures.written

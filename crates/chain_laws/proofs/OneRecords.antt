@@ -1,0 +1,78 @@
+-- The records of a cycle give trees in one way, or are refused in one.
+use Rattle.std.proofs.Common.{◌≡◌, ℕ, List, [], ◌∷◌, ◌++◌, Ok, Err, refl, sym, ap, subst, ◌∙◌}
+use Rattle.std.specs.Prelude.{All, IsOk, IsSome}
+use Rattle.std.specs.List.{AllZip}
+use Rattle.std.proofs.lemmas.List.Elements.{All-cons, All-head, All-nil, All-tail}
+use Rattle.serde_json.specs.Data.{Data}
+use Rattle.schema_model.specs.declared.reason.Reason.{Reason}
+use Rattle.schema_model.specs.declared.schema.Schema.{Schema}
+use Rattle.schema_model.specs.Parts.{index_of_type}
+use Rattle.row_model.specs.PlainTree.{PlainTree}
+use Rattle.record_json.specs.ReadTree.{read_tree}
+use Rattle.hollow_machine.specs.Records.{AreRead, AreTypes, Entry, GivesTree, IsFirstUnknown, IsFirstUnread, entries}
+use Rattle.chain_laws.proofs.PrintedOnce.{each_once}
+
+-- ---- the first of a list for which something does not hold
+
+first_one : {A : Type 0} (P : A → Type 0) (before other : List A) (x y : A) (rest more : List A) → All P before → All P other → (P x → ⊥) → (P y → ⊥) → before ++ (x ∷ rest) ≡ other ++ (y ∷ more) → x ≡ y
+first_one P [] [] x y rest more all also not nor same = cc
+first_one P [] (b ∷ other) x y rest more all also not nor same = let here : b ≡ x = cc in absurd (not (subst P here (All-head P b other also)))
+first_one P (a ∷ before) [] x y rest more all also not nor same = let here : a ≡ y = cc in absurd (nor (subst P here (All-head P a before all)))
+first_one P (a ∷ before) (b ∷ other) x y rest more all also not nor same =
+    let tails : before ++ (x ∷ rest) ≡ other ++ (y ∷ more) = cc in
+    first_one P before other x y rest more (All-tail P a before all) (All-tail P b other also) not nor tails
+
+in_all : {A : Type 0} (P : A → Type 0) (before : List A) (x : A) (rest : List A) → All P (before ++ (x ∷ rest)) → P x
+in_all P [] x rest all = All-head P x rest all
+in_all P (a ∷ before) x rest all = in_all P before x rest (All-tail P a (before ++ (x ∷ rest)) all)
+
+-- ---- the records of a cycle
+
+module _ (schemas : List Schema) (add : Data) where
+  abbrev recorded : List Entry
+  recorded = entries schemas add
+
+  tree_one : (entry : Entry) (a b : ℕ × PlainTree) → GivesTree schemas entry a → GivesTree schemas entry b → a ≡ b
+  tree_one entry a b one other =
+      let index = one.0 ∙ sym other.0 in
+      let both : Ok a.1 ≡ Ok b.1 = sym one.1 ∙ other.1 in
+      let tree : a.1 ≡ b.1 = cc in
+      λ i. (index i, tree i)
+
+  pub trees_one : (trees others : List (ℕ × PlainTree)) → AreRead schemas recorded trees → AreRead schemas recorded others → trees ≡ others
+  trees_one trees others one other = each_once (GivesTree schemas) tree_one recorded trees others one other
+
+  pub no_tree : (trees : List (ℕ × PlainTree)) (type_index place : ℕ) (reason : Reason) → AreRead schemas recorded trees → IsFirstUnread schemas recorded type_index place reason → ⊥
+  no_tree trees type_index place reason read first =
+      let all : All (λ (entry : Entry). IsOk (read_tree schemas entry.type_index entry.value)) recorded = each_ok recorded trees read in
+      let ok : IsOk (read_tree schemas type_index first.value) =
+      in_all (λ (entry : Entry). IsOk (read_tree schemas entry.type_index entry.value)) first.before (record { type_index = type_index; place = place; value = first.value }) first.rest
+      (subst (λ (es : List Entry). All (λ (entry : Entry). IsOk (read_tree schemas entry.type_index entry.value)) es) first.split all) in
+      let bad = subst IsOk first.unread ok in absurd cc
+    where
+      each_ok : (es : List Entry) (ts : List (ℕ × PlainTree)) → AllZip (GivesTree schemas) es ts → All (λ (entry : Entry). IsOk (read_tree schemas entry.type_index entry.value)) es
+      each_ok [] [] are = All-nil (λ (entry : Entry). IsOk (read_tree schemas entry.type_index entry.value))
+      each_ok [] (t ∷ ts) are = absurd are
+      each_ok (e ∷ es) [] are = absurd are
+      each_ok (e ∷ es) (t ∷ ts) are =
+          All-cons (λ (entry : Entry). IsOk (read_tree schemas entry.type_index entry.value)) e es (subst IsOk (sym are.0.1) refl) (each_ok es ts are.1)
+
+  pub no_type : (name : List ℕ) → AreTypes schemas add → IsFirstUnknown schemas add name → ⊥
+  no_type name types first =
+      let known = in_all (λ (n : List ℕ). IsSome (index_of_type schemas n)) first.before name first.rest
+      (subst (λ (names : List (List ℕ)). All (λ (n : List ℕ). IsSome (index_of_type schemas n)) names) first.split types) in
+      let bad = subst IsSome first.unknown known in absurd cc
+
+  pub unknown_one : (a b : List ℕ) → IsFirstUnknown schemas add a → IsFirstUnknown schemas add b → a ≡ b
+  unknown_one a b one other =
+      first_one (λ (n : List ℕ). IsSome (index_of_type schemas n)) one.before other.before a b one.rest other.rest one.known other.known
+      (λ known. (let bad = subst IsSome one.unknown known in absurd cc)) (λ known. (let bad = subst IsSome other.unknown known in absurd cc)) (sym one.split ∙ other.split)
+
+  pub unread_one : (t u place other_place : ℕ) (reason why_too : Reason) → IsFirstUnread schemas recorded t place reason → IsFirstUnread schemas recorded u other_place why_too
+      → (t ≡ u) × (place ≡ other_place) × (reason ≡ why_too)
+  unread_one t u place other_place reason why_too one other =
+      let same = first_one (λ (entry : Entry). IsOk (read_tree schemas entry.type_index entry.value)) one.before other.before
+      (record { type_index = t; place = place; value = one.value }) (record { type_index = u; place = other_place; value = other.value }) one.rest other.rest one.read other.read
+      (λ ok. (let bad = subst IsOk one.unread ok in absurd cc)) (λ ok. (let bad = subst IsOk other.unread ok in absurd cc)) (sym one.split ∙ other.split) in
+      let both : Err reason ≡ Err why_too = sym one.unread ∙ ap (λ (e : Entry). read_tree schemas e.type_index e.value) same ∙ other.unread in
+      (ap (λ (e : Entry). e.type_index) same, ap (λ (e : Entry). e.place) same, cc)
