@@ -1,0 +1,7 @@
+mod Exactly
+mod FirstPlaces
+mod ModelsApart
+pub mod OnePlace
+mod Passing
+mod RowsApart
+mod SameLists

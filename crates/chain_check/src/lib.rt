@@ -1,0 +1,19 @@
+//! A check of a chain: a walk along deltas is compared, version by version, with the states of the snapshots.
+#![tactic(auto)]
+
+mod checking;
+mod comparing;
+pub mod laws;
+mod models;
+mod place;
+mod same_row;
+mod same_schema;
+mod states;
+mod walk;
+
+pub use checking::{CheckFault, check};
+pub use comparing::compare;
+pub use models::first_other_type;
+pub use place::{Place, RowPlace};
+pub use states::first_other_row;
+pub use walk::Walk;

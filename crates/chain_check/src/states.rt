@@ -1,0 +1,80 @@
+//! The first rows in which two states differ.
+ghost use Rattle.std.specs.Prelude.{◌≡◌, ◌<◌, ◌↔◌, ℕ, IfOk, IfSome, IsTrue, length};
+ghost use Rattle.row_model.specs.Table.{IsLive, IsTableOf, row_at};
+ghost use Rattle.chain_check.specs.Compare.{FirstOtherOrdinal, FirstOtherRow};
+
+use crate::RowPlace;
+use crate::same_row::same_row;
+use row_model::Rows;
+use std::alloc::{AllocError, Global};
+
+/// The place of the first rows of a model that differ in two states, one of them missing included: the first type, and its least such ordinal.
+/// `None` exactly where all rows are the same. Rows are looked at one by one, and no state is copied.
+pub fn first_other_row<A: Rows, B: Rows>(
+    alloc: Global,
+    walked: &A,
+    fresh: &B,
+) -> Result<Option<RowPlace>, AllocError>
+    requires models { A.schemas walked.now ≡ B.schemas fresh.now }
+    requires fits { IsTableOf (B.schemas fresh.now) (B.table fresh.now) }
+    ensures first { IfOk result (FirstOtherRow (A.table walked.now) (B.table fresh.now)) }
+    ensures inside { IfOk result (λ place. IfSome place (λ at. at.type_index < length (B.schemas fresh.now))) }
+{
+    for type_index in 0..walked.model().len() {
+        if let Some(ordinal) = first_other_ordinal(alloc, walked, fresh, type_index)? {
+            return Ok(Some(RowPlace {
+                type_index,
+                ordinal,
+            }));
+        }
+    }
+    Ok(None)
+}
+
+// The least ordinal under which the rows of a type differ.
+fn first_other_ordinal<A: Rows, B: Rows>(
+    alloc: Global,
+    walked: &A,
+    fresh: &B,
+    type_index: u32,
+) -> Result<Option<u32>, AllocError>
+    ensures { IfOk result (FirstOtherOrdinal (A.table walked.now) (B.table fresh.now) type_index) }
+{
+    for ordinal in 0..bound_of_both(walked, fresh, type_index) {
+        if !is_same_at(alloc, walked, fresh, type_index, ordinal)? {
+            return Ok(Some(ordinal));
+        }
+    }
+    Ok(None)
+}
+
+// An ordinal that is above all live ones of a type in both states.
+fn bound_of_both<A: Rows, B: Rows>(walked: &A, fresh: &B, type_index: u32) -> u32
+    ensures walked { (ordinal : ℕ) → IsLive (A.table walked.now) type_index ordinal → ordinal < result }
+    ensures fresh { (ordinal : ℕ) → IsLive (B.table fresh.now) type_index ordinal → ordinal < result }
+{
+    let bound = walked.bound(type_index);
+    let other = fresh.bound(type_index);
+    if bound < other { other } else { bound }
+}
+
+// Whether both states have the same row of a type under an ordinal, or both have none.
+fn is_same_at<A: Rows, B: Rows>(
+    alloc: Global,
+    walked: &A,
+    fresh: &B,
+    type_index: u32,
+    ordinal: u32,
+) -> Result<bool, AllocError>
+    ensures { IfOk result (λ same. IsTrue same ↔ (row_at (A.table walked.now) type_index ordinal ≡ row_at (B.table fresh.now) type_index ordinal)) }
+{
+    if !walked.is_live(type_index, ordinal) {
+        return Ok(!fresh.is_live(type_index, ordinal));
+    }
+    if !fresh.is_live(type_index, ordinal) {
+        return Ok(false);
+    }
+    let row = walked.lend(alloc, type_index, ordinal)?;
+    let other = fresh.lend(alloc, type_index, ordinal)?;
+    Ok(same_row(row.row(), other.row()))
+}

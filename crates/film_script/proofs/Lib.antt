@@ -1,0 +1,2 @@
+pub mod FilmModel
+pub mod Ranges
