@@ -18,6 +18,8 @@ mod heads;
 #[cfg(test)]
 mod kinds;
 #[cfg(test)]
+mod library;
+#[cfg(test)]
 mod limits;
 #[cfg(test)]
 mod lookups;
