@@ -1,13 +1,13 @@
 -- Slots and index stay in agreement, and what they say of the two states.
-use Rattle.std.proofs.Common.{◌≡◌, ℕ, zero, suc, ◌+◌, ◌<◌, ◌≤◌, ◌^◌, Bool, true, false, cond, List, [], ◌∷◌, ◌++◌, Option, Some, None, map, length, refl, sym, ap, subst, ◌∙◌, inl, inr, arith, ◌⊎◌, max}
-use Rattle.std.specs.Prelude.{◌≢◌, ◌||◌, Result, Ok, Err, IsErrAnd, slice_set, slice_index_or, IsSome, IsSomeAnd, is_some, MatchBool, IsTrue, ◌↔◌}
+use Rattle.std.proofs.Common.{◌≡◌, ℕ, zero, suc, ◌+◌, ◌<◌, ◌≤◌, ◌^◌, Bool, true, false, cond, List, [], ◌∷◌, ◌++◌, Option, Some, None, map, length, refl, sym, ap, subst, ◌∙◌, inl, inr, arith, ◌⊎◌, max, append_assoc}
+use Rattle.std.specs.Prelude.{◌≢◌, ◌||◌, Result, Ok, Err, IsErrAnd, replicate, slice_set, slice_index_or, IsSome, IsSomeAnd, is_some, MatchBool, IsTrue, ◌↔◌}
 use Rattle.std.specs.List.{list_any}
 use Rattle.std.specs.FinMap.{get, insert, empty, get-empty}
 use Rattle.std.specs.Ordering.{nat_cmp}
 use Rattle.std.proofs.lemmas.Option.{slice_get_read}
 use Rattle.std.specs.Str.{bytes_eq}
 use Rattle.std.proofs.lemmas.Bool.{cases_eq, cases_lt, cases_Bool}
-use Rattle.std.proofs.lemmas.List.{length-append}
+use Rattle.std.proofs.lemmas.List.{append-nil, length-append, replicate_more}
 use Rattle.std.proofs.lemmas.Slice.Eq.{bytes_eq-Decides}
 use Rattle.row_model.specs.declared.row.Row.{Row}
 use Rattle.row_model.specs.Table.{RowMap}
@@ -15,12 +15,14 @@ use Rattle.ordinal_map.specs.Assign.{Holds, IsTaken, Agree, IsPast, IsLeast, IsP
 use Rattle.row_model.specs.RowKey.{row_key}
 use Rattle.ordinal_map.specs.declared.fault.PutRowFault.{PutRowFault}
 use Rattle.ordinal_map.specs.declared.fault.PutRowFault.TheVariants.{TooMany, Memory}
+use Rattle.ordinal_map.specs.declared.fault.RestoreRowFault.TheVariants.{Equal}
+use Rattle.ordinal_map.specs.Restored.{TellsRestore}
 use Rattle.ordinal_map.specs.States.{States}
 use Rattle.ordinal_map.specs.Slots.{Extends, changed, rows_of, row_in, ordinal_of, kept_ordinal, AreKept, any_row, previous_row, current_row, entered, advanced, undone}
 use Rattle.ordinal_map.specs.declared.slot.Slot.{Slot}
 use Rattle.ordinal_map.specs.declared.slot.Slot.TheVariants.{Free, Previous, Current, Both}
 use Rattle.row_model.proofs.OneKey.{row_once}
-use Rattle.ordinal_map.proofs.SlotRows.{same_rows, get_rows, row_set, row_beside, row_kept, rows_kept, rows_put, row_pushed, rows_pushed, rows_mapped, rows_dropped, rows_of_no_slots, length_set, get_inserted, get_beside, in_previous, in_current, in_either, inside, previous_advanced, current_advanced, previous_undone, current_undone, previous_entered, current_entered, any_entered, any_advanced, any_undone, row_of_slot}
+use Rattle.ordinal_map.proofs.SlotRows.{same_rows, get_rows, row_set, row_beside, row_kept, rows_kept, rows_put, row_padded, rows_mapped, rows_dropped, rows_of_no_slots, length_set, get_inserted, get_beside, in_previous, in_current, in_either, inside, previous_advanced, current_advanced, previous_undone, current_undone, previous_entered, current_entered, any_entered, any_advanced, any_undone, row_of_slot}
 
 -- ---- what the slots say of the two states
 
@@ -147,25 +149,11 @@ module _ (slots : List Slot) (index : List (List ℕ × ℕ)) (filled before now
       past_current = subst (λ rows. IsPast rows after) (sym entered_current) (past_put (rows_of current_row slots) now after o row kept.past_current bound);
     }
 
-  -- a new row enters the current state
-  module _ (row : Row) (o : ℕ) (index' : List (List ℕ × ℕ)) (after : ℕ) (low : o < 2 ^ 22) (within : o < length slots) (none : ordinal_of index (row_key row) ≡ None) (free : row_in any_row slots o ≡ None)
-      (below : (q : ℕ) → q < o → IsSome (row_in any_row slots q))
-      (indexed : (other : List ℕ) → ordinal_of index' other ≡ cond (bytes_eq (row_key row) other) (Some o) (ordinal_of index other)) (bound : after ≡ max now (o + 1)) where
-    pub new_previous : rows_of previous_row (slice_set slots o (Current row)) ≡ rows_of previous_row slots
-    new_previous = rows_kept previous_row slots o (Current row) within (sym (free_row previous_row in_previous))
-      where
-        free_row : (read : Slot → Option Row) → ((slots : List Slot) (o : ℕ) (row : Row) → row_in read slots o ≡ Some row → row_in any_row slots o ≡ Some row) → row_in read slots o ≡ None
-        free_row read up = none_of (row_in read slots o) (λ r here. (let e = sym (up slots o r here) ∙ free in absurd cc))
-          where
-            none_of : (row : Option Row) → ((r : Row) → row ≡ Some r → ⊥) → row ≡ None
-            none_of None h = refl
-            none_of (Some r) h = absurd (h r refl)
-
-    pub new_current : rows_of current_row (slice_set slots o (Current row)) ≡ insert (rows_of current_row slots) o row
-    new_current = rows_put current_row slots o (Current row) row within refl
-
-    here_any : row_in any_row (slice_set slots o (Current row)) o ≡ Some row
-    here_any = row_set any_row slots o (Current row) within
+  -- a row that the index has not comes to stand in the slot of a free ordinal
+  module _ (row : Row) (o : ℕ) (slot : Slot) (index' : List (List ℕ × ℕ)) (within : o < length slots) (is : any_row slot ≡ Some row) (none : ordinal_of index (row_key row) ≡ None) (free : row_in any_row slots o ≡ None)
+      (indexed : (other : List ℕ) → ordinal_of index' other ≡ cond (bytes_eq (row_key row) other) (Some o) (ordinal_of index other)) where
+    here_any : row_in any_row (slice_set slots o slot) o ≡ Some row
+    here_any = row_set any_row slots o slot within ∙ is
 
     key_here : ordinal_of index' (row_key row) ≡ Some o
     key_here = indexed (row_key row) ∙ ap (λ b. cond b (Some o) (ordinal_of index (row_key row))) ((bytes_eq-Decides (row_key row) (row_key row)).1 refl)
@@ -177,50 +165,82 @@ module _ (slots : List Slot) (index : List (List ℕ × ℕ)) (filled before now
           | inr differs ↦ indexed (row_key r) ∙ ap (λ b. cond b (Some o) (ordinal_of index (row_key r))) differs ∙ is
         ]
 
+    come_finds : (q : ℕ) (r : Row) → row_in any_row (slice_set slots o slot) q ≡ Some r → ordinal_of index' (row_key r) ≡ Some q
+    come_finds q r here =
+        elim (cases_eq q o) [
+          | inl e ↦ (let same : Some r ≡ Some row = sym here ∙ ap (row_in any_row (slice_set slots o slot)) e ∙ here_any in
+              let is : row ≡ r = cc in
+              subst (λ n. ordinal_of index' (row_key r) ≡ Some n) (sym e) (subst (λ x. ordinal_of index' (row_key x) ≡ Some o) is key_here))
+          | inr apart ↦ key_beside r q (kept.finds q r (sym (row_beside any_row slots o q slot apart) ∙ here))
+        ]
+
+    come_found : (key : List ℕ) (q : ℕ) → ordinal_of index' key ≡ Some q → IsSomeAnd (row_in any_row (slice_set slots o slot) q) (λ r. row_key r ≡ key)
+    come_found key q here =
+        elim (cases_Bool (bytes_eq (row_key row) key)) [
+          | inl same ↦
+              (let e : Some q ≡ Some o = sym here ∙ indexed key ∙ ap (λ b. cond b (Some o) (ordinal_of index key)) same in
+              let is : q ≡ o = cc in
+              subst (λ n. IsSomeAnd (row_in any_row (slice_set slots o slot) n) (λ r. row_key r ≡ key)) (sym is)
+              (subst (λ r. IsSomeAnd r (λ r. row_key r ≡ key)) (sym here_any) ((bytes_eq-Decides (row_key row) key).0 same)))
+          | inr differs ↦
+              (let old : ordinal_of index key ≡ Some q = ap (λ b. cond b (Some o) (ordinal_of index key)) (sym differs) ∙ sym (indexed key) ∙ here in
+              let there = found_row key (row_in any_row slots q) (kept.found key q old) in
+              let apart : q ≡ o → ⊥ = λ e. (let f = sym there.1 ∙ ap (row_in any_row slots) e ∙ free in absurd cc) in
+              subst (λ r. IsSomeAnd r (λ r. row_key r ≡ key)) (sym (row_beside any_row slots o q slot apart)) (kept.found key q old))
+        ]
+
+    -- a state that the slot does not put the row into keeps its rows
+    come_kept : (read : Slot → Option Row) → ((slots : List Slot) (o : ℕ) (row : Row) → row_in read slots o ≡ Some row → row_in any_row slots o ≡ Some row) → read slot ≡ None → rows_of read (slice_set slots o slot) ≡ rows_of read slots
+    come_kept read up nothing = rows_kept read slots o slot within (nothing ∙ sym (free_row (row_in read slots o) (λ r here. let e = sym (up slots o r here) ∙ free in absurd cc)))
+      where
+        free_row : (row : Option Row) → ((r : Row) → row ≡ Some r → ⊥) → row ≡ None
+        free_row None h = refl
+        free_row (Some r) h = absurd (h r refl)
+
+  -- a new row enters the current state
+  module _ (row : Row) (o : ℕ) (index' : List (List ℕ × ℕ)) (after : ℕ) (within : o < length slots) (none : ordinal_of index (row_key row) ≡ None) (free : row_in any_row slots o ≡ None)
+      (below : (q : ℕ) → q < o → IsSome (row_in any_row slots q))
+      (indexed : (other : List ℕ) → ordinal_of index' other ≡ cond (bytes_eq (row_key row) other) (Some o) (ordinal_of index other)) (bound : after ≡ max now (o + 1)) where
+    pub new_previous : rows_of previous_row (slice_set slots o (Current row)) ≡ rows_of previous_row slots
+    new_previous = come_kept row o (Current row) index' within refl none free indexed previous_row in_previous refl
+
+    pub new_current : rows_of current_row (slice_set slots o (Current row)) ≡ insert (rows_of current_row slots) o row
+    new_current = rows_put current_row slots o (Current row) row within refl
+
     pub new_kept : AreKept (slice_set slots o (Current row)) index' (o + 1) before after
     new_kept = record {
       few = subst (λ n. n ≤ 2 ^ 22) (sym (length_set slots o (Current row))) kept.few;
-      finds = λ q r here.
-          (elim (cases_eq q o) [
-            | inl e ↦ (let same : Some r ≡ Some row = sym here ∙ ap (row_in any_row (slice_set slots o (Current row))) e ∙ here_any in
-                let is : row ≡ r = cc in
-                subst (λ n. ordinal_of index' (row_key r) ≡ Some n) (sym e) (subst (λ x. ordinal_of index' (row_key x) ≡ Some o) is key_here))
-            | inr apart ↦ key_beside r q (kept.finds q r (sym (row_beside any_row slots o q (Current row) apart) ∙ here))
-          ]);
-      found = λ key q here.
-          (elim (cases_Bool (bytes_eq (row_key row) key)) [
-            | inl same ↦
-                (let e : Some q ≡ Some o = sym here ∙ indexed key ∙ ap (λ b. cond b (Some o) (ordinal_of index key)) same in
-                let is : q ≡ o = cc in
-                subst (λ n. IsSomeAnd (row_in any_row (slice_set slots o (Current row)) n) (λ r. row_key r ≡ key)) (sym is)
-                (subst (λ r. IsSomeAnd r (λ r. row_key r ≡ key)) (sym here_any) ((bytes_eq-Decides (row_key row) key).0 same)))
-            | inr differs ↦
-                (let old : ordinal_of index key ≡ Some q = ap (λ b. cond b (Some o) (ordinal_of index key)) (sym differs) ∙ sym (indexed key) ∙ here in
-                let there = found_row key (row_in any_row slots q) (kept.found key q old) in
-                let apart : q ≡ o → ⊥ = λ e. (let f = sym there.1 ∙ ap (row_in any_row slots) e ∙ free in absurd cc) in
-                subst (λ r. IsSomeAnd r (λ r. row_key r ≡ key)) (sym (row_beside any_row slots o q (Current row) apart)) (kept.found key q old))
-          ]);
+      finds = come_finds row o (Current row) index' within refl none free indexed;
+      found = come_found row o (Current row) index' within refl none free indexed;
       within = subst (λ n. o + 1 ≤ n) (sym (length_set slots o (Current row))) (omega arith);
       taken = λ q lower.
           (elim (cases_eq q o) [
-            | inl e ↦ subst (λ n. IsSome (row_in any_row (slice_set slots o (Current row)) n)) (sym e) (is_some_row _ row here_any)
+            | inl e ↦ subst (λ n. IsSome (row_in any_row (slice_set slots o (Current row)) n)) (sym e) (is_some_row _ row (here_any row o (Current row) index' within refl none free indexed))
             | inr apart ↦ subst IsSome (sym (row_beside any_row slots o q (Current row) apart)) (below q (omega arith))
           ]);
       past_previous = subst (λ rows. IsPast rows before) (sym new_previous) kept.past_previous;
       past_current = subst (λ rows. IsPast rows after) (sym new_current) (past_put (rows_of current_row slots) now after o row kept.past_current bound);
     }
 
-  -- one more free slot
-  pub pushed_kept : length slots < 2 ^ 22 → AreKept (slots ++ Free ∷ []) index filled before now
-  pushed_kept few = record {
-    few = omega (arith, length-append slots (Free ∷ []));
-    finds = λ q r here. kept.finds q r (sym (row_pushed any_row refl slots q) ∙ here);
-    found = λ key q here. subst (λ row. IsSomeAnd row (λ r. row_key r ≡ key)) (sym (row_pushed any_row refl slots q)) (kept.found key q here);
-    within = omega (arith, kept.within, length-append slots (Free ∷ []));
-    taken = λ q below. subst IsSome (sym (row_pushed any_row refl slots q)) (kept.taken q below);
-    past_previous = subst (λ rows. IsPast rows before) (sym (rows_pushed previous_row refl slots)) kept.past_previous;
-    past_current = subst (λ rows. IsPast rows now) (sym (rows_pushed current_row refl slots)) kept.past_current;
-  }
+  -- a row comes back to the previous state
+  module _ (row : Row) (o : ℕ) (index' : List (List ℕ × ℕ)) (after : ℕ) (within : o < length slots) (none : ordinal_of index (row_key row) ≡ None) (free : row_in any_row slots o ≡ None)
+      (indexed : (other : List ℕ) → ordinal_of index' other ≡ cond (bytes_eq (row_key row) other) (Some o) (ordinal_of index other)) (bound : after ≡ max before (o + 1)) where
+    pub restored_previous : rows_of previous_row (slice_set slots o (Previous row)) ≡ insert (rows_of previous_row slots) o row
+    restored_previous = rows_put previous_row slots o (Previous row) row within refl
+
+    pub restored_current : rows_of current_row (slice_set slots o (Previous row)) ≡ rows_of current_row slots
+    restored_current = come_kept row o (Previous row) index' within refl none free indexed current_row in_current refl
+
+    pub restored_kept : AreKept (slice_set slots o (Previous row)) index' filled after now
+    restored_kept = record {
+      few = subst (λ n. n ≤ 2 ^ 22) (sym (length_set slots o (Previous row))) kept.few;
+      finds = come_finds row o (Previous row) index' within refl none free indexed;
+      found = come_found row o (Previous row) index' within refl none free indexed;
+      within = subst (λ n. filled ≤ n) (sym (length_set slots o (Previous row))) kept.within;
+      taken = λ q lower. subst IsSome (sym (row_beside any_row slots o q (Previous row) (λ e. not_free (row_in any_row slots o) free (subst (λ n. IsSome (row_in any_row slots n)) e (kept.taken q lower))))) (kept.taken q lower);
+      past_previous = subst (λ rows. IsPast rows after) (sym restored_previous) (past_put (rows_of previous_row slots) before after o row kept.past_previous bound);
+      past_current = subst (λ rows. IsPast rows now) (sym restored_current) kept.past_current;
+    }
 
   -- all slots change, and each keeps its row or drops it
   module _ (change : Slot → Slot) (keeps : (s : Slot) → (any_row (change s) ≡ None) ⊎ (any_row (change s) ≡ any_row s)) (index' : List (List ℕ × ℕ))
@@ -274,24 +294,35 @@ kept_nothing slots index no_slots no_keys =
       past_current = past_none _ (rows_of_no_slots current_row) (get_rows current_row []);
     })
 
--- ---- room for one more slot
+-- ---- room for more slots
 
-pub extended_length : (slots more : List Slot) (o : ℕ) → Extends slots o more → length slots ≤ length more
-extended_length slots more o (inl same) = omega (arith, ap length same)
-extended_length slots more o (inr longer) = omega (arith, ap length longer.0, length-append slots (Free ∷ []))
+pub extends_none : (slots : List Slot) (o : ℕ) → Extends slots o slots
+extends_none slots o = record { count = 0; padded = sym (append-nil slots); short = omega arith }
 
-pub extended_row : (slots more : List Slot) (o : ℕ) → Extends slots o more → (q : ℕ) → row_in any_row more q ≡ row_in any_row slots q
-extended_row slots more o (inl same) q = ap (λ ss. row_in any_row ss q) same
-extended_row slots more o (inr longer) q = ap (λ ss. row_in any_row ss q) longer.0 ∙ row_pushed any_row refl slots q
+pub extends_more : (slots middle more : List Slot) (o : ℕ) → Extends slots o middle → length middle ≤ o → more ≡ middle ++ Free ∷ [] → Extends slots o more
+extends_more slots middle more o extends room is = record {
+  count = extends.count + 1;
+  padded = is ∙ ap (λ s. s ++ Free ∷ []) extends.padded ∙ append_assoc slots (replicate extends.count Free) (Free ∷ []) ∙ ap (λ s. slots ++ s) (replicate_more extends.count Free);
+  short = omega (arith, ap length is, length-append middle (Free ∷ []), room, extends.short);
+}
 
-pub extended_rows : (read : Slot → Option Row) → read Free ≡ None → (slots more : List Slot) (o : ℕ) → Extends slots o more → rows_of read more ≡ rows_of read slots
-extended_rows read none slots more o (inl same) = ap (rows_of read) same
-extended_rows read none slots more o (inr longer) = ap (rows_of read) longer.0 ∙ rows_pushed read none slots
+pub extended_row : (read : Slot → Option Row) → read Free ≡ None → (slots more : List Slot) (o : ℕ) → Extends slots o more → (q : ℕ) → row_in read more q ≡ row_in read slots q
+extended_row read none slots more o extends q = ap (λ ss. row_in read ss q) extends.padded ∙ row_padded read none slots extends.count q
+
+extended_rows : (read : Slot → Option Row) → read Free ≡ None → (slots more : List Slot) (o : ℕ) → Extends slots o more → rows_of read more ≡ rows_of read slots
+extended_rows read none slots more o extends = same_rows _ _ (λ q. get_rows read more q ∙ extended_row read none slots more o extends q ∙ sym (get_rows read slots q))
 
 pub extended_kept : (slots more : List Slot) (o : ℕ) (index : List (List ℕ × ℕ)) (filled before now : ℕ) → Extends slots o more → o < 2 ^ 22 → AreKept slots index filled before now → AreKept more index filled before now
-extended_kept slots more o index filled before now (inl same) low kept = subst (λ ss. AreKept ss index filled before now) (sym same) kept
-extended_kept slots more o index filled before now (inr longer) low kept =
-    subst (λ ss. AreKept ss index filled before now) (sym longer.0) (pushed_kept slots index filled before now kept (omega (arith, low, longer.1)))
+extended_kept slots more o index filled before now extends low kept =
+    let long = ap length extends.padded ∙ length-append slots (replicate extends.count Free) in record {
+      few = omega (arith, extends.short, kept.few, low);
+      finds = λ q r here. kept.finds q r (sym (extended_row any_row refl slots more o extends q) ∙ here);
+      found = λ key q here. subst (λ row. IsSomeAnd row (λ r. row_key r ≡ key)) (sym (extended_row any_row refl slots more o extends q)) (kept.found key q here);
+      within = omega (arith, kept.within, long);
+      taken = λ q below. subst IsSome (sym (extended_row any_row refl slots more o extends q)) (kept.taken q below);
+      past_previous = subst (λ rows. IsPast rows before) (sym (extended_rows previous_row refl slots more o extends)) kept.past_previous;
+      past_current = subst (λ rows. IsPast rows now) (sym (extended_rows current_row refl slots more o extends)) kept.past_current;
+    }
 
 -- ---- whether a slot tells the states apart
 
@@ -401,17 +432,60 @@ pub tells_new : (slots more : List Slot) (index index' : List (List ℕ × ℕ))
 tells_new slots more index index' filled before now states key row o bound kept seen keyed none free below low extends room indexed past =
     let kept' = extended_kept slots more o index filled before now extends low kept in
     let none' : ordinal_of index (row_key row) ≡ None = subst (λ k. ordinal_of index k ≡ None) keyed none in
-    let free' = extended_row slots more o extends o ∙ free in
-    let below' = λ (q : ℕ) (lower : q < o). subst IsSome (sym (extended_row slots more o extends q)) (below q lower) in
+    let free' = extended_row any_row refl slots more o extends o ∙ free in
+    let below' = λ (q : ℕ) (lower : q < o). subst IsSome (sym (extended_row any_row refl slots more o extends q)) (below q lower) in
     let indexed' = subst (λ k. (other : List ℕ) → ordinal_of index' other ≡ cond (bytes_eq k other) (Some o) (ordinal_of index other)) keyed indexed in
-    let previous = new_previous more index filled before now kept' row o index' bound low room none' free' below' indexed' past in
-    let current = new_current more index filled before now kept' row o index' bound low room none' free' below' indexed' past in (
-      new_kept more index filled before now kept' row o index' bound low room none' free' below' indexed' past,
+    let previous = new_previous more index filled before now kept' row o index' bound room none' free' below' indexed' past in
+    let current = new_current more index filled before now kept' row o index' bound room none' free' below' indexed' past in (
+      new_kept more index filled before now kept' row o index' bound room none' free' below' indexed' past,
       (
         tells_new_ordinal slots index filled before now states key row o kept seen keyed none free below,
         low,
         ((λ i. record { previous = previous i; current = current i })
             ∙ ap (λ (s : States). record s { current = insert s.current o row }) (extended_states slots more o states extends seen)),
+      ),
+    )
+
+-- ---- what a restoring tells
+
+-- the row stands already
+pub tells_equal : (slots : List Slot) (index : List (List ℕ × ℕ)) (filled before now : ℕ) (states : States) (key : List ℕ) (row : Row) (o other : ℕ) → AreKept slots index filled before now → states_of slots ≡ states → key ≡ row_key row
+    → states.current ≡ empty → ordinal_of index key ≡ Some other → TellsRestore states o row states (Err (Equal other))
+tells_equal slots index filled before now states key row o other kept seen keyed none found =
+    (only_before (holds_seen slots states other row seen (stands slots index filled before now kept row other (subst (λ k. ordinal_of index k ≡ Some other) keyed found))), refl)
+  where
+    only_before : Holds states.previous states.current row other → get states.previous other ≡ Some row
+    only_before (inl before) = before
+    only_before (inr now) = let e = sym now ∙ ap (λ (m : RowMap). get m other) none ∙ get-empty nat_cmp other in absurd cc
+
+-- the ordinal of a row that comes back is free
+pub free_before : (slots : List Slot) (states : States) (o : ℕ) → states_of slots ≡ states → states.current ≡ empty → get states.previous o ≡ None → row_in any_row slots o ≡ None
+free_before slots states o seen none free = none_of (row_in any_row slots o) (λ row here. nowhere row (holds_seen slots states o row seen here))
+  where
+    nowhere : (row : Row) → Holds states.previous states.current row o → ⊥
+    nowhere row (inl before) = let e = sym before ∙ free in absurd cc
+    nowhere row (inr now) = let e = sym now ∙ ap (λ (m : RowMap). get m o) none ∙ get-empty nat_cmp o in absurd cc
+
+    none_of : (row : Option Row) → ((r : Row) → row ≡ Some r → ⊥) → row ≡ None
+    none_of None h = refl
+    none_of (Some r) h = absurd (h r refl)
+
+pub tells_restored : (slots more : List Slot) (index index' : List (List ℕ × ℕ)) (filled before now : ℕ) (states : States) (key : List ℕ) (row : Row) (o bound : ℕ) → AreKept slots index filled before now → states_of slots ≡ states → key ≡ row_key row
+    → states.current ≡ empty → get states.previous o ≡ None → ordinal_of index key ≡ None → o < 2 ^ 22 → Extends slots o more → o < length more
+    → ((other : List ℕ) → ordinal_of index' other ≡ cond (bytes_eq key other) (Some o) (ordinal_of index other)) → bound ≡ max before (o + 1)
+    → AreKept (slice_set more o (Previous row)) index' filled bound now × TellsRestore states o row (states_of (slice_set more o (Previous row))) (Ok tt)
+tells_restored slots more index index' filled before now states key row o bound kept seen keyed none free missing low extends room indexed past =
+    let kept' = extended_kept slots more o index filled before now extends low kept in
+    let seen' = extended_states slots more o states extends seen in
+    let missing' : ordinal_of index (row_key row) ≡ None = subst (λ k. ordinal_of index k ≡ None) keyed missing in
+    let free' = free_before more states o seen' none free in
+    let indexed' = subst (λ k. (other : List ℕ) → ordinal_of index' other ≡ cond (bytes_eq k other) (Some o) (ordinal_of index other)) keyed indexed in
+    let previous = restored_previous more index filled before now kept' row o index' bound room missing' free' indexed' past in
+    let current = restored_current more index filled before now kept' row o index' bound room missing' free' indexed' past in (
+      restored_kept more index filled before now kept' row o index' bound room missing' free' indexed' past,
+      (
+        (λ q here. absent slots index filled before now kept row q missing' (subst (λ (s : States). Holds s.previous s.current row q) (sym seen) (inl here))),
+        (λ i. record { previous = previous i; current = current i }) ∙ ap (λ (s : States). record s { previous = insert s.previous o row }) seen',
       ),
     )
 

@@ -1,6 +1,6 @@
 -- The rows that slots make: what stands under an ordinal, and what a change of a slot, of all slots or one more slot leaves.
 use Rattle.std.proofs.Common.{◌≡◌, ℕ, zero, suc, ◌+◌, ◌<◌, List, [], ◌∷◌, ◌++◌, Option, Some, None, map, length, refl, sym, ap, ◌∙◌, inl, inr, arith, ◌⊎◌}
-use Rattle.std.specs.Prelude.{slice_get, slice_set, option_and_then}
+use Rattle.std.specs.Prelude.{slice_get, slice_set, option_and_then, replicate}
 use Rattle.std.specs.Ordering.{nat_cmp}
 use Rattle.std.specs.Cmp.{nat_cmp_total}
 use Rattle.std.specs.FinMap.{get, find, insert, empty, get-insert, get-empty, get-from_entries, same_map, nat_cmp-IsAntisymmetric}
@@ -89,16 +89,17 @@ rows_put read slots o slot row inside is = same_rows _ _ (λ q.
       | inr apart ↦ row_beside read slots o q slot apart ∙ sym (get_rows read slots q) ∙ sym (get_beside (rows_of read slots) o q row apart)
     ])
 
--- ---- one more slot, which is free
+-- ---- more slots, which are free
 
-pub row_pushed : (read : Slot → Option Row) → read Free ≡ None → (slots : List Slot) (q : ℕ) → row_in read (slots ++ Free ∷ []) q ≡ row_in read slots q
-row_pushed read none [] zero = none
-row_pushed read none [] (suc q) = refl
-row_pushed read none (s ∷ slots) zero = refl
-row_pushed read none (s ∷ slots) (suc q) = row_pushed read none slots q
+row_free : (read : Slot → Option Row) → read Free ≡ None → (count q : ℕ) → row_in read (replicate count Free) q ≡ None
+row_free read none zero q = refl
+row_free read none (suc count) zero = none
+row_free read none (suc count) (suc q) = row_free read none count q
 
-pub rows_pushed : (read : Slot → Option Row) → read Free ≡ None → (slots : List Slot) → rows_of read (slots ++ Free ∷ []) ≡ rows_of read slots
-rows_pushed read none slots = same_rows _ _ (λ q. get_rows read (slots ++ Free ∷ []) q ∙ row_pushed read none slots q ∙ sym (get_rows read slots q))
+pub row_padded : (read : Slot → Option Row) → read Free ≡ None → (slots : List Slot) (count q : ℕ) → row_in read (slots ++ replicate count Free) q ≡ row_in read slots q
+row_padded read none [] count q = row_free read none count q
+row_padded read none (s ∷ slots) count zero = refl
+row_padded read none (s ∷ slots) count (suc q) = row_padded read none slots count q
 
 -- ---- all slots change
 

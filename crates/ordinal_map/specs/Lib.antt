@@ -1,3 +1,4 @@
 pub mod Assign
+pub mod Restored
 pub mod Slots
 pub mod States

@@ -1,5 +1,5 @@
 -- What stands under each ordinal, and the rows of the two states that slots make.
-use Rattle.std.specs.Prelude.{List, [], ◌∷◌, ◌++◌, ◌⊎◌, ℕ, ◌≡◌, ◌+◌, ◌<◌, ◌≤◌, ◌^◌, Bool, true, false, Option, Some, None, IsSome, IsSomeAnd, slice_get, option_and_then, length, if◌then◌else◌}
+use Rattle.std.specs.Prelude.{List, [], ◌∷◌, ◌++◌, ℕ, ◌≡◌, ◌+◌, ◌<◌, ◌≤◌, ◌^◌, Bool, true, false, Option, Some, None, IsSome, IsSomeAnd, slice_get, option_and_then, replicate, max, length, if◌then◌else◌}
 use Rattle.std.specs.FinMap.{from_entries}
 use Rattle.std.specs.Map.{lookup}
 use Rattle.std.specs.Str.{bytes_eq}
@@ -59,9 +59,11 @@ changed (Previous row) = true
 changed (Current row) = true
 changed (Both row) = false
 
--- the slots stay, or have one more free one where they were as many as the ordinal
-abbrev pub Extends : List Slot → ℕ → List Slot → Type 0
-Extends slots ordinal more = (more ≡ slots) ⊎ ((more ≡ slots ++ Free ∷ []) × (length slots ≡ ordinal))
+-- the slots have some free ones behind them, none past the ordinal
+pub record Extends (slots : List Slot) (ordinal : ℕ) (more : List Slot) : Type 0 where
+  pub count : ℕ
+  pub padded : more ≡ slots ++ replicate count Free
+  pub short : length more ≤ max (length slots) (ordinal + 1)
 
 -- the row, if there is one, under a place
 abbrev pub with_place : ℕ → Option Row → List (ℕ × Row) → List (ℕ × Row)

@@ -1,6 +1,7 @@
-//! Why a row is not put.
+//! Why a row is not put, and why one is not restored.
 ghost use Rattle.std.specs.Prelude.{◌≡◌};
 ghost use Rattle.ordinal_map.specs.declared.fault.PutRowFault.TheVariants.{Memory as row_memory};
+ghost use Rattle.ordinal_map.specs.declared.fault.RestoreRowFault.TheVariants.{Memory as restore_memory};
 
 use std::alloc::AllocError;
 
@@ -18,5 +19,22 @@ impl From<AllocError> for PutRowFault {
 
     fn from(_e: AllocError) -> PutRowFault {
         PutRowFault::Memory
+    }
+}
+
+/// Why a row is not restored.
+#[derive(Clone, Copy, Debug, PartialEq, Eq)]
+pub enum RestoreRowFault {
+    /// This ordinal has the row.
+    Equal(u32),
+    /// Memory was refused.
+    Memory,
+}
+
+impl From<AllocError> for RestoreRowFault {
+    ghost from_gives = { λ _ e. e ≡ restore_memory };
+
+    fn from(_e: AllocError) -> RestoreRowFault {
+        RestoreRowFault::Memory
     }
 }

@@ -6,5 +6,5 @@ mod map;
 mod row_index;
 mod slot;
 
-pub use fault::PutRowFault;
+pub use fault::{PutRowFault, RestoreRowFault};
 pub use map::OrdinalMap;

@@ -1,11 +1,12 @@
 //! The rows of a type in the previous and the current state, and the ordinals that they get.
-ghost use Rattle.std.specs.Prelude.{◌≡◌, ◌≢◌, ◌↔◌, ℕ, ◌<◌, ◌^◌, Some, Ok, Err, IsSome, IsTrue, MatchBool};
+ghost use Rattle.std.specs.Prelude.{◌≡◌, ◌≢◌, ◌↔◌, ℕ, ◌<◌, ◌^◌, Some, None, Ok, Err, OnErr, IsSome, IsTrue, MatchBool};
 ghost use Rattle.std.specs.FinMap.{get, empty};
 ghost use Rattle.hol_varint.specs.Yields.{Yields};
 ghost use Rattle.row_model.specs.RowKey.{row_key as key_of};
 ghost use Rattle.ordinal_map.specs.Assign.{Agree, Holds, IsFreePut, IsPast, IsPut, IsTaken, TellsPut};
+ghost use Rattle.ordinal_map.specs.Restored.{IsFreeRestore, IsUnknown, TellsRestore};
 
-use crate::fault::PutRowFault;
+use crate::fault::{PutRowFault, RestoreRowFault};
 use crate::row_index::RowIndex;
 use crate::slot::{
     Slot, advance_all, any_changed, current_has, least_free, make_room, previous_has, row_at,
@@ -145,6 +146,42 @@ impl OrdinalMap {
         self.filled = ordinal + 1;
         self.current_bound = self.current_bound.max(ordinal + 1);
         Ok(ordinal)
+    }
+
+    /// Puts a row into the previous state, under an ordinal that is free; the current state has no rows.
+    ///
+    /// `Equal` comes exactly where another ordinal has the row, and names it. After a refusal both states stay as they were.
+    pub fn restore_row(&mut self, ordinal: u32, row: Row) -> Result<(), RestoreRowFault>
+        requires free { get self.old.previous ordinal ≡ None }
+        requires low { ordinal < 2 ^ 22 }
+        requires current { self.old.current ≡ empty }
+        ensures tells { TellsRestore self.old ordinal row self.new result }
+        ensures restored { Yields IsFreeRestore result (Ok tt) (IsUnknown self.old row) }
+        ensures equal { (other : ℕ) → Yields IsFreeRestore result (Err (RestoreRowFault.Equal other)) (get self.old.previous other ≡ Some row) }
+        ensures refused { OnErr result (self.new ≡ self.old) }
+        ensures agree { Agree self.new.previous self.new.current }
+    {
+        let key = row_key(self.alloc, &row)?;
+        self.restore_keyed(key, ordinal, row)
+    }
+
+    // The same of a row whose key is known, by what each answer tells.
+    fn restore_keyed(&mut self, key: Vec<u8>, ordinal: u32, row: Row) -> Result<(), RestoreRowFault>
+        requires free { get self.old.previous ordinal ≡ None }
+        requires low { ordinal < 2 ^ 22 }
+        requires current { self.old.current ≡ empty }
+        requires keyed { key.items ≡ key_of row }
+        ensures tells { TellsRestore self.old ordinal row self.new result }
+        ensures agree { Agree self.new.previous self.new.current }
+    {
+        if let Some(other) = self.index.find(key.as_slice()) {
+            return Err(RestoreRowFault::Equal(other));
+        }
+        make_room(&mut self.slots, ordinal)?;
+        self.index.insert(key, ordinal)?;
+        self.slots[ordinal as usize] = Slot::Previous(row);
+        self.previous_bound = self.previous_bound.max(ordinal + 1);
+        Ok(())
     }
 
     /// Makes the current state the previous one. The new current one has no rows. It takes no memory.

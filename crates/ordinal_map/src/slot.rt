@@ -117,13 +117,12 @@ pub(crate) fn any_changed(slots: &[Slot]) -> bool
     slots.iter().any(|slot| slot.is_changed())
 }
 
-/// Makes a free slot for an ordinal behind the last one.
+/// Makes free slots behind the last one, up to an ordinal that has none.
 pub(crate) fn make_room(slots: &mut Vec<Slot>, ordinal: u32) -> Result<(), AllocError>
-    requires { ordinal ≤ vec_len slots.old }
     ensures room { OnOk result (ordinal < vec_len slots.new) }
     ensures extends { Extends slots.old.items ordinal slots.new.items }
 {
-    if ordinal as usize == slots.len() {
+    while slots.len() <= ordinal as usize {
         slots.push(Slot::Free)?;
     }
     Ok(())

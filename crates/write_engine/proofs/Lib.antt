@@ -1,5 +1,6 @@
 pub mod Changes
 pub mod ClosedStates
+pub mod Duplicates
 pub mod Gathering
 pub mod Members
 pub mod NextStates
@@ -8,6 +9,7 @@ pub mod OneState
 pub mod Parts
 pub mod Puts
 pub mod Producing
+pub mod RestoredTypes
 pub mod RisingLists
 pub mod SameTables
 pub mod StateRows

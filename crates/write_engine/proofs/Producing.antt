@@ -6,13 +6,14 @@ use Rattle.std.specs.FinMap.{get, empty, get-empty}
 use Rattle.schema_model.specs.declared.limit.Limit.{Limit}
 use Rattle.schema_model.specs.declared.schema.Schema.{Schema}
 use Rattle.row_model.specs.PlainTree.{PlainTree}
-use Rattle.row_model.specs.Table.{Table}
+use Rattle.row_model.specs.Table.{Table, IsClosed, IsTableOf}
 use Rattle.ordinal_map.specs.States.{States}
 use Rattle.write_engine.specs.Agreement.{HoldsOnce, TablesAgree}
 use Rattle.write_engine.specs.Cycle.{Adds, no_rows}
 use Rattle.write_engine.specs.Production.{IsProducing, Production, advanced, advanced_to, current_of, no_states, previous_of, undone, without_rows}
 use Rattle.write_engine.proofs.ClosedStates.{added_closed, none_closed}
 use Rattle.write_engine.proofs.NextStates.{adds_agree, none_there, start_agree}
+use Rattle.write_engine.specs.Restoring.{restored_of}
 use Rattle.write_engine.specs.Soundness.{IsClosedTableOf}
 
 -- what each of two tables in agreement holds
@@ -53,7 +54,7 @@ advanced_current [] = refl
 advanced_current (s ∷ maps) = ap (λ (rest : Table). empty ∷ rest) (advanced_current maps)
 
 -- what is seen of a producer
-abbrev made : List Schema → List States → ℤ → ℕ → Bool → Option Limit → Production
+abbrev pub made : List Schema → List States → ℤ → ℕ → Bool → Option Limit → Production
 made schemas maps tag version closed over = record { schemas = schemas; previous = previous_of maps; current = current_of maps; tag = tag; version = version; closed = closed; over = over }
 
 pub length_tables : (maps : List States) → length (current_of maps) ≡ length maps
@@ -76,6 +77,15 @@ fresh schemas maps previous before now closed once = record {
   current = subst (IsClosedTableOf schemas) (sym now) (none_closed schemas);
   agree = subst (λ table. TablesAgree table (current_of maps)) (sym before) (subst (TablesAgree previous) (sym now) (start_agree previous (length schemas) once));
 }
+
+-- the previous states have the rows of a closed table, each once
+pub restored_producing : (schemas : List Schema) (table : Table) (maps : List States) → previous_of maps ≡ table → current_of maps ≡ no_rows (length schemas) → IsTableOf schemas table → IsClosed schemas table → HoldsOnce table → IsProducing schemas maps
+restored_producing schemas table maps before now fits closed once = fresh schemas maps table before now (record { fits = fits; closed = closed }) once
+
+pub restored_view : (schemas model : List Schema) (table : Table) (maps : List States) (tag given : ℤ) (version : ℕ) → model ≡ schemas → previous_of maps ≡ table → current_of maps ≡ no_rows (length schemas) → given ≡ tag
+    → made model maps given version false None ≡ restored_of schemas table tag version
+restored_view schemas model table maps tag given version of before now same =
+    λ i. record { schemas = of i; previous = before i; current = now i; tag = same i; version = version; closed = false; over = None }
 
 pub made_producing : (schemas : List Schema) → IsProducing schemas (replicate (length schemas) no_states)
 made_producing schemas = fresh schemas _ (no_rows (length schemas)) (none_previous (length schemas)) (none_current (length schemas)) (none_closed schemas) (empty_once (length schemas))

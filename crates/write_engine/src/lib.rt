@@ -7,8 +7,10 @@ pub mod laws;
 mod leaf;
 mod limits;
 mod producer;
+mod restoring;
 mod states;
 mod views;
 
 pub use producer::{Closed, Producer};
+pub use restoring::RestoreFault;
 pub use views::{Current, Previous};

@@ -1,21 +1,25 @@
 //! A producer: the previous state, and the cycle that makes the next one.
-ghost use Rattle.std.specs.Prelude.{◌≡◌, ◌↔◌, ℕ, Err, IfOk, IsTrue, OnErr, OnOk, true, false, length};
-ghost use Rattle.row_model.specs.Table.{Table};
+ghost use Rattle.std.specs.Prelude.{◌≡◌, ◌↔◌, ℕ, Ok, Err, IfOk, IsTrue, OnErr, OnOk, true, false, length};
+ghost use Rattle.hol_varint.specs.Yields.{Yields};
+ghost use Rattle.row_model.specs.Table.{Table, EachRow, IsClosed};
 ghost use Rattle.row_model.specs.Tree.{plain};
-ghost use Rattle.write_engine.specs.Agreement.{TablesAgree};
+ghost use Rattle.row_packing.specs.Written.{IsStored};
+ghost use Rattle.write_engine.specs.Agreement.{HoldsOnce, TablesAgree};
 ghost use Rattle.write_engine.specs.Cycle.{Adds, no_rows};
 ghost use Rattle.write_engine.specs.CycleLimit.{TellsCycle};
 ghost use Rattle.record_trees.specs.FitsTree.{FitsTree};
 ghost use Rattle.write_engine.specs.Production.{AreChanged, IsProducing, IsStart, advanced_to, current_of, previous_of, without_rows};
+ghost use Rattle.write_engine.specs.Restoring.{HasLowOrdinals, IsFirstDuplicate, IsFreeRestore, TellsRestored, restored_of};
 ghost use Rattle.write_engine.specs.Soundness.{IsClosedTableOf};
 
 use crate::adding::add_tree;
 use crate::limits::cycle_limit;
+use crate::restoring::{RestoreFault, restore_states};
 use crate::states::{advance_all, changed_types, make_states, undo_all};
 use crate::views::{Current, Previous};
 use hol_varint::Ordinals;
 use ordinal_map::{OrdinalMap, PutRowFault};
-use row_model::Tree;
+use row_model::{Rows, Tree};
 use schema_model::{Limit, Model};
 use std::alloc::{AllocError, Global};
 
@@ -109,6 +113,37 @@ impl Producer {
             maps,
             tag: 0,
             version: 0,
+            closed: false,
+            over: None,
+        })
+    }
+
+    /// A producer whose previous state has these rows, under this tag and version, and whose cycle is open and has no rows: it goes on as if
+    /// the run that made them had never ended. The rows are closed, hold no least INT or LONG, and have ordinals below 2^22.
+    ///
+    /// `Duplicate` comes exactly where a type has two equal rows. It names the first such type in model order, the least ordinal whose row a
+    /// lesser one has too, behind that lesser one.
+    pub fn restore<R: Rows>(
+        alloc: Global,
+        rows: &R,
+        tag: i64,
+        version: u64,
+    ) -> Result<Producer, RestoreFault>
+        requires closed { IsClosed (R.schemas rows.now) (R.table rows.now) }
+        requires stored { EachRow (R.schemas rows.now) (R.table rows.now) (λ schema row. IsStored row) }
+        requires low { HasLowOrdinals (R.table rows.now) }
+        ensures tells { TellsRestored (R.schemas rows.now) (R.table rows.now) tag version result }
+        ensures restored { Yields IsFreeRestore result (Ok (restored_of (R.schemas rows.now) (R.table rows.now) tag version)) (HoldsOnce (R.table rows.now)) }
+        ensures duplicate { (type_index first second : ℕ) → Yields IsFreeRestore result (Err (RestoreFault.Duplicate type_index first second)) (IsFirstDuplicate (R.table rows.now) type_index first second) }
+    {
+        let maps = restore_states(alloc, rows)?;
+        let model = rows.model().copy(alloc)?;
+        Ok(Producer {
+            alloc,
+            model,
+            maps,
+            tag,
+            version,
             closed: false,
             over: None,
         })
