@@ -1,5 +1,5 @@
 -- An answer that tells so much is exact: each one comes exactly where what it tells holds, but for the free ones.
-use Rattle.std.proofs.Common.{◌≡◌, ◌≤◌, ◌<◌, ◌⊎◌, inl, inr, ℕ, ℤ, List, length, Option, Some, None, Result, Ok, Err, IfSome, refl, sym, ap, ◌∙◌, subst, arith}
+use Rattle.std.proofs.Common.{◌≡◌, ◌≤◌, ◌<◌, ◌⊎◌, inl, inr, ℕ, List, length, Option, Some, None, Result, Ok, Err, IfSome, refl, sym, ap, ◌∙◌, subst, arith}
 use Rattle.std.specs.Prelude.{IsErrAnd, ◌≢◌}
 use Rattle.hol_io.specs.declared.name.BlobName.{BlobName}
 use Rattle.hol_io.specs.Store.{Store, told}
@@ -9,7 +9,7 @@ use Rattle.schema_model.specs.Limit.{number_of_limit}
 use Rattle.blob_frame.specs.declared.fault.BlobFault.{BlobFault}
 use Rattle.blob_frame.specs.declared.fault.BlobFault.TheVariants as fault
 use Rattle.blob_frame.specs.declared.header.Header.{Header}
-use Rattle.blob_frame.specs.Header.{HasHeader, HeaderIs, StuckInHeader, header}
+use Rattle.blob_frame.specs.Header.{HeaderIs, StuckInHeader, header}
 use Rattle.blob_cursor.specs.Scene.{IsFree}
 use Rattle.snapshot_blob.specs.Parts.{snapshot}
 use Rattle.snapshot_blob.specs.Snapshot.{IsUnstated}
@@ -17,7 +17,6 @@ use Rattle.snapshot_blob.specs.Stated.{AreAccepted}
 use Rattle.snapshot_blob.specs.declared.part.TypePart.{TypePart}
 use Rattle.delta_blob.specs.declared.part.DeltaPart.{DeltaPart}
 use Rattle.delta_blob.specs.Parts.{body}
-use Rattle.delta_blob.specs.Reads.{IsBehind}
 use Rattle.read_engine.specs.Position.{IsPosition, Position}
 use Rattle.read_engine.specs.Taking.{IsUntaken, LoadsExactly, LoadsFrom, RefusesLoad, RefusesStep, StepsBy, StepsExactly, TellsLoad, TellsStand, TellsStep}
 use Rattle.read_engine.proofs.SteppedOnce.{stepped_once}

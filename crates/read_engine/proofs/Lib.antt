@@ -10,3 +10,4 @@ mod SteppedOnce
 mod StepsTold
 mod Patches
 mod Taken
+mod Walkers

@@ -35,10 +35,10 @@ use Rattle.delta_blob.specs.declared.patch.Patch.{Patch}
 use Rattle.delta_blob.specs.declared.patch.PatchPart.{PatchPart}
 use Rattle.delta_blob.specs.Fits.{Fits, FitsTable, HoldsTable}
 use Rattle.delta_blob.specs.Moved.{EachNamed, IsUnnamed, Moved, MovesType}
-use Rattle.delta_blob.specs.Parts.{body, delta}
+use Rattle.delta_blob.specs.Parts.{body}
 use Rattle.delta_blob.specs.Patch.{PartIs, TypePatch}
 use Rattle.delta_blob.specs.Reads.{HasNoPatch, HasOtherTypes, IsBehind, IsCountLimit, IsDeltaFault, IsOfModel, IsPatchAt, KeepsCounts, TellsDelta}
-use Rattle.delta_blob.specs.Within.{IsTypeWithin, Within}
+use Rattle.delta_blob.specs.Within.{IsTypeWithin}
 use Rattle.state_moves.specs.Past.{PastPart, no_part}
 use Rattle.state_moves.specs.declared.fault.MoveFault.{MoveFault}
 use Rattle.state_moves.specs.declared.fault.MoveFault.TheVariants as move_fault

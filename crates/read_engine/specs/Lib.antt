@@ -6,3 +6,4 @@ pub mod Position
 pub mod Standing
 pub mod Taken
 pub mod Taking
+pub mod Walking

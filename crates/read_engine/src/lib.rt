@@ -9,6 +9,8 @@ pub mod laws;
 mod load;
 mod stand;
 mod step;
+mod walker;
 
 pub use consumer::Consumer;
 pub use fault::IndexFault;
+pub use walker::Walker;

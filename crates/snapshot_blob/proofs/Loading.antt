@@ -1,16 +1,24 @@
 -- The states that a snapshot's types were loaded into, one after another.
 use Rattle.std.proofs.Common.{◌≡◌, ◌≤◌, ◌<◌, ◌+◌, ℕ, zero, suc, List, [], ◌∷◌, ◌++◌, Some, length, get_or, take, map, sym, ◌∙◌, ap, subst, append_assoc, append-nil, arith}
-use Rattle.std.specs.FinMap.{get}
-use Rattle.std.specs.List.{AllZip}
+use Rattle.std.specs.Prelude.{IsSome}
+use Rattle.std.specs.FinMap.{get, keys}
+use Rattle.std.specs.List.{All, AllZip}
+use Rattle.std.proofs.lemmas.Bool.{false≢true}
+use Rattle.std.proofs.lemmas.List.Elements.{All-head, All-tail}
 use Rattle.std.proofs.lemmas.List.{take_more, take_all, map-append, length-map}
 use Rattle.std.proofs.lemmas.Slice.Zip.{all_zipped_more}
+use Rattle.ordinal_set.specs.Ordinals.{bound_of}
+use Rattle.schema_model.specs.declared.limit.Limit.TheVariants.{Ordinals}
 use Rattle.schema_model.specs.declared.schema.Schema.{Schema}
+use Rattle.schema_model.specs.Limit.{number_of_limit}
 use Rattle.row_model.specs.declared.row.Row.{Row}
 use Rattle.schema_model.specs.Model.{IsModel}
 use Rattle.row_model.specs.Row.{FitsShape, IsRowInRange}
-use Rattle.row_model.specs.Table.{EachRow, IsClosed}
+use Rattle.row_model.specs.Table.{EachRow, IsClosed, IsLive}
 use Rattle.type_state.specs.State.{State, IsLaidOut, empty_half}
 use Rattle.type_state.specs.Views.{AreNext, next_halves, table_of}
+use Rattle.type_rows.specs.Layout.{places_of}
+use Rattle.type_rows.proofs.Entries.{below_bound}
 use Rattle.type_rows.proofs.SectionRows.{rows_fit, rows_range}
 use Rattle.snapshot_blob.specs.declared.part.TypePart.{TypePart}
 use Rattle.snapshot_blob.specs.Body.{IsWholeBody}
@@ -69,12 +77,35 @@ loaded_accepted parts states schemas named model loaded closed = (
   zip_right IsLoadedFrom IsLoadedFrom KeepsTypeLimits (λ state. state.other) (λ part state one also. record { counts = record { ordinals = one.readable.few; items = one.readable.items }; kept = one.loads.within }) parts states loaded loaded,
 )
 
+-- the bound of ordinals that are all below a number
+bound_low : (ordinals : List ℕ) (limit : ℕ) → All (λ ordinal. ordinal < limit) ordinals → bound_of ordinals ≤ limit
+unfolding bound_of
+bound_low [] limit low = omega arith
+bound_low (o ∷ os) limit low = omega (arith, All-head (λ ordinal. ordinal < limit) o os low, bound_low os limit (All-tail (λ ordinal. ordinal < limit) o os low))
+
+-- the ordinals of a loaded type are below its places, which keep the limit
+low_type : (part : TypePart) (state : State) (ordinal : ℕ) → IsLoadedFrom part state → IsSome (get state.other.rows ordinal) → ordinal < number_of_limit Ordinals
+low_type part state ordinal loaded live =
+    let places : All (λ o. o < places_of part.section.max) (keys state.other.rows) = subst (λ os. All (λ o. o < places_of part.section.max) os) (sym loaded.loads.is.live) loaded.loads.is.places in
+    let bound = bound_low (keys state.other.rows) (places_of part.section.max) places in
+    let below = below_bound state.other.rows ordinal live in
+    omega (arith, bound, below, loaded.readable.few)
+
+low_types : (parts : List TypePart) (states : List State) → AllZip IsLoadedFrom parts states → (type_index ordinal : ℕ) → IsLive (table_of (next_halves states)) type_index ordinal
+    → ordinal < number_of_limit Ordinals
+low_types [] [] loaded type_index ordinal live = absurd (false≢true live)
+low_types [] (state ∷ states) loaded type_index ordinal live = absurd loaded
+low_types (part ∷ parts) [] loaded type_index ordinal live = absurd loaded
+low_types (part ∷ parts) (state ∷ states) loaded zero ordinal live = low_type part state ordinal loaded.0 live
+low_types (part ∷ parts) (state ∷ states) loaded (suc type_index) ordinal live = low_types parts states loaded.1 type_index ordinal live
+
 -- the whole of a body
 pub loaded_whole : (parts : List TypePart) (states : List State) (schemas : List Schema) → schemas ≡ schemas_of parts → AllZip IsLoadedFrom parts states
     → IsClosed schemas (table_of (next_halves states)) → IsWholeBody (record { model = schemas; states = states })
 loaded_whole parts states schemas named loaded closed = record {
   next = loaded_next parts states schemas named loaded;
   closed = closed;
+  low = low_types parts states loaded;
   current = zip_second IsLoadedFrom (λ state. state.current ≡ empty_half) (λ part state one. one.current) parts states loaded;
 }
 

@@ -3,8 +3,10 @@ ghost use Rattle.std.specs.Prelude.{◌≡◌, ◌≤◌, ◌⊎◌, List, ℕ, 
 ghost use Rattle.schema_model.specs.declared.limit.Limit.TheVariants.{Blob};
 ghost use Rattle.schema_model.specs.declared.schema.Schema.{Schema};
 ghost use Rattle.schema_model.specs.Limit.{number_of_limit};
+ghost use Rattle.row_model.specs.Row.{stored_row};
+ghost use Rattle.row_model.specs.Table.{EachRow};
 ghost use Rattle.type_state.specs.State.{Half};
-ghost use Rattle.type_state.specs.Views.{next_halves};
+ghost use Rattle.type_state.specs.Views.{next_halves, table_of};
 ghost use Rattle.blob_grammar.specs.Decided.{EachPlace, IsDecided};
 ghost use Rattle.blob_frame.specs.declared.fault.BlobFault.{BlobFault};
 ghost use Rattle.blob_frame.specs.declared.header.Header.{Header};
@@ -45,4 +47,10 @@ pub fn header_and_body()
     ensures accepted { (blob : List ℕ) (head : Header) (n : ℕ) (found : Body) → HeaderIs blob n head → length blob ≤ number_of_limit Blob → TellsBody blob n (Ok found)
         → IsAccepted blob head found.model (next_halves found.states) }
     ensures refused { (blob : List ℕ) (head : Header) (n : ℕ) (fault : BlobFault) → HeaderIs blob n head → TellsBody blob n (Err fault) → IsFree fault ⊎ IsRefused blob }
+{}
+
+/// The rows of a snapshot hold no least INT or LONG: each is the row that a blob holds in its place.
+pub fn stored_rows()
+    ensures { (blob : List ℕ) (head : Header) (parts : List TypePart) (schemas : List Schema) (halves : List Half) → SnapshotIs blob head parts schemas halves
+        → EachRow schemas (table_of halves) (λ schema row. stored_row row ≡ row) }
 {}

@@ -1,7 +1,6 @@
 use Rattle.std.proofs.Common.{◌≡◌, ◌⊎◌, ℤ, List, Some, Ok, Err, IfSome, ◌∙◌, w64, of_z, to_z, ap, sym, subst, arith, rules}
 use Rattle.std.specs.Prelude.{All}
 use Rattle.std.proofs.lemmas.Int.{ints, to_z-of_z}
-use Rattle.delta_blob.specs.declared.patch.Patch.{Patch}
 use Rattle.delta_blob.specs.declared.patch.PatchPart.{PatchPart}
 use Rattle.delta_blob.specs.Reads.{IsWholePart, TellsDelta}
 use Rattle.hol_io.specs.Store.{told}

@@ -1,0 +1,179 @@
+//! A consumer that walks along a chain.
+ghost use Rattle.std.specs.Prelude.{◌≡◌, ◌≢◌, ◌≤◌, ◌<◌, Err, IfSome, IsSome, MatchOption, None};
+ghost use Rattle.hol_io.specs.Causes.{Rose};
+ghost use Rattle.chain_check.specs.Walk.{name_of_step};
+ghost use Rattle.read_engine.specs.Position.{IsPosition};
+ghost use Rattle.read_engine.specs.Taking.{IsStepName};
+ghost use Rattle.read_engine.specs.Walking.{WalksLoad, WalksStep, schemas_at, table_at};
+
+use crate::Consumer;
+use blob_frame::BlobFault;
+use chain_check::Walk;
+use hol_io::{BlobName, BlobStore, Steps};
+use row_model::{Row, Rows};
+use schema_model::Model;
+use state_moves::Now;
+use std::alloc::{AllocError, Global};
+use std::marker::Brand;
+use std::sync::ledger::{Blank, Ledger};
+
+/// A consumer that walks along a chain. Until a load is answered Ok it has no types, and its tag is 0.
+#[derive(Drop)]
+pub struct Walker {
+    consumer: Consumer,
+    no_types: Model,
+}
+
+impl std::marker::Model for Walker {
+    ghost use Rattle.std.specs.Prelude.{◌≡◌, [], Option};
+    ghost use Rattle.std.specs.Coded.{coded_option};
+    ghost use Rattle.read_engine.specs.Position.{Position, position_code};
+
+    ghost Value = { Option Position };
+
+    ghost coded = { coded_option position_code };
+
+    ghost view = { λ w. w.consumer };
+
+    ghost invariant = { λ w. w.no_types ≡ [] };
+}
+
+impl Walker {
+    /// A walker that has no state. It takes no memory.
+    pub fn new(alloc: Global) -> Walker
+        ensures { result ≡ None }
+    {
+        Walker {
+            consumer: Consumer::new(alloc),
+            no_types: Model::none(alloc),
+        }
+    }
+
+    // The rows of its state, if it has one.
+    fn rows(&self) -> Option<Now<'_>>
+        ensures rows { MatchOption result (self.now ≡ None) (λ rows. (rows.schemas ≡ schemas_at self.now) × (rows.table ≡ table_at self.now)) }
+        ensures position { IfSome self.now IsPosition }
+    {
+        match self.consumer.tag() {
+            Some(_) => Some(self.consumer.now()),
+            None => None,
+        }
+    }
+}
+
+impl Rows for Walker {
+    ghost use Rattle.read_engine.specs.Walking.{schemas_at, table_at};
+
+    ghost schemas = { schemas_at };
+
+    ghost table = { table_at };
+
+    fn model(&self) -> &Model {
+        let _rows = self.rows();
+        match self.consumer.model() {
+            Some(model) => model,
+            None => &self.no_types,
+        }
+    }
+
+    fn bound(&self, type_index: u32) -> u32 {
+        match self.rows() {
+            Some(rows) => rows.bound(type_index),
+            None => 0,
+        }
+    }
+
+    fn is_live(&self, type_index: u32, ordinal: u32) -> bool {
+        match self.rows() {
+            Some(rows) => rows.is_live(type_index, ordinal),
+            None => false,
+        }
+    }
+
+    fn row(&self, alloc: Global, type_index: u32, ordinal: u32) -> Result<Row, AllocError> {
+        match self.rows() {
+            Some(rows) => rows.row(alloc, type_index, ordinal),
+            None => unreachable!(),
+        }
+    }
+}
+
+impl Walk for Walker {
+    ghost use Rattle.std.specs.Prelude.{◌≡◌, IsSome};
+    ghost use Rattle.blob_frame.specs.declared.fault.BlobFault.TheVariants.{Store as store_failed};
+    ghost use Rattle.read_engine.specs.Walking.{WalksLoad, WalksStep, loads_once, steps_once, tag_at};
+
+    type Fault = BlobFault;
+
+    ghost tag = { tag_at };
+
+    ghost is_loaded = { IsSome };
+
+    ghost loads = { WalksLoad };
+
+    ghost steps = { WalksStep };
+
+    ghost is_failure = { λ fault. fault ≡ store_failed };
+
+    ghost one_load = { loads_once };
+
+    ghost one_step = { steps_once };
+
+    fn walk_load<S: BlobStore>(&mut self, store: &mut S, version: u64) -> Result<(), BlobFault> {
+        self.consumer.load(store, version)
+    }
+
+    fn walk_step<S: BlobStore>(
+        &mut self,
+        store: &mut S,
+        from: u64,
+        to: u64,
+    ) -> Result<(), BlobFault> {
+        step_along::<S, Brand>(Blank::new(1), self, store, from, to)
+    }
+
+    fn walk_tag(&self) -> i64 {
+        match self.consumer.tag() {
+            Some(tag) => tag,
+            None => 0,
+        }
+    }
+}
+
+// A step of a walker that has a state. The steps of its indexes, of which it keeps none, are counted on a blank that nobody reads.
+fn step_along<S: BlobStore, L: Ledger>(
+    blank: Blank,
+    walker: &mut Walker,
+    store: &mut S,
+    from: u64,
+    to: u64,
+) -> Result<(), BlobFault>
+    requires ledger { blank.name ≡ L.name }
+    requires parts { blank.parts ≡ L.parts }
+    requires some { 0 < blank.parts }
+    requires loaded { IsSome walker.old }
+    requires apart { from ≢ to }
+    ensures steps { WalksStep (S.seen store.old).held from to walker.old walker.new result }
+    ensures still { IsSome walker.new }
+    ensures cause { result ≡ Err BlobFault.Store → Rose (S.seen store.old).faults (S.seen store.new).faults }
+    ensures kept { (S.seen store.new).held ≡ (S.seen store.old).held }
+    ensures later { (S.seen store.old).faults ≤ (S.seen store.new).faults }
+    ensures unput { (S.seen store.new).puts ≡ (S.seen store.old).puts }
+{
+    let mut steps = Steps::<L>::new(blank);
+    walker
+        .consumer
+        .step(store, &step_name(from, to), &mut steps)
+}
+
+// The blob that leads from a version to another one.
+fn step_name(from: u64, to: u64) -> BlobName
+    ensures name { result ≡ name_of_step from to }
+    ensures step { IsStepName result }
+{
+    if from < to {
+        BlobName::Delta(from, to)
+    } else {
+        BlobName::Reverse(from, to)
+    }
+}
