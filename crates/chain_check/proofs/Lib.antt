@@ -4,4 +4,3 @@ mod ModelsApart
 pub mod OnePlace
 mod Passing
 mod RowsApart
-mod SameLists

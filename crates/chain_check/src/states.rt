@@ -4,7 +4,7 @@ ghost use Rattle.row_model.specs.Table.{IsLive, IsTableOf, row_at};
 ghost use Rattle.chain_check.specs.Compare.{FirstOtherOrdinal, FirstOtherRow};
 
 use crate::RowPlace;
-use crate::same_row::same_row;
+use row_hash::same_row;
 use row_model::Rows;
 use std::alloc::{AllocError, Global};
 

@@ -1,27 +1,26 @@
--- Slots and index stay in agreement, and what they say of the two states.
+-- Slots and chains stay in agreement, and what they say of the two states.
 use Rattle.std.proofs.Common.{◌≡◌, ℕ, zero, suc, ◌+◌, ◌<◌, ◌≤◌, ◌^◌, Bool, true, false, cond, List, [], ◌∷◌, ◌++◌, Option, Some, None, map, length, refl, sym, ap, subst, ◌∙◌, inl, inr, arith, ◌⊎◌, max, append_assoc}
-use Rattle.std.specs.Prelude.{◌≢◌, ◌||◌, Result, Ok, Err, IsErrAnd, replicate, slice_set, slice_index_or, IsSome, IsSomeAnd, is_some, MatchBool, IsTrue, ◌↔◌}
+use Rattle.std.specs.Prelude.{◌≢◌, ◌||◌, Result, Ok, Err, IsErrAnd, replicate, slice_set, slice_index_or, IsSome, option_map, option_and_then, nat_eq, is_some, MatchBool, IsTrue, ◌↔◌}
 use Rattle.std.specs.List.{list_any}
 use Rattle.std.specs.FinMap.{get, insert, empty, get-empty}
 use Rattle.std.specs.Ordering.{nat_cmp}
 use Rattle.std.proofs.lemmas.Option.{slice_get_read}
-use Rattle.std.specs.Str.{bytes_eq}
-use Rattle.std.proofs.lemmas.Bool.{cases_eq, cases_lt, cases_Bool}
+use Rattle.std.proofs.lemmas.Bool.{cases_eq, cases_lt}
 use Rattle.std.proofs.lemmas.List.{append-nil, length-append, replicate_more}
-use Rattle.std.proofs.lemmas.Slice.Eq.{bytes_eq-Decides}
 use Rattle.row_model.specs.declared.row.Row.{Row}
 use Rattle.row_model.specs.Table.{RowMap}
 use Rattle.ordinal_map.specs.Assign.{Holds, IsTaken, Agree, IsPast, IsLeast, IsPut, TellsPut}
-use Rattle.row_model.specs.RowKey.{row_key}
+use Rattle.linked_slots.specs.Chained.{Chained, hash_of}
+use Rattle.linked_slots.proofs.Tests.{same_test, other_test}
+use Rattle.row_hash.specs.Hash.{row_hash}
 use Rattle.ordinal_map.specs.declared.fault.PutRowFault.{PutRowFault}
 use Rattle.ordinal_map.specs.declared.fault.PutRowFault.TheVariants.{TooMany, Memory}
 use Rattle.ordinal_map.specs.declared.fault.RestoreRowFault.TheVariants.{Equal}
 use Rattle.ordinal_map.specs.Restored.{TellsRestore}
 use Rattle.ordinal_map.specs.States.{States}
-use Rattle.ordinal_map.specs.Slots.{Extends, changed, rows_of, row_in, ordinal_of, kept_ordinal, AreKept, any_row, previous_row, current_row, entered, advanced, undone}
+use Rattle.ordinal_map.specs.Slots.{Extends, changed, rows_of, row_in, Finds, IsRoomy, AreHashed, kept_hash, kept_at, AreKept, any_row, previous_row, current_row, entered, advanced, undone}
 use Rattle.ordinal_map.specs.declared.slot.Slot.{Slot}
 use Rattle.ordinal_map.specs.declared.slot.Slot.TheVariants.{Free, Previous, Current, Both}
-use Rattle.row_model.proofs.OneKey.{row_once}
 use Rattle.ordinal_map.proofs.SlotRows.{same_rows, get_rows, row_set, row_beside, row_kept, rows_kept, rows_put, row_padded, rows_mapped, rows_dropped, rows_of_no_slots, length_set, get_inserted, get_beside, in_previous, in_current, in_either, inside, previous_advanced, current_advanced, previous_undone, current_undone, previous_entered, current_entered, any_entered, any_advanced, any_undone, row_of_slot}
 
 -- ---- what the slots say of the two states
@@ -93,41 +92,25 @@ past_put rows bound after o row past is = record {
 
 -- ---- the invariant
 
-module _ (slots : List Slot) (index : List (List ℕ × ℕ)) (filled before now : ℕ) (kept : AreKept slots index filled before now) where
-  same_ordinal : (a b : ℕ) → Some a ≡ Some b → a ≡ b
-  same_ordinal a b e = cc
-
+module _ (slots : List Slot) (chains : Chained) (filled before now : ℕ) (kept : AreKept slots chains filled before now) where
   pub agree : Agree (rows_of previous_row slots) (rows_of current_row slots)
   agree = record {
-    one_ordinal = λ row a b here there. same_ordinal a b (sym (kept.finds a row (held slots row a here)) ∙ kept.finds b row (held slots row b there));
+    one_ordinal = λ row a b here there. kept.once row a b (held slots row a here) (held slots row b there);
     one_row = λ o a b here there. (let e : Some a ≡ Some b = sym (held slots a o here) ∙ held slots b o there in cc);
     low = λ o live. (let row = some_row _ (taken_in slots o live) in let within = inside any_row slots o row.0 row.1 in omega (arith, within, kept.few));
   }
 
-  found_row : (key : List ℕ) (row : Option Row) → IsSomeAnd row (λ r. row_key r ≡ key) → (r : Row) × (row ≡ Some r) × (row_key r ≡ key)
-  found_row key None h = absurd h
-  found_row key (Some r) h = (r, refl, h)
-
-  -- the row whose key the index has is under its ordinal
-  pub stands : (row : Row) (o : ℕ) → ordinal_of index (row_key row) ≡ Some o → row_in any_row slots o ≡ Some row
-  stands row o is =
-      let found = found_row (row_key row) (row_in any_row slots o) (kept.found (row_key row) o is) in
-      found.1 ∙ ap Some (row_once found.0 row found.2)
-
-  pub stands_within : (row : Row) (o : ℕ) → ordinal_of index (row_key row) ≡ Some o → o < length slots
-  stands_within row o is = inside any_row slots o row (stands row o is)
-
-  -- the row whose key the index has not is under no ordinal
-  pub absent : (row : Row) (o : ℕ) → ordinal_of index (row_key row) ≡ None → Holds (rows_of previous_row slots) (rows_of current_row slots) row o → ⊥
-  absent row o none here = let e = sym none ∙ kept.finds o row (held slots row o here) in absurd cc
+  -- a row that stands nowhere is in neither state
+  pub absent : (row : Row) (o : ℕ) → ((q : ℕ) → row_in any_row slots q ≡ Some row → ⊥) → Holds (rows_of previous_row slots) (rows_of current_row slots) row o → ⊥
+  absent row o none here = none o (held slots row o here)
 
   pub least : (o : ℕ) → row_in any_row slots o ≡ None → ((q : ℕ) → q < o → IsSome (row_in any_row slots q)) → IsLeast (rows_of previous_row slots) (rows_of current_row slots) o
   least o free below = record { free = (free_in slots o free).0; free_now = (free_in slots o free).1; below = λ q lower. is_taken slots q (below q lower) }
 
   -- a row that stands enters the current state
-  module _ (row : Row) (o : ℕ) (slot : Slot) (after : ℕ) (found : ordinal_of index (row_key row) ≡ Some o) (is : row_in any_row slots o ≡ any_row slot) (was : row_in previous_row slots o ≡ previous_row slot) (bound : after ≡ max now (o + 1)) where
+  module _ (row : Row) (o : ℕ) (slot : Slot) (after : ℕ) (stand : row_in any_row slots o ≡ Some row) (is : row_in any_row slots o ≡ any_row slot) (was : row_in previous_row slots o ≡ previous_row slot) (bound : after ≡ max now (o + 1)) where
     entered_within : o < length slots
-    entered_within = stands_within row o found
+    entered_within = inside any_row slots o row stand
 
     entered_any : (q : ℕ) → row_in any_row (slice_set slots o (entered slot)) q ≡ row_in any_row slots q
     entered_any = row_kept any_row slots o (entered slot) entered_within (any_entered slot ∙ sym is)
@@ -136,58 +119,52 @@ module _ (slots : List Slot) (index : List (List ℕ × ℕ)) (filled before now
     entered_previous = rows_kept previous_row slots o (entered slot) entered_within (previous_entered slot ∙ sym was)
 
     pub entered_current : rows_of current_row (slice_set slots o (entered slot)) ≡ insert (rows_of current_row slots) o row
-    entered_current = rows_put current_row slots o (entered slot) row entered_within (current_entered slot ∙ sym is ∙ stands row o found)
+    entered_current = rows_put current_row slots o (entered slot) row entered_within (current_entered slot ∙ sym is ∙ stand)
 
-    pub entered_kept : AreKept (slice_set slots o (entered slot)) index filled before after
+    pub entered_kept : AreKept (slice_set slots o (entered slot)) chains filled before after
     entered_kept = record {
       few = subst (λ n. n ≤ 2 ^ 22) (sym (length_set slots o (entered slot))) kept.few;
-      finds = λ q r here. kept.finds q r (sym (entered_any q) ∙ here);
-      found = λ key q here. subst (λ row. IsSomeAnd row (λ r. row_key r ≡ key)) (sym (entered_any q)) (kept.found key q here);
+      roomy = kept.roomy;
+      hashed = λ q. kept.hashed q ∙ ap (option_map row_hash) (sym (entered_any q));
+      once = λ r a b here there. kept.once r a b (sym (entered_any a) ∙ here) (sym (entered_any b) ∙ there);
       within = subst (λ n. filled ≤ n) (sym (length_set slots o (entered slot))) kept.within;
       taken = λ q below. subst IsSome (sym (entered_any q)) (kept.taken q below);
       past_previous = subst (λ rows. IsPast rows before) (sym entered_previous) kept.past_previous;
       past_current = subst (λ rows. IsPast rows after) (sym entered_current) (past_put (rows_of current_row slots) now after o row kept.past_current bound);
     }
 
-  -- a row that the index has not comes to stand in the slot of a free ordinal
-  module _ (row : Row) (o : ℕ) (slot : Slot) (index' : List (List ℕ × ℕ)) (within : o < length slots) (is : any_row slot ≡ Some row) (none : ordinal_of index (row_key row) ≡ None) (free : row_in any_row slots o ≡ None)
-      (indexed : (other : List ℕ) → ordinal_of index' other ≡ cond (bytes_eq (row_key row) other) (Some o) (ordinal_of index other)) where
+  -- a row that stands nowhere comes to stand in the slot of a free ordinal
+  module _ (row : Row) (o : ℕ) (slot : Slot) (chains' : Chained) (within : o < length slots) (is : any_row slot ≡ Some row) (none : (q : ℕ) → row_in any_row slots q ≡ Some row → ⊥) (free : row_in any_row slots o ≡ None)
+      (linked : (q : ℕ) → hash_of chains' q ≡ cond (nat_eq q o) (Some (row_hash row)) (hash_of chains q)) where
     here_any : row_in any_row (slice_set slots o slot) o ≡ Some row
     here_any = row_set any_row slots o slot within ∙ is
 
-    key_here : ordinal_of index' (row_key row) ≡ Some o
-    key_here = indexed (row_key row) ∙ ap (λ b. cond b (Some o) (ordinal_of index (row_key row))) ((bytes_eq-Decides (row_key row) (row_key row)).1 refl)
+    here_at : (q : ℕ) → q ≡ o → row_in any_row (slice_set slots o slot) q ≡ Some row
+    here_at q e = ap (row_in any_row (slice_set slots o slot)) e ∙ here_any
 
-    key_beside : (r : Row) (q : ℕ) → ordinal_of index (row_key r) ≡ Some q → ordinal_of index' (row_key r) ≡ Some q
-    key_beside r q is =
-        elim (cases_Bool (bytes_eq (row_key row) (row_key r))) [
-          | inl same ↦ (let e = sym none ∙ ap (ordinal_of index) ((bytes_eq-Decides (row_key row) (row_key r)).0 same) ∙ is in absurd cc)
-          | inr differs ↦ indexed (row_key r) ∙ ap (λ b. cond b (Some o) (ordinal_of index (row_key r))) differs ∙ is
-        ]
-
-    come_finds : (q : ℕ) (r : Row) → row_in any_row (slice_set slots o slot) q ≡ Some r → ordinal_of index' (row_key r) ≡ Some q
-    come_finds q r here =
+    come_hashed : AreHashed (slice_set slots o slot) chains'
+    come_hashed q =
         elim (cases_eq q o) [
-          | inl e ↦ (let same : Some r ≡ Some row = sym here ∙ ap (row_in any_row (slice_set slots o slot)) e ∙ here_any in
-              let is : row ≡ r = cc in
-              subst (λ n. ordinal_of index' (row_key r) ≡ Some n) (sym e) (subst (λ x. ordinal_of index' (row_key x) ≡ Some o) is key_here))
-          | inr apart ↦ key_beside r q (kept.finds q r (sym (row_beside any_row slots o q slot apart) ∙ here))
+          | inl e ↦ linked q ∙ same_test q o _ _ e ∙ ap (option_map row_hash) (sym (here_at q e))
+          | inr apart ↦ linked q ∙ other_test q o _ _ apart ∙ kept.hashed q ∙ ap (option_map row_hash) (sym (row_beside any_row slots o q slot apart))
         ]
 
-    come_found : (key : List ℕ) (q : ℕ) → ordinal_of index' key ≡ Some q → IsSomeAnd (row_in any_row (slice_set slots o slot) q) (λ r. row_key r ≡ key)
-    come_found key q here =
-        elim (cases_Bool (bytes_eq (row_key row) key)) [
-          | inl same ↦
-              (let e : Some q ≡ Some o = sym here ∙ indexed key ∙ ap (λ b. cond b (Some o) (ordinal_of index key)) same in
-              let is : q ≡ o = cc in
-              subst (λ n. IsSomeAnd (row_in any_row (slice_set slots o slot) n) (λ r. row_key r ≡ key)) (sym is)
-              (subst (λ r. IsSomeAnd r (λ r. row_key r ≡ key)) (sym here_any) ((bytes_eq-Decides (row_key row) key).0 same)))
-          | inr differs ↦
-              (let old : ordinal_of index key ≡ Some q = ap (λ b. cond b (Some o) (ordinal_of index key)) (sym differs) ∙ sym (indexed key) ∙ here in
-              let there = found_row key (row_in any_row slots q) (kept.found key q old) in
-              let apart : q ≡ o → ⊥ = λ e. (let f = sym there.1 ∙ ap (row_in any_row slots) e ∙ free in absurd cc) in
-              subst (λ r. IsSomeAnd r (λ r. row_key r ≡ key)) (sym (row_beside any_row slots o q slot apart)) (kept.found key q old))
+    -- what stands there then is the row itself, or stood before
+    come_parted : (r : Row) (q : ℕ) → row_in any_row (slice_set slots o slot) q ≡ Some r → ((r ≡ row) × (q ≡ o)) ⊎ (row_in any_row slots q ≡ Some r)
+    come_parted r q here =
+        elim (cases_eq q o) [
+          | inl e ↦ inl ((let same : Some r ≡ Some row = sym here ∙ here_at q e in cc), e)
+          | inr apart ↦ inr (sym (row_beside any_row slots o q slot apart) ∙ here)
         ]
+
+    come_once : (r : Row) (a b : ℕ) → row_in any_row (slice_set slots o slot) a ≡ Some r → row_in any_row (slice_set slots o slot) b ≡ Some r → a ≡ b
+    come_once r a b here there = both (come_parted r a here) (come_parted r b there)
+      where
+        both : ((r ≡ row) × (a ≡ o)) ⊎ (row_in any_row slots a ≡ Some r) → ((r ≡ row) × (b ≡ o)) ⊎ (row_in any_row slots b ≡ Some r) → a ≡ b
+        both (inl it) (inl it') = it.1 ∙ sym it'.1
+        both (inl it) (inr stood) = absurd (none b (stood ∙ ap Some it.0))
+        both (inr stood) (inl it) = absurd (none a (stood ∙ ap Some it.0))
+        both (inr stood) (inr stood') = kept.once r a b stood stood'
 
     -- a state that the slot does not put the row into keeps its rows
     come_kept : (read : Slot → Option Row) → ((slots : List Slot) (o : ℕ) (row : Row) → row_in read slots o ≡ Some row → row_in any_row slots o ≡ Some row) → read slot ≡ None → rows_of read (slice_set slots o slot) ≡ rows_of read slots
@@ -198,24 +175,25 @@ module _ (slots : List Slot) (index : List (List ℕ × ℕ)) (filled before now
         free_row (Some r) h = absurd (h r refl)
 
   -- a new row enters the current state
-  module _ (row : Row) (o : ℕ) (index' : List (List ℕ × ℕ)) (after : ℕ) (within : o < length slots) (none : ordinal_of index (row_key row) ≡ None) (free : row_in any_row slots o ≡ None)
+  module _ (row : Row) (o : ℕ) (chains' : Chained) (after : ℕ) (within : o < length slots) (none : (q : ℕ) → row_in any_row slots q ≡ Some row → ⊥) (free : row_in any_row slots o ≡ None)
       (below : (q : ℕ) → q < o → IsSome (row_in any_row slots q))
-      (indexed : (other : List ℕ) → ordinal_of index' other ≡ cond (bytes_eq (row_key row) other) (Some o) (ordinal_of index other)) (bound : after ≡ max now (o + 1)) where
+      (linked : (q : ℕ) → hash_of chains' q ≡ cond (nat_eq q o) (Some (row_hash row)) (hash_of chains q)) (roomy : IsRoomy chains') (bound : after ≡ max now (o + 1)) where
     pub new_previous : rows_of previous_row (slice_set slots o (Current row)) ≡ rows_of previous_row slots
-    new_previous = come_kept row o (Current row) index' within refl none free indexed previous_row in_previous refl
+    new_previous = come_kept row o (Current row) chains' within refl none free linked previous_row in_previous refl
 
     pub new_current : rows_of current_row (slice_set slots o (Current row)) ≡ insert (rows_of current_row slots) o row
     new_current = rows_put current_row slots o (Current row) row within refl
 
-    pub new_kept : AreKept (slice_set slots o (Current row)) index' (o + 1) before after
+    pub new_kept : AreKept (slice_set slots o (Current row)) chains' (o + 1) before after
     new_kept = record {
       few = subst (λ n. n ≤ 2 ^ 22) (sym (length_set slots o (Current row))) kept.few;
-      finds = come_finds row o (Current row) index' within refl none free indexed;
-      found = come_found row o (Current row) index' within refl none free indexed;
+      roomy = roomy;
+      hashed = come_hashed row o (Current row) chains' within refl none free linked;
+      once = come_once row o (Current row) chains' within refl none free linked;
       within = subst (λ n. o + 1 ≤ n) (sym (length_set slots o (Current row))) (omega arith);
       taken = λ q lower.
           (elim (cases_eq q o) [
-            | inl e ↦ subst (λ n. IsSome (row_in any_row (slice_set slots o (Current row)) n)) (sym e) (is_some_row _ row (here_any row o (Current row) index' within refl none free indexed))
+            | inl e ↦ subst (λ n. IsSome (row_in any_row (slice_set slots o (Current row)) n)) (sym e) (is_some_row _ row (here_any row o (Current row) chains' within refl none free linked))
             | inr apart ↦ subst IsSome (sym (row_beside any_row slots o q (Current row) apart)) (below q (omega arith))
           ]);
       past_previous = subst (λ rows. IsPast rows before) (sym new_previous) kept.past_previous;
@@ -223,19 +201,20 @@ module _ (slots : List Slot) (index : List (List ℕ × ℕ)) (filled before now
     }
 
   -- a row comes back to the previous state
-  module _ (row : Row) (o : ℕ) (index' : List (List ℕ × ℕ)) (after : ℕ) (within : o < length slots) (none : ordinal_of index (row_key row) ≡ None) (free : row_in any_row slots o ≡ None)
-      (indexed : (other : List ℕ) → ordinal_of index' other ≡ cond (bytes_eq (row_key row) other) (Some o) (ordinal_of index other)) (bound : after ≡ max before (o + 1)) where
+  module _ (row : Row) (o : ℕ) (chains' : Chained) (after : ℕ) (within : o < length slots) (none : (q : ℕ) → row_in any_row slots q ≡ Some row → ⊥) (free : row_in any_row slots o ≡ None)
+      (linked : (q : ℕ) → hash_of chains' q ≡ cond (nat_eq q o) (Some (row_hash row)) (hash_of chains q)) (roomy : IsRoomy chains') (bound : after ≡ max before (o + 1)) where
     pub restored_previous : rows_of previous_row (slice_set slots o (Previous row)) ≡ insert (rows_of previous_row slots) o row
     restored_previous = rows_put previous_row slots o (Previous row) row within refl
 
     pub restored_current : rows_of current_row (slice_set slots o (Previous row)) ≡ rows_of current_row slots
-    restored_current = come_kept row o (Previous row) index' within refl none free indexed current_row in_current refl
+    restored_current = come_kept row o (Previous row) chains' within refl none free linked current_row in_current refl
 
-    pub restored_kept : AreKept (slice_set slots o (Previous row)) index' filled after now
+    pub restored_kept : AreKept (slice_set slots o (Previous row)) chains' filled after now
     restored_kept = record {
       few = subst (λ n. n ≤ 2 ^ 22) (sym (length_set slots o (Previous row))) kept.few;
-      finds = come_finds row o (Previous row) index' within refl none free indexed;
-      found = come_found row o (Previous row) index' within refl none free indexed;
+      roomy = roomy;
+      hashed = come_hashed row o (Previous row) chains' within refl none free linked;
+      once = come_once row o (Previous row) chains' within refl none free linked;
       within = subst (λ n. filled ≤ n) (sym (length_set slots o (Previous row))) kept.within;
       taken = λ q lower. subst IsSome (sym (row_beside any_row slots o q (Previous row) (λ e. not_free (row_in any_row slots o) free (subst (λ n. IsSome (row_in any_row slots n)) e (kept.taken q lower))))) (kept.taken q lower);
       past_previous = subst (λ rows. IsPast rows after) (sym restored_previous) (past_put (rows_of previous_row slots) before after o row kept.past_previous bound);
@@ -243,8 +222,8 @@ module _ (slots : List Slot) (index : List (List ℕ × ℕ)) (filled before now
     }
 
   -- all slots change, and each keeps its row or drops it
-  module _ (change : Slot → Slot) (keeps : (s : Slot) → (any_row (change s) ≡ None) ⊎ (any_row (change s) ≡ any_row s)) (index' : List (List ℕ × ℕ))
-      (indexed : (key : List ℕ) → ordinal_of index' key ≡ kept_ordinal (λ q. is_some (row_in any_row (map change slots) q)) (ordinal_of index key)) where
+  module _ (change : Slot → Slot) (keeps : (s : Slot) → (any_row (change s) ≡ None) ⊎ (any_row (change s) ≡ any_row s)) (chains' : Chained) (roomy : IsRoomy chains')
+      (linked : (q : ℕ) → hash_of chains' q ≡ kept_at (map change slots) q (hash_of chains q)) where
     row_after : (ss : List Slot) (q : ℕ) (row : Row) → row_in any_row (map change ss) q ≡ Some row → row_in any_row ss q ≡ Some row
     row_after [] q row e = absurd cc
     row_after (s ∷ ss) zero row e = elim (keeps s) [ inl none ↦ (let f = sym none ∙ e in absurd cc) | inr same ↦ sym same ∙ e ]
@@ -254,40 +233,40 @@ module _ (slots : List Slot) (index : List (List ℕ × ℕ)) (filled before now
     few_mapped [] = refl
     few_mapped (s ∷ ss) = ap suc (few_mapped ss)
 
-    kept_some : (test : ℕ → Bool) (found : Option ℕ) (q : ℕ) → kept_ordinal test found ≡ Some q → (found ≡ Some q) × (test q ≡ true)
-    kept_some test None q e = absurd cc
-    kept_some test (Some o) q e = passing (test o) refl e
+    kept_of_slot : (s : Slot) → kept_hash (change s) (option_map row_hash (any_row s)) ≡ option_map row_hash (any_row (change s))
+    kept_of_slot s = elim (keeps s) [
+      | inl none ↦ ap (option_and_then (λ _. option_map row_hash (any_row s))) none ∙ sym (ap (option_map row_hash) none)
+      | inr same ↦ ap (option_and_then (λ _. option_map row_hash (any_row s))) same ∙ there (any_row s) ∙ sym (ap (option_map row_hash) same)
+    ]
       where
-        passing : (b : Bool) → test o ≡ b → cond b (Some o) None ≡ Some q → (Some o ≡ Some q) × (test q ≡ true)
-        passing true is e = (e, (let same : o ≡ q = cc in ap test (sym same) ∙ is))
-        passing false is e = absurd cc
+        there : (row : Option Row) → option_and_then (λ _. option_map row_hash row) row ≡ option_map row_hash row
+        there None = refl
+        there (Some r) = refl
 
-    pub changed_kept : (before' now' : ℕ) → IsPast (rows_of previous_row (map change slots)) before' → IsPast (rows_of current_row (map change slots)) now' → AreKept (map change slots) index' 0 before' now'
+    hashes_after : (ss : List Slot) (q : ℕ) → kept_at (map change ss) q (option_map row_hash (row_in any_row ss q)) ≡ option_map row_hash (row_in any_row (map change ss) q)
+    hashes_after [] q = refl
+    hashes_after (s ∷ ss) zero = kept_of_slot s
+    hashes_after (s ∷ ss) (suc q) = hashes_after ss q
+
+    pub changed_kept : (before' now' : ℕ) → IsPast (rows_of previous_row (map change slots)) before' → IsPast (rows_of current_row (map change slots)) now' → AreKept (map change slots) chains' 0 before' now'
     changed_kept before' now' past past_now = record {
       few = subst (λ n. n ≤ 2 ^ 22) (sym (few_mapped slots)) kept.few;
-      finds = λ q r here.
-          (indexed (row_key r)
-          ∙ ap (kept_ordinal (λ q. is_some (row_in any_row (map change slots) q))) (kept.finds q r (row_after slots q r here))
-          ∙ ap (λ b. cond b (Some q) None) (is_some_row _ r here));
-      found = λ key q here.
-          (let both = kept_some (λ q. is_some (row_in any_row (map change slots) q)) (ordinal_of index key) q (sym (indexed key) ∙ here) in
-          let there = found_row key (row_in any_row slots q) (kept.found key q both.0) in
-          let row = some_row _ both.1 in
-          let e : Some row.0 ≡ Some there.0 = sym (row_after slots q row.0 row.1) ∙ there.1 in
-          let same : there.0 ≡ row.0 = cc in
-          subst (λ r. IsSomeAnd r (λ r. row_key r ≡ key)) (sym row.1) (ap row_key (sym same) ∙ there.2));
+      roomy = roomy;
+      hashed = λ q. linked q ∙ ap (kept_at (map change slots) q) (kept.hashed q) ∙ hashes_after slots q;
+      once = λ r a b here there. kept.once r a b (row_after slots a r here) (row_after slots b r there);
       within = omega arith;
       taken = λ q below. absurd (omega arith);
       past_previous = past;
       past_current = past_now;
     }
 
-pub kept_nothing : (slots : List Slot) (index : List (List ℕ × ℕ)) → slots ≡ [] → index ≡ [] → AreKept slots index 0 0 0
-kept_nothing slots index no_slots no_keys =
-    subst (λ ss. AreKept ss index 0 0 0) (sym no_slots) (subst (λ es. AreKept [] es 0 0 0) (sym no_keys) record {
+pub kept_nothing : (slots : List Slot) (chains : Chained) → slots ≡ [] → chains ≡ record { slots = 0; chains = [] } → AreKept slots chains 0 0 0
+kept_nothing slots chains no_slots no_links =
+    subst (λ ss. AreKept ss chains 0 0 0) (sym no_slots) (subst (λ (c : Chained). AreKept [] c 0 0 0) (sym no_links) record {
       few = omega arith;
-      finds = λ q r here. absurd cc;
-      found = λ key q here. absurd cc;
+      roomy = (omega arith, omega arith);
+      hashed = λ q. refl;
+      once = λ r a b here there. absurd cc;
       within = omega arith;
       taken = λ q below. absurd (omega arith);
       past_previous = past_none _ (rows_of_no_slots previous_row) (get_rows previous_row []);
@@ -312,12 +291,17 @@ extended_row read none slots more o extends q = ap (λ ss. row_in read ss q) ext
 extended_rows : (read : Slot → Option Row) → read Free ≡ None → (slots more : List Slot) (o : ℕ) → Extends slots o more → rows_of read more ≡ rows_of read slots
 extended_rows read none slots more o extends = same_rows _ _ (λ q. get_rows read more q ∙ extended_row read none slots more o extends q ∙ sym (get_rows read slots q))
 
-pub extended_kept : (slots more : List Slot) (o : ℕ) (index : List (List ℕ × ℕ)) (filled before now : ℕ) → Extends slots o more → o < 2 ^ 22 → AreKept slots index filled before now → AreKept more index filled before now
-extended_kept slots more o index filled before now extends low kept =
+pub extended_absent : (slots more : List Slot) (o : ℕ) (row : Row) → Extends slots o more → ((q : ℕ) → row_in any_row slots q ≡ Some row → ⊥) → (q : ℕ) → row_in any_row more q ≡ Some row → ⊥
+extended_absent slots more o row extends none q here = none q (sym (extended_row any_row refl slots more o extends q) ∙ here)
+
+pub extended_kept : (slots more : List Slot) (o : ℕ) (chains : Chained) (filled before now : ℕ) → Extends slots o more → o < 2 ^ 22 → AreKept slots chains filled before now → AreKept more chains filled before now
+extended_kept slots more o chains filled before now extends low kept =
     let long = ap length extends.padded ∙ length-append slots (replicate extends.count Free) in record {
       few = omega (arith, extends.short, kept.few, low);
-      finds = λ q r here. kept.finds q r (sym (extended_row any_row refl slots more o extends q) ∙ here);
-      found = λ key q here. subst (λ row. IsSomeAnd row (λ r. row_key r ≡ key)) (sym (extended_row any_row refl slots more o extends q)) (kept.found key q here);
+      roomy = kept.roomy;
+      hashed = λ q. kept.hashed q ∙ ap (option_map row_hash) (sym (extended_row any_row refl slots more o extends q));
+      once = λ r a b here there.
+          kept.once r a b (sym (extended_row any_row refl slots more o extends a) ∙ here) (sym (extended_row any_row refl slots more o extends b) ∙ there);
       within = omega (arith, kept.within, long);
       taken = λ q below. subst IsSome (sym (extended_row any_row refl slots more o extends q)) (kept.taken q below);
       past_previous = subst (λ rows. IsPast rows before) (sym (extended_rows previous_row refl slots more o extends)) kept.past_previous;
@@ -368,8 +352,8 @@ tells_changed slots false is = same_rows _ _ (λ q. get_rows current_row slots q
 abbrev pub states_of : List Slot → States
 states_of slots = record { previous = rows_of previous_row slots; current = rows_of current_row slots }
 
-pub agree_seen : (slots : List Slot) (index : List (List ℕ × ℕ)) (filled before now : ℕ) (states : States) → AreKept slots index filled before now → states_of slots ≡ states → Agree states.previous states.current
-agree_seen slots index filled before now states kept seen = subst (λ (s : States). Agree s.previous s.current) seen (agree slots index filled before now kept)
+pub agree_seen : (slots : List Slot) (chains : Chained) (filled before now : ℕ) (states : States) → AreKept slots chains filled before now → states_of slots ≡ states → Agree states.previous states.current
+agree_seen slots chains filled before now states kept seen = subst (λ (s : States). Agree s.previous s.current) seen (agree slots chains filled before now kept)
 
 -- whether a state has a row, by its slot
 pub has_seen : (read : Slot → Option Row) (slots : List Slot) (rows : RowMap) (o : ℕ) (answer : Bool) → rows_of read slots ≡ rows → answer ≡ is_some (row_in read slots o) → IsTrue answer ↔ IsSome (get rows o)
@@ -383,22 +367,37 @@ taken_seen slots states o seen taken = taken_in slots o (subst (λ (s : States).
 pub holds_seen : (slots : List Slot) (states : States) (o : ℕ) (row : Row) → states_of slots ≡ states → row_in any_row slots o ≡ Some row → Holds states.previous states.current row o
 holds_seen slots states o row seen is = subst (λ (s : States). Holds s.previous s.current row o) seen (holds slots row o is)
 
+-- ---- what a search tells
+
+pub found_at : (seen slots : List Slot) (row : Row) (found : Option ℕ) (o : ℕ) → seen ≡ slots → Finds seen row found → found ≡ Some o → row_in any_row slots o ≡ Some row
+found_at seen slots row None o same finds e = absurd cc
+found_at seen slots row (Some q) o same finds e = let place : q ≡ o = cc in ap (λ ss. row_in any_row ss o) (sym same) ∙ ap (row_in any_row seen) (sym place) ∙ finds
+
+pub found_none : (seen slots : List Slot) (row : Row) (found : Option ℕ) → seen ≡ slots → Finds seen row found → found ≡ None → (q : ℕ) → row_in any_row slots q ≡ Some row → ⊥
+found_none seen slots row None same finds e q here = finds q (ap (λ ss. row_in any_row ss q) same ∙ here)
+found_none seen slots row (Some o) same finds e q here = absurd cc
+
+pub hashed_seen : (seen slots : List Slot) (chains : Chained) → seen ≡ slots → AreHashed slots chains → AreHashed seen chains
+hashed_seen seen slots chains same hashed = subst (λ ss. AreHashed ss chains) (sym same) hashed
+
+-- a free ordinal is not linked
+pub not_linked : (slots : List Slot) (chains : Chained) (o : ℕ) → AreHashed slots chains → row_in any_row slots o ≡ None → hash_of chains o ≡ None
+not_linked slots chains o hashed free = hashed o ∙ ap (option_map row_hash) free
+
 -- ---- what a put tells
 
-pub tells_entered : (slots : List Slot) (index : List (List ℕ × ℕ)) (filled before now : ℕ) (states : States) (key : List ℕ) (row : Row) (o : ℕ) (slot after : Slot) (bound : ℕ)
-    → AreKept slots index filled before now → states_of slots ≡ states → key ≡ row_key row → ordinal_of index key ≡ Some o → slot ≡ slice_index_or slots o slot → after ≡ entered slot → bound ≡ max now (o + 1)
-    → AreKept (slice_set slots o after) index filled before bound × TellsPut states row (states_of (slice_set slots o after)) (Ok o)
-tells_entered slots index filled before now states key row o slot after bound kept seen keyed found read is past =
-    let found' : ordinal_of index (row_key row) ≡ Some o = subst (λ k. ordinal_of index k ≡ Some o) keyed found in
-    let within = stands_within slots index filled before now kept row o found' in
+pub tells_entered : (slots : List Slot) (chains : Chained) (filled before now : ℕ) (states : States) (row : Row) (o : ℕ) (slot after : Slot) (bound : ℕ)
+    → AreKept slots chains filled before now → states_of slots ≡ states → row_in any_row slots o ≡ Some row → slot ≡ slice_index_or slots o slot → after ≡ entered slot → bound ≡ max now (o + 1)
+    → AreKept (slice_set slots o after) chains filled before bound × TellsPut states row (states_of (slice_set slots o after)) (Ok o)
+tells_entered slots chains filled before now states row o slot after bound kept seen stand read is past =
+    let within = inside any_row slots o row stand in
     let there = slice_get_read slots (length slots) o slot refl within read in
     let any = row_of_slot any_row slots o slot there in
     let was = row_of_slot previous_row slots o slot there in
-    let kept' = entered_kept slots index filled before now kept row o slot bound found' any was past in
-    let previous = entered_previous slots index filled before now kept row o slot bound found' any was past in
-    let current = entered_current slots index filled before now kept row o slot bound found' any was past in
-    let stand = stands slots index filled before now kept row o found' in (
-      subst (λ s. AreKept (slice_set slots o s) index filled before bound) (sym is) kept',
+    let kept' = entered_kept slots chains filled before now kept row o slot bound stand any was past in
+    let previous = entered_previous slots chains filled before now kept row o slot bound stand any was past in
+    let current = entered_current slots chains filled before now kept row o slot bound stand any was past in (
+      subst (λ s. AreKept (slice_set slots o s) chains filled before bound) (sym is) kept',
       subst (λ s. TellsPut states row (states_of (slice_set slots o s)) (Ok o)) (sym is)
           (subst (λ s. TellsPut s row (states_of (slice_set slots o (entered slot))) (Ok o)) seen (
             inl (holds slots row o stand),
@@ -407,39 +406,36 @@ tells_entered slots index filled before now states key row o slot after bound ke
           )),
     )
 
-pub entered_room : (slots : List Slot) (index : List (List ℕ × ℕ)) (filled before now : ℕ) (key : List ℕ) (row : Row) (o : ℕ) → AreKept slots index filled before now → key ≡ row_key row → ordinal_of index key ≡ Some o → (o < length slots) × (o < 2 ^ 22)
-entered_room slots index filled before now key row o kept keyed found =
-    let within = stands_within slots index filled before now kept row o (subst (λ k. ordinal_of index k ≡ Some o) keyed found) in
-    (within, omega (arith, within, kept.few))
+pub entered_room : (slots : List Slot) (chains : Chained) (filled before now : ℕ) (row : Row) (o : ℕ) → AreKept slots chains filled before now → row_in any_row slots o ≡ Some row → (o < length slots) × (o < 2 ^ 22)
+entered_room slots chains filled before now row o kept stand = let within = inside any_row slots o row stand in (within, omega (arith, within, kept.few))
 
 -- the row is new, and the ordinal the least free one
-pub tells_new_ordinal : (slots : List Slot) (index : List (List ℕ × ℕ)) (filled before now : ℕ) (states : States) (key : List ℕ) (row : Row) (o : ℕ) → AreKept slots index filled before now → states_of slots ≡ states → key ≡ row_key row → ordinal_of index key ≡ None
+pub tells_new_ordinal : (slots : List Slot) (chains : Chained) (filled before now : ℕ) (states : States) (row : Row) (o : ℕ) → AreKept slots chains filled before now → states_of slots ≡ states → ((q : ℕ) → row_in any_row slots q ≡ Some row → ⊥)
     → row_in any_row slots o ≡ None → ((q : ℕ) → q < o → IsSome (row_in any_row slots q)) → IsPut states.previous states.current row o
-tells_new_ordinal slots index filled before now states key row o kept seen keyed none free below =
-    let none' : ordinal_of index (row_key row) ≡ None = subst (λ k. ordinal_of index k ≡ None) keyed none in
+tells_new_ordinal slots chains filled before now states row o kept seen none free below =
     subst (λ (s : States). IsPut s.previous s.current row o) seen
-    (inr (record { absent = λ q. absent slots index filled before now kept row q none'; least = least slots index filled before now kept o free below }))
+    (inr (record { absent = λ q. absent slots chains filled before now kept row q none; least = least slots chains filled before now kept o free below }))
 
 -- more room changes nothing that is seen
 pub extended_states : (slots more : List Slot) (o : ℕ) (states : States) → Extends slots o more → states_of slots ≡ states → states_of more ≡ states
 extended_states slots more o states extends seen =
     (λ i. record { previous = extended_rows previous_row refl slots more o extends i; current = extended_rows current_row refl slots more o extends i }) ∙ seen
 
-pub tells_new : (slots more : List Slot) (index index' : List (List ℕ × ℕ)) (filled before now : ℕ) (states : States) (key : List ℕ) (row : Row) (o bound : ℕ) → AreKept slots index filled before now → states_of slots ≡ states → key ≡ row_key row → ordinal_of index key ≡ None
-    → row_in any_row slots o ≡ None → ((q : ℕ) → q < o → IsSome (row_in any_row slots q)) → o < 2 ^ 22 → Extends slots o more → o < length more
-    → ((other : List ℕ) → ordinal_of index' other ≡ cond (bytes_eq key other) (Some o) (ordinal_of index other)) → bound ≡ max now (o + 1)
-    → AreKept (slice_set more o (Current row)) index' (o + 1) before bound × TellsPut states row (states_of (slice_set more o (Current row))) (Ok o)
-tells_new slots more index index' filled before now states key row o bound kept seen keyed none free below low extends room indexed past =
-    let kept' = extended_kept slots more o index filled before now extends low kept in
-    let none' : ordinal_of index (row_key row) ≡ None = subst (λ k. ordinal_of index k ≡ None) keyed none in
+pub tells_new : (slots more : List Slot) (chains chains' : Chained) (filled before now : ℕ) (states : States) (hash : ℕ) (row : Row) (o bound : ℕ) → AreKept slots chains filled before now → states_of slots ≡ states → hash ≡ row_hash row
+    → ((q : ℕ) → row_in any_row slots q ≡ Some row → ⊥) → row_in any_row slots o ≡ None → ((q : ℕ) → q < o → IsSome (row_in any_row slots q)) → o < 2 ^ 22 → Extends slots o more → o < length more
+    → ((q : ℕ) → hash_of chains' q ≡ cond (nat_eq q o) (Some hash) (hash_of chains q)) → IsRoomy chains' → bound ≡ max now (o + 1)
+    → AreKept (slice_set more o (Current row)) chains' (o + 1) before bound × TellsPut states row (states_of (slice_set more o (Current row))) (Ok o)
+tells_new slots more chains chains' filled before now states hash row o bound kept seen hashed none free below low extends room linked roomy past =
+    let kept' = extended_kept slots more o chains filled before now extends low kept in
+    let none' = extended_absent slots more o row extends none in
     let free' = extended_row any_row refl slots more o extends o ∙ free in
     let below' = λ (q : ℕ) (lower : q < o). subst IsSome (sym (extended_row any_row refl slots more o extends q)) (below q lower) in
-    let indexed' = subst (λ k. (other : List ℕ) → ordinal_of index' other ≡ cond (bytes_eq k other) (Some o) (ordinal_of index other)) keyed indexed in
-    let previous = new_previous more index filled before now kept' row o index' bound room none' free' below' indexed' past in
-    let current = new_current more index filled before now kept' row o index' bound room none' free' below' indexed' past in (
-      new_kept more index filled before now kept' row o index' bound room none' free' below' indexed' past,
+    let linked' = subst (λ (h : ℕ). (q : ℕ) → hash_of chains' q ≡ cond (nat_eq q o) (Some h) (hash_of chains q)) hashed linked in
+    let previous = new_previous more chains filled before now kept' row o chains' bound room none' free' below' linked' roomy past in
+    let current = new_current more chains filled before now kept' row o chains' bound room none' free' below' linked' roomy past in (
+      new_kept more chains filled before now kept' row o chains' bound room none' free' below' linked' roomy past,
       (
-        tells_new_ordinal slots index filled before now states key row o kept seen keyed none free below,
+        tells_new_ordinal slots chains filled before now states row o kept seen none free below,
         low,
         ((λ i. record { previous = previous i; current = current i })
             ∙ ap (λ (s : States). record s { current = insert s.current o row }) (extended_states slots more o states extends seen)),
@@ -449,10 +445,8 @@ tells_new slots more index index' filled before now states key row o bound kept 
 -- ---- what a restoring tells
 
 -- the row stands already
-pub tells_equal : (slots : List Slot) (index : List (List ℕ × ℕ)) (filled before now : ℕ) (states : States) (key : List ℕ) (row : Row) (o other : ℕ) → AreKept slots index filled before now → states_of slots ≡ states → key ≡ row_key row
-    → states.current ≡ empty → ordinal_of index key ≡ Some other → TellsRestore states o row states (Err (Equal other))
-tells_equal slots index filled before now states key row o other kept seen keyed none found =
-    (only_before (holds_seen slots states other row seen (stands slots index filled before now kept row other (subst (λ k. ordinal_of index k ≡ Some other) keyed found))), refl)
+pub tells_equal : (slots : List Slot) (states : States) (row : Row) (o other : ℕ) → states_of slots ≡ states → states.current ≡ empty → row_in any_row slots other ≡ Some row → TellsRestore states o row states (Err (Equal other))
+tells_equal slots states row o other seen none stand = (only_before (holds_seen slots states other row seen stand), refl)
   where
     only_before : Holds states.previous states.current row other → get states.previous other ≡ Some row
     only_before (inl before) = before
@@ -470,21 +464,21 @@ free_before slots states o seen none free = none_of (row_in any_row slots o) (λ
     none_of None h = refl
     none_of (Some r) h = absurd (h r refl)
 
-pub tells_restored : (slots more : List Slot) (index index' : List (List ℕ × ℕ)) (filled before now : ℕ) (states : States) (key : List ℕ) (row : Row) (o bound : ℕ) → AreKept slots index filled before now → states_of slots ≡ states → key ≡ row_key row
-    → states.current ≡ empty → get states.previous o ≡ None → ordinal_of index key ≡ None → o < 2 ^ 22 → Extends slots o more → o < length more
-    → ((other : List ℕ) → ordinal_of index' other ≡ cond (bytes_eq key other) (Some o) (ordinal_of index other)) → bound ≡ max before (o + 1)
-    → AreKept (slice_set more o (Previous row)) index' filled bound now × TellsRestore states o row (states_of (slice_set more o (Previous row))) (Ok tt)
-tells_restored slots more index index' filled before now states key row o bound kept seen keyed none free missing low extends room indexed past =
-    let kept' = extended_kept slots more o index filled before now extends low kept in
+pub tells_restored : (slots more : List Slot) (chains chains' : Chained) (filled before now : ℕ) (states : States) (hash : ℕ) (row : Row) (o bound : ℕ) → AreKept slots chains filled before now → states_of slots ≡ states → hash ≡ row_hash row
+    → states.current ≡ empty → get states.previous o ≡ None → ((q : ℕ) → row_in any_row slots q ≡ Some row → ⊥) → o < 2 ^ 22 → Extends slots o more → o < length more
+    → ((q : ℕ) → hash_of chains' q ≡ cond (nat_eq q o) (Some hash) (hash_of chains q)) → IsRoomy chains' → bound ≡ max before (o + 1)
+    → AreKept (slice_set more o (Previous row)) chains' filled bound now × TellsRestore states o row (states_of (slice_set more o (Previous row))) (Ok tt)
+tells_restored slots more chains chains' filled before now states hash row o bound kept seen hashed none free missing low extends room linked roomy past =
+    let kept' = extended_kept slots more o chains filled before now extends low kept in
     let seen' = extended_states slots more o states extends seen in
-    let missing' : ordinal_of index (row_key row) ≡ None = subst (λ k. ordinal_of index k ≡ None) keyed missing in
+    let missing' = extended_absent slots more o row extends missing in
     let free' = free_before more states o seen' none free in
-    let indexed' = subst (λ k. (other : List ℕ) → ordinal_of index' other ≡ cond (bytes_eq k other) (Some o) (ordinal_of index other)) keyed indexed in
-    let previous = restored_previous more index filled before now kept' row o index' bound room missing' free' indexed' past in
-    let current = restored_current more index filled before now kept' row o index' bound room missing' free' indexed' past in (
-      restored_kept more index filled before now kept' row o index' bound room missing' free' indexed' past,
+    let linked' = subst (λ (h : ℕ). (q : ℕ) → hash_of chains' q ≡ cond (nat_eq q o) (Some h) (hash_of chains q)) hashed linked in
+    let previous = restored_previous more chains filled before now kept' row o chains' bound room missing' free' linked' roomy past in
+    let current = restored_current more chains filled before now kept' row o chains' bound room missing' free' linked' roomy past in (
+      restored_kept more chains filled before now kept' row o chains' bound room missing' free' linked' roomy past,
       (
-        (λ q here. absent slots index filled before now kept row q missing' (subst (λ (s : States). Holds s.previous s.current row q) (sym seen) (inl here))),
+        (λ q here. absent slots chains filled before now kept row q missing (subst (λ (s : States). Holds s.previous s.current row q) (sym seen) (inl here))),
         (λ i. record { previous = previous i; current = current i }) ∙ ap (λ (s : States). record s { previous = insert s.previous o row }) seen',
       ),
     )
@@ -504,19 +498,32 @@ undone_states slots states seen =
 nothing : (rows : RowMap) → rows ≡ empty → IsPast rows 0
 nothing rows e = past_none rows e (λ o. ap (λ (m : RowMap). get m o) e ∙ get-empty nat_cmp o)
 
-pub advanced_kept : (slots : List Slot) (index index' : List (List ℕ × ℕ)) (filled before now : ℕ) → AreKept slots index filled before now
-    → ((key : List ℕ) → ordinal_of index' key ≡ kept_ordinal (λ q. is_some (row_in any_row (map advanced slots) q)) (ordinal_of index key)) → AreKept (map advanced slots) index' 0 now 0
-advanced_kept slots index index' filled before now kept indexed =
-    changed_kept slots index filled before now kept advanced any_advanced index' indexed now 0
+pub advanced_kept : (slots : List Slot) (chains chains' : Chained) (filled before now : ℕ) → AreKept slots chains filled before now → IsRoomy chains'
+    → ((q : ℕ) → hash_of chains' q ≡ kept_at (map advanced slots) q (hash_of chains q)) → AreKept (map advanced slots) chains' 0 now 0
+advanced_kept slots chains chains' filled before now kept roomy linked =
+    changed_kept slots chains filled before now kept advanced any_advanced chains' roomy linked now 0
     (subst (λ rows. IsPast rows now) (sym (rows_mapped previous_row current_row advanced previous_advanced slots)) kept.past_current)
     (nothing _ (rows_dropped current_row advanced current_advanced slots))
 
-pub undone_kept : (slots : List Slot) (index index' : List (List ℕ × ℕ)) (filled before now : ℕ) → AreKept slots index filled before now
-    → ((key : List ℕ) → ordinal_of index' key ≡ kept_ordinal (λ q. is_some (row_in any_row (map undone slots) q)) (ordinal_of index key)) → AreKept (map undone slots) index' 0 before 0
-undone_kept slots index index' filled before now kept indexed =
-    changed_kept slots index filled before now kept undone any_undone index' indexed before 0
+pub undone_kept : (slots : List Slot) (chains chains' : Chained) (filled before now : ℕ) → AreKept slots chains filled before now → IsRoomy chains'
+    → ((q : ℕ) → hash_of chains' q ≡ kept_at (map undone slots) q (hash_of chains q)) → AreKept (map undone slots) chains' 0 before 0
+undone_kept slots chains chains' filled before now kept roomy linked =
+    changed_kept slots chains filled before now kept undone any_undone chains' roomy linked before 0
     (subst (λ rows. IsPast rows before) (sym (rows_mapped previous_row previous_row undone previous_undone slots)) kept.past_previous)
     (nothing _ (rows_dropped current_row undone current_undone slots))
+
+-- a state that ends at ordinal 0 has no rows
+no_rows : (rows : RowMap) → IsPast rows 0 → rows ≡ empty
+no_rows rows past = same_rows rows empty (λ q. none_of (get rows q) (λ row is. absurd (omega (arith, past.above q (is_some_row _ row is)))) ∙ sym (get-empty nat_cmp q))
+  where
+    none_of : (row : Option Row) → ((r : Row) → row ≡ Some r → ⊥) → row ≡ None
+    none_of None h = refl
+    none_of (Some r) h = absurd (h r refl)
+
+pub undone_nothing : (slots : List Slot) (chains : Chained) (filled before now : ℕ) (states : States) → AreKept slots chains filled before now → now ≡ 0 → states_of slots ≡ states → states ≡ record { previous = states.previous; current = empty }
+undone_nothing slots chains filled before now states kept none seen =
+    let no_current : states.current ≡ empty = ap (λ (s : States). s.current) (sym seen) ∙ no_rows (rows_of current_row slots) (subst (IsPast (rows_of current_row slots)) none kept.past_current) in
+    λ i. record { previous = states.previous; current = no_current i }
 
 -- want of memory leaves both states
 pub refused : (old : States) (row : Row) (new : States) (result : Result ℕ PutRowFault) → IsErrAnd result (λ fault. fault ≡ Memory) → new ≡ old → TellsPut old row new result

@@ -1,5 +1,5 @@
-pub mod KeyedEntries
 pub mod Keeping
 pub mod Puts
 pub mod Restoring
 pub mod SlotRows
+pub mod Unlinking

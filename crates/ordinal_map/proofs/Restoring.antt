@@ -1,5 +1,5 @@
 -- What a restoring tells, exactly.
-use Rattle.std.proofs.Common.{◌≡◌, ℕ, Some, None, refl, sym, ap, subst, ◌∙◌, inl, inr}
+use Rattle.std.proofs.Common.{◌≡◌, ℕ, Some, refl, ap, subst, inl, inr}
 use Rattle.std.specs.Prelude.{Result, Ok, Err, IsErrAnd, OnErr}
 use Rattle.std.specs.FinMap.{get}
 use Rattle.hol_varint.specs.Yields.{Yields}
@@ -16,12 +16,15 @@ module _ (old : States) (o : ℕ) (row : Row) (new : States) where
   is_restored (Err (Equal other)) tells = ((λ is. absurd cc), (λ unknown. absurd (unknown other tells.0)))
   is_restored (Err Memory) tells = ((λ is. absurd cc), (λ unknown. inr tt))
 
-  pub is_equal : (result : Result (Unit {0}) RestoreRowFault) → Agree old.previous old.current → TellsRestore old o row new result
+  before : Agree new.previous new.current → new ≡ old → Agree old.previous old.current
+  before agree same = subst (λ (s : States). Agree s.previous s.current) same agree
+
+  pub is_equal : (result : Result (Unit {0}) RestoreRowFault) → Agree new.previous new.current → TellsRestore old o row new result
       → (other : ℕ) → Yields IsFreeRestore result (Err (Equal other)) (get old.previous other ≡ Some row)
   is_equal (Ok tt) agree tells other = ((λ is. absurd cc), (λ here. absurd (tells.0 other here)))
   is_equal (Err (Equal q)) agree tells other = (
     (λ is. (let same : q ≡ other = cc in subst (λ n. get old.previous n ≡ Some row) same tells.0)),
-    (λ here. inl (ap (λ n. Err (Equal n)) (agree.one_ordinal row q other (inl tells.0) (inl here)))),
+    (λ here. inl (ap (λ n. Err (Equal n)) ((before agree tells.1).one_ordinal row q other (inl tells.0) (inl here)))),
   )
   is_equal (Err Memory) agree tells other = ((λ is. absurd cc), (λ here. inr tt))
 

@@ -1,12 +1,11 @@
 -- What stands under each ordinal, and the rows of the two states that slots make.
-use Rattle.std.specs.Prelude.{List, [], ◌∷◌, ◌++◌, ℕ, ◌≡◌, ◌+◌, ◌<◌, ◌≤◌, ◌^◌, Bool, true, false, Option, Some, None, IsSome, IsSomeAnd, slice_get, option_and_then, replicate, max, length, if◌then◌else◌}
+use Rattle.std.specs.Prelude.{List, [], ◌∷◌, ◌++◌, ℕ, ◌≡◌, ◌+◌, ◌*◌, ◌<◌, ◌≤◌, ◌^◌, Bool, true, false, Option, Some, None, IsSome, MatchOption, zero, suc, slice_get, option_and_then, option_map, replicate, max, length}
 use Rattle.std.specs.FinMap.{from_entries}
-use Rattle.std.specs.Map.{lookup}
-use Rattle.std.specs.Str.{bytes_eq}
 use Rattle.row_model.specs.declared.row.Row.{Row}
 use Rattle.row_model.specs.Table.{RowMap}
 use Rattle.ordinal_map.specs.Assign.{IsPast}
-use Rattle.row_model.specs.RowKey.{row_key}
+use Rattle.linked_slots.specs.Chained.{Chained, hash_of}
+use Rattle.row_hash.specs.Hash.{row_hash}
 use Rattle.ordinal_map.specs.declared.slot.Slot.{Slot}
 use Rattle.ordinal_map.specs.declared.slot.Slot.TheVariants.{Free, Previous, Current, Both}
 
@@ -83,20 +82,34 @@ rows_of read slots = from_entries (entries_from read 0 slots)
 abbrev pub row_in : (Slot → Option Row) → List Slot → ℕ → Option Row
 row_in read slots ordinal = option_and_then read (slice_get slots ordinal)
 
--- the ordinal that an index of keys has for a key
-abbrev pub ordinal_of : List (List ℕ × ℕ) → List ℕ → Option ℕ
-ordinal_of index key = lookup (bytes_eq key) index
+-- A search for a row answers the ordinal under which it stands, and nothing exactly where it stands under none.
+abbrev pub Finds : List Slot → Row → Option ℕ → Type 0
+Finds slots row found = MatchOption found ((ordinal : ℕ) → ¬ (row_in any_row slots ordinal ≡ Some row)) (λ ordinal. row_in any_row slots ordinal ≡ Some row)
 
--- an ordinal, if it passes a test
-abbrev pub kept_ordinal : (ℕ → Bool) → Option ℕ → Option ℕ
-kept_ordinal test None = None
-kept_ordinal test (Some ordinal) = (if test ordinal then Some ordinal else None)
+-- There are as many buckets as slots, or twice as many.
+abbrev pub IsRoomy : Chained → Type 0
+IsRoomy chains = (chains.slots ≤ length chains.chains) × (length chains.chains ≤ 2 * chains.slots + 1)
 
--- The slots and the index of the rows' keys agree; the slots up to a place are taken; and the bounds are those of the states.
-pub record AreKept (slots : List Slot) (index : List (List ℕ × ℕ)) (filled previous_bound current_bound : ℕ) : Type 0 where
+-- the rows' hashes are linked under the rows' ordinals
+abbrev pub AreHashed : List Slot → Chained → Type 0
+AreHashed slots chains = (ordinal : ℕ) → hash_of chains ordinal ≡ option_map row_hash (row_in any_row slots ordinal)
+
+-- a hash, if the slot is taken
+abbrev pub kept_hash : Slot → Option ℕ → Option ℕ
+kept_hash slot hash = option_and_then (λ _. hash) (any_row slot)
+
+-- the hash under an ordinal, if its slot is taken; past the last slot it stays
+abbrev pub kept_at : List Slot → ℕ → Option ℕ → Option ℕ
+kept_at [] ordinal hash = hash
+kept_at (slot ∷ slots) zero hash = kept_hash slot hash
+kept_at (slot ∷ slots) (suc ordinal) hash = kept_at slots ordinal hash
+
+-- The slots and the chains of the rows' hashes agree; no row stands twice; the slots up to a place are taken; and the bounds are those of the states.
+pub record AreKept (slots : List Slot) (chains : Chained) (filled previous_bound current_bound : ℕ) : Type 0 where
   pub few : length slots ≤ 2 ^ 22
-  pub finds : (ordinal : ℕ) (row : Row) → row_in any_row slots ordinal ≡ Some row → ordinal_of index (row_key row) ≡ Some ordinal
-  pub found : (key : List ℕ) (ordinal : ℕ) → ordinal_of index key ≡ Some ordinal → IsSomeAnd (row_in any_row slots ordinal) (λ row. row_key row ≡ key)
+  pub roomy : IsRoomy chains
+  pub hashed : AreHashed slots chains
+  pub once : (row : Row) (a b : ℕ) → row_in any_row slots a ≡ Some row → row_in any_row slots b ≡ Some row → a ≡ b
   pub within : filled ≤ length slots
   pub taken : (ordinal : ℕ) → ordinal < filled → IsSome (row_in any_row slots ordinal)
   pub past_previous : IsPast (rows_of previous_row slots) previous_bound

@@ -3,7 +3,7 @@
 
 mod fault;
 mod map;
-mod row_index;
+mod row_chains;
 mod slot;
 
 pub use fault::{PutRowFault, RestoreRowFault};

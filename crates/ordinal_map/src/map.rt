@@ -2,17 +2,19 @@
 ghost use Rattle.std.specs.Prelude.{◌≡◌, ◌≢◌, ◌↔◌, ℕ, ◌<◌, ◌^◌, Some, None, Ok, Err, OnErr, IsSome, IsTrue, MatchBool};
 ghost use Rattle.std.specs.FinMap.{get, empty};
 ghost use Rattle.hol_varint.specs.Yields.{Yields};
-ghost use Rattle.row_model.specs.RowKey.{row_key as key_of};
+ghost use Rattle.row_hash.specs.Hash.{row_hash as hash_of_row};
 ghost use Rattle.ordinal_map.specs.Assign.{Agree, Holds, IsFreePut, IsPast, IsPut, IsTaken, TellsPut};
 ghost use Rattle.ordinal_map.specs.Restored.{IsFreeRestore, IsUnknown, TellsRestore};
 
 use crate::fault::{PutRowFault, RestoreRowFault};
-use crate::row_index::RowIndex;
+use crate::row_chains::{find, link, unlink_free};
 use crate::slot::{
     Slot, advance_all, any_changed, current_has, least_free, make_room, previous_has, row_at,
     undo_all,
 };
-use row_model::{Row, row_key};
+use linked_slots::Chains;
+use row_hash::row_hash;
+use row_model::Row;
 use schema_model::MAX_ORDINALS;
 use std::alloc::{AllocError, Global};
 use std::marker::Model;
@@ -22,11 +24,10 @@ use std::marker::Model;
 /// No row stands under two ordinals, and no ordinal has two rows, whichever of the two states they are in.
 #[derive(Drop)]
 pub struct OrdinalMap {
-    alloc: Global,
     /// What stands under each ordinal.
     slots: Vec<Slot>,
-    /// The ordinals of the rows by the rows' keys.
-    index: RowIndex,
+    /// The ordinals of the rows by the rows' hashes.
+    chains: Chains,
     /// The ordinals below it are taken.
     filled: u32,
     /// One past the greatest ordinal of the previous state, 0 for none.
@@ -45,7 +46,7 @@ impl Model for OrdinalMap {
 
     ghost view = { λ m. record { previous = rows_of previous_row m.slots.items; current = rows_of current_row m.slots.items } };
 
-    ghost invariant = { λ m. AreKept m.slots.items m.index m.filled m.previous_bound m.current_bound };
+    ghost invariant = { λ m. AreKept m.slots.items m.chains m.filled m.previous_bound m.current_bound };
 }
 
 impl OrdinalMap {
@@ -54,9 +55,8 @@ impl OrdinalMap {
         ensures { result ≡ record { previous = empty; current = empty } }
     {
         OrdinalMap {
-            alloc,
             slots: Vec::new(alloc),
-            index: RowIndex::new(alloc),
+            chains: Chains::new(alloc),
             filled: 0,
             previous_bound: 0,
             current_bound: 0,
@@ -122,16 +122,17 @@ impl OrdinalMap {
         ensures too_many { Yields IsFreePut result (Err PutRowFault.TooMany) (IsPut self.old.previous self.old.current row (2 ^ 22)) }
         ensures agree { Agree self.new.previous self.new.current }
     {
-        let key = row_key(self.alloc, &row)?;
-        self.put_keyed(key, row)
+        let hash = row_hash(&row);
+        self.put_hashed(hash, row)
     }
 
-    // The same of a row whose key is known, by what each answer tells.
-    fn put_keyed(&mut self, key: Vec<u8>, row: Row) -> Result<u32, PutRowFault>
-        requires { key.items ≡ key_of row }
-        ensures { TellsPut self.old row self.new result }
+    // The same of a row whose hash is known, by what each answer tells; the states agree before it.
+    fn put_hashed(&mut self, hash: u32, row: Row) -> Result<u32, PutRowFault>
+        requires { hash ≡ hash_of_row row }
+        ensures tells { TellsPut self.old row self.new result }
+        ensures agree { Agree self.old.previous self.old.current }
     {
-        if let Some(ordinal) = self.index.find(key.as_slice()) {
+        if let Some(ordinal) = find(self.slots.as_slice(), &self.chains, hash, &row) {
             self.slots[ordinal as usize].enter();
             self.current_bound = self.current_bound.max(ordinal + 1);
             return Ok(ordinal);
@@ -141,7 +142,7 @@ impl OrdinalMap {
             return Err(PutRowFault::TooMany);
         }
         make_room(&mut self.slots, ordinal)?;
-        self.index.insert(key, ordinal)?;
+        link(&mut self.chains, ordinal, hash)?;
         self.slots[ordinal as usize] = Slot::Current(row);
         self.filled = ordinal + 1;
         self.current_bound = self.current_bound.max(ordinal + 1);
@@ -161,24 +162,24 @@ impl OrdinalMap {
         ensures refused { OnErr result (self.new ≡ self.old) }
         ensures agree { Agree self.new.previous self.new.current }
     {
-        let key = row_key(self.alloc, &row)?;
-        self.restore_keyed(key, ordinal, row)
+        let hash = row_hash(&row);
+        self.restore_hashed(hash, ordinal, row)
     }
 
-    // The same of a row whose key is known, by what each answer tells.
-    fn restore_keyed(&mut self, key: Vec<u8>, ordinal: u32, row: Row) -> Result<(), RestoreRowFault>
+    // The same of a row whose hash is known, by what each answer tells.
+    fn restore_hashed(&mut self, hash: u32, ordinal: u32, row: Row) -> Result<(), RestoreRowFault>
         requires free { get self.old.previous ordinal ≡ None }
         requires low { ordinal < 2 ^ 22 }
         requires current { self.old.current ≡ empty }
-        requires keyed { key.items ≡ key_of row }
+        requires hashed { hash ≡ hash_of_row row }
         ensures tells { TellsRestore self.old ordinal row self.new result }
         ensures agree { Agree self.new.previous self.new.current }
     {
-        if let Some(other) = self.index.find(key.as_slice()) {
+        if let Some(other) = find(self.slots.as_slice(), &self.chains, hash, &row) {
             return Err(RestoreRowFault::Equal(other));
         }
         make_room(&mut self.slots, ordinal)?;
-        self.index.insert(key, ordinal)?;
+        link(&mut self.chains, ordinal, hash)?;
         self.slots[ordinal as usize] = Slot::Previous(row);
         self.previous_bound = self.previous_bound.max(ordinal + 1);
         Ok(())
@@ -189,18 +190,21 @@ impl OrdinalMap {
         ensures { self.new ≡ record { previous = self.old.current; current = empty } }
     {
         advance_all(&mut self.slots);
-        self.index.keep_taken(self.slots.as_slice());
+        unlink_free(&mut self.chains, self.slots.as_slice());
         self.filled = 0;
         self.previous_bound = self.current_bound;
         self.current_bound = 0;
     }
 
-    /// Takes all rows out of the current state. It takes no memory.
+    /// Takes all rows out of the current state. It takes no memory, and next to no time where there is none.
     pub fn undo(&mut self)
         ensures { self.new ≡ record self.old { current = empty } }
     {
+        if self.current_bound == 0 {
+            return;
+        }
         undo_all(&mut self.slots);
-        self.index.keep_taken(self.slots.as_slice());
+        unlink_free(&mut self.chains, self.slots.as_slice());
         self.filled = 0;
         self.current_bound = 0;
     }

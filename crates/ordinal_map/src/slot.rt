@@ -36,6 +36,13 @@ impl Slot {
         }
     }
 
+    /// Whether neither state has a row there.
+    pub(crate) fn is_free(&self) -> bool
+        ensures { IsTrue result ↔ (any_row self.now ≡ None) }
+    {
+        matches!(self, Slot::Free)
+    }
+
     /// Whether the previous state has a row there.
     fn in_previous(&self) -> bool
         ensures { result ≡ is_some (previous_row self.now) }

@@ -1,5 +1,5 @@
 -- A restoring names two equal rows, or finds none.
-use Rattle.std.proofs.Common.{◌≡◌, ℕ, ◌<◌, ◌⊎◌, Some, inl, inr, refl, sym, ap, subst, ◌∙◌, arith}
+use Rattle.std.proofs.Common.{◌≡◌, ℕ, ◌<◌, ◌⊎◌, Some, inl, inr, sym, ap, subst, ◌∙◌, arith}
 use Rattle.std.specs.Prelude.{List, ℤ, Result, Ok, Err, IsErrAnd, IsSome}
 use Rattle.std.proofs.lemmas.Bool.{cases_order}
 use Rattle.hol_varint.specs.Yields.{Yields}

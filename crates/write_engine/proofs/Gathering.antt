@@ -1,13 +1,15 @@
 -- The members of a set, and the entries of a map, by rising key.
 use Rattle.std.proofs.Common.{◌≡◌, ℕ, zero, suc, ◌≤◌, take, true, false, cond, List, [], ◌∷◌, ◌++◌, length, Option, Some, None, refl, sym, ap, subst, ◌∙◌, inl, inr, arith}
-use Rattle.std.specs.Prelude.{◌||◌, nat_eq, is_some}
-use Rattle.std.specs.List.{list_any}
-use Rattle.std.specs.List.Sorted.{IsStrictlySortedBy}
+use Rattle.std.specs.Prelude.{nat_eq, is_some}
+use Rattle.std.specs.List.{dedup}
+use Rattle.std.specs.List.Retain.{DiffersFromLast, IsFiltered}
+use Rattle.std.proofs.lemmas.List.Filters.{dedup_is}
+use Rattle.std.proofs.lemmas.List.Kept.{AllPairs-from_increasing, Contains-dedup_nat, Contains-from_dedup}
+use Rattle.std.proofs.lemmas.List.Sorted.{Contains-permutation, IsPermutation-sym}
+use Rattle.std.specs.List.Sorted.{IsPermutation, IsSorted, IsStrictlySortedBy}
 use Rattle.std.specs.Map.{lookup, keys_of}
 use Rattle.std.specs.Ordering.{nat_cmp, is_eq}
-use Rattle.std.proofs.lemmas.Map.Keys.{below_from_sorted}
-use Rattle.std.proofs.lemmas.Map.Made.{is_member-Decides}
-use Rattle.std.specs.Cmp.{unsigned_Decides}
+use Rattle.std.proofs.lemmas.Map.Keys.{below_from_sorted, IsStrictlyIncreasing-dedup}
 use Rattle.row_model.specs.Row.{Rises}
 use Rattle.write_engine.specs.Cycle.{IsSetOf, IsMapOf}
 use Rattle.std.proofs.lemmas.Bool.{cases_eq, cond-true, cond-false}
@@ -19,22 +21,20 @@ rises keys sorted = λ i j d before inside. below_from_sorted keys i j d sorted 
 tie : (q k : ℕ) → is_eq (nat_cmp q k) ≡ nat_eq q k
 tie q k = grind arith
 
-any_tie : (q : ℕ) (ks : List ℕ) → list_any (λ k. is_eq (nat_cmp q k)) ks ≡ list_any (nat_eq q) ks
-any_tie q [] = refl
-any_tie q (k ∷ ks) = ap (λ b. b || list_any (λ k. is_eq (nat_cmp q k)) ks) (tie q k) ∙ ap (λ b. nat_eq q k || b) (any_tie q ks)
-
 lookup_tie : (q : ℕ) (es : List (ℕ × ℕ)) → lookup (λ k. is_eq (nat_cmp q k)) es ≡ lookup (nat_eq q) es
 lookup_tie q [] = refl
 lookup_tie q (e ∷ es) = ap (λ b. cond b (Some e.1) (lookup (λ k. is_eq (nat_cmp q k)) es)) (tie q e.0) ∙ ap (λ o. cond (nat_eq q e.0) (Some e.1) o) (lookup_tie q es)
 
-pub is_set : (elements keys members : List ℕ) → members ≡ keys → IsStrictlySortedBy nat_cmp keys → ((q : ℕ) → list_any (λ k. is_eq (nat_cmp q k)) keys ≡ list_any (nat_eq q) elements) → IsSetOf elements members
-is_set elements keys members is sorted same = subst (IsSetOf elements) (sym is) record {
-  rising = rises keys sorted;
-  same = λ q. (
-    (λ among. (is_member-Decides unsigned_Decides elements q).0 (sym (same q) ∙ any_tie q keys ∙ (is_member-Decides unsigned_Decides keys q).1 among)),
-    (λ among. (is_member-Decides unsigned_Decides keys q).0 (sym (any_tie q keys) ∙ same q ∙ (is_member-Decides unsigned_Decides elements q).1 among)),
-  );
-}
+-- what is left when elements are sorted and each is kept once
+pub is_set : (elements copied sorted members : List ℕ) → copied ≡ elements → IsPermutation copied sorted → IsSorted nat_cmp sorted → IsFiltered (DiffersFromLast nat_eq) [] sorted members → IsSetOf elements members
+is_set elements copied sorted members same moved is_sorted filtered =
+    subst (λ (es : List ℕ). IsSetOf es members) same (subst (IsSetOf copied) (sym (dedup_is nat_eq sorted members filtered)) record {
+      rising = AllPairs-from_increasing (dedup nat_eq sorted) (IsStrictlyIncreasing-dedup sorted is_sorted);
+      same = λ q. (
+        (λ among. Contains-permutation sorted copied q (IsPermutation-sym copied sorted moved) (Contains-from_dedup nat_eq sorted q among)),
+        (λ among. Contains-dedup_nat sorted q (Contains-permutation copied sorted q moved among)),
+      );
+    })
 
 pub is_map : (pairs entries members : List (ℕ × ℕ)) → members ≡ entries → IsStrictlySortedBy nat_cmp (keys_of entries) → ((q : ℕ) → lookup (λ k. is_eq (nat_cmp q k)) entries ≡ lookup (nat_eq q) pairs) → IsMapOf pairs members
 is_map pairs entries members is sorted same = subst (IsMapOf pairs) (sym is) record {

@@ -1,5 +1,5 @@
 -- The rows of a type are restored by rising ordinal, and the types in their order.
-use Rattle.std.proofs.Common.{◌≡◌, ℕ, zero, suc, ◌+◌, ◌<◌, ◌≤◌, List, [], ◌∷◌, ◌++◌, length, get_or, take, map, Option, Some, None, inl, inr, refl, sym, ap, subst, ◌∙◌, arith, ◌⊎◌}
+use Rattle.std.proofs.Common.{◌≡◌, ℕ, zero, suc, ◌+◌, ◌<◌, ◌≤◌, List, [], ◌∷◌, ◌++◌, length, get_or, take, Option, Some, None, inl, inr, refl, sym, ap, subst, ◌∙◌, arith, ◌⊎◌}
 use Rattle.std.specs.Prelude.{IsSome, IsErrAnd, IfErr, Result, Ok, Err, option_and_then}
 use Rattle.std.specs.FinMap.{get, empty, get-empty, insert}
 use Rattle.std.specs.Ordering.{nat_cmp}
@@ -14,7 +14,7 @@ use Rattle.ordinal_map.specs.States.{States}
 use Rattle.ordinal_map.proofs.SlotRows.{get_beside, get_inserted, same_rows}
 use Rattle.write_engine.specs.Cycle.{rows_in}
 use Rattle.write_engine.specs.Production.{current_of, no_states, previous_of}
-use Rattle.write_engine.specs.Restoring.{AreEqualRows, HasDistinctRows, IsFirstDuplicate, IsFirstOfType}
+use Rattle.write_engine.specs.Restoring.{HasDistinctRows, IsFirstDuplicate, IsFirstOfType}
 use Rattle.write_engine.specs.RestoredRows.{HasRowsBelow, HasRowsOf, HasTypesBelow, TellsFault, TellsType}
 use Rattle.write_engine.specs.declared.restoring.RestoreFault.{RestoreFault}
 use Rattle.write_engine.specs.declared.restoring.RestoreFault.TheVariants.{Duplicate, Memory}

@@ -5,23 +5,17 @@ ghost use Rattle.write_engine.specs.Cycle.{IsSetOf, IsMapOf};
 use hol_varint::Ordinals;
 use row_model::Pairs;
 use std::alloc::{AllocError, Global};
-use std::collections::{BTreeMap, BTreeSet};
+use std::collections::BTreeMap;
 
 /// The ordinals of a set: each of the elements' once, rising.
 pub(crate) fn set_of(alloc: Global, elements: &[u32]) -> Result<Ordinals, AllocError>
     ensures { IfOk result (IsSetOf elements.now) }
 {
-    let mut members = BTreeSet::new(alloc);
-    for element in elements {
-        members.insert(*element)?;
-    }
-    Ok(Ordinals::from_vec(keys_of(alloc, members)?))
-}
-
-fn keys_of(alloc: Global, members: BTreeSet<u32>) -> Result<Vec<u32>, AllocError>
-    ensures { IfOk result (λ keys. keys.items ≡ members.keys) }
-{
-    members.into_iter().collect(alloc)
+    let mut members = Vec::with_capacity(alloc, elements.len())?;
+    members.extend_from_slice(elements)?;
+    members.sort_unstable();
+    members.dedup();
+    Ok(Ordinals::from_vec(members))
 }
 
 /// The pairs of a map: each key once, rising, with the value beside it where it stands first.

@@ -1,9 +1,8 @@
 //! A producer: the previous state, and the cycle that makes the next one.
 ghost use Rattle.std.specs.Prelude.{◌≡◌, ◌↔◌, ℕ, Ok, Err, IfOk, IsTrue, OnErr, OnOk, true, false, length};
 ghost use Rattle.hol_varint.specs.Yields.{Yields};
-ghost use Rattle.row_model.specs.Table.{Table, EachRow, IsClosed};
+ghost use Rattle.row_model.specs.Table.{Table, IsClosed};
 ghost use Rattle.row_model.specs.Tree.{plain};
-ghost use Rattle.row_packing.specs.Written.{IsStored};
 ghost use Rattle.write_engine.specs.Agreement.{HoldsOnce, TablesAgree};
 ghost use Rattle.write_engine.specs.Cycle.{Adds, no_rows};
 ghost use Rattle.write_engine.specs.CycleLimit.{TellsCycle};
@@ -119,7 +118,7 @@ impl Producer {
     }
 
     /// A producer whose previous state has these rows, under this tag and version, and whose cycle is open and has no rows: it goes on as if
-    /// the run that made them had never ended. The rows are closed, hold no least INT or LONG, and have ordinals below 2^22.
+    /// the run that made them had never ended. The rows are closed and have ordinals below 2^22.
     ///
     /// `Duplicate` comes exactly where a type has two equal rows. It names the first such type in model order, the least ordinal whose row a
     /// lesser one has too, behind that lesser one.
@@ -130,7 +129,6 @@ impl Producer {
         version: u64,
     ) -> Result<Producer, RestoreFault>
         requires closed { IsClosed (R.schemas rows.now) (R.table rows.now) }
-        requires stored { EachRow (R.schemas rows.now) (R.table rows.now) (λ schema row. IsStored row) }
         requires low { HasLowOrdinals (R.table rows.now) }
         ensures tells { TellsRestored (R.schemas rows.now) (R.table rows.now) tag version result }
         ensures restored { Yields IsFreeRestore result (Ok (restored_of (R.schemas rows.now) (R.table rows.now) tag version)) (HoldsOnce (R.table rows.now)) }

@@ -1,5 +1,5 @@
 use Rattle.std.proofs.Common.{arith, refl}
-use Rattle.chain_check.proofs.SameLists.{same_all, same_more}
+use Rattle.row_hash.proofs.SameLists.{same_all, same_more}
 use Rattle.chain_check.proofs.same_schema.same_fields.Goals as goal
 
 pub loop-place-preserved : goal.loop-place-preserved

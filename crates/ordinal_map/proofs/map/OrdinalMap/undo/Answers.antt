@@ -1,16 +1,19 @@
-use Rattle.std.proofs.Common.{◌≡◌, ℕ, ap, sym, subst, ◌∙◌, List, is_some}
-use Rattle.ordinal_map.specs.Slots.{any_row, row_in, ordinal_of, kept_ordinal, AreKept}
+use Rattle.std.proofs.Common.{◌≡◌, ℕ, ap, sym, subst, ◌∙◌, List}
+use Rattle.linked_slots.specs.Chained.{hash_of}
+use Rattle.ordinal_map.specs.Slots.{kept_at, AreKept}
 use Rattle.ordinal_map.specs.declared.slot.Slot.{Slot}
-use Rattle.ordinal_map.proofs.Keeping.{undone_kept, undone_states, states_of}
+use Rattle.ordinal_map.proofs.Keeping.{undone_kept, undone_nothing, undone_states, states_of}
 use Rattle.ordinal_map.proofs.map.OrdinalMap.undo.Goals as goal
 
 pub invariant_of-self : goal.invariant_of-self
 invariant_of-self c =
-    let slots = c.self.inside.slots.items in
-    let indexed = subst (λ (ss : List Slot). (key : List ℕ) → ordinal_of c.keep_taken.new.self key ≡ kept_ordinal (λ q. is_some (row_in any_row ss q)) (ordinal_of c.self.inside.index key))
-    (c.as_slice.ensures.value ∙ c.undo_all.ensures) c.keep_taken.ensures in
-    subst (λ (ss : List Slot). AreKept ss c.keep_taken.new.self 0 c.self.inside.previous_bound 0) (sym c.undo_all.ensures)
-    (undone_kept slots c.self.inside.index c.keep_taken.new.self c.self.inside.filled c.self.inside.previous_bound c.self.inside.current_bound c.self.invariant indexed)
+    let linked = subst (λ (ss : List Slot). (q : ℕ) → hash_of c.unlink_free.new.chains q ≡ kept_at ss q (hash_of c.self.inside.chains q)) (c.as_slice.ensures.value ∙ c.undo_all.ensures) c.unlink_free.ensures.hashes in
+    subst (λ (ss : List Slot). AreKept ss c.unlink_free.new.chains 0 c.self.inside.previous_bound 0) (sym c.undo_all.ensures)
+    (undone_kept c.self.inside.slots.items c.self.inside.chains c.unlink_free.new.chains c.self.inside.filled c.self.inside.previous_bound c.self.inside.current_bound c.self.invariant c.unlink_free.ensures.roomy linked)
 
 pub returns : goal.returns
 returns c = ap states_of c.undo_all.ensures ∙ undone_states c.self.inside.slots.items c.args.self.now c.self.view_is
+
+pub returns-then-self-eq0 : goal.returns-then-self-eq0
+returns-then-self-eq0 c =
+    undone_nothing c.self.inside.slots.items c.self.inside.chains c.self.inside.filled c.self.inside.previous_bound c.self.inside.current_bound c.args.self.now c.self.invariant c.if-self-eq0.true c.self.view_is

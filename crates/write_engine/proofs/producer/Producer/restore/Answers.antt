@@ -1,8 +1,8 @@
-use Rattle.std.proofs.Common.{rules, ◌≡◌, ◌∙◌, ap, sym, subst, w64, to_z, of_z, length}
+use Rattle.std.proofs.Common.{rules, ◌≡◌, ◌∙◌, ap, sym, subst, w64, to_z, of_z}
 use Rattle.std.specs.Prelude.{Ok, false, None}
 use Rattle.std.proofs.Math.Seq.{take-length}
 use Rattle.write_engine.specs.Cycle.{no_rows}
-use Rattle.write_engine.specs.Production.{IsProducing, current_of, previous_of}
+use Rattle.write_engine.specs.Production.{IsProducing}
 use Rattle.write_engine.specs.Restoring.{TellsRestored}
 use Rattle.write_engine.specs.declared.restoring.RestoreFault.TheVariants.{Memory}
 use Rattle.write_engine.proofs.Duplicates.{distinct_once, duplicate, fault_tells, restored}

@@ -1,0 +1,125 @@
+//! What stands at a slot, and writes of its neighbours.
+ghost use Rattle.std.specs.Prelude.{◌≡◌, ◌<◌, ◌≤◌, ◌^◌, ℕ, length, slice_get, slice_set, nat_eq, if◌then◌else◌, slice_index, Some, None, List, ◌++◌, vec_len, replicate, take, IfOk, OnErr, OnOk};
+ghost use Rattle.linked_slots.specs.Links.{none, AreLinked, chains_from, front_or, IsChain, next_set, before_set, walk};
+ghost use Rattle.linked_slots.specs.Chained.{all_of};
+
+use std::alloc::{AllocError, Global};
+
+/// No slot.
+pub(crate) const NONE: u32 = u32::MAX;
+
+/// What stands at a slot: whether it is linked, its hash, and its neighbours in its chain, `NONE` at the ends.
+#[derive(Clone, Copy)]
+pub(crate) struct Link {
+    pub(crate) linked: bool,
+    pub(crate) hash: u32,
+    pub(crate) before: u32,
+    pub(crate) next: u32,
+}
+
+impl Link {
+    ghost use Rattle.std.specs.Prelude.{◌≡◌};
+    ghost use Rattle.std.specs.Prelude.{Some};
+    ghost use Rattle.linked_slots.specs.Links.{free_link, hash_at};
+
+    /// A slot that is not linked.
+    pub(crate) fn free() -> Link
+        ensures { result ≡ free_link }
+    {
+        Link {
+            linked: false,
+            hash: 0,
+            before: NONE,
+            next: NONE,
+        }
+    }
+
+    /// The hash, where the slot is linked.
+    #[inline(always)]
+    pub(crate) fn linked_hash(&self) -> Option<u32>
+        ensures { result ≡ hash_at (Some self.now) }
+    {
+        if self.linked { Some(self.hash) } else { None }
+    }
+}
+
+/// Writes what follows a slot, if there is such a slot.
+#[tactic(auto, using(crate::proofs::Writes::next_written, crate::proofs::Writes::next_past))]
+pub(crate) fn set_next(links: &mut Vec<Link>, slot: u32, next: u32)
+    ensures reads { (t : ℕ) → slice_get links.new.items t ≡ next_set slot next (slice_get links.old.items) t }
+    ensures len { length links.new.items ≡ length links.old.items }
+{
+    if (slot as usize) < links.len() {
+        links[slot as usize].next = next;
+    }
+}
+
+/// Writes what stands before a slot, if there is such a slot.
+#[tactic(auto, using(crate::proofs::Writes::before_written, crate::proofs::Writes::before_past))]
+pub(crate) fn set_before(links: &mut Vec<Link>, slot: u32, before: u32)
+    ensures reads { (t : ℕ) → slice_get links.new.items t ≡ before_set slot before (slice_get links.old.items) t }
+    ensures len { length links.new.items ≡ length links.old.items }
+{
+    if (slot as usize) < links.len() {
+        links[slot as usize].before = before;
+    }
+}
+
+/// Writes what follows a slot, or where there is no such slot the head of a bucket.
+pub(crate) fn set_follower(
+    heads: &mut Vec<u32>,
+    links: &mut Vec<Link>,
+    bucket: usize,
+    before: u32,
+    next: u32,
+)
+    requires bucket { bucket < length heads.old.items }
+    requires few { length links.old.items ≤ none }
+    ensures heads { heads.new.items ≡ (if nat_eq before none then slice_set heads.old.items bucket next else heads.old.items) }
+    ensures reads { (t : ℕ) → slice_get links.new.items t ≡ next_set before next (slice_get links.old.items) t }
+    ensures len { length links.new.items ≡ length links.old.items }
+{
+    if before == NONE {
+        heads[bucket] = next;
+    }
+    set_next(links, before, next);
+}
+
+/// A slot, where it is one.
+pub(crate) fn some_slot(slot: u32) -> Option<u32>
+    ensures { result ≡ (if nat_eq slot none then None else Some slot) }
+{
+    if slot == NONE { None } else { Some(slot) }
+}
+
+/// Adds the chain that begins at a head to a list.
+fn add_chain(links: &[Link], head: u32, order: &mut Vec<(u32, u32)>) -> Result<(), AllocError>
+    requires few { length links.now ≤ none }
+    requires front { head ≡ front_or none (walk (slice_get links.now) (length links.now) head) }
+    requires chained { IsChain (slice_get links.now) none (walk (slice_get links.now) (length links.now) head) none }
+    ensures { OnOk result (order.new.items ≡ order.old.items ++ walk (slice_get links.now) (length links.now) head) }
+{
+    let mut slot = head;
+    while slot != NONE {
+        let link = links[slot as usize];
+        order.push((slot, link.hash))?;
+        slot = link.next;
+    }
+    Ok(())
+}
+
+/// All chains, one after another.
+pub(crate) fn all_links(
+    alloc: Global,
+    heads: &[u32],
+    links: &[Link],
+) -> Result<Vec<(u32, u32)>, AllocError>
+    requires { AreLinked heads.now links.now }
+    ensures { IfOk result (λ order. order.items ≡ all_of (chains_from heads.now links.now)) }
+{
+    let mut order = Vec::new(alloc);
+    for head in heads {
+        add_chain(links, *head, &mut order)?;
+    }
+    Ok(order)
+}
