@@ -7,7 +7,7 @@ use Rattle.serde_json.specs.declared.value.Value.{Value}
 use Rattle.serde_json.specs.Written.{has_float, items_have_float, compact_text}
 use Rattle.json_rows.proofs.Printed.{items_have_float-items_of, integer_has_none}
 use Rattle.hol_answers.specs.declared.reply.Reply.{Reply}
-use Rattle.hol_answers.specs.declared.reply.Reply.TheVariants.{Head, Cycle, Load, Step, Get, Find, Live, Row, At, Past, Refused}
+use Rattle.hol_answers.specs.declared.reply.Reply.TheVariants.{Head, Cycle, Restore, Load, Step, Get, Find, Live, Row, At, Past, Refused}
 use Rattle.hol_answers.specs.declared.refusal.ItemFault.{ItemFault}
 use Rattle.hol_answers.specs.declared.refusal.Refusal.{Refusal}
 use Rattle.hol_answers.specs.declared.refusal.RowPlace.{RowPlace}
@@ -18,7 +18,7 @@ use Rattle.hol_orders.specs.Parts.{whole}
 use Rattle.hol_answers.specs.Plain.{IsPlain}
 use Rattle.hol_answers.specs.Member.{number_or_null, text_or_null}
 use Rattle.hol_answers.specs.Refusal.{bad_blob_data, refusal_data}
-use Rattle.hol_answers.specs.Reply.{reply_data, head_data, cycle_data, tag_data, get_data, ordinals_data, at_data, row_data, past_item, texts_data, names_data, tags_data, line_of}
+use Rattle.hol_answers.specs.Reply.{reply_data, head_data, cycle_data, restore_data, tag_data, get_data, ordinals_data, at_data, row_data, past_item, texts_data, names_data, tags_data, line_of}
 
 -- a name or a number that may be null has none
 has_float-text_or_null : (text : Option (List ℕ)) → has_float (text_or_null text) ≡ false
@@ -56,6 +56,9 @@ has_float-cycle_data changed published version =
 pub has_float-tag_data : (word : List ℕ) (tag : ℤ) → has_float (tag_data word tag) ≡ false
 has_float-tag_data word tag = rw (integer_has_none tag) refl
 
+pub has_float-restore_data : (tag : ℤ) (version : ℕ) → has_float (restore_data tag version) ≡ false
+has_float-restore_data tag version = rw (integer_has_none tag) refl
+
 pub has_float-ordinals_data : (word ordinals : List ℕ) → has_float (ordinals_data word ordinals) ≡ false
 has_float-ordinals_data word ordinals =
     let numbers : items_have_float (items_of (map whole ordinals)) ≡ false = items_have_float-items_of _ (λ n. refl) ordinals in
@@ -74,6 +77,7 @@ IsBare _ = Unit {0}
 has_float-reply_data : (reply : Reply) → IsBare reply → has_float (reply_data reply) ≡ false
 has_float-reply_data (Head header) is = has_float-head_data header
 has_float-reply_data (Cycle changed published version) is = has_float-cycle_data changed published version
+has_float-reply_data (Restore tag version) is = has_float-restore_data tag version
 has_float-reply_data (Load tag) is = has_float-tag_data (codes "load") tag
 has_float-reply_data (Step tag) is = has_float-tag_data (codes "step") tag
 has_float-reply_data (Get ordinal row) is = absurd is

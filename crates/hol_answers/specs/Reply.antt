@@ -8,8 +8,9 @@ use Rattle.serde_json.specs.Written.{compact_text}
 use Rattle.schema_model.specs.declared.schema.name.Name.{Name}
 use Rattle.schema_model.specs.declared.schema.Schema.{Schema}
 use Rattle.blob_frame.specs.declared.header.Header.{Header}
+use Rattle.hol_answers.specs.declared.reply.Made.{Made}
 use Rattle.hol_answers.specs.declared.reply.Reply.{Reply}
-use Rattle.hol_answers.specs.declared.reply.Reply.TheVariants.{Head, Model, Cycle, Load, Step, Index, Get, Find, Live, Row, Has, At, Past, Refused}
+use Rattle.hol_answers.specs.declared.reply.Reply.TheVariants.{Head, Model, Cycle, Restore, Load, Step, Index, Get, Find, Live, Row, Has, At, Past, Check, Make, Refused}
 use Rattle.hol_orders.specs.Parts.{pair, whole}
 use Rattle.hol_answers.specs.Member.{number_or_null}
 use Rattle.hol_answers.specs.Refusal.{refusal_data}
@@ -57,6 +58,13 @@ cycle_data changed published version = object
     (member (codes "ok") (string (codes "cycle"))
     (member (codes "published") (boolean published)
     (member (codes "version") (whole version) no_members))))
+
+-- a producer that is at this tag and version again
+abbrev pub restore_data : ℤ → ℕ → Data
+restore_data tag version = object
+    (member (codes "ok") (string (codes "restore"))
+    (member (codes "tag") (number (of_integer tag))
+    (member (codes "version") (whole version) no_members)))
 
 -- a consumer that is now at this tag
 abbrev pub tag_data : List ℕ → ℤ → Data
@@ -125,11 +133,32 @@ past_data entries = object
     (member (codes "ok") (string (codes "past"))
     (member (codes "rows") (array (items_of (map past_item entries))) no_members))
 
+-- so many states of a walk, each that of its snapshot
+abbrev pub check_data : ℕ → Data
+check_data states = object
+    (member (codes "ok") (string (codes "check"))
+    (member (codes "states") (whole states) no_members))
+
+-- how many rows there are of each type of `make`
+abbrev pub made_rows : Made → Data
+made_rows made = object
+    (member (codes "Film") (whole made.films)
+    (member (codes "Tags") (whole made.tags)
+    (member (codes "Text") (whole made.texts) no_members)))
+
+-- the summary of `make`
+abbrev pub make_data : Made → Data
+make_data made = object
+    (member (codes "ok") (string (codes "make"))
+    (member (codes "published") (whole made.published)
+    (member (codes "rows") (made_rows made) no_members)))
+
 -- The JSON object of an answer.
 abbrev pub reply_data : Reply → Data
 reply_data (Head header) = head_data header
 reply_data (Model types) = model_data types
 reply_data (Cycle changed published version) = cycle_data changed published version
+reply_data (Restore tag version) = restore_data tag version
 reply_data (Load tag) = load_data tag
 reply_data (Step tag) = step_data tag
 reply_data (Index keys) = index_data keys
@@ -140,6 +169,8 @@ reply_data (Row row) = row_data row
 reply_data (Has there) = has_data there
 reply_data (At value) = at_data value
 reply_data (Past entries) = past_data entries
+reply_data (Check states) = check_data states
+reply_data (Make made) = make_data made
 reply_data (Refused refusal) = refusal_data refusal
 
 -- Whether an answer is a refusal.
@@ -148,6 +179,7 @@ is_refusal (Refused refusal) = true
 is_refusal (Head header) = false
 is_refusal (Model types) = false
 is_refusal (Cycle changed published version) = false
+is_refusal (Restore tag version) = false
 is_refusal (Load tag) = false
 is_refusal (Step tag) = false
 is_refusal (Index keys) = false
@@ -158,6 +190,8 @@ is_refusal (Row row) = false
 is_refusal (Has there) = false
 is_refusal (At value) = false
 is_refusal (Past entries) = false
+is_refusal (Check states) = false
+is_refusal (Make made) = false
 
 -- The line of an answer: its JSON text without spaces, and a newline.
 abbrev pub line_of : Reply → List ℕ

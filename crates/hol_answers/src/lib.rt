@@ -18,4 +18,4 @@ pub use refusal::{
     Difference, EqualRows, ItemFault, MAX_LINE_BYTES, OriginFault, Refusal, RefusedRecord, RowPlace,
 };
 pub use refusal_json::refusal_value;
-pub use reply::{PastRows, Reply, put_reply, reply_line};
+pub use reply::{Made, PastRows, Reply, put_reply, reply_line};

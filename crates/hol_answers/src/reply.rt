@@ -2,7 +2,7 @@
 ghost use Rattle.std.specs.Prelude.{◌≡◌, ◌++◌, IfOk, OnOk, OnErr, string_bytes};
 ghost use Rattle.serde_json.specs.View.{view};
 ghost use Rattle.hol_answers.specs.Plain.{IsPlain};
-ghost use Rattle.hol_answers.specs.Reply.{reply_data, head_data, model_data, cycle_data, load_data, step_data, tag_data, index_data, get_data, ordinals_data, row_data, has_data, at_data, past_data, past_item, texts_data, names_data, numbers_data, tags_data, tag_item, is_refusal, line_of};
+ghost use Rattle.hol_answers.specs.Reply.{reply_data, head_data, model_data, cycle_data, restore_data, load_data, step_data, tag_data, index_data, get_data, ordinals_data, row_data, has_data, at_data, past_data, past_item, check_data, make_data, made_rows, texts_data, names_data, numbers_data, tags_data, tag_item, is_refusal, line_of};
 
 use crate::Content::{Integer, Json, Number, Text};
 use crate::line::{line_text, put_line};
@@ -17,6 +17,19 @@ use std::alloc::{AllocError, Global};
 /// Rows that left, each by its ordinal and as its record.
 pub type PastRows = List<(u32, PlainValue)>;
 
+/// What the command `make` has published.
+#[derive(Debug, Drop)]
+pub struct Made {
+    /// How many states.
+    pub published: u64,
+    /// How many rows of Film the last one has.
+    pub films: u64,
+    /// How many rows of Tags it has.
+    pub tags: u64,
+    /// How many rows of Text it has.
+    pub texts: u64,
+}
+
 /// What a command or an order answers in one line.
 #[derive(Debug, Drop)]
 pub enum Reply {
@@ -30,6 +43,13 @@ pub enum Reply {
         changed: Names,
         /// Whether blobs were put.
         published: bool,
+        /// The version that was asked for.
+        version: u64,
+    },
+    /// The producer became that of a version's snapshot.
+    Restore {
+        /// The tag of the state.
+        tag: i64,
         /// The version that was asked for.
         version: u64,
     },
@@ -58,6 +78,10 @@ pub enum Reply {
     At(Option<u32>),
     /// The records of a type that left in the last step, by rising ordinal.
     Past(PastRows),
+    /// So many states of a walk are those of their snapshots.
+    Check(u64),
+    /// The summary of the command `make`.
+    Make(Made),
     /// Why the command or the order is refused.
     Refused(Refusal),
 }
@@ -102,6 +126,7 @@ fn reply_value(alloc: Global, reply: Reply) -> Result<Value, AllocError>
             published,
             version,
         } => cycle_value(alloc, &changed, published, version),
+        Reply::Restore { tag, version } => restore_value(alloc, tag, version),
         Reply::Load(tag) => tag_value(alloc, "load", tag),
         Reply::Step(tag) => tag_value(alloc, "step", tag),
         Reply::Index(keys) => index_value(alloc, keys),
@@ -112,6 +137,8 @@ fn reply_value(alloc: Global, reply: Reply) -> Result<Value, AllocError>
         Reply::Has(there) => has_value(alloc, there),
         Reply::At(value) => at_value(alloc, value),
         Reply::Past(rows) => past_value(alloc, rows),
+        Reply::Check(states) => check_value(alloc, states),
+        Reply::Make(made) => make_value(alloc, &made),
         Reply::Refused(refusal) => refusal_value(alloc, &refusal),
     }
 }
@@ -153,6 +180,48 @@ fn cycle_value(
         ("ok", Text("cycle")),
         ("published", Json(Value::Bool(published))),
         ("version", Number(version)),
+    ]?;
+    object_of(alloc, members)
+}
+
+fn restore_value(alloc: Global, tag: i64, version: u64) -> Result<Value, AllocError>
+    ensures { IfOk result (λ value. view value ≡ restore_data tag version) }
+{
+    let members = vec![in alloc;
+        ("ok", Text("restore")),
+        ("tag", Integer(tag)),
+        ("version", Number(version)),
+    ]?;
+    object_of(alloc, members)
+}
+
+fn check_value(alloc: Global, states: u64) -> Result<Value, AllocError>
+    ensures { IfOk result (λ value. view value ≡ check_data states) }
+{
+    let members = vec![in alloc; ("ok", Text("check")), ("states", Number(states))]?;
+    object_of(alloc, members)
+}
+
+fn make_value(alloc: Global, made: &Made) -> Result<Value, AllocError>
+    ensures { IfOk result (λ value. view value ≡ make_data made.now) }
+{
+    let rows = rows_value(alloc, made)?;
+    let members = vec![in alloc;
+        ("ok", Text("make")),
+        ("published", Number(made.published)),
+        ("rows", Json(rows)),
+    ]?;
+    object_of(alloc, members)
+}
+
+// How many rows there are of each type.
+fn rows_value(alloc: Global, made: &Made) -> Result<Value, AllocError>
+    ensures { IfOk result (λ value. view value ≡ made_rows made.now) }
+{
+    let members = vec![in alloc;
+        ("Film", Number(made.films)),
+        ("Tags", Number(made.tags)),
+        ("Text", Number(made.texts)),
     ]?;
     object_of(alloc, members)
 }

@@ -17,7 +17,7 @@ use Rattle.hol_answers.specs.declared.reply.Reply.{Reply}
 use Rattle.hol_answers.specs.declared.reply.Reply.TheVariants.{Cycle, Refused}
 use Rattle.hollow_machine.specs.Follow.{MayFollow, MayNotFollow}
 use Rattle.state_blobs.specs.Puts.{AreBlobs, IsShort, Put, puts_of, put_all}
-use Rattle.hollow_machine.specs.Records.{GivesNoTrees, GivesTrees}
+use Rattle.hollow_machine.specs.Records.{AskedCycle, GivesNoTrees, GivesTrees, asked_cycle}
 use Rattle.hollow_machine.specs.State.{Machine, with_producer, with_store}
 use Rattle.state_blobs.specs.Published.{Published}
 use Rattle.hollow_machine.specs.Forms.{OrderForm}
@@ -42,7 +42,7 @@ PassesLimit last version tag trees passed =
     (rows : Table) × (changed : List ℕ) × Makes last trees rows changed × Publishes last changed × TellsTypes last.model last.rows rows (Some passed)
 
 -- Why the order is refused, where there is a producer: the state may not follow; or its records give no trees; or these pass a limit.
-abbrev pub RefusesAfter : Store → Published → AskedState → Refusal → Type 0
+abbrev pub RefusesAfter : Store → Published → AskedCycle → Refusal → Type 0
 RefusesAfter store last asked (NoType name) = MayFollow store last.version asked.version asked.tag × GivesNoTrees last.model asked.add (NoType name)
 RefusesAfter store last asked (BadRecord fault) = MayFollow store last.version asked.version asked.tag × GivesNoTrees last.model asked.add (BadRecord fault)
 RefusesAfter store last asked (TooLarge passed) =
@@ -51,7 +51,7 @@ RefusesAfter store last asked (TooLarge passed) =
 RefusesAfter store last asked refusal = MayNotFollow store last.version asked.version asked.tag refusal
 
 -- Why the order is refused: there is no producer, or what there is to it.
-abbrev pub CycleRefusal : Machine → AskedState → Refusal → Type 0
+abbrev pub CycleRefusal : Machine → AskedCycle → Refusal → Type 0
 CycleRefusal machine asked NoModel = machine.producer ≡ None
 CycleRefusal machine asked refusal = IsSomeAnd machine.producer (λ last. RefusesAfter machine.store last asked refusal)
 
@@ -74,17 +74,17 @@ Succeeds machine last version tag trees names published next =
     × Leaves machine last rows changed version tag published next
 
 -- The state may follow, and its records give trees, of which this is answered.
-abbrev pub SucceedsAfter : Machine → Published → AskedState → List (List ℕ) → Bool → Machine → Type 0
+abbrev pub SucceedsAfter : Machine → Published → AskedCycle → List (List ℕ) → Bool → Machine → Type 0
 SucceedsAfter machine last asked names published next =
     MayFollow machine.store last.version asked.version asked.tag
     × ((trees : List (ℕ × PlainTree)) × GivesTrees last.model asked.add trees × Succeeds machine last asked.version asked.tag trees names published next)
 
 -- What the order answers, and the machine behind it.
-abbrev pub CycleStep : Machine → AskedState → Reply → Machine → Type 0
+abbrev pub CycleStep : Machine → AskedCycle → Reply → Machine → Type 0
 CycleStep machine asked (Cycle names published version) next =
     (version ≡ asked.version) × IsSomeAnd machine.producer (λ last. SucceedsAfter machine last asked names published next)
 CycleStep machine asked (Refused refusal) next = CycleRefusal machine asked refusal × (next ≡ machine)
 CycleStep machine asked _ next = ⊥
 
 abbrev pub cycle_form : OrderForm AskedState
-cycle_form = record { Answers = λ machine asked reply next. CycleStep machine asked reply next; of_state = false }
+cycle_form = record { Answers = λ machine asked reply next. CycleStep machine (asked_cycle asked) reply next; of_state = false }

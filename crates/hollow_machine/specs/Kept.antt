@@ -7,7 +7,7 @@ use Rattle.write_engine.specs.Production.{Production}
 use Rattle.read_engine.specs.Position.{Position}
 use Rattle.hol_answers.specs.declared.reply.Reply.{Reply}
 use Rattle.hollow_machine.specs.State.{Machine}
-use Rattle.state_blobs.specs.Published.{Published, published_of}
+use Rattle.state_blobs.specs.Published.{published_of}
 
 -- What is kept from line to line beside the store: a producer, where there is one, and where the consumer stands, once it has a state.
 pub record Kept : Type 0 where

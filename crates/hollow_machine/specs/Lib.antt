@@ -1,4 +1,5 @@
 pub mod Blobs
+pub mod CheckOrder
 pub mod CycleOrder
 pub mod Follow
 pub mod Forms
@@ -7,9 +8,11 @@ pub mod Kept
 pub mod KeyOrders
 pub mod KeyPaths
 pub mod LoadOrder
+pub mod MakeCommand
 pub mod MemberOrders
 pub mod ModelOrder
 pub mod Records
+pub mod RestoreOrder
 pub mod RowOrders
 pub mod Script
 pub mod State

@@ -1,5 +1,5 @@
--- The records of a cycle: those under the name of each type of the model, types in model order, and which trees they give.
-use Rattle.std.specs.Prelude.{◌≡◌, ℕ, List, [], ◌∷◌, ◌++◌, All, IsOk, IsSome, IsSomeAnd, None, Ok, Err, length, map, flat_map, slice_get}
+-- The records of a cycle, and which trees they give: as JSON, those under the name of each type of the model, types in model order.
+use Rattle.std.specs.Prelude.{◌≡◌, ℕ, ℤ, List, [], ◌∷◌, ◌++◌, All, IsOk, IsSome, IsSomeAnd, None, Ok, Err, length, map, flat_map, slice_get}
 use Rattle.std.specs.List.{AllZip, range_with_len, zip}
 use Rattle.std.specs.Option.{option_map_or, option_and_then}
 use Rattle.serde_json.specs.Data.{Data, Items, no_items, item, Members, no_members, member}
@@ -9,8 +9,24 @@ use Rattle.schema_model.specs.declared.schema.Schema.{Schema}
 use Rattle.schema_model.specs.Parts.{index_of_type}
 use Rattle.row_model.specs.PlainTree.{PlainTree}
 use Rattle.record_json.specs.ReadTree.{read_tree}
+use Rattle.hol_orders.specs.Parts.{AskedState}
 use Rattle.hol_answers.specs.declared.refusal.Refusal.{Refusal}
 use Rattle.hol_answers.specs.declared.refusal.Refusal.TheVariants.{BadRecord, NoType}
+
+-- The records that a cycle adds: as the JSON of an order, or as trees, each with its type.
+pub data Adding : Type 0 where
+  spelled : Data → Adding
+  given : List (ℕ × PlainTree) → Adding
+
+-- What a cycle asks for: the version and the tag that the next state is to have, and the records that it adds.
+pub record AskedCycle : Type 0 where
+  pub version : ℕ
+  pub tag : ℤ
+  pub add : Adding
+
+-- what an order asks for
+abbrev pub asked_cycle : AskedState → AskedCycle
+asked_cycle asked = record { version = asked.version; tag = asked.tag; add = spelled asked.add }
 
 -- A record of a cycle: the index of its type, its place among the records of the type, from 0, and its JSON.
 pub record Entry : Type 0 where
@@ -81,16 +97,26 @@ pub record IsFirstUnknown (schemas : List Schema) (add : Data) (name : List ℕ)
   pub known : All (λ earlier. IsSome (index_of_type schemas earlier)) before
   pub unknown : index_of_type schemas name ≡ None
 
--- The records give these trees, each with its type: each name is that of a type.
-pub record GivesTrees (schemas : List Schema) (add : Data) (trees : List (ℕ × PlainTree)) : Type 0 where
+-- The JSON gives these trees, each with its type: each name is that of a type.
+pub record SpellsTrees (schemas : List Schema) (add : Data) (trees : List (ℕ × PlainTree)) : Type 0 where
   pub types : AreTypes schemas add
   pub read : AreRead schemas (entries schemas add) trees
 
+-- The records give these trees.
+abbrev pub GivesTrees : List Schema → Adding → List (ℕ × PlainTree) → Type 0
+GivesTrees schemas (spelled add) trees = SpellsTrees schemas add trees
+GivesTrees schemas (given records) trees = trees ≡ records
+
+-- The records are JSON, of which this holds.
+abbrev pub IsSpelledAnd : Adding → (Data → Type 0) → Type 0
+IsSpelledAnd (spelled add) P = P add
+IsSpelledAnd (given records) P = ⊥
+
 -- Why the records give no trees: a name is that of no type; or a record, of this type, gives none.
-abbrev pub GivesNoTrees : List Schema → Data → Refusal → Type 0
-GivesNoTrees schemas add (NoType name) = IsFirstUnknown schemas add name
+abbrev pub GivesNoTrees : List Schema → Adding → Refusal → Type 0
+GivesNoTrees schemas add (NoType name) = IsSpelledAnd add (λ json. IsFirstUnknown schemas json name)
 GivesNoTrees schemas add (BadRecord fault) =
-    AreTypes schemas add
+    IsSpelledAnd add (λ json. AreTypes schemas json
     × ((t : ℕ) × IsSomeAnd (slice_get schemas t) (λ schema. schema.name ≡ fault.type_name)
-    × IsFirstUnread schemas (entries schemas add) t fault.index fault.reason)
+    × IsFirstUnread schemas (entries schemas json) t fault.index fault.reason))
 GivesNoTrees schemas add _ = ⊥
