@@ -1,5 +1,5 @@
 -- What is answered of a consumer's state is answered as where the consumer has it afresh, and the other way round.
-use Rattle.std.proofs.Common.{◌≡◌, List, true, Option, Some, None, sym, ap, subst, ◌∙◌}
+use Rattle.std.proofs.Common.{◌≡◌, List, Some, sym, ap, subst, ◌∙◌}
 use Rattle.std.specs.Prelude.{◌↔◌}
 use Rattle.schema_model.specs.declared.schema.Schema.{Schema}
 use Rattle.hol_orders.specs.declared.order.Order.{Order}

@@ -3,7 +3,7 @@ use Rattle.std.proofs.Common.{◌≡◌, ◌≢◌, ℕ, ℤ, List, [], length, 
 use Rattle.std.specs.Prelude.{IsSomeAnd, nat_lt}
 use Rattle.std.specs.FinMap.{get}
 use Rattle.hol_io.specs.declared.name.BlobName.{BlobName}
-use Rattle.hol_io.specs.declared.name.BlobName.TheVariants.{Snapshot, Delta, Reverse, Announced}
+use Rattle.hol_io.specs.declared.name.BlobName.TheVariants.{Snapshot, Delta, Reverse}
 use Rattle.schema_model.specs.declared.schema.Schema.{Schema}
 use Rattle.type_state.specs.Views.{table_of}
 use Rattle.blob_frame.specs.declared.header.Header.{Header}
@@ -156,7 +156,7 @@ no_load_refusal version content blob position at (head, accepted, tag, before, b
 no_load_refusal version content blob position at loads _ is = absurd is
 
 module _ (machine : Machine) (chain : Chain) (version : ℕ) (state : ChainState) (holds : HoldsChain machine.store chain) (there : HasVersion chain version state) (whole : IsThere machine.store (Snapshot version)) where
-  can_load : (blob : List ℕ) × (position : Position) × (get machine.store (Snapshot version) ≡ Some blob) × LoadsFrom blob position
+  pub can_load : (blob : List ℕ) × (position : Position) × (get machine.store (Snapshot version) ≡ Some blob) × LoadsFrom blob position
   can_load =
       let (blob, at) = found (get machine.store (Snapshot version)) whole in
       let (other, also, (head, tag, is)) = holds.each (Snapshot version) blob at in

@@ -14,6 +14,7 @@ use Rattle.hol_answers.specs.declared.reply.Reply.TheVariants as reply
 use Rattle.hol_orders.specs.Kind.{shape}
 use Rattle.hol_orders.specs.Order.{Asking, Orders}
 use Rattle.hol_orders.specs.Parts.{AskedState, asked_state}
+use Rattle.hollow_machine.specs.Records.{AskedCycle, asked_cycle}
 use Rattle.write_engine.specs.CycleLimit.{TellsTypes}
 use Rattle.hollow_machine.specs.CycleOrder.{CycleStep, Makes, SucceedsAfter, cycle_form}
 use Rattle.hollow_machine.specs.Follow.{MayFollow}
@@ -23,7 +24,7 @@ use Rattle.state_blobs.specs.Published.{Published}
 use Rattle.hol_io.specs.declared.name.BlobName.TheVariants.{Announced}
 use Rattle.written_laws.specs.Chain.{Chain}
 use Rattle.written_laws.specs.States.{IsWritableModel}
-use Rattle.chain_laws.specs.Growth.{AddsAsked}
+use Rattle.chain_laws.specs.Growth.{AddsAsked, GrowsByCycle}
 use Rattle.chain_laws.specs.Producers.{IsOver, IsProducerOf, KeepsChain, state_behind}
 use Rattle.chain_laws.proofs.PublishedState.{first_kept, later_kept, over_longer, versions_stay}
 use Rattle.chain_laws.proofs.StoreNames.{found_with}
@@ -31,10 +32,20 @@ use Rattle.written_laws.specs.HoldsChain.{HoldsChain}
 use Rattle.chain_laws.specs.Consumers.{IsConsumerOf}
 use Rattle.write_engine.proofs.NextStates.{next_once}
 use Rattle.chain_laws.proofs.OneCycle.{IsOnce, one_cycle}
-use Rattle.chain_laws.proofs.Lawful.{IsLawful, IsSoundMachine, Keeps, KeepsOf, same_keeps, stays_sound, stays_of, same_of, says_both}
+use Rattle.chain_laws.proofs.Lawful.{Extends, IsLawful, IsSoundMachine, Keeps, KeepsOf, stays_sound, stays_of, same_of, says_both}
 use Rattle.hol_orders.specs.declared.kind.Kind.{Kind}
 
-module _ (machine : Machine) (line : List ℕ) (chain : Chain) (kept : KeepsChain machine.store chain) (over : IsProducerOf chain machine.producer) where
+-- The cycle leaves this machine, and the chain grew by what it published.
+abbrev pub KeepsCycle : Machine → AskedCycle → Reply → Chain → Machine → Type 0
+KeepsCycle machine asked answer chain next =
+    (after : Chain) × GrowsByCycle machine asked answer chain after × KeepsChain next.store after × IsProducerOf after next.producer × Extends chain after
+
+module _ (machine : Machine) (chain : Chain) (kept : KeepsChain machine.store chain) (over : IsProducerOf chain machine.producer) where
+  stays_kept : (answer : Reply) (next : Machine) (asked : AskedCycle) → GrowsByCycle machine asked answer chain chain → next ≡ machine → KeepsCycle machine asked answer chain next
+  stays_kept answer next asked grows same =
+      let both = subst (λ (m : Machine). KeepsChain m.store chain × IsProducerOf chain m.producer) (sym same) (kept, over) in
+      (chain, grows, both.0, both.1, (λ v s there. there))
+
   -- the model of the last state can be written
   writable : (last : Published) → IsOver chain last → IsWritableModel last.model
   writable last is_over = record { model = is_over.model; texts = is_over.texts }
@@ -52,37 +63,45 @@ module _ (machine : Machine) (line : List ℕ) (chain : Chain) (kept : KeepsChai
       (later_kept machine.store chain last version tag trees rows kept is_over can may is_version fits makes.state limits delta reverse snapshot nonzero forward back written
       (all 0 (Announced, []) (omega arith)) (all 1 (Announced, []) (omega arith)) (all 2 (Announced, []) (omega arith)))
 
-  cycle_done : (producer : Option Published) → machine.producer ≡ producer → (next_state : NextState) (names : List (List ℕ)) (published : Bool) (next : Machine)
-      → Orders line (order.Cycle next_state) → IsProducerOf chain producer
-      → IsSomeAnd producer (λ last. SucceedsAfter machine last (asked_state next_state) names published next) → Keeps machine line (reply.Cycle names published next_state.version) chain next
-  cycle_done None is next_state names published next orders is_over succeeds = absurd succeeds
-  cycle_done (Some last) is next_state names false next orders is_over (may, (trees, gives, (rows, changed, makes, named, leaves))) =
-      same_keeps machine line chain kept over (reply.Cycle names false next_state.version) next refl leaves.2
-  cycle_done (Some last) is next_state names true next orders is_over (may, (trees, gives, (rows, changed, makes, named, (publishes, limits, (blobs, are, short, next_is))))) =
-      let version = next_state.version in
-      let tag = next_state.tag in
+  -- a cycle's numbers are a version and a tag
+  cycle_done : (producer : Option Published) → machine.producer ≡ producer → (asked : AskedCycle) (names : List (List ℕ)) (published : Bool) (next : Machine)
+      → IsVersion asked.version → FitsSigned w64 asked.tag → IsProducerOf chain producer
+      → IsSomeAnd producer (λ last. SucceedsAfter machine last asked names published next) → KeepsCycle machine asked (reply.Cycle names published asked.version) chain next
+  cycle_done None is asked names published next is_version fits is_over succeeds = absurd succeeds
+  cycle_done (Some last) is asked names false next is_version fits is_over (may, (trees, gives, (rows, changed, makes, named, leaves))) =
+      stays_kept (reply.Cycle names false asked.version) next asked refl leaves.2
+  cycle_done (Some last) is asked names true next is_version fits is_over (may, (trees, gives, (rows, changed, makes, named, (publishes, limits, (blobs, are, short, next_is))))) =
+      let version = asked.version in
+      let tag = asked.tag in
       let longer = insert chain version (state_behind last tag rows) in
       let can = writable last is_over in
-      let held = puts_keep last version tag trees rows changed blobs is_over orders.0.0 orders.0.1 may makes limits are short can in
-      let moved = over_longer machine.store chain last version tag trees rows kept is_over can may orders.0.0 orders.0.1 makes.state limits in
-      let grows : AddsAsked chain last (asked_state next_state) longer = (trees, gives, (rows, makes.state, refl)) in
+      let held = puts_keep last version tag trees rows changed blobs is_over is_version fits may makes limits are short can in
+      let moved = over_longer machine.store chain last version tag trees rows kept is_over can may is_version fits makes.state limits in
+      let grows : AddsAsked chain last asked longer = (trees, gives, (rows, makes.state, refl)) in
       let both = subst (λ (m : Machine). KeepsChain m.store longer × IsProducerOf longer m.producer) (sym next_is) (held, moved) in (
         longer,
-        (next_state, refl, orders, subst (λ (p : Option Published). IsSomeAnd p (λ l. AddsAsked chain l (asked_state next_state) longer)) (sym is) grows),
+        subst (λ (p : Option Published). IsSomeAnd p (λ l. AddsAsked chain l asked longer)) (sym is) grows,
         both.0,
         both.1,
-        versions_stay machine.store chain last version tag trees rows kept is_over can may orders.0.0 orders.0.1 makes.state limits,
+        versions_stay machine.store chain last version tag trees rows kept is_over can may is_version fits makes.state limits,
       )
 
-  cycle_keeps : (next_state : NextState) (answer : Reply) (next : Machine) → Orders line (order.Cycle next_state) → CycleStep machine (asked_state next_state) answer next → Keeps machine line answer chain next
-  cycle_keeps next_state (reply.Cycle names published version) next orders step =
-      subst (λ (v : ℕ). Keeps machine line (reply.Cycle names published v) chain next) (sym step.0)
-      (cycle_done machine.producer refl next_state names published next orders over step.1)
-  cycle_keeps next_state (reply.Refused refusal) next orders step = same_keeps machine line chain kept over (reply.Refused refusal) next refl step.1
-  cycle_keeps next_state _ next orders step = absurd step
+  pub cycle_keeps : (asked : AskedCycle) (answer : Reply) (next : Machine) → IsVersion asked.version → FitsSigned w64 asked.tag → CycleStep machine asked answer next
+      → KeepsCycle machine asked answer chain next
+  cycle_keeps asked (reply.Cycle names published version) next is_version fits step =
+      subst (λ (v : ℕ). KeepsCycle machine asked (reply.Cycle names published v) chain next) (sym step.0)
+      (cycle_done machine.producer refl asked names published next is_version fits over step.1)
+  cycle_keeps asked (reply.Refused refusal) next is_version fits step = stays_kept (reply.Refused refusal) next asked refl step.1
+  cycle_keeps asked _ next is_version fits step = absurd step
+
+-- as a cycle keeps the chain, so does the line that asks for it
+line_keeps : (machine : Machine) (line : List ℕ) (chain : Chain) (next_state : NextState) (answer : Reply) (next : Machine) → Orders line (order.Cycle next_state)
+    → CycleStep machine (asked_cycle (asked_state next_state)) answer next → KeepsCycle machine (asked_cycle (asked_state next_state)) answer chain next → Keeps machine line answer chain next
+line_keeps machine line chain next_state (reply.Cycle names true version) next orders step (after, grows, kept, over, longer) = (after, (next_state, sym step.0, orders, grows), kept, over, longer)
+line_keeps machine line chain next_state _ next orders step keeps = keeps
 
 module _ (machine : Machine) (sound : IsSoundMachine machine) where
-  succeeds_sound : (last : Published) (asked : AskedState) (names : List (List ℕ)) (published : Bool) (next : Machine) → IsOnce last
+  succeeds_sound : (last : Published) (asked : AskedCycle) (names : List (List ℕ)) (published : Bool) (next : Machine) → IsOnce last
       → SucceedsAfter machine last asked names published next → IsSoundMachine next
   succeeds_sound last asked names false next once (may, (trees, gives, (rows, changed, makes, named, leaves))) = stays_sound machine sound next leaves.2
   succeeds_sound last asked names true next once (may, (trees, gives, (rows, changed, makes, named, (publishes, limits, (blobs, are, short, next_is))))) =
@@ -90,7 +109,7 @@ module _ (machine : Machine) (sound : IsSoundMachine machine) where
       record { model = once.model; once = next_once last.model last.rows rows trees once.once makes.state } in
       subst IsSoundMachine (sym next_is) (new, sound.1)
 
-  cycle_sound : (asked : AskedState) (answer : Reply) (next : Machine) → CycleStep machine asked answer next → IsSoundMachine next
+  pub cycle_sound : (asked : AskedCycle) (answer : Reply) (next : Machine) → CycleStep machine asked answer next → IsSoundMachine next
   cycle_sound asked (reply.Cycle names published version) next step =
       let (last, is, succeeds) = found_with machine.producer _ step.1 in
       succeeds_sound last asked names published next (subst (λ (producer : Option Published). IfSome producer IsOnce) is sound.0) succeeds
@@ -98,13 +117,13 @@ module _ (machine : Machine) (sound : IsSoundMachine machine) where
   cycle_sound asked _ next step = absurd step
 
 module _ (machine : Machine) (chain : Chain) (holds : HoldsChain machine.store chain) (of : IsConsumerOf chain machine.consumer) where
-  succeeds_moves : (last : Published) (asked : AskedState) (names : List (List ℕ)) (published : Bool) (next : Machine) → SucceedsAfter machine last asked names published next
+  succeeds_moves : (last : Published) (asked : AskedCycle) (names : List (List ℕ)) (published : Bool) (next : Machine) → SucceedsAfter machine last asked names published next
       → IsConsumerOf chain next.consumer
   succeeds_moves last asked names false next (may, (trees, gives, (rows, changed, makes, named, leaves))) = same_of machine chain of next leaves.2
   succeeds_moves last asked names true next (may, (trees, gives, (rows, changed, makes, named, (publishes, limits, (blobs, are, short, next_is))))) =
       stays_of machine chain of next (ap (λ (m : Machine). m.consumer) next_is)
 
-  cycle_moves : (asked : AskedState) (answer : Reply) (next : Machine) → CycleStep machine asked answer next → IsConsumerOf chain next.consumer
+  pub cycle_moves : (asked : AskedCycle) (answer : Reply) (next : Machine) → CycleStep machine asked answer next → IsConsumerOf chain next.consumer
   cycle_moves asked (reply.Cycle names published version) next step =
       let (last, is, succeeds) = found_with machine.producer _ step.1 in succeeds_moves last asked names published next succeeds
   cycle_moves asked (reply.Refused refusal) next step = same_of machine chain of next step.1
@@ -117,15 +136,16 @@ state_in _ asked = record { version = 0; tag = pos 0; add = null }
 
 cycle_order_keeps : KeepsOf Kind.Cycle cycle_form
 cycle_order_keeps machine chain kept over line (order.Cycle next_state) orders asked asks_it answer next step =
-    cycle_keeps machine line chain kept over next_state answer next orders
-    (subst (λ (state : AskedState). CycleStep machine state answer next) (sym (ap (λ (asking : Asking). state_in asking.kind asking.asked) asks_it)) step)
+    let stepped = subst (λ (state : AskedState). CycleStep machine (asked_cycle state) answer next) (sym (ap (λ (asking : Asking). state_in asking.kind asking.asked) asks_it)) step in
+    line_keeps machine line chain next_state answer next orders stepped
+    (cycle_keeps machine chain kept over (asked_cycle (asked_state next_state)) answer next orders.0.0 orders.0.1 stepped)
 cycle_order_keeps machine chain kept over line _ orders asked asks_it answer next step = let kinds = ap (λ (asking : Asking). asking.kind) asks_it in absurd cc
 
 pub cycle_lawful : IsLawful Kind.Cycle cycle_form
 cycle_lawful = record {
-  once = λ written machine sound asked one other next after is also. says_both one other next after (one_cycle written machine asked sound.0 one other next after is also);
-  sound = λ machine sound asked answer next is. cycle_sound machine sound asked answer next is;
+  once = λ written machine sound asked one other next after is also. says_both one other next after (one_cycle written machine (asked_cycle asked) sound.0 one other next after is also);
+  sound = λ machine sound asked answer next is. cycle_sound machine sound (asked_cycle asked) answer next is;
   keeps = cycle_order_keeps;
-  moves = λ machine chain holds of asked answer next is. cycle_moves machine chain holds of asked answer next is;
+  moves = λ machine chain holds of asked answer next is. cycle_moves machine chain holds of (asked_cycle asked) answer next is;
   afresh = λ can. absurd cc;
 }

@@ -1,11 +1,13 @@
 -- The laws hold of the orders of each kind.
 use Rattle.hol_orders.specs.declared.kind.Kind.{Kind}
 use Rattle.hollow_machine.specs.Step.{form}
+use Rattle.chain_laws.proofs.CheckLaws.{check_lawful}
 use Rattle.chain_laws.proofs.CycleLaws.{cycle_lawful}
 use Rattle.chain_laws.proofs.IndexLaws.{index_lawful}
 use Rattle.chain_laws.proofs.LoadLaws.{load_lawful}
 use Rattle.chain_laws.proofs.ModelLaws.{model_lawful}
 use Rattle.chain_laws.proofs.PastLaws.{past_lawful}
+use Rattle.chain_laws.proofs.RestoreLaws.{restore_lawful}
 use Rattle.chain_laws.proofs.StepLaws.{step_lawful}
 use Rattle.chain_laws.proofs.Lawful.{IsLawful, unbuilt_lawful}
 use Rattle.chain_laws.proofs.LookLaws.{at_lawful, find_lawful, get_lawful, has_lawful, live_lawful, row_lawful}
@@ -13,6 +15,7 @@ use Rattle.chain_laws.proofs.LookLaws.{at_lawful, find_lawful, get_lawful, has_l
 pub laws : (kind : Kind) → IsLawful kind (form kind)
 laws Kind.Model = model_lawful
 laws Kind.Cycle = cycle_lawful
+laws Kind.Restore = restore_lawful
 laws Kind.Load = load_lawful
 laws Kind.Step = step_lawful
 laws Kind.Index = index_lawful
@@ -23,4 +26,5 @@ laws Kind.Row = row_lawful
 laws Kind.Has = has_lawful
 laws Kind.At = at_lawful
 laws Kind.Past = past_lawful
-laws _ = unbuilt_lawful _
+laws Kind.Check = check_lawful
+laws Kind.Stat = unbuilt_lawful Kind.Stat

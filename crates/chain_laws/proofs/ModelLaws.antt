@@ -1,5 +1,5 @@
 -- The laws of the order `model`.
-use Rattle.std.proofs.Common.{◌≡◌, ℕ, List, length, inl, refl, sym, subst, ap}
+use Rattle.std.proofs.Common.{ℕ, List, length, inl, refl, sym, subst, ap}
 use Rattle.serde_json.specs.Data.{Data, null}
 use Rattle.serde_json.specs.View.{view}
 use Rattle.serde_json.specs.declared.value.Value.{Value}

@@ -1,23 +1,17 @@
 -- A cycle has one answer, and leaves one machine.
-use Rattle.std.proofs.Common.{◌≡◌, ◌≢◌, ◌≤◌, ◌<◌, ◌⊎◌, ℕ, ℤ, List, [], ◌∷◌, ◌++◌, Bool, true, false, Option, Some, None, Ok, Err, inl, inr, refl, sym, ap, subst, ◌∙◌, arith}
-use Rattle.std.specs.Prelude.{All, IfSome, IsOk, IsSome, IsSomeAnd, slice_get}
-use Rattle.std.specs.List.{AllZip}
+use Rattle.std.proofs.Common.{◌≡◌, ◌≢◌, ◌≤◌, ◌<◌, ◌⊎◌, ℕ, ℤ, List, [], ◌∷◌, Bool, true, false, Option, Some, None, inl, inr, refl, sym, ap, subst, ◌∙◌, arith}
+use Rattle.std.specs.Prelude.{All, IfSome, IsSomeAnd, slice_get}
 use Rattle.std.proofs.lemmas.Bool.{cases_eq, cases_lt}
-use Rattle.std.proofs.lemmas.List.Elements.{All-cons, All-head, All-nil, All-tail}
-use Rattle.serde_json.specs.Data.{Data}
 use Rattle.hol_io.specs.declared.name.BlobName.TheVariants.{Snapshot, Delta, Reverse, Announced}
 use Rattle.hol_io.specs.Store.{Store, told}
 use Rattle.schema_model.specs.declared.limit.Limit.{Limit}
 use Rattle.schema_model.specs.declared.limit.Limit.TheVariants as limit
 use Rattle.schema_model.specs.declared.schema.Schema.{Schema}
 use Rattle.schema_model.specs.declared.schema.Shape.{Shape}
-use Rattle.schema_model.specs.declared.reason.Reason.{Reason}
 use Rattle.schema_model.specs.declared.reason.Reason.TheVariants.{BadAnnounced}
 use Rattle.schema_model.specs.Model.{IsModel}
-use Rattle.schema_model.specs.Parts.{index_of_type}
 use Rattle.row_model.specs.PlainTree.{PlainTree}
 use Rattle.row_model.specs.Table.{Table}
-use Rattle.record_json.specs.ReadTree.{read_tree}
 use Rattle.row_packing.specs.Chosen.{shape_at}
 use Rattle.row_packing.specs.States.{AreWritable}
 use Rattle.row_packing.specs.TypeLimit.{KeepsBytes, KeepsItems, TellsLimit}
@@ -30,34 +24,29 @@ use Rattle.write_engine.proofs.OneState.{next_is_one}
 use Rattle.write_engine.proofs.TypesKept.{writable, writable_back}
 use Rattle.blob_writing.specs.Snapshot.{IsWrittenSnapshot}
 use Rattle.blob_writing.specs.Changes.{IsDeltaBetween}
-use Rattle.chain_store.specs.Announced.{Announces, IsAnnounced, IsBadlyAnnounced, IsNoVersion}
+use Rattle.chain_store.specs.Announced.{IsAnnounced, IsBadlyAnnounced}
 use Rattle.chain_store.specs.Versions.{last_version}
-use Rattle.hol_orders.specs.Parts.{AskedState}
 use Rattle.hol_answers.specs.declared.refusal.Refusal.{Refusal}
 use Rattle.hol_answers.specs.declared.refusal.Refusal.TheVariants as refused
-use Rattle.hol_answers.specs.Refusal.{bad_item, bad_record}
+use Rattle.hol_answers.specs.Refusal.{bad_item}
 use Rattle.hol_answers.specs.declared.reply.Reply.{Reply}
 use Rattle.hol_answers.specs.declared.reply.Reply.TheVariants as reply
 use Rattle.hollow_machine.specs.CycleOrder.{AreNamed, CycleRefusal, CycleStep, Leaves, Makes, PassesLimit, Publishes, RefusesAfter, Succeeds, SucceedsAfter}
 use Rattle.hollow_machine.specs.Follow.{MayFollow, MayNotFollow}
 use Rattle.state_blobs.specs.Puts.{AreBlobs, IsShort, Put, puts_of, put_all}
-use Rattle.hollow_machine.specs.Records.{AreRead, AreTypes, Entry, GivesTree, GivesTrees, IsFirstUnknown, IsFirstUnread, entries}
+use Rattle.hollow_machine.specs.Records.{AskedCycle, GivesTrees}
 use Rattle.hollow_machine.specs.State.{Machine, with_producer, with_store}
 use Rattle.state_blobs.specs.Published.{Published}
 use Rattle.chain_laws.proofs.OneLook.{rising_one}
-use Rattle.chain_laws.proofs.OneRecords.{no_tree, no_type, trees_one, unknown_one, unread_one}
+use Rattle.chain_laws.proofs.OneRecords.{NoTrees, given_one, no_trees, no_trees_apart, no_trees_one}
 use Rattle.chain_laws.proofs.PrintedOnce.{each_once}
-use Rattle.chain_laws.proofs.StoreNames.{found_with, one_announced}
+use Rattle.chain_laws.proofs.StoreNames.{found_with, name_once, no_version_apart, one_announced}
 
 -- ---- whether a state may follow
 
 module _ (store : Store) (last version : ℕ) (tag : ℤ) where
   bad_apart : (announced : ℕ) → IsBadlyAnnounced store → IsAnnounced store announced → ⊥
-  bad_apart announced bad is = by_content (told (Some store) Announced) announced bad is
-    where
-      by_content : (content : Option (List ℕ)) (n : ℕ) → IsNoVersion content → Announces content n → ⊥
-      by_content None n none says = none
-      by_content (Some bytes) n none says = none n says.0 says.1
+  bad_apart announced bad is = no_version_apart (told (Some store) Announced) announced bad is
 
   one_version : (u v : ℕ) → IsAnnounced store u → IsAnnounced store v → u ≡ v
   one_version u v one other = one_announced (told (Some store) Announced) u v one other
@@ -209,11 +198,7 @@ module _ (written : WrittenOnce) (machine : Machine) (last : Published) (version
 
   named_one : (schemas : List Schema) (types : List ℕ) (names others : List (List ℕ)) → AreNamed schemas types names → AreNamed schemas types others → names ≡ others
   named_one schemas types names others one other =
-      each_once (λ t name. IsSomeAnd (slice_get schemas t) (λ (s : Schema). s.name ≡ name)) (λ t a b x y. name_one t a b (slice_get schemas t) x y) types names others one other
-    where
-      name_one : (t : ℕ) (a b : List ℕ) (found : Option Schema) → IsSomeAnd found (λ (s : Schema). s.name ≡ a) → IsSomeAnd found (λ (s : Schema). s.name ≡ b) → a ≡ b
-      name_one t a b None x y = absurd x
-      name_one t a b (Some s) x y = sym x ∙ y
+      each_once (λ t name. IsSomeAnd (slice_get schemas t) (λ (s : Schema). s.name ≡ name)) (λ t a b x y. name_once (slice_get schemas t) a b x y) types names others one other
 
   succeeds_one : (names others : List (List ℕ)) (published also : Bool) (next after : Machine) → Succeeds machine last version tag trees names published next
       → Succeeds machine last version tag trees others also after → (names ≡ others) × (published ≡ also) × (next ≡ after)
@@ -287,9 +272,9 @@ module _ (written : WrittenOnce) (machine : Machine) (last : Published) (version
   succeeds_not : (names : List (List ℕ)) (published : Bool) (next : Machine) (passed : Limit) → Succeeds machine last version tag trees names published next → PassKind passed → ⊥
   succeeds_not names published next passed (rows, changed, makes, named, leaves) kind = left_not rows changed published next passed makes leaves kind
 
--- ---- a cycle of the records of an order
+-- ---- a cycle of the records that are asked for
 
-module _ (written : WrittenOnce) (machine : Machine) (last : Published) (asked : AskedState) (model : IsModel last.model) (once : HoldsOnce last.rows) where
+module _ (written : WrittenOnce) (machine : Machine) (last : Published) (asked : AskedCycle) (model : IsModel last.model) (once : HoldsOnce last.rows) where
   abbrev store : Store
   store = machine.store
 
@@ -299,48 +284,26 @@ module _ (written : WrittenOnce) (machine : Machine) (last : Published) (asked :
   abbrev tag : ℤ
   tag = asked.tag
 
-  abbrev add : Data
-  add = asked.add
-
   abbrev May : Type 0
   May = MayFollow store last.version version tag
 
-  abbrev Unread : Refusal → Type 0
-  Unread refusal =
-      (name : List ℕ) × (place : ℕ) × (reason : Reason) × (refusal ≡ bad_record name place reason)
-      × ((t : ℕ) × IsSomeAnd (slice_get last.model t) (λ (s : Schema). s.name ≡ name) × IsFirstUnread last.model (entries last.model add) t place reason)
-
   -- the records give trees, and these pass this limit
   abbrev PassedBy : Limit → Type 0
-  PassedBy passed = (trees : List (ℕ × PlainTree)) × GivesTrees last.model add trees × PassKind written machine last version tag trees model once passed
+  PassedBy passed = (trees : List (ℕ × PlainTree)) × GivesTrees last.model asked.add trees × PassKind written machine last version tag trees model once passed
 
   abbrev AfterKind : Refusal → Type 0
   AfterKind refusal =
       MayNotFollow store last.version version tag refusal
-      ⊎ (May × (((name : List ℕ) × (refusal ≡ refused.NoType name) × IsFirstUnknown last.model add name)
-      ⊎ ((AreTypes last.model add × Unread refusal) ⊎ ((passed : Limit) × (refusal ≡ refused.TooLarge passed) × PassedBy passed))))
+      ⊎ (May × (NoTrees last.model asked.add refusal ⊎ ((passed : Limit) × (refusal ≡ refused.TooLarge passed) × PassedBy passed)))
 
   after_kind : (refusal : Refusal) → RefusesAfter store last asked refusal → AfterKind refusal
-  after_kind (refused.NoType name) is = inr (is.0, inl (name, refl, is.1))
-  after_kind (refused.BadRecord fault) is = inr (is.0, inr (inl (is.1.0, (fault.type_name, fault.index, fault.reason, refl, is.1.1))))
-  after_kind (refused.TooLarge passed) (may, (trees, gives, passes)) = inr (may, inr (inr (passed, refl, (trees, gives, pass_kind written machine last version tag trees model once passed passes))))
+  after_kind (refused.NoType name) is = inr (is.0, inl (no_trees last.model asked.add (refused.NoType name) is.1))
+  after_kind (refused.BadRecord fault) is = inr (is.0, inl (no_trees last.model asked.add (refused.BadRecord fault) is.1))
+  after_kind (refused.TooLarge passed) (may, (trees, gives, passes)) = inr (may, inr (passed, refl, (trees, gives, pass_kind written machine last version tag trees model once passed passes)))
   after_kind _ is = inl is
 
-  name_at : (found : Option Schema) (a b : List ℕ) → IsSomeAnd found (λ (s : Schema). s.name ≡ a) → IsSomeAnd found (λ (s : Schema). s.name ≡ b) → a ≡ b
-  name_at None a b x y = absurd x
-  name_at (Some s) a b x y = sym x ∙ y
-
-  unread_same : (r s : Refusal) → Unread r → Unread s → r ≡ s
-  unread_same r s (name, place, reason, is, (t, named, first)) (other, place_too, reason_too, is_too, (u, named_too, first_too)) =
-      let same = unread_one last.model add t u place place_too reason reason_too first first_too in
-      let names = name_at (slice_get last.model u) name other (subst (λ k. IsSomeAnd (slice_get last.model k) (λ (s : Schema). s.name ≡ name)) same.0 named) named_too in
-      is ∙ (λ i. bad_record (names i) (same.1 i) (same.2 i)) ∙ sym is_too
-
-  unread_apart : (r : Refusal) (trees : List (ℕ × PlainTree)) → GivesTrees last.model add trees → Unread r → ⊥
-  unread_apart r trees gives (name, place, reason, is, (t, named, first)) = no_tree last.model add trees t place reason gives.read first
-
-  same_trees : (trees others : List (ℕ × PlainTree)) → GivesTrees last.model add trees → GivesTrees last.model add others → trees ≡ others
-  same_trees trees others gives also = trees_one last.model add trees others gives.read also.read
+  same_trees : (trees others : List (ℕ × PlainTree)) → GivesTrees last.model asked.add trees → GivesTrees last.model asked.add others → trees ≡ others
+  same_trees trees others gives also = given_one last.model asked.add trees others gives also
 
   passed_one : (l m : Limit) → PassedBy l → PassedBy m → l ≡ m
   passed_one l m (trees, gives, kind) (others, gives_too, also) =
@@ -351,15 +314,10 @@ module _ (written : WrittenOnce) (machine : Machine) (last : Published) (asked :
   after_one r s (inl not) (inl also) = one_why store last.version version tag r s (why store last.version version tag r not) (why store last.version version tag s also)
   after_one r s (inl not) (inr may) = absurd (may_apart store last.version version tag r not may.0)
   after_one r s (inr may) (inl not) = absurd (may_apart store last.version version tag s not may.0)
-  after_one r s (inr (may, inl (name, is, first))) (inr (may_too, inl (other, is_too, first_too))) = is ∙ ap (λ n. refused.NoType n) (unknown_one last.model add name other first first_too) ∙ sym is_too
-  after_one r s (inr (may, inl (name, is, first))) (inr (may_too, inr (inl (types, unread)))) = absurd (no_type last.model add name types first)
-  after_one r s (inr (may, inl (name, is, first))) (inr (may_too, inr (inr (passed, is_too, (trees, gives, kind))))) = absurd (no_type last.model add name gives.types first)
-  after_one r s (inr (may, inr (inl (types, unread)))) (inr (may_too, inl (name, is, first))) = absurd (no_type last.model add name types first)
-  after_one r s (inr (may, inr (inr (passed, is_too, (trees, gives, kind))))) (inr (may_too, inl (name, is, first))) = absurd (no_type last.model add name gives.types first)
-  after_one r s (inr (may, inr (inl (types, unread)))) (inr (may_too, inr (inl (types_too, also)))) = unread_same r s unread also
-  after_one r s (inr (may, inr (inl (types, unread)))) (inr (may_too, inr (inr (passed, is, (trees, gives, kind))))) = absurd (unread_apart r trees gives unread)
-  after_one r s (inr (may, inr (inr (passed, is, (trees, gives, kind))))) (inr (may_too, inr (inl (types, unread)))) = absurd (unread_apart s trees gives unread)
-  after_one r s (inr (may, inr (inr (l, is, kind)))) (inr (may_too, inr (inr (m, is_too, also)))) = is ∙ ap (λ p. refused.TooLarge p) (passed_one l m kind also) ∙ sym is_too
+  after_one r s (inr (may, inl none)) (inr (may_too, inl also)) = no_trees_one last.model asked.add r s none also
+  after_one r s (inr (may, inl none)) (inr (may_too, inr (passed, is, (trees, gives, kind)))) = absurd (no_trees_apart last.model asked.add r trees gives none)
+  after_one r s (inr (may, inr (passed, is, (trees, gives, kind)))) (inr (may_too, inl none)) = absurd (no_trees_apart last.model asked.add s trees gives none)
+  after_one r s (inr (may, inr (l, is, kind))) (inr (may_too, inr (m, is_too, also))) = is ∙ ap (λ p. refused.TooLarge p) (passed_one l m kind also) ∙ sym is_too
 
   after_succeeds_one : (names others : List (List ℕ)) (published also : Bool) (next after : Machine) → SucceedsAfter machine last asked names published next
       → SucceedsAfter machine last asked others also after → (names ≡ others) × (published ≡ also) × (next ≡ after)
@@ -371,9 +329,8 @@ module _ (written : WrittenOnce) (machine : Machine) (last : Published) (asked :
 
   after_succeeds_not : (names : List (List ℕ)) (published : Bool) (next : Machine) (refusal : Refusal) → SucceedsAfter machine last asked names published next → AfterKind refusal → ⊥
   after_succeeds_not names published next refusal (may, more) (inl not) = may_apart store last.version version tag refusal not may
-  after_succeeds_not names published next refusal (may, (trees, gives, one)) (inr (may_too, inl (name, is, first))) = no_type last.model add name gives.types first
-  after_succeeds_not names published next refusal (may, (trees, gives, one)) (inr (may_too, inr (inl (types, unread)))) = unread_apart refusal trees gives unread
-  after_succeeds_not names published next refusal (may, (trees, gives, one)) (inr (may_too, inr (inr (passed, is, (others, gives_too, kind))))) =
+  after_succeeds_not names published next refusal (may, (trees, gives, one)) (inr (may_too, inl none)) = no_trees_apart last.model asked.add refusal trees gives none
+  after_succeeds_not names published next refusal (may, (trees, gives, one)) (inr (may_too, inr (passed, is, (others, gives_too, kind)))) =
       succeeds_not written machine last version tag trees model once names published next passed one
       (subst (λ (list : List (ℕ × PlainTree)). PassKind written machine last version tag list model once passed) (sym (same_trees trees others gives gives_too)) kind)
 
@@ -384,15 +341,15 @@ pub record IsOnce (last : Published) : Type 0 where
   pub model : IsModel last.model
   pub once : HoldsOnce last.rows
 
-abbrev RefusalOf : Machine → AskedState → Refusal → Type 0
+abbrev RefusalOf : Machine → AskedCycle → Refusal → Type 0
 RefusalOf machine asked refusal =
     ((machine.producer ≡ None) × (refusal ≡ refused.NoModel)) ⊎ IsSomeAnd machine.producer (λ last. RefusesAfter machine.store last asked refusal)
 
-refusal_of : (machine : Machine) (asked : AskedState) (refusal : Refusal) → CycleRefusal machine asked refusal → RefusalOf machine asked refusal
+refusal_of : (machine : Machine) (asked : AskedCycle) (refusal : Refusal) → CycleRefusal machine asked refusal → RefusalOf machine asked refusal
 refusal_of machine asked refused.NoModel is = inl (is, refl)
 refusal_of machine asked _ is = inr is
 
-module _ (written : WrittenOnce) (machine : Machine) (asked : AskedState) (known : IfSome machine.producer IsOnce) where
+module _ (written : WrittenOnce) (machine : Machine) (asked : AskedCycle) (known : IfSome machine.producer IsOnce) where
   known_of : (last : Published) → machine.producer ≡ Some last → IsOnce last
   known_of last is = subst (λ (producer : Option Published). IfSome producer IsOnce) is known
 

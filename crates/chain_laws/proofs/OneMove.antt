@@ -44,7 +44,7 @@ alike one other next after same and = (says one other same, and)
 
 -- ---- loads
 
-load_once : (blob : List ℕ) (a b : Position) → LoadsFrom blob a → LoadsFrom blob b → a ≡ b
+pub load_once : (blob : List ℕ) (a b : Position) → LoadsFrom blob a → LoadsFrom blob b → a ≡ b
 load_once blob a b (head, accepted, tag, before, none) (other, also, tag_too, before_too, none_too) =
     let once = one_snapshot blob head other accepted.0 also.0 a.schemas b.schemas a.halves b.halves accepted.1 also.1 in
     let tags = tag ∙ ap (λ (h : Header). h.destination) once.0 ∙ sym tag_too in
@@ -102,7 +102,7 @@ named_alike xs bs (named ∷ patch) one other index =
           ]
     ]
 
-step_once : (blob : List ℕ) (now a b : Position) → IsTyped now → StepsBy blob now a → StepsBy blob now b → a ≡ b
+pub step_once : (blob : List ℕ) (now a b : Position) → IsTyped now → StepsBy blob now a → StepsBy blob now b → a ≡ b
 step_once blob now a b typed one other =
     let tags = tags_once now.schemas now.schemas blob now.tag a.tag now.tag b.tag one.patch other.patch one.is other.is in
     let once = patch_once now.schemas blob now.tag a.tag now.tag b.tag one.patch other.patch typed.names one.is other.is in
@@ -151,9 +151,15 @@ no_state : (name : BlobName) (content : Option (List ℕ)) (refusal : Refusal) �
 no_state name content NoState is = refl
 no_state name content _ is = absurd is
 
-one_step_refusal : (name : BlobName) (content : Option (List ℕ)) (consumer : Option Position) (one other : Refusal) → StepRefusal name content consumer one → StepRefusal name content consumer other → one ≡ other
+pub one_step_refusal : (name : BlobName) (content : Option (List ℕ)) (consumer : Option Position) (one other : Refusal) → StepRefusal name content consumer one → StepRefusal name content consumer other → one ≡ other
 one_step_refusal name content None one other a b = no_state name content one a ∙ sym (no_state name content other b)
 one_step_refusal name content (Some now) one other a b = step_kinds name content now one other (step_kind name content now one a) (step_kind name content now other b)
+
+-- a step that can be taken is not refused
+pub step_apart : (name : BlobName) (content : Option (List ℕ)) (blob : List ℕ) (now to : Position) (refusal : Refusal) → content ≡ Some blob → StepsBy blob now to → StepRefusal name content (Some now) refusal → ⊥
+step_apart name content blob now to refusal at steps refuses =
+    let (n, begin) = delta_begins blob steps.is.head steps.is.parts (length blob) steps.is.items.items in
+    no_refusal name content steps.is.head blob now to at (blob, n, at, steps.short, begin) steps.is.from_tag steps refusal refuses
 
 module _ (machine : Machine) (name : BlobName) (typed : IfSome machine.consumer IsTyped) where
   abbrev content : Option (List ℕ)
@@ -162,9 +168,7 @@ module _ (machine : Machine) (name : BlobName) (typed : IfSome machine.consumer 
   -- a step that was taken is not refused
   taken_not : (now to : Position) (blob : List ℕ) (refusal : Refusal) → machine.consumer ≡ Some now → content ≡ Some blob → StepsBy blob now to → StepRefusal name content machine.consumer refusal → ⊥
   taken_not now to blob refusal is at steps refuses =
-      let (n, begin) = delta_begins blob steps.is.head steps.is.parts (length blob) steps.is.items.items in
-      no_refusal name content steps.is.head blob now to at (blob, n, at, steps.short, begin) steps.is.from_tag steps refusal
-      (subst (λ (consumer : Option Position). StepRefusal name content consumer refusal) is refuses)
+      step_apart name content blob now to refusal at steps (subst (λ (consumer : Option Position). StepRefusal name content consumer refusal) is refuses)
 
   pub one_move : (one other : Reply) (next after : Machine) → StepStep machine name one next → StepStep machine name other after → Alike one next other after
   one_move (reply.Step tag) (reply.Step also) next after one other =

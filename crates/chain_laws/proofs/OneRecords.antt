@@ -1,6 +1,6 @@
 -- The records of a cycle give trees in one way, or are refused in one.
-use Rattle.std.proofs.Common.{◌≡◌, ℕ, List, [], ◌∷◌, ◌++◌, Ok, Err, refl, sym, ap, subst, ◌∙◌}
-use Rattle.std.specs.Prelude.{All, IsOk, IsSome}
+use Rattle.std.proofs.Common.{◌≡◌, ◌⊎◌, inl, inr, ℕ, List, [], ◌∷◌, ◌++◌, Ok, Err, refl, sym, ap, subst, ◌∙◌}
+use Rattle.std.specs.Prelude.{All, IsOk, IsSome, IsSomeAnd, slice_get}
 use Rattle.std.specs.List.{AllZip}
 use Rattle.std.proofs.lemmas.List.Elements.{All-cons, All-head, All-nil, All-tail}
 use Rattle.serde_json.specs.Data.{Data}
@@ -9,8 +9,12 @@ use Rattle.schema_model.specs.declared.schema.Schema.{Schema}
 use Rattle.schema_model.specs.Parts.{index_of_type}
 use Rattle.row_model.specs.PlainTree.{PlainTree}
 use Rattle.record_json.specs.ReadTree.{read_tree}
-use Rattle.hollow_machine.specs.Records.{AreRead, AreTypes, Entry, GivesTree, IsFirstUnknown, IsFirstUnread, entries}
+use Rattle.hollow_machine.specs.Records.{Adding, AreRead, AreTypes, Entry, GivesNoTrees, GivesTree, GivesTrees, IsFirstUnknown, IsFirstUnread, IsSpelledAnd, entries, given, spelled}
+use Rattle.hol_answers.specs.declared.refusal.Refusal.{Refusal}
+use Rattle.hol_answers.specs.declared.refusal.Refusal.TheVariants as refused
+use Rattle.hol_answers.specs.Refusal.{bad_record}
 use Rattle.chain_laws.proofs.PrintedOnce.{each_once}
+use Rattle.chain_laws.proofs.StoreNames.{name_once}
 
 -- ---- the first of a list for which something does not hold
 
@@ -39,10 +43,10 @@ module _ (schemas : List Schema) (add : Data) where
       let tree : a.1 ≡ b.1 = cc in
       λ i. (index i, tree i)
 
-  pub trees_one : (trees others : List (ℕ × PlainTree)) → AreRead schemas recorded trees → AreRead schemas recorded others → trees ≡ others
+  trees_one : (trees others : List (ℕ × PlainTree)) → AreRead schemas recorded trees → AreRead schemas recorded others → trees ≡ others
   trees_one trees others one other = each_once (GivesTree schemas) tree_one recorded trees others one other
 
-  pub no_tree : (trees : List (ℕ × PlainTree)) (type_index place : ℕ) (reason : Reason) → AreRead schemas recorded trees → IsFirstUnread schemas recorded type_index place reason → ⊥
+  no_tree : (trees : List (ℕ × PlainTree)) (type_index place : ℕ) (reason : Reason) → AreRead schemas recorded trees → IsFirstUnread schemas recorded type_index place reason → ⊥
   no_tree trees type_index place reason read first =
       let all : All (λ (entry : Entry). IsOk (read_tree schemas entry.type_index entry.value)) recorded = each_ok recorded trees read in
       let ok : IsOk (read_tree schemas type_index first.value) =
@@ -57,18 +61,18 @@ module _ (schemas : List Schema) (add : Data) where
       each_ok (e ∷ es) (t ∷ ts) are =
           All-cons (λ (entry : Entry). IsOk (read_tree schemas entry.type_index entry.value)) e es (subst IsOk (sym are.0.1) refl) (each_ok es ts are.1)
 
-  pub no_type : (name : List ℕ) → AreTypes schemas add → IsFirstUnknown schemas add name → ⊥
+  no_type : (name : List ℕ) → AreTypes schemas add → IsFirstUnknown schemas add name → ⊥
   no_type name types first =
       let known = in_all (λ (n : List ℕ). IsSome (index_of_type schemas n)) first.before name first.rest
       (subst (λ (names : List (List ℕ)). All (λ (n : List ℕ). IsSome (index_of_type schemas n)) names) first.split types) in
       let bad = subst IsSome first.unknown known in absurd cc
 
-  pub unknown_one : (a b : List ℕ) → IsFirstUnknown schemas add a → IsFirstUnknown schemas add b → a ≡ b
+  unknown_one : (a b : List ℕ) → IsFirstUnknown schemas add a → IsFirstUnknown schemas add b → a ≡ b
   unknown_one a b one other =
       first_one (λ (n : List ℕ). IsSome (index_of_type schemas n)) one.before other.before a b one.rest other.rest one.known other.known
       (λ known. (let bad = subst IsSome one.unknown known in absurd cc)) (λ known. (let bad = subst IsSome other.unknown known in absurd cc)) (sym one.split ∙ other.split)
 
-  pub unread_one : (t u place other_place : ℕ) (reason why_too : Reason) → IsFirstUnread schemas recorded t place reason → IsFirstUnread schemas recorded u other_place why_too
+  unread_one : (t u place other_place : ℕ) (reason why_too : Reason) → IsFirstUnread schemas recorded t place reason → IsFirstUnread schemas recorded u other_place why_too
       → (t ≡ u) × (place ≡ other_place) × (reason ≡ why_too)
   unread_one t u place other_place reason why_too one other =
       let same = first_one (λ (entry : Entry). IsOk (read_tree schemas entry.type_index entry.value)) one.before other.before
@@ -76,3 +80,49 @@ module _ (schemas : List Schema) (add : Data) where
       (λ ok. (let bad = subst IsOk one.unread ok in absurd cc)) (λ ok. (let bad = subst IsOk other.unread ok in absurd cc)) (sym one.split ∙ other.split) in
       let both : Err reason ≡ Err why_too = sym one.unread ∙ ap (λ (e : Entry). read_tree schemas e.type_index e.value) same ∙ other.unread in
       (ap (λ (e : Entry). e.type_index) same, ap (λ (e : Entry). e.place) same, cc)
+
+-- ---- the records that a cycle adds
+
+module _ (schemas : List Schema) where
+  abbrev Unread : Data → Refusal → Type 0
+  Unread add refusal =
+      (name : List ℕ) × (place : ℕ) × (reason : Reason) × (refusal ≡ bad_record name place reason)
+      × ((t : ℕ) × IsSomeAnd (slice_get schemas t) (λ (s : Schema). s.name ≡ name) × IsFirstUnread schemas (entries schemas add) t place reason)
+
+  abbrev Unknown : Data → Refusal → Type 0
+  Unknown add refusal = (name : List ℕ) × (refusal ≡ refused.NoType name) × IsFirstUnknown schemas add name
+
+  -- why the records give no trees
+  abbrev pub NoTrees : Adding → Refusal → Type 0
+  NoTrees add refusal = IsSpelledAnd add (λ json. Unknown json refusal ⊎ (AreTypes schemas json × Unread json refusal))
+
+  pub no_trees : (add : Adding) (refusal : Refusal) → GivesNoTrees schemas add refusal → NoTrees add refusal
+  no_trees (spelled add) (refused.NoType name) is = inl (name, refl, is)
+  no_trees (spelled add) (refused.BadRecord fault) is = inr (is.0, (fault.type_name, fault.index, fault.reason, refl, is.1))
+  no_trees (spelled add) _ is = absurd is
+  no_trees (given records) (refused.NoType name) is = absurd is
+  no_trees (given records) (refused.BadRecord fault) is = absurd is
+  no_trees (given records) _ is = absurd is
+
+  unread_same : (add : Data) (r s : Refusal) → Unread add r → Unread add s → r ≡ s
+  unread_same add r s (name, place, reason, is, (t, named, first)) (other, place_too, reason_too, is_too, (u, named_too, first_too)) =
+      let same = unread_one schemas add t u place place_too reason reason_too first first_too in
+      let names = name_once (slice_get schemas u) name other (subst (λ k. IsSomeAnd (slice_get schemas k) (λ (s : Schema). s.name ≡ name)) same.0 named) named_too in
+      is ∙ (λ i. bad_record (names i) (same.1 i) (same.2 i)) ∙ sym is_too
+
+  pub no_trees_one : (add : Adding) (r s : Refusal) → NoTrees add r → NoTrees add s → r ≡ s
+  no_trees_one (spelled add) r s (inl (name, is, first)) (inl (other, is_too, first_too)) = is ∙ ap (λ n. refused.NoType n) (unknown_one schemas add name other first first_too) ∙ sym is_too
+  no_trees_one (spelled add) r s (inl (name, is, first)) (inr (types, unread)) = absurd (no_type schemas add name types first)
+  no_trees_one (spelled add) r s (inr (types, unread)) (inl (name, is, first)) = absurd (no_type schemas add name types first)
+  no_trees_one (spelled add) r s (inr (types, unread)) (inr (types_too, also)) = unread_same add r s unread also
+  no_trees_one (given records) r s none also = absurd none
+
+  pub no_trees_apart : (add : Adding) (r : Refusal) (trees : List (ℕ × PlainTree)) → GivesTrees schemas add trees → NoTrees add r → ⊥
+  no_trees_apart (spelled add) r trees gives (inl (name, is, first)) = no_type schemas add name gives.types first
+  no_trees_apart (spelled add) r trees gives (inr (types, (name, place, reason, is, (t, named, first)))) = no_tree schemas add trees t place reason gives.read first
+  no_trees_apart (given records) r trees gives none = none
+
+  -- the records give trees in one way
+  pub given_one : (add : Adding) (trees others : List (ℕ × PlainTree)) → GivesTrees schemas add trees → GivesTrees schemas add others → trees ≡ others
+  given_one (spelled add) trees others gives also = trees_one schemas add trees others gives.read also.read
+  given_one (given records) trees others gives also = gives ∙ sym also

@@ -1,6 +1,6 @@
 -- A script has one text and one verdict, and leaves one machine.
 use Rattle.std.proofs.Common.{◌≡◌, ◌++◌, ℕ, List, [], ◌∷◌, Bool, true, if◌then◌else◌, Option, Some, None, inl, inr, sym, subst, ◌∙◌, arith}
-use Rattle.std.specs.Prelude.{IfSome, IsSomeAnd}
+use Rattle.std.specs.Prelude.{IfSome}
 use Rattle.serde_json.specs.Written.{compact_text}
 use Rattle.hol_orders.specs.declared.order.Order.{Order}
 use Rattle.hol_orders.specs.Order.{Asking, Orders, asked_of, asking, kind_of}

@@ -1,14 +1,16 @@
 -- The names of a store: none is of a later version than the last one, and a blob with a tag makes the tag taken.
-use Rattle.std.proofs.Common.{◌≡◌, ◌≤◌, ◌<◌, ℕ, ℤ, zero, suc, List, [], ◌∷◌, length, get_or, max, map, Option, Some, None, refl, sym, ap, subst, ◌∙◌, arith}
+use Rattle.std.proofs.Common.{◌≡◌, ◌≢◌, ◌≤◌, ◌<◌, ℕ, ℤ, zero, suc, List, [], ◌∷◌, length, get_or, max, map, Option, Some, None, refl, sym, ap, subst, ◌∙◌, arith}
 use Rattle.std.specs.Prelude.{Contains, IsSome, IsSomeAnd, is_some, fold}
 use Rattle.std.specs.FinMap.{get, keys, contains_key-keys}
 use Rattle.std.specs.Int.{w64, cast_unsigned}
 use Rattle.std.proofs.lemmas.Fmt.{decimal_injective}
 use Rattle.std.proofs.lemmas.Map.Views.{Contains-from_any, tells_apart}
 use Rattle.hol_io.specs.declared.name.BlobName.{BlobName}
+use Rattle.hol_io.specs.Name.{IsVersion}
 use Rattle.hol_io.specs.Store.{Store, names}
+use Rattle.schema_model.specs.declared.schema.Schema.{Schema}
 use Rattle.chain_laws.proofs.NameOrder.{name_cmp-IsAntisymmetric}
-use Rattle.chain_store.specs.Announced.{Announces}
+use Rattle.chain_store.specs.Announced.{Announces, IsNoVersion}
 use Rattle.chain_store.specs.Tags.{HasTag, IsBlob, IsTagTaken}
 use Rattle.chain_store.specs.Versions.{newest, last_version}
 
@@ -21,6 +23,11 @@ found (Some x) some = (x, refl)
 pub found_with : {A : Type 0} (o : Option A) (P : A → Type 0) → IsSomeAnd o P → (x : A) × (o ≡ Some x) × P x
 found_with None P some = absurd some
 found_with (Some x) P some = (x, refl, some)
+
+-- a schema has one name
+pub name_once : (found : Option Schema) (a b : List ℕ) → IsSomeAnd found (λ (s : Schema). s.name ≡ a) → IsSomeAnd found (λ (s : Schema). s.name ≡ b) → a ≡ b
+name_once None a b one other = absurd one
+name_once (Some s) a b one other = sym one ∙ other
 
 pub is_name : (store : Store) (name : BlobName) (blob : List ℕ) → get store name ≡ Some blob → Contains (names store) name
 is_name store name blob at =
@@ -49,6 +56,16 @@ pub one_announced : (content : Option (List ℕ)) (u v : ℕ) → Announces cont
 one_announced None u v first second = first ∙ sym second
 one_announced (Some bytes) u v first second =
     decimal_injective u v (omega (arith, first.0.1)) (omega (arith, second.0.1)) (first.1 ∙ sym second.1)
+
+-- what announces a version is no content without one
+pub no_version_apart : (content : Option (List ℕ)) (version : ℕ) → IsNoVersion content → Announces content version → ⊥
+no_version_apart None version none says = none
+no_version_apart (Some bytes) version none says = none version says.0 says.1
+
+-- where there is content that announces a version, it is one
+pub announces_version : (content : Option (List ℕ)) (version : ℕ) → content ≢ None → Announces content version → IsVersion version
+announces_version None version there says = absurd (there refl)
+announces_version (Some bytes) version there says = says.0
 
 -- ---- tags
 

@@ -1,5 +1,5 @@
 //! Laws of chains.
-ghost use Rattle.std.specs.Prelude.{◌≡◌, ◌≢◌, ◌↔◌, ℕ, ℤ, List, [], ◌∷◌, ◌++◌, Bool, Some, IfSome, Contains};
+ghost use Rattle.std.specs.Prelude.{◌≡◌, ◌≢◌, ◌≤◌, ◌↔◌, ℕ, ℤ, List, [], ◌∷◌, ◌++◌, Bool, Some, IfSome, Contains};
 ghost use Rattle.serde_json.specs.View.{view};
 ghost use Rattle.serde_json.specs.declared.value.Value.{Value};
 ghost use Rattle.schema_model.specs.declared.schema.name.Name.{Name};
@@ -10,13 +10,17 @@ ghost use Rattle.hol_orders.specs.Order.{kind_of};
 ghost use Rattle.hol_orders.specs.declared.order.NextState.{NextState};
 ghost use Rattle.hol_orders.specs.declared.order.Order.{Order};
 ghost use Rattle.hol_orders.specs.declared.order.Order.TheVariants as order;
+ghost use Rattle.hol_answers.specs.declared.refusal.Difference.{Difference};
+ghost use Rattle.hol_answers.specs.declared.refusal.Refusal.TheVariants.{Mismatch};
 ghost use Rattle.hol_answers.specs.Refusal.{other_origin};
 ghost use Rattle.hol_answers.specs.declared.reply.Reply.{Reply};
 ghost use Rattle.hol_answers.specs.declared.reply.Reply.TheVariants as reply;
 ghost use Rattle.read_engine.specs.Position.{Index, IsPosition, Position};
 ghost use Rattle.hollow_machine.specs.KeyPaths.{texts_of_array};
+ghost use Rattle.hollow_machine.specs.MakeCommand.{Makes};
+ghost use Rattle.hollow_machine.specs.RestoreOrder.{IsLast, producer_at};
 ghost use Rattle.hollow_machine.specs.Script.{LineStep, Script};
-ghost use Rattle.hollow_machine.specs.State.{Machine, started, with_consumer};
+ghost use Rattle.hollow_machine.specs.State.{Machine, started, with_consumer, with_producer};
 ghost use Rattle.hollow_machine.specs.Step.{Step};
 ghost use Rattle.hollow_machine.specs.StepOrder.{step_name};
 ghost use Rattle.written_laws.specs.Chain.{Chain, ChainState, HasVersion};
@@ -24,7 +28,7 @@ ghost use Rattle.written_laws.specs.HoldsChain.{HoldsChain, IsThere};
 ghost use Rattle.chain_laws.specs.Afresh.{AreAdded, AskForAll};
 ghost use Rattle.chain_laws.specs.Answers.{SaysOne};
 ghost use Rattle.chain_laws.specs.Consumers.{Fresh, IsConsumerOf, IsIn, StandsAt, StartsAt};
-ghost use Rattle.chain_laws.specs.Growth.{GrowsBy, GrowsAlong};
+ghost use Rattle.chain_laws.specs.Growth.{GrowsAlong, GrowsBy, GrowsByMake};
 ghost use Rattle.chain_laws.specs.Headline.{AreTrueLines, StandsOn, IsOfState};
 ghost use Rattle.chain_laws.specs.KeptIndexes.{AsksFor};
 ghost use Rattle.chain_laws.specs.Producers.{HoldsBytes, IsProducerOf, KeepsChain};
@@ -52,6 +56,16 @@ pub fn script_keeps_chain()
         → Script (started store) lines text refused next → KeepsChain store chain
         → (after : Chain) × GrowsAlong (started store) lines text chain next after × KeepsChain next.store after × IsProducerOf after next.producer }
 {}
+
+/// Where the store keeps a chain, so it does behind the command `make`. The chain has the states more that its cycles published, and the producer is new
+/// or at a published state of it.
+pub fn make_keeps_chain()
+    ensures { (store : Store) (next : Machine) (seed rows cycles : ℕ) (answer : Reply) (chain : Chain)
+        → seed ≤ 999999 → cycles ≤ 1000 → Makes store seed rows cycles answer next → KeepsChain store chain
+        → (after : Chain) × GrowsByMake store seed rows cycles chain next after × KeepsChain next.store after × IsProducerOf after next.producer }
+{
+    film_script::laws::films_model();
+}
 
 /// A consumer without a state, or at one of the chain that the store keeps, is so after each line, over the chain that the line made. Its indexes are
 /// such as an order can ask for, and none is there twice.
@@ -103,6 +117,23 @@ pub fn chain_load_taken()
     ensures fresh { (machine next : Machine) (chain : Chain) (version : ℕ) (state : ChainState) (now : Position) (answer : Reply)
         → HoldsChain machine.store chain → HasVersion chain version state → IsThere machine.store (Snapshot version) → machine.consumer ≡ Some now → now.tag ≡ state.tag
         → now.indexes ≡ [] → Step machine (order.Load version) answer next → Fresh chain machine next }
+{}
+
+/// Where the store holds a chain, restoring its announced version is not refused, and makes the producer that of the state of this version.
+pub fn chain_restore_taken()
+    ensures taken { (machine : Machine) (chain : Chain) (version : ℕ)
+        → HoldsChain machine.store chain → IsLast machine.store version
+        → (position : Position) × Step machine (order.Restore version) (reply.Restore position.tag version) (with_producer machine (Some (producer_at position version))) }
+    ensures only { (machine next : Machine) (chain : Chain) (version : ℕ) (answer : Reply)
+        → HoldsChain machine.store chain → IsLast machine.store version → Step machine (order.Restore version) answer next
+        → (state : ChainState) × (position : Position) × HasVersion chain version state × StandsAt state position × (answer ≡ reply.Restore state.tag version)
+        × (next ≡ with_producer machine (Some (producer_at position version))) }
+{}
+
+/// Where the store holds a chain, no check finds a difference: each state that a walk comes to is that of its snapshot.
+pub fn chain_check_agrees()
+    ensures { (machine next : Machine) (chain : Chain) (versions : List ℕ) (difference : Difference)
+        → HoldsChain machine.store chain → Step machine (order.Check versions) (reply.Refused (Mismatch difference)) next → ⊥ }
 {}
 
 /// An index that is asked for, and not refused, stands behind the others, or the machine is as it was where it was kept already.
@@ -197,6 +228,16 @@ pub fn one_model()
     ensures { (machine next after : Machine) (schemas : Value) (answer other : Reply)
         → Step machine (order.Model schemas) answer next → Step machine (order.Model schemas) other after → (answer ≡ other) × (next ≡ after) }
 {}
+
+/// The command `make` has one answer, and leaves one machine, whichever blobs the store has.
+pub fn one_make()
+    ensures { (store : Store) (next after : Machine) (seed rows cycles : ℕ) (answer other : Reply)
+        → Makes store seed rows cycles answer next → Makes store seed rows cycles other after → (answer ≡ other) × (next ≡ after) }
+{
+    blob_writing::laws::one_written_snapshot();
+    blob_writing::laws::one_written_delta();
+    film_script::laws::films_model();
+}
 
 /// A script has one text and one verdict, and leaves one machine: that of a run over each store, and lines behind others over a store that keeps a
 /// chain.
