@@ -3,9 +3,9 @@ mod Indexing
 mod KeyTexts
 mod KeyWays
 mod LiveLists
-mod Loading
+pub mod Loading
 mod LookingUp
 mod PastRows
 mod Refusing
 mod ShownRows
-mod Stepping
+pub mod Stepping

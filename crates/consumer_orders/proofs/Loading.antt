@@ -73,7 +73,7 @@ module _ (name : BlobName) (content : Option (List ℕ)) (now : Option Position)
   item place reason other causes exact = of_head name content other causes
 
   -- why the snapshot is refused
-  snapshot_refused : (found : BlobFault) (why : Refusal) → IsTakeRefusal name content found why → RefusesLoad name content found → LoadsExactly name content now (Err found) → SnapshotRefusal name content why
+  pub snapshot_refused : (found : BlobFault) (why : Refusal) → IsTakeRefusal name content found why → RefusesLoad name content found → LoadsExactly name content now (Err found) → SnapshotRefusal name content why
   snapshot_refused (fault.NoBlob other) why is (same, none) exact = subst (SnapshotRefusal name content) (one_refusal _ why is) (refl, none)
   snapshot_refused (fault.Large what) why is refuses exact = large what why is refuses exact
   snapshot_refused (fault.Bad place reason) why is refuses exact = item place reason why is exact

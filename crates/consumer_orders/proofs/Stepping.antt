@@ -65,7 +65,7 @@ module _ (name : BlobName) (content : Option (List ℕ)) (from : Position) (now 
   item place reason other causes refuses exact = of_head name content from other causes
 
   -- why the delta is refused
-  delta_refused : (found : BlobFault) (why : Refusal) → IsTakeRefusal name content found why → RefusesStep name content from found → StepsExactly name content from now (Err found) → DeltaRefusal name content from why
+  pub delta_refused : (found : BlobFault) (why : Refusal) → IsTakeRefusal name content found why → RefusesStep name content from found → StepsExactly name content from now (Err found) → DeltaRefusal name content from why
   delta_refused (fault.NoBlob other) why is (same, none) exact = subst (DeltaRefusal name content from) (one_refusal _ why is) (refl, none)
   delta_refused (fault.Large what) why is refuses exact = large what why is refuses
   delta_refused (fault.Bad place reason) why is refuses exact = item place reason why is refuses exact
@@ -77,7 +77,7 @@ module _ (name : BlobName) (content : Option (List ℕ)) (from : Position) (now 
   delta_refused fault.Memory why is refuses exact = absurd cc
 
 -- a refusal of the delta is one of the order
-of_delta : (name : BlobName) (content : Option (List ℕ)) (from : Position) (why : Refusal) → DeltaRefusal name content from why → StepRefusal name content (Some from) why
+pub of_delta : (name : BlobName) (content : Option (List ℕ)) (from : Position) (why : Refusal) → DeltaRefusal name content from why → StepRefusal name content (Some from) why
 of_delta name content from refusal.NoState causes = absurd causes
 of_delta name content from _ causes = causes
 

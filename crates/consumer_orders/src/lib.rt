@@ -13,7 +13,7 @@ mod look_up;
 mod past_order;
 mod row_order;
 mod step_order;
-mod take_refusal;
+mod taking;
 mod type_order;
 
 pub use at_order::at;
@@ -26,3 +26,4 @@ pub use load_order::load;
 pub use past_order::past;
 pub use row_order::row;
 pub use step_order::step;
+pub use taking::take_refusal;

@@ -4,7 +4,7 @@ ghost use Rattle.hol_io.specs.Causes.{Rose};
 ghost use Rattle.hollow_machine.specs.Kept.{MovesConsumer};
 ghost use Rattle.hollow_machine.specs.LoadOrder.{LoadStep};
 
-use crate::take_refusal::take_refusal;
+use crate::taking::take_refusal;
 use hol_answers::Reply;
 use hol_io::{BlobName, BlobStore};
 use hol_orders::OrderStop;

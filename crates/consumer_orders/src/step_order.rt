@@ -5,7 +5,7 @@ ghost use Rattle.hollow_machine.specs.Kept.{MovesConsumer};
 ghost use Rattle.hollow_machine.specs.StepOrder.{StepStep, step_name};
 ghost use Rattle.read_engine.specs.Taking.{IsStepName};
 
-use crate::take_refusal::take_refusal;
+use crate::taking::take_refusal;
 use hol_answers::{Refusal, Reply};
 use hol_io::{BlobName, BlobStore, Steps};
 use hol_orders::OrderStop;

@@ -9,7 +9,6 @@ use Rattle.row_model.specs.Table.{Table}
 use Rattle.write_engine.specs.CycleLimit.{TellsTypes}
 use Rattle.write_engine.specs.Production.{Production, advanced_to, without_rows}
 use Rattle.write_engine.specs.declared.producer.Closed.{Closed}
-use Rattle.hol_orders.specs.Parts.{AskedState}
 use Rattle.hol_answers.specs.declared.refusal.Refusal.{Refusal}
 use Rattle.hol_answers.specs.declared.refusal.Refusal.TheVariants as refusal
 use Rattle.hol_answers.specs.declared.reply.Reply.{Reply}
@@ -18,7 +17,7 @@ use Rattle.hollow_machine.specs.CycleOrder.{AreNamed, CycleRefusal, CycleStep, M
 use Rattle.hollow_machine.specs.Follow.{MayFollow, MayNotFollow}
 use Rattle.hollow_machine.specs.Kept.{MovesProducer, kept_with_producer, machine_of}
 use Rattle.state_blobs.specs.Published.{published_of, Published}
-use Rattle.hollow_machine.specs.Records.{GivesTrees}
+use Rattle.hollow_machine.specs.Records.{AskedCycle, GivesTrees}
 use Rattle.state_blobs.specs.Puts.{AreBlobs, put_all, puts_of}
 use Rattle.hollow_machine.specs.State.{Machine}
 use Rattle.blob_writing.specs.declared.fault.WriteFault.{WriteFault}
@@ -32,7 +31,7 @@ use Rattle.state_blobs.specs.Blobs.{AreNotShort, puts_in}
 use Rattle.producer_orders.specs.Making.{AreRefused, Ends, EndsPublished, Follows, IsEnded, IsMade, IsTooLarge, IsWithin, Steps, machine_with}
 
 -- what is too large is refused, where the state would be published
-too_large : (store : Store) (last : Published) (asked : AskedState) (trees : List (ℕ × PlainTree)) (rows : Table) (changed : List ℕ) (why : Refusal) →
+too_large : (store : Store) (last : Published) (asked : AskedCycle) (trees : List (ℕ × PlainTree)) (rows : Table) (changed : List ℕ) (why : Refusal) →
     MayFollow store last.version asked.version asked.tag → GivesTrees last.model asked.add trees → Makes last trees rows changed → Publishes last changed →
     IsTooLarge last rows asked.version asked.tag why → RefusesAfter store last asked why
 too_large store last asked trees rows changed (refusal.TooLarge limit.Ordinals) follows gives makes publishes told = absurd told.3
@@ -41,7 +40,7 @@ too_large store last asked trees rows changed (refusal.TooLarge _) follows gives
 too_large store last asked trees rows changed _ follows gives makes publishes told = absurd told
 
 -- how a closed cycle ends is what the order answers
-ended : (store : Store) (last : Published) (asked : AskedState) (trees : List (ℕ × PlainTree)) (rows : Table) (changed : List ℕ) (held : Option Store) (now : Published) (answer : Reply) →
+ended : (store : Store) (last : Published) (asked : AskedCycle) (trees : List (ℕ × PlainTree)) (rows : Table) (changed : List ℕ) (held : Option Store) (now : Published) (answer : Reply) →
     MayFollow store last.version asked.version asked.tag → GivesTrees last.model asked.add trees → Makes last trees rows changed →
     IsEnded store last rows changed asked.version asked.tag held now answer →
     (next : Store) × (held ≡ Some next) × ((machine : Machine) → CycleStep (machine_with machine store last) asked answer (machine_with machine next now))
@@ -50,7 +49,7 @@ ended store last asked trees rows changed held now (reply.Cycle names published 
 ended store last asked trees rows changed held now _ follows gives makes told = absurd told
 
 -- how the last part ends is how the cycle ends
-ends_so : (store : Store) (last : Published) (asked : AskedState) (trees : List (ℕ × PlainTree)) (rows : Table) (changed : List ℕ) (held : Option Store) (now : Published) (result : Result Reply CycleEnd) →
+ends_so : (store : Store) (last : Published) (asked : AskedCycle) (trees : List (ℕ × PlainTree)) (rows : Table) (changed : List ℕ) (held : Option Store) (now : Published) (result : Result Reply CycleEnd) →
     MayFollow store last.version asked.version asked.tag → GivesTrees last.model asked.add trees → Makes last trees rows changed →
     TellsEnd (IsEnded store last rows changed asked.version asked.tag held now) (λ why. (held ≡ Some store) × Publishes last changed × IsTooLarge last rows asked.version asked.tag why) IsAnyStop result →
     TellsEnd (λ answer. (next : Store) × (held ≡ Some next) × ((machine : Machine) → CycleStep (machine_with machine store last) asked answer (machine_with machine next now)))
@@ -61,7 +60,7 @@ ends_so store last asked trees rows changed held now (Err (cycle_end.Refused why
 ends_so store last asked trees rows changed held now (Err (cycle_end.Stopped stop)) follows gives makes told = tt
 
 -- A closed cycle of a state that may follow ends so.
-pub ends : (asked : AskedState) (held between held' : Option Store) (last mid now : Published) (made : Production) (closed : Closed) (result : Result Reply CycleEnd) →
+pub ends : (asked : AskedCycle) (held between held' : Option Store) (last mid now : Published) (made : Production) (closed : Closed) (result : Result Reply CycleEnd) →
     between ≡ held → mid ≡ last → Follows held last.version asked.version asked.tag (Ok tt) → IsMade last asked.add made closed → Ends between mid made.current closed.changed asked.version asked.tag held' now result →
     Steps asked held last held' now result
 ends asked None between held' last mid now made closed result same kept follows is told = tt
@@ -72,7 +71,7 @@ ends asked (Some store) between held' last mid now made closed result same kept 
     ends_so store last asked is.trees made.current closed.changed held' now result follows is.gives is.makes over_store
 
 -- records that are refused, of a state that may follow, are what the cycle is refused for
-refused_after : (store : Store) (last : Published) (asked : AskedState) (why : Refusal) → MayFollow store last.version asked.version asked.tag → AreRefused last asked.add why → RefusesAfter store last asked why
+refused_after : (store : Store) (last : Published) (asked : AskedCycle) (why : Refusal) → MayFollow store last.version asked.version asked.tag → AreRefused last asked.add why → RefusesAfter store last asked why
 refused_after store last asked (refusal.NoType name) follows is = (follows, is)
 refused_after store last asked (refusal.BadRecord fault) follows is = (follows, is)
 refused_after store last asked (refusal.TooLarge limit.Ordinals) follows is = (follows, is)
@@ -80,34 +79,34 @@ refused_after store last asked (refusal.TooLarge _) follows is = absurd is
 refused_after store last asked _ follows is = absurd is
 
 -- A cycle whose records are refused ends so, of a state that may follow, or it stops.
-pub records_end : (asked : AskedState) (held held' : Option Store) (last now : Published) (made : Closed → Type 0) (end : CycleEnd) →
+pub records_end : (asked : AskedCycle) (held held' : Option Store) (last now : Published) (made : Closed → Type 0) (end : CycleEnd) →
     held' ≡ held → Follows held last.version asked.version asked.tag (Ok tt) → TellsEnd {T = Closed} made (AreRefused last asked.add) IsMemory (Err end) → Steps asked held last held' now (Err end)
 records_end asked None held' last now made end same follows told = tt
 records_end asked (Some store) held' last now made (cycle_end.Refused why) same follows told = (same, refused_after store last asked why follows told)
 records_end asked (Some store) held' last now made (cycle_end.Stopped stop) same follows told = tt
 
 -- why a state may not follow is what the cycle is refused for
-may_not : (store : Store) (last : Published) (asked : AskedState) (why : Refusal) → MayNotFollow store last.version asked.version asked.tag why → RefusesAfter store last asked why
+may_not : (store : Store) (last : Published) (asked : AskedCycle) (why : Refusal) → MayNotFollow store last.version asked.version asked.tag why → RefusesAfter store last asked why
 may_not store last asked (refusal.NoType name) is = absurd is
 may_not store last asked (refusal.BadRecord fault) is = absurd is
 may_not store last asked (refusal.TooLarge passed) is = absurd is
 may_not store last asked _ is = is
 
 -- A cycle of a state that may not follow ends so, or it stops.
-pub follow_ends : (asked : AskedState) (held held' : Option Store) (last now : Published) (end : CycleEnd) →
+pub follow_ends : (asked : AskedCycle) (held held' : Option Store) (last now : Published) (end : CycleEnd) →
     held' ≡ held → Follows held last.version asked.version asked.tag (Err end) → Steps asked held last held' now (Err end)
 follow_ends asked None held' last now end same told = tt
 follow_ends asked (Some store) held' last now (cycle_end.Refused why) same told = (same, may_not store last asked why told)
 follow_ends asked (Some store) held' last now (cycle_end.Stopped stop) same told = tt
 
 -- what is refused after the state of a producer is refused of the machine
-after_producer : (machine : Machine) (store : Store) (last : Published) (asked : AskedState) (why : Refusal) → RefusesAfter store last asked why →
+after_producer : (machine : Machine) (store : Store) (last : Published) (asked : AskedCycle) (why : Refusal) → RefusesAfter store last asked why →
     CycleRefusal (machine_with machine store last) asked why
 after_producer machine store last asked refusal.NoModel h = absurd h
 after_producer machine store last asked _ is = is
 
 -- What a cycle answers moves the machine, where all that it leaves unpublished is dropped.
-pub answers : (asked : AskedState) (held held' : Option Store) (old mid new : Production) (answer : Reply) (E : Type 0) → new ≡ without_rows mid →
+pub answers : (asked : AskedCycle) (held held' : Option Store) (old mid new : Production) (answer : Reply) (E : Type 0) → new ≡ without_rows mid →
     Steps asked held (published_of old) held' (published_of mid) (Ok answer) →
     MovesProducer {E = E} (λ machine r next. CycleStep machine asked r next) held (Some old) held' (Some new) (Ok answer)
 answers asked None held' old mid new answer E is steps = λ kept. tt
@@ -115,7 +114,7 @@ answers asked (Some store) held' old mid new answer E is (next, told, steps) =
     subst (λ p. MovesProducer {E = E} (λ machine r next. CycleStep machine asked r next) (Some store) (Some old) held' (Some p) (Ok answer)) (sym is)
     (λ kept. (next, told, steps (machine_of store (kept_with_producer kept (Some old)))))
 
-pub refuses : (asked : AskedState) (held held' : Option Store) (old mid new : Production) (why : Refusal) (E : Type 0) → new ≡ without_rows mid → published_of mid ≡ published_of old →
+pub refuses : (asked : AskedCycle) (held held' : Option Store) (old mid new : Production) (why : Refusal) (E : Type 0) → new ≡ without_rows mid → published_of mid ≡ published_of old →
     Steps asked held (published_of old) held' (published_of mid) (Err (cycle_end.Refused why)) →
     MovesProducer {E = E} (λ machine r next. CycleStep machine asked r next) held (Some old) held' (Some new) (Ok (reply.Refused why))
 refuses asked None held' old mid new why E is kept steps = λ kept. tt
@@ -125,7 +124,7 @@ refuses asked (Some store) held' old mid new why E is kept steps =
     let machine = machine_of store (kept_with_producer beside (Some old)) in
     (store, steps.0, (after_producer machine store (published_of old) asked why steps.1, ap (λ p. machine_with machine store p) kept)))
 
-pub no_producer : (asked : AskedState) (held : Option Store) (kept : Option Production) (E : Type 0) → kept ≡ None →
+pub no_producer : (asked : AskedCycle) (held : Option Store) (kept : Option Production) (E : Type 0) → kept ≡ None →
     MovesProducer {E = E} (λ machine r next. CycleStep machine asked r next) held kept held kept (Ok (reply.Refused refusal.NoModel))
 no_producer asked None kept E is = λ kept. tt
 no_producer asked (Some store) kept E is = λ beside. (store, refl, (ap (option_map published_of) is, refl))

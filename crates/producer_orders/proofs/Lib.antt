@@ -1,5 +1,6 @@
 mod AddingRecords
 mod Cycling
+mod FilmRecords
 mod KnownTypes
 mod Makings
 mod Modelling

@@ -14,8 +14,8 @@ use Rattle.schema_model.specs.declared.limit.Limit.TheVariants.{Ordinals}
 use Rattle.hol_answers.specs.declared.refusal.Refusal.TheVariants.{TooLarge}
 use Rattle.hollow_machine.specs.CycleOrder.{Makes}
 use Rattle.state_blobs.specs.Published.{published_of, Published}
-use Rattle.hollow_machine.specs.Records.{AreTypes, entries}
-use Rattle.producer_orders.specs.Making.{AreRefused, IsMade}
+use Rattle.hollow_machine.specs.Records.{Adding, AreTypes, entries, spelled}
+use Rattle.producer_orders.specs.Making.{AreRefused, AreTaken, IsMade}
 use Rattle.producer_orders.specs.Parts.{AreAdded}
 
 -- a table has no rows past its types
@@ -37,11 +37,11 @@ changed_within count previous current changed old new are = λ k d within.
     ]
 
 -- A cycle that is closed over the records that were taken.
-pub is_made : (old taken new : Production) (add : Data) (closed : Closed) → taken ≡ record old { current = taken.current } → new ≡ record taken { closed = true; over = new.over } →
-    AreTypes old.schemas add → AreAdded old.schemas old.previous (entries old.schemas add) taken.current false → AreChanged taken.previous taken.current closed.changed →
+pub is_made : (old taken new : Production) (add : Adding) (closed : Closed) → taken ≡ record old { current = taken.current } → new ≡ record taken { closed = true; over = new.over } →
+    AreTaken (published_of old) add taken.current → AreChanged taken.previous taken.current closed.changed →
     (IsTrue closed.first ↔ (taken.version ≡ 0)) → TellsCycle taken.schemas taken.previous taken.current taken.version closed.changed new.over →
     length new.previous ≡ length new.schemas → length new.current ≡ length new.schemas → IsMade (published_of old) add new closed
-is_made old taken new add closed kept ok types (trees, read, state) are first over previous_types current_types =
+is_made old taken new add closed kept ok (trees, gives, state) are first over previous_types current_types =
     let whole : new ≡ record old { current = taken.current; closed = true; over = new.over } = ok ∙ ap (λ (p : Production). record p { closed = true; over = new.over }) kept in
     let same : taken.current ≡ new.current = sym (ap (λ (p : Production). p.current) whole) in
     let changed : AreChanged old.previous taken.current closed.changed = subst (λ (p : Production). AreChanged p.previous p.current closed.changed) kept are in
@@ -51,7 +51,7 @@ is_made old taken new add closed kept ok types (trees, read, state) are first ov
     let makes : Makes (published_of old) trees taken.current closed.changed = record { state = state; types = changed } in
     record {
       trees = trees;
-      gives = record { types = types; read = read };
+      gives = gives;
       makes = subst (λ (rows : Table). Makes (published_of old) trees rows closed.changed) same makes;
       over = subst (λ (rows : Table). TellsCycle old.schemas old.previous rows old.version closed.changed new.over) same limits;
       first = subst (λ (p : Production). IsTrue closed.first ↔ (p.version ≡ 0)) kept first;
@@ -59,6 +59,10 @@ is_made old taken new add closed kept ok types (trees, read, state) are first ov
       is_closed = ap (λ (p : Production). p.closed) whole;
     }
 
+-- records that were added are taken
+pub are_taken : (last : Published) (add : Data) (rows : Table) → AreTypes last.model add → AreAdded last.model last.rows (entries last.model add) rows false → AreTaken last (spelled add) rows
+are_taken last add rows types (trees, read, next) = (trees, record { types = types; read = read }, next)
+
 -- records that are too many are refused
-pub too_many : (last : Published) (add : Data) (rows : Table) → AreTypes last.model add → AreAdded last.model last.rows (entries last.model add) rows true → AreRefused last add (TooLarge Ordinals)
+pub too_many : (last : Published) (add : Data) (rows : Table) → AreTypes last.model add → AreAdded last.model last.rows (entries last.model add) rows true → AreRefused last (spelled add) (TooLarge Ordinals)
 too_many last add rows types (trees, read, none) = (trees, record { types = types; read = read }, none)

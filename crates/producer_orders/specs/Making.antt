@@ -1,6 +1,5 @@
 -- What the parts of a cycle make of a producer that has published its last state.
 use Rattle.std.specs.Prelude.{◌≡◌, ◌<◌, ◌↔◌, ℕ, ℤ, List, All, IfSome, IsTrue, true, Option, Some, None, Result, ⊤, length}
-use Rattle.serde_json.specs.Data.{Data}
 use Rattle.hol_io.specs.Store.{Store}
 use Rattle.schema_model.specs.declared.limit.Limit.TheVariants as limit
 use Rattle.row_model.specs.PlainTree.{PlainTree}
@@ -9,7 +8,6 @@ use Rattle.write_engine.specs.Cycle.{Next}
 use Rattle.write_engine.specs.CycleLimit.{TellsCycle, TellsTypes}
 use Rattle.write_engine.specs.Production.{Production}
 use Rattle.write_engine.specs.declared.producer.Closed.{Closed}
-use Rattle.hol_orders.specs.Parts.{AskedState}
 use Rattle.hol_answers.specs.declared.refusal.Refusal.{Refusal}
 use Rattle.hol_answers.specs.declared.refusal.Refusal.TheVariants.{TooLarge}
 use Rattle.hol_answers.specs.declared.reply.Reply.{Reply}
@@ -17,7 +15,7 @@ use Rattle.hol_answers.specs.declared.reply.Reply.TheVariants.{Cycle}
 use Rattle.hollow_machine.specs.CycleOrder.{AreNamed, CycleStep, Leaves, Makes, Publishes, RefusesAfter}
 use Rattle.hollow_machine.specs.Follow.{MayFollow, MayNotFollow}
 use Rattle.state_blobs.specs.Puts.{AreBlobs, IsShort, Put, puts_of, put_all}
-use Rattle.hollow_machine.specs.Records.{GivesNoTrees, GivesTrees}
+use Rattle.hollow_machine.specs.Records.{Adding, AskedCycle, GivesNoTrees, GivesTrees}
 use Rattle.hollow_machine.specs.State.{Machine, with_producer, with_store}
 use Rattle.state_blobs.specs.Published.{Published}
 use Rattle.state_blobs.specs.Blobs.{puts_in}
@@ -26,7 +24,7 @@ use Rattle.producer_orders.specs.declared.cycle_end.CycleEnd.{CycleEnd}
 use Rattle.state_blobs.specs.declared.write.Blobs.{Blobs}
 
 -- A closed cycle: the trees that the records give, the state that these make and the types that it changes, and the limit that it passes.
-pub record IsMade (last : Published) (add : Data) (made : Production) (closed : Closed) : Type 0 where
+pub record IsMade (last : Published) (add : Adding) (made : Production) (closed : Closed) : Type 0 where
   pub trees : List (ℕ × PlainTree)
   pub gives : GivesTrees last.model add trees
   pub makes : Makes last trees made.current closed.changed
@@ -35,8 +33,12 @@ pub record IsMade (last : Published) (add : Data) (made : Production) (closed : 
   pub in_model : All (λ t. t < length last.model) closed.changed
   pub is_closed : made.closed ≡ true
 
+-- The trees that the records give make these rows.
+abbrev pub AreTaken : Published → Adding → Table → Type 0
+AreTaken last add rows = (trees : List (ℕ × PlainTree)) × GivesTrees last.model add trees × Next last.model last.rows trees rows
+
 -- The records are refused so: they give no trees; or they do, and a row would get the ordinal 2^22.
-abbrev pub AreRefused : Published → Data → Refusal → Type 0
+abbrev pub AreRefused : Published → Adding → Refusal → Type 0
 AreRefused last add (TooLarge limit.Ordinals) =
     (trees : List (ℕ × PlainTree)) × GivesTrees last.model add trees × ((rows : Table) → ¬ Next last.model last.rows trees rows)
 AreRefused last add refusal = GivesNoTrees last.model add refusal
@@ -73,7 +75,7 @@ IsWithin last rows version tag blobs =
     TellsTypes last.model last.rows rows None × AreBlobs last rows version tag (puts_in blobs) × All IsShort (puts_in blobs)
 
 -- What a cycle of a producer answers or is refused for, over what the store tells, and what it leaves, whatever else the machine has.
-abbrev pub Steps : AskedState → Option Store → Published → Option Store → Published → Result Reply CycleEnd → Type 0
+abbrev pub Steps : AskedCycle → Option Store → Published → Option Store → Published → Result Reply CycleEnd → Type 0
 Steps asked held last held' now result = IfSome held (λ store. TellsEnd
     (λ reply. (next : Store) × (held' ≡ Some next)
     × ((machine : Machine) → CycleStep (machine_with machine store last) asked reply (machine_with machine next now)))

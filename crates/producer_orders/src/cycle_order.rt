@@ -1,19 +1,25 @@
-//! The order `cycle`.
-ghost use Rattle.std.specs.Prelude.{◌≡◌, ◌≤◌, ◌<◌, ◌↔◌, All, IfOk, IfSome, IsTrue, OnErr, Some, None, true, length};
+//! The order `cycle`, and the cycles of the script of `make`.
+ghost use Rattle.std.specs.Prelude.{◌≡◌, ◌≤◌, ◌<◌, ◌↔◌, All, IfSome, IsTrue, OnErr, Some, None, true, length};
 ghost use Rattle.std.specs.Result.{IsErrOf};
 ghost use Rattle.hol_io.specs.Causes.{Rose};
+ghost use Rattle.film_script.specs.Films.{film_schemas};
 ghost use Rattle.write_engine.specs.CycleLimit.{TellsCycle, TellsTypes};
 ghost use Rattle.hol_orders.specs.Kind.{IsNextState};
 ghost use Rattle.hol_orders.specs.Parts.{asked_state};
 ghost use Rattle.hollow_machine.specs.CycleOrder.{CycleStep};
 ghost use Rattle.hollow_machine.specs.Kept.{IsResting, MovesProducer};
+ghost use Rattle.hollow_machine.specs.MakeCommand.{film_cycle};
+ghost use Rattle.hollow_machine.specs.Records.{asked_cycle};
 ghost use Rattle.state_blobs.specs.Published.{published_of};
+ghost use Rattle.producer_orders.specs.Asked.{Suit, asked_of};
 ghost use Rattle.producer_orders.specs.Ends.{HasEndCause, IsMemory, TellsEnd};
 ghost use Rattle.producer_orders.specs.Making.{Ends, EndsPublished, Follows, IsTooLarge, IsWithin, Steps};
 
+use crate::asked::{FilmCycle, Records};
 use crate::cycle_end::CycleEnd;
 use crate::follow::why_not;
 use crate::make::{make_state, names_of_types};
+use film_script::cycle_tag;
 use hol_answers::{Refusal, Reply};
 use hol_io::BlobStore;
 use hol_orders::{NextState, OrderStop};
@@ -31,20 +37,20 @@ pub fn cycle<S: BlobStore>(
 ) -> Result<Reply, OrderStop>
     requires order { IsNextState (asked_state next.now) }
     requires resting { IfSome producer.old IsResting }
-    ensures step { MovesProducer (λ machine reply after. CycleStep machine (asked_state next.now) reply after)
+    ensures step { MovesProducer (λ machine reply after. CycleStep machine (asked_cycle (asked_state next.now)) reply after)
         (S.seen store.old).held producer.old (S.seen store.new).held producer.new result }
     ensures resting { IfSome producer.new IsResting }
     ensures store_fault { IsErrOf result OrderStop.Store → Rose (S.seen store.old).faults (S.seen store.new).faults }
     ensures later { (S.seen store.old).faults ≤ (S.seen store.new).faults }
 {
     match producer {
-        Some(producer) => cycle_of(alloc, store, producer, next),
+        Some(producer) => spelled_cycle(alloc, store, producer, next),
         None => Ok(Reply::Refused(Refusal::NoModel)),
     }
 }
 
-// The same of a producer. What a cycle leaves that is not published is dropped.
-fn cycle_of<S: BlobStore>(
+// The same of a producer.
+fn spelled_cycle<S: BlobStore>(
     alloc: Global,
     store: &mut S,
     producer: &mut Producer,
@@ -52,13 +58,62 @@ fn cycle_of<S: BlobStore>(
 ) -> Result<Reply, OrderStop>
     requires order { IsNextState (asked_state next.now) }
     requires resting { IsResting producer.old }
-    ensures step { MovesProducer (λ machine reply after. CycleStep machine (asked_state next.now) reply after)
+    ensures step { MovesProducer (λ machine reply after. CycleStep machine (asked_cycle (asked_state next.now)) reply after)
         (S.seen store.old).held (Some producer.old) (S.seen store.new).held (Some producer.new) result }
     ensures resting { IsResting producer.new }
     ensures store_fault { IsErrOf result OrderStop.Store → Rose (S.seen store.old).faults (S.seen store.new).faults }
     ensures later { (S.seen store.old).faults ≤ (S.seen store.new).faults }
 {
-    let ended = run_cycle(alloc, store, producer, next);
+    let records = Records::Spelled(&next.add);
+    cycle_of(alloc, store, producer, next.version, next.tag, &records)
+}
+
+/// Publishes the next state of a producer of the script's model: the films of a cycle, under its number and its tag. A refusal leaves the store and
+/// the producer as they were. `Store` comes only where the store's count of faults rose.
+pub fn film_cycle<S: BlobStore>(
+    alloc: Global,
+    store: &mut S,
+    producer: &mut Producer,
+    seed: u32,
+    rows: u32,
+    cycle: u32,
+) -> Result<Reply, OrderStop>
+    requires seed { seed ≤ 1000000 }
+    requires rows { rows ≤ 1000000 }
+    requires cycle { cycle ≤ 1000000 }
+    requires model { producer.old.schemas ≡ film_schemas }
+    requires resting { IsResting producer.old }
+    ensures step { MovesProducer (λ machine reply after. CycleStep machine (film_cycle seed rows cycle) reply after)
+        (S.seen store.old).held (Some producer.old) (S.seen store.new).held (Some producer.new) result }
+    ensures model { producer.new.schemas ≡ film_schemas }
+    ensures resting { IsResting producer.new }
+    ensures store_fault { IsErrOf result OrderStop.Store → Rose (S.seen store.old).faults (S.seen store.new).faults }
+    ensures later { (S.seen store.old).faults ≤ (S.seen store.new).faults }
+{
+    let tag = cycle_tag(seed, cycle);
+    let records = Records::Films(FilmCycle { seed, rows, cycle });
+    cycle_of(alloc, store, producer, u64::from(cycle), tag, &records)
+}
+
+// Publishes the next state of a producer. What a cycle leaves that is not published is dropped.
+fn cycle_of<S: BlobStore>(
+    alloc: Global,
+    store: &mut S,
+    producer: &mut Producer,
+    version: u64,
+    tag: i64,
+    records: &Records<'_>,
+) -> Result<Reply, OrderStop>
+    requires records { Suit producer.old.schemas records.now }
+    requires resting { IsResting producer.old }
+    ensures step { MovesProducer (λ machine reply after. CycleStep machine (asked_of version tag records.now) reply after)
+        (S.seen store.old).held (Some producer.old) (S.seen store.new).held (Some producer.new) result }
+    ensures model { producer.new.schemas ≡ producer.old.schemas }
+    ensures resting { IsResting producer.new }
+    ensures store_fault { IsErrOf result OrderStop.Store → Rose (S.seen store.old).faults (S.seen store.new).faults }
+    ensures later { (S.seen store.old).faults ≤ (S.seen store.new).faults }
+{
+    let ended = run_cycle(alloc, store, producer, version, tag, records);
     producer.undo();
     match ended {
         Ok(reply) => Ok(reply),
@@ -72,17 +127,20 @@ fn run_cycle<S: BlobStore>(
     alloc: Global,
     store: &mut S,
     producer: &mut Producer,
-    next: &NextState,
+    version: u64,
+    tag: i64,
+    records: &Records<'_>,
 ) -> Result<Reply, CycleEnd>
-    requires order { IsNextState (asked_state next.now) }
+    requires records { Suit producer.old.schemas records.now }
     requires resting { IsResting producer.old }
-    ensures steps { Steps (asked_state next.now) (S.seen store.old).held (published_of producer.old) (S.seen store.new).held (published_of producer.new) result }
+    ensures steps { Steps (asked_of version tag records.now) (S.seen store.old).held (published_of producer.old) (S.seen store.new).held (published_of producer.new) result }
+    ensures model { producer.new.schemas ≡ producer.old.schemas }
     ensures kept { OnErr result (published_of producer.new ≡ published_of producer.old) }
     ensures cause { HasEndCause (S.seen store.old).faults (S.seen store.new).faults result }
 {
-    check_follow(alloc, store, producer.version(), next.version, next.tag)?;
-    let closed = make_state(alloc, producer, &next.add)?;
-    end_cycle(alloc, store, producer, &closed, next.version, next.tag)
+    check_follow(alloc, store, producer.version(), version, tag)?;
+    let closed = make_state(alloc, producer, records)?;
+    end_cycle(alloc, store, producer, &closed, version, tag)
 }
 
 // Refuses a state that may not follow the last one.
@@ -118,6 +176,7 @@ fn end_cycle<S: BlobStore>(
     requires over { TellsCycle producer.old.schemas producer.old.previous producer.old.current producer.old.version closed.now.changed producer.old.over }
     ensures ends { Ends (S.seen store.old).held (published_of producer.old) producer.old.current closed.now.changed version tag
         (S.seen store.new).held (published_of producer.new) result }
+    ensures model { producer.new.schemas ≡ producer.old.schemas }
     ensures kept { OnErr result (published_of producer.new ≡ published_of producer.old) }
     ensures cause { HasEndCause (S.seen store.old).faults (S.seen store.new).faults result }
 {
@@ -149,6 +208,7 @@ fn publish_state<S: BlobStore>(
     requires over { TellsTypes producer.old.schemas producer.old.previous producer.old.current producer.old.over }
     ensures ends { EndsPublished (S.seen store.old).held (published_of producer.old) producer.old.current version tag
         (S.seen store.new).held (published_of producer.new) result }
+    ensures model { producer.new.schemas ≡ producer.old.schemas }
     ensures kept { OnErr result (published_of producer.new ≡ published_of producer.old) }
     ensures cause { HasEndCause (S.seen store.old).faults (S.seen store.new).faults result }
 {

@@ -1,8 +1,10 @@
 //! The orders that move a producer: what each answers, and what it leaves of the store and of the producer.
 #![tactic(auto)]
 
+mod asked;
 mod cycle_end;
 mod cycle_order;
+mod films;
 mod follow;
 mod make;
 mod model_order;
@@ -10,5 +12,5 @@ mod record_fault;
 mod records;
 mod types;
 
-pub use cycle_order::cycle;
+pub use cycle_order::{cycle, film_cycle};
 pub use model_order::model;

@@ -1,5 +1,5 @@
 //! The next state of a producer is made of the records of a cycle.
-ghost use Rattle.std.specs.Prelude.{◌≡◌, ◌<◌, All, IfOk, Some, false, length, slice_get};
+ghost use Rattle.std.specs.Prelude.{◌≡◌, ◌<◌, All, IfOk, Some, length, slice_get};
 ghost use Rattle.serde_json.specs.View.{view};
 ghost use Rattle.schema_model.specs.declared.schema.Schema.{Schema};
 ghost use Rattle.hol_orders.specs.Shapes.{AreRecords};
@@ -7,12 +7,14 @@ ghost use Rattle.hol_answers.specs.Refusal.{bad_record as refused_record};
 ghost use Rattle.hollow_machine.specs.CycleOrder.{AreNamed};
 ghost use Rattle.hollow_machine.specs.Kept.{IsResting};
 ghost use Rattle.state_blobs.specs.Published.{published_of};
-ghost use Rattle.hollow_machine.specs.Records.{AreTypes, entries};
+ghost use Rattle.hollow_machine.specs.Records.{AreTypes, spelled};
+ghost use Rattle.producer_orders.specs.Asked.{Suit, adding_of};
 ghost use Rattle.producer_orders.specs.Ends.{IsMemory, TellsEnd};
-ghost use Rattle.producer_orders.specs.Making.{AreRefused, IsMade};
-ghost use Rattle.producer_orders.specs.Parts.{AreAdded};
+ghost use Rattle.producer_orders.specs.Making.{AreRefused, AreTaken, IsMade};
 
+use crate::asked::Records;
 use crate::cycle_end::CycleEnd;
+use crate::films::take_films;
 use crate::record_fault::RecordFault;
 use crate::records::add_records;
 use crate::types::unknown_type;
@@ -29,17 +31,14 @@ use write_engine::{Closed, Producer};
 pub(crate) fn make_state(
     alloc: Global,
     producer: &mut Producer,
-    add: &Value,
+    records: &Records<'_>,
 ) -> Result<Closed, CycleEnd>
     requires resting { IsResting producer.old }
-    requires records { AreRecords (view add.now) }
-    ensures tells { TellsEnd (IsMade (published_of producer.old) (view add.now) producer.new) (AreRefused (published_of producer.old) (view add.now)) IsMemory result }
+    requires records { Suit producer.old.schemas records.now }
+    ensures tells { TellsEnd (IsMade (published_of producer.old) (adding_of records.now) producer.new) (AreRefused (published_of producer.old) (adding_of records.now)) IsMemory result }
     ensures kept { published_of producer.new ≡ published_of producer.old }
 {
-    if let Some(name) = unknown_type(alloc, producer.model(), add)? {
-        return Err(CycleEnd::Refused(Refusal::NoType(name)));
-    }
-    take_records(alloc, producer, add)?;
+    take_records(alloc, producer, records)?;
     let closed = producer.close()?;
     // Each view tells that it has rows of so many types as the model.
     let _previous = producer.previous();
@@ -48,13 +47,44 @@ pub(crate) fn make_state(
 }
 
 // Adds the records to a producer.
-#[tactic(auto, using(crate::proofs::Makings::too_many))]
-fn take_records(alloc: Global, producer: &mut Producer, add: &Value) -> Result<(), CycleEnd>
+fn take_records(
+    alloc: Global,
+    producer: &mut Producer,
+    records: &Records<'_>,
+) -> Result<(), CycleEnd>
+    requires resting { IsResting producer.old }
+    requires records { Suit producer.old.schemas records.now }
+    ensures tells { TellsEnd (λ _. AreTaken (published_of producer.old) (adding_of records.now) producer.new.current)
+        (AreRefused (published_of producer.old) (adding_of records.now)) IsMemory result }
+    ensures kept { producer.new ≡ record producer.old { current = producer.new.current } }
+{
+    match records {
+        Records::Spelled(add) => take_spelled(alloc, producer, add),
+        Records::Films(script) => take_films(alloc, producer, *script),
+    }
+}
+
+// Adds the records of an order to a producer.
+fn take_spelled(alloc: Global, producer: &mut Producer, add: &Value) -> Result<(), CycleEnd>
+    requires resting { IsResting producer.old }
+    requires records { AreRecords (view add.now) }
+    ensures tells { TellsEnd (λ _. AreTaken (published_of producer.old) (spelled (view add.now)) producer.new.current)
+        (AreRefused (published_of producer.old) (spelled (view add.now))) IsMemory result }
+    ensures kept { producer.new ≡ record producer.old { current = producer.new.current } }
+{
+    if let Some(name) = unknown_type(alloc, producer.model(), add)? {
+        return Err(CycleEnd::Refused(Refusal::NoType(name)));
+    }
+    take_known(alloc, producer, add)
+}
+
+// The same of records whose types are known.
+#[tactic(auto, using(crate::proofs::Makings::are_taken, crate::proofs::Makings::too_many))]
+fn take_known(alloc: Global, producer: &mut Producer, add: &Value) -> Result<(), CycleEnd>
     requires resting { IsResting producer.old }
     requires types { AreTypes producer.old.schemas (view add.now) }
-    ensures tells { TellsEnd
-        (λ _. AreAdded producer.old.schemas producer.old.previous (entries producer.old.schemas (view add.now)) producer.new.current false)
-        (AreRefused (published_of producer.old) (view add.now)) IsMemory result }
+    ensures tells { TellsEnd (λ _. AreTaken (published_of producer.old) (spelled (view add.now)) producer.new.current)
+        (AreRefused (published_of producer.old) (spelled (view add.now))) IsMemory result }
     ensures kept { producer.new ≡ record producer.old { current = producer.new.current } }
 {
     match add_records(alloc, producer, add) {

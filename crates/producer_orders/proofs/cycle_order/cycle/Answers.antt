@@ -1,5 +1,6 @@
 use Rattle.std.proofs.Common.{Option, Some, subst, sym}
 use Rattle.hol_orders.specs.Parts.{asked_state}
+use Rattle.hollow_machine.specs.Records.{asked_cycle}
 use Rattle.write_engine.specs.Production.{Production}
 use Rattle.hollow_machine.specs.CycleOrder.{CycleStep}
 use Rattle.hollow_machine.specs.Kept.{MovesProducer}
@@ -10,9 +11,9 @@ use Rattle.producer_orders.proofs.cycle_order.cycle.Goals as goal
 pub returns-in-Some-clause-step : goal.returns-in-Some-clause-step
 returns-in-Some-clause-step g c =
     let held = (g.S.BlobStore.seen c.args.store.now).held in
-    let held' = (g.S.BlobStore.seen c.cycle_of.new.store).held in
-    subst (λ (old : Option Production). MovesProducer (λ machine reply next. CycleStep machine (asked_state c.args.next.now) reply next) held old held' (Some c.cycle_of.new.producer) c.cycle_of.result)
-    (sym c.in-Some.is) c.cycle_of.ensures.step
+    let held' = (g.S.BlobStore.seen c.spelled_cycle.new.store).held in
+    subst (λ (old : Option Production). MovesProducer (λ machine reply next. CycleStep machine (asked_cycle (asked_state c.args.next.now)) reply next) held old held' (Some c.spelled_cycle.new.producer) c.spelled_cycle.result)
+    (sym c.in-Some.is) c.spelled_cycle.ensures.step
 
 pub returns-in-None-clause-step : goal.returns-in-None-clause-step
-returns-in-None-clause-step g c = no_producer (asked_state c.args.next.now) (g.S.BlobStore.seen c.args.store.now).held c.args.producer.now OrderStop c.in-None.is
+returns-in-None-clause-step g c = no_producer (asked_cycle (asked_state c.args.next.now)) (g.S.BlobStore.seen c.args.store.now).held c.args.producer.now OrderStop c.in-None.is

@@ -1,6 +1,6 @@
-use Rattle.std.proofs.Common.{Err, ◌≡◌}
+use Rattle.std.proofs.Common.{Err, ap, ◌≡◌}
 use Rattle.std.proofs.lemmas.Result.{err_from_is_err_and}
-use Rattle.write_engine.specs.Production.{advanced_to}
+use Rattle.write_engine.specs.Production.{Production, advanced_to}
 use Rattle.state_blobs.specs.Published.{published_of}
 use Rattle.state_blobs.specs.declared.write.Blobs.{Blobs}
 use Rattle.producer_orders.specs.Ends.{IsMemory, TellsEnd}
@@ -23,3 +23,6 @@ returns-clause-ends g c =
     let within = at_tag (λ t. IsWithin (published_of old) old.current c.args.version t c.in_ok-blobs.blobs) c.args.tag c.ranges.tag c.in_ok-blobs.ensures in
     let is = at_tag (λ t. c.advance.new.self ≡ advanced_to t c.args.version old) c.args.tag c.ranges.tag c.advance.ensures in
     is_published (g.S.BlobStore.seen c.args.store.now).held (g.S.BlobStore.seen c.publish.new.store).held old c.advance.new.self c.args.version c.args.tag c.in_ok-blobs.blobs within c.in_ok-publish.ensures.put is
+
+pub returns-clause-model : goal.returns-clause-model
+returns-clause-model g c = ap (λ (p : Production). p.schemas) c.advance.ensures

@@ -14,7 +14,7 @@ use std::alloc::Global;
 
 /// The refusal of the blob of this name for the fault by which a consumer does not take it, or why the order stops. Each fault that lies behind
 /// the header is `BadBody`.
-pub(crate) fn take_refusal<S: BlobStore>(
+pub fn take_refusal<S: BlobStore>(
     alloc: Global,
     store: &mut S,
     name: &BlobName,

@@ -1,0 +1,161 @@
+-- A check of a walker is one of the machine: its calls are those of the orders `load` and `step`.
+use Rattle.std.proofs.Common.{◌≡◌, ℕ, List, [], ◌∷◌, Option, Some, None, Result, Ok, Err, inl, inr, subst}
+use Rattle.std.specs.Prelude.{IfSome, length}
+use Rattle.hol_io.specs.declared.name.BlobName.{BlobName}
+use Rattle.hol_io.specs.declared.name.BlobName.TheVariants.{Snapshot}
+use Rattle.hol_io.specs.Store.{Store, told}
+use Rattle.blob_frame.specs.declared.fault.BlobFault.{BlobFault}
+use Rattle.chain_check.specs.Walk.{Arrives, Both, Calls, Comes, Differs, Goes, Passes, Refuses, Stops, TellsCheck, calls_by, name_of_call, name_of_step}
+use Rattle.chain_check.specs.declared.checking.CheckFault.{CheckFault}
+use Rattle.chain_check.specs.declared.checking.CheckFault.TheVariants as check_fault
+use Rattle.read_engine.specs.Position.{Position}
+use Rattle.read_engine.specs.Walking.{WalksLoad, WalksStep, schemas_at, table_at, tag_at}
+use Rattle.schema_model.specs.declared.schema.name.Name.{Name}
+use Rattle.hol_answers.specs.declared.refusal.Refusal.{Refusal}
+use Rattle.hol_answers.specs.declared.refusal.Refusal.TheVariants as refusal
+use Rattle.hol_answers.specs.declared.reply.Reply.TheVariants as reply
+use Rattle.hollow_machine.specs.CheckOrder.{CheckReply, WalkLoads, WalkSteps, both_new, walk_calls}
+use Rattle.consumer_orders.specs.Taken.{IsTakeRefusal}
+use Rattle.consumer_orders.proofs.Loading.{snapshot_refused}
+use Rattle.consumer_orders.proofs.Stepping.{delta_refused, of_delta}
+
+-- the calls of a walker
+abbrev pub walker_calls : Calls (Option Position) BlobFault
+walker_calls = calls_by WalksLoad WalksStep tag_at schemas_at table_at
+
+module _ (store : Store) where
+  abbrev held : Option Store
+  held = Some store
+
+  -- ---- calls that are answered
+
+  loads : (version : ℕ) (before now : Option Position) → WalksLoad held version before now (Ok tt) → WalkLoads held version before now (Ok tt)
+  loads version before now walks = let (blob, position, there, stands, from) = walks.tells in (position, (blob, there, from), stands)
+
+  steps : (from to : ℕ) (before now : Option Position) → WalksStep held from to before now (Ok tt) → WalkSteps held from to before now (Ok tt)
+  steps from to None now walks = absurd walks.steps
+  steps from to (Some at) now walks = let (blob, position, there, stands, by) = walks.steps.tells in (blob, position, there, by, stands)
+
+  goes : (from : Option ℕ) (to : ℕ) (before now : Option Position) → Goes walker_calls held from to before now (Ok tt) → Goes walk_calls held from to before now (Ok tt)
+  goes None to before now walks = loads to before now walks
+  goes (Some from) to before now walks = steps from to before now walks
+
+  arrives : (from : Option ℕ) (to : ℕ) (before now : Both (Option Position)) → Arrives walker_calls held from to before now → Arrives walk_calls held from to before now
+  arrives from to before now is = record { goes = goes from to before.walker now.walker is.goes; loads = loads to before.fresh now.fresh is.loads }
+
+  passes : (from : Option ℕ) (versions : List ℕ) (before now : Both (Option Position)) → Passes walker_calls held from versions before now → Passes walk_calls held from versions before now
+  passes from [] before now same = same
+  passes from (to ∷ more) before now (there, is, alike, others) = (there, arrives from to before there is, alike, passes (Some to) more there now others)
+
+  comes : (versions : List ℕ) (start : Both (Option Position)) (from : Option ℕ) (to : ℕ) (now : Both (Option Position)) → Comes walker_calls held versions start from to now
+      → Comes walk_calls held versions start from to now
+  comes versions start from to now is = record {
+    passed = is.passed;
+    more = is.more;
+    versions_are = is.versions_are;
+    from_is = is.from_is;
+    passes = passes None is.passed start now is.passes;
+  }
+
+  differs : (versions : List ℕ) (start : Both (Option Position)) (version : ℕ) (type_name : Option Name) (ordinal : Option ℕ) (now : Both (Option Position))
+      → Differs walker_calls held versions start version type_name ordinal now → Differs walk_calls held versions start version type_name ordinal now
+  differs versions start version type_name ordinal now is = record {
+    from = is.from;
+    before = is.before;
+    comes = comes versions start is.from version is.before is.comes;
+    arrives = arrives is.from version is.before now is.arrives;
+    place = is.place;
+  }
+
+  -- ---- calls that are refused
+
+  load_refused : (version : ℕ) (before now : Option Position) (fault : BlobFault) (why : Refusal) → WalksLoad held version before now (Err fault)
+      → IsTakeRefusal (Snapshot version) (told held (Snapshot version)) fault why → WalkLoads held version before now (Err why)
+  load_refused version before now fault why walks is =
+      (snapshot_refused (Snapshot version) (told held (Snapshot version)) now fault why is walks.tells walks.exact, walks.refused)
+
+  step_refused : (from to : ℕ) (before now : Option Position) (fault : BlobFault) (why : Refusal) → WalksStep held from to before now (Err fault)
+      → IsTakeRefusal (name_of_step from to) (told held (name_of_step from to)) fault why → WalkSteps held from to before now (Err why)
+  step_refused from to None now fault why walks is = absurd walks.steps
+  step_refused from to (Some at) now fault why walks is =
+      let name = name_of_step from to in
+      (of_delta name (told held name) at why (delta_refused name (told held name) at now fault why is walks.steps.tells walks.steps.exact), walks.refused)
+
+  call_refused : (from : Option ℕ) (to : ℕ) (before now : Option Position) (fault : BlobFault) (why : Refusal) → Goes walker_calls held from to before now (Err fault)
+      → IsTakeRefusal (name_of_call from to) (told held (name_of_call from to)) fault why → Goes walk_calls held from to before now (Err why)
+  call_refused None to before now fault why walks is = load_refused to before now fault why walks is
+  call_refused (Some from) to before now fault why walks is = step_refused from to before now fault why walks is
+
+  refuses : (from : Option ℕ) (to : ℕ) (before now : Both (Option Position)) (name : BlobName) (fault : BlobFault) (why : Refusal) → Refuses walker_calls held from to before name fault now
+      → IsTakeRefusal name (told held name) fault why → Refuses walk_calls held from to before name why now
+  refuses from to before now name fault why (inl (named, walks, same)) is =
+      inl (named, call_refused from to before.walker now.walker fault why walks (subst (λ (n : BlobName). IsTakeRefusal n (told held n) fault why) named is), same)
+  refuses from to before now name fault why (inr (named, walks, fresh)) is =
+      inr (named, goes from to before.walker now.walker walks, load_refused to before.fresh now.fresh fault why fresh (subst (λ (n : BlobName). IsTakeRefusal n (told held n) fault why) named is))
+
+  stops : (versions : List ℕ) (start now : Both (Option Position)) (name : BlobName) (fault : BlobFault) (why : Refusal) → Stops walker_calls held versions start name fault now
+      → IsTakeRefusal name (told held name) fault why → Stops walk_calls held versions start name why now
+  stops versions start now name fault why is taken = record {
+    from = is.from;
+    to = is.to;
+    before = is.before;
+    comes = comes versions start is.from is.to is.before is.comes;
+    refuses = refuses is.from is.to is.before now name fault why is.refuses taken;
+  }
+
+-- ---- the answers
+
+-- the two walkers at the begin of a check have no state, and what is asked are the versions
+begun : (held : Option Store) (versions asked : List ℕ) (walker fresh : Option Position) (now : Both (Option Position)) (result : Result (Unit {0}) (CheckFault BlobFault)) → asked ≡ versions → walker ≡ None → fresh ≡ None
+    → TellsCheck walker_calls held asked (record { walker = walker; fresh = fresh }) now result → TellsCheck walker_calls held versions both_new now result
+begun held versions asked walker fresh now result same none bare tells =
+    subst (λ (vs : List ℕ). TellsCheck walker_calls held vs both_new now result) same
+    (subst (λ (f : Option Position). TellsCheck walker_calls held asked (record { walker = None; fresh = f }) now result) bare
+    (subst (λ (w : Option Position). TellsCheck walker_calls held asked (record { walker = w; fresh = fresh }) now result) none tells))
+
+-- each state is that of its snapshot
+pub checked : (held : Option Store) (versions asked : List ℕ) (walker fresh : Option Position) (now : Both (Option Position)) (done : Unit {0}) (states : ℕ) → asked ≡ versions → walker ≡ None → fresh ≡ None
+    → states ≡ length versions → TellsCheck walker_calls held asked (record { walker = walker; fresh = fresh }) now (Ok done) → IfSome held (λ store. CheckReply store versions (reply.Check states))
+checked None versions asked walker fresh now done states same none bare count tells = tt
+checked (Some store) versions asked walker fresh now done states same none bare count tells =
+    (count, (now, passes store None versions both_new now (begun (Some store) versions asked walker fresh now (Ok done) same none bare tells)))
+
+-- a state differs from that of its snapshot
+pub different : (held : Option Store) (versions asked : List ℕ) (walker fresh : Option Position) (now : Both (Option Position)) (found : CheckFault BlobFault) (version : ℕ) (type_name : Option Name) (ordinal : Option ℕ)
+    → asked ≡ versions → walker ≡ None → fresh ≡ None → found ≡ check_fault.Mismatch version type_name ordinal
+    → TellsCheck walker_calls held asked (record { walker = walker; fresh = fresh }) now (Err found)
+    → IfSome held (λ store. CheckReply store versions (reply.Refused (refusal.Mismatch (record { version = version; type_name = type_name; ordinal = ordinal }))))
+different None versions asked walker fresh now found version type_name ordinal same none bare is tells = tt
+different (Some store) versions asked walker fresh now found version type_name ordinal same none bare is tells =
+    let told_so = begun (Some store) versions asked walker fresh now (Err found) same none bare tells in
+    (now, differs store versions both_new version type_name ordinal now (subst (λ (f : CheckFault BlobFault). TellsCheck walker_calls (Some store) versions both_new now (Err f)) is told_so))
+
+-- the refusal of a stopped walk is one of the check: it is no difference
+stopped_reply : (store : Store) (versions : List ℕ) (now : Both (Option Position)) (name : BlobName) (why : Refusal) → Stops walk_calls (Some store) versions both_new name why now
+    → CheckReply store versions (reply.Refused why)
+stopped_reply store versions now name (refusal.Mismatch difference) is = absurd (no_stop is.from is.to is.before now is.refuses)
+  where
+    no_load : (version : ℕ) (before after : Option Position) → ¬ WalkLoads (Some store) version before after (Err (refusal.Mismatch difference))
+    no_load version before after (never, same) = never
+
+    no_step : (from to : ℕ) (before after : Option Position) → ¬ WalkSteps (Some store) from to before after (Err (refusal.Mismatch difference))
+    no_step from to None after (never, same) = never
+    no_step from to (Some at) after (never, same) = never
+
+    no_stop : (from : Option ℕ) (to : ℕ) (before after : Both (Option Position)) → ¬ Refuses walk_calls (Some store) from to before name (refusal.Mismatch difference) after
+    no_stop None to before after (inl (named, walks, same)) = no_load to before.walker after.walker walks
+    no_stop (Some from) to before after (inl (named, walks, same)) = no_step from to before.walker after.walker walks
+    no_stop from to before after (inr (named, walks, fresh)) = no_load to before.fresh after.fresh fresh
+stopped_reply store versions now name _ is = (name, now, is)
+
+-- a blob is refused on the way
+pub refused : (held between : Option Store) (versions asked : List ℕ) (walker fresh : Option Position) (now : Both (Option Position)) (found : CheckFault BlobFault) (name : BlobName) (fault : BlobFault) (why : Refusal)
+    → asked ≡ versions → walker ≡ None → fresh ≡ None → found ≡ check_fault.Walk name fault → between ≡ held
+    → TellsCheck walker_calls held asked (record { walker = walker; fresh = fresh }) now (Err found)
+    → IfSome between (λ store. IsTakeRefusal name (told between name) fault why) → IfSome held (λ store. CheckReply store versions (reply.Refused why))
+refused None between versions asked walker fresh now found name fault why same none bare is kept tells taken = tt
+refused (Some store) between versions asked walker fresh now found name fault why same none bare is kept tells taken =
+    let told_so = begun (Some store) versions asked walker fresh now (Err found) same none bare tells in
+    let stopped = subst (λ (f : CheckFault BlobFault). TellsCheck walker_calls (Some store) versions both_new now (Err f)) is told_so in
+    let here = subst (λ (h : Option Store). IfSome h (λ s. IsTakeRefusal name (told h name) fault why)) kept taken in
+    stopped_reply store versions now name why (stops store versions both_new now name fault why stopped here)

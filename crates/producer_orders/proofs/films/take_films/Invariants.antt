@@ -1,0 +1,5 @@
+use Rattle.producer_orders.proofs.FilmRecords.{HasFilms}
+use Rattle.producer_orders.proofs.films.take_films.Given as goal
+
+abbrev pub invariant-loop-place : goal.invariant-loop-place
+invariant-loop-place l = HasFilms l.script l.place l.initial.producer l.producer

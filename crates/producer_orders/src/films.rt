@@ -1,0 +1,71 @@
+//! The films of a cycle are made one by one, and added to the producer.
+ghost use Rattle.std.specs.Prelude.{◌≡◌, ◌≤◌, false};
+ghost use Rattle.film_script.specs.Films.{film_schemas, films};
+ghost use Rattle.row_model.specs.Table.{Table};
+ghost use Rattle.write_engine.specs.Cycle.{AddsRecords};
+ghost use Rattle.hol_answers.specs.declared.refusal.Refusal.TheVariants as refusal;
+ghost use Rattle.schema_model.specs.declared.limit.Limit.TheVariants as limit;
+ghost use Rattle.hollow_machine.specs.Kept.{IsResting};
+ghost use Rattle.hollow_machine.specs.Records.{given};
+ghost use Rattle.state_blobs.specs.Published.{published_of};
+ghost use Rattle.producer_orders.specs.Asked.{IsFilmCycle, film_at};
+ghost use Rattle.producer_orders.specs.Ends.{IsMemory, TellsEnd};
+ghost use Rattle.producer_orders.specs.Making.{AreRefused, AreTaken};
+
+use crate::asked::FilmCycle;
+use crate::cycle_end::CycleEnd;
+use film_script::{FILM_TYPE, film, is_shown, laws};
+use hol_answers::Refusal;
+use hol_orders::OrderStop;
+use ordinal_map::PutRowFault;
+use schema_model::Limit;
+use std::alloc::Global;
+use write_engine::Producer;
+
+/// Adds the films that a cycle shows, one by one. It is refused where they are too many.
+pub(crate) fn take_films(
+    alloc: Global,
+    producer: &mut Producer,
+    script: FilmCycle,
+) -> Result<(), CycleEnd>
+    requires resting { IsResting producer.old }
+    requires model { producer.old.schemas ≡ film_schemas }
+    requires script { IsFilmCycle script }
+    ensures tells { TellsEnd (λ _. AreTaken (published_of producer.old) (given (films script.seed script.rows script.cycle)) producer.new.current)
+        (AreRefused (published_of producer.old) (given (films script.seed script.rows script.cycle))) IsMemory result }
+    ensures kept { producer.new ≡ record producer.old { current = producer.new.current } }
+{
+    let _agreeing = producer.current();
+    for place in 0..script.rows {
+        add_film(alloc, producer, script, place)?;
+    }
+    Ok(())
+}
+
+// Adds a film behind others, where the cycle shows it. It is refused where no row can be made for it.
+fn add_film(
+    alloc: Global,
+    producer: &mut Producer,
+    script: FilmCycle,
+    place: u32,
+) -> Result<(), CycleEnd>
+    requires model { producer.old.schemas ≡ film_schemas }
+    requires open { producer.old.closed ≡ false }
+    requires script { IsFilmCycle script }
+    requires place { place ≤ 1000000 }
+    ensures tells { TellsEnd (λ _. AddsRecords producer.old.schemas producer.old.previous (film_at script place) producer.old.current producer.new.current)
+        (λ why. (why ≡ refusal.TooLarge limit.Ordinals)
+        × ((after : Table) → ¬ AddsRecords producer.old.schemas producer.old.previous (film_at script place) producer.old.current after)) IsMemory result }
+    ensures kept { producer.new ≡ record producer.old { current = producer.new.current } }
+{
+    if !is_shown(script.cycle, place) {
+        return Ok(());
+    }
+    laws::films_fit();
+    let tree = film(alloc, script.seed, script.cycle, place)?;
+    match producer.add(FILM_TYPE, &tree) {
+        Ok(_) => Ok(()),
+        Err(PutRowFault::TooMany) => Err(CycleEnd::Refused(Refusal::TooLarge(Limit::Ordinals))),
+        Err(PutRowFault::Memory) => Err(CycleEnd::Stopped(OrderStop::Memory)),
+    }
+}
