@@ -1,10 +1,12 @@
 //! The program: `hollow FOLDER WORDS..` over the files of a folder, standard input and standard output.
 #![tactic(auto)]
 
+mod progress;
 mod usage;
 
 use hol_files::{FolderStore, StdIn, StdOut};
 use hollow_top::{Keep, run};
+use progress::Shown;
 use std::alloc::Global;
 use std::process::ExitCode;
 use std::rt::{Env, Files};
@@ -68,5 +70,14 @@ fn served(rt: &HostRuntime, folder: &str, words: &[String]) -> u8 {
     let mut input = StdIn::new(rt.stdin());
     let mut out = StdOut::new(rt.stdout());
     let mut keep = Keep::new(alloc);
-    run(alloc, words, &mut input, &mut out, &mut store, &mut keep)
+    let mut progress = Shown::new(*rt);
+    run(
+        alloc,
+        words,
+        &mut input,
+        &mut out,
+        &mut store,
+        &mut keep,
+        &mut progress,
+    )
 }

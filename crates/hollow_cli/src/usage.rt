@@ -19,11 +19,9 @@ FOLDER holds blobs under the names snapshot-V, delta-U-V, reversedelta-V-U and a
   run          reads orders from standard input, one a line, and answers each with a line of JSON
   head NAME    the header of a snapshot, a delta or a reverse delta, as one line of JSON
   show NAME    the rows of a snapshot, one line of JSON each
-
-not built yet:
-
   make SEED ROWS CYCLES
-               makes a chain of states, to try things on
+               publishes a chain of states of made records, to try things on, and checks it there
+               and back; one line of JSON tells how many states and rows there are
 
 status: 0 answered, 1 refused, 2 no such command, 3 standard input failed, 4 standard output failed,
 5 the folder failed, 6 want of memory, 7 more than 2^32 bytes of input";

@@ -1,5 +1,5 @@
 -- One more line is answered, and the last ones are written.
-use Rattle.std.proofs.Common.{◌≡◌, inr, ℕ, List, [], ◌∷◌, ◌++◌, Bool, true, false, if◌then◌else◌, Option, Some, None, Result, Ok, Err, IfSome, refl, sym, ap, ◌∙◌, subst, append_assoc, append-nil, arith, length, length-append, ◌<◌, ◌≤◌}
+use Rattle.std.proofs.Common.{◌≡◌, ℕ, List, [], ◌∷◌, ◌++◌, Bool, true, false, if◌then◌else◌, Option, Some, None, Result, Ok, Err, IfSome, refl, sym, ap, ◌∙◌, subst, append_assoc, append-nil, arith, length-append, ◌<◌}
 use Rattle.std.specs.Prelude.{IsErrAnd, IsErrOf}
 use Rattle.std.specs.Io.KnownBytes.{Appends}
 use Rattle.std.proofs.KnownBytes.{Appends-nil, Appends-trans, Consumes-nil, Consumes-trans}
@@ -8,12 +8,11 @@ use Rattle.hol_io.specs.Store.{Store}
 use Rattle.hol_answers.specs.declared.reply.Reply.{Reply}
 use Rattle.hol_answers.specs.Reply.{is_refusal, line_of}
 use Rattle.hollow_machine.specs.Kept.{machine_of}
-use Rattle.hollow_machine.specs.Script.{LineStep, Script, ShortStep, longest_line}
+use Rattle.hollow_machine.specs.Script.{LineStep, Script, longest_line}
 use Rattle.hollow_machine.specs.State.{Machine, started}
 use Rattle.hollow_machine.proofs.Scripts.{join}
-use Rattle.hol_orders.specs.declared.order_stop.OrderStop.{OrderStop}
 use Rattle.hollow_script.proofs.Lining.{begins}
-use Rattle.hollow_script.specs.Kept.{KeepsNothing, MovesKept, machine_with}
+use Rattle.hollow_script.specs.Kept.{KeepsNothing, machine_with}
 use Rattle.hollow_script.specs.declared.keep.Keep.{Keep}
 use Rattle.hollow_script.specs.declared.script_stop.ScriptStop.{ScriptStop}
 use Rattle.hollow_script.specs.Scripted.{AllAnswered, AllWritten, AnswersNext, HasGiven, IsAnswered, PutsAnswer, ServesNext, TakesPast, longest_input}

@@ -1,10 +1,10 @@
 -- What a line asks for, and that what waits is written before.
-use Rattle.std.proofs.Common.{◌≡◌, ◌<◌, ◌≤◌, inl, inr, List, ℕ, length, Option, Some, None, Result, Ok, Err, refl, sym, ap, ◌∙◌, subst}
+use Rattle.std.proofs.Common.{◌≡◌, ◌<◌, ◌≤◌, inl, inr, List, ℕ, length, Option, Some, None, Ok, Err, refl, sym, ◌∙◌, subst}
 use Rattle.hol_io.specs.Lines.{Reading}
 use Rattle.hol_io.specs.Store.{Store}
 use Rattle.hol_io.specs.declared.lines.Turn as declared
 use Rattle.hol_io.specs.declared.lines.Turn.TheVariants.{Line, Long, End}
-use Rattle.hol_orders.specs.Order.{Orders, TellsOrder}
+use Rattle.hol_orders.specs.Order.{TellsOrder}
 use Rattle.hol_orders.specs.declared.order.Order.{Order}
 use Rattle.hol_orders.specs.declared.order.OrderFault.{OrderFault}
 use Rattle.hol_orders.specs.declared.order.OrderFault.TheVariants as order_fault
@@ -13,13 +13,11 @@ use Rattle.hol_answers.specs.declared.refusal.Refusal.{Refusal}
 use Rattle.hol_answers.specs.declared.refusal.Refusal.TheVariants.{BadOrder, LineTooLong}
 use Rattle.hol_answers.specs.declared.reply.Reply.{Reply}
 use Rattle.hol_answers.specs.declared.reply.Reply.TheVariants.{Refused}
-use Rattle.hollow_machine.specs.Kept.{machine_of}
-use Rattle.hollow_machine.specs.Script.{LineStep, longest_line}
-use Rattle.hollow_machine.specs.State.{Machine}
+use Rattle.hollow_machine.specs.Script.{longest_line}
 use Rattle.hollow_machine.specs.Step.{Step}
 use Rattle.hollow_script.specs.Asked.{AskedStep, Asks}
 use Rattle.hollow_script.specs.Kept.{MovesKept, machine_with}
-use Rattle.hollow_script.specs.Scripted.{AnswersNext, AsksNext, HasGiven, TurnsNext}
+use Rattle.hollow_script.specs.Scripted.{AnswersNext, AsksNext, TurnsNext}
 use Rattle.hollow_script.specs.declared.asked.Asked.{Asked}
 use Rattle.hollow_script.specs.declared.asked.Asked.TheVariants as asked
 use Rattle.hollow_script.specs.declared.keep.Keep.{Keep}

@@ -1,5 +1,6 @@
 -- What an order is answered, and what its line is.
-use Rattle.std.proofs.Common.{◌≡◌, ◌⊎◌, inl, inr, List, ℕ, Option, Some, None, Result, Ok, Err, IfOk, refl, sym, subst}
+use Rattle.std.proofs.Common.{◌≡◌, List, ℕ, Option, Some, None, Result, Ok, Err, IfOk, refl, sym, subst}
+use Rattle.std.specs.Prelude.{IfSome}
 use Rattle.serde_json.specs.View.{view}
 use Rattle.serde_json.specs.declared.value.Value.{Value}
 use Rattle.hol_io.specs.Store.{Store}
@@ -7,23 +8,22 @@ use Rattle.write_engine.specs.Production.{Production}
 use Rattle.read_engine.specs.Position.{Position}
 use Rattle.hol_orders.specs.declared.order.Order.{Order}
 use Rattle.hol_orders.specs.declared.order.Order.TheVariants as order
-use Rattle.hol_answers.specs.declared.refusal.Refusal.TheVariants.{BadOrder, NotYet}
+use Rattle.hol_answers.specs.declared.refusal.Refusal.TheVariants.{NotYet}
 use Rattle.hol_answers.specs.declared.reply.Reply.{Reply}
 use Rattle.hol_answers.specs.declared.reply.Reply.TheVariants.{Refused}
-use Rattle.hol_orders.specs.declared.order.OrderFault.{OrderFault}
-use Rattle.hol_orders.specs.declared.order.OrderFault.TheVariants as order_fault
 use Rattle.hol_orders.specs.declared.order.NextState.{NextState}
-use Rattle.hol_orders.specs.Order.{Orders, TellsOrder}
 use Rattle.hol_orders.specs.Parts.{asked_state}
+use Rattle.hollow_machine.specs.Records.{asked_cycle}
 use Rattle.hollow_machine.specs.CycleOrder.{CycleStep}
 use Rattle.hollow_machine.specs.Kept.{Kept, Moves, MovesConsumer, MovesProducer, kept_with_consumer, kept_with_producer, machine_of}
 use Rattle.hollow_machine.specs.ModelOrder.{ModelStep}
-use Rattle.hollow_machine.specs.RowOrders.{Looks}
-use Rattle.hollow_machine.specs.Script.{ShortStep}
+use Rattle.hollow_machine.specs.RestoreOrder.{RestoreStep}
+use Rattle.hollow_machine.specs.CheckOrder.{CheckReply}
 use Rattle.hollow_machine.specs.State.{Machine}
 use Rattle.hollow_machine.specs.Step.{Step}
 use Rattle.hol_orders.specs.declared.order_stop.OrderStop.{OrderStop}
 use Rattle.hollow_script.specs.Kept.{MovesKept, kept_of}
+use Rattle.hollow_script.specs.Looking.{LooksAt}
 use Rattle.hollow_script.specs.declared.keep.Keep.{Keep}
 
 -- an answer that leaves the machine as it was moves it so
@@ -53,9 +53,15 @@ module _ (held : Option Store) (kept : Kept) (producer : Option Production) (ask
 
   -- as the order `cycle` moves the machine, so does an order that is one
   pub cycle_moves : (held' : Option Store) (next_state : NextState) → asked ≡ order.Cycle next_state →
-      MovesProducer (λ machine reply next. CycleStep machine (asked_state next_state) reply next) held kept.producer held' producer r →
+      MovesProducer (λ machine reply next. CycleStep machine (asked_cycle (asked_state next_state)) reply next) held kept.producer held' producer r →
       Moves (λ machine reply next. Step machine asked reply next) held kept held' (kept_with_producer kept producer) r
   cycle_moves held' next_state is moves = asked_moves held held' kept (kept_with_producer kept producer) asked (order.Cycle next_state) r is (moves kept)
+
+-- as the order `restore` moves the machine, so does an order that is one
+pub restore_moves : (held held' : Option Store) (kept : Kept) (producer : Option Production) (asked : Order) (r : Result Reply OrderStop) (version : ℕ) → asked ≡ order.Restore version →
+    MovesProducer (λ machine reply next. RestoreStep machine version reply next) held kept.producer held' producer r →
+    Moves (λ machine reply next. Step machine asked reply next) held kept held' (kept_with_producer kept producer) r
+restore_moves held held' kept producer asked r version is moves = asked_moves held held' kept (kept_with_producer kept producer) asked (order.Restore version) r is (moves kept)
 
 -- the orders of a consumer, which leave the store and the producer
 module _ (held held' : Option Store) (kept : Kept) (consumer : Option Position) (asked other : Order) (r : Result Reply OrderStop) where
@@ -65,23 +71,33 @@ module _ (held held' : Option Store) (kept : Kept) (consumer : Option Position) 
       asked_moves held held' kept (kept_with_consumer kept consumer) asked other r is
       (subst (λ (h : Option Store). Moves (λ machine reply next. Step machine other reply next) held kept h (kept_with_consumer kept consumer) r) (sym same) (moves kept))
 
--- as an order that asks a consumer is answered, an order that is one moves the machine, which stays as it was
-pub looks : (Answers : Option Position → Reply → Type 0) (other : Order) → ((machine : Machine) (reply : Reply) (next : Machine) → Looks Answers machine reply next → Step machine other reply next) →
-    (held : Option Store) (kept : Kept) (asked : Order) (r : Result Reply OrderStop) → asked ≡ other → IfOk r (Answers kept.consumer) →
+-- what an order that looks is answered is what the machine answers, which stays
+look_steps : (asked : Order) (machine : Machine) (reply : Reply) → LooksAt asked machine.consumer reply → Step machine asked reply machine
+look_steps (order.Get name values) machine reply is = (is, refl)
+look_steps (order.Find name paths values) machine reply is = (is, refl)
+look_steps (order.Live name) machine reply is = (is, refl)
+look_steps (order.Row name ordinal) machine reply is = (is, refl)
+look_steps (order.Has name ordinal element) machine reply is = (is, refl)
+look_steps (order.At name ordinal key) machine reply is = (is, refl)
+look_steps (order.Past name) machine reply is = (is, refl)
+look_steps _ machine reply is = absurd is
+
+pub looks : (held : Option Store) (kept : Kept) (asked : Order) (r : Result Reply OrderStop) → IfOk r (LooksAt asked kept.consumer) →
     Moves (λ machine reply next. Step machine asked reply next) held kept held kept r
-looks Answers other is_look None kept asked r is answers = tt
-looks Answers other is_look (Some store) kept asked (Err stop) is answers = tt
-looks Answers other is_look (Some store) kept asked (Ok reply) is answers =
-    let machine = machine_of store kept in
-    (store, refl, subst (λ o. Step machine o reply machine) (sym is) (is_look machine reply machine (answers, refl)))
+looks None kept asked r answers = tt
+looks (Some store) kept asked (Err stop) answers = tt
+looks (Some store) kept asked (Ok reply) answers = (store, refl, look_steps asked (machine_of store kept) reply answers)
+
+-- what a check is answered of the store is what the machine answers, which stays
+pub checks : (held held' : Option Store) (kept : Kept) (asked : Order) (versions : List ℕ) (r : Result Reply OrderStop) → asked ≡ order.Check versions → held' ≡ held →
+    IfSome held (λ store. IfOk r (CheckReply store versions)) → Moves (λ machine reply next. Step machine asked reply next) held kept held' kept r
+checks None held' kept asked versions r is same answers = tt
+checks (Some store) held' kept asked versions (Err stop) is same answers = tt
+checks (Some store) held' kept asked versions (Ok reply) is same answers =
+    (store, same, subst (λ o. Step (machine_of store kept) o reply (machine_of store kept)) (sym is) (answers, refl))
 
 -- an order that is not built is told so
-told_unbuilt : (asked : Order) → ((version : ℕ) × (asked ≡ order.Restore version)) ⊎ (((versions : List ℕ) × (asked ≡ order.Check versions)) ⊎ (asked ≡ order.Stat)) → (machine : Machine) →
-    Step machine asked (Refused NotYet) machine
-told_unbuilt asked (inl (version, is)) machine = subst (λ o. Step machine o (Refused NotYet) machine) (sym is) (refl, refl)
-told_unbuilt asked (inr (inl (versions, is))) machine = subst (λ o. Step machine o (Refused NotYet) machine) (sym is) (refl, refl)
-told_unbuilt asked (inr (inr is)) machine = subst (λ o. Step machine o (Refused NotYet) machine) (sym is) (refl, refl)
-
-pub not_built : (held : Option Store) (keep : Keep) (asked : Order) → ((version : ℕ) × (asked ≡ order.Restore version)) ⊎ (((versions : List ℕ) × (asked ≡ order.Check versions)) ⊎ (asked ≡ order.Stat)) →
+pub not_built : (held : Option Store) (keep : Keep) (asked : Order) → asked ≡ order.Stat →
     MovesKept {E = OrderStop} (λ machine reply next. Step machine asked reply next) held keep held keep (Ok (Refused NotYet))
-not_built held keep asked unbuilt = stays (λ machine reply next. Step machine asked reply next) held keep (Refused NotYet) (told_unbuilt asked unbuilt)
+not_built held keep asked is =
+    stays (λ machine reply next. Step machine asked reply next) held keep (Refused NotYet) (λ machine. subst (λ o. Step machine o (Refused NotYet) machine) (sym is) (refl, refl))

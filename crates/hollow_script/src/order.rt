@@ -1,18 +1,21 @@
 //! The orders: what each is answered, and what it leaves of the store and of what is kept.
-ghost use Rattle.std.specs.Prelude.{◌≡◌, ◌≤◌, true, IfSome, IsErrOf};
+ghost use Rattle.std.specs.Prelude.{◌≡◌, ◌≤◌, true, IfErr, IfOk, IfSome, IsErrOf};
 ghost use Rattle.hol_io.specs.Causes.{Rose};
 ghost use Rattle.hol_orders.specs.Order.{IsOrder};
 ghost use Rattle.hollow_machine.specs.Kept.{IsResting};
 ghost use Rattle.hollow_machine.specs.Step.{Step};
 ghost use Rattle.hollow_script.specs.Asked.{MayPut};
 ghost use Rattle.hollow_script.specs.Kept.{MovesKept};
+ghost use Rattle.hollow_script.specs.Looking.{IsLook, LooksAt};
 
 use crate::keep::Keep;
+use chain_orders::{check, restore};
 use consumer_orders::{at, find, get, has, index, live, load, past, row, step};
 use hol_answers::{Refusal, Reply};
 use hol_io::BlobStore;
 use hol_orders::{Order, OrderStop};
 use producer_orders::{cycle, model};
+use read_engine::Consumer;
 use std::alloc::Global;
 
 /// Whether an order may put blobs.
@@ -22,7 +25,7 @@ pub fn may_put(order: &Order) -> bool
     matches!(order, Order::Cycle(_))
 }
 
-/// Answers an order. Those of the last arm are not built.
+/// Answers an order. `stat` is not built.
 pub fn answer<S: BlobStore>(
     alloc: Global,
     order: &Order,
@@ -40,28 +43,42 @@ pub fn answer<S: BlobStore>(
     match order {
         Order::Model(schemas) => model(alloc, schemas, &mut keep.producer),
         Order::Cycle(next) => cycle(alloc, store, &mut keep.producer, next),
+        Order::Restore(version) => restore(alloc, store, &mut keep.producer, *version),
         Order::Load(version) => load(store, &mut keep.consumer, *version),
         Order::Step { from, to } => step(store, &mut keep.consumer, *from, *to),
         Order::Index { type_name, paths } => index(alloc, &mut keep.consumer, type_name, paths),
-        Order::Get { type_name, values } => get(alloc, &keep.consumer, type_name, values),
+        Order::Check(versions) => check(alloc, store, versions),
+        Order::Stat => Ok(Reply::Refused(Refusal::NotYet)),
+        _ => look(alloc, order, &keep.consumer),
+    }
+}
+
+// Answers an order that looks at where the consumer stands.
+fn look(alloc: Global, order: &Order, consumer: &Consumer) -> Result<Reply, OrderStop>
+    requires { IsLook order.now }
+    ensures reply { IfOk result (LooksAt order.now consumer.now) }
+    ensures stop { IfErr result (λ stop. stop ≡ OrderStop.Memory) }
+{
+    match order {
+        Order::Get { type_name, values } => get(alloc, consumer, type_name, values),
         Order::Find {
             type_name,
             paths,
             values,
-        } => find(alloc, &keep.consumer, type_name, paths, values),
-        Order::Live(type_name) => live(alloc, &keep.consumer, type_name),
-        Order::Row { type_name, ordinal } => row(alloc, &keep.consumer, type_name, *ordinal),
+        } => find(alloc, consumer, type_name, paths, values),
+        Order::Live(type_name) => live(alloc, consumer, type_name),
+        Order::Row { type_name, ordinal } => row(alloc, consumer, type_name, *ordinal),
         Order::Has {
             type_name,
             ordinal,
             element,
-        } => has(alloc, &keep.consumer, type_name, *ordinal, *element),
+        } => has(alloc, consumer, type_name, *ordinal, *element),
         Order::At {
             type_name,
             ordinal,
             key,
-        } => at(alloc, &keep.consumer, type_name, *ordinal, *key),
-        Order::Past(type_name) => past(alloc, &keep.consumer, type_name),
-        Order::Restore(_) | Order::Check(_) | Order::Stat => Ok(Reply::Refused(Refusal::NotYet)),
+        } => at(alloc, consumer, type_name, *ordinal, *key),
+        Order::Past(type_name) => past(alloc, consumer, type_name),
+        _ => unreachable!(),
     }
 }

@@ -1,11 +1,8 @@
 -- What opening a blob and reading its header say of the answer.
 use Rattle.std.proofs.Common.{◌≡◌, ℕ, List, Option, Ok, Err, refl, sym, subst}
 use Rattle.hol_io.specs.declared.name.BlobName.{BlobName}
-use Rattle.hol_io.specs.Store.{Store}
-use Rattle.schema_model.specs.declared.limit.Limit.TheVariants as limit
 use Rattle.blob_frame.specs.declared.fault.BlobFault.{BlobFault}
 use Rattle.blob_frame.specs.declared.fault.BlobFault.TheVariants as fault
-use Rattle.blob_frame.specs.declared.header.Header.{Header}
 use Rattle.blob_cursor.specs.Opened.{TellsHeader}
 use Rattle.hol_answers.specs.declared.refusal.Refusal.{Refusal}
 use Rattle.hol_answers.specs.declared.refusal.Refusal.TheVariants.{NoBlob, TooLarge}

@@ -5,6 +5,7 @@ use Rattle.serde_json.specs.Data.{Data}
 use Rattle.serde_json.specs.Written.{compact_text}
 use Rattle.hol_io.specs.declared.name.BlobName.{BlobName}
 use Rattle.hol_io.specs.declared.name.BlobName.TheVariants.{Snapshot}
+use Rattle.hol_io.specs.Lines.{cut}
 use Rattle.hol_io.specs.Store.{Store, told}
 use Rattle.schema_model.specs.declared.limit.Limit.TheVariants as limit
 use Rattle.schema_model.specs.Limit.{number_of_limit}
@@ -21,13 +22,15 @@ use Rattle.json_rows.specs.StoredRow.{IsRowData}
 use Rattle.hol_answers.specs.declared.reply.Reply.{Reply}
 use Rattle.hol_answers.specs.declared.reply.Reply.TheVariants.{Head, Refused}
 use Rattle.hol_answers.specs.declared.refusal.Refusal.{Refusal}
-use Rattle.hol_answers.specs.declared.refusal.Refusal.TheVariants.{NotYet, BadBody}
+use Rattle.hol_answers.specs.declared.refusal.Refusal.TheVariants.{BadBody}
 use Rattle.hollow_machine.proofs.Refusals.{head_apart, one_head_refusal, one_header, one_snapshot_refusal, some_one}
 use Rattle.hollow_machine.specs.Blobs.{HasBadBody, HeadRefusal, SnapshotRefusal}
-use Rattle.hollow_machine.specs.State.{Machine}
+use Rattle.hollow_machine.specs.MakeCommand.{Makes}
+use Rattle.hollow_machine.specs.Script.{Script}
+use Rattle.hollow_machine.specs.State.{Machine, started}
 use Rattle.hollow_top.specs.declared.words.Command.{Command}
 use Rattle.hollow_top.specs.declared.words.Command.TheVariants as command
-use Rattle.hollow_top.specs.Command.{IsLineOf, Writes}
+use Rattle.hollow_top.specs.Command.{IsLineOf, Writes, WritesAnswers, WritesMade}
 use Rattle.hollow_top.specs.Head.{HeadIs}
 use Rattle.hol_answers.specs.Refusal.{refusal_line}
 use Rattle.hol_answers.specs.Reply.{is_refusal, line_of}
@@ -121,20 +124,39 @@ module _ (prints : PrintsOnce) (snapshots : IsOneSnapshot) (begins : BeginsWithH
   one_shown one other true false a b = absurd (not_refused other a.0 b a.1)
   one_shown one other true true a b = (a.2 ∙ ap refusal_line (one_snapshot_refusal name content a.0 b.0 a.1 b.1) ∙ sym b.2, refl)
 
--- a command but `run` writes one text, and leaves one machine
-pub one_text : PrintsOnce → IsOneSnapshot → BeginsWithHeader → (input : Option (List ℕ)) (store : Store) (asked : Command)
-    (one other : List ℕ) (refused also : Bool) (next after : Machine) → (asked ≡ command.Run → ⊥) →
-    Writes input store asked one refused next → Writes input store asked other also after → (one ≡ other) × (refused ≡ also) × (next ≡ after)
-one_text prints snapshots begins input store command.Run one other refused also next after apart a b = absurd (apart refl)
-one_text prints snapshots begins input store (command.Head name) one other refused also next after apart a b =
-    let same = one_line (HeadIs name (told (Some store) name)) (one_head name (told (Some store) name)) one other refused also a.0 b.0 in
-    (same.0, same.1, a.1 ∙ sym b.1)
-one_text prints snapshots begins input store (command.Show version) one other refused also next after apart a b =
-    let same = one_shown prints snapshots begins (Snapshot version) (told (Some store) (Snapshot version)) one other refused also a.0 b.0 in
-    (same.0, same.1, a.1 ∙ sym b.1)
-one_text prints snapshots begins input store (command.Make seed rows cycles) one other refused also next after apart a b =
-    let same = one_line (λ reply. reply ≡ Refused NotYet) (λ x y p q. p ∙ sym q) one other refused also a.0 b.0 in
-    (same.0, same.1, a.1 ∙ sym b.1)
+-- a script has one text, and so has the line of `make`
+abbrev pub IsOneScript : Type 0
+IsOneScript = (store : Store) (next after : Machine) (lines : List (List ℕ)) (text other : List ℕ) (refused also : Bool) → Script (started store) lines text refused next →
+    Script (started store) lines other also after → (text ≡ other) × (refused ≡ also) × (next ≡ after)
+
+abbrev pub IsOneMake : Type 0
+IsOneMake = (store : Store) (next after : Machine) (seed rows cycles : ℕ) (one other : Reply) → Makes store seed rows cycles one next → Makes store seed rows cycles other after →
+    (one ≡ other) × (next ≡ after)
+
+script_text : IsOneScript → (input : Option (List ℕ)) (store : Store) (one other : List ℕ) (refused also : Bool) (next after : Machine) → WritesAnswers input store one refused next →
+    WritesAnswers input store other also after → (one ≡ other) × (refused ≡ also) × (next ≡ after)
+script_text scripts input store one other refused also next after (bytes, is, short, script) (others, is_too, short_too, script_too) =
+    let same = some_one input others bytes is_too is in
+    scripts store next after (cut bytes) one other refused also script (subst (λ (b : List ℕ). Script (started store) (cut b) other also after) same script_too)
+
+made_text : IsOneMake → (store : Store) (seed rows cycles : ℕ) (one other : List ℕ) (refused also : Bool) (next after : Machine) → WritesMade seed rows cycles store one refused next →
+    WritesMade seed rows cycles store other also after → (one ≡ other) × (refused ≡ also) × (next ≡ after)
+made_text makes store seed rows cycles one other refused also next after (a, a_is, one_is, refused_is) (b, b_is, other_is, also_is) =
+    let (same, machines) = makes store next after seed rows cycles a b a_is b_is in
+    (one_is ∙ ap line_of same ∙ sym other_is, refused_is ∙ ap is_refusal same ∙ sym also_is, machines)
+
+-- a command writes one text, and leaves one machine
+module _ (prints : PrintsOnce) (snapshots : IsOneSnapshot) (begins : BeginsWithHeader) (scripts : IsOneScript) (makes : IsOneMake) (input : Option (List ℕ)) (store : Store) where
+  pub one_text : (asked : Command) (one other : List ℕ) (refused also : Bool) (next after : Machine) → Writes input store asked one refused next →
+      Writes input store asked other also after → (one ≡ other) × (refused ≡ also) × (next ≡ after)
+  one_text command.Run one other refused also next after a b = script_text scripts input store one other refused also next after a b
+  one_text (command.Head name) one other refused also next after a b =
+      let same = one_line (HeadIs name (told (Some store) name)) (one_head name (told (Some store) name)) one other refused also a.0 b.0 in
+      (same.0, same.1, a.1 ∙ sym b.1)
+  one_text (command.Show version) one other refused also next after a b =
+      let same = one_shown prints snapshots begins (Snapshot version) (told (Some store) (Snapshot version)) one other refused also a.0 b.0 in
+      (same.0, same.1, a.1 ∙ sym b.1)
+  one_text (command.Make seed rows cycles) one other refused also next after a b = made_text makes store seed rows cycles one other refused also next after a b
 
 -- reading the words told the one command
 pub one_asked : (words : List (List ℕ)) (read : Option Command) → TellsCommand words read → (one other : Command) → Asks words one → Asks words other → one ≡ other

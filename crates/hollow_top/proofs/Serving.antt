@@ -1,12 +1,15 @@
 -- What a command leaves where it writes one line, or the lines of rows, and the store stays.
-use Rattle.std.proofs.Common.{◌≡◌, ◌<◌, ℕ, List, Bool, true, false, Option, Some, None, Result, Ok, Err, IfSome, refl, sym, ap, subst}
+use Rattle.std.proofs.Common.{◌≡◌, ℕ, List, Bool, true, false, Option, Some, None, Result, Ok, Err, IfOk, IfSome, IsErrOf, refl, sym, subst}
 use Rattle.std.specs.Prelude.{IsSome}
 use mir.Val.{bool_byte}
 use Rattle.hol_io.specs.declared.name.BlobName.{BlobName}
 use Rattle.hol_io.specs.Store.{Store}
-use Rattle.hol_answers.specs.declared.refusal.Refusal.TheVariants.{NotYet}
 use Rattle.hol_answers.specs.declared.reply.Reply.{Reply}
-use Rattle.hol_answers.specs.declared.reply.Reply.TheVariants.{Refused}
+use Rattle.hol_orders.specs.declared.order_stop.OrderStop.{OrderStop}
+use Rattle.std.specs.Io.KnownBytes.{Appends}
+use Rattle.hollow_machine.specs.MakeCommand.{Makes}
+use Rattle.hollow_machine.specs.State.{Machine}
+use Rattle.hollow_make.specs.Parts.{TellsMake, machine_at}
 use Rattle.hollow_machine.specs.Kept.{machine_of}
 use Rattle.hollow_machine.specs.State.{started}
 use Rattle.hollow_script.specs.Kept.{KeepsNothing, machine_with}
@@ -16,11 +19,11 @@ use Rattle.hollow_top.specs.declared.stop.Stop.{Stop}
 use Rattle.hollow_top.specs.declared.stop.Stop.TheVariants.{Memory, Sink, Store as StoreFailed}
 use Rattle.hollow_top.specs.declared.words.Command.{Command}
 use Rattle.hollow_top.specs.declared.words.Command.TheVariants.{Run, Head, Show, Make}
-use Rattle.hollow_top.specs.Command.{IsLineOf, IsReading, IsUnbuilt, Serves, Writes}
+use Rattle.hollow_top.specs.Command.{IsLineOf, IsReading, Serves, Writes, WritesMade}
 use Rattle.hollow_top.specs.Head.{HeadReply}
-use Rattle.hollow_top.specs.Run.{AskScript, AskToRead, AskUnbuilt, Finishes, WritesPart, status_of}
+use Rattle.hollow_top.specs.Run.{AskScript, AskToRead, EndsMake, Finishes, WritesPart, status_of}
 use Rattle.hollow_top.specs.Show.{Shows}
-use Rattle.hollow_top.specs.Stopping.{Leaves}
+use Rattle.hollow_top.specs.Stopping.{GainsPart, Leaves}
 use Rattle.hollow_top.specs.Words.{Asks}
 
 module _ (input : Option (List ℕ)) (held after_held : Option Store) (command : Command) (before after : Option (List ℕ)) where
@@ -55,15 +58,6 @@ show_serves input (Some store) after_held command version before after r same is
     subst (λ asked. Serves input store asked after_held before after r) (sym is)
     (serves input store after_held (Show version) before after (Shows store version) r same (λ text refused shows. (shows, (λ i. started store))) left)
 
--- what is not built writes that it is not
-pub unbuilt_serves : (input : Option (List ℕ)) (held after_held : Option Store) (command : Command) (before after : Option (List ℕ)) (r : Result Bool Stop) →
-    after_held ≡ held → IsUnbuilt command → Leaves (IsLineOf (λ answer. answer ≡ Refused NotYet)) before after r →
-    ServesHeld input held after_held command before after r
-unbuilt_serves input None after_held command before after r same is left = tt
-unbuilt_serves input (Some store) after_held (Make seed rows cycles) before after r same is left =
-    serves input store after_held (Make seed rows cycles) before after (IsLineOf (λ answer. answer ≡ Refused NotYet)) r same (λ text refused line. (line, (λ i. started store))) left
-unbuilt_serves input (Some store) after_held _ before after r same is left = absurd is
-
 -- the status of a verdict, as it is cast
 pub cast_status : (status : ℕ) (refused : Bool) → status ≡ bool_byte refused → status ≡ status_of refused
 cast_status status true is = is
@@ -85,12 +79,12 @@ part_written words input (Some store) after_held command before after stop is as
     let (text, refused, count, writes, part, gained) = subst (λ e. Serves input store command after_held before after (Err e)) is served in
     (text, refused, count, (writes.0, (command, asked, writes.1)), part, gained)
 
--- words that ask for a script do not ask to read, nor for what is not built
+-- words that ask for a script, or for a chain to be made, do not ask to read
 pub script_reads : (words : List (List ℕ)) → AskScript words → AskToRead words → ⊥
 script_reads words asked reads = reads Run asked
 
-pub script_is_built : (words : List (List ℕ)) → AskScript words → AskUnbuilt words → ⊥
-script_is_built words asked unbuilt = unbuilt Run asked
+pub make_reads : (words : List (List ℕ)) (command : Command) (seed rows cycles : ℕ) → Asks words command → command ≡ Make seed rows cycles → AskToRead words → ⊥
+make_reads words command seed rows cycles asked is reads = subst IsReading is (reads command asked)
 
 -- the command is `run`, or the words ask for no script
 pub asks_script : (words : List (List ℕ)) (command : Command) → Asks words command → command ≡ Run → AskScript words
@@ -118,3 +112,46 @@ script_finishes words None held after_held kept before after status asked some e
 script_finishes words (Some bytes) None after_held kept before after status asked some ends = tt
 script_finishes words (Some bytes) (Some first) after_held kept before after status asked some (refused, written, is) =
     (written.text, refused, written.store, (Run, asked, (bytes, refl, written.short, written.script)), written.told, written.gained, is)
+
+-- the line of its reply is written
+pub made_line : (seed rows cycles : ℕ) (held after_held : Option Store) (kept : Keep) (reply : Reply) (before after : Option (List ℕ)) (r : Result Bool Stop) →
+    kept.consumer ≡ None → TellsMake {E = OrderStop} seed rows cycles held after_held kept.producer (Ok reply) → Leaves (IsLineOf (λ answer. answer ≡ reply)) before after r →
+    IfOk r (λ refused. IfSome held (λ first. (text : List ℕ) × (next : Store) × WritesMade seed rows cycles first text refused (machine_with next kept) × (after_held ≡ Some next) × Appends before after text))
+made_line seed rows cycles held after_held kept reply before after (Err stop) none tells left = tt
+made_line seed rows cycles None after_held kept reply before after (Ok refused) none tells left = tt
+made_line seed rows cycles (Some first) after_held kept reply before after (Ok refused) none (next, told, makes) (text, (answer, answer_is, text_is, verdict), gained) =
+    let machine_is : machine_at next kept.producer ≡ machine_with next kept = λ i. machine_of next (record { producer = kept.producer; consumer = sym none i }) in
+    let made = subst (λ (m : Machine). Makes first seed rows cycles reply m) machine_is makes in
+    (text, next, (answer, subst (λ (a : Reply). Makes first seed rows cycles a (machine_with next kept)) (sym answer_is) made, text_is, verdict), told, gained)
+
+-- so is a part of it, where the sink fails
+pub made_part : (seed rows cycles : ℕ) (held after_held : Option Store) (kept : Keep) (reply : Reply) (before after : Option (List ℕ)) (r : Result Bool Stop) →
+    TellsMake {E = OrderStop} seed rows cycles held after_held kept.producer (Ok reply) → Leaves (IsLineOf (λ answer. answer ≡ reply)) before after r → IsErrOf r Sink →
+    IfSome held (λ first. GainsPart (λ text refused. (next : Machine) × WritesMade seed rows cycles first text refused next) before after)
+made_part seed rows cycles None after_held kept reply before after r tells left failed = tt
+made_part seed rows cycles (Some first) after_held kept reply before after r (next, told, makes) left failed =
+    let (text, refused, count, (answer, answer_is, text_is, verdict), part, gained) = subst (Leaves (IsLineOf (λ answer. answer ≡ reply)) before after) failed left in
+    let made = subst (λ (a : Reply). Makes first seed rows cycles a (machine_at next kept.producer)) (sym answer_is) makes in
+    (text, refused, count, (machine_at next kept.producer, (answer, made, text_is, verdict)), part, gained)
+
+-- it ends with the status of its line
+pub ends_make : (seed rows cycles : ℕ) (held after_held : Option Store) (kept : Keep) (before after : Option (List ℕ)) (refused : Bool) (status : ℕ) → status ≡ status_of refused →
+    IfSome held (λ first. (text : List ℕ) × (next : Store) × WritesMade seed rows cycles first text refused (machine_with next kept) × (after_held ≡ Some next) × Appends before after text) →
+    IfSome held (λ first. EndsMake seed rows cycles first after_held kept before after status)
+ends_make seed rows cycles None after_held kept before after refused status is made = tt
+ends_make seed rows cycles (Some first) after_held kept before after refused status is (text, next, writes, told, gained) = (text, refused, next, writes, told, gained, is)
+
+-- words that ask for it finish as it ends
+pub make_finishes : (words : List (List ℕ)) (input : Option (List ℕ)) (held after_held : Option Store) (kept : Keep) (command : Command) (seed rows cycles : ℕ) (before after : Option (List ℕ)) (status : ℕ) →
+    Asks words command → command ≡ Make seed rows cycles → IfSome held (λ first. EndsMake seed rows cycles first after_held kept before after status) →
+    IfSome held (λ first. Finishes words input first after_held kept before after status)
+make_finishes words input None after_held kept command seed rows cycles before after status asked is ends = tt
+make_finishes words input (Some first) after_held kept command seed rows cycles before after status asked is (text, refused, next, writes, told, gained, status_is) =
+    (text, refused, next, (Make seed rows cycles, subst (Asks words) is asked, writes), told, gained, status_is)
+
+pub make_part : (words : List (List ℕ)) (input : Option (List ℕ)) (held : Option Store) (command : Command) (seed rows cycles : ℕ) (before after : Option (List ℕ)) →
+    Asks words command → command ≡ Make seed rows cycles → IfSome held (λ first. GainsPart (λ text refused. (next : Machine) × WritesMade seed rows cycles first text refused next) before after) →
+    IfSome held (λ first. WritesPart words input first before after)
+make_part words input None command seed rows cycles before after asked is left = tt
+make_part words input (Some first) command seed rows cycles before after asked is (text, refused, count, (next, writes), part, gained) =
+    (text, refused, count, (next, (Make seed rows cycles, subst (Asks words) is asked, writes)), part, gained)

@@ -23,14 +23,13 @@ use Rattle.blob_frame.specs.Header.{header}
 use Rattle.snapshot_blob.specs.declared.part.TypePart.{TypePart}
 use Rattle.snapshot_blob.specs.Snapshot.{IsAccepted, IsRefused}
 use Rattle.snapshot_blob.specs.Stated.{TypeIs, schemas_of}
-use Rattle.hol_answers.specs.declared.refusal.Refusal.TheVariants.{NoBlob, TooLarge, NotYet, BadBody}
+use Rattle.hol_answers.specs.declared.refusal.Refusal.TheVariants.{NoBlob, TooLarge, BadBody}
 use Rattle.hol_answers.specs.Refusal.{bad_item, refusal_line}
 use Rattle.hol_answers.specs.declared.reply.Reply.{Reply}
 use Rattle.hol_answers.specs.declared.reply.Reply.TheVariants.{Head, Refused}
 use Rattle.hollow_machine.specs.State.{started}
-use Rattle.hollow_top.specs.declared.words.Command.{Command}
 use Rattle.hollow_top.specs.declared.words.Command.TheVariants as command
-use Rattle.hollow_top.specs.Command.{HoldsBytes, IsUnbuilt, WritesSome}
+use Rattle.hollow_top.specs.Command.{HoldsBytes, WritesSome}
 use Rattle.hollow_top.specs.Head.{HeadIs}
 use Rattle.hol_answers.specs.Reply.{is_refusal, line_of}
 use Rattle.hollow_top.specs.RowLines.{AreLinesOf, AreRowLines, rows_in_order}
@@ -89,10 +88,6 @@ pub some_head : IsDecided header.Stands header.Stuck → (input : Option (List �
 some_head decided input store blob bytes =
     let some = head_some decided blob (told (Some store) blob) (bytes blob) in
     (line_of some.0, is_refusal some.0, (started store, ((some.0, some.1, refl, refl), refl)))
-
-pub some_unbuilt : (input : Option (List ℕ)) (store : Store) (asked : Command) → IsUnbuilt asked → WritesSome input store asked
-some_unbuilt input store (command.Make seed rows cycles) is = (line_of (Refused NotYet), true, (started store, ((Refused NotYet, refl, refl, refl), refl)))
-some_unbuilt input store _ is = absurd is
 
 pub some_show : IsDecided header.Stands header.Stuck → FitsRows → (input : Option (List ℕ)) (store : Store) (version : ℕ) → HoldsBytes store →
     (WritesSome input store (command.Show version) → ⊥) → ⊥

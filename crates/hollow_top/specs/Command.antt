@@ -5,9 +5,8 @@ use Rattle.hol_io.specs.Lines.{cut}
 use Rattle.hol_io.specs.declared.name.BlobName.{BlobName}
 use Rattle.hol_io.specs.Store.{Store, told}
 use Rattle.blob_grammar.specs.Decided.{AreBytes}
-use Rattle.hol_answers.specs.declared.refusal.Refusal.TheVariants.{NotYet}
 use Rattle.hol_answers.specs.declared.reply.Reply.{Reply}
-use Rattle.hol_answers.specs.declared.reply.Reply.TheVariants.{Refused}
+use Rattle.hollow_machine.specs.MakeCommand.{Makes}
 use Rattle.hollow_machine.specs.Script.{Script}
 use Rattle.hollow_machine.specs.State.{Machine, started}
 use Rattle.hollow_script.specs.Scripted.{longest_input}
@@ -24,9 +23,9 @@ use Rattle.hollow_top.specs.Stopping.{GainsPart}
 abbrev pub IsLineOf : (Reply → Type 0) → List ℕ → Bool → Type 0
 IsLineOf Answers text refused = (reply : Reply) × Answers reply × (text ≡ line_of reply) × (refused ≡ is_refusal reply)
 
--- The text is the refusal of a command that is not built.
-abbrev pub WritesNotYet : List ℕ → Bool → Type 0
-WritesNotYet text refused = IsLineOf (λ reply. reply ≡ Refused NotYet) text refused
+-- The text is the line of `make` over a store, and the machine is the one behind it.
+abbrev pub WritesMade : ℕ → ℕ → ℕ → Store → List ℕ → Bool → Machine → Type 0
+WritesMade seed rows cycles store text refused next = IsLineOf (λ reply. Makes store seed rows cycles reply next) text refused
 
 -- The text is the answers to the lines of an input that is not too long, over a store, and the machine is the one behind
 -- the last line. The input is what is left in the source, where that is told.
@@ -35,12 +34,11 @@ WritesAnswers input store text refused next =
     (bytes : List ℕ) × (input ≡ Some bytes) × (length bytes ≤ longest_input) × Script (started store) (cut bytes) text refused next
 
 -- What a command writes over an input and a store, whether a line of it is a refusal, and the machine that it leaves.
--- `make` is not built.
 abbrev pub Writes : Option (List ℕ) → Store → Command → List ℕ → Bool → Machine → Type 0
 Writes input store Run text refused next = WritesAnswers input store text refused next
 Writes input store (Head blob) text refused next = IsLineOf (HeadReply store blob) text refused × (next ≡ started store)
 Writes input store (Show version) text refused next = Shows store version text refused × (next ≡ started store)
-Writes input store (Make seed rows cycles) text refused next = WritesNotYet text refused × (next ≡ started store)
+Writes input store (Make seed rows cycles) text refused next = WritesMade seed rows cycles store text refused next
 
 -- The command writes the text, with this verdict, and leaves some machine.
 abbrev pub WritesText : Option (List ℕ) → Store → Command → List ℕ → Bool → Type 0
@@ -68,8 +66,3 @@ abbrev pub IsReading : Command → Type 0
 IsReading (Head blob) = Unit {0}
 IsReading (Show version) = Unit {0}
 IsReading _ = ⊥
-
--- The command is not built.
-abbrev pub IsUnbuilt : Command → Type 0
-IsUnbuilt (Make seed rows cycles) = Unit {0}
-IsUnbuilt _ = ⊥

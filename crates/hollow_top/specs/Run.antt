@@ -10,7 +10,7 @@ use Rattle.hollow_script.specs.declared.script_stop.ScriptStop.{ScriptStop}
 use Rattle.hollow_script.specs.declared.script_stop.ScriptStop.TheVariants.{Memory, Source, Sink, Store as StoreFailed, TooLong}
 use Rattle.hollow_top.specs.declared.words.Command.{Command}
 use Rattle.hollow_top.specs.declared.words.Command.TheVariants as command
-use Rattle.hollow_top.specs.Command.{Writes, IsReading, IsUnbuilt}
+use Rattle.hollow_top.specs.Command.{Writes, WritesMade, IsReading}
 use Rattle.hollow_top.specs.Stopping.{GainsPart}
 use Rattle.hollow_top.specs.Words.{Asks}
 
@@ -21,10 +21,6 @@ AsksNothing words = (command : Command) → ¬ Asks words command
 -- The words ask for a command that only reads, or for none.
 abbrev pub AskToRead : List (List ℕ) → Type 0
 AskToRead words = (command : Command) → Asks words command → IsReading command
-
--- The words ask for a command that is not built, or for none.
-abbrev pub AskUnbuilt : List (List ℕ) → Type 0
-AskUnbuilt words = (command : Command) → Asks words command → IsUnbuilt command
 
 -- The words ask for the orders of the input.
 abbrev pub AskScript : List (List ℕ) → Type 0
@@ -63,3 +59,9 @@ Finishes words input store held kept before after status =
 abbrev pub WritesPart : List (List ℕ) → Option (List ℕ) → Store → Option (List ℕ) → Option (List ℕ) → Type 0
 WritesPart words input store before after =
     GainsPart (λ text refused. (next : Machine) × WordsWrite words input store text refused next) before after
+
+-- What `make` leaves where it ends: its line, the store and the producer that is kept, and the status.
+abbrev pub EndsMake : ℕ → ℕ → ℕ → Store → Option Store → Keep → Option (List ℕ) → Option (List ℕ) → ℕ → Type 0
+EndsMake seed rows cycles first held kept before after status =
+    (text : List ℕ) × (refused : Bool) × (next : Store) × WritesMade seed rows cycles first text refused (machine_with next kept) × (held ≡ Some next)
+    × Appends before after text × (status ≡ status_of refused)

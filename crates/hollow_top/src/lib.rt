@@ -10,6 +10,7 @@ mod show;
 mod stop;
 mod words;
 
+pub use hollow_make::{Progress, Silent};
 pub use hollow_script::Keep;
 pub use program::run;
 pub use words::{Command, command_of};

@@ -1,16 +1,19 @@
 //! The top call: from the words of a command line to a status.
-ghost use Rattle.std.specs.Prelude.{◌≡◌, ◌≢◌, ◌<◌, ◌≤◌, ◌⊎◌, ◌↔◌, ℕ, List, Bool, Option, None, map, string_bytes, IfSome, IsSome, OnSome, IsErrOf};
+ghost use Rattle.std.specs.Prelude.{◌≡◌, ◌≢◌, ◌<◌, ◌≤◌, ◌⊎◌, ◌↔◌, ℕ, List, Bool, Option, None, map, string_bytes, IfOk, IfSome, Some, IsSome, OnSome, IsErrOf};
 ghost use Rattle.std.specs.Io.KnownBytes.{IsAtEnd};
 ghost use Rattle.hol_io.specs.Causes.{Rose};
-ghost use Rattle.hollow_script.specs.Kept.{KeepsNothing};
+ghost use Rattle.std.specs.Io.KnownBytes.{Appends};
+ghost use Rattle.hol_io.specs.Store.{Store};
+ghost use Rattle.hollow_machine.specs.State.{Machine};
+ghost use Rattle.hollow_script.specs.Kept.{KeepsNothing, machine_with};
 ghost use Rattle.hollow_script.specs.Scripted.{AllWritten, TakesPast};
 ghost use Rattle.written_laws.specs.Chain.{Chain};
 ghost use Rattle.written_laws.specs.HoldsChain.{HoldsChain};
-ghost use Rattle.hollow_top.specs.Command.{IsUnbuilt, Serves};
-ghost use Rattle.hollow_top.specs.Headline.{AnswersTruly};
-ghost use Rattle.hollow_top.specs.Run.{AsksNothing, AskScript, AskToRead, AskUnbuilt, Finishes, RunsPast, WritesPart, status_of};
+ghost use Rattle.hollow_top.specs.Command.{IsReading, Serves, WritesMade};
+ghost use Rattle.hollow_top.specs.Headline.{AnswersTruly, MakesChain};
+ghost use Rattle.hollow_top.specs.Run.{AsksNothing, AskScript, AskToRead, EndsMake, Finishes, RunsPast, WritesPart, status_of};
 ghost use Rattle.hollow_top.specs.Show.{Shows};
-ghost use Rattle.hollow_top.specs.Stopping.{GainsFront, GainsRefusal, GainsRefusalLine, IsVerdict, Leaves};
+ghost use Rattle.hollow_top.specs.Stopping.{GainsFront, GainsPart, GainsRefusal, GainsRefusalLine, IsVerdict, Leaves};
 ghost use Rattle.hollow_top.specs.Words.{Asks};
 
 use crate::answer::write_reply;
@@ -18,8 +21,8 @@ use crate::head::head;
 use crate::show::show;
 use crate::stop::Stop;
 use crate::words::{Command, command_of};
-use hol_answers::{Refusal, Reply};
 use hol_io::{BlobStore, Sink, Source};
+use hollow_make::{Progress, make};
 use hollow_script::{Keep, ScriptStop, run_script};
 use std::alloc::Global;
 
@@ -38,14 +41,16 @@ use std::alloc::Global;
 /// | 7 | a byte past the first 2^32 bytes of the input came, which comes only for `run` |
 ///
 /// `run` answers each line of the input, and what it keeps are the producer and the consumer behind the last of them. `head` and `show` read
-/// the store alone, and put nothing. `make` is not built. The condition is that nothing is kept.
-pub fn run<I: Source, O: Sink, S: BlobStore>(
+/// the store alone, and put nothing. `make` publishes a chain, checks it and keeps its producer; it reads no input, and it alone tells
+/// its progress. The condition is that nothing is kept.
+pub fn run<I: Source, O: Sink, S: BlobStore, P: Progress>(
     alloc: Global,
     words: &[String],
     input: &mut I,
     out: &mut O,
     store: &mut S,
     keep: &mut Keep,
+    progress: &mut P,
 ) -> u8
     requires { KeepsNothing keep.old }
     ensures status { result ≤ 7 }
@@ -83,8 +88,13 @@ pub fn run<I: Source, O: Sink, S: BlobStore>(
         (chain : Chain) → HoldsChain first chain
         → AnswersTruly bytes first chain (S.seen store.new).held keep.new (O.taken out.old) (O.taken out.new))) }
 
-    // What words for `head` and `show`, and words for nothing, leave as it was.
-    ensures input { AskToRead (map string_bytes words.now) → input.new ≡ input.old }
+    // So does `make` leave the chain, with the states more that its cycles published, and it keeps a producer of it.
+    ensures made { result < 2 → (seed rows cycles : ℕ) → Asks (map string_bytes words.now) (Command.Make seed rows cycles)
+        → IfSome (S.seen store.old).held (λ first. (chain : Chain) → HoldsChain first chain
+        → MakesChain seed rows cycles first chain (S.seen store.new).held keep.new) }
+
+    // What words for `head`, `show` and `make`, and words for nothing, leave as it was.
+    ensures input { ¬ AskScript (map string_bytes words.now) → input.new ≡ input.old }
     ensures held { AskToRead (map string_bytes words.now) → (S.seen store.new).held ≡ (S.seen store.old).held }
     ensures unput { AskToRead (map string_bytes words.now) → (S.seen store.new).puts ≡ (S.seen store.old).puts }
     ensures kept { AskToRead (map string_bytes words.now) → keep.new ≡ keep.old }
@@ -93,17 +103,15 @@ pub fn run<I: Source, O: Sink, S: BlobStore>(
         ⊎ ((version : ℕ) × Asks (map string_bytes words.now) (Command.Show version) × IfSome (S.seen store.old).held
         (λ held. GainsFront (Shows held version) (O.taken out.old) (O.taken out.new))) }
     ensures untouched { result ≡ 2 → (out.new ≡ out.old) × (store.new ≡ store.old) }
-
-    // Words for what is not built write their line or nothing, and touch nothing else.
-    ensures unbuilt { AskUnbuilt (map string_bytes words.now)
-        → (input.new ≡ input.old) × (store.new ≡ store.old) × (keep.new ≡ keep.old) }
-    ensures unbuilt_silent { AskUnbuilt (map string_bytes words.now) → (result ≢ 5) × (result ≡ 6 → out.new ≡ out.old) }
 {
     let Some(command) = command_of(words) else {
         return 2;
     };
     if let Command::Run = command {
         return serve_script(alloc, input, out, store, keep);
+    }
+    if let Command::Make { seed, rows, cycles } = command {
+        return serve_make(alloc, seed, rows, cycles, out, store, keep, progress);
     }
     match serve(alloc, &command, out, store) {
         Ok(refused) => u8::from(refused),
@@ -150,6 +158,80 @@ fn serve_script<I: Source, O: Sink, S: BlobStore>(
     }
 }
 
+// Publishes a chain that is made of three numbers, checks it, writes the one line, and gives the status.
+fn serve_make<O: Sink, S: BlobStore, P: Progress>(
+    alloc: Global,
+    seed: u32,
+    rows: u32,
+    cycles: u32,
+    out: &mut O,
+    store: &mut S,
+    keep: &mut Keep,
+    progress: &mut P,
+) -> u8
+    requires nothing { KeepsNothing keep.old }
+    requires seed { seed ≤ 999999 }
+    requires rows { rows ≤ 500000 }
+    requires cycles { cycles ≤ 1000 }
+    ensures ends { result < 2 → IfSome (S.seen store.old).held (λ first. EndsMake seed rows cycles first
+        (S.seen store.new).held keep.new (O.taken out.old) (O.taken out.new) result) }
+    ensures chain { result < 2 → IfSome (S.seen store.old).held (λ first. (chain : Chain) → HoldsChain first chain
+        → MakesChain seed rows cycles first chain (S.seen store.new).held keep.new) }
+    ensures verdict { result < 2 → OnSome (O.taken out.old) ((result ≡ 1) ↔ GainsRefusal (O.taken out.old) (O.taken out.new)) }
+    ensures part { result ≡ 4 → IfSome (S.seen store.old).held (λ first. GainsPart
+        (λ text refused. (next : Machine) × WritesMade seed rows cycles first text refused next) (O.taken out.old) (O.taken out.new)) }
+    ensures status { (result ≤ 6) × (result ≢ 2) × (result ≢ 3) }
+    ensures sink_fault { result ≡ 4 → Rose (O.faults out.old) (O.faults out.new) }
+    ensures store_fault { result ≡ 5 → Rose (S.seen store.old).faults (S.seen store.new).faults }
+{
+    chain_laws::laws::chain_is_kept();
+    chain_laws::laws::make_keeps_chain();
+    store.told_bytes();
+    match make_line(alloc, seed, rows, cycles, out, store, keep, progress) {
+        Ok(is_refusal) => u8::from(is_refusal),
+        Err(Stop::Sink) => 4,
+        Err(Stop::Store) => 5,
+        Err(Stop::Memory) => 6,
+    }
+}
+
+// The same, and tells whether the line is a refusal.
+fn make_line<O: Sink, S: BlobStore, P: Progress>(
+    alloc: Global,
+    seed: u32,
+    rows: u32,
+    cycles: u32,
+    out: &mut O,
+    store: &mut S,
+    keep: &mut Keep,
+    progress: &mut P,
+) -> Result<bool, Stop>
+    requires nothing { KeepsNothing keep.old }
+    requires seed { seed ≤ 999999 }
+    requires rows { rows ≤ 500000 }
+    requires cycles { cycles ≤ 1000 }
+    ensures made { IfOk result (λ refused. IfSome (S.seen store.old).held (λ first. (text : List ℕ) × (next : Store)
+        × WritesMade seed rows cycles first text refused (machine_with next keep.new) × ((S.seen store.new).held ≡ Some next)
+        × Appends (O.taken out.old) (O.taken out.new) text)) }
+    ensures consumer { keep.new.consumer ≡ None }
+    ensures verdict { Leaves IsVerdict (O.taken out.old) (O.taken out.new) result }
+    ensures part { IsErrOf result Stop.Sink → IfSome (S.seen store.old).held (λ first. GainsPart
+        (λ text refused. (next : Machine) × WritesMade seed rows cycles first text refused next) (O.taken out.old) (O.taken out.new)) }
+    ensures sink_fault { IsErrOf result Stop.Sink → Rose (O.faults out.old) (O.faults out.new) }
+    ensures store_fault { IsErrOf result Stop.Store → Rose (S.seen store.old).faults (S.seen store.new).faults }
+{
+    let reply = make(
+        alloc,
+        store,
+        &mut keep.producer,
+        seed,
+        rows,
+        cycles,
+        progress,
+    )?;
+    write_reply(alloc, reply, out)
+}
+
 // Writes what a command of one answer writes, and tells whether that is a refusal. It reads no input.
 fn serve<O: Sink, S: BlobStore>(
     alloc: Global,
@@ -157,7 +239,7 @@ fn serve<O: Sink, S: BlobStore>(
     out: &mut O,
     store: &mut S,
 ) -> Result<bool, Stop>
-    requires { command.now ≢ Command.Run }
+    requires { IsReading command.now }
     ensures served { (input : Option (List ℕ)) → IfSome (S.seen store.old).held (λ held. Serves input held command.now
         (S.seen store.new).held (O.taken out.old) (O.taken out.new) result) }
     ensures verdict { Leaves IsVerdict (O.taken out.old) (O.taken out.new) result }
@@ -169,8 +251,6 @@ fn serve<O: Sink, S: BlobStore>(
     ensures stopped { IsErrOf result Stop.Memory → (out.new ≡ out.old)
         ⊎ ((version : ℕ) × (command.now ≡ Command.Show version) × IfSome (S.seen store.old).held
         (λ held. GainsFront (Shows held version) (O.taken out.old) (O.taken out.new))) }
-    ensures unbuilt { IsUnbuilt command.now → (store.new ≡ store.old) × (IsErrOf result Stop.Store → ⊥)
-        × (IsErrOf result Stop.Memory → out.new ≡ out.old) }
 {
     match command {
         Command::Head(blob) => {
@@ -178,7 +258,6 @@ fn serve<O: Sink, S: BlobStore>(
             write_reply(alloc, reply, out)
         }
         Command::Show(version) => show(alloc, *version, out, store),
-        Command::Make { .. } => write_reply(alloc, Reply::Refused(Refusal::NotYet), out),
-        Command::Run => unreachable!(),
+        Command::Make { .. } | Command::Run => unreachable!(),
     }
 }

@@ -1,5 +1,6 @@
 use Rattle.std.proofs.Common.{map, string_bytes, rules}
-use Rattle.hollow_top.proofs.Serving.{asks_script, cast_status, finishes, part_written, script_finishes}
+use Rattle.hollow_top.proofs.Serving.{asks_script, cast_status, finishes, make_finishes, make_part, part_written, script_finishes}
+use Rattle.hollow_top.proofs.TrueScripts.{one_made}
 use Rattle.hollow_top.proofs.Verdicts.{status_tells}
 use Rattle.hollow_top.proofs.program.run.Goals as goal
 
@@ -23,3 +24,19 @@ returns-in-Run-clause-answered g c = λ ended tells.
     (let asked = asks_script (map string_bytes c.args.words.now) c.in-Some.command c.in-Some.ensures.0 c.in-Run.is in
     script_finishes (map string_bytes c.args.words.now) (g.I.Source.left c.args.input.now) (g.S.BlobStore.seen c.args.store.now).held (g.S.BlobStore.seen c.serve_script.new.store).held
     c.serve_script.new.keep (g.O.Sink.taken c.args.out.now) (g.O.Sink.taken c.serve_script.new.out) c.serve_script.result asked (tells asked) (c.serve_script.ensures.ends ended))
+
+pub returns-in-Make-clause-answered : goal.returns-in-Make-clause-answered
+returns-in-Make-clause-answered g c = λ ended enough.
+    make_finishes (map string_bytes c.args.words.now) (g.I.Source.left c.args.input.now) (g.S.BlobStore.seen c.args.store.now).held (g.S.BlobStore.seen c.serve_make.new.store).held
+    c.serve_make.new.keep c.in-Some.command c.in-Make.seed c.in-Make.rows c.in-Make.cycles (g.O.Sink.taken c.args.out.now) (g.O.Sink.taken c.serve_make.new.out) c.serve_make.result
+    c.in-Some.ensures.0 c.in-Make.is (c.serve_make.ensures.ends ended)
+
+pub returns-in-Make-clause-part : goal.returns-in-Make-clause-part
+returns-in-Make-clause-part g c = λ failed single.
+    make_part (map string_bytes c.args.words.now) (g.I.Source.left c.args.input.now) (g.S.BlobStore.seen c.args.store.now).held c.in-Some.command c.in-Make.seed c.in-Make.rows c.in-Make.cycles
+    (g.O.Sink.taken c.args.out.now) (g.O.Sink.taken c.serve_make.new.out) c.in-Some.ensures.0 c.in-Make.is (c.serve_make.ensures.part failed)
+
+pub returns-in-Make-clause-made : goal.returns-in-Make-clause-made
+returns-in-Make-clause-made g c = λ ended seed rows cycles asked.
+    one_made (map string_bytes c.args.words.now) c.in-Some.command c.in-Make.seed c.in-Make.rows c.in-Make.cycles seed rows cycles (g.S.BlobStore.seen c.args.store.now).held
+    (g.S.BlobStore.seen c.serve_make.new.store).held c.serve_make.new.keep c.in-Some.ensures.1 c.in-Make.is asked (c.serve_make.ensures.chain ended)

@@ -1,6 +1,4 @@
-use Rattle.std.proofs.Common.{refl, rules}
-use Rattle.hollow_top.specs.Command.{IsUnbuilt}
-use Rattle.hollow_top.proofs.Serving.{head_serves, show_serves, unbuilt_serves}
+use Rattle.hollow_top.proofs.Serving.{head_serves, show_serves}
 use Rattle.hollow_top.proofs.program.serve.Goals as goal
 
 pub returns-in_ok-reply-in-Head-clause-served : goal.returns-in_ok-reply-in-Head-clause-served
@@ -14,9 +12,3 @@ returns-in-Show-clause-served g c = λ input.
     show_serves input (g.S.BlobStore.seen c.args.store.now).held (g.S.BlobStore.seen c.show.new.store).held c.args.command.now _
     (g.O.Sink.taken c.args.out.now) (g.O.Sink.taken c.show.new.out) c.show.result
     c.show.ensures.held c.in-Show.is c.show.ensures.served
-
-pub returns-in-Make-clause-served : goal.returns-in-Make-clause-served
-returns-in-Make-clause-served g c = λ input.
-    (let built : IsUnbuilt c.args.command.now = search rules in
-    unbuilt_serves input (g.S.BlobStore.seen c.args.store.now).held (g.S.BlobStore.seen c.args.store.now).held c.args.command.now
-    (g.O.Sink.taken c.args.out.now) (g.O.Sink.taken c.write_reply-in-Make.new.out) c.write_reply-in-Make.result refl built c.write_reply-in-Make.ensures.written)

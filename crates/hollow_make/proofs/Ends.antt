@@ -1,0 +1,98 @@
+-- The end of the script: from what its parts tell to what the command answers.
+use Rattle.std.proofs.Common.{◌≡◌, inl, inr, ℕ, ℤ, pos, List, true, false, Option, Some, None, Result, Ok, Err, length, ◌⊎◌, refl, sym, ap, ◌∙◌, subst}
+use Rattle.std.specs.Prelude.{IfSome, IsErrAnd}
+use Rattle.std.specs.List.{range_with_len}
+use Rattle.film_script.specs.Films.{film_schemas}
+use Rattle.hol_io.specs.Store.{Store}
+use Rattle.row_model.specs.Table.{Table}
+use Rattle.schema_model.specs.Faults.{IsFreeModel}
+use Rattle.schema_model.specs.Model.{IsModel}
+use Rattle.schema_model.specs.declared.model.faults.ModelFault.{ModelFault}
+use Rattle.schema_model.specs.declared.model.faults.ModelFault.TheVariants.{Broken}
+use Rattle.schema_model.specs.declared.model.rule.Rule.{Rule}
+use Rattle.schema_model.specs.declared.schema.Schema.{Schema}
+use Rattle.write_engine.specs.Cycle.{no_rows}
+use Rattle.write_engine.specs.Production.{IsStart, Production}
+use Rattle.state_blobs.specs.Published.{Published, new_producer, published_of}
+use Rattle.hol_orders.specs.declared.order_stop.OrderStop.{OrderStop}
+use Rattle.hol_answers.specs.Reply.{is_refusal}
+use Rattle.hol_answers.specs.declared.reply.Made.{Made}
+use Rattle.hol_answers.specs.declared.reply.Reply.{Reply}
+use Rattle.hol_answers.specs.declared.reply.Reply.TheVariants.{Make, Refused}
+use Rattle.hollow_machine.specs.CheckOrder.{CheckReply}
+use Rattle.hollow_machine.specs.Kept.{IsResting}
+use Rattle.hollow_machine.specs.MakeCommand.{MakeReply, SumsUp, there_and_back}
+use Rattle.hollow_make.specs.Parts.{IsEnd, TellsCycles, TellsEnd, TellsMake, TellsScript, machine_at}
+
+-- The script's schemas break no rule.
+pub not_broken : (schemas : List Schema) (result : Result (List Schema) ModelFault) (rule : Rule) (type_index : ℕ) → result ≡ Err (Broken rule type_index) → schemas ≡ film_schemas
+    → (IsModel schemas → (result ≡ Ok schemas) ⊎ IsErrAnd result IsFreeModel) → IsModel film_schemas → ⊥
+not_broken schemas result rule type_index is are made model =
+    elim (made (subst IsModel (sym are) model)) [
+      | inl ok ↦ cc
+      | inr free ↦ subst (λ (r : Result (List Schema) ModelFault). IsErrAnd r IsFreeModel) is free
+    ]
+
+-- A producer at its start is resting.
+pub resting_start : (schemas : List Schema) (producer : Production) → IsStart schemas producer → IsResting producer
+resting_start schemas producer start = record {
+  is_open = start.is_open;
+  is_empty = start.current_is ∙ ap (λ (ss : List Schema). no_rows (length ss)) (sym start.schemas_are);
+}
+
+-- It has published nothing.
+start_is : (producer : Production) → IsStart film_schemas producer → published_of producer ≡ new_producer film_schemas
+start_is producer start =
+    ap (λ (ss : List Schema). record { model = ss; rows = producer.previous; tag = producer.tag; version = producer.version }) start.schemas_are
+    ∙ ap (λ (rows : Table). record { model = film_schemas; rows = rows; tag = producer.tag; version = producer.version }) start.previous_is
+    ∙ ap (λ (tag : ℤ). record { model = film_schemas; rows = no_rows (length film_schemas); tag = tag; version = producer.version }) start.tag_is
+    ∙ ap (λ (version : ℕ). record { model = film_schemas; rows = no_rows (length film_schemas); tag = pos 0; version = version }) start.version_is
+
+-- What the script answers with a new producer is what the command answers.
+pub makes : (seed rows cycles : ℕ) (held held' : Option Store) (first now : Production) (answer : Reply) → IsStart film_schemas first → TellsScript {E = OrderStop} seed rows cycles held first held' now (Ok answer)
+    → TellsMake {E = OrderStop} seed rows cycles held held' (Some now) (Ok answer)
+makes seed rows cycles None held' first now answer start tells = tt
+makes seed rows cycles (Some store) held' first now answer start (next, told, is) =
+    (next, told, subst (λ (p : Published). MakeReply seed rows (range_with_len 1 cycles) (record { store = store; producer = Some p; consumer = None }) answer (machine_at next (Some now))) (start_is first start) is)
+
+-- The first refusal of the cycles is the answer.
+pub script_refused : (seed rows cycles : ℕ) (held held' : Option Store) (first now : Production) (published : List ℕ) (refused : Option Reply) (answer : Reply) → refused ≡ Some answer
+    → TellsCycles {E = OrderStop} seed rows cycles held first held' now published (Ok refused) → TellsScript {E = OrderStop} seed rows cycles held first held' now (Ok answer)
+script_refused seed rows cycles None held' first now published refused answer same tells = tt
+script_refused seed rows cycles (Some store) held' first now published refused answer same tells =
+    let (next, told, (why, is, refuses)) = subst (λ (r : Option Reply). TellsCycles {E = OrderStop} seed rows cycles (Some store) first held' now published (Ok r)) same tells in
+    (next, told, subst (λ (r : Reply). MakeReply seed rows (range_with_len 1 cycles) (machine_at store (Some first)) r (machine_at next (Some now))) (sym is) (inl refuses))
+
+-- What the check answers behind cycles that pass.
+pub script_ends : (seed rows cycles : ℕ) (held mid held' : Option Store) (first now : Production) (published : List ℕ) (answer : Reply) → TellsCycles {E = OrderStop} seed rows cycles held first mid now published (Ok None)
+    → TellsEnd {E = OrderStop} published now.previous mid (Ok answer) → held' ≡ mid → TellsScript {E = OrderStop} seed rows cycles held first held' now (Ok answer)
+script_ends seed rows cycles None mid held' first now published answer tells ends same = tt
+script_ends seed rows cycles (Some store) mid held' first now published answer (next, told, passes) ends same =
+    (next, same ∙ told, answers answer (subst (λ (h : Option Store). TellsEnd {E = OrderStop} published now.previous h (Ok answer)) told ends))
+  where
+    answers : (answer : Reply) → IsEnd published now.previous next answer → MakeReply seed rows (range_with_len 1 cycles) (machine_at store (Some first)) answer (machine_at next (Some now))
+    answers (Make made) ended = (published, passes, (ended.0, ended.1, (ended.2, ended.3)))
+    answers (Refused why) ended = inr (published, passes, (Refused why, ended.0, refl))
+    answers _ ended = absurd (let bad : false ≡ true = ended.1 in cc)
+
+-- How the script ends behind cycles of which none is refused.
+pub script_result : (seed rows cycles : ℕ) (held mid held' : Option Store) (first now : Production) (published : List ℕ) (refused : Option Reply) (result : Result Reply OrderStop) → refused ≡ None
+    → TellsCycles {E = OrderStop} seed rows cycles held first mid now published (Ok refused) → TellsEnd published now.previous mid result → held' ≡ mid → TellsScript seed rows cycles held first held' now result
+script_result seed rows cycles held mid held' first now published refused (Ok answer) none tells ends same =
+    script_ends seed rows cycles held mid held' first now published answer (subst (λ (r : Option Reply). TellsCycles {E = OrderStop} seed rows cycles held first mid now published (Ok r)) none tells) ends same
+script_result seed rows cycles None mid held' first now published refused (Err stop) none tells ends same = tt
+script_result seed rows cycles (Some store) mid held' first now published refused (Err stop) none tells ends same = tt
+
+-- A check that is refused is the end of the script.
+pub ends_refused : (held : Option Store) (published : List ℕ) (rows : Table) (answer : Reply) → IfSome held (λ store. CheckReply store (there_and_back published) answer) → is_refusal answer ≡ true
+    → TellsEnd {E = OrderStop} published rows held (Ok answer)
+ends_refused None published rows answer check refused = tt
+ends_refused (Some store) published rows (Make made) check refused = absurd check
+ends_refused (Some store) published rows (Refused why) check refused = (check, refused)
+ends_refused (Some store) published rows _ check refused = absurd cc
+
+-- And behind one that is not comes the summary.
+pub ends_made : (held : Option Store) (published : List ℕ) (rows : Table) (answer : Reply) (made : Made) → IfSome held (λ store. CheckReply store (there_and_back published) answer) → is_refusal answer ≡ false
+    → SumsUp published rows made → TellsEnd {E = OrderStop} published rows held (Ok (Make made))
+ends_made None published rows answer made check not sums = tt
+ends_made (Some store) published rows answer made check not sums = (answer, check, not, sums)

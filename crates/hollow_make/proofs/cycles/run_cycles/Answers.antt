@@ -1,0 +1,37 @@
+use Rattle.std.proofs.Common.{◌≡◌, ◌∙◌, arith, sym}
+use Rattle.hollow_make.proofs.Passing.{are_published, run_end, run_refused, run_start, run_step}
+use Rattle.hollow_make.proofs.cycles.run_cycles.Goals as goal
+
+pub loop-place-init : goal.loop-place-init
+loop-place-init g c = record {
+  run = run_start c.args.seed c.args.rows (g.S.BlobStore.seen c.args.store.now).held c.args.producer.now c.args.published.now c.requires.none c.requires.model c.requires.resting;
+  later = omega arith;
+}
+
+pub returns-then-is_refusal-clause-tells : goal.returns-then-is_refusal-clause-tells
+returns-then-is_refusal-clause-tells g c =
+    run_refused c.args.seed c.args.rows c.args.cycles (g.S.BlobStore.seen c.args.store.now).held (g.S.BlobStore.seen c.loop-place.store).held (g.S.BlobStore.seen c.film_cycle.new.store).held
+    c.args.producer.now c.loop-place.producer c.film_cycle.new.producer c.loop-place.place c.loop-place.published c.in_ok-reply.reply c.loop-place-test.true c.loop-place.invariant.run
+    c.in_ok-reply.ensures.step (sym c.is_refusal.ensures ∙ c.if-is_refusal.true)
+
+pub returns-then-is_refusal-clause-published : goal.returns-then-is_refusal-clause-published
+returns-then-is_refusal-clause-published g c =
+    are_published c.loop-place.place c.args.cycles c.loop-place.published (omega (arith, c.loop-place-test.true)) c.requires.cycles c.loop-place.invariant.run.below
+
+pub loop-place-preserved : goal.loop-place-preserved
+loop-place-preserved g c = record {
+  run = run_step c.args.seed c.args.rows (g.S.BlobStore.seen c.args.store.now).held (g.S.BlobStore.seen c.loop-place.store).held (g.S.BlobStore.seen c.film_cycle.new.store).held
+      c.args.producer.now c.loop-place.producer c.film_cycle.new.producer c.loop-place.place c.loop-place.published c.note.new.published c.in_ok-reply.reply c.loop-place.invariant.run
+      c.in_ok-reply.ensures.step (sym c.is_refusal.ensures ∙ c.if-is_refusal.false) c.in_ok-reply.ensures.model c.in_ok-reply.ensures.resting c.in_ok-note.ensures.ok;
+  later = omega (arith, c.loop-place.invariant.later, c.in_ok-reply.ensures.later);
+}
+
+pub returns-clause-tells : goal.returns-clause-tells
+returns-clause-tells g c =
+    let all : c.loop-place.place ≡ c.args.cycles = omega (arith, c.loop-place-test.false, c.loop-place.auto.place-end) in
+    run_end c.args.seed c.args.rows c.args.cycles (g.S.BlobStore.seen c.args.store.now).held (g.S.BlobStore.seen c.loop-place.store).held c.args.producer.now c.loop-place.producer
+    c.loop-place.place c.loop-place.published all c.loop-place.invariant.run
+
+pub returns-clause-published : goal.returns-clause-published
+returns-clause-published g c =
+    are_published c.loop-place.place c.args.cycles c.loop-place.published (omega (arith, c.loop-place.auto.place-end)) c.requires.cycles c.loop-place.invariant.run.below

@@ -1,0 +1,12 @@
+use Rattle.std.proofs.Common.{◌∙◌, sym}
+use Rattle.hollow_make.proofs.Ends.{ends_made, ends_refused}
+use Rattle.hollow_make.proofs.script.end_script.Goals as goal
+
+pub returns-then-is_refusal-clause-tells : goal.returns-then-is_refusal-clause-tells
+returns-then-is_refusal-clause-tells g c =
+    ends_refused (g.S.BlobStore.seen c.args.store.now).held c.args.published.now c.args.producer.now.previous c.in_ok-reply.reply c.in_ok-reply.ensures.reply (sym c.is_refusal.ensures ∙ c.if-is_refusal.true)
+
+pub returns-clause-tells : goal.returns-clause-tells
+returns-clause-tells g c =
+    ends_made (g.S.BlobStore.seen c.args.store.now).held c.args.published.now c.args.producer.now.previous c.in_ok-reply.reply c.in_ok-summary.field-0 c.in_ok-reply.ensures.reply
+    (sym c.is_refusal.ensures ∙ c.if-is_refusal.false) c.in_ok-summary.ensures

@@ -1,0 +1,16 @@
+use Rattle.film_script.specs.Films.{film_schemas}
+use Rattle.hollow_make.proofs.Ends.{resting_start, script_refused, script_result}
+use Rattle.hollow_make.proofs.script.run_script.Goals as goal
+
+pub run_cycles-requires-clause-resting : goal.run_cycles-requires-clause-resting
+run_cycles-requires-clause-resting g c = resting_start film_schemas c.args.producer.now c.requires.start
+
+pub returns-in-Some-clause-reply : goal.returns-in-Some-clause-reply
+returns-in-Some-clause-reply g c =
+    script_refused c.args.seed c.args.rows c.args.cycles (g.S.BlobStore.seen c.args.store.now).held (g.S.BlobStore.seen c.run_cycles.new.store).held
+    c.args.producer.now c.run_cycles.new.producer c.run_cycles.new.published c.in_ok-refused.refused c.in-Some.reply c.in-Some.is c.in_ok-refused.ensures.tells
+
+pub returns-clause-reply : goal.returns-clause-reply
+returns-clause-reply g c =
+    script_result c.args.seed c.args.rows c.args.cycles (g.S.BlobStore.seen c.args.store.now).held (g.S.BlobStore.seen c.run_cycles.new.store).held (g.S.BlobStore.seen c.end_script.new.store).held
+    c.args.producer.now c.run_cycles.new.producer c.run_cycles.new.published c.in_ok-refused.refused c.end_script.result c.in-None.is c.in_ok-refused.ensures.tells c.end_script.ensures.tells c.end_script.ensures.held
