@@ -22,7 +22,7 @@
 //! nothing. What was written is judged at the next `run`, and at the end.
 use hol_io::{BlobName, BlobStore};
 use hol_memory::{MemSink, MemSource, MemStore};
-use hollow_top::{Keep, run};
+use hollow_top::{Keep, Silent, run};
 use std::alloc::{AllocError, Global};
 use std::process::Abort;
 use std::test::Fail;
@@ -229,6 +229,7 @@ impl Bench {
             &mut out,
             store,
             &mut keep,
+            &mut Silent,
         );
         self.texts = (
             Vec::from_slice(self.alloc, out.bytes())?,

@@ -88,7 +88,19 @@ out {"ok":"load","tag":101}
 out {"keys":2,"ok":"index"}
 out {"ok":"find","ordinals":[]}
 out {"ok":"step","tag":102}
-out {"ok":"find","ordinals":[2]}"#;
+out {"ok":"find","ordinals":[2]}
+# The next run goes on, and checks the chain.
+input {"restore":3}
+input {"cycle":{"version":4,"tag":104,"add":{"Film":[{"id":1,"title":{"value":"Metropolis"},"cast":[{"value":"Gustav Fröhlich"},{"value":"Brigitte Helm"}]},{"id":2,"title":{"value":"Der blaue Engel"},"cast":[{"value":"Marlene Dietrich"}]},{"id":3,"title":{"value":"M"},"cast":[{"value":"Peter Lorre"}]}]}}}
+input {"check":[1,2,3,4,3,2,1]}
+input {"load":4}
+input {"row":["Film",1]}
+go 0 run
+out {"ok":"restore","tag":103,"version":3}
+out {"changed":["Film","Text","Cast"],"ok":"cycle","published":true,"version":4}
+out {"ok":"check","states":7}
+out {"ok":"load","tag":104}
+out {"ok":"row","row":{"cast":[{"value":"Marlene Dietrich"}],"id":2,"title":{"value":"Der blaue Engel"}}}"#;
 
 #[test]
 fn follows_the_guide(rt: HostRuntime) -> Result<(), Fail> {

@@ -18,8 +18,6 @@ mod heads;
 #[cfg(test)]
 mod kinds;
 #[cfg(test)]
-mod library;
-#[cfg(test)]
 mod limits;
 #[cfg(test)]
 mod lookups;
@@ -27,6 +25,8 @@ mod lookups;
 mod moves;
 #[cfg(test)]
 mod outside;
+#[cfg(test)]
+mod restores;
 #[cfg(test)]
 mod scene;
 #[cfg(test)]

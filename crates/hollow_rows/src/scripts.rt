@@ -50,12 +50,10 @@ out {"error":14,"name":"ModelFixed"}
 input {"model":[]}
 run 0 run
 out {"ok":"model","types":0}
-# Orders that are not built.
-input {"restore":1}
+# An order that is not built.
 input {"stat":true}
 input {"stat":false}
 run 1 run
-out {"error":90,"name":"NotYet"}
 out {"error":90,"name":"NotYet"}
 out {"error":10,"name":"BadOrder"}"#;
 

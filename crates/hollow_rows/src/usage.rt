@@ -42,7 +42,7 @@ out {"blob":"snapshot-9","error":18,"name":"NoBlob"}
 run 1 show snapshot-1
 out {"at":0,"blob":"snapshot-1","error":19,"name":"BadBlob","reason":40}
 run 1 make 0 1 1000
-out {"error":90,"name":"NotYet"}"#;
+out {"error":16,"last":1,"name":"BadVersion"}"#;
 
 #[test]
 fn tells_words_apart(rt: HostRuntime) -> Result<(), Fail> {

@@ -8,7 +8,7 @@ use Rattle.row_model.specs.PlainTree.{leaf, no_trees, tree_then}
 use Rattle.record_trees.specs.FitsTree.{FitFields, FitsLeaf, FitsTree}
 use Rattle.write_engine.specs.CycleLimit.{TellsCycle}
 use Rattle.write_engine.specs.Production.{Production}
-use Rattle.hollow_rows.specs.Numbers.{AreNumbers, IsOneInt, TakesNumbers, number_tree}
+use Rattle.library_cases.specs.Numbers.{AreNumbers, IsOneInt, TakesNumbers, number_tree}
 use Rattle.record_trees.specs.Types.{object_fields}
 
 pub number_fits : (schemas : List Schema) (value : ℤ) → AreNumbers schemas → FitsTree schemas 0 (number_tree value)

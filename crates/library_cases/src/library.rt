@@ -2,7 +2,7 @@
 ghost use Rattle.std.specs.Prelude.{◌≡◌, ◌↔◌, ◌<◌, IfOk, IsSome, IsTrue, OnOk, false, true};
 ghost use Rattle.row_model.specs.Tree.{plain};
 ghost use Rattle.write_engine.specs.CycleLimit.{TellsCycle, TellsTypes};
-ghost use Rattle.hollow_rows.specs.Numbers.{AreNumbers, TakesNumbers, number_tree};
+ghost use Rattle.library_cases.specs.Numbers.{AreNumbers, TakesNumbers, number_tree};
 
 use hol_io::{BlobName, Steps};
 use hol_memory::MemStore;

@@ -1,5 +1,5 @@
-use Rattle.hollow_rows.proofs.Numbers.{closed_tells}
-use Rattle.hollow_rows.proofs.library.publish_numbers.Goals as goal
+use Rattle.library_cases.proofs.Numbers.{closed_tells}
+use Rattle.library_cases.proofs.library.publish_numbers.Goals as goal
 
 pub publish_cycle-requires-clause-over : goal.publish_cycle-requires-clause-over
 publish_cycle-requires-clause-over c =

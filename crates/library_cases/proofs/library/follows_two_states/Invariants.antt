@@ -1,4 +1,4 @@
-use Rattle.hollow_rows.proofs.library.follows_two_states.Given as goal
+use Rattle.library_cases.proofs.library.follows_two_states.Given as goal
 
 -- The ledger is that of the blank.
 abbrev pub ghosts-follow : goal.ghosts-follow
