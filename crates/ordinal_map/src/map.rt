@@ -28,6 +28,8 @@ pub struct OrdinalMap {
     slots: Vec<Slot>,
     /// The ordinals of the rows by the rows' hashes.
     chains: Chains,
+    /// Where the next row is looked for first: behind the ordinal that was given last, for rows that come in the order of the cycle before.
+    expected: u32,
     /// The ordinals below it are taken.
     filled: u32,
     /// One past the greatest ordinal of the previous state, 0 for none.
@@ -57,6 +59,7 @@ impl OrdinalMap {
         OrdinalMap {
             slots: Vec::new(alloc),
             chains: Chains::new(alloc),
+            expected: 0,
             filled: 0,
             previous_bound: 0,
             current_bound: 0,
@@ -132,8 +135,15 @@ impl OrdinalMap {
         ensures tells { TellsPut self.old row self.new result }
         ensures agree { Agree self.old.previous self.old.current }
     {
-        if let Some(ordinal) = find(self.slots.as_slice(), &self.chains, hash, &row) {
+        if let Some(ordinal) = find(
+            self.slots.as_slice(),
+            &self.chains,
+            self.expected,
+            hash,
+            &row,
+        ) {
             self.slots[ordinal as usize].enter();
+            self.expected = ordinal + 1;
             self.current_bound = self.current_bound.max(ordinal + 1);
             return Ok(ordinal);
         }
@@ -144,6 +154,7 @@ impl OrdinalMap {
         make_room(&mut self.slots, ordinal)?;
         link(&mut self.chains, ordinal, hash)?;
         self.slots[ordinal as usize] = Slot::Current(row);
+        self.expected = ordinal + 1;
         self.filled = ordinal + 1;
         self.current_bound = self.current_bound.max(ordinal + 1);
         Ok(ordinal)
@@ -175,7 +186,13 @@ impl OrdinalMap {
         ensures tells { TellsRestore self.old ordinal row self.new result }
         ensures agree { Agree self.new.previous self.new.current }
     {
-        if let Some(other) = find(self.slots.as_slice(), &self.chains, hash, &row) {
+        if let Some(other) = find(
+            self.slots.as_slice(),
+            &self.chains,
+            self.expected,
+            hash,
+            &row,
+        ) {
             return Err(RestoreRowFault::Equal(other));
         }
         make_room(&mut self.slots, ordinal)?;
@@ -191,6 +208,7 @@ impl OrdinalMap {
     {
         advance_all(&mut self.slots);
         unlink_free(&mut self.chains, self.slots.as_slice());
+        self.expected = 0;
         self.filled = 0;
         self.previous_bound = self.current_bound;
         self.current_bound = 0;
@@ -205,6 +223,7 @@ impl OrdinalMap {
         }
         undo_all(&mut self.slots);
         unlink_free(&mut self.chains, self.slots.as_slice());
+        self.expected = 0;
         self.filled = 0;
         self.current_bound = 0;
     }

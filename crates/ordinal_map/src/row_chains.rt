@@ -10,8 +10,26 @@ use row_hash::same_row;
 use row_model::Row;
 use std::alloc::AllocError;
 
-/// The ordinal under which a row with this hash stands, if it does.
-pub(crate) fn find(slots: &[Slot], chains: &Chains, hash: u32, row: &Row) -> Option<u32>
+/// The ordinal under which a row with this hash stands, if it does. It is looked for under one ordinal first, and then in its chain.
+pub(crate) fn find(
+    slots: &[Slot],
+    chains: &Chains,
+    expected: u32,
+    hash: u32,
+    row: &Row,
+) -> Option<u32>
+    requires linked { AreHashed slots.now chains.now }
+    requires hashed { hash ≡ hash_of_row row.now }
+    ensures { Finds slots.now row.now result }
+{
+    if is_row_at(slots, expected, row) {
+        return Some(expected);
+    }
+    find_in_chain(slots, chains, hash, row)
+}
+
+// The same along the chain alone.
+fn find_in_chain(slots: &[Slot], chains: &Chains, hash: u32, row: &Row) -> Option<u32>
     requires linked { AreHashed slots.now chains.now }
     requires hashed { hash ≡ hash_of_row row.now }
     ensures { Finds slots.now row.now result }

@@ -2,7 +2,7 @@ use Rattle.std.proofs.Common.{◌≡◌, ℕ, Some, length}
 use Rattle.std.specs.Prelude.{Contains}
 use Rattle.linked_slots.specs.Chained.{IsAt, left_at}
 use Rattle.ordinal_map.specs.Slots.{any_row, row_in}
-use Rattle.ordinal_map.proofs.row_chains.find.Given as goal
+use Rattle.ordinal_map.proofs.row_chains.find_in_chain.Given as goal
 
 -- the row stands ahead, if it stands
 abbrev pub invariant-loop-at : goal.invariant-loop-at
