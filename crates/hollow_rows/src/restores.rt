@@ -223,6 +223,12 @@ go 2 make 7 500001 2
 go 2 make 7 30 0
 go 2 make 7 30 1001"#;
 
+/// Twelve cycles of twenty thousand films.
+const MANY: &str = r#"empty
+go 0 make 7 20000 12
+out {"ok":"make","published":12,"rows":{"Film":18000,"Tags":12,"Text":905}}
+told 12"#;
+
 #[test]
 fn restores(rt: HostRuntime) -> Result<(), Fail> {
     pass(&rt, rt.alloc(), RESTORED)
@@ -236,4 +242,9 @@ fn checks_chains(rt: HostRuntime) -> Result<(), Fail> {
 #[test]
 fn makes_chains(rt: HostRuntime) -> Result<(), Fail> {
     pass(&rt, rt.alloc(), MADE)
+}
+
+#[test]
+fn makes_a_large_chain(rt: HostRuntime) -> Result<(), Fail> {
+    pass(&rt, rt.alloc(), MANY)
 }
