@@ -1,0 +1,4 @@
+pub mod Copies
+pub mod RecordBits
+pub mod RecordPuts
+pub mod WideNumbers

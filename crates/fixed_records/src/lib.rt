@@ -1,0 +1,14 @@
+//! Records of OBJECT types without STRING and BYTES, which stand at their places on their own: written, cleared and copied there, in any order.
+#![tactic(auto)]
+
+mod copy;
+mod kinds;
+pub mod laws;
+mod number;
+mod put;
+mod wide;
+
+pub use copy::copy_records;
+pub use kinds::is_fixed;
+pub use put::{clear_record, put_record};
+pub use wide::first_wide;

@@ -1,0 +1,63 @@
+-- Which rows can be laid out in the words of a half.
+use Rattle.std.specs.Prelude.{◌≡◌, ℕ, ◌<◌, ◌≤◌, List, length, map, Option, Some}
+use Rattle.std.specs.List.{range_with_len}
+use Rattle.std.specs.FinMap.{get, keys, values}
+use Rattle.schema_model.specs.declared.limit.Limit.TheVariants.{Ordinals}
+use Rattle.schema_model.specs.declared.schema.Shape.{Shape}
+use Rattle.schema_model.specs.Limit.{number_of_limit}
+use Rattle.schema_model.specs.Parts.{shape_fields}
+use Rattle.row_model.specs.Row.{FitsShape, stored_row}
+use Rattle.row_model.specs.Table.{RowMap}
+use Rattle.row_model.specs.declared.row.Row.{Row}
+use Rattle.type_rows.specs.Ends.{AreOfKind}
+use Rattle.type_rows.specs.Holds.{Holds, KeepsLimits}
+use Rattle.type_rows.specs.Layout.{places_of, item_count}
+use Rattle.type_rows.specs.declared.section.Section.{Section}
+use Rattle.type_rows.specs.Loads.{Spells}
+use Rattle.type_rows.specs.WellFormed.{AreWidths}
+use Rattle.packed_half.specs.declared.half.HalfShape.{HalfShape}
+use Rattle.packed_half.specs.Half.{layout_in}
+use Rattle.packed_half.specs.LaidOut.{lengths_of, IsTight}
+
+-- The rows of the places up to a number: place k is that of ordinal k, and has none where no row is live there.
+abbrev pub places_in : RowMap → ℕ → List (Option Row)
+places_in rows count = map (get rows) (range_with_len 0 count)
+
+-- What each row satisfies.
+abbrev pub EachRowOf : RowMap → (Row → Type 0) → Type 0
+EachRowOf rows P = (ordinal : ℕ) (row : Row) → get rows ordinal ≡ Some row → P row
+
+-- The rows can be laid out in the half: their ordinals are its live ones, its layout holds them, and its total and its lengths are theirs. Each row
+-- fits the type, and a blob can hold it: it has no least INT and no least LONG. The limits are kept.
+pub record CanLay (shape : Shape) (half : HalfShape) (rows : RowMap) : Type 0 where
+  pub live : keys rows ≡ half.live
+  pub held : Holds shape (layout_in half) rows
+  pub total : half.total ≡ item_count (values rows)
+  pub lengths : half.lengths ≡ lengths_of shape (values rows)
+  pub wide : AreWidths shape half.max half.widths
+  pub fits : EachRowOf rows (FitsShape shape)
+  pub kinds : AreOfKind shape rows
+  pub stored : EachRowOf rows (λ row. stored_row row ≡ row)
+  pub many : length (shape_fields shape) ≤ 1024
+  pub few : places_of half.max ≤ number_of_limit Ordinals
+  pub within : KeepsLimits shape (layout_in half) rows
+
+-- A half as a section with these parts.
+abbrev pub parts_in : HalfShape → List ℕ → List ℕ → List (List ℕ) → Section
+parts_in half first second areas =
+    record { max = half.max; widths = half.widths; total = half.total; first = first; second = second; areas = areas; live = half.live }
+
+-- The parts are those of these rows: each place spells its row, and takes no more.
+pub record ArePlaced (shape : Shape) (half : HalfShape) (rows : RowMap) (first second : List ℕ) (areas : List (List ℕ)) : Type 0 where
+  pub spelled : (ordinal : ℕ) (row : Row) → get rows ordinal ≡ Some row → Spells shape (parts_in half first second areas) ordinal row
+  pub tight : (place : ℕ) → place < places_of half.max → IsTight shape (parts_in half first second areas) place (get rows place)
+
+-- A type of this shape has sets or maps.
+abbrev pub HasRuns : Shape → Type 0
+HasRuns (Shape.Set element) = Unit {0}
+HasRuns (Shape.Map key value) = Unit {0}
+HasRuns _ = ⊥
+
+-- Sets or maps that can be laid out.
+abbrev pub CanLayRuns : HalfShape → RowMap → Type 0
+CanLayRuns half rows = (shape : Shape) × HasRuns shape × CanLay shape half rows

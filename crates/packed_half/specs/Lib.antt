@@ -1,0 +1,4 @@
+pub mod Half
+pub mod LaidOut
+pub mod Laying
+pub mod Lookup

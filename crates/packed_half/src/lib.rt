@@ -1,0 +1,20 @@
+//! The rows of a type in the packed words of one half: how many words they take, what stands in them, and how they are laid out there.
+#![tactic(auto)]
+
+mod bytes;
+mod cut;
+mod half;
+pub mod laws;
+mod laying;
+mod lists;
+mod lookup;
+mod new_rows;
+mod records;
+mod rows;
+mod runs;
+
+pub use bytes::put_areas;
+pub use half::{HalfShape, bytes_of_half, words_of_half};
+pub use laying::lay_out;
+pub use new_rows::NewRows;
+pub use rows::HalfRows;

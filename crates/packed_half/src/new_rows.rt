@@ -1,0 +1,71 @@
+//! Rows that are to be laid out, each asked for as its place comes.
+ghost use Rattle.std.specs.Prelude.{◌≡◌, Some, IsSome, IfOk, OnOk};
+ghost use Rattle.std.specs.FinMap.{get, keys};
+ghost use Rattle.row_model.specs.Table.{RowMap};
+ghost use Rattle.schema_model.specs.declared.schema.Shape.{Shape};
+ghost use Rattle.object_codec.specs.Packing.{HasRoom, IsRowPut};
+
+use crate::HalfShape;
+use hol_varint::Octets;
+use row_model::Row;
+use schema_model::Schema;
+use std::alloc::{AllocError, Global};
+
+/// Rows by ordinal, wherever they come from.
+pub trait NewRows {
+    /// The rows.
+    ghost rows: { Self → RowMap };
+
+    /// They may be those of a type of this shape.
+    ghost suits: { Self → Shape → Type 0 };
+
+    /// The row under an ordinal that has one.
+    fn new_row(&self, alloc: Global, ordinal: u32) -> Result<Row, AllocError>
+        requires { IsSome (get (rows self.now) ordinal) }
+        ensures { IfOk result (λ row. get (rows self.now) ordinal ≡ Some row) };
+
+    /// Writes the record under an ordinal that has one at its place, and its bytes behind those of the fields.
+    ///
+    /// Memory is taken for the record and for its bytes; where it is refused, the bytes of some fields may be there.
+    fn put_record(
+        &self,
+        alloc: Global,
+        schema: &Schema,
+        widths: &[u32],
+        first: &mut [u64],
+        areas: &mut [Octets],
+        ordinal: u32,
+    ) -> Result<(), AllocError>
+        requires suits { suits self.now schema.now.shape }
+        requires live { IsSome (get (rows self.now) ordinal) }
+        requires room { HasRoom schema.now.shape widths.now first.old areas.old ordinal (get (rows self.now) ordinal) }
+        ensures { OnOk result (IsRowPut schema.now.shape widths.now first.old areas.old first.new areas.new ordinal (get (rows self.now) ordinal)) }
+    {
+        let row = Some(self.new_row(alloc, ordinal)?);
+        object_codec::put_row(
+            alloc,
+            schema,
+            widths,
+            first,
+            areas,
+            u64::from(ordinal),
+            &row,
+        )
+    }
+}
+
+/// The row under an ordinal, none where no row is live there.
+pub(crate) fn row_under<N: NewRows>(
+    alloc: Global,
+    half: &HalfShape,
+    new: &N,
+    ordinal: u32,
+) -> Result<Option<Row>, AllocError>
+    requires { keys (N.rows new.now) ≡ half.now.live }
+    ensures { IfOk result (λ row. row ≡ get (N.rows new.now) ordinal) }
+{
+    if !half.live.contains(ordinal) {
+        return Ok(None);
+    }
+    Ok(Some(new.new_row(alloc, ordinal)?))
+}

@@ -1,0 +1,88 @@
+//! The rows of a half, looked at where they stand.
+ghost use Rattle.std.specs.Prelude.{◌≡◌, ◌^◌, ◌<◌, Some, IfOk};
+ghost use Rattle.std.specs.FinMap.{get};
+ghost use Rattle.row_model.specs.Table.{RowMap};
+ghost use Rattle.type_rows.specs.Loads.{TellsPlace};
+ghost use Rattle.packed_half.specs.Half.{behind_items, section_in};
+ghost use Rattle.packed_half.specs.LaidOut.{HasRowUnder, IsLaidOut};
+
+use crate::HalfShape;
+use row_model::{Parts, PlaceFault, Row};
+use schema_model::{Schema, Shape};
+use std::alloc::{AllocError, Global};
+
+/// The rows of a type in the words of a half.
+#[derive(Clone, Copy)]
+pub struct HalfRows<'a> {
+    /// The shape of the type.
+    pub shape: &'a Shape,
+    /// What describes the words.
+    pub half: &'a HalfShape,
+    /// The words.
+    pub words: &'a [u64],
+}
+
+impl<'a> HalfRows<'a> {
+    /// The row under a live ordinal of a half that is laid out.
+    pub fn row(&self, alloc: Global, schema: &Schema, ordinal: u32) -> Result<Row, AllocError>
+        requires shape { self.now.shape.now ≡ schema.now.shape }
+        requires live { HasRowUnder schema.now.shape self.now.half.now self.now.words.now ordinal }
+        ensures { (rows : RowMap) → IsLaidOut schema.now.shape self.now.half.now self.now.words.now rows → IfOk result (λ row. get rows ordinal ≡ Some row) }
+    {
+        match self.read_place(alloc, schema, u64::from(ordinal)) {
+            Ok(row) => Ok(row),
+            Err(PlaceFault::Memory) => Err(AllocError),
+            Err(PlaceFault::Bad(_)) => unreachable!(),
+        }
+    }
+
+    /// The words of the bytes of the fields, those of each field from a word of its own on.
+    pub fn bytes(&self) -> &'a [u64]
+        ensures { result.now ≡ behind_items self.now.shape.now self.now.half.now self.now.words.now }
+    {
+        self.cut().bytes
+    }
+
+    /// The row that a place spells, by the codec of its kind.
+    fn read_place(&self, alloc: Global, schema: &Schema, place: u64) -> Result<Row, PlaceFault>
+        requires shape { self.now.shape.now ≡ schema.now.shape }
+        requires live { HasRowUnder schema.now.shape self.now.half.now self.now.words.now place }
+        requires small { place < 2 ^ 32 }
+        ensures { TellsPlace schema.now.shape (section_in schema.now.shape self.now.half.now self.now.words.now) place result }
+    {
+        let widths = &self.half.widths;
+        let total = self.half.total;
+        let parts = self.cut();
+        match &schema.shape {
+            Shape::Object(_, _) => object_codec::read(alloc, schema, widths, total, &parts, place),
+            Shape::List(_) => list_codec::read(alloc, schema, widths, total, &parts, place),
+            _ => bucket_codec::read(alloc, schema, widths, total, &parts, place),
+        }
+    }
+}
+
+impl Parts for HalfRows<'_> {
+    ghost use Rattle.packed_half.specs.Half.{section_in};
+
+    ghost first_words = { λ view. (section_in view.shape.now view.half.now view.words.now).first };
+
+    ghost second_words = { λ view. (section_in view.shape.now view.half.now view.words.now).second };
+
+    ghost area_bytes = { λ view. (section_in view.shape.now view.half.now view.words.now).areas };
+
+    fn first(&self) -> &[u64] {
+        self.cut().first
+    }
+
+    fn second(&self) -> &[u64] {
+        self.cut().second
+    }
+
+    fn area(&self, field: u32) -> u64 {
+        self.cut().area(field)
+    }
+
+    fn byte(&self, field: u32, at: u64) -> u8 {
+        self.cut().byte(field, at)
+    }
+}

@@ -1,0 +1,6 @@
+pub mod Taken
+pub mod Copied
+pub mod Sources
+pub mod StoredRows
+pub mod Fitting
+pub mod CopiedLists

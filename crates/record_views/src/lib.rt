@@ -1,0 +1,30 @@
+//! Records where they stand packed: their values one by one, without memory.
+#![tactic(auto)]
+
+mod bucket_place;
+mod buckets;
+mod bytes;
+mod column;
+mod elements;
+mod fault;
+mod fixed;
+mod found;
+mod list;
+mod part;
+mod sound;
+mod tested;
+mod text;
+mod value_ref;
+
+pub use bucket_place::{bucket_fault, buckets_at, test_place};
+pub use buckets::Buckets;
+pub use bytes::PackedBytes;
+pub use column::Column;
+pub use elements::Elements;
+pub use fault::fault_at;
+pub use list::{elements_at, list_fault};
+pub use part::{Part, read_part};
+pub use sound::first_fault;
+pub use tested::Tested;
+pub use text::are_units;
+pub use value_ref::ValueRef;

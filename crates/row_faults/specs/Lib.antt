@@ -1,0 +1,10 @@
+pub mod First
+pub mod Ordinals
+pub mod Places
+pub mod Widths
+pub mod Tests
+pub mod LoadFault
+pub mod MoveFault
+pub mod RunItems
+pub mod FieldEnds
+pub mod Sums

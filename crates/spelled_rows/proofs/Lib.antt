@@ -1,0 +1,11 @@
+pub mod Deciding
+pub mod Keyed
+pub mod LiveRows
+pub mod ReadRows
+pub mod ReadRuns
+pub mod ReadValues
+pub mod Rows
+pub mod SameBits
+pub mod SameRows
+pub mod Values
+pub mod WorkedRows
