@@ -1,5 +1,5 @@
 //! Cases as text: a line is a word, what follows it, and behind ` = ` what is told.
-use crate::{bytes, copies, numbers, outside, sets, texts};
+use crate::{bytes, copies, halves, numbers, outside, sets, texts};
 use std::alloc::Global;
 use std::process::Abort;
 use std::test::Fail;
@@ -19,6 +19,8 @@ pub enum Subject {
     Sets,
     /// Those of values that are copied.
     Copies,
+    /// Those of two generations of words.
+    Halves,
 }
 
 /// What is told at a word and what follows it.
@@ -30,6 +32,7 @@ fn told(alloc: Global, subject: &Subject, word: &str, rest: &str) -> Result<Stri
         Subject::Outside => outside::told(alloc, word, rest),
         Subject::Sets => Ok(sets::told(alloc, word)?),
         Subject::Copies => Ok(copies::told(alloc, word)?),
+        Subject::Halves => Ok(halves::told(alloc, word)?),
     }
 }
 

@@ -10,6 +10,8 @@ mod copies;
 #[cfg(test)]
 mod files;
 #[cfg(test)]
+mod halves;
+#[cfg(test)]
 mod numbers;
 #[cfg(test)]
 mod outside;

@@ -5,7 +5,7 @@ ghost use Rattle.ordinal_set.specs.Population.{population_of, AreUpTo, IsPopulat
 
 use crate::population::{population_words, push_words};
 use crate::scan::{clear_bit, has_set, last_set, least_clear, lengthen, next_set};
-use hol_varint::Ordinals;
+use hol_varint::{Duplicate, Ordinals};
 use std::alloc::{AllocError, Global};
 use std::marker::Model;
 
@@ -153,5 +153,13 @@ impl OrdinalSet {
             out.truncate(start);
         }
         written
+    }
+}
+
+impl Duplicate for OrdinalSet {
+    fn copy(&self, alloc: Global) -> Result<OrdinalSet, AllocError> {
+        Ok(OrdinalSet {
+            words: Vec::from_slice(alloc, self.words.as_slice())?,
+        })
     }
 }

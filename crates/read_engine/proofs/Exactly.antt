@@ -18,7 +18,7 @@ use Rattle.snapshot_blob.specs.declared.part.TypePart.{TypePart}
 use Rattle.delta_blob.specs.declared.part.DeltaPart.{DeltaPart}
 use Rattle.delta_blob.specs.Parts.{body}
 use Rattle.read_engine.specs.Position.{IsPosition, Position}
-use Rattle.read_engine.specs.Taking.{IsUntaken, LoadsExactly, LoadsFrom, RefusesLoad, RefusesStep, StepsBy, StepsExactly, TellsLoad, TellsStand, TellsStep}
+use Rattle.read_engine.specs.Taking.{IsUntaken, LoadsExactly, LoadsFrom, RefusesLoad, RefusesStep, StepsBy, StepsExactly, TellsLoad, TellsLoaded, TellsStep}
 use Rattle.read_engine.proofs.SteppedOnce.{stepped_once}
 use Rattle.delta_blob.proofs.WholeDeltas.{split}
 
@@ -113,13 +113,13 @@ module _ (name : BlobName) (content : Option (List ℕ)) (now : Option Position)
   }
 
 -- a load that is done, over any store
-pub done_exactly : OneLoad → (name : BlobName) (held : Option Store) (stand : Position) → IfSome held (λ store. TellsStand name (told held name) (Ok stand)) → IfSome held (λ store. LoadsExactly name (told held name) (Some stand) (Ok tt))
-done_exactly law name None stand tells = tt
-done_exactly law name (Some store) stand (blob, there, loads) = loads_exactly name (told (Some store) name) (Some stand) law (Ok tt) (blob, stand, there, refl, loads)
+pub done_exactly : OneLoad → (name : BlobName) (held : Option Store) (now : Option Position) → IfSome held (λ store. TellsLoaded name (told held name) (Ok now)) → IfSome held (λ store. LoadsExactly name (told held name) now (Ok tt))
+done_exactly law name None now tells = tt
+done_exactly law name (Some store) now tells = loads_exactly name (told (Some store) name) now law (Ok tt) tells
 
 -- and one that is refused
 pub refused_exactly : OneLoad → (name : BlobName) (held : Option Store) (now : Option Position) (found : BlobFault) (answer : Result (Unit {0}) BlobFault) → answer ≡ Err found
-    → IfSome held (λ store. TellsStand name (told held name) (Err found)) → IfSome held (λ store. LoadsExactly name (told held name) now answer)
+    → IfSome held (λ store. TellsLoaded name (told held name) (Err found)) → IfSome held (λ store. LoadsExactly name (told held name) now answer)
 refused_exactly law name None now found answer is tells = tt
 refused_exactly law name (Some store) now found answer is tells =
     subst (LoadsExactly name (told (Some store) name) now) (sym is) (loads_exactly name (told (Some store) name) now law (Err found) tells)
@@ -309,9 +309,3 @@ pub all_steps_exactly : (name : BlobName) (held : Option Store) (from now : Opti
 all_steps_exactly name None from now answer position tells = tt
 all_steps_exactly name (Some store) None now answer position tells = tt
 all_steps_exactly name (Some store) (Some from) now answer position tells = steps_exactly name (told (Some store) name) from now position answer tells
-
--- and of one that stands there
-pub step_exactly_at : (name : BlobName) (held : Option Store) (old : Option Position) (from : Position) (now : Option Position) (answer : Result (Unit {0}) BlobFault) → old ≡ Some from → IsPosition from
-    → IfSome held (λ store. TellsStep name (told held name) from now answer) → IfSome held (λ store. IfSome old (λ from. StepsExactly name (told held name) from now answer))
-step_exactly_at name held old from now answer is position tells =
-    subst (λ (o : Option Position). IfSome held (λ store. IfSome o (λ from. StepsExactly name (told held name) from now answer))) (sym is) (all_steps_exactly name held (Some from) now answer position tells)

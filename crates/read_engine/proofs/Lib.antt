@@ -1,13 +1,15 @@
 mod Answered
+mod ConsumerIndexes
+mod ConsumerSteps
+mod Consumers
 mod Counted
 mod Exactly
 mod Follow
 mod Left
 mod LoadedOnce
 mod Loads
+mod Patches
 mod Places
 mod SteppedOnce
 mod StepsTold
-mod Patches
 mod Taken
-mod Walkers

@@ -19,7 +19,7 @@ use Rattle.read_engine.specs.Kept.{IsKept}
 use Rattle.read_engine.specs.Position.{IsIndexOf, IsPosition, Position}
 use Rattle.state_moves.specs.Halves.{current_halves}
 use Rattle.read_engine.specs.Standing.{IsStanding, position_of}
-use Rattle.read_engine.specs.Taking.{RefusesLoad, TellsStand, loaded_position}
+use Rattle.read_engine.specs.Taking.{RefusesLoad, TellsLoaded, loaded_position}
 use Rattle.state_moves.proofs.Unchanged.{all_fit_none, same_table}
 
 -- ---- where a load stands
@@ -73,19 +73,19 @@ module _ (name : BlobName) where
   refused (Some blob) _ tells = absurd tells
 
   -- a snapshot that is refused
-  pub refused_told : (held : Option Store) (found : BlobFault) (answer : Result Position BlobFault) → answer ≡ Err found → IfSome held (λ store. TellsSnapshot name (told held name) (Err found))
-      → IfSome held (λ store. TellsStand name (told held name) answer)
+  pub refused_told : (held : Option Store) (found : BlobFault) (answer : Result (Option Position) BlobFault) → answer ≡ Err found → IfSome held (λ store. TellsSnapshot name (told held name) (Err found))
+      → IfSome held (λ store. TellsLoaded name (told held name) answer)
   refused_told None found answer is tells = tt
-  refused_told (Some store) found answer is tells = subst (TellsStand name (told (Some store) name)) (sym is) (refused (told (Some store) name) found tells)
+  refused_told (Some store) found answer is tells = subst (TellsLoaded name (told (Some store) name)) (sym is) (refused (told (Some store) name) found tells)
 
-  loads : (content : Option (List ℕ)) (loaded : Loaded) (position : Position) → position ≡ loaded_position loaded.header.destination (record { model = loaded.model; states = loaded.states }) → TellsSnapshot name content (Ok loaded)
-      → TellsStand name content (Ok position)
-  loads None loaded position is (inl other) = absurd cc
-  loads None loaded position is (inr free) = absurd free
-  loads (Some blob) loaded position is accepted = subst (λ (p : Position). TellsStand name (Some blob) (Ok p)) (sym is) (blob, refl, (loaded.header, accepted, refl, refl, refl))
+  loads : (content : Option (List ℕ)) (loaded : Loaded) (now : Option Position) → now ≡ Some (loaded_position loaded.header.destination (record { model = loaded.model; states = loaded.states })) → TellsSnapshot name content (Ok loaded)
+      → TellsLoaded name content (Ok now)
+  loads None loaded now is (inl other) = absurd cc
+  loads None loaded now is (inr free) = absurd free
+  loads (Some blob) loaded now is accepted = (blob, loaded_position loaded.header.destination (record { model = loaded.model; states = loaded.states }), refl, is, (loaded.header, accepted, refl, refl, refl))
 
   -- a snapshot that is loaded
-  pub loaded_told : (held : Option Store) (loaded : Loaded) (position : Position) → position ≡ loaded_position loaded.header.destination (record { model = loaded.model; states = loaded.states })
-      → IfSome held (λ store. TellsSnapshot name (told held name) (Ok loaded)) → IfSome held (λ store. TellsStand name (told held name) (Ok position))
-  loaded_told None loaded position is tells = tt
-  loaded_told (Some store) loaded position is tells = loads (told (Some store) name) loaded position is tells
+  pub loaded_told : (held : Option Store) (loaded : Loaded) (now : Option Position) → now ≡ Some (loaded_position loaded.header.destination (record { model = loaded.model; states = loaded.states }))
+      → IfSome held (λ store. TellsSnapshot name (told held name) (Ok loaded)) → IfSome held (λ store. TellsLoaded name (told held name) (Ok now))
+  loaded_told None loaded now is tells = tt
+  loaded_told (Some store) loaded now is tells = loads (told (Some store) name) loaded now is tells

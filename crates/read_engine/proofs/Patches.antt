@@ -1,5 +1,5 @@
 -- The parts of a patch and the types that they move: which patch a step took.
-use Rattle.std.proofs.Common.{◌≡◌, ◌<◌, ◌≤◌, ℕ, zero, suc, List, [], ◌∷◌, length, get_or, map, Option, Some, refl, sym, ap, ◌∙◌, subst, arith}
+use Rattle.std.proofs.Common.{◌≡◌, ◌<◌, ◌≤◌, ℕ, zero, suc, Bool, false, true, List, [], ◌∷◌, length, get_or, map, Option, Some, refl, sym, ap, ◌∙◌, subst, arith}
 use Rattle.std.specs.Prelude.{All, slice_get, unwrap_or}
 use Rattle.std.specs.List.{AllZip}
 use Rattle.std.specs.Ordering.{nat_cmp}
@@ -33,7 +33,7 @@ use Rattle.state_moves.specs.Moving.{AreMoved, MovesState, TypeIs, coming_half, 
 use Rattle.state_moves.specs.Halves.{current_halves}
 use Rattle.read_engine.specs.Taking.{layout_at}
 use Rattle.delta_blob.proofs.Indexed.{one_index, one_name}
-use Rattle.state_moves.proofs.Changed.{comes_moved, coming_long, state_there, zip_from}
+use Rattle.state_moves.proofs.Changed.{comes_named, comes_unnamed, coming_long, state_there, zip_from}
 use Rattle.state_moves.proofs.Comings.{coming_at, half_at}
 use Rattle.state_moves.proofs.Tables.{current_at}
 
@@ -59,13 +59,13 @@ some_schema = record { name = []; shape = Shape.Set [] }
 
 -- ---- what a step took
 
-module _ (schemas : List Schema) (mid : List State) (past : List PastPart) (named : List PatchPart) (parts : List DeltaPart) (apart : IsKept schemas DuplicateName) (of : AreOfModel schemas parts named)
-    (moved : AreMoved named mid past) (are : map (λ (s : State). s.schema) mid ≡ schemas) where
+module _ (schemas : List Schema) (mid : List State) (flags : List Bool) (past : List PastPart) (named : List PatchPart) (parts : List DeltaPart) (apart : IsKept schemas DuplicateName) (of : AreOfModel schemas parts named)
+    (moved : AreMoved named mid flags past) (are : map (λ (s : State). s.schema) mid ≡ schemas) where
   abbrev pub old : Table
   old = table_of (current_halves mid)
 
   abbrev pub new : Table
-  new = table_of (coming_halves mid past)
+  new = table_of (coming_halves mid flags)
 
   -- no two parts are of one type
   pub one_place : (i j : ℕ) (a b : PatchPart) → slice_get named i ≡ Some a → slice_get named j ≡ Some b → a.type_index ≡ b.type_index → i ≡ j
@@ -85,32 +85,65 @@ module _ (schemas : List Schema) (mid : List State) (past : List PastPart) (name
     pub holds : HoldsTable new patch.type_index patch
     pub moves : MovesType old new patch.type_index patch
     pub within : IsTypeWithin new patch.type_index patch
-    pub layout : layout_at (coming_halves mid past) patch.type_index ≡ Some patch.layout
+    pub layout : layout_at (coming_halves mid flags) patch.type_index ≡ Some patch.layout
+
+  -- whether a type is named, and what is kept of it
+  module _ (t : ℕ) (state : State) (there : slice_get mid t ≡ Some state) where
+    flag_there : slice_get flags t ≡ Some (get_or flags t false)
+    flag_there = slice_get-get_or flags t false (omega (arith, slice_get_within mid t state there, moved.named_long))
+
+    type_is : TypeIs named t state (get_or flags t false) (get_or past t no_part)
+    type_is = moved.types t state (get_or flags t false) (get_or past t no_part) there flag_there (slice_get-get_or past t no_part (omega (arith, slice_get_within mid t state there, moved.past_long)))
+
+  -- What a part did to a type.
+  pub record MovedBy (n : PatchPart) (d : DeltaPart) : Type 0 where
+    pub state : State
+    pub flag : Bool
+    pub part : PastPart
+    pub there : slice_get mid n.type_index ≡ Some state
+    pub flagged : slice_get flags n.type_index ≡ Some flag
+    pub is_named : flag ≡ true
+    pub schema : state.schema ≡ d.schema
+    pub moves : MovesState n.section state part
 
   -- the type that a part moved
-  moved_by : (k : ℕ) (d : DeltaPart) (n : PatchPart) → slice_get named k ≡ Some n → IsOfModel schemas d n → (state : State) × (part : PastPart) × (slice_get mid n.type_index ≡ Some state) × (slice_get past n.type_index ≡ Some part) × (state.schema ≡ d.schema) × MovesState n.section state part
+  moved_by : (k : ℕ) (d : DeltaPart) (n : PatchPart) → slice_get named k ≡ Some n → IsOfModel schemas d n → MovedBy n d
   moved_by k d n at is =
       let (state, there, schema) = state_there mid schemas n.type_index d.schema are is.means.equal in
-      let kept = slice_get-get_or past n.type_index no_part (omega (arith, slice_get_within mid n.type_index state there, moved.long)) in
-      (state, get_or past n.type_index no_part, there, kept, schema, by_type state (get_or past n.type_index no_part) (moved.types n.type_index state (get_or past n.type_index no_part) there kept))
+      by_type state (get_or flags n.type_index false) (get_or past n.type_index no_part) there (flag_there n.type_index state there) schema (type_is n.type_index state there)
     where
-      by_type : (state : State) (part : PastPart) → TypeIs named n.type_index state part → MovesState n.section state part
-      by_type state part (TypeIs.Unnamed none all) =
+      by_type : (state : State) (flag : Bool) (part : PastPart) → slice_get mid n.type_index ≡ Some state → slice_get flags n.type_index ≡ Some flag → state.schema ≡ d.schema → TypeIs named n.type_index state flag part → MovedBy n d
+      by_type state flag part there flagged schema (TypeIs.Unnamed unnamed none all) =
           absurd (subst (λ (p : PatchPart). p.type_index ≡ n.type_index → ⊥) (get_or_from_slice_get named k n n at) (all k n (slice_get_within named k n at)) refl)
-      by_type state part (TypeIs.Named place other at_place same moves) =
+      by_type state flag part there flagged schema (TypeIs.Named is_named place other at_place same moves) =
           let here : place ≡ k = one_place place k other n at_place at same in
           let alike : Some other ≡ Some n = sym at_place ∙ ap (slice_get named) here ∙ at in
           let is_same : other ≡ n = cc in
-          subst (λ (p : PatchPart). MovesState p.section state part) is_same moves
+          record {
+            state = state;
+            flag = flag;
+            part = part;
+            there = there;
+            flagged = flagged;
+            is_named = is_named;
+            schema = schema;
+            moves = subst (λ (p : PatchPart). MovesState p.section state part) is_same moves;
+          }
 
   patch_at : (k : ℕ) (d : DeltaPart) (n : PatchPart) → slice_get parts k ≡ Some d → slice_get named k ≡ Some n → IsOfModel schemas d n → (patch : TypePatch) × PatchOf d n.type_index patch
   patch_at k d n at_d at is =
-      let (state, part, there, kept, schema, moves) = moved_by k d n at is in
+      let by : MovedBy n d = moved_by k d n at is in
+      let state : State = by.state in
+      let flag : Bool = by.flag in
+      let there : slice_get mid n.type_index ≡ Some state = by.there in
+      let flagged : slice_get flags n.type_index ≡ Some flag = by.flagged in
+      let schema : state.schema ≡ d.schema = by.schema in
+      let moves : MovesState n.section state by.part = by.moves in
       let rows = moves.moved.added in
       let patch : TypePatch = record { type_index = n.type_index; schema = state.schema; layout = patch_layout n.section; removed = n.section.removed; added = n.section.added; rows = rows } in
       let was : rows_in old n.type_index ≡ state.current.rows = rows_at old n.type_index state.current.rows (current_at mid n.type_index state there) in
-      let half : coming_half state part ≡ state.other = comes_moved n.section state part moves in
-      let is_new : rows_in new n.type_index ≡ state.other.rows = rows_at new n.type_index (coming_half state part).rows (coming_at mid past n.type_index state part there kept) ∙ ap (λ (h : Half). h.rows) half in
+      let half : coming_half state flag ≡ state.other = comes_named state flag by.is_named in
+      let is_new : rows_in new n.type_index ≡ state.other.rows = rows_at new n.type_index (coming_half state flag).rows (coming_at mid flags n.type_index state flag there flagged) ∙ ap (λ (h : Half). h.rows) half in
       let within : KeepsLimits state.schema.shape (patch_layout n.section) (rows_in new n.type_index) = subst (KeepsLimits state.schema.shape (patch_layout n.section)) (sym is_new) moves.moved.within in (
         patch,
         record {
@@ -130,7 +163,7 @@ module _ (schemas : List Schema) (mid : List State) (past : List PastPart) (name
             ordinals = subst (λ s. places_of s.max ≤ number_of_limit Ordinals) (sym is.section) (counts k d at_d);
             kept = within;
           };
-          layout = ap (option_map (λ (h : Half). h.layout)) (half_at mid past n.type_index state part there kept) ∙ ap (λ (h : Half). Some h.layout) half ∙ ap Some moves.layout;
+          layout = ap (option_map (λ (h : Half). h.layout)) (half_at mid flags n.type_index state flag there flagged) ∙ ap (λ (h : Half). Some h.layout) half ∙ ap Some moves.layout;
         },
       )
     where
@@ -195,21 +228,20 @@ module _ (schemas : List Schema) (mid : List State) (past : List PastPart) (name
   each_of_patch Q gives = each_named Q gives parts named all_chosen
 
   -- a type that the patch does not name keeps its half
-  pub half_stays : (t : ℕ) → t < length schemas → IsUnnamed patch t → slice_get (coming_halves mid past) t ≡ slice_get (current_halves mid) t
+  pub half_stays : (t : ℕ) → t < length schemas → IsUnnamed patch t → slice_get (coming_halves mid flags) t ≡ slice_get (current_halves mid) t
   unfolding patch
   half_stays t inside none =
       let (state, there, same) = state_there mid schemas t (get_or schemas t some_schema) are (slice_get-get_or schemas t some_schema inside) in
-      let kept = slice_get-get_or past t no_part (omega (arith, slice_get_within mid t state there, moved.long)) in
-      half_at mid past t state (get_or past t no_part) there kept
-      ∙ ap Some (by_type state (get_or past t no_part) (moved.types t state (get_or past t no_part) there kept))
+      half_at mid flags t state (get_or flags t false) there (flag_there t state there)
+      ∙ ap Some (by_type state (get_or flags t false) (get_or past t no_part) (type_is t state there))
       ∙ sym (slice_get-map (λ (s : State). s.current) mid t ∙ ap (option_map (λ (s : State). s.current)) there)
     where
       none_of : All (λ n. n.type_index ≡ t → ⊥) named
       none_of = none_named t parts named all_chosen none
 
-      by_type : (state : State) (part : PastPart) → TypeIs named t state part → coming_half state part ≡ state.current
-      by_type state part (TypeIs.Unnamed is all) = ap (coming_half state) is
-      by_type state part (TypeIs.Named place n at same moves) =
+      by_type : (state : State) (flag : Bool) (part : PastPart) → TypeIs named t state flag part → coming_half state flag ≡ state.current
+      by_type state flag part (TypeIs.Unnamed unnamed none all) = comes_unnamed state flag unnamed
+      by_type state flag part (TypeIs.Named is_named place n at same moves) =
           absurd (subst (λ (p : PatchPart). p.type_index ≡ t → ⊥) (get_or_from_slice_get named place n n at) (none_of place n (slice_get_within named place n at)) same)
 
   old_long : length old ≡ length schemas
@@ -217,19 +249,19 @@ module _ (schemas : List Schema) (mid : List State) (past : List PastPart) (name
 
   pub moves_patch : Moved patch old new
   moves_patch = record {
-    types = coming_long mid past moved.long ∙ sym (length-map mid (λ (s : State). s.current)) ∙ sym (length-map (current_halves mid) (λ (h : Half). h.rows));
+    types = coming_long mid flags moved.named_long ∙ sym (length-map mid (λ (s : State). s.current)) ∙ sym (length-map (current_halves mid) (λ (h : Half). h.rows));
     named = each_of_patch (MovesType old new) (λ d t p of_part. of_part.moves);
     others = λ t inside none. ap (λ (o : Option RowMap). unwrap_or o (empty {R = nat_cmp}))
-        (slice_get-map (λ (h : Half). h.rows) (coming_halves mid past) t ∙ ap (option_map (λ (h : Half). h.rows)) (half_stays t (subst (λ (n : ℕ). t < n) old_long inside) none) ∙ sym (slice_get-map (λ (h : Half). h.rows) (current_halves mid) t));
+        (slice_get-map (λ (h : Half). h.rows) (coming_halves mid flags) t ∙ ap (option_map (λ (h : Half). h.rows)) (half_stays t (subst (λ (n : ℕ). t < n) old_long inside) none) ∙ sym (slice_get-map (λ (h : Half). h.rows) (current_halves mid) t));
   }
 
   pub within_patch : Within new patch
   within_patch = each_of_patch (IsTypeWithin new) (λ d t p of_part. of_part.within)
 
-  pub layouts_of_patch : EachNamed patch (λ t p. layout_at (coming_halves mid past) t ≡ Some p.layout)
-  layouts_of_patch = each_of_patch (λ t p. layout_at (coming_halves mid past) t ≡ Some p.layout) (λ d t p of_part. of_part.layout)
+  pub layouts_of_patch : EachNamed patch (λ t p. layout_at (coming_halves mid flags) t ≡ Some p.layout)
+  layouts_of_patch = each_of_patch (λ t p. layout_at (coming_halves mid flags) t ≡ Some p.layout) (λ d t p of_part. of_part.layout)
 
-  pub other_layouts : (t : ℕ) → t < length schemas → IsUnnamed patch t → layout_at (coming_halves mid past) t ≡ layout_at (current_halves mid) t
+  pub other_layouts : (t : ℕ) → t < length schemas → IsUnnamed patch t → layout_at (coming_halves mid flags) t ≡ layout_at (current_halves mid) t
   other_layouts t inside none = ap (option_map (λ (h : Half). h.layout)) (half_stays t inside none)
 
   pub fits_patch : IsClosed schemas new → Fits schemas old patch

@@ -1,8 +1,7 @@
 -- Where an index stands among those that are kept, and when two paths are the same.
-use Rattle.std.proofs.Common.{◌≡◌, ◌<◌, ◌+◌, inl, inr, ℕ, suc, List, [], ◌∷◌, length, map, Option, Some, None, refl, sym, ap, ◌∙◌, arith}
+use Rattle.std.proofs.Common.{◌≡◌, ◌<◌, ℕ, suc, List, [], ◌∷◌, length, map, Option, Some, None, refl, sym, ap, ◌∙◌, arith}
 use Rattle.std.specs.Prelude.{Contains, slice_get}
 use Rattle.std.specs.Option.{option_map}
-use Rattle.std.proofs.lemmas.Bool.{cases_eq}
 use Rattle.std.proofs.lemmas.Option.{slice_get-get_or, slice_get-map, slice_get_within}
 use Rattle.key_index.specs.Indexed.{Indexed}
 use Rattle.read_engine.specs.Kept.{index_kept}
@@ -11,15 +10,6 @@ use Rattle.read_engine.specs.Position.{Index}
 -- None of the first ones is the index.
 abbrev pub NoneBelow : List Indexed → Index → ℕ → Type 0
 NoneBelow indexes index n = (k : ℕ) (kept : Indexed) → k < n → slice_get indexes k ≡ Some kept → index_kept kept ≡ index → ⊥
-
-pub none_more : (indexes : List Indexed) (index : Index) (n : ℕ) (kept : Indexed) → NoneBelow indexes index n → slice_get indexes n ≡ Some kept → (index_kept kept ≡ index → ⊥) → NoneBelow indexes index (n + 1)
-none_more indexes index n kept none there other k found below at same = elim (cases_eq k n) [
-  | inl here ↦
-      let one : Some found ≡ Some kept = sym at ∙ ap (slice_get indexes) here ∙ there in
-      let is : found ≡ kept = cc in
-      other (sym (ap index_kept is) ∙ same)
-  | inr apart ↦ none k found (omega (arith, below, apart)) at same
-]
 
 pub none_there : (indexes : List Indexed) (index : Index) → NoneBelow indexes index (length indexes) → Contains (map index_kept indexes) index → ⊥
 none_there indexes index none (k, inside, at) = of_place (slice_get indexes k) refl
@@ -32,9 +22,6 @@ none_there indexes index none (k, inside, at) = of_place (slice_get indexes k) r
     of_place (Some kept) is =
         let one : Some (index_kept kept) ≡ Some index = sym (slice_get-map index_kept indexes k ∙ ap (option_map index_kept) is) ∙ there in
         none k kept (slice_get_within indexes k kept is) is cc
-
-pub place_there : (indexes : List Indexed) (index : Index) (n : ℕ) (kept : Indexed) → slice_get indexes n ≡ Some kept → index_kept kept ≡ index → slice_get (map index_kept indexes) n ≡ Some index
-place_there indexes index n kept is same = slice_get-map index_kept indexes n ∙ ap (option_map index_kept) is ∙ ap Some same
 
 -- lists that are the same at each place
 pub same_lists : {A : Type 0} (xs ys : List A) → length xs ≡ length ys → ((k : ℕ) → k < length xs → slice_get xs k ≡ slice_get ys k) → xs ≡ ys

@@ -1,5 +1,5 @@
 -- What a step tells of a blob: that it leads to a position, or that it leads to none.
-use Rattle.std.proofs.Common.{◌≡◌, ◌<◌, ◌≤◌, ◌⊎◌, inl, inr, ℕ, ℤ, zero, suc, List, [], ◌∷◌, length, get_or, map, Bool, true, false, Option, Some, None, Result, Ok, Err, IfErr, IfSome, refl, sym, ap, ◌∙◌, subst, arith, eqb}
+use Rattle.std.proofs.Common.{◌≡◌, ◌<◌, ◌≤◌, ◌⊎◌, inl, inr, ℕ, ℤ, zero, suc, List, [], ◌∷◌, length, get_or, map, Bool, true, false, Option, Some, None, Result, Ok, Err, IfSome, refl, sym, ap, ◌∙◌, subst, arith, eqb}
 use Rattle.std.specs.Prelude.{All, Contains, slice_get}
 use Rattle.std.specs.List.{AllZip, list_any}
 use Rattle.std.specs.Cmp.{nat_cmp_total}
@@ -37,7 +37,7 @@ use Rattle.delta_blob.specs.Fits.{Fits, FitsTable, HoldsTable}
 use Rattle.delta_blob.specs.Moved.{EachNamed, IsUnnamed, Moved, MovesType}
 use Rattle.delta_blob.specs.Parts.{body}
 use Rattle.delta_blob.specs.Patch.{PartIs, TypePatch}
-use Rattle.delta_blob.specs.Reads.{HasNoPatch, HasOtherTypes, IsBehind, IsCountLimit, IsDeltaFault, IsOfModel, IsPatchAt, KeepsCounts, TellsDelta}
+use Rattle.delta_blob.specs.Reads.{HasNoPatch, HasOtherTypes, IsBehind, IsCountLimit, IsOfModel, IsPatchAt, KeepsCounts, TellsDelta}
 use Rattle.delta_blob.specs.Within.{IsTypeWithin}
 use Rattle.state_moves.specs.Past.{PastPart, no_part}
 use Rattle.state_moves.specs.declared.fault.MoveFault.{MoveFault}
@@ -48,8 +48,8 @@ use Rattle.read_engine.specs.Faults.{step_fault}
 use Rattle.read_engine.specs.Taken.{CountsTaken, IsNotTaken, IsTaken}
 use Rattle.read_engine.specs.Position.{Position, IsPosition, rows_now}
 use Rattle.state_moves.specs.Halves.{current_halves}
-use Rattle.read_engine.specs.Taking.{CountsPart, IsStepFault, IsUntaken, RefusesStep, StepsBy, TellsStep, layout_at}
-use Rattle.state_moves.proofs.Changed.{any_place, comes_moved, coming_long, state_there}
+use Rattle.read_engine.specs.Taking.{CountsPart, IsUntaken, RefusesStep, StepsBy, TellsStep, layout_at}
+use Rattle.state_moves.proofs.Changed.{any_place, comes_named, comes_unnamed, coming_long, state_there}
 use Rattle.state_moves.proofs.Comings.{coming_at}
 use Rattle.read_engine.proofs.Patches as patches
 use Rattle.read_engine.proofs.Patches.{rows_at, zip_at}
@@ -73,15 +73,15 @@ module _ (blob : List ℕ) (n : ℕ) (head : Header) (named : List PatchPart) (f
   are = taken.moves.stays.schemas ∙ taken.at.schemas
 
   abbrev pub patch : List TypePatch
-  patch = patches.patch from.schemas mid taken.past named read.0 apart read.2 taken.moves.moved are
+  patch = patches.patch from.schemas mid taken.named taken.past named read.0 apart read.2 taken.moves.moved are
 
   old_is : table_of (current_halves mid) ≡ rows_now from
   old_is = ap table_of (taken.moves.stays.halves ∙ taken.at.halves)
 
-  lengths : length (coming_halves mid taken.past) ≡ length from.halves
+  lengths : length (coming_halves mid taken.named) ≡ length from.halves
   lengths =
-      sym (length-map (coming_halves mid taken.past) (λ (h : Half). h.rows))
-      ∙ coming_long mid taken.past taken.moves.moved.long
+      sym (length-map (coming_halves mid taken.named) (λ (h : Half). h.rows))
+      ∙ coming_long mid taken.named taken.moves.moved.named_long
       ∙ sym (length-map mid (λ (s : State). s.current))
       ∙ ap length (taken.moves.stays.halves ∙ taken.at.halves)
 
@@ -94,18 +94,18 @@ module _ (blob : List ℕ) (n : ℕ) (head : Header) (named : List PatchPart) (f
       items = record { items = joined blob head n read.0 begins read.1; once = read.2.once };
       from_tag = origin;
       to_tag = refl;
-      types = patches.is_patch from.schemas mid taken.past named read.0 apart read.2 taken.moves.moved are;
+      types = patches.is_patch from.schemas mid taken.named taken.past named read.0 apart read.2 taken.moves.moved are;
     };
-    fits = subst (λ (t : Table). Fits from.schemas t patch) old_is (patches.fits_patch from.schemas mid taken.past named read.0 apart read.2 taken.moves.moved are taken.moves.closed);
-    moved = subst (λ (t : Table). Moved patch t (table_of (coming_halves mid taken.past))) old_is (patches.moves_patch from.schemas mid taken.past named read.0 apart read.2 taken.moves.moved are);
-    within = patches.within_patch from.schemas mid taken.past named read.0 apart read.2 taken.moves.moved are;
+    fits = subst (λ (t : Table). Fits from.schemas t patch) old_is (patches.fits_patch from.schemas mid taken.named taken.past named read.0 apart read.2 taken.moves.moved are taken.moves.closed);
+    moved = subst (λ (t : Table). Moved patch t (table_of (coming_halves mid taken.named))) old_is (patches.moves_patch from.schemas mid taken.named taken.past named read.0 apart read.2 taken.moves.moved are);
+    within = patches.within_patch from.schemas mid taken.named taken.past named read.0 apart read.2 taken.moves.moved are;
     items = λ k d inside. (read.2.counts k d inside).items;
     short = short;
     model = refl;
     types = lengths;
-    layouts = patches.layouts_of_patch from.schemas mid taken.past named read.0 apart read.2 taken.moves.moved are;
+    layouts = patches.layouts_of_patch from.schemas mid taken.named taken.past named read.0 apart read.2 taken.moves.moved are;
     others = λ t inside none.
-        patches.other_layouts from.schemas mid taken.past named read.0 apart read.2 taken.moves.moved are t inside none
+        patches.other_layouts from.schemas mid taken.named taken.past named read.0 apart read.2 taken.moves.moved are t inside none
         ∙ ap (λ (hs : List Half). layout_at hs t) (taken.moves.stays.halves ∙ taken.at.halves);
     before = refl;
     indexes = refl;
@@ -260,14 +260,14 @@ module _ (blob : List ℕ) (n : ℕ) (head : Header) (named : List PatchPart) (f
       (subst (λ (r : RowMap). IsMovedBy state.schema.shape stuck.named.section r (rows_in steps.fits.moved t)) rows
       (subst (λ (s : Schema). IsMovedBy s.shape stuck.named.section (rows_in (rows_now from) t) (rows_in steps.fits.moved t)) (sym same) moves)))
 
-  module _ (once : OnceLaw) (mid : List State) (past : List PastPart) (moved : AreMoved named mid past) (are : map (λ (s : State). s.schema) mid ≡ from.schemas) (halves : current_halves mid ≡ from.halves) where
+  module _ (once : OnceLaw) (mid : List State) (flags : List Bool) (past : List PastPart) (moved : AreMoved named mid flags past) (are : map (λ (s : State). s.schema) mid ≡ from.schemas) (halves : current_halves mid ≡ from.halves) where
     old_rows : (t : ℕ) (state : State) → slice_get mid t ≡ Some state → rows_in (rows_now from) t ≡ state.current.rows
     old_rows t state there = ap (λ (hs : List Half). rows_in (table_of hs) t) (sym halves) ∙ rows_at (table_of (current_halves mid)) t state.current.rows (current_at mid t state there)
 
-    by_type : (t : ℕ) → t < length from.schemas → (state : State) (part : PastPart) → slice_get mid t ≡ Some state → TypeIs named t state part → rows_in steps.fits.moved t ≡ (coming_half state part).rows
-    by_type t inside state part there (TypeIs.Unnamed none all) =
-        steps.fits.moves.others t (subst (λ (n : ℕ). t < n) (sym position.rows.types) inside) (unnamed t all) ∙ old_rows t state there ∙ ap (λ (p : PastPart). (coming_half state p).rows) (sym none)
-    by_type t inside state part there (TypeIs.Named place by at same moves) =
+    by_type : (t : ℕ) → t < length from.schemas → (state : State) (flag : Bool) (part : PastPart) → slice_get mid t ≡ Some state → TypeIs named t state flag part → rows_in steps.fits.moved t ≡ (coming_half state flag).rows
+    by_type t inside state flag part there (TypeIs.Unnamed unflagged none all) =
+        steps.fits.moves.others t (subst (λ (n : ℕ). t < n) (sym position.rows.types) inside) (unnamed t all) ∙ old_rows t state there ∙ ap (λ (h : Half). h.rows) (sym (comes_unnamed state flag unflagged))
+    by_type t inside state flag part there (TypeIs.Named flagged place by at same moves) =
         let (schema, at_schema, theirs) = each_moves place by at in
         let (other, also, is_schema) = state_there mid from.schemas by.type_index schema are at_schema in
         let alike : Some other ≡ Some state = sym also ∙ ap (slice_get mid) same ∙ there in
@@ -278,31 +278,33 @@ module _ (blob : List ℕ) (n : ℕ) (head : Header) (named : List PatchPart) (f
         (subst (λ (s : Schema). IsMovedBy s.shape by.section (rows_in (rows_now from) t) (rows_in steps.fits.moved t)) shape
         (subst (λ (u : ℕ). IsMovedBy schema.shape by.section (rows_in (rows_now from) u) (rows_in steps.fits.moved u)) same theirs)) in
         once state.schema.shape by.section state.current.rows (rows_in steps.fits.moved t) state.other.rows theirs_here moves.moved
-        ∙ ap (λ (h : Half). h.rows) (sym (comes_moved by.section state part moves))
+        ∙ ap (λ (h : Half). h.rows) (sym (comes_named state flag flagged))
 
     long : length steps.fits.moved ≡ length from.schemas
     long = steps.fits.moves.types ∙ position.rows.types
 
-    same_table : steps.fits.moved ≡ table_of (coming_halves mid past)
-    same_table = same_tables steps.fits.moved (table_of (coming_halves mid past)) (long ∙ ap length (sym are) ∙ length-map mid (λ (s : State). s.schema) ∙ sym (coming_long mid past moved.long))
+    same_table : steps.fits.moved ≡ table_of (coming_halves mid flags)
+    same_table = same_tables steps.fits.moved (table_of (coming_halves mid flags)) (long ∙ ap length (sym are) ∙ length-map mid (λ (s : State). s.schema) ∙ sym (coming_long mid flags moved.named_long))
         (λ t inside.
         let within : t < length mid = omega (arith, inside, long, ap length are, length-map mid (λ (s : State). s.schema)) in
-        at_type t (omega (arith, inside, long)) (get_or mid t some_state) (get_or past t no_part) (slice_get-get_or mid t some_state within) (slice_get-get_or past t no_part (omega (arith, within, moved.long))))
+        at_type t (omega (arith, inside, long)) (get_or mid t some_state) (get_or flags t false) (get_or past t no_part) (slice_get-get_or mid t some_state within) (slice_get-get_or flags t false (omega (arith, within, moved.named_long)))
+        (slice_get-get_or past t no_part (omega (arith, within, moved.past_long))))
       where
         some_state : State
         some_state = record { schema = record { name = []; shape = Shape.Set [] }; current = empty_half; other = empty_half }
 
-        at_type : (t : ℕ) → t < length from.schemas → (state : State) (part : PastPart) → slice_get mid t ≡ Some state → slice_get past t ≡ Some part → rows_in steps.fits.moved t ≡ rows_in (table_of (coming_halves mid past)) t
-        at_type t inside state part there kept =
-            by_type t inside state part there (moved.types t state part there kept) ∙ sym (rows_at (table_of (coming_halves mid past)) t (coming_half state part).rows (coming_at mid past t state part there kept))
+        at_type : (t : ℕ) → t < length from.schemas → (state : State) (flag : Bool) (part : PastPart) → slice_get mid t ≡ Some state → slice_get flags t ≡ Some flag → slice_get past t ≡ Some part → rows_in steps.fits.moved t ≡ rows_in (table_of (coming_halves mid flags)) t
+        at_type t inside state flag part there flagged kept =
+            by_type t inside state flag part there (moved.types t state flag part there flagged kept)
+            ∙ sym (rows_at (table_of (coming_halves mid flags)) t (coming_half state flag).rows (coming_at mid flags t state flag there flagged))
 
-    never_open : (IsClosed from.schemas (table_of (coming_halves mid past)) → ⊥) → ⊥
+    never_open : (IsClosed from.schemas (table_of (coming_halves mid flags)) → ⊥) → ⊥
     never_open open_rows = open_rows (subst (IsClosed from.schemas) same_table steps.fits.closed)
 
   pub never_taken : OnceLaw → IsNotTaken named from → ⊥
   never_taken once (states, at, RefusesParts.Stuck stuck) = never_stuck states at.schemas at.halves stuck
-  never_taken once (states, at, RefusesParts.Open mid past moved stays open_rows) =
-      never_open once mid past moved (stays.schemas ∙ at.schemas) (stays.halves ∙ at.halves) open_rows
+  never_taken once (states, at, RefusesParts.Open mid flags past moved stays open_rows) =
+      never_open once mid flags past moved (stays.schemas ∙ at.schemas) (stays.halves ∙ at.halves) open_rows
 
 -- ---- a delta that is no patch of the model
 
@@ -334,12 +336,12 @@ module _ (blob : List ℕ) (n : ℕ) (head : Header) (from to : Position) (begin
 
 -- ---- what is told of what a name holds
 
-count_limit : (limit : Limit) → IsCountLimit limit → IsTypeLimit limit
+pub count_limit : (limit : Limit) → IsCountLimit limit → IsTypeLimit limit
 count_limit Ordinals of = tt
 count_limit Items of = tt
 count_limit _ of = absurd of
 
-move_limit : (limit : Limit) → IsMoveLimit limit → IsTypeLimit limit
+pub move_limit : (limit : Limit) → IsMoveLimit limit → IsTypeLimit limit
 move_limit Words of = tt
 move_limit Bytes of = tt
 move_limit _ of = absurd of
@@ -425,26 +427,3 @@ module _ (name : BlobName) (from : Position) where
     part_counted None before after tells counts = tt
     part_counted (Some store) before after tells (inl same) = inl same
     part_counted (Some store) before after tells (inr (to, taken, most)) = let (blob, is, read) = there (told (Some store) name) tells in inr (blob, to, is, steps_along blob to read taken, most)
-
--- ---- which faults come
-
-read_kind : (name : BlobName) (tag : ℤ) (found : BlobFault) → IsDeltaFault name tag found → IsStepFault name tag found
-read_kind name tag (fault.NoBlob other) kind = kind
-read_kind name tag (fault.Large limit) (inl whole) = inl whole
-read_kind name tag (fault.Large limit) (inr of) = inr (count_limit limit of)
-read_kind name tag (fault.OtherOrigin found at) kind = kind
-read_kind name tag (fault.BadRow place why of ordinal) kind = absurd kind
-read_kind name tag (fault.Bad place why) kind = tt
-read_kind name tag (fault.OtherModel of) kind = tt
-read_kind name tag fault.Store kind = tt
-read_kind name tag fault.Memory kind = tt
-
--- the faults of the delta
-pub delta_kind : {T : Type 0} (name : BlobName) (tag : ℤ) (found : BlobFault) (answer : Result T BlobFault) → answer ≡ Err found → IsDeltaFault name tag found → IfErr answer (IsStepFault name tag)
-delta_kind name tag found answer is kind = subst (λ a. IfErr a (IsStepFault name tag)) (sym is) (read_kind name tag found kind)
-
--- the faults of the move
-pub moved_kind : (name : BlobName) (tag : ℤ) (size : ℕ) (Fact : Type 0) (moved : MoveFault) → TellsRefusal Fact moved → IsStepFault name tag (step_fault size moved)
-moved_kind name tag size Fact (move_fault.Refused why) refuses = tt
-moved_kind name tag size Fact (move_fault.Large limit) (of, refuses) = inr (move_limit limit of)
-moved_kind name tag size Fact move_fault.Memory refuses = tt

@@ -1,5 +1,5 @@
 -- What a step takes and leaves.
-use Rattle.std.proofs.Common.{◌≡◌, ◌≤◌, ◌<◌, ◌+◌, ◌⊎◌, inl, inr, ℕ, ℤ, List, length, map, Result, Ok, Err, refl, sym, ap, ◌∙◌, subst, arith}
+use Rattle.std.proofs.Common.{◌≡◌, ◌≤◌, ◌<◌, ◌+◌, ◌⊎◌, inl, inr, ℕ, ℤ, Bool, List, length, map, Result, Ok, Err, refl, sym, ap, ◌∙◌, subst, arith}
 use Rattle.std.specs.Prelude.{All, OnErr, sum_by}
 use Rattle.std.specs.List.{AllZip}
 use Rattle.schema_model.specs.declared.schema.Schema.{Schema}
@@ -30,11 +30,11 @@ on_err (Err e) P p = p
 -- ---- before the moves
 
 -- the rows that come follow each index
-pub all_ready : KeyLaw → (schemas : List Schema) (parts : List PatchPart) (before states : List State) (past : List PastPart) → MovesParts schemas parts before states past
+pub all_ready : KeyLaw → (schemas : List Schema) (parts : List PatchPart) (before states : List State) (named : List Bool) (past : List PastPart) → MovesParts schemas parts before states named past
     → IsTableOf schemas (table_of (current_halves before)) → IsClosed schemas (table_of (current_halves before))
-    → (indexes : List Indexed) → All (IsKept schemas (table_of (current_halves before))) indexes → All (FollowsPart schemas (table_of (coming_halves states past)) past) indexes
-all_ready law schemas parts before states past moves was closed indexes kept =
-    all_follow law schemas (table_of (current_halves before)) (table_of (coming_halves states past)) past moves.fits moves.was was moves.coming.fits closed moves.closed indexes kept
+    → (indexes : List Indexed) → All (IsKept schemas (table_of (current_halves before))) indexes → All (FollowsPart schemas (table_of (coming_halves states named)) past) indexes
+all_ready law schemas parts before states named past moves was closed indexes kept =
+    all_follow law schemas (table_of (current_halves before)) (table_of (coming_halves states named)) past moves.fits moves.was was moves.coming.fits closed moves.closed indexes kept
 
 -- where it stands if the current halves stay
 pub stands_still : (tag : ℤ) (schemas : List Schema) (before states : List State) (past : List PastPart) (indexes : List Indexed) → IsStanding tag schemas before past indexes → StaysCurrent before states → IsStanding tag schemas states past indexes
@@ -51,7 +51,7 @@ stands_still tag schemas before states past indexes stands stays =
 
 module _ (tag other : ℤ) (schemas : List Schema) (parts : List PatchPart) (before after : List State) (kept past : List PastPart) (indexes moved : List Indexed) (stands : IsStanding other schemas before kept indexes) (takes : TakesParts schemas parts before after past)
     (same : map index_kept moved ≡ map index_kept indexes) (follow : All (IsKept schemas (table_of (current_halves after))) moved) where
-  here : table_of (current_halves after) ≡ table_of (coming_halves takes.mid past)
+  here : table_of (current_halves after) ≡ table_of (coming_halves takes.mid takes.named)
   here = ap table_of takes.halves
 
   before_is : table_before (table_of (current_halves after)) past ≡ table_of (current_halves before)
@@ -77,6 +77,7 @@ module _ (tag other : ℤ) (schemas : List Schema) (parts : List PatchPart) (bef
   is_taken from view = subst (λ (p : Position). IsTaken tag parts p (position_of tag schemas after past moved)) view record {
     before = before;
     mid = takes.mid;
+    named = takes.named;
     past = past;
     at = record { schemas = stands.named; halves = refl };
     moves = takes.moves;
@@ -101,7 +102,7 @@ module _ (tag other : ℤ) (schemas : List Schema) (parts : List PatchPart) (bef
     (reads : ReadsSome schemas parts before indexes was is) where
   -- where the step would have led
   abbrev pub goes_to : Position
-  goes_to = record { tag = tag; schemas = schemas; halves = coming_halves reads.mid reads.past; before = table_of (current_halves before); indexes = map index_kept indexes }
+  goes_to = record { tag = tag; schemas = schemas; halves = coming_halves reads.mid reads.named; before = table_of (current_halves before); indexes = map index_kept indexes }
 
   inside : All (λ (kept : Indexed). kept.type_index < length (rows_now goes_to)) indexes
   inside k d within = let known = (stands.indexes k d within).of.type_there in omega (arith, known, reads.moves.coming.fits.types)
@@ -113,6 +114,7 @@ module _ (tag other : ℤ) (schemas : List Schema) (parts : List PatchPart) (bef
     record {
       before = before;
       mid = reads.mid;
+      named = reads.named;
       past = reads.past;
       at = record { schemas = stands.named; halves = refl };
       moves = reads.moves;

@@ -1,6 +1,7 @@
--- What a consumer that has a state keeps of it: the states of the model's types, what the last step changed of each, and its indexes.
-use Rattle.std.specs.Prelude.{◌≡◌, ℤ, List, All, map}
+-- What a consumer keeps: a tag where it has a state, the states of the model's types, what the last step changed of each, and the indexes.
+use Rattle.std.specs.Prelude.{◌≡◌, ℤ, List, [], Option, None, Some, All, map}
 use Rattle.std.specs.List.{AllZip}
+use Rattle.std.specs.Option.{option_map}
 use Rattle.schema_model.specs.declared.schema.Schema.{Schema}
 use Rattle.type_state.specs.State.{State}
 use Rattle.type_state.specs.Views.{table_of}
@@ -10,7 +11,7 @@ use Rattle.state_moves.specs.Past.{FitsPast, PastPart, table_before}
 use Rattle.read_engine.specs.Kept.{IsKept, index_kept}
 use Rattle.read_engine.specs.Position.{Position, IsPosition}
 
--- where it stands
+-- the position of a consumer that has a state
 abbrev pub position_of : ℤ → List Schema → List State → List PastPart → List Indexed → Position
 position_of tag schemas states past kept = record {
   tag = tag;
@@ -27,3 +28,19 @@ pub record IsStanding (tag : ℤ) (schemas : List Schema) (states : List State) 
   pub fits : AllZip FitsPast (table_of (current_halves states)) past
   pub position : IsPosition (position_of tag schemas states past kept)
   pub indexes : All (IsKept schemas (table_of (current_halves states))) kept
+
+-- Where a consumer stands that keeps this: nowhere without a tag.
+abbrev pub stands_at : Option ℤ → List Schema → List State → List PastPart → List Indexed → Option Position
+stands_at tag schemas states past kept = option_map (λ at. position_of at schemas states past kept) tag
+
+-- Nothing is kept.
+pub record KeepsNothing (schemas : List Schema) (states : List State) (past : List PastPart) (kept : List Indexed) : Type 0 where
+  pub no_types : schemas ≡ []
+  pub no_states : states ≡ []
+  pub no_past : past ≡ []
+  pub no_indexes : kept ≡ []
+
+-- With a tag this is kept of a state, and without one nothing is.
+abbrev pub HasParts : Option ℤ → List Schema → List State → List PastPart → List Indexed → Type 0
+HasParts None schemas states past kept = KeepsNothing schemas states past kept
+HasParts (Some tag) schemas states past kept = IsStanding tag schemas states past kept

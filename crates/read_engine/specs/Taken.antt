@@ -1,5 +1,5 @@
 -- What a step takes: the parts of a patch that move the types of a state, where they lead, and what is counted of them.
-use Rattle.std.specs.Prelude.{◌≡◌, ◌≤◌, ◌+◌, ℕ, ℤ, List, Result, Ok, Err, map, sum_by}
+use Rattle.std.specs.Prelude.{◌≡◌, ◌≤◌, ◌+◌, ℕ, ℤ, Bool, List, Option, Result, Ok, Err, IsSomeAnd, map, sum_by}
 use Rattle.schema_model.specs.declared.schema.Schema.{Schema}
 use Rattle.type_state.specs.State.{State}
 use Rattle.delta_blob.specs.declared.patch.PatchPart.{PatchPart}
@@ -15,8 +15,9 @@ use Rattle.read_engine.specs.Position.{Position, rows_now}
 -- The parts moved the types into their next halves, and their halves are the current ones now.
 pub record TakesParts (schemas : List Schema) (parts : List PatchPart) (before after : List State) (past : List PastPart) : Type 0 where
   pub mid : List State
-  pub moves : MovesParts schemas parts before mid past
-  pub halves : current_halves after ≡ coming_halves mid past
+  pub named : List Bool
+  pub moves : MovesParts schemas parts before mid named past
+  pub halves : current_halves after ≡ coming_halves mid named
   pub same : map (λ state. state.schema) after ≡ map (λ state. state.schema) before
 
 -- The states are those of a position.
@@ -28,25 +29,27 @@ pub record AreAt (from : Position) (states : List State) : Type 0 where
 pub record IsTaken (tag : ℤ) (parts : List PatchPart) (from to : Position) : Type 0 where
   pub before : List State
   pub mid : List State
+  pub named : List Bool
   pub past : List PastPart
   pub at : AreAt from before
-  pub moves : MovesParts from.schemas parts before mid past
-  pub is : to ≡ record { tag = tag; schemas = from.schemas; halves = coming_halves mid past; before = rows_now from; indexes = from.indexes }
+  pub moves : MovesParts from.schemas parts before mid named past
+  pub is : to ≡ record { tag = tag; schemas = from.schemas; halves = coming_halves mid named; before = rows_now from; indexes = from.indexes }
 
 -- A step from the position does not take the parts.
 abbrev pub IsNotTaken : List PatchPart → Position → Type 0
 IsNotTaken parts from = (states : List State) × AreAt from states × RefusesParts from.schemas parts states
 
--- What each answer tells.
-abbrev pub TellsTaken : ℤ → List PatchPart → Position → Position → Result (Unit {0}) MoveFault → Type 0
-TellsTaken tag parts from to (Ok done) = IsTaken tag parts from to
-TellsTaken tag parts from to (Err fault) = TellsRefusal (IsNotTaken parts from) fault
+-- What each answer tells, of where the consumer stands then.
+abbrev pub TellsTaken : ℤ → List PatchPart → Position → Option Position → Result (Unit {0}) MoveFault → Type 0
+TellsTaken tag parts from now (Ok done) = IsSomeAnd now (IsTaken tag parts from)
+TellsTaken tag parts from now (Err fault) = TellsRefusal (IsNotTaken parts from) fault
 
 -- The parts move the types, and a count of steps rose by at most the ordinals that come in the type of each index.
 pub record ReadsSome (schemas : List Schema) (parts : List PatchPart) (states : List State) (indexes : List Indexed) (before after : ℕ) : Type 0 where
   pub mid : List State
+  pub named : List Bool
   pub past : List PastPart
-  pub moves : MovesParts schemas parts states mid past
+  pub moves : MovesParts schemas parts states mid named past
   pub later : before ≤ after
   pub most : after ≤ before + sum_by (λ kept. count_came past kept.type_index) indexes
 

@@ -107,10 +107,10 @@ pub record LoadsExactly (name : BlobName) (content : Option (List ℕ)) (now : O
 abbrev pub loaded_position : ℤ → Body → Position
 loaded_position tag body = record { tag = tag; schemas = body.model; halves = next_halves body.states; before = table_of (next_halves body.states); indexes = [] }
 
--- What the answer to the state of a load tells of what the name holds.
-abbrev pub TellsStand : BlobName → Option (List ℕ) → Result Position BlobFault → Type 0
-TellsStand name content (Ok position) = (blob : List ℕ) × (content ≡ Some blob) × LoadsFrom blob position
-TellsStand name content (Err fault) = RefusesLoad name content fault
+-- What the answer to a load that makes a consumer tells of what the name holds, by where that consumer stands.
+abbrev pub TellsLoaded : BlobName → Option (List ℕ) → Result (Option Position) BlobFault → Type 0
+TellsLoaded name content (Ok now) = TellsLoad name content now (Ok tt)
+TellsLoaded name content (Err fault) = RefusesLoad name content fault
 
 -- What a fault of a step tells of what the name holds: there is nothing, it is too large, its first item that cannot be read, that it starts from
 -- another state, or that it has the syntax of a delta from the state and leads nowhere. Which fault of the last kind it is is not told.

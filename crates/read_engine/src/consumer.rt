@@ -1,49 +1,63 @@
 //! A consumer: at first it has no state; a load gives it one, and steps move it.
-ghost use Rattle.std.specs.Prelude.{◌≡◌, ◌≢◌, ◌≤◌, ◌<◌, ◌↔◌, ◌⊎◌, All, Contains, Some, None, Err, IfErr, IfOk, IfSome, IsSome, IsSomeAnd, IsTrue, MatchOption, OnErr, OnOk, length, slice_get};
+ghost use Rattle.std.specs.Prelude.{◌≡◌, ◌≢◌, ◌≤◌, ◌<◌, ◌↔◌, ◌⊎◌, Contains, Err, IfErr, IfSome, IsSome, IsSomeAnd, IsTrue, MatchOption, None, OnErr, OnOk, length};
 ghost use Rattle.std.specs.Option.{option_map};
 ghost use Rattle.hol_io.specs.declared.name.BlobName.TheVariants.{Snapshot};
 ghost use Rattle.hol_io.specs.Causes.{Rose};
 ghost use Rattle.hol_io.specs.Store.{told};
-ghost use Rattle.row_model.specs.Key.{AreMatches, IsResolved};
 ghost use Rattle.row_model.specs.Table.{row_at};
 ghost use Rattle.bucket_codec.specs.Run.{FindsIn};
 ghost use Rattle.type_state.specs.Lookup.{elements_of, pairs_of};
+ghost use Rattle.type_state.specs.Views.{table_of};
 ghost use Rattle.snapshot_blob.specs.Snapshot.{IsSnapshotFault};
+ghost use Rattle.state_moves.specs.Halves.{current_halves};
 ghost use Rattle.read_engine.specs.Gone.{AreGone};
-ghost use Rattle.read_engine.specs.Indexes.{AddsIndex, CountsAdded, CountsKeyed, CountsStep, HasNoRoom, index_by};
+ghost use Rattle.read_engine.specs.Indexes.{CountsStep};
 ghost use Rattle.read_engine.specs.Position.{IsPosition, Position, rows_now};
 ghost use Rattle.read_engine.specs.Taking.{CountsPart, IsStepFault, IsStepName, LoadsExactly, StepsExactly, TellsLoad, TellsStep};
+ghost use Rattle.read_engine.specs.Walking.{schemas_at, table_at, tag_at};
 
+use crate::indexes::KeyIndexes;
+use crate::laws;
 use crate::load::load;
-use crate::stand::Stand;
 use crate::step::step;
-use crate::{IndexFault, laws};
 use blob_frame::BlobFault;
 use hol_io::{BlobName, BlobStore, Steps};
 use hol_varint::Ordinals;
-use row_model::Values;
-use schema_model::{Model, Paths};
-use state_moves::{Before, Now};
-use std::alloc::{AllocError, Global};
+use schema_model::Model;
+use state_moves::{Before, Now, PastParts};
+use std::alloc::Global;
 use std::sync::ledger::Ledger;
+use type_state::{TypeState, TypeStates};
 
 /// A consumer of the blobs of a store.
 #[derive(Drop)]
 pub struct Consumer {
-    alloc: Global,
-    stand: Option<Stand>,
+    pub(crate) alloc: Global,
+    // The tag of its state, none where it has no state: then it has no types and no indexes either.
+    pub(crate) tag: Option<i64>,
+    // The model of its state.
+    pub(crate) model: Model,
+    // The types of the model, each with its rows in its current half.
+    pub(crate) states: TypeStates,
+    // What the last step changed of each type.
+    pub(crate) past: PastParts,
+    // The indexes that are kept of its rows.
+    pub(crate) indexes: KeyIndexes,
 }
 
 impl std::marker::Model for Consumer {
     ghost use Rattle.std.specs.Prelude.{Option};
     ghost use Rattle.std.specs.Coded.{coded_option};
     ghost use Rattle.read_engine.specs.Position.{Position, position_code};
+    ghost use Rattle.read_engine.specs.Standing.{HasParts, stands_at};
 
     ghost Value = { Option Position };
 
     ghost coded = { coded_option position_code };
 
-    ghost view = { λ c. c.stand };
+    ghost view = { λ c. stands_at c.tag c.model c.states c.past c.indexes };
+
+    ghost invariant = { λ c. HasParts c.tag c.model c.states c.past c.indexes };
 }
 
 impl Consumer {
@@ -51,7 +65,14 @@ impl Consumer {
     pub fn new(alloc: Global) -> Consumer
         ensures { result ≡ None }
     {
-        Consumer { alloc, stand: None }
+        Consumer {
+            alloc,
+            tag: None,
+            model: Model::none(alloc),
+            states: TypeStates::new(alloc),
+            past: PastParts::new(alloc),
+            indexes: KeyIndexes::new(alloc),
+        }
     }
 
     /// What the consumer takes memory from.
@@ -76,8 +97,8 @@ impl Consumer {
         ensures unput { (S.seen store.new).puts ≡ (S.seen store.old).puts }
     {
         laws::one_loaded_position();
-        let stand = load(self.alloc, store, version)?;
-        self.stand = Some(stand);
+        let loaded = load(self.alloc, store, version)?;
+        *self = loaded;
         Ok(())
     }
 
@@ -115,28 +136,22 @@ impl Consumer {
         ensures part { OnErr result (IfSome (S.seen store.old).held
             (λ held. IfSome self.old (λ from. (steps.new ≡ steps.old) ⊎ CountsPart (told (S.seen store.old).held name.now) from steps.old steps.new))) }
     {
-        match &mut self.stand {
-            Some(stand) => step(self.alloc, stand, store, name, steps),
-            None => unreachable!(),
-        }
+        step(self, store, name, steps)
     }
 
     /// The tag of its state.
     pub fn tag(&self) -> Option<i64>
         ensures { result ≡ option_map (λ position. position.tag) self.now }
     {
-        match &self.stand {
-            Some(stand) => Some(stand.tag),
-            None => None,
-        }
+        self.tag
     }
 
     /// The model of its state.
     pub fn model(&self) -> Option<&Model>
         ensures { MatchOption result (self.now ≡ None) (λ model. IsSomeAnd self.now (λ position. position.schemas ≡ model.now)) }
     {
-        match &self.stand {
-            Some(stand) => Some(&stand.model),
+        match self.tag {
+            Some(_) => Some(&self.model),
             None => None,
         }
     }
@@ -148,10 +163,7 @@ impl Consumer {
         ensures table { IsSomeAnd self.now (λ position. rows_now position ≡ result.table) }
         ensures position { IsSomeAnd self.now IsPosition }
     {
-        match &self.stand {
-            Some(stand) => stand.rows_now(),
-            None => unreachable!(),
-        }
+        Now::new(self.types(), self.states())
     }
 
     /// The rows before its last step; after a load those of its state.
@@ -161,10 +173,9 @@ impl Consumer {
         ensures table { IsSomeAnd self.now (λ position. position.before ≡ result.table) }
         ensures position { IsSomeAnd self.now IsPosition }
     {
-        match &self.stand {
-            Some(stand) => stand.rows_before(),
-            None => unreachable!(),
-        }
+        let states = self.states.as_slice();
+        let past = self.past.as_slice();
+        Before::new(&self.model, states, past)
     }
 
     /// The ordinals of a type that left in its last step, rising.
@@ -172,69 +183,7 @@ impl Consumer {
         requires { IsSomeAnd self.now (λ position. type_index < length position.schemas) }
         ensures { IsSomeAnd self.now (λ position. AreGone position type_index result.now) }
     {
-        match &self.stand {
-            Some(stand) => stand.gone(type_index),
-            None => unreachable!(),
-        }
-    }
-
-    /// Keeps an index of the rows of a type by the values at the ends of paths, and answers its number: its place among the indexes. One that
-    /// is kept already is left as it is.
-    ///
-    /// `TooMany` comes where it is not kept and there are 16 others. After a fault everything is as before. A step is counted for each live row
-    /// of the type where the index is made.
-    pub fn add_index<L: Ledger>(
-        &mut self,
-        type_index: u32,
-        paths: Paths,
-        steps: &mut Steps<L>,
-    ) -> Result<u32, IndexFault>
-        requires type_there { IsSomeAnd self.old (λ position. type_index < length position.schemas) }
-        requires resolved { IsSomeAnd self.old (λ position. All (IsResolved position.schemas type_index) paths) }
-        ensures added { IfOk result (λ number. IsSomeAnd self.old (λ from. IsSomeAnd self.new (λ to. AddsIndex (index_by type_index paths) from to number))) }
-        ensures counted { OnOk result (IsSomeAnd self.old (λ from. CountsAdded from (index_by type_index paths) steps.old steps.new)) }
-        ensures many { (result ≡ Err IndexFault.TooMany) ↔ IsSomeAnd self.old (λ from. HasNoRoom from (index_by type_index paths)) }
-        ensures refused { OnErr result (self.new ≡ self.old) }
-    {
-        match &mut self.stand {
-            Some(stand) => stand.add_index(self.alloc, type_index, paths, steps),
-            None => unreachable!(),
-        }
-    }
-
-    /// The number of the index of a type by these paths, if it is kept. It takes no memory.
-    pub fn index_of(&self, type_index: u32, paths: &Paths) -> Option<u32>
-        requires { IsSome self.now }
-        ensures { IsSomeAnd self.now (λ position. MatchOption result (¬ Contains position.indexes (index_by type_index paths.now))
-            (λ number. slice_get position.indexes number ≡ Some (index_by type_index paths.now))) }
-    {
-        match &self.stand {
-            Some(stand) => stand.index_of(type_index, paths),
-            None => unreachable!(),
-        }
-    }
-
-    /// How many rows have a key of an index: no null stands on one of its paths.
-    pub fn keyed(&self, index: u32) -> u64
-        requires { IsSomeAnd self.now (λ position. index < length position.indexes) }
-        ensures { IsSomeAnd self.now (λ position. IsSomeAnd (slice_get position.indexes index) (λ kept. CountsKeyed position kept result)) }
-    {
-        match &self.stand {
-            Some(stand) => stand.keyed(index),
-            None => unreachable!(),
-        }
-    }
-
-    /// The ordinals of the rows that have a key of an index, rising. It costs its answer, and no walk over the rows.
-    pub fn find(&self, index: u32, key: &Values) -> Result<Ordinals, AllocError>
-        requires { IsSomeAnd self.now (λ position. index < length position.indexes) }
-        ensures { IfOk result (λ ordinals. IsSomeAnd self.now (λ position. IsSomeAnd (slice_get position.indexes index)
-            (λ kept. AreMatches position.schemas (rows_now position) kept.type_index kept.paths key.now ordinals))) }
-    {
-        match &self.stand {
-            Some(stand) => stand.find(self.alloc, index, key),
-            None => unreachable!(),
-        }
+        self.past.get(type_index as usize).gone()
     }
 
     /// Whether a type has a set with the element under the ordinal. It takes no memory.
@@ -242,10 +191,7 @@ impl Consumer {
         requires { IsSomeAnd self.now (λ position. type_index < length position.schemas) }
         ensures { IsSomeAnd self.now (λ position. IsTrue result ↔ Contains (elements_of (row_at (rows_now position) type_index ordinal)) element) }
     {
-        match &self.stand {
-            Some(stand) => stand.has(type_index, ordinal, element),
-            None => unreachable!(),
-        }
+        self.states.get(type_index as usize).has(ordinal, element)
     }
 
     /// The value beside the key in the map that a type has under the ordinal; none where it has no map there, or one without the key. It takes
@@ -254,9 +200,48 @@ impl Consumer {
         requires { IsSomeAnd self.now (λ position. type_index < length position.schemas) }
         ensures { IsSomeAnd self.now (λ position. FindsIn (pairs_of (row_at (rows_now position) type_index ordinal)) key result) }
     {
-        match &self.stand {
-            Some(stand) => stand.at(type_index, ordinal, key),
-            None => unreachable!(),
-        }
+        self.states.get(type_index as usize).at(ordinal, key)
+    }
+
+    /// The tag of its state, 0 where it has no state.
+    pub(crate) fn tag_or_zero(&self) -> i64
+        ensures { result ≡ tag_at self.now }
+    {
+        self.tag.unwrap_or(0)
+    }
+
+    /// The types of its state, none where it has no state.
+    pub(crate) fn types(&self) -> &Model
+        ensures schemas { result.now ≡ schemas_at self.now }
+        ensures position { IfSome self.now IsPosition }
+    {
+        &self.model
+    }
+
+    /// The states of these types.
+    pub(crate) fn states(&self) -> &[TypeState]
+        ensures { table_of (current_halves result.now) ≡ table_at self.now }
+    {
+        self.states.as_slice()
+    }
+}
+
+#[cfg(test)]
+mod tests {
+    use super::Consumer;
+
+    // Nothing else is kept: a further field would have to be named here.
+    #[test]
+    fn keeps_nothing_else(rt: HostRuntime) {
+        let Consumer {
+            alloc: _,
+            tag,
+            model,
+            states,
+            past,
+            indexes,
+        } = Consumer::new(rt.alloc());
+        assert!(rt; tag.is_none() && model.len() == 0 && states.is_empty());
+        assert!(rt; past.is_empty() && indexes.is_empty());
     }
 }

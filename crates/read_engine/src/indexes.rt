@@ -1,35 +1,40 @@
 //! The indexes that a consumer keeps over the rows of its state.
-ghost use Rattle.std.specs.Prelude.{◌≡◌, ◌<◌, ◌^◌, ◌↔◌, All, Contains, Err, IfOk, IsSomeAnd, IsTrue, MatchOption, OnErr, OnOk, length, map, slice_get};
+ghost use Rattle.std.specs.Prelude.{◌≡◌, ◌<◌, ◌^◌, ◌↔◌, All, Contains, Err, IfOk, IsSome, IsSomeAnd, IsTrue, MatchOption, OnErr, OnOk, Some, length, map, slice_get};
 ghost use Rattle.row_model.specs.Key.{AreMatches, IsResolved};
 ghost use Rattle.key_index.specs.Indexed.{CountsLive};
 ghost use Rattle.read_engine.specs.Indexes.{AddsIndex, CountsAdded, CountsKeyed, HasNoRoom, index_by};
 ghost use Rattle.read_engine.specs.Kept.{IsKept, index_kept};
 ghost use Rattle.read_engine.specs.Position.{rows_now};
 
-use crate::IndexFault;
-use crate::stand::Stand;
+use crate::{Consumer, IndexFault};
 use hol_io::Steps;
-use hol_varint::Ordinals;
+use hol_varint::{List, Ordinals};
 use key_index::KeyIndex;
 use row_model::Values;
 use schema_model::{MAX_INDEXES, Path, Paths};
 use std::alloc::{AllocError, Global};
 use std::sync::ledger::Ledger;
 
-impl Stand {
-    /// Keeps an index of a type by some paths, and answers its number. After a fault all is as before.
-    pub(crate) fn add_index<L: Ledger>(
+/// The indexes that are kept, by their numbers.
+pub(crate) type KeyIndexes = List<KeyIndex>;
+
+impl Consumer {
+    /// Keeps an index of the rows of a type by the values at the ends of paths, and answers its number: its place among the indexes. One that
+    /// is kept already is left as it is.
+    ///
+    /// `TooMany` comes where it is not kept and there are 16 others. After a fault everything is as before. A step is counted for each live row
+    /// of the type where the index is made.
+    pub fn add_index<L: Ledger>(
         &mut self,
-        alloc: Global,
         type_index: u32,
         paths: Paths,
         steps: &mut Steps<L>,
     ) -> Result<u32, IndexFault>
-        requires type_there { type_index < length self.old.schemas }
-        requires resolved { All (IsResolved self.old.schemas type_index) paths }
-        ensures added { IfOk result (AddsIndex (index_by type_index paths) self.old self.new) }
-        ensures many { (result ≡ Err IndexFault.TooMany) ↔ HasNoRoom self.old (index_by type_index paths) }
-        ensures counted { OnOk result (CountsAdded self.old (index_by type_index paths) steps.old steps.new) }
+        requires type_there { IsSomeAnd self.old (λ position. type_index < length position.schemas) }
+        requires resolved { IsSomeAnd self.old (λ position. All (IsResolved position.schemas type_index) paths) }
+        ensures added { IfOk result (λ number. IsSomeAnd self.old (λ from. IsSomeAnd self.new (λ to. AddsIndex (index_by type_index paths) from to number))) }
+        ensures counted { OnOk result (IsSomeAnd self.old (λ from. CountsAdded from (index_by type_index paths) steps.old steps.new)) }
+        ensures many { (result ≡ Err IndexFault.TooMany) ↔ IsSomeAnd self.old (λ from. HasNoRoom from (index_by type_index paths)) }
         ensures refused { OnErr result (self.new ≡ self.old) }
     {
         if let Some(number) = self.index_of(type_index, &paths) {
@@ -39,55 +44,50 @@ impl Stand {
         if u64::from(number) >= MAX_INDEXES {
             return Err(IndexFault::TooMany);
         }
-        let index = self.build_index(alloc, type_index, paths, steps)?;
+        let index = self.build_index(type_index, paths, steps)?;
         self.indexes.push(index)?;
         Ok(number)
     }
 
-    /// The number of the index of a type by some paths, if it is kept.
-    pub(crate) fn index_of(&self, type_index: u32, paths: &Paths) -> Option<u32>
-        ensures { MatchOption result (¬ Contains self.now.indexes (index_by type_index paths.now))
-            (λ number. slice_get self.now.indexes number ≡ Some (index_by type_index paths.now)) }
+    /// The number of the index of a type by these paths, if it is kept. It takes no memory.
+    pub fn index_of(&self, type_index: u32, paths: &Paths) -> Option<u32>
+        requires { IsSome self.now }
+        ensures { IsSomeAnd self.now (λ position. MatchOption result (¬ Contains position.indexes (index_by type_index paths.now))
+            (λ number. slice_get position.indexes number ≡ Some (index_by type_index paths.now))) }
     {
         place_of(self.indexes.as_slice(), type_index, paths)
     }
 
-    /// How many rows have a key of an index.
-    pub(crate) fn keyed(&self, index: u32) -> u64
-        requires { index < length self.now.indexes }
-        ensures { IsSomeAnd (slice_get self.now.indexes index) (λ kept. CountsKeyed self.now kept result) }
+    /// How many rows have a key of an index: no null stands on one of its paths.
+    pub fn keyed(&self, index: u32) -> u64
+        requires { IsSomeAnd self.now (λ position. index < length position.indexes) }
+        ensures { IsSomeAnd self.now (λ position. IsSomeAnd (slice_get position.indexes index) (λ kept. CountsKeyed position kept result)) }
     {
-        self.indexes[index as usize].keyed()
+        self.indexes.get(index as usize).keyed()
     }
 
-    /// The ordinals of the rows that have a key of an index, rising.
-    pub(crate) fn find(
-        &self,
-        alloc: Global,
-        index: u32,
-        key: &Values,
-    ) -> Result<Ordinals, AllocError>
-        requires { index < length self.now.indexes }
-        ensures { IfOk result (λ ordinals. IsSomeAnd (slice_get self.now.indexes index)
-            (λ kept. AreMatches self.now.schemas (rows_now self.now) kept.type_index kept.paths key.now ordinals)) }
+    /// The ordinals of the rows that have a key of an index, rising. It costs its answer, and no walk over the rows.
+    pub fn find(&self, index: u32, key: &Values) -> Result<Ordinals, AllocError>
+        requires { IsSomeAnd self.now (λ position. index < length position.indexes) }
+        ensures { IfOk result (λ ordinals. IsSomeAnd self.now (λ position. IsSomeAnd (slice_get position.indexes index)
+            (λ kept. AreMatches position.schemas (rows_now position) kept.type_index kept.paths key.now ordinals))) }
     {
-        self.indexes[index as usize].matches(alloc, key)
+        self.indexes.get(index as usize).matches(self.alloc, key)
     }
 
     // An index of the rows of a type by some paths.
     fn build_index<L: Ledger>(
         &self,
-        alloc: Global,
         type_index: u32,
         paths: Paths,
         steps: &mut Steps<L>,
     ) -> Result<KeyIndex, AllocError>
-        requires type_there { type_index < length self.now.schemas }
-        requires resolved { All (IsResolved self.now.schemas type_index) paths }
-        ensures kept { IfOk result (λ index. IsKept self.now.schemas (rows_now self.now) index × (index_kept index ≡ index_by type_index paths)) }
-        ensures counted { OnOk result (CountsLive (rows_now self.now) type_index steps.old steps.new) }
+        requires type_there { IsSomeAnd self.now (λ position. type_index < length position.schemas) }
+        requires resolved { IsSomeAnd self.now (λ position. All (IsResolved position.schemas type_index) paths) }
+        ensures kept { IfOk result (λ index. IsSomeAnd self.now (λ position. IsKept position.schemas (rows_now position) index × (index_kept index ≡ index_by type_index paths))) }
+        ensures counted { OnOk result (IsSomeAnd self.now (λ position. CountsLive (rows_now position) type_index steps.old steps.new)) }
     {
-        KeyIndex::build(alloc, &self.rows_now(), type_index, paths, steps)
+        KeyIndex::build(self.alloc, &self.now(), type_index, paths, steps)
     }
 }
 

@@ -18,19 +18,20 @@ pub(crate) fn reserve_all<L: Ledger>(
     indexes: &mut [KeyIndex],
     model: &Model,
     states: &[TypeState],
+    named: &[bool],
     past: &[PastPart],
     steps: &mut Steps<L>,
 ) -> Result<(), AllocError>
-    requires coming { AreComing model.now states.now past.now }
-    requires closed { IsClosed model.now (table_of (coming_halves states.now past.now)) }
-    requires follow { All (FollowsPart model.now (table_of (coming_halves states.now past.now)) past.now) indexes.old }
-    ensures reserved { OnOk result (All (IsReserved model.now (table_of (coming_halves states.now past.now))) indexes.new) }
+    requires coming { AreComing model.now states.now named.now }
+    requires closed { IsClosed model.now (table_of (coming_halves states.now named.now)) }
+    requires follow { All (FollowsPart model.now (table_of (coming_halves states.now named.now)) past.now) indexes.old }
+    ensures reserved { OnOk result (All (IsReserved model.now (table_of (coming_halves states.now named.now))) indexes.new) }
     ensures kept { map settled indexes.new ≡ map settled indexes.old }
     ensures counted { OnOk result (steps.new ≡ steps.old + sum_by (λ kept. count_came past.now kept.type_index) indexes.old) }
     ensures bounded { (steps.old ≤ steps.new) × (steps.new ≤ steps.old + sum_by (λ kept. count_came past.now kept.type_index) indexes.old) }
     ensures refused { OnErr result (indexes.new ≡ map settled indexes.old) }
 {
-    let rows = Coming::new(model, states, past);
+    let rows = Coming::new(model, states, named);
     match reserve_each(indexes, &rows, past, steps) {
         Ok(()) => Ok(()),
         Err(error) => {

@@ -7,7 +7,6 @@ mod indexes;
 mod keeping;
 pub mod laws;
 mod load;
-mod stand;
 mod step;
 mod walker;
 

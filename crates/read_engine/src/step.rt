@@ -1,5 +1,5 @@
 //! A step of a consumer: the rows of its state are moved by the parts of a delta.
-ghost use Rattle.std.specs.Prelude.{◌≡◌, ◌≢◌, ◌+◌, ◌≤◌, ◌⊎◌, All, Err, IfErr, IfOk, IfSome, OnErr, OnOk, Some, map, sum_by};
+ghost use Rattle.std.specs.Prelude.{◌≡◌, ◌≢◌, ◌+◌, ◌≤◌, ◌⊎◌, All, Err, IfErr, IfOk, IfSome, IsSome, IsSomeAnd, OnErr, OnOk, map, sum_by};
 ghost use Rattle.hol_io.specs.Causes.{Rose};
 ghost use Rattle.hol_io.specs.Store.{told};
 ghost use Rattle.row_model.specs.Table.{IsClosed, IsTableOf};
@@ -14,8 +14,9 @@ ghost use Rattle.read_engine.specs.Position.{IsPosition};
 ghost use Rattle.read_engine.specs.Taken.{CountsTaken, ReadsSome, TakesParts, TellsTaken};
 ghost use Rattle.read_engine.specs.Taking.{CountsPart, IsStepFault, TellsStep};
 
+use crate::Consumer;
+use crate::indexes::KeyIndexes;
 use crate::keeping::{reserve_all, update_all};
-use crate::stand::Stand;
 use blob_frame::BlobFault;
 use delta_blob::{PatchPart, read_delta};
 use hol_io::{BlobName, BlobStore, Steps};
@@ -23,35 +24,38 @@ use key_index::KeyIndex;
 use schema_model::Model;
 use state_moves::{MoveFault, PastParts, flip_named, move_state};
 use std::alloc::Global;
+use std::mem;
 use std::sync::ledger::Ledger;
-use type_state::TypeState;
+use type_state::{TypeState, TypeStates};
 
-/// Moves a state by the delta of a name. After a fault it is as before.
+/// Moves the state of a consumer, which has one, by the delta of a name. After a fault it is as before.
 pub(crate) fn step<S: BlobStore, L: Ledger>(
-    alloc: Global,
-    stand: &mut Stand,
+    consumer: &mut Consumer,
     store: &mut S,
     name: &BlobName,
     steps: &mut Steps<L>,
 ) -> Result<(), BlobFault>
+    requires standing { IsSome consumer.old }
     ensures tells { IfSome (S.seen store.old).held
-        (λ held. TellsStep name.now (told (S.seen store.old).held name.now) stand.old (Some stand.new) result) }
-    ensures position { IsPosition stand.old }
-    ensures refused { OnErr result (stand.new ≡ stand.old) }
-    ensures kind { IfErr result (IsStepFault name.now stand.old.tag) }
+        (λ held. IfSome consumer.old (λ from. TellsStep name.now (told (S.seen store.old).held name.now) from consumer.new result)) }
+    ensures position { IfSome consumer.old IsPosition }
+    ensures state { IsSome consumer.new }
+    ensures refused { OnErr result (consumer.new ≡ consumer.old) }
+    ensures kind { IfErr result (λ fault. IfSome consumer.old (λ from. IsStepFault name.now from.tag fault)) }
     ensures cause { result ≡ Err BlobFault.Store → Rose (S.seen store.old).faults (S.seen store.new).faults }
     ensures kept { (S.seen store.new).held ≡ (S.seen store.old).held }
     ensures later { (S.seen store.old).faults ≤ (S.seen store.new).faults }
     ensures unput { (S.seen store.new).puts ≡ (S.seen store.old).puts }
-    ensures counted { OnOk result (CountsStep stand.new steps.old steps.new) }
+    ensures counted { OnOk result (IsSomeAnd consumer.new (λ to. CountsStep to steps.old steps.new)) }
     ensures uncounted { IfErr result (λ fault. fault ≢ BlobFault.Memory → steps.new ≡ steps.old) }
     ensures part { OnErr result (IfSome (S.seen store.old).held
-        (λ held. (steps.new ≡ steps.old) ⊎ CountsPart (told (S.seen store.old).held name.now) stand.old steps.old steps.new)) }
+        (λ held. IfSome consumer.old (λ from. (steps.new ≡ steps.old) ⊎ CountsPart (told (S.seen store.old).held name.now) from steps.old steps.new))) }
 {
     type_rows::laws::one_move();
-    let patch = read_delta(alloc, store, name, stand.tag, &stand.model)?;
+    let current = consumer.tag_or_zero();
+    let patch = read_delta(consumer.alloc, store, name, current, consumer.types())?;
     let parts = patch.parts.as_slice();
-    match take(alloc, stand, parts, patch.destination, steps) {
+    match take(consumer, parts, patch.destination, steps) {
         Ok(()) => Ok(()),
         Err(fault) => Err(fault_of(patch.length, fault)),
     }
@@ -68,26 +72,38 @@ fn fault_of(length: u64, fault: MoveFault) -> BlobFault
     }
 }
 
-// Moves a state by the parts of a patch, to this tag. After a fault it is as before.
+// Moves the state of a consumer, which has one, by the parts of a patch, to this tag. After a fault it is as before.
 fn take<L: Ledger>(
-    alloc: Global,
-    stand: &mut Stand,
+    consumer: &mut Consumer,
     parts: &[PatchPart],
     tag: i64,
     steps: &mut Steps<L>,
 ) -> Result<(), MoveFault>
-    requires { All (IsWholePart stand.old.schemas) parts.now }
-    ensures tells { TellsTaken tag parts.now stand.old stand.new result }
-    ensures refused { OnErr result (stand.new ≡ stand.old) }
-    ensures counted { OnOk result (CountsStep stand.new steps.old steps.new) }
+    requires standing { IsSome consumer.old }
+    requires whole { IfSome consumer.old (λ from. All (IsWholePart from.schemas) parts.now) }
+    ensures tells { IfSome consumer.old (λ from. TellsTaken tag parts.now from consumer.new result) }
+    ensures state { IsSome consumer.new }
+    ensures refused { OnErr result (consumer.new ≡ consumer.old) }
+    ensures counted { OnOk result (IsSomeAnd consumer.new (λ to. CountsStep to steps.old steps.new)) }
     ensures uncounted { IfErr result (λ fault. fault ≢ MoveFault.Memory → steps.new ≡ steps.old) }
-    ensures part { OnErr result ((steps.new ≡ steps.old) ⊎ CountsTaken tag parts.now stand.old steps.old steps.new) }
+    ensures part { OnErr result (IfSome consumer.old (λ from. (steps.new ≡ steps.old) ⊎ CountsTaken tag parts.now from steps.old steps.new)) }
 {
-    let states = stand.states.as_mut_slice();
-    let indexes = stand.indexes.as_mut_slice();
-    let past = take_parts(alloc, &stand.model, states, parts, indexes, steps)?;
-    stand.past = past;
-    stand.tag = tag;
+    let alloc = consumer.alloc;
+    let mut states = mem::replace(&mut consumer.states, TypeStates::new(alloc)).into_vec();
+    let mut indexes = mem::replace(&mut consumer.indexes, KeyIndexes::new(alloc)).into_vec();
+    let taken = take_parts(
+        alloc,
+        &consumer.model,
+        states.as_mut_slice(),
+        parts,
+        indexes.as_mut_slice(),
+        steps,
+    );
+    consumer.states = TypeStates::from_vec(states);
+    consumer.indexes = KeyIndexes::from_vec(indexes);
+    let past = taken?;
+    consumer.past = past;
+    consumer.tag = Some(tag);
     Ok(())
 }
 
@@ -117,10 +133,11 @@ fn take_parts<L: Ledger>(
     ensures part { OnErr result ((steps.new ≡ steps.old) ⊎ ReadsSome model.now parts.now states.old indexes.old steps.old steps.new) }
 {
     key_index::laws::kept_key();
-    let past = move_state(alloc, model, states, parts)?;
-    let kept = past.as_slice();
-    reserve_all(indexes, model, states, kept, steps)?;
-    flip_named(states, kept);
+    let moved = move_state(alloc, model, states, parts)?;
+    let named = moved.named.as_slice();
+    let past = moved.past.as_slice();
+    reserve_all(indexes, model, states, named, past, steps)?;
+    flip_named(states, named);
     update_all(indexes);
-    Ok(past)
+    Ok(moved.past)
 }

@@ -1,18 +1,17 @@
 //! A consumer that walks along a chain.
-ghost use Rattle.std.specs.Prelude.{◌≡◌, ◌≢◌, ◌≤◌, ◌<◌, Err, IfSome, IsSome, MatchOption, None};
+ghost use Rattle.std.specs.Prelude.{◌≡◌, ◌≢◌, ◌≤◌, ◌<◌, Err, IsSome, None};
 ghost use Rattle.hol_io.specs.Causes.{Rose};
 ghost use Rattle.chain_check.specs.Walk.{name_of_step};
-ghost use Rattle.read_engine.specs.Position.{IsPosition};
 ghost use Rattle.read_engine.specs.Taking.{IsStepName};
-ghost use Rattle.read_engine.specs.Walking.{WalksLoad, WalksStep, schemas_at, table_at};
+ghost use Rattle.read_engine.specs.Walking.{WalksStep};
 
 use crate::Consumer;
 use blob_frame::BlobFault;
 use chain_check::Walk;
 use hol_io::{BlobName, BlobStore, Steps};
-use row_model::{Row, Rows};
+use row_model::{LentRow, Row, Rows};
 use schema_model::Model;
-use state_moves::Now;
+use state_moves::{bound_in, is_live_in, lend_in, row_in};
 use std::alloc::{AllocError, Global};
 use std::marker::Brand;
 use std::sync::ledger::{Blank, Ledger};
@@ -21,11 +20,10 @@ use std::sync::ledger::{Blank, Ledger};
 #[derive(Drop)]
 pub struct Walker {
     consumer: Consumer,
-    no_types: Model,
 }
 
 impl std::marker::Model for Walker {
-    ghost use Rattle.std.specs.Prelude.{◌≡◌, [], Option};
+    ghost use Rattle.std.specs.Prelude.{Option};
     ghost use Rattle.std.specs.Coded.{coded_option};
     ghost use Rattle.read_engine.specs.Position.{Position, position_code};
 
@@ -34,8 +32,6 @@ impl std::marker::Model for Walker {
     ghost coded = { coded_option position_code };
 
     ghost view = { λ w. w.consumer };
-
-    ghost invariant = { λ w. w.no_types ≡ [] };
 }
 
 impl Walker {
@@ -45,18 +41,6 @@ impl Walker {
     {
         Walker {
             consumer: Consumer::new(alloc),
-            no_types: Model::none(alloc),
-        }
-    }
-
-    // The rows of its state, if it has one.
-    fn rows(&self) -> Option<Now<'_>>
-        ensures rows { MatchOption result (self.now ≡ None) (λ rows. (rows.schemas ≡ schemas_at self.now) × (rows.table ≡ table_at self.now)) }
-        ensures position { IfSome self.now IsPosition }
-    {
-        match self.consumer.tag() {
-            Some(_) => Some(self.consumer.now()),
-            None => None,
         }
     }
 }
@@ -69,32 +53,28 @@ impl Rows for Walker {
     ghost table = { table_at };
 
     fn model(&self) -> &Model {
-        let _rows = self.rows();
-        match self.consumer.model() {
-            Some(model) => model,
-            None => &self.no_types,
-        }
+        self.consumer.types()
     }
 
     fn bound(&self, type_index: u32) -> u32 {
-        match self.rows() {
-            Some(rows) => rows.bound(type_index),
-            None => 0,
-        }
+        bound_in(self.consumer.states(), type_index)
     }
 
     fn is_live(&self, type_index: u32, ordinal: u32) -> bool {
-        match self.rows() {
-            Some(rows) => rows.is_live(type_index, ordinal),
-            None => false,
-        }
+        is_live_in(self.consumer.states(), type_index, ordinal)
     }
 
     fn row(&self, alloc: Global, type_index: u32, ordinal: u32) -> Result<Row, AllocError> {
-        match self.rows() {
-            Some(rows) => rows.row(alloc, type_index, ordinal),
-            None => unreachable!(),
-        }
+        row_in(alloc, self.consumer.states(), type_index, ordinal)
+    }
+
+    fn lend(
+        &self,
+        alloc: Global,
+        type_index: u32,
+        ordinal: u32,
+    ) -> Result<LentRow<'_>, AllocError> {
+        lend_in(alloc, self.consumer.states(), type_index, ordinal)
     }
 }
 
@@ -133,10 +113,7 @@ impl Walk for Walker {
     }
 
     fn walk_tag(&self) -> i64 {
-        match self.consumer.tag() {
-            Some(tag) => tag,
-            None => 0,
-        }
+        self.consumer.tag_or_zero()
     }
 }
 

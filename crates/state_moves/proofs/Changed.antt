@@ -136,57 +136,74 @@ module _ (section : PatchSection) (state : State) (part : PastPart) (moves : Mov
   pub before_moved : rows_before new part ≡ old
   before_moved = same_map nat_cmp_total nat_cmp-IsAntisymmetric (rows_before new part) old (λ q. by_left q (find nat_cmp q (left_rows part)) refl)
 
-  pub comes_moved : coming_half state part ≡ state.other
-  comes_moved = ap (λ (b : Bool). cond b state.other state.current) moves.keeps.named
+-- the half that comes of a type that is named, and of one that is not
+pub comes_named : (state : State) (is_named : Bool) → is_named ≡ true → coming_half state is_named ≡ state.other
+comes_named state is_named named = ap (λ (b : Bool). cond b state.other state.current) named
+
+pub comes_unnamed : (state : State) (is_named : Bool) → is_named ≡ false → coming_half state is_named ≡ state.current
+comes_unnamed state is_named unnamed = ap (λ (b : Bool). cond b state.other state.current) unnamed
 
 -- ---- each type
 
 -- The half that comes is laid out, what is kept fits it, and gives the rows before.
-pub record IsChanged (state : State) (part : PastPart) : Type 0 where
-  pub laid : IsComingLaid state part
-  pub fits : FitsPast (coming_half state part).rows part
-  pub before : rows_before (coming_half state part).rows part ≡ state.current.rows
+pub record IsChanged (state : State) (is_named : Bool) (part : PastPart) : Type 0 where
+  pub laid : IsComingLaid state is_named
+  pub fits : FitsPast (coming_half state is_named).rows part
+  pub before : rows_before (coming_half state is_named).rows part ≡ state.current.rows
 
-pub type_changed : (parts : List PatchPart) (t : ℕ) (state : State) (part : PastPart) → TypeIs parts t state part → IsChanged state part
-type_changed parts t state part (TypeIs.Unnamed none all) = subst (IsChanged state) (sym none) record {
-  laid = λ named. absurd (false≢true named);
-  fits = fits_none state.current.rows;
-  before = same_before state.current.rows;
+pub type_changed : (parts : List PatchPart) (t : ℕ) (state : State) (is_named : Bool) (part : PastPart) → TypeIs parts t state is_named part → IsChanged state is_named part
+type_changed parts t state is_named part (TypeIs.Unnamed unnamed none all) = subst (IsChanged state is_named) (sym none) record {
+  laid = λ named. absurd (false≢true (sym unnamed ∙ named));
+  fits = subst (λ (half : Half). FitsPast half.rows no_part) (sym (comes_unnamed state is_named unnamed)) (fits_none state.current.rows);
+  before = ap (λ (half : Half). rows_before half.rows no_part) (comes_unnamed state is_named unnamed) ∙ same_before state.current.rows;
 }
-type_changed parts t state part (TypeIs.Named place named at same moves) = record {
+type_changed parts t state is_named part (TypeIs.Named named place by at same moves) = record {
   laid = λ _. moves.laid;
-  fits = subst (λ (half : Half). FitsPast half.rows part) (sym (comes_moved named.section state part moves)) (fits_moved named.section state part moves);
-  before = ap (λ (half : Half). rows_before half.rows part) (comes_moved named.section state part moves) ∙ before_moved named.section state part moves;
+  fits = subst (λ (half : Half). FitsPast half.rows part) (sym (comes_named state is_named named)) (fits_moved by.section state part moves);
+  before = ap (λ (half : Half). rows_before half.rows part) (comes_named state is_named named) ∙ before_moved by.section state part moves;
 }
 
-pub all_changed : (parts : List PatchPart) (states : List State) (past : List PastPart) → AreMoved parts states past → AllZip IsChanged states past
-all_changed parts states past moved = zip_from IsChanged states past moved.long (λ t state part at there. type_changed parts t state part (moved.types t state part at there))
+-- The same of each type, with whether it is named and what is kept of it.
+abbrev pub AreChanged : List State → List Bool → List PastPart → Type 0
+AreChanged [] [] [] = Unit {0}
+AreChanged (state ∷ states) (is_named ∷ named) (part ∷ past) = IsChanged state is_named part × AreChanged states named past
+AreChanged _ _ _ = ⊥
 
-pub all_laid : (states : List State) (past : List PastPart) → AllZip IsChanged states past → AllZip IsComingLaid states past
-all_laid [] [] all = tt
-all_laid (s ∷ states) (p ∷ past) all = (all.0.laid, all_laid states past all.1)
-all_laid [] (p ∷ past) all = absurd all
-all_laid (s ∷ states) [] all = absurd all
+changed_from : (states : List State) (named : List Bool) (past : List PastPart) → length named ≡ length states → length past ≡ length states
+    → ((t : ℕ) (state : State) (is_named : Bool) (part : PastPart) → slice_get states t ≡ Some state → slice_get named t ≡ Some is_named → slice_get past t ≡ Some part → IsChanged state is_named part) → AreChanged states named past
+changed_from [] [] [] named_long past_long each = tt
+changed_from (s ∷ states) (b ∷ named) (p ∷ past) named_long past_long each = (each 0 s b p refl refl refl, changed_from states named past (omega (arith, named_long)) (omega (arith, past_long)) (λ t. each (suc t)))
+changed_from [] (b ∷ named) past named_long past_long each = absurd (omega (arith, named_long))
+changed_from [] [] (p ∷ past) named_long past_long each = absurd (omega (arith, past_long))
+changed_from (s ∷ states) [] past named_long past_long each = absurd (omega (arith, named_long))
+changed_from (s ∷ states) (b ∷ named) [] named_long past_long each = absurd (omega (arith, past_long))
 
-pub all_fit : (states : List State) (past : List PastPart) → AllZip IsChanged states past → AllZip FitsPast (table_of (coming_halves states past)) past
+pub all_changed : (parts : List PatchPart) (states : List State) (named : List Bool) (past : List PastPart) → AreMoved parts states named past → AreChanged states named past
+all_changed parts states named past moved =
+    changed_from states named past moved.named_long moved.past_long (λ t state is_named part at flag there. type_changed parts t state is_named part (moved.types t state is_named part at flag there))
+
+pub all_laid : (states : List State) (named : List Bool) (past : List PastPart) → AreChanged states named past → AllZip IsComingLaid states named
+all_laid [] [] [] all = tt
+all_laid (s ∷ states) (b ∷ named) (p ∷ past) all = (all.0.laid, all_laid states named past all.1)
+all_laid _ _ _ all = absurd all
+
+pub all_fit : (states : List State) (named : List Bool) (past : List PastPart) → AreChanged states named past → AllZip FitsPast (table_of (coming_halves states named)) past
 unfolding coming_halves
-all_fit [] [] all = tt
-all_fit (s ∷ states) (p ∷ past) all = (all.0.fits, all_fit states past all.1)
-all_fit [] (p ∷ past) all = absurd all
-all_fit (s ∷ states) [] all = absurd all
+all_fit [] [] [] all = tt
+all_fit (s ∷ states) (b ∷ named) (p ∷ past) all = (all.0.fits, all_fit states named past all.1)
+all_fit _ _ _ all = absurd all
 
-pub all_before : (states : List State) (past : List PastPart) → AllZip IsChanged states past → table_before (table_of (coming_halves states past)) past ≡ table_of (current_halves states)
+pub all_before : (states : List State) (named : List Bool) (past : List PastPart) → AreChanged states named past → table_before (table_of (coming_halves states named)) past ≡ table_of (current_halves states)
 unfolding coming_halves table_before
-all_before [] [] all = refl
-all_before (s ∷ states) (p ∷ past) all = let one = all.0.before in let rest = all_before states past all.1 in λ i. one i ∷ rest i
-all_before [] (p ∷ past) all = absurd all
-all_before (s ∷ states) [] all = absurd all
+all_before [] [] [] all = refl
+all_before (s ∷ states) (b ∷ named) (p ∷ past) all = let one = all.0.before in let rest = all_before states named past all.1 in λ i. one i ∷ rest i
+all_before _ _ _ all = absurd all
 
-pub coming_long : (states : List State) (past : List PastPart) → length past ≡ length states → length (table_of (coming_halves states past)) ≡ length states
+pub coming_long : (states : List State) (named : List Bool) → length named ≡ length states → length (table_of (coming_halves states named)) ≡ length states
 unfolding coming_halves
-coming_long [] past long = refl
+coming_long [] named long = refl
 coming_long (s ∷ states) [] long = absurd (omega (arith, long))
-coming_long (s ∷ states) (p ∷ past) long = let rest = coming_long states past (omega (arith, long)) in omega (arith, rest)
+coming_long (s ∷ states) (b ∷ named) long = let rest = coming_long states named (omega (arith, long)) in omega (arith, rest)
 
 -- ---- the rows that come fit the types
 
@@ -208,23 +225,32 @@ state_there states schemas t schema named is = of_option (slice_get states t) re
     of_option None e = let none = sym (ap (option_map (λ (s : State). s.schema)) e) ∙ schema_is in absurd cc
     of_option (Some state) e = let one : Some state.schema ≡ Some schema = sym (ap (option_map (λ (s : State). s.schema)) e) ∙ schema_is in (state, e, cc)
 
-module _ (fits_law : FitsLaw) (ranges_law : RangesLaw) (schemas : List Schema) (parts : List PatchPart) (states : List State) (past : List PastPart) (moved : AreMoved parts states past)
-    (named : map (λ (s : State). s.schema) states ≡ schemas) (was : IsTableOf schemas (table_of (current_halves states))) where
-  module _ (t o : ℕ) (schema : Schema) (row : Row) (is : slice_get schemas t ≡ Some schema) (at : row_at (table_of (coming_halves states past)) t o ≡ Some row) where
+module _ (fits_law : FitsLaw) (ranges_law : RangesLaw) (schemas : List Schema) (parts : List PatchPart) (states : List State) (named : List Bool) (past : List PastPart) (moved : AreMoved parts states named past)
+    (of_model : map (λ (s : State). s.schema) states ≡ schemas) (was : IsTableOf schemas (table_of (current_halves states))) where
+  module _ (t o : ℕ) (schema : Schema) (row : Row) (is : slice_get schemas t ≡ Some schema) (at : row_at (table_of (coming_halves states named)) t o ≡ Some row) where
     abbrev pub state : State
-    state = (state_there states schemas t schema named is).0
+    state = (state_there states schemas t schema of_model is).0
 
     there : slice_get states t ≡ Some state
-    there = (state_there states schemas t schema named is).1
+    there = (state_there states schemas t schema of_model is).1
+
+    within : t < length states
+    within = slice_get_within states t state there
+
+    abbrev pub is_named : Bool
+    is_named = get_or named t false
+
+    named_there : slice_get named t ≡ Some is_named
+    named_there = slice_get-get_or named t false (omega (arith, within, moved.named_long))
 
     abbrev pub part : PastPart
     part = get_or past t no_part
 
     part_there : slice_get past t ≡ Some part
-    part_there = slice_get-get_or past t no_part (omega (arith, slice_get_within states t state there, moved.long))
+    part_there = slice_get-get_or past t no_part (omega (arith, within, moved.past_long))
 
-    row_is : get (coming_half state part).rows o ≡ Some row
-    row_is = sym (row_of (table_of (coming_halves states past)) t o (coming_half state part).rows (coming_at states past t state part there part_there)) ∙ at
+    row_is : get (coming_half state is_named).rows o ≡ Some row
+    row_is = sym (row_of (table_of (coming_halves states named)) t o (coming_half state is_named).rows (coming_at states named t state is_named there named_there)) ∙ at
 
     old_fits : (q : ℕ) (r : Row) → get state.current.rows q ≡ Some r → FitsShape schema.shape r
     old_fits q r found = was.rows t q schema r is (row_of (table_of (current_halves states)) t q state.current.rows (current_at states t state there) ∙ found)
@@ -233,29 +259,29 @@ module _ (fits_law : FitsLaw) (ranges_law : RangesLaw) (schemas : List Schema) (
     old_ranges q r found = was.ranges t q schema r is (row_of (table_of (current_halves states)) t q state.current.rows (current_at states t state there) ∙ found)
 
     pub row_fits : FitsShape schema.shape row
-    row_fits = by_type (moved.types t state part there part_there)
+    row_fits = by_type (moved.types t state is_named part there named_there part_there)
       where
-        by_type : TypeIs parts t state part → FitsShape schema.shape row
-        by_type (TypeIs.Unnamed none all) = old_fits o row (ap (λ (p : PastPart). get (coming_half state p).rows o) (sym none) ∙ row_is)
-        by_type (TypeIs.Named place named_by at_place same moves) =
-            fits_law schema.shape named_by.section state.current.rows state.other.rows (subst (λ (s : Schema). IsMovedBy s.shape named_by.section state.current.rows state.other.rows) (state_there states schemas t schema named is).2 moves.moved) old_fits
-            o row (ap (λ (half : Half). get half.rows o) (sym (comes_moved named_by.section state part moves)) ∙ row_is)
+        by_type : TypeIs parts t state is_named part → FitsShape schema.shape row
+        by_type (TypeIs.Unnamed unnamed none all) = old_fits o row (ap (λ (half : Half). get half.rows o) (sym (comes_unnamed state is_named unnamed)) ∙ row_is)
+        by_type (TypeIs.Named flag place by at_place same moves) =
+            fits_law schema.shape by.section state.current.rows state.other.rows (subst (λ (s : Schema). IsMovedBy s.shape by.section state.current.rows state.other.rows) (state_there states schemas t schema of_model is).2 moves.moved) old_fits
+            o row (ap (λ (half : Half). get half.rows o) (sym (comes_named state is_named flag)) ∙ row_is)
 
     pub row_ranges : IsRowInRange row
-    row_ranges = by_type (moved.types t state part there part_there)
+    row_ranges = by_type (moved.types t state is_named part there named_there part_there)
       where
-        by_type : TypeIs parts t state part → IsRowInRange row
-        by_type (TypeIs.Unnamed none all) = old_ranges o row (ap (λ (p : PastPart). get (coming_half state p).rows o) (sym none) ∙ row_is)
-        by_type (TypeIs.Named place named_by at_place same moves) =
-            ranges_law state.schema.shape named_by.section state.current.rows state.other.rows moves.well moves.moved old_ranges
-            o row (ap (λ (half : Half). get half.rows o) (sym (comes_moved named_by.section state part moves)) ∙ row_is)
+        by_type : TypeIs parts t state is_named part → IsRowInRange row
+        by_type (TypeIs.Unnamed unnamed none all) = old_ranges o row (ap (λ (half : Half). get half.rows o) (sym (comes_unnamed state is_named unnamed)) ∙ row_is)
+        by_type (TypeIs.Named flag place by at_place same moves) =
+            ranges_law state.schema.shape by.section state.current.rows state.other.rows moves.well moves.moved old_ranges
+            o row (ap (λ (half : Half). get half.rows o) (sym (comes_named state is_named flag)) ∙ row_is)
 
-  pub table_comes : IsTableOf schemas (table_of (coming_halves states past))
+  pub table_comes : IsTableOf schemas (table_of (coming_halves states named))
   table_comes = record {
-    types = coming_long states past moved.long ∙ sym (length-map states (λ (s : State). s.schema)) ∙ ap length named;
+    types = coming_long states named moved.named_long ∙ sym (length-map states (λ (s : State). s.schema)) ∙ ap length of_model;
     rows = row_fits;
     ranges = row_ranges;
   }
 
-  pub are_coming : AreComing schemas states past
-  are_coming = record { named = named; laid = all_laid states past (all_changed parts states past moved); fits = table_comes }
+  pub are_coming : AreComing schemas states named
+  are_coming = record { of_model = of_model; laid = all_laid states named past (all_changed parts states named past moved); fits = table_comes }

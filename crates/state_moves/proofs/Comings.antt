@@ -3,108 +3,107 @@ use Rattle.std.proofs.Common.{◌≡◌, ◌<◌, ◌+◌, ℕ, zero, suc, List,
 use Rattle.std.specs.Prelude.{slice_get}
 use Rattle.std.specs.List.{AllZip}
 use Rattle.std.specs.Option.{option_map}
-use Rattle.std.proofs.lemmas.Option.{slice_get-map, slice_get_within, slice_get-get_or}
+use Rattle.std.proofs.lemmas.Option.{get_or_from_slice_get, slice_get-map, slice_get_within, slice_get-get_or}
 use Rattle.type_state.specs.State.{Half, State}
 use Rattle.type_state.specs.Views.{table_of}
-use Rattle.state_moves.specs.Past.{PastPart}
 use Rattle.state_moves.specs.Moving.{IsComingLaid, coming_half, coming_halves, coming_state}
 use Rattle.state_moves.specs.Halves.{current_halves}
 use Rattle.state_moves.proofs.Flips.{turned}
 
-pub long_past : (states : List State) (past : List PastPart) → AllZip IsComingLaid states past → length past ≡ length states
-long_past [] [] laid = refl
-long_past (s ∷ states) (p ∷ past) laid = let rest = long_past states past laid.1 in omega arith
-long_past [] (p ∷ past) laid = absurd laid
-long_past (s ∷ states) [] laid = absurd laid
+pub long_named : (states : List State) (named : List Bool) → AllZip IsComingLaid states named → length named ≡ length states
+long_named [] [] laid = refl
+long_named (s ∷ states) (b ∷ named) laid = let rest = long_named states named laid.1 in omega arith
+long_named [] (b ∷ named) laid = absurd laid
+long_named (s ∷ states) [] laid = absurd laid
 
-pub laid_at : (states : List State) (past : List PastPart) (t : ℕ) (state : State) (part : PastPart) → AllZip IsComingLaid states past → slice_get states t ≡ Some state → slice_get past t ≡ Some part → IsComingLaid state part
-laid_at [] past t state part laid is there = absurd cc
-laid_at (s ∷ states) [] t state part laid is there = absurd laid
-laid_at (s ∷ states) (p ∷ past) zero state part laid is there = let same : s ≡ state = cc in let also : p ≡ part = cc in subst (λ (x : State). IsComingLaid x part) same (subst (λ (x : PastPart). IsComingLaid s x) also laid.0)
-laid_at (s ∷ states) (p ∷ past) (suc t) state part laid is there = laid_at states past t state part laid.1 is there
+pub laid_at : (states : List State) (named : List Bool) (t : ℕ) (state : State) (is_named : Bool) → AllZip IsComingLaid states named → slice_get states t ≡ Some state → slice_get named t ≡ Some is_named → IsComingLaid state is_named
+laid_at [] named t state is_named laid is there = absurd cc
+laid_at (s ∷ states) [] t state is_named laid is there = absurd laid
+laid_at (s ∷ states) (b ∷ named) zero state is_named laid is there = let same : s ≡ state = cc in let also : b ≡ is_named = cc in subst (λ (x : State). IsComingLaid x is_named) same (subst (λ (x : Bool). IsComingLaid s x) also laid.0)
+laid_at (s ∷ states) (b ∷ named) (suc t) state is_named laid is there = laid_at states named t state is_named laid.1 is there
 
-pub half_at : (states : List State) (past : List PastPart) (t : ℕ) (state : State) (part : PastPart) → slice_get states t ≡ Some state → slice_get past t ≡ Some part → slice_get (coming_halves states past) t ≡ Some (coming_half state part)
+pub half_at : (states : List State) (named : List Bool) (t : ℕ) (state : State) (is_named : Bool) → slice_get states t ≡ Some state → slice_get named t ≡ Some is_named → slice_get (coming_halves states named) t ≡ Some (coming_half state is_named)
 unfolding coming_halves
-half_at [] past t state part is there = absurd cc
-half_at (s ∷ states) [] t state part is there = absurd cc
-half_at (s ∷ states) (p ∷ past) zero state part is there = let same : s ≡ state = cc in let also : p ≡ part = cc in λ i. Some (coming_half (same i) (also i))
-half_at (s ∷ states) (p ∷ past) (suc t) state part is there = half_at states past t state part is there
+half_at [] named t state is_named is there = absurd cc
+half_at (s ∷ states) [] t state is_named is there = absurd cc
+half_at (s ∷ states) (b ∷ named) zero state is_named is there = let same : s ≡ state = cc in let also : b ≡ is_named = cc in λ i. Some (coming_half (same i) (also i))
+half_at (s ∷ states) (b ∷ named) (suc t) state is_named is there = half_at states named t state is_named is there
 
-pub half_off : (states : List State) (past : List PastPart) (t : ℕ) → slice_get states t ≡ None → slice_get (coming_halves states past) t ≡ None
+pub half_off : (states : List State) (named : List Bool) (t : ℕ) → slice_get states t ≡ None → slice_get (coming_halves states named) t ≡ None
 unfolding coming_halves
-half_off [] past t none = refl
+half_off [] named t none = refl
 half_off (s ∷ states) [] t none = refl
-half_off (s ∷ states) (p ∷ past) zero none = absurd cc
-half_off (s ∷ states) (p ∷ past) (suc t) none = half_off states past t none
+half_off (s ∷ states) (b ∷ named) zero none = absurd cc
+half_off (s ∷ states) (b ∷ named) (suc t) none = half_off states named t none
 
-pub coming_at : (states : List State) (past : List PastPart) (t : ℕ) (state : State) (part : PastPart) → slice_get states t ≡ Some state → slice_get past t ≡ Some part
-    → slice_get (table_of (coming_halves states past)) t ≡ Some (coming_half state part).rows
-coming_at states past t state part is there = slice_get-map (λ (half : Half). half.rows) (coming_halves states past) t ∙ ap (option_map (λ (half : Half). half.rows)) (half_at states past t state part is there)
+pub coming_at : (states : List State) (named : List Bool) (t : ℕ) (state : State) (is_named : Bool) → slice_get states t ≡ Some state → slice_get named t ≡ Some is_named
+    → slice_get (table_of (coming_halves states named)) t ≡ Some (coming_half state is_named).rows
+coming_at states named t state is_named is there = slice_get-map (λ (half : Half). half.rows) (coming_halves states named) t ∙ ap (option_map (λ (half : Half). half.rows)) (half_at states named t state is_named is there)
 
-pub coming_off : (states : List State) (past : List PastPart) (t : ℕ) → slice_get states t ≡ None → slice_get (table_of (coming_halves states past)) t ≡ None
-coming_off states past t none = slice_get-map (λ (half : Half). half.rows) (coming_halves states past) t ∙ ap (option_map (λ (half : Half). half.rows)) (half_off states past t none)
+pub coming_off : (states : List State) (named : List Bool) (t : ℕ) → slice_get states t ≡ None → slice_get (table_of (coming_halves states named)) t ≡ None
+coming_off states named t none = slice_get-map (λ (half : Half). half.rows) (coming_halves states named) t ∙ ap (option_map (λ (half : Half). half.rows)) (half_off states named t none)
 
-pub part_there : (states : List State) (past : List PastPart) (t : ℕ) (state : State) → AllZip IsComingLaid states past → slice_get states t ≡ Some state → t < length past
-part_there states past t state laid is = let within = slice_get_within states t state is in omega (arith, within, long_past states past laid)
+pub named_within : (states : List State) (named : List Bool) (t : ℕ) (state : State) → AllZip IsComingLaid states named → slice_get states t ≡ Some state → t < length named
+named_within states named t state laid is = let within = slice_get_within states t state is in omega (arith, within, long_named states named laid)
 
 -- ---- turning
 
 -- the states, of the first of which those that are named are turned
-unfoldable pub first_named : ℕ → List PastPart → List State → List State
-first_named zero past states = states
-first_named (suc n) past [] = []
+unfoldable pub first_named : ℕ → List Bool → List State → List State
+first_named zero named states = states
+first_named (suc n) named [] = []
 first_named (suc n) [] states = states
-first_named (suc n) (part ∷ past) (state ∷ states) = coming_state state part ∷ first_named n past states
+first_named (suc n) (is_named ∷ named) (state ∷ states) = coming_state state is_named ∷ first_named n named states
 
-pub none_named : (past : List PastPart) (states : List State) → states ≡ first_named 0 past states
+pub none_named : (named : List Bool) (states : List State) → states ≡ first_named 0 named states
 unfolding first_named
-none_named past states = refl
+none_named named states = refl
 
-not_reached : (n : ℕ) (past : List PastPart) (states : List State) (d : State) → get_or (first_named n past states) n d ≡ get_or states n d
+not_reached : (n : ℕ) (named : List Bool) (states : List State) (d : State) → get_or (first_named n named states) n d ≡ get_or states n d
 unfolding first_named
-not_reached zero past states d = refl
-not_reached (suc n) past [] d = refl
+not_reached zero named states d = refl
+not_reached (suc n) named [] d = refl
 not_reached (suc n) [] (state ∷ states) d = refl
-not_reached (suc n) (part ∷ past) (state ∷ states) d = not_reached n past states d
+not_reached (suc n) (is_named ∷ named) (state ∷ states) d = not_reached n named states d
 
-named_more : (n : ℕ) (past : List PastPart) (states : List State) (d : State) (p : PastPart) → n < length states → n < length past → set (first_named n past states) n (coming_state (get_or states n d) (get_or past n p)) ≡ first_named (suc n) past states
+named_more : (n : ℕ) (named : List Bool) (states : List State) (d : State) (p : Bool) → n < length states → n < length named → set (first_named n named states) n (coming_state (get_or states n d) (get_or named n p)) ≡ first_named (suc n) named states
 unfolding first_named
-named_more n past [] d p inside within = absurd (omega (arith, inside))
+named_more n named [] d p inside within = absurd (omega (arith, inside))
 named_more n [] (state ∷ states) d p inside within = absurd (omega (arith, within))
-named_more zero (part ∷ past) (state ∷ states) d p inside within = refl
-named_more (suc n) (part ∷ past) (state ∷ states) d p inside within = ap (λ (rest : List State). coming_state state part ∷ rest) (named_more n past states d p (omega (arith, inside)) (omega (arith, within)))
+named_more zero (is_named ∷ named) (state ∷ states) d p inside within = refl
+named_more (suc n) (is_named ∷ named) (state ∷ states) d p inside within = ap (λ (rest : List State). coming_state state is_named ∷ rest) (named_more n named states d p (omega (arith, inside)) (omega (arith, within)))
 
-pub one_more_named : (n : ℕ) (past : List PastPart) (states now : List State) (d : State) (part : PastPart) → n < length states → n < length past → now ≡ first_named n past states → part ≡ get_or past n part
-    → set now n (coming_state (get_or now n d) part) ≡ first_named (n + 1) past states
-one_more_named n past states now d part inside within is there =
+pub one_more_named : (n : ℕ) (named : List Bool) (states now : List State) (d : State) (is_named : Bool) → n < length states → n < length named → now ≡ first_named n named states → slice_get named n ≡ Some is_named
+    → set now n (coming_state (get_or now n d) is_named) ≡ first_named (n + 1) named states
+one_more_named n named states now d is_named inside within is there =
     let next : suc n ≡ n + 1 = omega arith in
-    ap (λ (xs : List State). set xs n (coming_state (get_or xs n d) part)) is
-    ∙ (λ i. set (first_named n past states) n (coming_state (not_reached n past states d i) (there i)))
-    ∙ named_more n past states d part inside within
-    ∙ ap (λ (k : ℕ). first_named k past states) next
+    ap (λ (xs : List State). set xs n (coming_state (get_or xs n d) is_named)) is
+    ∙ (λ i. set (first_named n named states) n (coming_state (not_reached n named states d i) (sym (get_or_from_slice_get named n is_named is_named there) i)))
+    ∙ named_more n named states d is_named inside within
+    ∙ ap (λ (k : ℕ). first_named k named states) next
 
-pub laid_here : (n : ℕ) (past : List PastPart) (states now : List State) (d : State) (part : PastPart) → n < length states → n < length past → now ≡ first_named n past states → part ≡ get_or past n part
-    → AllZip IsComingLaid states past → IsComingLaid (get_or now n d) part
-laid_here n past states now d part inside within is there laid =
-    let same : get_or now n d ≡ get_or states n d = ap (λ (xs : List State). get_or xs n d) is ∙ not_reached n past states d in
-    subst (λ (x : State). IsComingLaid x part) (sym same) (laid_at states past n (get_or states n d) part laid (slice_get-get_or states n d inside) (slice_get-get_or past n part within ∙ ap Some (sym there)))
+pub laid_here : (n : ℕ) (named : List Bool) (states now : List State) (d : State) (is_named : Bool) → n < length states → now ≡ first_named n named states → slice_get named n ≡ Some is_named
+    → AllZip IsComingLaid states named → IsComingLaid (get_or now n d) is_named
+laid_here n named states now d is_named inside is there laid =
+    let same : get_or now n d ≡ get_or states n d = ap (λ (xs : List State). get_or xs n d) is ∙ not_reached n named states d in
+    subst (λ (x : State). IsComingLaid x is_named) (sym same) (laid_at states named n (get_or states n d) is_named laid (slice_get-get_or states n d inside) there)
 
-pub all_named : (past : List PastPart) (states : List State) → length past ≡ length states → current_halves (first_named (length states) past states) ≡ coming_halves states past
+pub all_named : (named : List Bool) (states : List State) → length named ≡ length states → current_halves (first_named (length states) named states) ≡ coming_halves states named
 unfolding first_named coming_halves
-all_named past [] long = refl
+all_named named [] long = refl
 all_named [] (state ∷ states) long = absurd (omega (arith, long))
-all_named (part ∷ past) (state ∷ states) long = let one = half part.named in let rest = all_named past states (omega (arith, long)) in λ i. one i ∷ rest i
+all_named (is_named ∷ named) (state ∷ states) long = let one = half is_named in let rest = all_named named states (omega (arith, long)) in λ i. one i ∷ rest i
   where
     half : (b : Bool) → (cond b (turned state) state).current ≡ cond b state.other state.current
     half true = refl
     half false = refl
 
-pub named_schemas : (n : ℕ) (past : List PastPart) (states : List State) → map (λ (s : State). s.schema) (first_named n past states) ≡ map (λ (s : State). s.schema) states
+pub named_schemas : (n : ℕ) (named : List Bool) (states : List State) → map (λ (s : State). s.schema) (first_named n named states) ≡ map (λ (s : State). s.schema) states
 unfolding first_named
-named_schemas zero past states = refl
-named_schemas (suc n) past [] = refl
+named_schemas zero named states = refl
+named_schemas (suc n) named [] = refl
 named_schemas (suc n) [] (state ∷ states) = refl
-named_schemas (suc n) (part ∷ past) (state ∷ states) = let one = schema part.named in let rest = named_schemas n past states in λ i. one i ∷ rest i
+named_schemas (suc n) (is_named ∷ named) (state ∷ states) = let one = schema is_named in let rest = named_schemas n named states in λ i. one i ∷ rest i
   where
     schema : (b : Bool) → (cond b (turned state) state).schema ≡ state.schema
     schema true = refl

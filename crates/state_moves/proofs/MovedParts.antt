@@ -1,5 +1,5 @@
 -- What the parts of a patch make of a state: the rows that come, and those before.
-use Rattle.std.proofs.Common.{◌≡◌, List, get_or, map, sym, ap, ◌∙◌, subst}
+use Rattle.std.proofs.Common.{◌≡◌, Bool, List, get_or, map, sym, ap, ◌∙◌, subst}
 use Rattle.std.specs.Prelude.{All}
 use Rattle.std.specs.List.{AllZip}
 use Rattle.schema_model.specs.declared.schema.Schema.{Schema}
@@ -15,37 +15,37 @@ use Rattle.state_moves.specs.Past.{FitsPast, PastPart, table_before}
 use Rattle.state_moves.proofs.Changed.{FitsLaw, RangesLaw, all_before, all_changed, all_fit, are_coming, state_there}
 
 pub whole_readable : (states : List State) (schemas : List Schema) (parts : List PatchPart) → map (λ (s : State). s.schema) states ≡ schemas → All (IsWholePart schemas) parts → All (IsReadableIn states) parts
-whole_readable states schemas parts named whole k d inside =
+whole_readable states schemas parts of_model whole k d inside =
     let (schema, is, readable) = whole k d inside in
-    let (state, there, same) = state_there states schemas (get_or parts k d).type_index schema named is in
+    let (state, there, same) = state_there states schemas (get_or parts k d).type_index schema of_model is in
     (state, there, subst (λ (s : Schema). IsReadablePatch s.shape (get_or parts k d).section) (sym same) readable)
 
-pub comes : FitsLaw → RangesLaw → (schemas : List Schema) (parts : List PatchPart) (before states : List State) (past : List PastPart) → AreMoved parts states past → StaysCurrent before states
-    → map (λ (s : State). s.schema) before ≡ schemas → IsTableOf schemas (table_of (current_halves before)) → AreComing schemas states past
-comes fits_law ranges_law schemas parts before states past moved stays named was =
-    are_coming fits_law ranges_law schemas parts states past moved (stays.schemas ∙ named) (subst (λ (halves : List Half). IsTableOf schemas (table_of halves)) (sym stays.halves) was)
+pub comes : FitsLaw → RangesLaw → (schemas : List Schema) (parts : List PatchPart) (before states : List State) (named : List Bool) (past : List PastPart) → AreMoved parts states named past → StaysCurrent before states
+    → map (λ (s : State). s.schema) before ≡ schemas → IsTableOf schemas (table_of (current_halves before)) → AreComing schemas states named
+comes fits_law ranges_law schemas parts before states named past moved stays of_model was =
+    are_coming fits_law ranges_law schemas parts states named past moved (stays.schemas ∙ of_model) (subst (λ (halves : List Half). IsTableOf schemas (table_of halves)) (sym stays.halves) was)
 
 -- what is kept fits the rows that come
-pub all_fitting : (parts : List PatchPart) (states : List State) (past : List PastPart) → AreMoved parts states past → AllZip FitsPast (table_of (coming_halves states past)) past
-all_fitting parts states past moved = all_fit states past (all_changed parts states past moved)
+pub all_fitting : (parts : List PatchPart) (states : List State) (named : List Bool) (past : List PastPart) → AreMoved parts states named past → AllZip FitsPast (table_of (coming_halves states named)) past
+all_fitting parts states named past moved = all_fit states named past (all_changed parts states named past moved)
 
 -- what is kept gives the rows before
-pub was_before : (parts : List PatchPart) (before states : List State) (past : List PastPart) → AreMoved parts states past → StaysCurrent before states → table_before (table_of (coming_halves states past)) past ≡ table_of (current_halves before)
-was_before parts before states past moved stays = all_before states past (all_changed parts states past moved) ∙ ap table_of stays.halves
+was_before : (parts : List PatchPart) (before states : List State) (named : List Bool) (past : List PastPart) → AreMoved parts states named past → StaysCurrent before states
+    → table_before (table_of (coming_halves states named)) past ≡ table_of (current_halves before)
+was_before parts before states named past moved stays = all_before states named past (all_changed parts states named past moved) ∙ ap table_of stays.halves
 
 -- the rows before those that come are closed
-pub was_closed : (schemas : List Schema) (parts : List PatchPart) (before states : List State) (past : List PastPart) → AreMoved parts states past → StaysCurrent before states → IsClosed schemas (table_of (current_halves before))
-    → IsClosed schemas (table_before (table_of (coming_halves states past)) past)
-was_closed schemas parts before states past moved stays closed =
-    subst (IsClosed schemas) (sym (was_before parts before states past moved stays)) closed
+pub was_closed : (schemas : List Schema) (parts : List PatchPart) (before states : List State) (named : List Bool) (past : List PastPart) → AreMoved parts states named past → StaysCurrent before states
+    → IsClosed schemas (table_of (current_halves before)) → IsClosed schemas (table_before (table_of (coming_halves states named)) past)
+was_closed schemas parts before states named past moved stays closed = subst (IsClosed schemas) (sym (was_before parts before states named past moved stays)) closed
 
-pub moves_parts : FitsLaw → RangesLaw → (schemas : List Schema) (parts : List PatchPart) (before states : List State) (past : List PastPart) → AreMoved parts states past → StaysCurrent before states
-    → map (λ (s : State). s.schema) before ≡ schemas → IsTableOf schemas (table_of (current_halves before)) → IsClosed schemas (table_of (coming_halves states past)) → MovesParts schemas parts before states past
-moves_parts fits_law ranges_law schemas parts before states past moved stays named was closed = record {
+pub moves_parts : FitsLaw → RangesLaw → (schemas : List Schema) (parts : List PatchPart) (before states : List State) (named : List Bool) (past : List PastPart) → AreMoved parts states named past → StaysCurrent before states
+    → map (λ (s : State). s.schema) before ≡ schemas → IsTableOf schemas (table_of (current_halves before)) → IsClosed schemas (table_of (coming_halves states named)) → MovesParts schemas parts before states named past
+moves_parts fits_law ranges_law schemas parts before states named past moved stays of_model was closed = record {
   moved = moved;
   stays = stays;
-  coming = comes fits_law ranges_law schemas parts before states past moved stays named was;
+  coming = comes fits_law ranges_law schemas parts before states named past moved stays of_model was;
   closed = closed;
-  fits = all_fitting parts states past moved;
-  was = was_before parts before states past moved stays;
+  fits = all_fitting parts states named past moved;
+  was = was_before parts before states named past moved stays;
 }

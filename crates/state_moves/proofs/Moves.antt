@@ -1,10 +1,10 @@
 -- Moving the types of a state one after another.
-use Rattle.std.proofs.Common.{◌≡◌, ◌<◌, ◌+◌, ◌-◌, ◌^◌, inl, inr, ℕ, zero, suc, List, [], ◌∷◌, ◌++◌, length, get_or, set, take, map, Option, Some, None, Result, Ok, Err, IfErr, refl, sym, ap, ◌∙◌, subst, arith}
+use Rattle.std.proofs.Common.{◌≡◌, ◌<◌, ◌+◌, ◌-◌, ◌^◌, inl, inr, ℕ, zero, suc, Bool, true, List, [], ◌∷◌, ◌++◌, length, get_or, set, take, map, Option, Some, None, Result, Ok, Err, IfErr, refl, sym, ap, ◌∙◌, subst, arith}
 use Rattle.std.specs.Prelude.{All, IsSome, IsErrAnd, slice_get}
-use Rattle.std.specs.List.{AllZip}
+use Rattle.std.specs.List.{AllZip, cons_option}
 use Rattle.std.specs.FinMap.{get, keys}
 use Rattle.std.specs.Option.{option_map}
-use Rattle.std.proofs.lemmas.Bool.{cases_eq}
+use Rattle.std.proofs.lemmas.Bool.{cases_eq, false≢true}
 use Rattle.std.proofs.lemmas.List.{take_more, length-set}
 use Rattle.std.proofs.lemmas.List.Elements.{All-cons, All-nil, All-head, All-tail}
 use Rattle.std.proofs.lemmas.Option.{slice_get-map, slice_get_within, slice_get-get_or, get_or_from_slice_get}
@@ -17,17 +17,11 @@ use Rattle.type_state.specs.State.{Half, State}
 use Rattle.delta_blob.specs.declared.patch.PatchPart.{PatchPart}
 use Rattle.state_moves.specs.declared.fault.MoveFault.{MoveFault}
 use Rattle.state_moves.specs.declared.fault.MoveFault.TheVariants.{Large, Memory, Refused}
-use Rattle.state_moves.specs.Past.{PastPart}
+use Rattle.state_moves.specs.Past.{PastPart, rows_of_places}
 use Rattle.state_moves.specs.Moving.{AreMoved, IsReadableIn, IsStuck, MovesState, StaysCurrent, TellsRefusal, TypeIs}
 use Rattle.state_moves.proofs.PastRows.{current_bound}
 
 -- ---- lists
-
-pub zip_push : {A B : Type 0} (R : A → B → Type 0) (xs : List A) (ys : List B) (x : A) (y : B) → AllZip R xs ys → R x y → AllZip R (xs ++ x ∷ []) (ys ++ y ∷ [])
-zip_push R [] [] x y all one = (one, tt)
-zip_push R (w ∷ xs) (z ∷ ys) x y all one = (all.0, zip_push R xs ys x y all.1 one)
-zip_push R [] (z ∷ ys) x y all one = absurd all
-zip_push R (w ∷ xs) [] x y all one = absurd all
 
 pub set_same : {A : Type 0} (xs : List A) (i : ℕ) (x : A) → i < length xs → slice_get (set xs i x) i ≡ Some x
 set_same [] i x inside = absurd (omega (arith, inside))
@@ -135,30 +129,40 @@ module _ (initial states : List State) (parts : List PatchPart) (i : ℕ) (part 
           (subst (λ (schema : Schema). IsMovedBy schema.shape part.section type_there.0.current.rows rows) (sym type_there.2)
           (subst (λ (half : Half). IsMovedBy here.0.schema.shape part.section half.rows rows) (sym type_there.3) moved)))
 
-  pub moved_more : (past : List PastPart) (s : State) (p : PastPart) → AreMoved (take i parts) states past → MovesState part.section s p
-      → AreMoved (take (i + 1) parts) (set states part.type_index s) (set past part.type_index p)
-  moved_more past s p moved one = record {
-    long = length-set past part.type_index p ∙ moved.long ∙ sym (length-set states part.type_index s);
-    types = λ t state kept at there. elim (cases_eq part.type_index t) [
-      | inl same ↦ this t state kept same at there
-      | inr apart ↦ that t state kept apart (moved.types t state kept (sym (set_other states part.type_index t s apart) ∙ at) (sym (set_other past part.type_index t p apart) ∙ there))
+  -- what is put at the part's type is what stands there
+  put_there : {A : Type 0} (xs : List A) (t : ℕ) (x y : A) → length xs ≡ length states → part.type_index ≡ t → slice_get (set xs part.type_index x) t ≡ Some y → x ≡ y
+  put_there xs t x y long same there =
+      let within : part.type_index < length xs = omega (arith, type_within, long) in
+      let one : Some x ≡ Some y = sym (set_same xs part.type_index x within) ∙ ap (slice_get (set xs part.type_index x)) same ∙ there in
+      cc
+
+  pub moved_more : (named : List Bool) (past : List PastPart) (s : State) (p : PastPart) → AreMoved (take i parts) states named past → MovesState part.section s p
+      → AreMoved (take (i + 1) parts) (set states part.type_index s) (set named part.type_index true) (set past part.type_index p)
+  moved_more named past s p moved one = record {
+    named_long = length-set named part.type_index true ∙ moved.named_long ∙ sym (length-set states part.type_index s);
+    past_long = length-set past part.type_index p ∙ moved.past_long ∙ sym (length-set states part.type_index s);
+    types = λ t state is_named kept at flag there. elim (cases_eq part.type_index t) [
+      | inl same ↦ this t state is_named kept same at flag there
+      | inr apart ↦
+          that t state is_named kept apart
+          (moved.types t state is_named kept (sym (set_other states part.type_index t s apart) ∙ at) (sym (set_other named part.type_index t true apart) ∙ flag) (sym (set_other past part.type_index t p apart) ∙ there))
     ];
   }
     where
-      this : (t : ℕ) (state : State) (kept : PastPart) → part.type_index ≡ t → slice_get (set states part.type_index s) t ≡ Some state → slice_get (set past part.type_index p) t ≡ Some kept → TypeIs (take (i + 1) parts) t state kept
-      this t state kept same at there =
-          let was : Some s ≡ Some state = sym (set_same states part.type_index s type_within) ∙ ap (slice_get (set states part.type_index s)) same ∙ at in
-          let within : part.type_index < length past = omega (arith, type_within, moved.long) in
-          let held : Some p ≡ Some kept = sym (set_same past part.type_index p within) ∙ ap (slice_get (set past part.type_index p)) same ∙ there in
-          let state_is : s ≡ state = cc in
-          let kept_is : p ≡ kept = cc in
-          TypeIs.Named i part (taken_last parts i part part_at) same (subst (λ (x : State). MovesState part.section x kept) state_is (subst (λ (x : PastPart). MovesState part.section s x) kept_is one))
+      this : (t : ℕ) (state : State) (is_named : Bool) (kept : PastPart) → part.type_index ≡ t → slice_get (set states part.type_index s) t ≡ Some state → slice_get (set named part.type_index true) t ≡ Some is_named
+          → slice_get (set past part.type_index p) t ≡ Some kept → TypeIs (take (i + 1) parts) t state is_named kept
+      this t state is_named kept same at flag there =
+          let state_is : s ≡ state = put_there states t s state refl same at in
+          let kept_is : p ≡ kept = put_there past t p kept moved.past_long same there in
+          TypeIs.Named (sym (put_there named t true is_named moved.named_long same flag)) i part (taken_last parts i part part_at) same
+          (subst (λ (x : State). MovesState part.section x kept) state_is (subst (λ (x : PastPart). MovesState part.section s x) kept_is one))
 
-      that : (t : ℕ) (state : State) (kept : PastPart) → (part.type_index ≡ t → ⊥) → TypeIs (take i parts) t state kept → TypeIs (take (i + 1) parts) t state kept
-      that t state kept apart (TypeIs.Unnamed none all) =
+      that : (t : ℕ) (state : State) (is_named : Bool) (kept : PastPart) → (part.type_index ≡ t → ⊥) → TypeIs (take i parts) t state is_named kept → TypeIs (take (i + 1) parts) t state is_named kept
+      that t state is_named kept apart (TypeIs.Unnamed unnamed none all) =
           let last : get_or parts i part ≡ part = sym is in
-          TypeIs.Unnamed none (subst (All (λ named. named.type_index ≡ t → ⊥)) (sym (take_more parts i part inside ∙ ap (λ (x : PatchPart). take i parts ++ x ∷ []) last)) (all_push (λ named. named.type_index ≡ t → ⊥) (take i parts) part all apart))
-      that t state kept apart (TypeIs.Named place named at same moves) = TypeIs.Named place named (taken_from parts i place named at) same moves
+          TypeIs.Unnamed unnamed none
+          (subst (All (λ named. named.type_index ≡ t → ⊥)) (sym (take_more parts i part inside ∙ ap (λ (x : PatchPart). take i parts ++ x ∷ []) last)) (all_push (λ named. named.type_index ≡ t → ⊥) (take i parts) part all apart))
+      that t state is_named kept apart (TypeIs.Named flag place by at same moves) = TypeIs.Named flag place by (taken_from parts i place by at) same moves
 
 -- ---- refusals
 
@@ -173,9 +177,14 @@ refused_exit P (Err f) e is refuses = subst (TellsRefusal P) (sym is) refuses
 
 -- ---- what is kept
 
-pub rows_more : (state : State) (ordinals : List ℕ) (i : ℕ) (rows after : List Row) (row : Row) → i < length ordinals → AllZip (λ o r. get state.current.rows o ≡ Some r) (take i ordinals) rows
-    → get state.current.rows (get_or ordinals i 0) ≡ Some row → after ≡ rows ++ row ∷ [] → AllZip (λ o r. get state.current.rows o ≡ Some r) (take (i + 1) ordinals) after
-rows_more state ordinals i rows after row inside all one is =
-    let R : ℕ → Row → Type 0 = λ o r. get state.current.rows o ≡ Some r in
-    subst (AllZip R (take (i + 1) ordinals)) (sym is)
-    (subst (λ (os : List ℕ). AllZip R os (rows ++ row ∷ [])) (sym (take_more ordinals i 0 inside)) (zip_push R (take i ordinals) rows (get_or ordinals i 0) row all one))
+-- the row of a live ordinal, and the rows beside those behind it
+row_beside : (rows : RowMap) (o : ℕ) (ordinals : List ℕ) (behind : List Row) (found : Option Row) → get rows o ≡ found → IsSome found → AllZip (λ q row. get rows q ≡ Some row) ordinals behind
+    → AllZip (λ q row. get rows q ≡ Some row) (o ∷ ordinals) (cons_option found behind)
+row_beside rows o ordinals behind None is some rest = absurd (false≢true some)
+row_beside rows o ordinals behind (Some row) is some rest = (is, rest)
+
+-- the rows of live ordinals stand one beside each
+pub rows_beside : (rows : RowMap) (ordinals : List ℕ) → All (λ o. IsSome (get rows o)) ordinals → AllZip (λ o row. get rows o ≡ Some row) ordinals (rows_of_places (map (λ o. get rows o) ordinals))
+rows_beside rows [] live = tt
+rows_beside rows (o ∷ ordinals) live =
+    row_beside rows o ordinals (rows_of_places (map (λ q. get rows q) ordinals)) (get rows o) refl (All-head (λ q. IsSome (get rows q)) o ordinals live) (rows_beside rows ordinals (All-tail (λ q. IsSome (get rows q)) o ordinals live))

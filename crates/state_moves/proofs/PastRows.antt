@@ -1,7 +1,9 @@
 -- The rows before the last step, ordinal by ordinal.
 use Rattle.std.proofs.Common.{◌≡◌, ◌<◌, ◌≤◌, ◌+◌, ◌-◌, ◌⊎◌, inl, inr, ℕ, zero, suc, List, [], ◌∷◌, length, get_or, Bool, true, false, cond, Option, Some, None, Result, Ok, Err, refl, sym, ap, ◌∙◌, subst, arith, eqb, eq-eqb, eqb-true}
-use Rattle.std.specs.Prelude.{IsSome, slice_get, zip, not, is_ok, MatchResult, ◌||◌, ◌↔◌, IsTrue, IfOk}
+use Rattle.std.specs.Prelude.{All, IsSome, IsSomeAnd, slice_get, zip, not, is_ok, MatchOption, MatchResult, ◌||◌, ◌↔◌, IsTrue, IfOk}
 use Rattle.std.specs.List.{list_any}
+use Rattle.std.specs.Borrow.{Bor}
+use Rattle.std.specs.Option.{option_copied}
 use Rattle.std.specs.declared.alloc.AllocError.{AllocError}
 use Rattle.std.specs.List.Sorted.{IsStrictlyIncreasing, IsStrictlySortedBy, IsBinarySearchResult}
 use Rattle.std.specs.Ordering.{nat_cmp, eq_by_cmp}
@@ -9,6 +11,7 @@ use Rattle.std.specs.declared.cmp.Ordering.TheVariants.{Equal}
 use Rattle.std.specs.Cmp.{nat_cmp_total, ranked}
 use Rattle.std.specs.FinMap.{find, get, keys, retain_keys, get-insert, get-retain_keys}
 use Rattle.std.proofs.lemmas.Bool.{cases_lt, cases_order, false_from_ne_true, false≢true}
+use Rattle.std.proofs.lemmas.List.Elements.{All-head, All-tail}
 use Rattle.std.proofs.lemmas.List.Sorted.{searched}
 use Rattle.std.proofs.lemmas.Option.{get_or_from_slice_get, slice_get-get_or}
 use Rattle.std.proofs.lemmas.Map.Keys.{below_from_sorted, sorted_from_strictly_increasing}
@@ -18,7 +21,7 @@ use Rattle.row_model.specs.Table.{RowMap}
 use Rattle.row_model.proofs.RowEntries.{skips, finds}
 use Rattle.type_state.specs.State.{State}
 use Rattle.type_state.proofs.NextStates.{bound_of_state}
-use Rattle.state_moves.specs.Past.{FitsPast, PastPart, is_new, left_rows, rows_before, with_rows}
+use Rattle.state_moves.specs.Past.{FitsPast, PastPart, is_new, left_rows, rows_before, rows_of_places, with_rows}
 use Rattle.state_moves.specs.Halves.{IsRowsBound}
 
 -- ---- numbers that rise
@@ -71,11 +74,16 @@ missed [] rs o none = refl
 missed (x ∷ os) [] o none = refl
 missed (x ∷ os) (w ∷ rs) o none = skips o (x, w) (zip os rs) (λ same. none 0 (omega arith) (sym same)) ∙ missed os rs o (λ k inside. none (suc k) (omega arith))
 
-pub search_left : (part : PastPart) (gone : List ℕ) (o i : ℕ) (r : Row) → gone ≡ part.gone → IsStrictlyIncreasing part.gone → IsBinarySearchResult (λ y. nat_cmp y o) gone (Ok i) → slice_get part.rows i ≡ Some r
+search_row : (part : PastPart) (gone : List ℕ) (o i : ℕ) (r : Row) → gone ≡ part.gone → IsStrictlyIncreasing part.gone → IsBinarySearchResult (λ y. nat_cmp y o) gone (Ok i) → slice_get part.rows i ≡ Some r
     → find nat_cmp o (left_rows part) ≡ Some r
-search_left part gone o i r same rises at there =
+search_row part gone o i r same rises at there =
     let told = searched gone o (Ok i) at (not_below gone (subst IsStrictlyIncreasing (sym same) rises)) in
     found part.gone part.rows o i r (sorted_from_strictly_increasing part.gone rises) (subst (λ (xs : List ℕ). i < length xs) same told.0) (subst (λ (xs : List ℕ). get_or xs i 0 ≡ o) same told.1) there
+
+pub search_left : (part : PastPart) (gone : List ℕ) (o i : ℕ) (lent : Option (Bor Row)) → gone ≡ part.gone → IsStrictlyIncreasing part.gone → IsBinarySearchResult (λ y. nat_cmp y o) gone (Ok i)
+    → IsSomeAnd lent (λ row. slice_get part.rows i ≡ Some row.now) → MatchOption lent (find nat_cmp o (left_rows part) ≡ None) (λ row. find nat_cmp o (left_rows part) ≡ Some row.now)
+search_left part gone o i None same rises at there = absurd there
+search_left part gone o i (Some row) same rises at there = search_row part gone o i row.now same rises at there
 
 pub search_no_left : (part : PastPart) (gone : List ℕ) (o i : ℕ) → gone ≡ part.gone → IsStrictlyIncreasing part.gone → IsBinarySearchResult (λ y. nat_cmp y o) gone (Err i) → find nat_cmp o (left_rows part) ≡ None
 search_no_left part gone o i same rises not_at =
@@ -84,6 +92,24 @@ search_no_left part gone o i same rises not_at =
       | inl before ↦ omega (arith, told.1 k before, is)
       | inr after ↦ omega (arith, told.2 k after inside, is)
     ]))
+
+-- where each place has a row, as many rows stand there as there are places
+pub rows_long : (places : List (Option Row)) → All (λ place. IsSome place) places → length (rows_of_places places) ≡ length places
+rows_long [] full = refl
+rows_long (Some row ∷ places) full = let rest = rows_long places (All-tail (λ place. IsSome place) (Some row) places full) in omega (arith, rest)
+rows_long (None ∷ places) full = absurd (false≢true (All-head (λ place. IsSome place) None places full))
+
+row_stands : (places : List (Option Row)) (i : ℕ) (place : Option Row) → All (λ place. IsSome place) places → slice_get places i ≡ Some place → IsSomeAnd place (λ row. slice_get (rows_of_places places) i ≡ Some row)
+row_stands [] i place full is = absurd cc
+row_stands (None ∷ places) i place full is = absurd (false≢true (All-head (λ place. IsSome place) None places full))
+row_stands (Some row ∷ places) zero place full is = let same : Some row ≡ place = cc in subst (λ (found : Option Row). IsSomeAnd found (λ r. Some row ≡ Some r)) same refl
+row_stands (Some row ∷ places) (suc i) place full is = row_stands places i place (All-tail (λ place. IsSome place) (Some row) places full) is
+
+-- the row that is lent of a place
+pub row_lent : (places : List (Option Row)) (i : ℕ) (lent : Option (Bor Row)) (place : Option Row) → All (λ place. IsSome place) places → slice_get places i ≡ Some place → option_copied lent ≡ place
+    → IsSomeAnd lent (λ row. slice_get (rows_of_places places) i ≡ Some row.now)
+row_lent places i None place full is copied = subst (λ (found : Option Row). IsSomeAnd found (λ row. slice_get (rows_of_places places) i ≡ Some row)) (sym copied) (row_stands places i place full is)
+row_lent places i (Some row) place full is copied = subst (λ (found : Option Row). IsSomeAnd found (λ row. slice_get (rows_of_places places) i ≡ Some row)) (sym copied) (row_stands places i place full is)
 
 -- what is found stands among the ordinals
 pub place_of : (os : List ℕ) (rs : List Row) (o : ℕ) (r : Row) → find nat_cmp o (zip os rs) ≡ Some r → (k : ℕ) × (k < length os) × (get_or os k 0 ≡ o)

@@ -1,26 +1,20 @@
 -- Tables by type: those of the current rows and of the rows before.
-use Rattle.std.proofs.Common.{◌≡◌, ◌<◌, ◌⊎◌, inl, inr, ℕ, zero, suc, List, [], ◌∷◌, length, get_or, map, Bool, false, Option, Some, None, Result, refl, sym, ap, ◌∙◌, subst, arith}
+use Rattle.std.proofs.Common.{◌≡◌, ◌<◌, ◌⊎◌, inl, inr, ℕ, zero, suc, List, [], ◌∷◌, length, Bool, false, Option, Some, None, Result, refl, sym, ap, ◌∙◌, subst, arith}
 use Rattle.std.specs.Prelude.{IsSome, IsTrue, IfOk, ◌↔◌, slice_get}
 use Rattle.std.specs.List.{AllZip}
 use Rattle.std.specs.declared.alloc.AllocError.{AllocError}
 use Rattle.std.specs.FinMap.{get}
 use Rattle.std.specs.Option.{option_and_then, option_map}
 use Rattle.std.proofs.lemmas.Bool.{false≢true}
-use Rattle.std.proofs.lemmas.List.{length-map}
-use Rattle.std.proofs.lemmas.Option.{slice_get-get_or, slice_get-map, slice_get_within}
+use Rattle.std.proofs.lemmas.Option.{slice_get-map, slice_get_within}
 use Rattle.row_model.specs.declared.row.Row.{Row}
 use Rattle.row_model.specs.declared.lent.LentRow.{LentRow}
-use Rattle.schema_model.specs.declared.schema.Schema.{Schema}
 use Rattle.row_model.specs.Lent.{lent_row}
 use Rattle.row_model.specs.Table.{RowMap, Table, row_at, IsLive, IsBound}
 use Rattle.type_state.specs.State.{Half, State}
 use Rattle.type_state.specs.Views.{table_of}
 use Rattle.state_moves.specs.Past.{FitsPast, PastPart, rows_before, table_before}
 use Rattle.state_moves.specs.Halves.{IsRowsBound, current_halves}
-
--- what is read at an index stands there
-pub read_there : {A : Type 0} (xs : List A) (i : ℕ) (x : A) → i < length xs → x ≡ get_or xs i x → slice_get xs i ≡ Some x
-read_there xs i x inside is = slice_get-get_or xs i x inside ∙ ap Some (sym is)
 
 module _ (table : Table) (t : ℕ) where
   pub row_of : (o : ℕ) (rows : RowMap) → slice_get table t ≡ Some rows → row_at table t o ≡ get rows o
@@ -78,12 +72,6 @@ pub current_off : (states : List State) (t : ℕ) → slice_get states t ≡ Non
 current_off states t none =
     slice_get-map (λ (half : Half). half.rows) (current_halves states) t
     ∙ ap (option_map (λ (half : Half). half.rows)) (slice_get-map (λ (s : State). s.current) states t ∙ ap (option_map (λ (s : State). s.current)) none)
-
--- the row of a type that is read
-pub row_now : (schemas : List Schema) (states : List State) (t o : ℕ) (state : State) → map (λ (s : State). s.schema) states ≡ schemas → t < length schemas → state ≡ get_or states t state → row_at (table_of (current_halves states)) t o ≡ get state.current.rows o
-row_now schemas states t o state named known is =
-    let inside : t < length states = omega (arith, known, ap length named, length-map states (λ (s : State). s.schema)) in
-    row_of (table_of (current_halves states)) t o state.current.rows (current_at states t state (read_there states t state inside is))
 
 -- ---- the rows before
 

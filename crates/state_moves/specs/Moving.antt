@@ -1,6 +1,6 @@
 -- How the parts of a patch move the types of a state: each named type has its new rows in the half that comes next, and of what it had is kept
--- what the patch changes.
-use Rattle.std.specs.Prelude.{◌≡◌, ◌<◌, ◌-◌, ◌^◌, ℕ, List, [], ◌∷◌, Some, true, if◌then◌else◌, All, length, map, slice_get}
+-- what the patch changes. Which types are named is told by a list beside the states, one truth value for each type, as long as the step lasts.
+use Rattle.std.specs.Prelude.{◌≡◌, ◌<◌, ◌-◌, ◌^◌, ℕ, Bool, List, [], ◌∷◌, Some, false, true, if◌then◌else◌, All, length, map, slice_get}
 use Rattle.std.specs.List.{AllZip}
 use Rattle.std.specs.FinMap.{get}
 use Rattle.schema_model.specs.declared.limit.Limit.{Limit}
@@ -18,31 +18,30 @@ use Rattle.state_moves.specs.Halves.{current_halves}
 use Rattle.state_moves.specs.Past.{FitsPast, PastPart, no_part, table_before}
 
 -- the half that comes: the next one of a type that the step names, else the current one
-abbrev pub coming_half : State → PastPart → Half
-coming_half state part = (if part.named then state.other else state.current)
+abbrev pub coming_half : State → Bool → Half
+coming_half state is_named = (if is_named then state.other else state.current)
 
 -- the same of each type
-unfoldable pub coming_halves : List State → List PastPart → List Half
-coming_halves (state ∷ states) (part ∷ past) = coming_half state part ∷ coming_halves states past
+unfoldable pub coming_halves : List State → List Bool → List Half
+coming_halves (state ∷ states) (is_named ∷ named) = coming_half state is_named ∷ coming_halves states named
 coming_halves _ _ = []
 
 -- the type behind the step: with the half that comes as its current one
-abbrev pub coming_state : State → PastPart → State
-coming_state state part = (if part.named then record { schema = state.schema; current = state.other; other = state.current } else state)
+abbrev pub coming_state : State → Bool → State
+coming_state state is_named = (if is_named then record { schema = state.schema; current = state.other; other = state.current } else state)
 
 -- The half that comes is laid out, where it is the next one.
-abbrev pub IsComingLaid : State → PastPart → Type 0
-IsComingLaid state part = part.named ≡ true → IsLaidOut state.schema state.other
+abbrev pub IsComingLaid : State → Bool → Type 0
+IsComingLaid state is_named = is_named ≡ true → IsLaidOut state.schema state.other
 
 -- The states are those of the model, and the halves that come are laid out and fit it.
-pub record AreComing (schemas : List Schema) (states : List State) (past : List PastPart) : Type 0 where
-  pub named : map (λ state. state.schema) states ≡ schemas
-  pub laid : AllZip IsComingLaid states past
-  pub fits : IsTableOf schemas (table_of (coming_halves states past))
+pub record AreComing (schemas : List Schema) (states : List State) (named : List Bool) : Type 0 where
+  pub of_model : map (λ state. state.schema) states ≡ schemas
+  pub laid : AllZip IsComingLaid states named
+  pub fits : IsTableOf schemas (table_of (coming_halves states named))
 
 -- What is kept of a type: the ordinals of its patch, and the row of each that leaves.
 pub record KeepsPatch (now : RowMap) (section : PatchSection) (part : PastPart) : Type 0 where
-  pub named : part.named ≡ true
   pub came : part.came ≡ section.added
   pub gone : part.gone ≡ section.removed
   pub small : All (λ ordinal. ordinal < 2 ^ 32 - 1) part.gone
@@ -56,15 +55,17 @@ pub record MovesState (section : PatchSection) (state : State) (part : PastPart)
   pub laid : IsLaidOut state.schema state.other
   pub keeps : KeepsPatch state.current.rows section part
 
--- Of these parts one moved the type at the index, or none names it and nothing is kept of it.
-pub data TypeIs (parts : List PatchPart) (type_index : ℕ) (state : State) (part : PastPart) : Type 0 where
-  Unnamed : part ≡ no_part → All (λ named. named.type_index ≡ type_index → ⊥) parts → TypeIs parts type_index state part
-  Named : (place : ℕ) (named : PatchPart) → slice_get parts place ≡ Some named → named.type_index ≡ type_index → MovesState named.section state part → TypeIs parts type_index state part
+-- Of these parts one moved the type at the index, which is named, or none names it and nothing is kept of it.
+pub data TypeIs (parts : List PatchPart) (type_index : ℕ) (state : State) (is_named : Bool) (part : PastPart) : Type 0 where
+  Unnamed : is_named ≡ false → part ≡ no_part → All (λ named. named.type_index ≡ type_index → ⊥) parts → TypeIs parts type_index state is_named part
+  Named : is_named ≡ true → (place : ℕ) (named : PatchPart) → slice_get parts place ≡ Some named → named.type_index ≡ type_index → MovesState named.section state part → TypeIs parts type_index state is_named part
 
 -- The parts moved the types.
-pub record AreMoved (parts : List PatchPart) (states : List State) (past : List PastPart) : Type 0 where
-  pub long : length past ≡ length states
-  pub types : (type_index : ℕ) (state : State) (part : PastPart) → slice_get states type_index ≡ Some state → slice_get past type_index ≡ Some part → TypeIs parts type_index state part
+pub record AreMoved (parts : List PatchPart) (states : List State) (named : List Bool) (past : List PastPart) : Type 0 where
+  pub named_long : length named ≡ length states
+  pub past_long : length past ≡ length states
+  pub types : (type_index : ℕ) (state : State) (is_named : Bool) (part : PastPart) → slice_get states type_index ≡ Some state → slice_get named type_index ≡ Some is_named → slice_get past type_index ≡ Some part
+      → TypeIs parts type_index state is_named part
 
 -- The section of a part can be read as one of its type.
 abbrev pub IsReadableIn : List State → PatchPart → Type 0
@@ -86,13 +87,13 @@ pub record IsStuck (states : List State) (parts : List PatchPart) : Type 0 where
 
 -- The parts moved the types into their next halves: the rows that come fit the model and are closed, and what is kept of each type fits them and
 -- gives the rows before.
-pub record MovesParts (schemas : List Schema) (parts : List PatchPart) (before states : List State) (past : List PastPart) : Type 0 where
-  pub moved : AreMoved parts states past
+pub record MovesParts (schemas : List Schema) (parts : List PatchPart) (before states : List State) (named : List Bool) (past : List PastPart) : Type 0 where
+  pub moved : AreMoved parts states named past
   pub stays : StaysCurrent before states
-  pub coming : AreComing schemas states past
-  pub closed : IsClosed schemas (table_of (coming_halves states past))
-  pub fits : AllZip FitsPast (table_of (coming_halves states past)) past
-  pub was : table_before (table_of (coming_halves states past)) past ≡ table_of (current_halves before)
+  pub coming : AreComing schemas states named
+  pub closed : IsClosed schemas (table_of (coming_halves states named))
+  pub fits : AllZip FitsPast (table_of (coming_halves states named)) past
+  pub was : table_before (table_of (coming_halves states named)) past ≡ table_of (current_halves before)
 
 -- The limits that a move may pass.
 abbrev pub IsMoveLimit : Limit → Type 0
@@ -109,4 +110,5 @@ TellsRefusal Fact Memory = Unit {0}
 -- Why the parts are refused: the rows of a type cannot be moved, or the rows that come are not closed.
 pub data RefusesParts (schemas : List Schema) (parts : List PatchPart) (before : List State) : Type 0 where
   Stuck : IsStuck before parts → RefusesParts schemas parts before
-  Open : (mid : List State) (past : List PastPart) → AreMoved parts mid past → StaysCurrent before mid → (IsClosed schemas (table_of (coming_halves mid past)) → ⊥) → RefusesParts schemas parts before
+  Open : (mid : List State) (named : List Bool) (past : List PastPart) → AreMoved parts mid named past → StaysCurrent before mid → (IsClosed schemas (table_of (coming_halves mid named)) → ⊥)
+      → RefusesParts schemas parts before

@@ -1,7 +1,7 @@
 -- What is kept of a type from the last step, and the rows that the type had before it.
-use Rattle.std.specs.Prelude.{◌≡◌, ◌==◌, ◌<◌, ◌-◌, ◌^◌, ℕ, Bool, false, not, List, [], ◌∷◌, None, IsSome, All, zip, length, refl}
-use Rattle.std.specs.Coded.{Coded, code_by, coded×, coded_ℕ, coded_bool, coded_list}
-use Rattle.std.specs.List.{AllZip, list_any}
+use Rattle.std.specs.Prelude.{◌≡◌, ◌==◌, ◌<◌, ◌-◌, ◌^◌, ℕ, Bool, not, List, [], ◌∷◌, Option, None, IsSome, All, zip, length, refl}
+use Rattle.std.specs.Coded.{Coded, code_by, coded×, coded_ℕ, coded_list}
+use Rattle.std.specs.List.{AllZip, filter_map, list_any}
 use Rattle.std.specs.List.Sorted.{IsStrictlyIncreasing}
 use Rattle.std.specs.FinMap.{get, insert, retain_keys}
 use Rattle.row_model.specs.declared.row.Row.{Row}
@@ -9,12 +9,15 @@ use Rattle.row_model.specs.contracts.row.Row as row_contract
 use Rattle.schema_model.specs.declared.schema.Schema.{Schema}
 use Rattle.row_model.specs.Table.{IsTableOf, RowMap, Table}
 
--- What the last step changed of a type: whether it named the type, the ordinals that came, those that left, and the row of each that left.
+-- What the last step changed of a type: the ordinals that came, those that left, and the row of each that left.
 pub record PastPart : Type 0 where
-  pub named : Bool
   pub came : List ℕ
   pub gone : List ℕ
   pub rows : List Row
+
+-- the rows that stand at some places
+abbrev pub rows_of_places : List (Option Row) → List Row
+rows_of_places places = filter_map (λ place. place) places
 
 -- whether the ordinal came in the last step
 abbrev pub is_new : PastPart → ℕ → Bool
@@ -54,9 +57,8 @@ pub record HasBefore (schemas : List Schema) (table : Table) (past : List PastPa
 
 -- Nothing is kept of a type that the last step did not name.
 abbrev pub no_part : PastPart
-no_part = record { named = false; came = []; gone = []; rows = [] }
+no_part = record { came = []; gone = []; rows = [] }
 
 abbrev pub past_code : Coded PastPart
 past_code =
-    code_by (Bool × (List ℕ × (List ℕ × List Row))) (coded× coded_bool (coded× (coded_list coded_ℕ) (coded× (coded_list coded_ℕ) (coded_list (row_contract.the_row).coded)))) (λ p. (p.named, (p.came, (p.gone, p.rows))))
-    (λ p. record { named = p.0; came = p.1.0; gone = p.1.1.0; rows = p.1.1.1 }) (λ _. refl)
+    code_by (List ℕ × (List ℕ × List Row)) (coded× (coded_list coded_ℕ) (coded× (coded_list coded_ℕ) (coded_list (row_contract.the_row).coded))) (λ p. (p.came, (p.gone, p.rows))) (λ p. record { came = p.0; gone = p.1.0; rows = p.1.1 }) (λ _. refl)

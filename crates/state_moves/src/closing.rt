@@ -23,17 +23,18 @@ pub(crate) fn check_closed(
     alloc: Global,
     model: &Model,
     states: &[TypeState],
+    named: &[bool],
     past: &[PastPart],
 ) -> Result<(), MoveFault>
-    requires coming { AreComing model.now states.now past.now }
-    requires fits { AllZip FitsPast (table_of (coming_halves states.now past.now)) past.now }
-    requires closed { IsClosed model.now (table_before (table_of (coming_halves states.now past.now)) past.now) }
-    ensures { MatchResult result (λ done. IsClosed model.now (table_of (coming_halves states.now past.now))) (TellsRefusal (IsClosed model.now (table_of (coming_halves states.now past.now)) → ⊥)) }
+    requires coming { AreComing model.now states.now named.now }
+    requires fits { AllZip FitsPast (table_of (coming_halves states.now named.now)) past.now }
+    requires closed { IsClosed model.now (table_before (table_of (coming_halves states.now named.now)) past.now) }
+    ensures { MatchResult result (λ done. IsClosed model.now (table_of (coming_halves states.now named.now))) (TellsRefusal (IsClosed model.now (table_of (coming_halves states.now named.now)) → ⊥)) }
 {
     let rows = Coming {
         model,
         states,
-        past,
+        named,
     };
     for type_index in 0..model.len() {
         if !is_type_closed(alloc, &rows, past, type_index)? {

@@ -6,8 +6,8 @@ ghost use Rattle.type_state.specs.Views.{table_of};
 ghost use Rattle.state_moves.specs.Moving.{AreComing, IsComingLaid, coming_half, coming_halves};
 ghost use Rattle.state_moves.specs.Halves.{IsRowsBound};
 
+use crate::moved::is_named;
 use crate::now::state_at;
-use crate::past::{PastPart, part_at};
 use row_model::{LentRow, Row, Rows};
 use schema_model::Model;
 use std::alloc::{AllocError, Global};
@@ -18,7 +18,7 @@ use type_state::TypeState;
 pub struct Coming<'a> {
     pub(crate) model: &'a Model,
     pub(crate) states: &'a [TypeState],
-    pub(crate) past: &'a [PastPart],
+    pub(crate) named: &'a [bool],
 }
 
 impl<'a> std::marker::Model for Coming<'a> {
@@ -29,22 +29,22 @@ impl<'a> std::marker::Model for Coming<'a> {
 
     ghost coded = { content_code };
 
-    ghost view = { λ r. record { schemas = r.model.now; table = table_of (coming_halves r.states.now r.past.now) } };
+    ghost view = { λ r. record { schemas = r.model.now; table = table_of (coming_halves r.states.now r.named.now) } };
 
-    ghost invariant = { λ r. AreComing r.model.now r.states.now r.past.now };
+    ghost invariant = { λ r. AreComing r.model.now r.states.now r.named.now };
 }
 
 impl<'a> Coming<'a> {
-    /// The rows that come in the step that changes this of each type.
-    pub fn new(model: &'a Model, states: &'a [TypeState], past: &'a [PastPart]) -> Coming<'a>
-        requires { AreComing model.now states.now past.now }
+    /// The rows that come in a step that names these of the types.
+    pub fn new(model: &'a Model, states: &'a [TypeState], named: &'a [bool]) -> Coming<'a>
+        requires { AreComing model.now states.now named.now }
         ensures schemas { result.schemas ≡ model.now }
-        ensures table { result.table ≡ table_of (coming_halves states.now past.now) }
+        ensures table { result.table ≡ table_of (coming_halves states.now named.now) }
     {
         Coming {
             model,
             states,
-            past,
+            named,
         }
     }
 }
@@ -60,21 +60,21 @@ impl<'a> Rows for Coming<'a> {
 
     fn bound(&self, type_index: u32) -> u32 {
         match state_at(self.states, type_index) {
-            Some(state) => bound_to_come(state, part_at(self.past, type_index)),
+            Some(state) => bound_to_come(state, is_named(self.named, type_index)),
             None => 0,
         }
     }
 
     fn is_live(&self, type_index: u32, ordinal: u32) -> bool {
         match state_at(self.states, type_index) {
-            Some(state) => comes_live(state, part_at(self.past, type_index), ordinal),
+            Some(state) => comes_live(state, is_named(self.named, type_index), ordinal),
             None => false,
         }
     }
 
     fn row(&self, alloc: Global, type_index: u32, ordinal: u32) -> Result<Row, AllocError> {
         match state_at(self.states, type_index) {
-            Some(state) => row_to_come(alloc, state, part_at(self.past, type_index), ordinal),
+            Some(state) => row_to_come(alloc, state, is_named(self.named, type_index), ordinal),
             None => unreachable!(),
         }
     }
@@ -86,18 +86,18 @@ impl<'a> Rows for Coming<'a> {
         ordinal: u32,
     ) -> Result<LentRow<'_>, AllocError> {
         match state_at(self.states, type_index) {
-            Some(state) => lend_to_come(alloc, state, part_at(self.past, type_index), ordinal),
+            Some(state) => lend_to_come(alloc, state, is_named(self.named, type_index), ordinal),
             None => unreachable!(),
         }
     }
 }
 
 // One past the greatest ordinal of a type that comes or stays, 0 for none.
-fn bound_to_come(state: &TypeState, part: &PastPart) -> u32
-    requires { IsComingLaid state.now part.now }
-    ensures { IsRowsBound (coming_half state.now part.now).rows result }
+fn bound_to_come(state: &TypeState, is_named: bool) -> u32
+    requires { IsComingLaid state.now is_named }
+    ensures { IsRowsBound (coming_half state.entry.now is_named).rows result }
 {
-    if part.is_named() {
+    if is_named {
         state.next_bound()
     } else {
         state.bound()
@@ -105,11 +105,11 @@ fn bound_to_come(state: &TypeState, part: &PastPart) -> u32
 }
 
 // Whether a type comes to have a row under the ordinal.
-fn comes_live(state: &TypeState, part: &PastPart, ordinal: u32) -> bool
-    requires { IsComingLaid state.now part.now }
-    ensures { IsTrue result ↔ IsSome (get (coming_half state.now part.now).rows ordinal) }
+fn comes_live(state: &TypeState, is_named: bool, ordinal: u32) -> bool
+    requires { IsComingLaid state.now is_named }
+    ensures { IsTrue result ↔ IsSome (get (coming_half state.entry.now is_named).rows ordinal) }
 {
-    if part.is_named() {
+    if is_named {
         state.next_is_live(ordinal)
     } else {
         state.is_live(ordinal)
@@ -120,14 +120,14 @@ fn comes_live(state: &TypeState, part: &PastPart, ordinal: u32) -> bool
 fn row_to_come(
     alloc: Global,
     state: &TypeState,
-    part: &PastPart,
+    is_named: bool,
     ordinal: u32,
 ) -> Result<Row, AllocError>
-    requires laid { IsComingLaid state.now part.now }
-    requires live { IsSome (get (coming_half state.now part.now).rows ordinal) }
-    ensures { IfOk result (λ row. get (coming_half state.now part.now).rows ordinal ≡ Some row) }
+    requires laid { IsComingLaid state.now is_named }
+    requires live { IsSome (get (coming_half state.now is_named).rows ordinal) }
+    ensures { IfOk result (λ row. get (coming_half state.entry.now is_named).rows ordinal ≡ Some row) }
 {
-    if part.is_named() {
+    if is_named {
         state.next_row(alloc, ordinal)
     } else {
         state.row(alloc, ordinal)
@@ -138,14 +138,14 @@ fn row_to_come(
 fn lend_to_come<'a>(
     alloc: Global,
     state: &'a TypeState,
-    part: &PastPart,
+    is_named: bool,
     ordinal: u32,
 ) -> Result<LentRow<'a>, AllocError>
-    requires laid { IsComingLaid state.now part.now }
-    requires live { IsSome (get (coming_half state.now part.now).rows ordinal) }
-    ensures { IfOk result (λ lent. get (coming_half state.now part.now).rows ordinal ≡ Some (lent_row lent)) }
+    requires laid { IsComingLaid state.now is_named }
+    requires live { IsSome (get (coming_half state.now is_named).rows ordinal) }
+    ensures { IfOk result (λ lent. get (coming_half state.entry.now is_named).rows ordinal ≡ Some (lent_row lent)) }
 {
-    if part.is_named() {
+    if is_named {
         state.lend_next(alloc, ordinal)
     } else {
         state.lend(alloc, ordinal)

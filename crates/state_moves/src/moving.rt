@@ -1,57 +1,70 @@
 //! Moving the types of a state by the parts of a patch, into their next halves.
-ghost use Rattle.std.specs.Prelude.{◌≡◌, ◌<◌, ◌^◌, All, IfErr, IfOk, IsSome, OnOk, Some, length, replicate};
+ghost use Rattle.std.specs.Prelude.{◌≡◌, ◌<◌, ◌^◌, All, IfErr, IfOk, IsSome, OnOk, false, length, map, replicate};
 ghost use Rattle.std.specs.FinMap.{get};
-ghost use Rattle.std.specs.List.{AllZip};
 ghost use Rattle.row_model.specs.Table.{RowMap};
 ghost use Rattle.type_rows.specs.Patches.{FitsOrdinals, IsMovedBy, IsReadablePatch, patch_layout};
 ghost use Rattle.state_moves.specs.Moving.{AreMoved, IsReadableIn, IsStuck, KeepsPatch, MovesState, StaysCurrent, TellsRefusal};
 ghost use Rattle.state_moves.specs.Past.{no_part};
 
 use crate::MoveFault;
+use crate::moved::{Moved, NamedTypes, none_named};
 use crate::past::{PastPart, PastParts, no_past};
 use delta_blob::PatchPart;
-use hol_varint::{List, Ordinals};
-use row_model::Row;
+use hol_varint::Ordinals;
+use row_model::Places;
 use schema_model::Limit;
 use std::alloc::{AllocError, Global};
 use type_rows::{PatchSection, RowFault};
 use type_state::TypeState;
 
-/// Moves the types, of which there are so many, by the parts of a patch, each into its next half, and answers what is to be kept of each type. The current halves stay as
-/// they are. `Refused` and `Large` come where a part moves the rows of its type to no rows.
+/// Moves the types, of which there are so many, by the parts of a patch, each into its next half, and answers which types they name and what is
+/// to be kept of each. The current halves stay as they are. `Refused` and `Large` come where a part moves the rows of its type to no rows.
 pub(crate) fn move_types(
     alloc: Global,
     count: u32,
     states: &mut [TypeState],
     parts: &[PatchPart],
-) -> Result<PastParts, MoveFault>
+) -> Result<Moved, MoveFault>
     requires count { count ≡ length states.old }
     requires readable { All (IsReadableIn states.old) parts.now }
     ensures stays { StaysCurrent states.old states.new }
-    ensures moved { IfOk result (AreMoved parts.now states.new) }
+    ensures moved { IfOk result (λ moved. AreMoved parts.now states.new moved.named moved.past) }
     ensures refused { IfErr result (TellsRefusal (IsStuck states.old parts.now)) }
 {
+    let mut named = none_named(alloc, count)?.into_vec();
     let mut past = no_past(alloc, count)?.into_vec();
-    move_each(alloc, states, past.as_mut_slice(), parts)?;
-    Ok(PastParts::from_vec(past))
+    move_each(
+        alloc,
+        states,
+        named.as_mut_slice(),
+        past.as_mut_slice(),
+        parts,
+    )?;
+    Ok(Moved {
+        named: NamedTypes::from_vec(named),
+        past: PastParts::from_vec(past),
+    })
 }
 
-// Moves each type that a part names, and notes what is to be kept of it.
+// Moves each type that a part names, and notes that it is named and what is to be kept of it.
 fn move_each(
     alloc: Global,
     states: &mut [TypeState],
+    named: &mut [bool],
     past: &mut [PastPart],
     parts: &[PatchPart],
 ) -> Result<(), MoveFault>
+    requires unnamed { named.old ≡ replicate (length states.old) false }
     requires none { past.old ≡ replicate (length states.old) no_part }
     requires readable { All (IsReadableIn states.old) parts.now }
     ensures stays { StaysCurrent states.old states.new }
-    ensures moved { OnOk result (AreMoved parts.now states.new past.new) }
+    ensures moved { OnOk result (AreMoved parts.now states.new named.new past.new) }
     ensures refused { IfErr result (TellsRefusal (IsStuck states.old parts.now)) }
 {
     for part in parts {
         let place = part.type_index as usize;
         let moved = move_type(alloc, &mut states[place], &part.section)?;
+        named[place] = true;
         past[place] = moved;
     }
     Ok(())
@@ -86,7 +99,7 @@ fn kept_part(
 ) -> Result<PastPart, AllocError>
     requires readable { IsReadablePatch state.now.schema.shape section.now }
     requires fits { FitsOrdinals state.now.current.rows (patch_layout section.now) section.now.removed section.now.added }
-    ensures { IfOk result (KeepsPatch state.now.current.rows section.now) }
+    ensures { IfOk result (KeepsPatch state.entry.now.current.rows section.now) }
 {
     // Each removed ordinal is live, and so below the bound.
     let _bound = state.bound();
@@ -109,13 +122,13 @@ fn narrowed(alloc: Global, ordinals: &[u64]) -> Result<Ordinals, AllocError>
 }
 
 // Copies of the current rows under live ordinals.
-fn rows_under(alloc: Global, state: &TypeState, ordinals: &[u32]) -> Result<List<Row>, AllocError>
+fn rows_under(alloc: Global, state: &TypeState, ordinals: &[u32]) -> Result<Places, AllocError>
     requires { All (λ ordinal. IsSome (get state.now.current.rows ordinal)) ordinals.now }
-    ensures { IfOk result (AllZip (λ ordinal row. get state.now.current.rows ordinal ≡ Some row) ordinals.now) }
+    ensures { IfOk result (λ rows. rows ≡ map (λ ordinal. get state.entry.now.current.rows ordinal) ordinals.now) }
 {
-    let mut rows = List::new(alloc);
+    let mut rows = Places::new(alloc);
     for ordinal in ordinals {
-        rows.push(state.row(alloc, *ordinal)?)?;
+        rows.push(Some(state.row(alloc, *ordinal)?))?;
     }
     Ok(rows)
 }

@@ -73,8 +73,8 @@ impl<'a> Rows for Now<'a> {
     }
 }
 
-// One past the greatest live ordinal of a type, 0 for none.
-fn bound_in(states: &[TypeState], type_index: u32) -> u32
+/// One past the greatest live ordinal of a type among the current rows of some types, 0 for none.
+pub fn bound_in(states: &[TypeState], type_index: u32) -> u32
     ensures { IsBound (table_of (current_halves states.now)) type_index result }
 {
     match state_at(states, type_index) {
@@ -83,8 +83,8 @@ fn bound_in(states: &[TypeState], type_index: u32) -> u32
     }
 }
 
-// Whether a type has a row under the ordinal.
-fn is_live_in(states: &[TypeState], type_index: u32, ordinal: u32) -> bool
+/// Whether a type has a current row under the ordinal.
+pub fn is_live_in(states: &[TypeState], type_index: u32, ordinal: u32) -> bool
     ensures { IsTrue result ↔ IsLive (table_of (current_halves states.now)) type_index ordinal }
 {
     match state_at(states, type_index) {
@@ -93,8 +93,8 @@ fn is_live_in(states: &[TypeState], type_index: u32, ordinal: u32) -> bool
     }
 }
 
-// A copy of the row of a type under a live ordinal.
-fn row_in(
+/// A copy of the current row of a type under a live ordinal.
+pub fn row_in(
     alloc: Global,
     states: &[TypeState],
     type_index: u32,
@@ -109,8 +109,8 @@ fn row_in(
     }
 }
 
-// The row of a type under a live ordinal, where it stands.
-fn lend_in(
+/// The current row of a type under a live ordinal, lent as long as the states are.
+pub fn lend_in(
     alloc: Global,
     states: &[TypeState],
     type_index: u32,

@@ -1,38 +1,39 @@
 //! What is kept of a type from the last step, so that the rows before it can still be looked up.
-ghost use Rattle.std.specs.Prelude.{◌≡◌, ◌↔◌, ◌<◌, ℕ, Some, None, IfOk, IsSome, IsTrue, MatchOption, length, replicate, slice_get, true};
+ghost use Rattle.std.specs.Prelude.{◌≡◌, ◌↔◌, ◌<◌, ℕ, All, Some, None, IfOk, IsSome, IsSomeAnd, IsTrue, MatchOption, length, replicate, slice_get};
 ghost use Rattle.std.specs.List.Sorted.{IsStrictlyIncreasing};
 ghost use Rattle.std.specs.FinMap.{find, get};
 ghost use Rattle.std.specs.Ordering.{nat_cmp};
 ghost use Rattle.row_model.specs.Lent.{lent_row};
-ghost use Rattle.state_moves.specs.Past.{FitsPast, is_new, left_rows, no_part, rows_before};
+ghost use Rattle.state_moves.specs.Past.{FitsPast, is_new, left_rows, no_part, rows_before, rows_of_places};
 ghost use Rattle.state_moves.specs.Halves.{IsRowsBound};
 
 use hol_varint::{Duplicate, List, Ordinals};
-use row_model::{LentRow, Row};
+use row_model::{LentRow, Places, Row};
 use std::alloc::{AllocError, Global};
 use type_state::TypeState;
 
 /// What the last step changed of a type.
 #[derive(Drop)]
 pub struct PastPart {
-    // Whether the step named the type.
-    named: bool,
     // The ordinals that came, rising.
     came: Ordinals,
     // The ordinals that left, rising.
     gone: Ordinals,
-    // The row of each that left.
-    rows: List<Row>,
+    // The row of each that left, each place with its row.
+    rows: Places,
 }
 
 impl std::marker::Model for PastPart {
-    ghost use Rattle.state_moves.specs.Past.{PastPart, past_code};
+    ghost use Rattle.std.specs.Prelude.{All, IsSome};
+    ghost use Rattle.state_moves.specs.Past.{PastPart, past_code, rows_of_places};
 
     ghost Value = { PastPart };
 
     ghost coded = { past_code };
 
-    ghost view = { λ p. record { named = p.named; came = p.came; gone = p.gone; rows = p.rows } };
+    ghost view = { λ p. record { came = p.came; gone = p.gone; rows = rows_of_places p.rows } };
+
+    ghost invariant = { λ p. All (λ place. IsSome place) p.rows };
 }
 
 /// What the last step changed of each type, in model order.
@@ -44,30 +45,18 @@ impl PastPart {
         ensures { result ≡ no_part }
     {
         PastPart {
-            named: false,
             came: Ordinals::new(alloc),
             gone: Ordinals::new(alloc),
-            rows: List::new(alloc),
+            rows: Places::new(alloc),
         }
     }
 
     /// The part of a type that a step named: the ordinals that came, those that left, and the row of each that left.
-    pub(crate) fn new(came: Ordinals, gone: Ordinals, rows: List<Row>) -> PastPart
-        ensures { result ≡ record { named = true; came = came; gone = gone; rows = rows } }
+    pub(crate) fn new(came: Ordinals, gone: Ordinals, rows: Places) -> PastPart
+        requires { All (λ place. IsSome place) rows }
+        ensures { result ≡ record { came = came; gone = gone; rows = rows_of_places rows } }
     {
-        PastPart {
-            named: true,
-            came,
-            gone,
-            rows,
-        }
-    }
-
-    /// Whether the step named the type.
-    pub(crate) fn is_named(&self) -> bool
-        ensures { result ≡ self.now.named }
-    {
-        self.named
+        PastPart { came, gone, rows }
     }
 
     /// The ordinals that came in the step, rising.
@@ -85,11 +74,11 @@ impl PastPart {
     }
 
     // The row of the ordinal at a place among those that left.
-    fn row_at(&self, place: usize) -> &Row
+    fn row_at(&self, place: usize) -> Option<&Row>
         requires { place < length self.now.rows }
-        ensures { slice_get self.now.rows place ≡ Some result.now }
+        ensures { IsSomeAnd result (λ row. slice_get self.now.rows place ≡ Some row.now) }
     {
-        self.rows.get(place)
+        self.rows.get(place).as_ref()
     }
 
     /// Whether the ordinal came.
@@ -108,7 +97,7 @@ impl PastPart {
     {
         let gone = self.gone().as_slice();
         match gone.binary_search(&ordinal) {
-            Ok(place) => Some(self.row_at(place)),
+            Ok(place) => self.row_at(place),
             Err(_) => None,
         }
     }
@@ -128,7 +117,7 @@ pub fn no_past(alloc: Global, count: u32) -> Result<PastParts, AllocError>
 /// Whether the type had a row under the ordinal before the step.
 pub(crate) fn was_live(state: &TypeState, part: &PastPart, ordinal: u32) -> bool
     requires { FitsPast state.now.current.rows part.now }
-    ensures { IsTrue result ↔ IsSome (get (rows_before state.now.current.rows part.now) ordinal) }
+    ensures { IsTrue result ↔ IsSome (get (rows_before state.entry.now.current.rows part.now) ordinal) }
 {
     match part.left_row(ordinal) {
         Some(_) => true,
@@ -145,7 +134,7 @@ pub(crate) fn row_before(
 ) -> Result<Row, AllocError>
     requires fits { FitsPast state.now.current.rows part.now }
     requires live { IsSome (get (rows_before state.now.current.rows part.now) ordinal) }
-    ensures { IfOk result (λ row. get (rows_before state.now.current.rows part.now) ordinal ≡ Some row) }
+    ensures { IfOk result (λ row. get (rows_before state.entry.now.current.rows part.now) ordinal ≡ Some row) }
 {
     match part.left_row(ordinal) {
         Some(row) => row.copy(alloc),
@@ -162,7 +151,7 @@ pub(crate) fn lend_before<'a>(
 ) -> Result<LentRow<'a>, AllocError>
     requires fits { FitsPast state.now.current.rows part.now }
     requires live { IsSome (get (rows_before state.now.current.rows part.now) ordinal) }
-    ensures { IfOk result (λ lent. get (rows_before state.now.current.rows part.now) ordinal ≡ Some (lent_row lent)) }
+    ensures { IfOk result (λ lent. get (rows_before state.entry.now.current.rows part.now) ordinal ≡ Some (lent_row lent)) }
 {
     match part.left_row(ordinal) {
         Some(row) => Ok(LentRow::Kept(row)),
@@ -173,7 +162,7 @@ pub(crate) fn lend_before<'a>(
 /// One past the greatest ordinal that was live before the step, 0 for none.
 pub(crate) fn bound_before(state: &TypeState, part: &PastPart) -> u32
     requires { FitsPast state.now.current.rows part.now }
-    ensures { IsRowsBound (rows_before state.now.current.rows part.now) result }
+    ensures { IsRowsBound (rows_before state.entry.now.current.rows part.now) result }
 {
     let mut bound = first_bound(state, part);
     while bound > 0 {
@@ -188,7 +177,7 @@ pub(crate) fn bound_before(state: &TypeState, part: &PastPart) -> u32
 // A number above each ordinal that was live before the step.
 fn first_bound(state: &TypeState, part: &PastPart) -> u32
     requires { FitsPast state.now.current.rows part.now }
-    ensures { (ordinal : ℕ) → IsSome (get (rows_before state.now.current.rows part.now) ordinal) → ordinal < result }
+    ensures { (ordinal : ℕ) → IsSome (get (rows_before state.entry.now.current.rows part.now) ordinal) → ordinal < result }
 {
     let bound = state.bound();
     match part.gone().as_slice().last() {
@@ -203,4 +192,16 @@ pub fn part_at(past: &[PastPart], type_index: u32) -> &PastPart
     ensures { slice_get past.now type_index ≡ Some result.now }
 {
     &past[type_index as usize]
+}
+
+#[cfg(test)]
+mod tests {
+    use super::PastPart;
+
+    // Nothing else is kept of a type: a further field would have to be named here.
+    #[test]
+    fn keeps_nothing_else(rt: HostRuntime) {
+        let PastPart { came, gone, rows } = PastPart::none(rt.alloc());
+        assert!(rt; came.is_empty() && gone.is_empty() && rows.is_empty());
+    }
 }

@@ -6,7 +6,6 @@ ghost use Rattle.type_state.specs.Views.{next_halves};
 ghost use Rattle.state_moves.specs.Halves.{current_halves};
 ghost use Rattle.state_moves.specs.Moving.{IsComingLaid, coming_halves, coming_state};
 
-use crate::past::PastPart;
 use type_state::TypeState;
 
 /// Makes the next half of each type the current one. It takes no memory.
@@ -21,22 +20,22 @@ pub fn flip_all(states: &mut [TypeState])
 }
 
 /// Makes the halves that come in a step the current ones: those of the types that it names. It takes no memory.
-pub fn flip_named(states: &mut [TypeState], past: &[PastPart])
-    requires { AllZip IsComingLaid states.old past.now }
-    ensures halves { current_halves states.new ≡ coming_halves states.old past.now }
+pub fn flip_named(states: &mut [TypeState], named: &[bool])
+    requires { AllZip IsComingLaid states.old named.now }
+    ensures halves { current_halves states.new ≡ coming_halves states.old named.now }
     ensures schemas { map (λ state. state.schema) states.new ≡ map (λ state. state.schema) states.old }
 {
     for type_index in 0..states.len() {
-        flip_if_named(&mut states[type_index], &past[type_index]);
+        flip_if_named(&mut states[type_index], named[type_index]);
     }
 }
 
 // Makes the next half the current one, if the step names the type.
-fn flip_if_named(state: &mut TypeState, part: &PastPart)
-    requires { IsComingLaid state.old part.now }
-    ensures { state.new ≡ coming_state state.old part.now }
+fn flip_if_named(state: &mut TypeState, is_named: bool)
+    requires { IsComingLaid state.old is_named }
+    ensures { state.new ≡ coming_state state.old is_named }
 {
-    if part.is_named() {
+    if is_named {
         state.flip();
     }
 }

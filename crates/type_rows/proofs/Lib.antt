@@ -8,5 +8,5 @@ pub mod Reading
 pub mod Removal
 pub mod Rising
 pub mod SectionRows
-pub mod SlotRows
+pub mod DifferingAt
 pub mod Takings

@@ -4,7 +4,7 @@ pub mod Layout
 pub mod Loads
 pub mod Outline
 pub mod Patches
-pub mod Slots
+pub mod Differing
 pub mod Totals
 pub mod WellFormed
 pub mod WordsHeld

@@ -6,6 +6,13 @@ ghost use Rattle.type_rows.specs.WordsHeld.{value_bytes, row_bytes};
 use bucket_codec::buckets_for;
 use hol_varint::units_len;
 use row_model::{Row, Value};
+use schema_model::MAX_WORDS;
+
+/// The most elements that the rows of a type may have to be laid out, and the most buckets that are walked to read them: as many as the limit on
+/// words lets a type have of one bit each.
+///
+/// Elements of no bits take no words, and a run may stand at many places, so a short blob can have any number of both.
+pub const MOST_ITEMS: u64 = 64 * MAX_WORDS;
 
 /// How many variable bytes a value has; the greatest number where they are more.
 pub(crate) fn value_len(value: &Value) -> u64

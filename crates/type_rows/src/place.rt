@@ -5,8 +5,6 @@ ghost use Rattle.type_rows.specs.Layout.{places_of, width_count};
 ghost use Rattle.type_rows.specs.WellFormed.{IsReadable};
 ghost use Rattle.type_rows.specs.Loads.{TellsPlace, parts_up_to};
 
-use crate::Section;
-use bucket_codec::run_length;
 use row_model::{Parts, PlaceFault, Row, Widths};
 use schema_model::{Schema, Shape};
 use std::alloc::Global;
@@ -27,19 +25,5 @@ pub(crate) fn read_place<P: Parts>(
         Shape::Object(_, _) => object_codec::read(alloc, schema, widths, total, parts, place),
         Shape::List(_) => list_codec::read(alloc, schema, widths, total, parts, place),
         _ => bucket_codec::read(alloc, schema, widths, total, parts, place),
-    }
-}
-
-/// How many buckets are walked where a place of a SET or MAP is read; none of the other kinds.
-pub(crate) fn buckets_at(shape: &Shape, section: &Section, place: u64) -> u64
-    requires readable { IsReadable shape.now section.now }
-    requires place { place < places_of section.now.max }
-    ensures { (IsWidthCount shape.now (width_count shape.now) → result ≡ end_at section.now.widths section.now.first place - start_at section.now.widths section.now.first place) }
-{
-    let widths = section.widths.as_slice();
-    match shape {
-        Shape::Set(_) => run_length(widths, section.first.as_slice(), place),
-        Shape::Map(_, _) => run_length(widths, section.first.as_slice(), place),
-        _ => 0,
     }
 }

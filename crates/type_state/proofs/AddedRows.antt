@@ -9,7 +9,7 @@ use Rattle.row_model.specs.declared.row.Row.{Row}
 use Rattle.type_rows.specs.declared.patch.PatchSection.{PatchSection}
 use Rattle.type_rows.specs.Loads.{Spells, IsSpelledIn}
 use Rattle.type_rows.specs.Patches.{AddsRows, places_in}
-use Rattle.type_rows.specs.Slots.{Difference}
+use Rattle.type_rows.specs.Differing.{Difference}
 use Rattle.type_state.specs.Moving.{AreAdded}
 use Rattle.type_state.specs.Differences.{present}
 

@@ -1,6 +1,6 @@
 -- What is told of the rows that others are moved to by those that come and go, and by the last one.
-use Rattle.std.proofs.Common.{◌≡◌, ℕ, ◌+◌, ◌-◌, ◌*◌, ◌<◌, ◌≤◌, List, [], length, get_or, Option, None, Some, refl, ap, sym, subst, ◌∙◌, arith}
-use Rattle.std.specs.Prelude.{is_some, IsSome, slice_index, sum_by}
+use Rattle.std.proofs.Common.{◌≡◌, ℕ, ◌+◌, ◌-◌, ◌*◌, ◌<◌, ◌≤◌, List, [], length, get_or, Option, None, Some, Result, Ok, Err, refl, ap, sym, subst, ◌∙◌, arith}
+use Rattle.std.specs.Prelude.{Bool, IfOk, is_some, IsSome, IsTrue, slice_index, sum_by}
 use Rattle.std.specs.Option.{option_map_or}
 use Rattle.std.specs.Ordering.{nat_cmp}
 use Rattle.std.specs.FinMap.{entries, find, get, get-entries, values}
@@ -13,7 +13,7 @@ use Rattle.schema_model.specs.declared.schema.Shape.{Shape}
 use Rattle.row_model.specs.declared.row.Row.{Row}
 use Rattle.row_model.specs.Table.{RowMap}
 use Rattle.type_rows.specs.declared.totals.Totals.{Totals}
-use Rattle.type_rows.specs.Slots.{Difference}
+use Rattle.type_rows.specs.Differing.{Difference}
 use Rattle.type_rows.specs.Ends.{IsOfKind, AreOfKind}
 use Rattle.type_rows.specs.Holds.{FitsRow, HoldsRows}
 use Rattle.type_rows.specs.Layout.{Layout, item_bits, items_of_row, words_needed}
@@ -63,9 +63,26 @@ removed_coming shape rows ds apart kinds k d inside row is =
     let at = found_there ds.removed.items k d (from_sorted (keys_of ds.removed.items) apart.removed) inside in
     kinds e.0 row (with_removed rows ds e.0 e.1 apart (not_added ds e.0 apart (ap is_some at)) at ∙ is)
 
+-- What the differences bring stands there.
+pub added_stands : (rows : RowMap) (ds : Differences) → AreApart ds → (k : ℕ) (d : Difference) → k < length ds.added.items → get (rows_with rows ds) (get_or ds.added.items k d).0 ≡ (get_or ds.added.items k d).1
+added_stands rows ds apart k d inside =
+    let e = get_or ds.added.items k d in
+    with_added rows ds e.0 e.1 apart (found_there ds.added.items k d (from_sorted (keys_of ds.added.items) apart.added) inside)
+
+pub removed_stands : (rows : RowMap) (ds : Differences) → AreApart ds → (k : ℕ) (d : Difference) → k < length ds.removed.items → get (rows_with rows ds) (get_or ds.removed.items k d).0 ≡ (get_or ds.removed.items k d).1
+removed_stands rows ds apart k d inside =
+    let e = get_or ds.removed.items k d in
+    let at = found_there ds.removed.items k d (from_sorted (keys_of ds.removed.items) apart.removed) inside in
+    with_removed rows ds e.0 e.1 apart (not_added ds e.0 apart (ap is_some at)) at
+
 -- Under the added ordinals the removal changes nothing.
 pub agree_added : (rows : RowMap) (ds : Differences) → AreApart ds → AgreeAt (differing rows ds.removed.items) rows ds.added.items
 agree_added rows ds apart o live = get_differing 0 rows ds.removed.items o (from_sorted (keys_of ds.removed.items) apart.removed) ∙ ap (λ f. either f (get rows o)) (apart.apart o live)
+
+-- What is told where all is counted tells more.
+pub if_done : {E P Q : Type 0} (result : Result Bool E) → (P → Q) → IfOk result (λ done. IsTrue done → P) → IfOk result (λ done. IsTrue done → Q)
+if_done (Ok done) more h = λ t. more (h t)
+if_done (Err e) more h = h
 
 -- The differences of both parts are counted.
 pub both_counted : (rows : RowMap) (ds : Differences) (removed added : List Difference) (before middle after : Totals) → AreApart ds → removed ≡ ds.removed.items → added ≡ ds.added.items → IsCounted rows removed before middle → IsCounted rows added middle after

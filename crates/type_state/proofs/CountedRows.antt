@@ -11,7 +11,7 @@ use Rattle.schema_model.specs.declared.schema.Shape.{Shape}
 use Rattle.row_model.specs.declared.row.Row.{Row}
 use Rattle.row_model.specs.Table.{RowMap}
 use Rattle.type_rows.specs.declared.totals.Totals.{Totals}
-use Rattle.type_rows.specs.Slots.{Difference, differ_at}
+use Rattle.type_rows.specs.Differing.{Difference, differ_at}
 use Rattle.type_rows.specs.Totals.{AreLess, AreMore, AreTotals}
 use Rattle.type_rows.proofs.Rising.{from_sorted}
 use Rattle.type_state.specs.Differences.{differing}

@@ -1,5 +1,5 @@
 -- Rows that are laid out one behind the other, and what a layout holds.
-use Rattle.std.proofs.Common.{◌≡◌, ℕ, ◌+◌, ◌-◌, ◌^◌, ◌≤◌, inl, inr, min, List, [], ◌∷◌, ◌++◌, length, None, Some, refl, ap, sym, ◌∙◌, subst, arith, append_assoc}
+use Rattle.std.proofs.Common.{◌≡◌, ℕ, ◌+◌, ◌-◌, ◌^◌, ◌≤◌, inl, inr, min, List, [], ◌∷◌, ◌++◌, length, Option, None, Some, refl, ap, sym, ◌∙◌, subst, arith, append_assoc, add-zero}
 use Rattle.std.specs.Prelude.{IsSome, is_some, slice_index}
 use Rattle.std.specs.Ordering.{nat_cmp}
 use Rattle.std.specs.FinMap.{find, entries, get, get-entries, keys}
@@ -19,7 +19,9 @@ use Rattle.type_rows.specs.Ends.{FitsBehind}
 use Rattle.type_rows.proofs.Reading.{held_more, held_at, more_bytes, more_items, holds_row, fits_row}
 use Rattle.type_rows.proofs.Entries.{below_bound, entries_rise}
 use Rattle.type_rows.proofs.Rising.{RiseFrom, none_is_not}
-use Rattle.type_state.specs.Moving.{AreLaidOut}
+use Rattle.type_rows.specs.declared.ends.Ends.{Ends}
+use Rattle.type_rows.specs.declared.fault.RowFault.{RowFault}
+use Rattle.type_state.specs.Moving.{AreLaidOut, FitsSlot, LaysSlot, UnlessMemory}
 use Rattle.type_state.proofs.Lookups.{found, none_below, skipped}
 
 abbrev pub Entry : Type 0
@@ -127,6 +129,36 @@ misfit shape widths rows o row ends items bytes l at wide held =
     ap values_of l.parted.whole ∙ map-append (λ (e : Entry). e.1) l.done l.rest ∙ ap (λ (es : List Entry). values_of l.done ++ values_of es) c.is in
     let at_row = held_at shape widths [] (values_of l.done) row (values_of c.behind) (subst (HoldsRows shape widths []) whole held) in
     wide (fits_row shape widths ends items (values_of l.done) row l.out.reached l.out.counted at_row)
+
+-- What stands under the ordinal is laid out, if a row does.
+pub laid_slot : (shape : Shape) (widths : List ℕ) (rows : RowMap) (o : ℕ) (slot : Option Row) (before after : Ends) (bytes more total : ℕ) → Laid shape widths rows o before.offsets.items before.items bytes → slot ≡ get rows o
+    → LaysSlot shape widths slot before after more → total ≡ min (bytes + more) (2 ^ 64 - 1) → Laid shape widths rows (o + 1) after.offsets.items after.items total
+laid_slot shape widths rows o None before after bytes more total l is h sum = record {
+  done = l.done;
+  rest = l.rest;
+  parted = past rows o l.done l.rest l.parted (sym is);
+  out = record {
+    held = l.out.held;
+    reached = λ f. h.ends f ∙ add-zero (slice_index before.offsets.items f) ∙ l.out.reached f;
+    counted = h.items ∙ add-zero before.items ∙ l.out.counted;
+    long = h.long ∙ l.out.long;
+    total = (let was = l.out.total in let none = h.own in omega (arith, was, none, sum));
+  };
+}
+laid_slot shape widths rows o (Some row) before after bytes more total l is h sum =
+    laid_more shape widths rows o row before.offsets.items after.offsets.items before.items after.items bytes total l (sym is) h.fits h.ends h.items h.long (let own = h.own in omega (arith, own, sum))
+
+-- What does not fit: the layout does not hold the rows.
+misfit_slot : (shape : Shape) (widths : List ℕ) (rows : RowMap) (o : ℕ) (slot : Option Row) (ends : Ends) (bytes : ℕ) → Laid shape widths rows o ends.offsets.items ends.items bytes → slot ≡ get rows o → (FitsSlot shape widths slot ends → ⊥)
+    → HoldsRows shape widths [] (values_of (entries rows)) → ⊥
+misfit_slot shape widths rows o None ends bytes l is bad held = bad tt
+misfit_slot shape widths rows o (Some row) ends bytes l is bad held = misfit shape widths rows o row ends.offsets.items ends.items bytes l (sym is) bad held
+
+pub refused_slot : (shape : Shape) (widths : List ℕ) (rows : RowMap) (o : ℕ) (slot : Option Row) (ends : Ends) (bytes : ℕ) (fault : RowFault) → Laid shape widths rows o ends.offsets.items ends.items bytes → slot ≡ get rows o
+    → UnlessMemory (FitsSlot shape widths slot ends → ⊥) fault → UnlessMemory (HoldsRows shape widths [] (values_of (entries rows)) → ⊥) fault
+refused_slot shape widths rows o slot ends bytes RowFault.Memory l is bad = tt
+refused_slot shape widths rows o slot ends bytes (RowFault.At reason at) l is bad = misfit_slot shape widths rows o slot ends bytes l is bad
+refused_slot shape widths rows o slot ends bytes (RowFault.Limit limit) l is bad = misfit_slot shape widths rows o slot ends bytes l is bad
 
 -- All rows are laid out.
 pub all_laid : (shape : Shape) (widths : List ℕ) (rows : RowMap) (o : ℕ) (ends : List ℕ) (items bytes : ℕ) → Laid shape widths rows o ends items bytes → bound_of (keys rows) ≤ o → AreLaidOut shape widths (values_of (entries rows)) ends items bytes

@@ -13,7 +13,7 @@ use Rattle.std.proofs.lemmas.List.Sorted.{IsNonDecreasingBy-from_default}
 use Rattle.std.proofs.lemmas.Map.Keys.{below_from_sorted}
 use Rattle.std.proofs.lemmas.Option.{get_or_from_slice_get}
 use Rattle.type_rows.proofs.Rising.{RiseFrom, from_sorted}
-use Rattle.type_rows.proofs.SlotRows.{other_key, same_key}
+use Rattle.type_rows.proofs.DifferingAt.{other_key, same_key}
 
 -- A look-up skips another key, and finds an equal one.
 pub skipped : {X : Type 0} (q : ℕ) (e : ℕ × X) (es : List (ℕ × X)) → (q ≡ e.0 → ⊥) → find nat_cmp q (e ∷ es) ≡ find nat_cmp q es

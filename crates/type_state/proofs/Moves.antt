@@ -1,5 +1,5 @@
 -- Which rows a patch moves others to.
-use Rattle.std.proofs.Common.{◌≡◌, ℕ, zero, suc, ◌+◌, ◌-◌, ◌^◌, ◌<◌, ◌≤◌, inl, inr, List, [], ◌∷◌, length, map, get_or, Option, None, Some, refl, ap, sym, ◌∙◌, subst, arith}
+use Rattle.std.proofs.Common.{◌≡◌, ℕ, zero, suc, ◌+◌, ◌-◌, ◌^◌, ◌<◌, ◌≤◌, inl, inr, List, [], ◌∷◌, length, map, Option, None, Some, refl, ap, sym, ◌∙◌, subst, arith}
 use Rattle.std.specs.Prelude.{All, Contains, IsSome, slice_get}
 use Rattle.std.specs.Option.{option_map}
 use Rattle.std.specs.List.Sorted.{IsStrictlySortedBy}
@@ -10,13 +10,13 @@ use Rattle.std.proofs.lemmas.Bool.{cases_eq}
 use Rattle.std.proofs.lemmas.List.{get_or-map, length-map}
 use Rattle.std.proofs.lemmas.List.Elements.{All-contains}
 use Rattle.std.proofs.lemmas.Map.Keys.{sorted_from_strictly_increasing}
-use Rattle.std.proofs.lemmas.Option.{slice_get_within, slice_get-get_or, slice_get-map}
+use Rattle.std.proofs.lemmas.Option.{slice_get_within, slice_get-map}
 use Rattle.ordinal_set.specs.Ordinals.{bound_of}
 use Rattle.schema_model.specs.declared.schema.Shape.{Shape}
 use Rattle.row_model.specs.declared.row.Row.{Row}
 use Rattle.row_model.specs.Table.{RowMap}
 use Rattle.type_rows.specs.declared.patch.PatchSection.{PatchSection}
-use Rattle.type_rows.specs.Slots.{Difference}
+use Rattle.type_rows.specs.Differing.{Difference}
 use Rattle.type_rows.specs.Layout.{places_of}
 use Rattle.type_rows.specs.Patches.{IsMovedBy, MovesRows}
 use Rattle.type_rows.proofs.Entries.{below_bound}
@@ -24,9 +24,8 @@ use Rattle.type_rows.proofs.MovedRows.{one_result}
 use Rattle.type_rows.proofs.Removal.{has_or}
 use Rattle.type_rows.proofs.Rising.{RiseFrom, none_is_not, from_sorted}
 use Rattle.type_state.specs.declared.differences.Differences.{Differences}
-use Rattle.type_state.specs.declared.moving.Move.{Move}
 use Rattle.type_state.specs.Differences.{AreApart, AreBelow, present, removal, rows_with}
-use Rattle.type_state.specs.Moving.{IsDifferent, IsMoved, IsWithin}
+use Rattle.type_state.specs.Moving.{IsDifferent, IsMoved}
 use Rattle.type_state.proofs.DifferingRows.{either, get_with}
 use Rattle.type_state.proofs.Lookups.{found, skipped}
 
@@ -144,26 +143,6 @@ module _ (shape : Shape) (patch : PatchSection) (old : RowMap) (ds : Differences
       let bound = ap (λ (r : RowMap). bound_of (keys r)) same in
       omega (arith, low, bound, high)
 
-  some_at : (rows : List Row) (place : ℕ) → place < length rows → IsSome (slice_get rows place)
-  some_at [] place inside = absurd (omega arith)
-  some_at (row ∷ rows) zero inside = refl
-  some_at (row ∷ rows) (suc place) inside = some_at rows place (omega arith)
-
-  added_below : (room : ℕ) → ((o : ℕ) → IsSome (get (rows_with old ds) o) → o < room) → AreBelow room ds.added.items
-  added_below room above k e inside =
-      let o = (get_or ds.added.items k e).0 in
-      let long = length-map ds.added.items (λ (f : Difference). f.0) in
-      let mapped = get_or-map (λ (f : Difference). f.0) ds.added.items k e o inside in
-      let at : Contains patch.added o = subst (λ os. Contains os o) d.added.keys (k, omega (arith, long), mapped) in
-      above o (some_came o at)
-    where
-      some_came : (o : ℕ) → Contains patch.added o → IsSome (get (rows_with old ds) o)
-      some_came o at =
-          let place = at.0 in
-          let each = d.added.adds.each in
-          let is : slice_get patch.added place ≡ Some o = slice_get-get_or patch.added place o at.1 ∙ ap Some at.2 in
-          subst IsSome (sym (are_moves.came place o is)) (some_at d.added.rows place (omega (arith, each, at.1)))
-
   pub added_small : places_of patch.max ≤ 2 ^ 22 → AreBelow (2 ^ 32 - 1) ds.added.items
   added_small few k e inside =
       let long = length-map ds.added.items (λ (f : Difference). f.0) in
@@ -179,9 +158,3 @@ module _ (shape : Shape) (patch : PatchSection) (old : RowMap) (ds : Differences
       each [] below k e inside = absurd (omega arith)
       each (o ∷ os) below zero e inside = below o (0, omega arith, refl)
       each (o ∷ os) below (suc k) e inside = each os (λ p at. below p (behind p o os at)) k e (omega arith)
-
-  pub are_within : (next : Move) → next.differences ≡ ds → next.outline.bound ≡ bound_of (keys (rows_with old ds)) → IsWithin (bound_of (keys old)) next
-  are_within next same bound = record {
-    removed = subst (λ (x : Differences). AreBelow (bound_of (keys old)) x.removed.items) (sym same) removed_below;
-    added = subst (λ (x : Differences). AreBelow next.outline.bound x.added.items) (sym same) (added_below next.outline.bound (λ o some. let below = below_bound (rows_with old ds) o some in omega (arith, below, bound)));
-  }

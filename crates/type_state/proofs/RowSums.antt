@@ -14,11 +14,11 @@ use Rattle.std.proofs.lemmas.List.Sums.{sum_by-cons}
 use Rattle.row_model.specs.declared.row.Row.{Row}
 use Rattle.row_model.specs.Table.{RowMap}
 use Rattle.type_rows.specs.declared.totals.Totals.{Totals}
-use Rattle.type_rows.specs.Slots.{Difference, differ_at}
+use Rattle.type_rows.specs.Differing.{Difference, differ_at}
 use Rattle.type_rows.specs.Layout.{items_of_row}
 use Rattle.type_rows.specs.WordsHeld.{part_bytes, row_bytes}
 use Rattle.type_rows.specs.Totals.{AreLess, AreMore, AreTotals}
-use Rattle.type_rows.proofs.SlotRows.{differs_here, differs_there, same_rows}
+use Rattle.type_rows.proofs.DifferingAt.{differs_here, differs_there, same_rows}
 use Rattle.type_state.specs.Differences.{differing}
 use Rattle.type_state.proofs.Lookups.{found, skipped}
 

@@ -1,5 +1,5 @@
 -- How what rows add up to changes where rows come in place of others, and which of them are told to fit.
-use Rattle.std.specs.Prelude.{◌≡◌, ℕ, ◌+◌, ◌-◌, ◌*◌, ◌≤◌, List, Some, IsSome, slice_index}
+use Rattle.std.specs.Prelude.{◌≡◌, ℕ, ◌+◌, ◌-◌, ◌*◌, ◌≤◌, List, Some, IsSome, length, slice_index}
 use Rattle.std.specs.FinMap.{find, get, values}
 use Rattle.std.specs.Ordering.{nat_cmp}
 use Rattle.bit_array.specs.Element.{words_of}
@@ -12,7 +12,7 @@ use Rattle.type_rows.specs.declared.totals.Totals.{Totals}
 use Rattle.type_rows.specs.Ends.{IsOfKind}
 use Rattle.type_rows.specs.Holds.{FitsRow}
 use Rattle.type_rows.specs.Layout.{Layout, item_bits, items_of_row, words_needed}
-use Rattle.type_rows.specs.Slots.{Difference}
+use Rattle.type_rows.specs.Differing.{Difference}
 use Rattle.type_rows.specs.Totals.{AreTotals}
 use Rattle.type_rows.specs.WordsHeld.{part_bytes, row_bytes}
 use Rattle.type_state.specs.declared.differences.Differences.{Differences}
@@ -54,6 +54,7 @@ pub record HoldsLast (shape : Shape) (layout : Layout) (last : Row) (before afte
   pub ends : (field : ℕ) → slice_index after.ends.offsets.items field ≡ slice_index before.ends.offsets.items field - part_bytes field last + part_bytes field last
   pub items : after.ends.items ≡ before.ends.items - items_of_row last + items_of_row last
   pub bytes : after.bytes ≡ before.bytes - row_bytes last + row_bytes last
+  pub long : length after.ends.offsets.items ≡ length before.ends.offsets.items
   pub fits : FitsRow shape layout.widths (λ field. slice_index after.ends.offsets.items field) after.ends.items last
   pub words : words_needed shape layout + words_of (after.ends.items * item_bits shape layout.widths) ≤ number_of_limit Words
   pub few : after.bytes ≤ number_of_limit Bytes

@@ -1,14 +1,13 @@
 -- Rows that are told by their differences from other rows.
-use Rattle.std.specs.Prelude.{◌≡◌, ℕ, ◌<◌, List, [], ◌∷◌, Option, None, Some, IsSome, All, map}
+use Rattle.std.specs.Prelude.{◌≡◌, ℕ, ◌<◌, List, [], ◌∷◌, Option, None, Some, IsSome, All}
 use Rattle.std.specs.Ordering.{nat_cmp}
-use Rattle.std.specs.FinMap.{find, get}
+use Rattle.std.specs.FinMap.{find}
 use Rattle.std.specs.List.Sorted.{IsStrictlySortedBy}
 use Rattle.std.specs.Map.{keys_of}
 use Rattle.row_model.specs.declared.row.Row.{Row}
 use Rattle.row_model.specs.Table.{RowMap}
-use Rattle.type_rows.specs.Slots.{Difference, differ_at}
+use Rattle.type_rows.specs.Differing.{Difference, differ_at}
 use Rattle.type_state.specs.declared.differences.Differences.{Differences}
-use Rattle.type_state.specs.declared.differences.Others.{Others}
 
 -- No row is to stand under the ordinal.
 abbrev pub removal : ℕ → Difference
@@ -23,10 +22,6 @@ unfoldable pub differing : RowMap → List Difference → RowMap
 differing rows [] = rows
 differing rows (difference ∷ differences) = differing (differ_at rows difference) differences
 
--- The differences that lead back to these rows.
-abbrev pub leading_back : RowMap → List Difference → List Difference
-leading_back rows differences = map (λ difference. (difference.0, get rows difference.0)) differences
-
 -- The ordinals of both parts of the differences rise, and none is in both.
 pub record AreApart (differences : Differences) : Type 0 where
   pub removed : IsStrictlySortedBy nat_cmp (keys_of differences.removed.items)
@@ -40,18 +35,3 @@ AreBelow room differences = All (λ difference. difference.0 < room) differences
 -- The rows with the differences of both parts.
 abbrev pub rows_with : RowMap → Differences → RowMap
 rows_with rows differences = differing (differing rows differences.removed.items) differences.added.items
-
--- The rows of the other half, beside these.
-abbrev pub other_rows : RowMap → Others → RowMap
-other_rows rows (Others.Whole slots) = slots.rows
-other_rows rows (Others.Differ differences) = rows_with rows differences
-
--- The other half is told beside the current one, whose rows have so many slots.
-pub record AreTold (room : ℕ) (differences : Differences) : Type 0 where
-  pub apart : AreApart differences
-  pub removed : AreBelow room differences.removed.items
-  pub added : AreBelow room differences.added.items
-
-abbrev pub AreOthers : ℕ → Others → Type 0
-AreOthers room (Others.Whole slots) = Unit {0}
-AreOthers room (Others.Differ differences) = AreTold room differences

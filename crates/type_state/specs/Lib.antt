@@ -1,7 +1,13 @@
 pub mod Counted
+pub mod Current
 pub mod Differences
-pub mod Entries
+pub mod Kept
+pub mod KeptRecords
+pub mod Live
 pub mod Lookup
+pub mod Moved
 pub mod Moving
+pub mod Recorded
+pub mod SectionRows
 pub mod State
 pub mod Views

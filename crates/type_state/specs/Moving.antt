@@ -1,7 +1,8 @@
 -- The parts of a move: which rows stay, which are added, and what the two make together.
-use Rattle.std.specs.Prelude.{◌≡◌, ℕ, ◌-◌, ◌^◌, ◌<◌, List, [], Option, None, IsSome, All, length, map, min, slice_index}
+use Rattle.std.specs.Prelude.{◌≡◌, ℕ, ◌+◌, ◌-◌, ◌^◌, ◌<◌, List, [], Option, None, Some, IsSome, All, length, map, min, slice_index}
 use Rattle.std.specs.List.Sorted.{IsStrictlyIncreasing}
 use Rattle.std.specs.FinMap.{get, values}
+use Rattle.std.specs.Option.{option_map_or}
 use Rattle.std.specs.Map.{keys_of, values_of}
 use Rattle.schema_model.specs.Parts.{shape_fields}
 use Rattle.row_model.specs.Table.{RowMap}
@@ -9,25 +10,19 @@ use Rattle.schema_model.specs.declared.schema.Shape.{Shape}
 use Rattle.row_model.specs.declared.row.Row.{Row}
 use Rattle.type_rows.specs.declared.fault.RowFault.{RowFault}
 use Rattle.type_rows.specs.declared.patch.PatchSection.{PatchSection}
-use Rattle.type_rows.specs.Layout.{Layout, item_count, places_of}
-use Rattle.type_rows.specs.WordsHeld.{field_bytes, bytes_held}
+use Rattle.type_rows.specs.declared.ends.Ends.{Ends}
+use Rattle.type_rows.specs.Ends.{FitsBehind}
+use Rattle.type_rows.specs.Layout.{Layout, item_count, items_of_row, places_of}
+use Rattle.type_rows.specs.WordsHeld.{field_bytes, bytes_held, part_bytes, row_bytes}
 use Rattle.type_rows.specs.Holds.{HoldsRows, KeepsLimits}
-use Rattle.type_rows.specs.Ends.{AreOfKind}
 use Rattle.type_rows.specs.Patches.{AddsRows, FitsOrdinals, MovesRows, patch_layout}
 use Rattle.type_state.specs.declared.differences.Differences.{Differences}
-use Rattle.type_state.specs.declared.moving.Move.{Move}
-use Rattle.type_state.specs.Differences.{AreBelow, present, removal}
-use Rattle.type_state.specs.State.{Half}
+use Rattle.type_state.specs.Differences.{present, removal}
 
 -- A fault other than want of memory tells this.
 abbrev pub UnlessMemory : Type 0 → RowFault → Type 0
 UnlessMemory told RowFault.Memory = Unit {0}
 UnlessMemory told _ = told
-
--- The rows of both halves of a type are of its kind.
-pub record HasKind (shape : Shape) (current other : Half) : Type 0 where
-  pub current_rows : AreOfKind shape current.rows
-  pub other_rows : AreOfKind shape other.rows
 
 -- The removed ordinals rise and are live.
 pub record AreRemovable (old : RowMap) (removed : List ℕ) : Type 0 where
@@ -55,11 +50,6 @@ pub record IsDifferent (shape : Shape) (patch : PatchSection) (old : RowMap) (di
   pub removed : differences.removed.items ≡ map removal patch.removed
   pub added : AreAdded shape patch differences.added.items
 
--- The ordinals of the differences of a move are below the bounds of the rows before it and after it.
-pub record IsWithin (bound : ℕ) (next : Move) : Type 0 where
-  pub removed : AreBelow bound next.differences.removed.items
-  pub added : AreBelow next.outline.bound next.differences.added.items
-
 -- The rows are the old ones moved by the patch, and each has a place.
 pub record IsMoved (shape : Shape) (patch : PatchSection) (old new : RowMap) : Type 0 where
   pub added : List Row
@@ -75,6 +65,19 @@ pub record AreLaidOut (shape : Shape) (widths : List ℕ) (rows : List Row) (end
   pub counted : items ≡ item_count rows
   pub long : length ends ≡ length (shape_fields shape)
   pub total : bytes ≡ min (bytes_held rows) (2 ^ 64 - 1)
+
+-- What stands under an ordinal, if a row does, fits behind rows that end there.
+abbrev pub FitsSlot : Shape → List ℕ → Option Row → Ends → Type 0
+FitsSlot shape widths None ends = Unit {0}
+FitsSlot shape widths (Some row) ends = FitsBehind shape widths ends.offsets.items ends.items row
+
+-- It fits, and rows with it end there; so many bytes are its own.
+pub record LaysSlot (shape : Shape) (widths : List ℕ) (slot : Option Row) (before after : Ends) (bytes : ℕ) : Type 0 where
+  pub fits : FitsSlot shape widths slot before
+  pub ends : (field : ℕ) → slice_index after.offsets.items field ≡ slice_index before.offsets.items field + option_map_or (part_bytes field) slot 0
+  pub items : after.items ≡ before.items + option_map_or items_of_row slot 0
+  pub long : length after.offsets.items ≡ length before.offsets.items
+  pub own : bytes ≡ min (option_map_or row_bytes slot 0) (2 ^ 64 - 1)
 
 -- The layout fits its rows, laid out one behind the other, and they keep the limits.
 pub record IsHeld (shape : Shape) (layout : Layout) (rows : RowMap) : Type 0 where

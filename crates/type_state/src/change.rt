@@ -12,11 +12,12 @@ ghost use Rattle.type_state.specs.Moving.{IsHeld};
 ghost use Rattle.type_state.specs.Counted.{ComeFitting, HoldsLast, IsNoNarrower};
 
 use crate::counting::exchange_rows;
-use crate::moving::Move;
+use crate::current::Current;
+use crate::planning::Plan;
 use row_model::Row;
 use schema_model::{MAX_WORDS, Schema, Shape};
 use std::alloc::{AllocError, Global};
-use type_rows::{MOST_ITEMS, Outline, Slots, Totals, fixed_words};
+use type_rows::{MOST_ITEMS, Outline, Totals, fixed_words};
 
 /// Whether there are as many widths as before, and none is narrower.
 fn are_no_narrower(before: &[u32], widths: &[u32]) -> bool
@@ -34,7 +35,13 @@ fn are_no_narrower(before: &[u32], widths: &[u32]) -> bool
 }
 
 /// Counts the rows that come and go, and tells whether each part of those that come fits its width and the bytes keep the limit.
-fn count_change(totals: &mut Totals, shape: &Shape, next: &Move, rows: &Slots) -> bool
+fn count_change(
+    alloc: Global,
+    totals: &mut Totals,
+    shape: &Shape,
+    next: &Plan,
+    rows: &Current<'_>,
+) -> Result<bool, AllocError>
     requires widths { length next.now.outline.widths ≡ width_count shape.now }
     requires narrow { (part : ℕ) → slice_index next.now.outline.widths part ≤ 64 }
     requires long { length totals.old.ends.offsets.items ≡ length (shape_fields shape.now) }
@@ -42,21 +49,23 @@ fn count_change(totals: &mut Totals, shape: &Shape, next: &Move, rows: &Slots) -
     requires kinds { AreOfKind shape.now (rows_with rows.now.rows next.now.differences) }
     requires apart { AreApart next.now.differences }
     requires totals { AreTotals (values rows.now.rows) totals.old }
-    ensures totals { IsTrue result → AreTotals (values (rows_with rows.now.rows next.now.differences)) totals.new }
-    ensures fits { IsTrue result → ComeFitting shape.now next.now.outline.widths next.now.differences }
-    ensures long { IsTrue result → length totals.new.ends.offsets.items ≡ length (shape_fields shape.now) }
+    ensures totals { IfOk result (λ done. IsTrue done → AreTotals (values (rows_with rows.now.rows next.now.differences)) totals.new) }
+    ensures fits { IfOk result (λ done. IsTrue done → ComeFitting shape.now next.now.outline.widths next.now.differences) }
+    ensures long { IfOk result (λ done. IsTrue done → length totals.new.ends.offsets.items ≡ length (shape_fields shape.now)) }
 {
     let widths = next.outline.widths.as_slice();
     if !exchange_rows(
+        alloc,
         totals,
         shape,
         widths,
         rows,
         next.differences.removed.as_slice(),
-    ) {
-        return false;
+    )? {
+        return Ok(false);
     }
     exchange_rows(
+        alloc,
         totals,
         shape,
         widths,
@@ -89,33 +98,31 @@ fn holds_last(totals: &mut Totals, shape: &Shape, outline: &Outline, last: &Row)
 pub(crate) fn totals_by_change(
     alloc: Global,
     schema: &Schema,
-    current: &Outline,
-    totals: &Totals,
-    next: &Move,
-    rows: &Slots,
+    next: &Plan,
+    rows: &Current<'_>,
 ) -> Result<Option<Totals>, AllocError>
     requires widths { length next.now.outline.widths ≡ width_count schema.now.shape }
     requires narrow { (part : ℕ) → slice_index next.now.outline.widths part ≤ 64 }
     requires before { AreOfKind schema.now.shape rows.now.rows }
     requires kinds { AreOfKind schema.now.shape (rows_with rows.now.rows next.now.differences) }
     requires apart { AreApart next.now.differences }
-    requires totals { AreTotals (values rows.now.rows) totals.now }
-    requires held { HoldsRows schema.now.shape current.now.widths [] (values rows.now.rows) }
+    requires held { HoldsRows schema.now.shape rows.now.widths [] (values rows.now.rows) }
     ensures held { IfOk result (λ told. IfSome told (λ sums. IsHeld schema.now.shape (layout_at next.now.outline) (rows_with rows.now.rows next.now.differences))) }
     ensures totals { IfOk result (λ told. IfSome told (AreTotals (values (rows_with rows.now.rows next.now.differences)))) }
+    ensures long { IfOk result (λ told. IfSome told (λ sums. length sums.ends.offsets.items ≡ length (shape_fields schema.now.shape))) }
 {
-    if totals.ends.offsets.len() != schema.shape.fields().len() || next.outline.bound == 0 {
+    if next.outline.bound == 0 || !are_no_narrower(rows.widths(), next.outline.widths.as_slice()) {
         return Ok(None);
     }
-    if !are_no_narrower(current.widths.as_slice(), next.outline.widths.as_slice()) {
+    let mut sums = rows.totals(alloc)?;
+    if sums.ends.offsets.len() != schema.shape.fields().len() {
         return Ok(None);
     }
-    let mut sums = totals.copy(alloc)?;
-    if !count_change(&mut sums, &schema.shape, next, rows) {
+    if !count_change(alloc, &mut sums, &schema.shape, next, rows)? {
         return Ok(None);
     }
-    match next.differences.find(rows, next.outline.bound - 1) {
-        Some(last) if holds_last(&mut sums, &schema.shape, &next.outline, last) => Ok(Some(sums)),
+    match next.differences.find(alloc, rows, next.outline.bound - 1)? {
+        Some(last) if holds_last(&mut sums, &schema.shape, &next.outline, &last) => Ok(Some(sums)),
         _ => Ok(None),
     }
 }

@@ -1,5 +1,5 @@
 //! What rows add up to, where rows come under some ordinals in place of those that stand there.
-ghost use Rattle.std.specs.Prelude.{◌≡◌, ◌≤◌, ℕ, All, IsTrue, Some, length, slice_index};
+ghost use Rattle.std.specs.Prelude.{◌≡◌, ◌≤◌, ℕ, All, IfOk, IsTrue, OnOk, Some, length, slice_index};
 ghost use Rattle.std.specs.FinMap.{find, get};
 ghost use Rattle.std.specs.List.Sorted.{IsStrictlySortedBy};
 ghost use Rattle.std.specs.Map.{keys_of};
@@ -11,19 +11,27 @@ ghost use Rattle.type_rows.specs.Layout.{width_count};
 ghost use Rattle.type_rows.specs.Totals.{AreLess, AreMore, HasParts};
 ghost use Rattle.type_state.specs.Counted.{FitsSomewhere, IsComing, IsCounted};
 
+use crate::current::Current;
 use crate::differences::Difference;
 use row_model::Row;
 use schema_model::Shape;
-use type_rows::{Slots, Totals};
+use std::alloc::{AllocError, Global};
+use type_rows::Totals;
 
 /// Takes off the row under an ordinal, if there is one.
-fn take_under(totals: &mut Totals, rows: &Slots, ordinal: u32)
+fn take_under(
+    alloc: Global,
+    totals: &mut Totals,
+    rows: &Current<'_>,
+    ordinal: u32,
+) -> Result<(), AllocError>
     requires { (row : StoredRow) → get rows.now.rows ordinal ≡ Some row → HasParts (length totals.old.ends.offsets.items) row }
-    ensures { AreLess totals.old (get rows.now.rows ordinal) totals.new }
+    ensures { OnOk result (AreLess totals.old (get rows.now.rows ordinal) totals.new) }
 {
-    if let Some(row) = rows.find(u64::from(ordinal)) {
-        totals.take_off(row);
+    if let Some(row) = rows.find(alloc, ordinal)? {
+        totals.take_off(&row);
     }
+    Ok(())
 }
 
 /// Lays out the row that comes under an ordinal, if one does, and tells whether each part of it fits and the bytes keep the limit.
@@ -44,27 +52,28 @@ fn add_coming(totals: &mut Totals, shape: &Shape, widths: &[u32], coming: &Optio
 /// Counts the rows that come under the ordinals of differences in place of those that stand there, and tells whether each part of them fits
 /// its width and the bytes keep the limit.
 pub(crate) fn exchange_rows(
+    alloc: Global,
     totals: &mut Totals,
     shape: &Shape,
     widths: &[u32],
-    rows: &Slots,
+    rows: &Current<'_>,
     differences: &[Difference],
-) -> bool
+) -> Result<bool, AllocError>
     requires widths { length widths.now ≡ width_count shape.now }
     requires narrow { (part : ℕ) → slice_index widths.now part ≤ 64 }
     requires long { length totals.old.ends.offsets.items ≡ length (shape_fields shape.now) }
     requires kinds { AreOfKind shape.now rows.now.rows }
     requires coming { All (IsComing shape.now) differences.now }
     requires rising { IsStrictlySortedBy nat_cmp (keys_of differences.now) }
-    ensures counted { IsTrue result → IsCounted rows.now.rows differences.now totals.old totals.new }
-    ensures fits { IsTrue result → (ordinal : ℕ) (row : StoredRow) → find nat_cmp ordinal differences.now ≡ Some (Some row) → FitsSomewhere shape.now widths.now row }
-    ensures long { IsTrue result → length totals.new.ends.offsets.items ≡ length totals.old.ends.offsets.items }
+    ensures counted { IfOk result (λ done. IsTrue done → IsCounted rows.now.rows differences.now totals.old totals.new) }
+    ensures fits { IfOk result (λ done. IsTrue done → (ordinal : ℕ) (row : StoredRow) → find nat_cmp ordinal differences.now ≡ Some (Some row) → FitsSomewhere shape.now widths.now row) }
+    ensures long { IfOk result (λ done. IsTrue done → length totals.new.ends.offsets.items ≡ length totals.old.ends.offsets.items) }
 {
     for difference in differences {
-        take_under(totals, rows, difference.0);
+        take_under(alloc, totals, rows, difference.0)?;
         if !add_coming(totals, shape, widths, &difference.1) {
-            return false;
+            return Ok(false);
         }
     }
-    true
+    Ok(true)
 }

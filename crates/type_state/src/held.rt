@@ -1,25 +1,61 @@
 //! Whether a layout holds its rows, and whether they keep the limits.
-ghost use Rattle.std.specs.Prelude.{◌≡◌, ◌≤◌, ℕ, [], IfErr, IfOk, MatchResult, length, slice_index};
+ghost use Rattle.std.specs.Prelude.{◌≡◌, ◌≤◌, ℕ, [], IfErr, IfOk, MatchResult, Some, length, slice_index};
 ghost use Rattle.std.specs.FinMap.{keys, values};
 ghost use Rattle.ordinal_set.specs.Ordinals.{bound_of};
+ghost use Rattle.row_model.specs.declared.row.Row.{Row as StoredRow};
 ghost use Rattle.schema_model.specs.Parts.{shape_fields};
 ghost use Rattle.type_rows.specs.Layout.{width_count};
 ghost use Rattle.type_rows.specs.Holds.{HoldsRows};
 ghost use Rattle.type_rows.specs.Loads.{IsLoadFault};
-ghost use Rattle.type_rows.specs.Ends.{AreOfKind};
+ghost use Rattle.type_rows.specs.Ends.{AreOfKind, IsOfKind};
 ghost use Rattle.type_rows.specs.Outline.{layout_at};
 ghost use Rattle.type_rows.specs.Totals.{AreTotals};
 ghost use Rattle.type_state.specs.Differences.{AreApart, rows_with};
-ghost use Rattle.type_state.specs.Moving.{AreLaidOut, IsHeld, UnlessMemory};
+ghost use Rattle.type_state.specs.Moving.{AreLaidOut, FitsSlot, IsHeld, LaysSlot, UnlessMemory};
 
 use crate::change::totals_by_change;
-use crate::moving::Move;
-use schema_model::{Limit, MAX_BYTES, MAX_WORDS, Reason, Schema};
+use crate::current::Current;
+use crate::planning::Plan;
+use row_model::Row;
+use schema_model::{Limit, MAX_BYTES, MAX_WORDS, Reason, Schema, Shape};
 use std::alloc::Global;
-use type_rows::{Ends, MOST_ITEMS, Outline, RowFault, Slots, Totals, fixed_words, row_len};
+use type_rows::{Ends, MOST_ITEMS, RowFault, Totals, fixed_words, row_len};
+
+/// Lays out what stands under an ordinal, if a row does, and tests that each part of it fits its width; gives its bytes.
+fn lay_slot(
+    shape: &Shape,
+    widths: &[u32],
+    ordinal: u32,
+    slot: &Option<Row>,
+    ends: &mut Ends,
+) -> Result<u64, RowFault>
+    requires widths { length widths.now ≡ width_count shape.now }
+    requires narrow { (part : ℕ) → slice_index widths.now part ≤ 64 }
+    requires long { length ends.old.offsets.items ≡ length (shape_fields shape.now) }
+    requires kind { (row : StoredRow) → slot.now ≡ Some row → IsOfKind shape.now row }
+    ensures tells { MatchResult result (LaysSlot shape.now widths.now slot.now ends.old ends.new) (UnlessMemory (FitsSlot shape.now widths.now slot.now ends.old → ⊥)) }
+    ensures kind { IfErr result IsLoadFault }
+{
+    let Some(row) = slot else {
+        return Ok(0);
+    };
+    if !ends.add(shape, widths, row) {
+        return Err(RowFault::At(Reason::BadWidth, u64::from(ordinal)));
+    }
+    if ends.items > MOST_ITEMS {
+        return Err(RowFault::Memory);
+    }
+    Ok(row_len(row))
+}
 
 /// Lays out rows one behind the other, tests that each part of them fits its width, and counts their bytes; the ends are at 0.
-fn lay_out(schema: &Schema, next: &Move, rows: &Slots, ends: &mut Ends) -> Result<u64, RowFault>
+fn lay_out(
+    alloc: Global,
+    schema: &Schema,
+    next: &Plan,
+    rows: &Current<'_>,
+    ends: &mut Ends,
+) -> Result<u64, RowFault>
     requires widths { length next.now.outline.widths ≡ width_count schema.now.shape }
     requires narrow { (part : ℕ) → slice_index next.now.outline.widths part ≤ 64 }
     requires kinds { AreOfKind schema.now.shape (rows_with rows.now.rows next.now.differences) }
@@ -33,21 +69,26 @@ fn lay_out(schema: &Schema, next: &Move, rows: &Slots, ends: &mut Ends) -> Resul
 {
     let mut bytes: u64 = 0;
     for ordinal in 0..next.outline.bound {
-        if let Some(row) = next.differences.find(rows, ordinal) {
-            if !ends.add(&schema.shape, next.outline.widths.as_slice(), row) {
-                return Err(RowFault::At(Reason::BadWidth, u64::from(ordinal)));
-            }
-            if ends.items > MOST_ITEMS {
-                return Err(RowFault::Memory);
-            }
-            bytes = bytes.saturating_add(row_len(row));
-        }
+        let slot = next.differences.find(alloc, rows, ordinal)?;
+        let more = lay_slot(
+            &schema.shape,
+            next.outline.widths.as_slice(),
+            ordinal,
+            &slot,
+            ends,
+        )?;
+        bytes = bytes.saturating_add(more);
     }
     Ok(bytes)
 }
 
 /// Tests that the layout of a half holds its rows, laid out one behind the other, and that they keep the limits; gives what they add up to.
-fn test_all(alloc: Global, schema: &Schema, next: &Move, rows: &Slots) -> Result<Totals, RowFault>
+fn test_all(
+    alloc: Global,
+    schema: &Schema,
+    next: &Plan,
+    rows: &Current<'_>,
+) -> Result<Totals, RowFault>
     requires widths { length next.now.outline.widths ≡ width_count schema.now.shape }
     requires narrow { (part : ℕ) → slice_index next.now.outline.widths part ≤ 64 }
     requires kinds { AreOfKind schema.now.shape (rows_with rows.now.rows next.now.differences) }
@@ -55,10 +96,11 @@ fn test_all(alloc: Global, schema: &Schema, next: &Move, rows: &Slots) -> Result
     requires bound { next.now.outline.bound ≡ bound_of (keys (rows_with rows.now.rows next.now.differences)) }
     ensures tells { MatchResult result (λ _. IsHeld schema.now.shape (layout_at next.now.outline) (rows_with rows.now.rows next.now.differences)) (UnlessMemory (IsHeld schema.now.shape (layout_at next.now.outline) (rows_with rows.now.rows next.now.differences) → ⊥)) }
     ensures totals { IfOk result (AreTotals (values (rows_with rows.now.rows next.now.differences))) }
+    ensures long { IfOk result (λ sums. length sums.ends.offsets.items ≡ length (shape_fields schema.now.shape)) }
     ensures kind { IfErr result IsLoadFault }
 {
     let mut ends = Ends::new(alloc, &schema.shape)?;
-    let bytes = lay_out(schema, next, rows, &mut ends)?;
+    let bytes = lay_out(alloc, schema, next, rows, &mut ends)?;
     let words = fixed_words(
         &schema.shape,
         next.outline.max,
@@ -74,15 +116,12 @@ fn test_all(alloc: Global, schema: &Schema, next: &Move, rows: &Slots) -> Result
     Ok(Totals { ends, bytes })
 }
 
-/// The same, where the current rows are laid out and add up to these totals: all rows are walked only where it is not told by those that come and
-/// go.
+/// The same, where the current rows are held by their widths: all rows are walked only where it is not told by those that come and go.
 pub(crate) fn test_held(
     alloc: Global,
     schema: &Schema,
-    current: &Outline,
-    totals: &Totals,
-    next: &Move,
-    rows: &Slots,
+    next: &Plan,
+    rows: &Current<'_>,
 ) -> Result<Totals, RowFault>
     requires widths { length next.now.outline.widths ≡ width_count schema.now.shape }
     requires narrow { (part : ℕ) → slice_index next.now.outline.widths part ≤ 64 }
@@ -90,13 +129,13 @@ pub(crate) fn test_held(
     requires kinds { AreOfKind schema.now.shape (rows_with rows.now.rows next.now.differences) }
     requires apart { AreApart next.now.differences }
     requires bound { next.now.outline.bound ≡ bound_of (keys (rows_with rows.now.rows next.now.differences)) }
-    requires totals { AreTotals (values rows.now.rows) totals.now }
-    requires held { HoldsRows schema.now.shape current.now.widths [] (values rows.now.rows) }
+    requires held { HoldsRows schema.now.shape rows.now.widths [] (values rows.now.rows) }
     ensures tells { MatchResult result (λ _. IsHeld schema.now.shape (layout_at next.now.outline) (rows_with rows.now.rows next.now.differences)) (UnlessMemory (IsHeld schema.now.shape (layout_at next.now.outline) (rows_with rows.now.rows next.now.differences) → ⊥)) }
     ensures totals { IfOk result (AreTotals (values (rows_with rows.now.rows next.now.differences))) }
+    ensures long { IfOk result (λ sums. length sums.ends.offsets.items ≡ length (shape_fields schema.now.shape)) }
     ensures kind { IfErr result IsLoadFault }
 {
-    match totals_by_change(alloc, schema, current, totals, next, rows)? {
+    match totals_by_change(alloc, schema, next, rows)? {
         Some(sums) => Ok(sums),
         None => test_all(alloc, schema, next, rows),
     }

@@ -1,16 +1,29 @@
-//! The rows of one type as they stand in its current state, and beside them those of the state before or of the next one.
+//! The rows of one type, packed in the words of two halves: those of its current state, and beside them those of the state before or of the next one.
 #![tactic(auto)]
 
 mod added;
 mod change;
+mod copied;
+mod copied_areas;
+mod copied_lists;
 mod counting;
+mod current;
 mod differences;
+mod field_bytes;
+mod fixed_moves;
 mod held;
-mod lookup;
+mod kept_records;
+mod live;
+mod loading;
+mod moved_rows;
 mod moving;
 mod ordinals;
+mod place;
+mod planning;
+mod section_rows;
 mod state;
 mod states;
+mod turning;
 mod views;
 
 pub use state::TypeState;

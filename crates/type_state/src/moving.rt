@@ -1,163 +1,147 @@
-//! From the current rows of a type and a patch to its next rows.
-ghost use Rattle.std.specs.Prelude.{◌≡◌, ◌<◌, ◌≤◌, ◌-◌, ◌^◌, [], None, All, IfErr, IfOk, MatchResult, map};
-ghost use Rattle.std.specs.FinMap.{keys, values};
-ghost use Rattle.ordinal_set.specs.Ordinals.{bound_of};
-ghost use Rattle.type_rows.specs.Holds.{HoldsRows};
+//! From the current half of a type and a patch to the next half.
+ghost use Rattle.std.specs.Prelude.{◌≡◌, ◌-◌, ◌^◌, IfErr, IfOk, MatchResult, OnOk, replicate};
+ghost use Rattle.std.specs.FinMap.{keys};
+ghost use Rattle.packed_half.specs.Half.{layout_in, words_for};
+ghost use Rattle.packed_half.specs.LaidOut.{IsLaidOut};
+ghost use Rattle.packed_half.specs.Laying.{CanLay};
 ghost use Rattle.type_rows.specs.Loads.{IsLoadFault};
-ghost use Rattle.type_rows.specs.Patches.{IsMovedBy, IsReadablePatch, RefusesMove, patch_layout};
-ghost use Rattle.type_rows.specs.Ends.{AreOfKind};
 ghost use Rattle.type_rows.specs.Outline.{layout_at};
-ghost use Rattle.type_rows.specs.Totals.{AreTotals};
-ghost use Rattle.type_state.specs.Differences.{AreApart, AreBelow, removal, rows_with};
-ghost use Rattle.type_state.specs.Moving.{IsDifferent, IsMoved, IsWithin};
+ghost use Rattle.type_rows.specs.Patches.{IsReadablePatch, RefusesMove, patch_layout};
+ghost use Rattle.type_state.specs.Differences.{AreApart, AreBelow, rows_with};
+ghost use Rattle.type_state.specs.Kept.{IsHalf, half_rows};
+ghost use Rattle.type_state.specs.Live.{live_with as live_ordinals};
+ghost use Rattle.type_state.specs.Moved.{IsMoveOf};
 
-use crate::added::read_added;
-use crate::differences::{Difference, Differences};
-use crate::held::test_held;
-use crate::ordinals::{test_added, test_removed};
-use hol_varint::Duplicate;
-use schema_model::{Reason, Schema};
+use crate::current::Current;
+use crate::differences::Differences;
+use crate::field_bytes::bytes_of_fields;
+use crate::fixed_moves::{can_copy, lay_fixed};
+use crate::kept_records::KeptRecords;
+use crate::live::live_with;
+use crate::moved_rows::MovedRows;
+use crate::planning::{CountedPlan, Plan, planned};
+use ordinal_set::OrdinalSet;
+use packed_half::{HalfRows, HalfShape, lay_out};
+use row_model::Words;
+use schema_model::Schema;
 use std::alloc::{AllocError, Global};
-use type_rows::{Outline, PatchSection, RowFault, Slots, Totals, place_count};
+use type_rows::{Ends, Outline, PatchSection, RowFault, Totals};
 
-/// The rows that a patch moves others to, as differences from these.
+/// The half that a patch moves the current one to, before its words are laid out, and in what its rows differ from the current ones.
 #[derive(Debug, Drop)]
 pub(crate) struct Move {
-    pub(crate) outline: Outline,
+    /// What describes the words of the half.
+    pub(crate) half: HalfShape,
+    /// The differences from the current rows.
     pub(crate) differences: Differences,
 }
 
-/// A move whose layout holds the new rows, and what these add up to.
-#[derive(Debug, Drop)]
-pub(crate) struct CountedMove {
-    pub(crate) next: Move,
-    pub(crate) totals: Totals,
-}
-
-/// Under each of some ordinals no row.
-fn removals(alloc: Global, ordinals: &[u64]) -> Result<Vec<Difference>, AllocError>
-    requires { All (λ ordinal. ordinal < 2 ^ 32) ordinals.now }
-    ensures { IfOk result (λ differences. differences.items ≡ map removal ordinals.now) }
+/// The half at an outline, whose rows end there and have these ordinals.
+fn half_at(outline: Outline, ends: Ends, live: OrdinalSet) -> HalfShape
+    ensures layout { layout_in result ≡ layout_at outline }
+    ensures total { result.total ≡ ends.items }
+    ensures lengths { result.lengths ≡ ends.offsets.items }
+    ensures live { result.live ≡ live }
 {
-    let mut differences = Vec::new(alloc);
-    for ordinal in ordinals {
-        differences.push((*ordinal as u32, None))?;
-    }
-    Ok(differences)
-}
-
-/// A number above each ordinal that has a row with the differences, by one above those that had one before.
-fn first_bound(bound: u32, differences: &Differences) -> u32
-    requires apart { AreApart differences.now }
-    requires small { AreBelow (2 ^ 32 - 1) differences.now.added.items }
-    ensures before { bound ≤ result }
-    ensures added { AreBelow result differences.now.added.items }
-{
-    match differences.added.as_slice().last() {
-        Some(last) => bound.max(last.0 + 1),
-        None => bound,
+    let Outline {
+        max,
+        widths,
+        bound: _,
+    } = outline;
+    let Ends { offsets, items } = ends;
+    HalfShape {
+        max,
+        widths,
+        total: items,
+        lengths: Words::from_vec(offsets),
+        live,
     }
 }
 
-/// One past the greatest ordinal that has a row with the differences, by a bound of those that had one before.
-fn bound_with(rows: &Slots, bound: u32, differences: &Differences) -> u32
-    requires apart { AreApart differences.now }
-    requires bound { bound ≡ bound_of (keys rows.now.rows) }
-    requires small { AreBelow (2 ^ 32 - 1) differences.now.added.items }
-    requires removed { AreBelow bound differences.now.removed.items }
-    ensures { result ≡ bound_of (keys (rows_with rows.now.rows differences.now)) }
+/// The half of a plan, whose rows add up to these totals.
+fn half_of(alloc: Global, rows: &Current<'_>, counted: CountedPlan) -> Result<Move, AllocError>
+    requires { AreBelow (2 ^ 32 - 1) counted.plan.differences.added.items }
+    ensures differences { IfOk result (λ next. next.differences ≡ counted.plan.differences) }
+    ensures layout { IfOk result (λ next. layout_in next.half ≡ layout_at counted.plan.outline) }
+    ensures total { IfOk result (λ next. next.half.total ≡ counted.totals.ends.items) }
+    ensures lengths { IfOk result (λ next. next.half.lengths ≡ counted.totals.ends.offsets.items) }
+    ensures live { IfOk result (λ next. next.half.live ≡ live_ordinals (keys rows.now.rows) counted.plan.differences) }
 {
-    let mut above = first_bound(bound, differences);
-    while above > 0 {
-        if differences.find(rows, above - 1).is_some() {
-            return above;
-        }
-        above -= 1;
-    }
-    0
-}
-
-/// The differences of the rows that a patch moves others to. The removed ordinals are live, and so below the bound.
-fn differences_of(
-    alloc: Global,
-    schema: &Schema,
-    _bound: u32,
-    rows: &Slots,
-    patch: &PatchSection,
-) -> Result<Differences, RowFault>
-    requires readable { IsReadablePatch schema.now.shape patch.now }
-    requires bound { _bound ≡ bound_of (keys rows.now.rows) }
-    ensures tells { MatchResult result (λ differences. IsDifferent schema.now.shape patch.now rows.now.rows differences) (RefusesMove schema.now.shape patch.now rows.now.rows) }
-    ensures kind { IfErr result IsLoadFault }
-{
-    let places = place_count(patch.max);
-    test_removed(rows, patch.removed.as_slice())?;
-    test_added(rows, patch.added.as_slice(), places)?;
-    Ok(Differences {
-        removed: removals(alloc, patch.removed.as_slice())?,
-        added: read_added(alloc, schema, patch)?,
-    })
-}
-
-/// The rows that a patch moves others to, at its layout, where each has a place.
-fn differing(
-    alloc: Global,
-    schema: &Schema,
-    bound: u32,
-    rows: &Slots,
-    patch: &PatchSection,
-) -> Result<Move, RowFault>
-    requires readable { IsReadablePatch schema.now.shape patch.now }
-    requires bound { bound ≡ bound_of (keys rows.now.rows) }
-    ensures tells { MatchResult result (λ next. IsMoved schema.now.shape patch.now rows.now.rows (rows_with rows.now.rows next.differences)) (RefusesMove schema.now.shape patch.now rows.now.rows) }
-    ensures layout { IfOk result (λ next. layout_at next.outline ≡ patch_layout patch.now) }
-    ensures bound { IfOk result (λ next. next.outline.bound ≡ bound_of (keys (rows_with rows.now.rows next.differences))) }
-    ensures apart { IfOk result (λ next. AreApart next.differences) }
-    ensures within { IfOk result (IsWithin bound) }
-    ensures kind { IfErr result IsLoadFault }
-{
-    let differences = differences_of(alloc, schema, bound, rows, patch)?;
-    let next_bound = bound_with(rows, bound, &differences);
-    if u64::from(next_bound) > place_count(patch.max) {
-        let last = u64::from(next_bound - 1);
-        return Err(RowFault::At(Reason::BadOrdinals, last));
-    }
-    let outline = Outline {
-        max: patch.max,
-        widths: patch.widths.copy(alloc)?,
-        bound: next_bound,
-    };
-    Ok(Move {
+    let live = live_with(alloc, rows.live(), &counted.plan.differences)?;
+    let CountedPlan { plan, totals } = counted;
+    let Plan {
         outline,
         differences,
-    })
+    } = plan;
+    let Totals { ends, bytes: _ } = totals;
+    let half = half_at(outline, ends, live);
+    Ok(Move { half, differences })
 }
 
-/// The rows that a patch moves others to, at its layout, which holds them within the limits, with what they add up to. The others have this
-/// outline and these totals.
+/// The half that a patch moves the current one to, at the patch's layout, which holds its rows within the limits.
+///
+/// `At` names an ordinal: `BadOrdinals` a removed one that does not rise or is not live, an added one that does not rise, has no place or is
+/// live, and one that stays and has no place; the other reasons an added one whose place spells no row, `BadWidth` one of the new rows that the
+/// widths cannot hold. `Limit` names the limit on words or bytes that the new rows pass.
 pub(crate) fn moved(
     alloc: Global,
     schema: &Schema,
-    current: &Outline,
-    totals: &Totals,
-    rows: &Slots,
+    current: HalfRows<'_>,
     patch: &PatchSection,
-) -> Result<CountedMove, RowFault>
+) -> Result<Move, RowFault>
     requires readable { IsReadablePatch schema.now.shape patch.now }
-    requires bound { current.now.bound ≡ bound_of (keys rows.now.rows) }
-    requires kinds { AreOfKind schema.now.shape rows.now.rows }
-    requires totals { AreTotals (values rows.now.rows) totals.now }
-    requires held { HoldsRows schema.now.shape current.now.widths [] (values rows.now.rows) }
-    ensures tells { MatchResult result (λ moved. IsMovedBy schema.now.shape patch.now rows.now.rows (rows_with rows.now.rows moved.next.differences)) (RefusesMove schema.now.shape patch.now rows.now.rows) }
-    ensures kinds { IfOk result (λ moved. AreOfKind schema.now.shape (rows_with rows.now.rows moved.next.differences)) }
-    ensures layout { IfOk result (λ moved. layout_at moved.next.outline ≡ patch_layout patch.now) }
-    ensures bound { IfOk result (λ moved. moved.next.outline.bound ≡ bound_of (keys (rows_with rows.now.rows moved.next.differences))) }
-    ensures apart { IfOk result (λ moved. AreApart moved.next.differences) }
-    ensures within { IfOk result (λ moved. IsWithin current.now.bound moved.next) }
-    ensures totals { IfOk result (λ moved. AreTotals (values (rows_with rows.now.rows moved.next.differences)) moved.totals) }
+    requires shape { current.shape.now ≡ schema.now.shape }
+    requires kept { IsHalf schema.now.shape current.half.now current.words.now }
+    ensures tells { MatchResult result (IsMoveOf schema.now.shape patch.now (half_rows schema.now.shape current.entry.half.now current.entry.words.now)) (RefusesMove schema.now.shape patch.now (half_rows schema.now.shape current.entry.half.now current.entry.words.now)) }
+    ensures layout { IfOk result (λ next. layout_in next.half ≡ patch_layout patch.now) }
     ensures kind { IfErr result IsLoadFault }
 {
-    let next = differing(alloc, schema, current.bound, rows, patch)?;
-    let totals = test_held(alloc, schema, current, totals, &next, rows)?;
-    Ok(CountedMove { next, totals })
+    let rows = Current::new(schema, current.half, current.words);
+    let counted = planned(alloc, schema, &rows, patch)?;
+    Ok(half_of(alloc, &rows, counted)?)
+}
+
+/// Lays the rows that a patch moves others to out in the words of their half. The words are zeros, as many as the half takes; where memory is
+/// refused they may hold anything.
+pub(crate) fn lay_moved<'a>(
+    alloc: Global,
+    schema: &'a Schema,
+    current: HalfRows<'a>,
+    next: &'a Move,
+    words: &mut [u64],
+) -> Result<(), AllocError>
+    requires shape { current.shape.now ≡ schema.now.shape }
+    requires kept { IsHalf schema.now.shape current.half.now current.words.now }
+    requires apart { AreApart next.now.differences }
+    requires can { CanLay schema.now.shape next.now.half (rows_with (half_rows schema.now.shape current.half.now current.words.now) next.now.differences) }
+    requires zeros { words.old ≡ replicate (words_for schema.now.shape next.now.half) 0 }
+    ensures { OnOk result (IsLaidOut schema.now.shape next.now.half words.new (rows_with (half_rows schema.now.shape current.entry.half.now current.entry.words.now) next.now.differences)) }
+{
+    if can_copy(&schema.shape, current.half, &next.half) {
+        lay_fixed(schema, current, next, words);
+        return Ok(());
+    }
+    lay_each(alloc, schema, current, next, words)
+}
+
+/// The same, record by record: those that stay are copied, and no row is made of one; rows of the other kinds are made anew.
+fn lay_each<'a>(
+    alloc: Global,
+    schema: &'a Schema,
+    current: HalfRows<'a>,
+    next: &'a Move,
+    words: &mut [u64],
+) -> Result<(), AllocError>
+    requires shape { current.shape.now ≡ schema.now.shape }
+    requires kept { IsHalf schema.now.shape current.half.now current.words.now }
+    requires apart { AreApart next.now.differences }
+    requires can { CanLay schema.now.shape next.now.half (rows_with (half_rows schema.now.shape current.half.now current.words.now) next.now.differences) }
+    requires zeros { words.old ≡ replicate (words_for schema.now.shape next.now.half) 0 }
+    ensures { OnOk result (IsLaidOut schema.now.shape next.now.half words.new (rows_with (half_rows schema.now.shape current.entry.half.now current.entry.words.now) next.now.differences)) }
+{
+    let areas = bytes_of_fields(alloc, current.bytes(), current.half.lengths.as_slice())?;
+    let records = KeptRecords::new(&current, areas.as_slice());
+    let rows = Current::new(schema, current.half, current.words);
+    let moved = MovedRows::new(&rows, records, &next.differences);
+    lay_out(alloc, schema, &next.half, &moved, words)
 }

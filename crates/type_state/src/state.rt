@@ -1,56 +1,70 @@
 //! The state of one type: its current rows, and those of the state before or of the next one.
-ghost use Rattle.std.specs.Prelude.{◌≡◌, ◌↔◌, Some, IsSome, IfErr, IfOk, IsTrue, OnOk};
-ghost use Rattle.std.specs.List.{Contains};
+ghost use Rattle.std.specs.Prelude.{◌≡◌, ◌↔◌, Some, IsSome, IfErr, IfOk, IsTrue, MatchResult, OnOk};
 ghost use Rattle.std.specs.FinMap.{get, keys};
 ghost use Rattle.ordinal_set.specs.Ordinals.{bound_of};
 ghost use Rattle.hol_varint.specs.Yields.{Yields};
 ghost use Rattle.row_model.specs.Lent.{lent_row};
 ghost use Rattle.row_model.specs.Table.{RowMap};
+ghost use Rattle.std.specs.List.{Contains};
 ghost use Rattle.bucket_codec.specs.Run.{FindsIn};
+ghost use Rattle.type_state.specs.Lookup.{elements_of, pairs_of};
 ghost use Rattle.type_rows.specs.WellFormed.{IsReadable};
 ghost use Rattle.type_rows.specs.Loads.{IsLoadFault, IsFreeRow, Loads, TellsLoad, layout_of};
-ghost use Rattle.type_rows.specs.Patches.{IsMovedBy, IsReadablePatch, TellsMove, patch_layout};
-ghost use Rattle.type_state.specs.Lookup.{elements_of, pairs_of};
+ghost use Rattle.type_rows.specs.Patches.{IsMovedBy, IsReadablePatch, RefusesMove, TellsMove, patch_layout};
+ghost use Rattle.packed_half.specs.Half.{layout_in};
+ghost use Rattle.type_state.specs.Moved.{IsMoveOf};
+ghost use Rattle.type_state.specs.Kept.{IsBare};
 ghost use Rattle.type_state.specs.State.{IsLaidOut, empty_half};
 
-use crate::differences::Others;
-use crate::lookup::{at, has};
-use crate::moving::{CountedMove, Move, moved};
-use hol_varint::Duplicate;
-use row_model::{LentRow, Row, Widths};
+use crate::loading::{half_of_section, lay_section_next};
+use crate::moving::{Move, moved};
+use crate::turning::lay_moved_next;
+use ordinal_set::OrdinalSet;
+use packed_half::{HalfRows, HalfShape};
+use raw_words::TwinWords;
+use row_model::{LentRow, Row, Widths, Words};
 use schema_model::Schema;
 use std::alloc::{AllocError, Global};
 use std::marker::Model;
 use std::mem;
-use type_rows::{Loaded, Outline, PatchSection, RowFault, Section, Slots, Totals, load_section};
+use type_rows::{PatchSection, RowFault, Section};
 
-/// The rows of one type: those of its current state, and beside them those of the state before or of the next one.
+/// The rows of one type: those of its current state, and beside them those of the state before or of the next one, each in words of its own.
 ///
 /// The state before is there from a `flip` until the next half is loaded or discarded.
 #[derive(Debug, Drop)]
 pub struct TypeState {
     alloc: Global,
     schema: Schema,
-    rows: Slots,
-    current: Outline,
-    totals: Totals,
-    others: Others,
-    other: Outline,
-    other_totals: Totals,
+    twin: TwinWords,
+    now: HalfShape,
+    other: HalfShape,
 }
 
 impl Model for TypeState {
-    ghost use Rattle.type_state.specs.State.{State, half_of, state_code};
-    ghost use Rattle.type_state.specs.Differences.{other_rows};
-    ghost use Rattle.type_state.specs.Entries.{IsKept};
+    ghost use Rattle.type_state.specs.State.{State, state_code};
+    ghost use Rattle.type_state.specs.Kept.{AreHalves, half_in};
 
     ghost Value = { State };
 
     ghost coded = { state_code };
 
-    ghost view = { λ s. record { schema = s.schema; current = half_of s.current s.rows.rows; other = half_of s.other (other_rows s.rows.rows s.others) } };
+    ghost view = { λ s. record { schema = s.schema; current = half_in s.schema.shape s.now s.twin.current; other = half_in s.schema.shape s.other s.twin.other } };
 
-    ghost invariant = { λ s. IsKept s.schema.shape s.rows s.current s.totals s.others s.other s.other_totals };
+    ghost invariant = { λ s. AreHalves s.schema.shape s.now s.other s.twin.current s.twin.other };
+}
+
+/// Of a half nothing is laid out. It takes no memory.
+fn bare_half(alloc: Global) -> HalfShape
+    ensures { IsBare result }
+{
+    HalfShape {
+        max: None,
+        widths: Widths::new(alloc),
+        total: 0,
+        lengths: Words::new(alloc),
+        live: OrdinalSet::new(alloc),
+    }
 }
 
 impl TypeState {
@@ -61,18 +75,15 @@ impl TypeState {
         TypeState {
             alloc,
             schema,
-            rows: Slots::new(alloc),
-            current: Outline::new(None, Widths::new(alloc)),
-            totals: Totals::new(alloc),
-            others: Others::Whole(Slots::new(alloc)),
-            other: Outline::new(None, Widths::new(alloc)),
-            other_totals: Totals::new(alloc),
+            twin: TwinWords::new(alloc),
+            now: bare_half(alloc),
+            other: bare_half(alloc),
         }
     }
 
     /// The type's schema.
     pub fn schema(&self) -> &Schema
-        ensures { result.now ≡ self.now.schema }
+        ensures { result.now ≡ self.entry.now.schema }
     {
         &self.schema
     }
@@ -95,15 +106,10 @@ impl TypeState {
         ensures schema { self.new.schema ≡ self.old.schema }
         ensures current { self.new.current ≡ self.old.current }
     {
-        let loaded = load_section(self.alloc, &self.schema, section)?;
-        let Loaded {
-            outline,
-            rows,
-            totals,
-        } = loaded;
-        self.others = Others::Whole(rows);
-        self.other = outline;
-        self.other_totals = totals;
+        let half = half_of_section(self.alloc, &self.schema, section)?;
+        self.other = bare_half(self.alloc);
+        lay_section_next(self.alloc, &self.schema, section, &half, &mut self.twin)?;
+        self.other = half;
         Ok(())
     }
 
@@ -125,34 +131,37 @@ impl TypeState {
         ensures schema { self.new.schema ≡ self.old.schema }
         ensures current { self.new.current ≡ self.old.current }
     {
-        let bound = self.current.bound;
-        let counted = moved(
-            self.alloc,
-            &self.schema,
-            &self.current,
-            &self.totals,
-            &self.rows,
-            patch,
-        )?;
-        let CountedMove { next, totals } = counted;
+        let next = self.next_move(patch)?;
+        self.other = bare_half(self.alloc);
+        lay_moved_next(self.alloc, &self.schema, &self.now, &next, &mut self.twin)?;
         let Move {
-            outline,
-            differences,
+            half,
+            differences: _,
         } = next;
-        self.rows.grow(bound.max(outline.bound) as usize)?;
-        self.others = Others::Differ(differences);
-        self.other = outline;
-        self.other_totals = totals;
+        self.other = half;
         Ok(())
+    }
+
+    /// What the patch makes of the current rows.
+    fn next_move(&self, patch: &PatchSection) -> Result<Move, RowFault>
+        requires { IsReadablePatch self.now.schema.shape patch.now }
+        ensures tells { MatchResult result (λ next. IsMoveOf self.entry.now.schema.shape patch.now self.entry.now.current.rows next) (RefusesMove self.entry.now.schema.shape patch.now self.entry.now.current.rows) }
+        ensures layout { IfOk result (λ next. layout_in next.half ≡ patch_layout patch.now) }
+        ensures kind { IfErr result IsLoadFault }
+    {
+        let current = HalfRows {
+            shape: &self.schema.shape,
+            half: &self.now,
+            words: self.twin.current(),
+        };
+        moved(self.alloc, &self.schema, current, patch)
     }
 
     /// Leaves no rows in the next half. It takes no memory.
     pub fn discard_next(&mut self)
         ensures { self.new ≡ record self.old { other = empty_half } }
     {
-        self.others = Others::Whole(Slots::new(self.alloc));
-        self.other = Outline::new(None, Widths::new(self.alloc));
-        self.other_totals = Totals::new(self.alloc);
+        self.other = bare_half(self.alloc);
     }
 
     /// Makes the next half the current one, and the current one that of the state before. It takes no memory.
@@ -160,137 +169,141 @@ impl TypeState {
         requires { IsLaidOut self.old.schema self.old.other }
         ensures { self.new ≡ record { schema = self.old.schema; current = self.old.other; other = self.old.current } }
     {
-        self.others.exchange(&mut self.rows);
-        mem::swap(&mut self.current, &mut self.other);
-        mem::swap(&mut self.totals, &mut self.other_totals);
+        self.twin.flip();
+        mem::swap(&mut self.now, &mut self.other);
     }
 
     /// The greatest ordinal that has a place in the layout of the current state, none where there is no place.
     pub fn max(&self) -> Option<u32>
-        ensures { result ≡ self.now.current.layout.max }
+        ensures { result ≡ self.entry.now.current.layout.max }
     {
-        self.current.max
+        self.now.max
     }
 
     /// One past the greatest live ordinal of the current state, 0 for none.
     pub fn bound(&self) -> u32
-        ensures { result ≡ bound_of (keys self.now.current.rows) }
+        ensures { result ≡ bound_of (keys self.entry.now.current.rows) }
     {
-        self.current.bound
-    }
-
-    /// One past the greatest ordinal that was live in the state before, 0 for none.
-    pub fn bound_before(&self) -> u32
-        ensures { result ≡ bound_of (keys self.now.other.rows) }
-    {
-        self.other.bound
-    }
-
-    /// One past the greatest ordinal that is live in the next half, 0 for none.
-    pub fn next_bound(&self) -> u32
-        requires { IsLaidOut self.now.schema self.now.other }
-        ensures { result ≡ bound_of (keys self.now.other.rows) }
-    {
-        self.other.bound
+        self.now.live.bound()
     }
 
     /// Whether the current state has a row under the ordinal.
     pub fn is_live(&self, ordinal: u32) -> bool
-        ensures { IsTrue result ↔ IsSome (get self.now.current.rows ordinal) }
+        ensures { IsTrue result ↔ IsSome (get self.entry.now.current.rows ordinal) }
     {
-        self.rows.find(u64::from(ordinal)).is_some()
-    }
-
-    /// Whether the state before had a row under the ordinal.
-    pub fn was_live(&self, ordinal: u32) -> bool
-        ensures { IsTrue result ↔ IsSome (get self.now.other.rows ordinal) }
-    {
-        self.others.find(&self.rows, ordinal).is_some()
-    }
-
-    /// Whether the next half has a row under the ordinal.
-    pub fn next_is_live(&self, ordinal: u32) -> bool
-        requires { IsLaidOut self.now.schema self.now.other }
-        ensures { IsTrue result ↔ IsSome (get self.now.other.rows ordinal) }
-    {
-        self.others.find(&self.rows, ordinal).is_some()
+        self.now.live.contains(ordinal)
     }
 
     /// A copy of the row of the current state under a live ordinal.
     pub fn row(&self, alloc: Global, ordinal: u32) -> Result<Row, AllocError>
         requires { IsSome (get self.now.current.rows ordinal) }
-        ensures { IfOk result (λ row. get self.now.current.rows ordinal ≡ Some row) }
+        ensures { IfOk result (λ row. get self.entry.now.current.rows ordinal ≡ Some row) }
     {
-        match self.rows.find(u64::from(ordinal)) {
-            Some(row) => row.copy(alloc),
-            None => unreachable!(),
-        }
+        let half = HalfRows {
+            shape: &self.schema.shape,
+            half: &self.now,
+            words: self.twin.current(),
+        };
+        half.row(alloc, &self.schema, ordinal)
     }
 
-    /// The row of the current state under a live ordinal, to look at where it stands.
-    pub fn lend(&self, _alloc: Global, ordinal: u32) -> Result<LentRow<'_>, AllocError>
-        requires { IsSome (get self.now.current.rows ordinal) }
-        ensures { IfOk result (λ lent. get self.now.current.rows ordinal ≡ Some (lent_row lent)) }
+    /// One past the greatest ordinal that was live in the state before, 0 for none.
+    pub fn bound_before(&self) -> u32
+        ensures { result ≡ bound_of (keys self.entry.now.other.rows) }
     {
-        match self.rows.find(u64::from(ordinal)) {
-            Some(row) => Ok(LentRow::Kept(row)),
-            None => unreachable!(),
-        }
+        self.other.live.bound()
+    }
+
+    /// One past the greatest ordinal that is live in the next half, 0 for none.
+    pub fn next_bound(&self) -> u32
+        requires { IsLaidOut self.now.schema self.now.other }
+        ensures { result ≡ bound_of (keys self.entry.now.other.rows) }
+    {
+        self.other.live.bound()
+    }
+
+    /// Whether the state before had a row under the ordinal.
+    pub fn was_live(&self, ordinal: u32) -> bool
+        ensures { IsTrue result ↔ IsSome (get self.entry.now.other.rows ordinal) }
+    {
+        self.other.live.contains(ordinal)
+    }
+
+    /// Whether the next half has a row under the ordinal.
+    pub fn next_is_live(&self, ordinal: u32) -> bool
+        requires { IsLaidOut self.now.schema self.now.other }
+        ensures { IsTrue result ↔ IsSome (get self.entry.now.other.rows ordinal) }
+    {
+        self.other.live.contains(ordinal)
+    }
+
+    /// The row of the current state under a live ordinal, to look at; it is made of its place.
+    pub fn lend(&self, alloc: Global, ordinal: u32) -> Result<LentRow<'_>, AllocError>
+        requires { IsSome (get self.now.current.rows ordinal) }
+        ensures { IfOk result (λ lent. get self.entry.now.current.rows ordinal ≡ Some (lent_row lent)) }
+    {
+        Ok(LentRow::Made(self.row(alloc, ordinal)?))
     }
 
     /// Whether the current state has a set with the element under the ordinal. It takes no memory.
     pub fn has(&self, ordinal: u32, element: u32) -> bool
-        ensures { IsTrue result ↔ Contains (elements_of (get self.now.current.rows ordinal)) element }
+        ensures { IsTrue result ↔ Contains (elements_of (get self.entry.now.current.rows ordinal)) element }
     {
-        match self.rows.find(u64::from(ordinal)) {
-            Some(row) => has(row, element),
-            None => false,
+        if !self.now.live.contains(ordinal) {
+            return false;
         }
+        let half = HalfRows {
+            shape: &self.schema.shape,
+            half: &self.now,
+            words: self.twin.current(),
+        };
+        half.has(ordinal, element)
     }
 
     /// The value beside the key in the map that the current state has under the ordinal; none where it has no map there, or one without the
     /// key. It takes no memory.
     pub fn at(&self, ordinal: u32, key: u32) -> Option<u32>
-        ensures { FindsIn (pairs_of (get self.now.current.rows ordinal)) key result }
+        ensures { FindsIn (pairs_of (get self.entry.now.current.rows ordinal)) key result }
     {
-        match self.rows.find(u64::from(ordinal)) {
-            Some(row) => at(row, key),
-            None => None,
+        if !self.now.live.contains(ordinal) {
+            return None;
         }
+        let half = HalfRows {
+            shape: &self.schema.shape,
+            half: &self.now,
+            words: self.twin.current(),
+        };
+        half.at(ordinal, key)
     }
 
     /// A copy of the row of the state before under an ordinal that was live.
     pub fn row_before(&self, alloc: Global, ordinal: u32) -> Result<Row, AllocError>
         requires { IsSome (get self.now.other.rows ordinal) }
-        ensures { IfOk result (λ row. get self.now.other.rows ordinal ≡ Some row) }
+        ensures { IfOk result (λ row. get self.entry.now.other.rows ordinal ≡ Some row) }
     {
-        match self.others.find(&self.rows, ordinal) {
-            Some(row) => row.copy(alloc),
-            None => unreachable!(),
-        }
+        let half = HalfRows {
+            shape: &self.schema.shape,
+            half: &self.other,
+            words: self.twin.other(),
+        };
+        half.row(alloc, &self.schema, ordinal)
     }
 
     /// A copy of the row of the next half under an ordinal that is live there.
     pub fn next_row(&self, alloc: Global, ordinal: u32) -> Result<Row, AllocError>
         requires laid { IsLaidOut self.now.schema self.now.other }
         requires live { IsSome (get self.now.other.rows ordinal) }
-        ensures { IfOk result (λ row. get self.now.other.rows ordinal ≡ Some row) }
+        ensures { IfOk result (λ row. get self.entry.now.other.rows ordinal ≡ Some row) }
     {
-        match self.others.find(&self.rows, ordinal) {
-            Some(row) => row.copy(alloc),
-            None => unreachable!(),
-        }
+        self.row_before(alloc, ordinal)
     }
 
-    /// The row of the next half under an ordinal that is live there, to look at where it stands.
-    pub fn lend_next(&self, _alloc: Global, ordinal: u32) -> Result<LentRow<'_>, AllocError>
+    /// The row of the next half under an ordinal that is live there, to look at; it is made of its place.
+    pub fn lend_next(&self, alloc: Global, ordinal: u32) -> Result<LentRow<'_>, AllocError>
         requires laid { IsLaidOut self.now.schema self.now.other }
         requires live { IsSome (get self.now.other.rows ordinal) }
-        ensures { IfOk result (λ lent. get self.now.other.rows ordinal ≡ Some (lent_row lent)) }
+        ensures { IfOk result (λ lent. get self.entry.now.other.rows ordinal ≡ Some (lent_row lent)) }
     {
-        match self.others.find(&self.rows, ordinal) {
-            Some(row) => Ok(LentRow::Kept(row)),
-            None => unreachable!(),
-        }
+        Ok(LentRow::Made(self.row_before(alloc, ordinal)?))
     }
 }

@@ -1,4 +1,4 @@
-use Rattle.std.proofs.Common.{◌≡◌, ℤ, ap, ◌∙◌, w64, of_z, to_z, arith, rules}
+use Rattle.std.proofs.Common.{◌≡◌, ℤ, Some, ap, ◌∙◌, w64, of_z, to_z, arith, rules}
 use Rattle.std.proofs.lemmas.Int.{ints, to_z-of_z}
 use Rattle.hol_io.specs.declared.name.BlobName.TheVariants.{Snapshot}
 use Rattle.snapshot_blob.specs.declared.loaded.Loaded.{Loaded}
@@ -13,6 +13,6 @@ pub returns-clause-tells : goal.returns-clause-tells
 returns-clause-tells g c =
     let loaded : Loaded = c.in_ok-header.field-0 in
     let same : to_z w64 (of_z w64 loaded.header.destination) ≡ loaded.header.destination = grind (arith, ints, to_z-of_z) in
-    loaded_told (Snapshot c.args.version) (g.S.BlobStore.seen c.args.store.now).held loaded c.stand_of.result
-    (c.stand_of.ensures ∙ ap (λ (tag : ℤ). loaded_position tag (record { model = loaded.model; states = loaded.states })) same)
+    loaded_told (Snapshot c.args.version) (g.S.BlobStore.seen c.args.store.now).held loaded c.standing.result
+    (c.standing.ensures ∙ ap (λ (tag : ℤ). Some (loaded_position tag (record { model = loaded.model; states = loaded.states }))) same)
     c.in_ok-header.ensures.tells

@@ -1,56 +1,57 @@
-use Rattle.std.proofs.Common.{◌≡◌, ◌⊎◌, ℤ, List, Some, Ok, Err, IfSome, ◌∙◌, w64, of_z, to_z, ap, sym, subst, arith, rules}
-use Rattle.std.specs.Prelude.{All}
+use Rattle.std.proofs.Common.{◌≡◌, ◌⊎◌, ◌∙◌, ℤ, Err, IfSome, w64, of_z, to_z, sym, subst, arith, rules}
 use Rattle.std.proofs.lemmas.Int.{ints, to_z-of_z}
-use Rattle.delta_blob.specs.declared.patch.PatchPart.{PatchPart}
-use Rattle.delta_blob.specs.Reads.{IsWholePart, TellsDelta}
 use Rattle.hol_io.specs.Store.{told}
 use Rattle.state_moves.specs.Moving.{TellsRefusal}
 use Rattle.blob_frame.specs.declared.fault.BlobFault.{BlobFault}
-use Rattle.read_engine.specs.Position.{IsPosition, Position}
 use Rattle.read_engine.specs.Taken.{CountsTaken, IsNotTaken, IsTaken}
-use Rattle.read_engine.specs.Taking.{TellsStep}
-use Rattle.read_engine.proofs.StepsTold.{part_counted, refused_told, taken_told, untaken_told}
+use Rattle.read_engine.specs.Taking.{IsStepFault, TellsStep}
+use Rattle.std.specs.Prelude.{IsSomeAnd}
+use Rattle.read_engine.proofs.ConsumerSteps.{by_same, counted, delta_kind, moved_kind, taken, unread, untaken, whole_parts}
 use Rattle.read_engine.proofs.step.step.Goals as goal
 
-pub take-requires : goal.take-requires
-take-requires g c = subst (λ (ps : List PatchPart). All (IsWholePart c.args.stand.now.schemas) ps) (sym c.as_slice-parts.ensures) (subst (λ (p : Position). All (IsWholePart p.schemas) c.in_ok-patch.patch.parts) c.stand.view_is c.in_ok-patch.ensures.whole)
+pub take-requires-clause-whole : goal.take-requires-clause-whole
+take-requires-clause-whole g c = whole_parts c.args.consumer.now c.types.result.now c.in_ok-patch.patch.parts c.as_slice-parts.result.now c.types.ensures.schemas c.as_slice-parts.ensures c.in_ok-patch.ensures.whole
 
 pub returns-in_err-patch-clause-tells : goal.returns-in_err-patch-clause-tells
 returns-in_err-patch-clause-tells g c =
-    let held = (g.S.BlobStore.seen c.args.store.now).held in
-    let current : to_z w64 (of_z w64 c.stand.inside.tag) ≡ c.args.stand.now.tag = grind (arith, ints, to_z-of_z) ∙ ap (λ (p : Position). p.tag) c.stand.view_is in
-    refused_told c.args.name.now c.args.stand.now held _ c.in_err-patch.field-0.0 _ (search rules)
-    (subst (λ (tag : ℤ). IfSome held (λ store. TellsDelta c.args.name.now tag c.args.stand.now.schemas (told held c.args.name.now) (Err c.in_err-patch.field-0.0))) current
-    (subst (λ (p : Position). IfSome held (λ store. TellsDelta c.args.name.now (to_z w64 (of_z w64 c.stand.inside.tag)) p.schemas (told held c.args.name.now) (Err c.in_err-patch.field-0.0))) c.stand.view_is c.in_err-patch.ensures.tells))
+    let same : to_z w64 (of_z w64 c.tag_or_zero-current.result) ≡ c.tag_or_zero-current.result = grind (arith, ints, to_z-of_z) in
+    unread c.args.name.now (g.S.BlobStore.seen c.args.store.now).held (to_z w64 (of_z w64 c.tag_or_zero-current.result)) c.types.result.now c.args.consumer.now _ (same ∙ c.tag_or_zero-current.ensures) c.types.ensures.schemas c.in_err-patch.field-0.0 _ (search rules)
+    c.in_err-patch.ensures.tells
+
+pub returns-in_err-patch-clause-kind : goal.returns-in_err-patch-clause-kind
+returns-in_err-patch-clause-kind g c =
+    let same : to_z w64 (of_z w64 c.tag_or_zero-current.result) ≡ c.tag_or_zero-current.result = grind (arith, ints, to_z-of_z) in
+    delta_kind c.args.name.now (to_z w64 (of_z w64 c.tag_or_zero-current.result)) c.args.consumer.now (same ∙ c.tag_or_zero-current.ensures) c.in_err-patch.field-0.0 _ (search rules) c.in_err-patch.ensures.kind
 
 pub returns-in-Ok-clause-tells : goal.returns-in-Ok-clause-tells
 returns-in-Ok-clause-tells g c =
-    let held = (g.S.BlobStore.seen c.args.store.now).held in
-    let current : to_z w64 (of_z w64 c.stand.inside.tag) ≡ c.args.stand.now.tag = grind (arith, ints, to_z-of_z) ∙ ap (λ (p : Position). p.tag) c.stand.view_is in
-    let read = subst (λ (tag : ℤ). IfSome held (λ store. TellsDelta c.args.name.now tag c.args.stand.now.schemas (told held c.args.name.now) (Ok c.in_ok-patch.patch))) current
-    (subst (λ (p : Position). IfSome held (λ store. TellsDelta c.args.name.now (to_z w64 (of_z w64 c.stand.inside.tag)) p.schemas (told held c.args.name.now) (Ok c.in_ok-patch.patch))) c.stand.view_is c.in_ok-patch.ensures.tells) in
-    let same : to_z w64 (of_z w64 c.in_ok-patch.patch.destination) ≡ c.in_ok-patch.patch.destination = grind (arith, ints, to_z-of_z) in
-    taken_told c.args.name.now c.args.stand.now c.one_move.ensures (subst IsPosition c.stand.view_is c.stand.invariant.position) c.in_ok-patch.patch held c.take.new.stand read
-    (subst (λ (tag : ℤ). IsTaken tag c.in_ok-patch.patch.parts c.args.stand.now c.take.new.stand) same
-    (subst (λ (ps : List PatchPart). IsTaken (to_z w64 (of_z w64 c.in_ok-patch.patch.destination)) ps c.args.stand.now c.take.new.stand) c.as_slice-parts.ensures c.in-Ok.ensures.tells))
+    let destination : to_z w64 (of_z w64 c.in_ok-patch.patch.destination) ≡ c.in_ok-patch.patch.destination = grind (arith, ints, to_z-of_z) in
+    let same : to_z w64 (of_z w64 c.tag_or_zero-current.result) ≡ c.tag_or_zero-current.result = grind (arith, ints, to_z-of_z) in
+    taken c.args.name.now (g.S.BlobStore.seen c.args.store.now).held (to_z w64 (of_z w64 c.tag_or_zero-current.result)) c.types.result.now c.one_move.ensures c.in_ok-patch.patch c.in_ok-patch.ensures.tells c.args.consumer.now c.take.new.consumer
+    c.types.ensures.position (same ∙ c.tag_or_zero-current.ensures) c.types.ensures.schemas
+    (by_same c.args.consumer.now (λ parts from. IsSomeAnd c.take.new.consumer (IsTaken c.in_ok-patch.patch.destination parts from)) c.in_ok-patch.patch.parts c.as_slice-parts.result.now c.as_slice-parts.ensures
+    (subst (λ (tag : ℤ). IfSome c.args.consumer.now (λ from. IsSomeAnd c.take.new.consumer (IsTaken tag c.as_slice-parts.result.now from))) destination c.in-Ok.ensures.tells))
 
 pub returns-clause-tells : goal.returns-clause-tells
 returns-clause-tells g c =
+    let same : to_z w64 (of_z w64 c.tag_or_zero-current.result) ≡ c.tag_or_zero-current.result = grind (arith, ints, to_z-of_z) in
     let held = (g.S.BlobStore.seen c.args.store.now).held in
-    let current : to_z w64 (of_z w64 c.stand.inside.tag) ≡ c.args.stand.now.tag = grind (arith, ints, to_z-of_z) ∙ ap (λ (p : Position). p.tag) c.stand.view_is in
-    let read = subst (λ (tag : ℤ). IfSome held (λ store. TellsDelta c.args.name.now tag c.args.stand.now.schemas (told held c.args.name.now) (Ok c.in_ok-patch.patch))) current
-    (subst (λ (p : Position). IfSome held (λ store. TellsDelta c.args.name.now (to_z w64 (of_z w64 c.stand.inside.tag)) p.schemas (told held c.args.name.now) (Ok c.in_ok-patch.patch))) c.stand.view_is c.in_ok-patch.ensures.tells) in
-    subst (λ (e : BlobFault). IfSome held (λ store. TellsStep c.args.name.now (told held c.args.name.now) c.args.stand.now (Some c.take.new.stand) (Err e))) (sym c.fault_of.ensures)
-    (untaken_told c.args.name.now c.args.stand.now c.one_move.ensures (subst IsPosition c.stand.view_is c.stand.invariant.position) c.in_ok-patch.patch held (Some c.take.new.stand) c.in-Err.fault read
-    (subst (λ (ps : List PatchPart). TellsRefusal (IsNotTaken ps c.args.stand.now) c.in-Err.fault) c.as_slice-parts.ensures c.in-Err.ensures.tells))
+    subst (λ (e : BlobFault). IfSome held (λ store. IfSome c.args.consumer.now (λ from. TellsStep c.args.name.now (told held c.args.name.now) from c.take.new.consumer (Err e)))) (sym c.fault_of.ensures)
+    (untaken c.args.name.now held (to_z w64 (of_z w64 c.tag_or_zero-current.result)) c.types.result.now c.one_move.ensures c.in_ok-patch.patch c.in_ok-patch.ensures.tells c.args.consumer.now c.take.new.consumer c.types.ensures.position
+    (same ∙ c.tag_or_zero-current.ensures) c.types.ensures.schemas c.in-Err.fault
+    (by_same c.args.consumer.now (λ parts from. TellsRefusal (IsNotTaken parts from) c.in-Err.fault) c.in_ok-patch.patch.parts c.as_slice-parts.result.now c.as_slice-parts.ensures c.in-Err.ensures.tells))
+
+pub returns-clause-kind : goal.returns-clause-kind
+returns-clause-kind g c =
+    subst (λ (e : BlobFault). IfSome c.args.consumer.now (λ from. IsStepFault c.args.name.now from.tag e)) (sym c.fault_of.ensures)
+    (moved_kind c.args.name.now c.args.consumer.now c.in_ok-patch.patch.length (IsNotTaken c.as_slice-parts.result.now) c.in-Err.fault c.in-Err.ensures.tells)
 
 pub returns-clause-part : goal.returns-clause-part
 returns-clause-part g c =
-    let held = (g.S.BlobStore.seen c.args.store.now).held in
-    let current : to_z w64 (of_z w64 c.stand.inside.tag) ≡ c.args.stand.now.tag = grind (arith, ints, to_z-of_z) ∙ ap (λ (p : Position). p.tag) c.stand.view_is in
-    let read = subst (λ (tag : ℤ). IfSome held (λ store. TellsDelta c.args.name.now tag c.args.stand.now.schemas (told held c.args.name.now) (Ok c.in_ok-patch.patch))) current
-    (subst (λ (p : Position). IfSome held (λ store. TellsDelta c.args.name.now (to_z w64 (of_z w64 c.stand.inside.tag)) p.schemas (told held c.args.name.now) (Ok c.in_ok-patch.patch))) c.stand.view_is c.in_ok-patch.ensures.tells) in
-    let same : to_z w64 (of_z w64 c.in_ok-patch.patch.destination) ≡ c.in_ok-patch.patch.destination = grind (arith, ints, to_z-of_z) in
-    part_counted c.args.name.now c.args.stand.now c.one_move.ensures (subst IsPosition c.stand.view_is c.stand.invariant.position) c.in_ok-patch.patch held c.args.steps.now c.take.new.steps read
-    (subst (λ (tag : ℤ). (c.take.new.steps ≡ c.args.steps.now) ⊎ CountsTaken tag c.in_ok-patch.patch.parts c.args.stand.now c.args.steps.now c.take.new.steps) same
-    (subst (λ (ps : List PatchPart). (c.take.new.steps ≡ c.args.steps.now) ⊎ CountsTaken (to_z w64 (of_z w64 c.in_ok-patch.patch.destination)) ps c.args.stand.now c.args.steps.now c.take.new.steps) c.as_slice-parts.ensures c.in-Err.ensures.part))
+    let destination : to_z w64 (of_z w64 c.in_ok-patch.patch.destination) ≡ c.in_ok-patch.patch.destination = grind (arith, ints, to_z-of_z) in
+    let same : to_z w64 (of_z w64 c.tag_or_zero-current.result) ≡ c.tag_or_zero-current.result = grind (arith, ints, to_z-of_z) in
+    counted c.args.name.now (g.S.BlobStore.seen c.args.store.now).held (to_z w64 (of_z w64 c.tag_or_zero-current.result)) c.types.result.now c.one_move.ensures c.in_ok-patch.patch c.in_ok-patch.ensures.tells c.args.consumer.now c.types.ensures.position
+    (same ∙ c.tag_or_zero-current.ensures) c.types.ensures.schemas c.args.steps.now c.take.new.steps
+    (by_same c.args.consumer.now (λ parts from. (c.take.new.steps ≡ c.args.steps.now) ⊎ CountsTaken c.in_ok-patch.patch.destination parts from c.args.steps.now c.take.new.steps) c.in_ok-patch.patch.parts
+    c.as_slice-parts.result.now c.as_slice-parts.ensures
+    (subst (λ (tag : ℤ). IfSome c.args.consumer.now (λ from. (c.take.new.steps ≡ c.args.steps.now) ⊎ CountsTaken tag c.as_slice-parts.result.now from c.args.steps.now c.take.new.steps)) destination c.in-Err.ensures.part))

@@ -1,82 +1,141 @@
-use Rattle.std.proofs.Common.{◌≡◌, ◌+◌, ◌∙◌, ◌⊎◌, ℤ, List, map, w64, of_z, to_z, ap, sym, subst, arith}
-use Rattle.std.specs.Vec.{with_items}
-use Rattle.std.proofs.lemmas.List.{with_items_is}
-use Rattle.std.specs.Prelude.{All, sum_by}
+use Rattle.std.proofs.Common.{◌≡◌, ◌+◌, ◌∙◌, ◌⊎◌, ℤ, List, IfSome, map, w64, of_z, to_z, ap, sym, subst, arith}
+use Rattle.std.specs.Prelude.{All, IsSome, sum_by}
 use Rattle.std.proofs.lemmas.Int.{ints, to_z-of_z}
-use Rattle.row_model.specs.Table.{IsClosed}
+use Rattle.std.proofs.lemmas.List.{with_items_is}
+use Rattle.row_model.specs.Table.{IsClosed, IsTableOf}
 use Rattle.type_state.specs.State.{State}
 use Rattle.type_state.specs.Views.{table_of}
-use Rattle.key_index.specs.Indexed.{Indexed}
 use Rattle.delta_blob.specs.Reads.{IsWholePart}
-use Rattle.read_engine.specs.Indexes.{CountsStep}
-use Rattle.read_engine.specs.Kept.{count_came, index_kept}
-use Rattle.state_moves.specs.Moving.{StaysCurrent}
-use Rattle.read_engine.specs.Taken.{IsTaken, ReadsSome, TakesParts}
-use Rattle.read_engine.specs.Position.{Position}
+use Rattle.key_index.specs.Indexed.{Indexed}
 use Rattle.state_moves.specs.Halves.{current_halves}
-use Rattle.read_engine.specs.Standing.{IsStanding, position_of}
-use Rattle.read_engine.proofs.Taken.{counts_step, is_taken, on_err, part_counted, stands_after, stands_still}
+use Rattle.state_moves.specs.Moving.{RefusesParts, StaysCurrent, TellsRefusal}
+use Rattle.read_engine.specs.Indexes.{CountsStep}
+use Rattle.read_engine.specs.Kept.{IsKept, count_came, index_kept}
+use Rattle.read_engine.specs.Position.{Position}
+use Rattle.read_engine.specs.Standing.{HasParts, IsStanding, position_of, stands_at}
+use Rattle.read_engine.specs.Taken.{IsTaken, ReadsSome, TakesParts}
+use Rattle.read_engine.proofs.Consumers.{given, has_after, its_parts, not_taken, some_counted, stands_and, step_counted, still_at, still_has, taken_from, tells_refusal}
+use Rattle.read_engine.proofs.Taken.{on_err}
 use Rattle.read_engine.proofs.step.take.Goals as goal
 
-pub take_parts-requires-clause-whole : goal.take_parts-requires-clause-whole
-take_parts-requires-clause-whole g c = subst (λ (p : Position). All (IsWholePart p.schemas) c.args.parts.now) (sym c.stand.view_is) c.requires
+pub take_parts-taken-requires-clause-named : goal.take_parts-taken-requires-clause-named
+take_parts-taken-requires-clause-named g c =
+    let was : c.as_mut_slice.result.now ≡ c.consumer.inside.states = c.as_mut_slice.ensures.value ∙ c.into_vec-states.ensures ∙ c.replace.ensures.value in
+    ap (map (λ (s : State). s.schema)) was ∙ given c.consumer.inside.tag c.consumer.inside.model c.consumer.inside.states c.consumer.inside.past c.consumer.inside.indexes c.consumer.invariant c.args.consumer.now c.consumer.view_is c.requires.standing (map (λ (s : State). s.schema) c.consumer.inside.states ≡ c.consumer.inside.model) (λ at stands. stands.named)
 
-pub take_parts-requires-clause-closed : goal.take_parts-requires-clause-closed
-take_parts-requires-clause-closed g c = subst (λ (xs : List State). IsClosed c.stand.inside.model (table_of (current_halves xs))) (sym c.as_mut_slice-states.ensures.value) c.stand.invariant.position.closed
+pub take_parts-taken-requires-clause-fits : goal.take_parts-taken-requires-clause-fits
+take_parts-taken-requires-clause-fits g c =
+    let was : c.as_mut_slice.result.now ≡ c.consumer.inside.states = c.as_mut_slice.ensures.value ∙ c.into_vec-states.ensures ∙ c.replace.ensures.value in
+    subst (λ (xs : List State). IsTableOf c.consumer.inside.model (table_of (current_halves xs))) (sym was) (given c.consumer.inside.tag c.consumer.inside.model c.consumer.inside.states c.consumer.inside.past c.consumer.inside.indexes c.consumer.invariant c.args.consumer.now c.consumer.view_is c.requires.standing (IsTableOf c.consumer.inside.model (table_of (current_halves c.consumer.inside.states))) (λ at stands. stands.position.rows))
 
-pub invariant_of-stand : goal.invariant_of-stand
-invariant_of-stand g c =
-    let states = with_items_is c.stand.inside.states c.take_parts.new.states (omega (arith, c.take_parts.auto.states, c.as_mut_slice-states.ensures.len)) in
-    let indexes = with_items_is c.stand.inside.indexes c.take_parts.new.indexes (omega (arith, c.take_parts.auto.indexes, c.as_mut_slice-indexes.ensures.len)) in
-    subst (λ (xs : List State). IsStanding c.stand.inside.tag c.stand.inside.model xs c.stand.inside.past (with_items c.stand.inside.indexes c.take_parts.new.indexes).items) (sym states)
-    (subst (IsStanding c.stand.inside.tag c.stand.inside.model c.take_parts.new.states c.stand.inside.past) (sym (indexes ∙ c.in_err-past.ensures.unmoved ∙ c.as_mut_slice-indexes.ensures.value))
-    (stands_still c.stand.inside.tag c.stand.inside.model c.stand.inside.states.items c.take_parts.new.states c.stand.inside.past c.stand.inside.indexes.items c.stand.invariant
-    (subst (λ (xs : List State). StaysCurrent xs c.take_parts.new.states) c.as_mut_slice-states.ensures.value c.in_err-past.ensures.stays)))
+pub take_parts-taken-requires-clause-closed : goal.take_parts-taken-requires-clause-closed
+take_parts-taken-requires-clause-closed g c =
+    let was : c.as_mut_slice.result.now ≡ c.consumer.inside.states = c.as_mut_slice.ensures.value ∙ c.into_vec-states.ensures ∙ c.replace.ensures.value in
+    subst (λ (xs : List State). IsClosed c.consumer.inside.model (table_of (current_halves xs))) (sym was) (given c.consumer.inside.tag c.consumer.inside.model c.consumer.inside.states c.consumer.inside.past c.consumer.inside.indexes c.consumer.invariant c.args.consumer.now c.consumer.view_is c.requires.standing (IsClosed c.consumer.inside.model (table_of (current_halves c.consumer.inside.states))) (λ at stands. stands.position.closed))
 
-pub invariant_of-stand-2 : goal.invariant_of-stand-2
-invariant_of-stand-2 g c =
-    let tag : to_z w64 (of_z w64 c.args.tag) ≡ c.args.tag = grind (arith, ints, to_z-of_z) in
-    let states = with_items_is c.stand.inside.states c.take_parts.new.states (omega (arith, c.take_parts.auto.states, c.as_mut_slice-states.ensures.len)) in
-    let indexes = with_items_is c.stand.inside.indexes c.take_parts.new.indexes (omega (arith, c.take_parts.auto.indexes, c.as_mut_slice-indexes.ensures.len)) in
-    let takes = subst (λ (xs : List State). TakesParts c.stand.inside.model c.args.parts.now xs c.take_parts.new.states c.in_ok-past.past) c.as_mut_slice-states.ensures.value c.in_ok-past.ensures.takes in
-    let same = c.take_parts.ensures.same ∙ ap (map index_kept) c.as_mut_slice-indexes.ensures.value in
-    subst (λ (t : ℤ). IsStanding t c.stand.inside.model (with_items c.stand.inside.states c.take_parts.new.states).items c.in_ok-past.past (with_items c.stand.inside.indexes c.take_parts.new.indexes).items) (sym tag)
-    (subst (λ (xs : List State). IsStanding c.args.tag c.stand.inside.model xs c.in_ok-past.past (with_items c.stand.inside.indexes c.take_parts.new.indexes).items) (sym states)
-    (subst (IsStanding c.args.tag c.stand.inside.model c.take_parts.new.states c.in_ok-past.past) (sym indexes)
-    (stands_after c.args.tag c.stand.inside.tag c.stand.inside.model c.args.parts.now c.stand.inside.states.items c.take_parts.new.states c.stand.inside.past c.in_ok-past.past c.stand.inside.indexes.items c.take_parts.new.indexes
-    c.stand.invariant takes same c.in_ok-past.ensures.follow)))
+pub take_parts-taken-requires-clause-whole : goal.take_parts-taken-requires-clause-whole
+take_parts-taken-requires-clause-whole g c =
+    its_parts c.consumer.inside.tag c.consumer.inside.model c.consumer.inside.states c.consumer.inside.past c.consumer.inside.indexes c.consumer.invariant c.args.consumer.now c.consumer.view_is (λ (p : Position). All (IsWholePart p.schemas) c.args.parts.now) (All (IsWholePart c.consumer.inside.model) c.args.parts.now)
+    (stands_and c.args.consumer.now (λ (p : Position). All (IsWholePart p.schemas) c.args.parts.now) c.requires.standing c.requires.whole) (λ at stands whole. whole)
 
-pub returns-clause-tells : goal.returns-clause-tells
-returns-clause-tells g c =
-    let tag : to_z w64 (of_z w64 c.args.tag) ≡ c.args.tag = grind (arith, ints, to_z-of_z) in
-    let states = with_items_is c.stand.inside.states c.take_parts.new.states (omega (arith, c.take_parts.auto.states, c.as_mut_slice-states.ensures.len)) in
-    let indexes = with_items_is c.stand.inside.indexes c.take_parts.new.indexes (omega (arith, c.take_parts.auto.indexes, c.as_mut_slice-indexes.ensures.len)) in
-    let takes = subst (λ (xs : List State). TakesParts c.stand.inside.model c.args.parts.now xs c.take_parts.new.states c.in_ok-past.past) c.as_mut_slice-states.ensures.value c.in_ok-past.ensures.takes in
-    let same = c.take_parts.ensures.same ∙ ap (map index_kept) c.as_mut_slice-indexes.ensures.value in
-    subst (λ (t : ℤ). IsTaken c.args.tag c.args.parts.now c.args.stand.now (position_of t c.stand.inside.model (with_items c.stand.inside.states c.take_parts.new.states).items c.in_ok-past.past (with_items c.stand.inside.indexes c.take_parts.new.indexes).items)) (sym tag)
-    (subst (λ (xs : List State). IsTaken c.args.tag c.args.parts.now c.args.stand.now (position_of c.args.tag c.stand.inside.model xs c.in_ok-past.past (with_items c.stand.inside.indexes c.take_parts.new.indexes).items)) (sym states)
-    (subst (λ (xs : List Indexed). IsTaken c.args.tag c.args.parts.now c.args.stand.now (position_of c.args.tag c.stand.inside.model c.take_parts.new.states c.in_ok-past.past xs)) (sym indexes)
-    (is_taken c.args.tag c.stand.inside.tag c.stand.inside.model c.args.parts.now c.stand.inside.states.items c.take_parts.new.states c.stand.inside.past c.in_ok-past.past c.stand.inside.indexes.items c.take_parts.new.indexes
-    c.stand.invariant takes same c.in_ok-past.ensures.follow c.args.stand.now c.stand.view_is)))
+pub take_parts-taken-requires-clause-kept : goal.take_parts-taken-requires-clause-kept
+take_parts-taken-requires-clause-kept g c =
+    let was : c.as_mut_slice.result.now ≡ c.consumer.inside.states = c.as_mut_slice.ensures.value ∙ c.into_vec-states.ensures ∙ c.replace.ensures.value in
+    let were : c.as_mut_slice-2.result.now ≡ c.consumer.inside.indexes = c.as_mut_slice-2.ensures.value ∙ c.into_vec-indexes.ensures ∙ c.replace-2.ensures.value in
+    subst (λ (xs : List State). All (IsKept c.consumer.inside.model (table_of (current_halves xs))) c.as_mut_slice-2.result.now) (sym was)
+    (subst (λ (ks : List Indexed). All (IsKept c.consumer.inside.model (table_of (current_halves c.consumer.inside.states))) ks) (sym were)
+    (given c.consumer.inside.tag c.consumer.inside.model c.consumer.inside.states c.consumer.inside.past c.consumer.inside.indexes c.consumer.invariant c.args.consumer.now c.consumer.view_is c.requires.standing (All (IsKept c.consumer.inside.model (table_of (current_halves c.consumer.inside.states))) c.consumer.inside.indexes) (λ at stands. stands.indexes)))
 
-pub returns-clause-counted : goal.returns-clause-counted
-returns-clause-counted g c =
-    let tag : to_z w64 (of_z w64 c.args.tag) ≡ c.args.tag = grind (arith, ints, to_z-of_z) in
-    let states = with_items_is c.stand.inside.states c.take_parts.new.states (omega (arith, c.take_parts.auto.states, c.as_mut_slice-states.ensures.len)) in
-    let indexes = with_items_is c.stand.inside.indexes c.take_parts.new.indexes (omega (arith, c.take_parts.auto.indexes, c.as_mut_slice-indexes.ensures.len)) in
-    let takes = subst (λ (xs : List State). TakesParts c.stand.inside.model c.args.parts.now xs c.take_parts.new.states c.in_ok-past.past) c.as_mut_slice-states.ensures.value c.in_ok-past.ensures.takes in
-    let same = c.take_parts.ensures.same ∙ ap (map index_kept) c.as_mut_slice-indexes.ensures.value in
-    let rose = subst (λ (xs : List Indexed). c.take_parts.new.steps ≡ c.args.steps.now + sum_by (λ kept. count_came c.in_ok-past.past kept.type_index) xs) c.as_mut_slice-indexes.ensures.value c.in_ok-past.ensures.counted in
-    subst (λ (t : ℤ). CountsStep (position_of t c.stand.inside.model (with_items c.stand.inside.states c.take_parts.new.states).items c.in_ok-past.past (with_items c.stand.inside.indexes c.take_parts.new.indexes).items) c.args.steps.now c.take_parts.new.steps) (sym tag)
-    (subst (λ (xs : List State). CountsStep (position_of c.args.tag c.stand.inside.model xs c.in_ok-past.past (with_items c.stand.inside.indexes c.take_parts.new.indexes).items) c.args.steps.now c.take_parts.new.steps) (sym states)
-    (subst (λ (xs : List Indexed). CountsStep (position_of c.args.tag c.stand.inside.model c.take_parts.new.states c.in_ok-past.past xs) c.args.steps.now c.take_parts.new.steps) (sym indexes)
-    (counts_step c.args.tag c.stand.inside.tag c.stand.inside.model c.args.parts.now c.stand.inside.states.items c.take_parts.new.states c.stand.inside.past c.in_ok-past.past c.stand.inside.indexes.items c.take_parts.new.indexes
-    c.stand.invariant takes same c.in_ok-past.ensures.follow c.args.steps.now c.take_parts.new.steps rose)))
+pub invariant_of-consumer : goal.invariant_of-consumer
+invariant_of-consumer g c =
+    let was : c.as_mut_slice.result.now ≡ c.consumer.inside.states = c.as_mut_slice.ensures.value ∙ c.into_vec-states.ensures ∙ c.replace.ensures.value in
+    let were : c.as_mut_slice-2.result.now ≡ c.consumer.inside.indexes = c.as_mut_slice-2.ensures.value ∙ c.into_vec-indexes.ensures ∙ c.replace-2.ensures.value in
+    let states : c.from_vec.result ≡ c.take_parts-taken.new.states = c.from_vec.ensures ∙ with_items_is c.into_vec-states.result c.take_parts-taken.new.states (omega (arith, c.take_parts-taken.auto.states, c.as_mut_slice.ensures.len)) in
+    let indexes : c.from_vec-2.result ≡ c.take_parts-taken.new.indexes = c.from_vec-2.ensures ∙ with_items_is c.into_vec-indexes.result c.take_parts-taken.new.indexes (omega (arith, c.take_parts-taken.auto.indexes, c.as_mut_slice-2.ensures.len)) in
+    let same = indexes ∙ c.in_err-past.ensures.unmoved ∙ were in
+    let stays = subst (λ (xs : List State). StaysCurrent xs c.take_parts-taken.new.states) was c.in_err-past.ensures.stays in
+    subst (λ (xs : List State). HasParts c.consumer.inside.tag c.consumer.inside.model xs c.consumer.inside.past c.from_vec-2.result) (sym states)
+    (subst (HasParts c.consumer.inside.tag c.consumer.inside.model c.take_parts-taken.new.states c.consumer.inside.past) (sym same) (still_has c.consumer.inside.tag c.consumer.inside.model c.consumer.inside.states c.consumer.inside.past c.consumer.inside.indexes c.consumer.invariant c.args.consumer.now c.consumer.view_is c.requires.standing c.take_parts-taken.new.states stays))
+
+pub returns-in_err-past-clause-refused : goal.returns-in_err-past-clause-refused
+returns-in_err-past-clause-refused g c =
+    let was : c.as_mut_slice.result.now ≡ c.consumer.inside.states = c.as_mut_slice.ensures.value ∙ c.into_vec-states.ensures ∙ c.replace.ensures.value in
+    let were : c.as_mut_slice-2.result.now ≡ c.consumer.inside.indexes = c.as_mut_slice-2.ensures.value ∙ c.into_vec-indexes.ensures ∙ c.replace-2.ensures.value in
+    let states : c.from_vec.result ≡ c.take_parts-taken.new.states = c.from_vec.ensures ∙ with_items_is c.into_vec-states.result c.take_parts-taken.new.states (omega (arith, c.take_parts-taken.auto.states, c.as_mut_slice.ensures.len)) in
+    let indexes : c.from_vec-2.result ≡ c.take_parts-taken.new.indexes = c.from_vec-2.ensures ∙ with_items_is c.into_vec-indexes.result c.take_parts-taken.new.indexes (omega (arith, c.take_parts-taken.auto.indexes, c.as_mut_slice-2.ensures.len)) in
+    let same = indexes ∙ c.in_err-past.ensures.unmoved ∙ were in
+    let stays = subst (λ (xs : List State). StaysCurrent xs c.take_parts-taken.new.states) was c.in_err-past.ensures.stays in
+    let still : stands_at c.consumer.inside.tag c.consumer.inside.model c.from_vec.result c.consumer.inside.past c.from_vec-2.result ≡ c.args.consumer.now =
+    (λ i. stands_at c.consumer.inside.tag c.consumer.inside.model (states i) c.consumer.inside.past (same i)) ∙ still_at c.consumer.inside.tag c.consumer.inside.model c.consumer.inside.states c.consumer.inside.past c.consumer.inside.indexes c.consumer.invariant c.args.consumer.now c.consumer.view_is c.requires.standing c.take_parts-taken.new.states stays in
+    on_err c.from_residual.result _ still
+
+pub returns-in_err-past-clause-state : goal.returns-in_err-past-clause-state
+returns-in_err-past-clause-state g c =
+    let was : c.as_mut_slice.result.now ≡ c.consumer.inside.states = c.as_mut_slice.ensures.value ∙ c.into_vec-states.ensures ∙ c.replace.ensures.value in
+    let were : c.as_mut_slice-2.result.now ≡ c.consumer.inside.indexes = c.as_mut_slice-2.ensures.value ∙ c.into_vec-indexes.ensures ∙ c.replace-2.ensures.value in
+    let states : c.from_vec.result ≡ c.take_parts-taken.new.states = c.from_vec.ensures ∙ with_items_is c.into_vec-states.result c.take_parts-taken.new.states (omega (arith, c.take_parts-taken.auto.states, c.as_mut_slice.ensures.len)) in
+    let indexes : c.from_vec-2.result ≡ c.take_parts-taken.new.indexes = c.from_vec-2.ensures ∙ with_items_is c.into_vec-indexes.result c.take_parts-taken.new.indexes (omega (arith, c.take_parts-taken.auto.indexes, c.as_mut_slice-2.ensures.len)) in
+    let same = indexes ∙ c.in_err-past.ensures.unmoved ∙ were in
+    let stays = subst (λ (xs : List State). StaysCurrent xs c.take_parts-taken.new.states) was c.in_err-past.ensures.stays in
+    let still : stands_at c.consumer.inside.tag c.consumer.inside.model c.from_vec.result c.consumer.inside.past c.from_vec-2.result ≡ c.args.consumer.now =
+    (λ i. stands_at c.consumer.inside.tag c.consumer.inside.model (states i) c.consumer.inside.past (same i)) ∙ still_at c.consumer.inside.tag c.consumer.inside.model c.consumer.inside.states c.consumer.inside.past c.consumer.inside.indexes c.consumer.invariant c.args.consumer.now c.consumer.view_is c.requires.standing c.take_parts-taken.new.states stays in
+    subst IsSome (sym still) c.requires.standing
+
+pub returns-in_err-past-clause-tells : goal.returns-in_err-past-clause-tells
+returns-in_err-past-clause-tells g c =
+    let was : c.as_mut_slice.result.now ≡ c.consumer.inside.states = c.as_mut_slice.ensures.value ∙ c.into_vec-states.ensures ∙ c.replace.ensures.value in
+    tells_refusal c.args.tag c.args.parts.now c.args.consumer.now _ c.from_residual.result c.in_err-past.field-0.0 c.from_residual.ensures.1
+    (not_taken c.consumer.inside.tag c.consumer.inside.model c.consumer.inside.states c.consumer.inside.past c.consumer.inside.indexes c.consumer.invariant c.args.consumer.now c.consumer.view_is c.requires.standing c.args.parts.now c.in_err-past.field-0.0 (subst (λ (xs : List State). TellsRefusal (RefusesParts c.consumer.inside.model c.args.parts.now xs) c.in_err-past.field-0.0) was c.in_err-past.ensures.refused))
 
 pub returns-in_err-past-clause-part : goal.returns-in_err-past-clause-part
 returns-in_err-past-clause-part g c =
+    let was : c.as_mut_slice.result.now ≡ c.consumer.inside.states = c.as_mut_slice.ensures.value ∙ c.into_vec-states.ensures ∙ c.replace.ensures.value in
+    let were : c.as_mut_slice-2.result.now ≡ c.consumer.inside.indexes = c.as_mut_slice-2.ensures.value ∙ c.into_vec-indexes.ensures ∙ c.replace-2.ensures.value in
     on_err c.from_residual.result _
-    (part_counted c.args.tag c.stand.inside.tag c.stand.inside.model c.args.parts.now c.stand.inside.states.items c.stand.inside.past c.stand.inside.indexes.items c.stand.invariant c.args.steps.now c.take_parts.new.steps
-    (subst (λ (xs : List State). (c.take_parts.new.steps ≡ c.args.steps.now) ⊎ ReadsSome c.stand.inside.model c.args.parts.now xs c.stand.inside.indexes.items c.args.steps.now c.take_parts.new.steps) c.as_mut_slice-states.ensures.value
-    (subst (λ (xs : List Indexed). (c.take_parts.new.steps ≡ c.args.steps.now) ⊎ ReadsSome c.stand.inside.model c.args.parts.now c.as_mut_slice-states.result.now xs c.args.steps.now c.take_parts.new.steps) c.as_mut_slice-indexes.ensures.value
-    c.in_err-past.ensures.part)) c.args.stand.now c.stand.view_is)
+    (some_counted c.consumer.inside.tag c.consumer.inside.model c.consumer.inside.states c.consumer.inside.past c.consumer.inside.indexes c.consumer.invariant c.args.consumer.now c.consumer.view_is c.requires.standing c.args.tag c.args.parts.now c.args.steps.now c.take_parts-taken.new.steps
+    (subst (λ (xs : List State). (c.take_parts-taken.new.steps ≡ c.args.steps.now) ⊎ ReadsSome c.consumer.inside.model c.args.parts.now xs c.consumer.inside.indexes c.args.steps.now c.take_parts-taken.new.steps) was
+    (subst (λ (ks : List Indexed). (c.take_parts-taken.new.steps ≡ c.args.steps.now) ⊎ ReadsSome c.consumer.inside.model c.args.parts.now c.as_mut_slice.result.now ks c.args.steps.now c.take_parts-taken.new.steps) were
+    c.in_err-past.ensures.part)))
+
+pub invariant_of-consumer-2 : goal.invariant_of-consumer-2
+invariant_of-consumer-2 g c =
+    let was : c.as_mut_slice.result.now ≡ c.consumer.inside.states = c.as_mut_slice.ensures.value ∙ c.into_vec-states.ensures ∙ c.replace.ensures.value in
+    let were : c.as_mut_slice-2.result.now ≡ c.consumer.inside.indexes = c.as_mut_slice-2.ensures.value ∙ c.into_vec-indexes.ensures ∙ c.replace-2.ensures.value in
+    let states : c.from_vec.result ≡ c.take_parts-taken.new.states = c.from_vec.ensures ∙ with_items_is c.into_vec-states.result c.take_parts-taken.new.states (omega (arith, c.take_parts-taken.auto.states, c.as_mut_slice.ensures.len)) in
+    let indexes : c.from_vec-2.result ≡ c.take_parts-taken.new.indexes = c.from_vec-2.ensures ∙ with_items_is c.into_vec-indexes.result c.take_parts-taken.new.indexes (omega (arith, c.take_parts-taken.auto.indexes, c.as_mut_slice-2.ensures.len)) in
+    let tag : to_z w64 (of_z w64 c.args.tag) ≡ c.args.tag = grind (arith, ints, to_z-of_z) in
+    let takes = subst (λ (xs : List State). TakesParts c.consumer.inside.model c.args.parts.now xs c.take_parts-taken.new.states c.in_ok-past.past) was c.in_ok-past.ensures.takes in
+    let alike = c.take_parts-taken.ensures.same ∙ ap (map index_kept) were in
+    subst (λ (t : ℤ). IsStanding t c.consumer.inside.model c.from_vec.result c.in_ok-past.past c.from_vec-2.result) (sym tag)
+    (subst (λ (xs : List State). IsStanding c.args.tag c.consumer.inside.model xs c.in_ok-past.past c.from_vec-2.result) (sym states)
+    (subst (IsStanding c.args.tag c.consumer.inside.model c.take_parts-taken.new.states c.in_ok-past.past) (sym indexes)
+    (has_after c.consumer.inside.tag c.consumer.inside.model c.consumer.inside.states c.consumer.inside.past c.consumer.inside.indexes c.consumer.invariant c.args.consumer.now c.consumer.view_is c.requires.standing c.args.tag c.args.parts.now c.take_parts-taken.new.states c.in_ok-past.past c.take_parts-taken.new.indexes takes alike c.in_ok-past.ensures.follow)))
+
+pub returns-clause-tells : goal.returns-clause-tells
+returns-clause-tells g c =
+    let was : c.as_mut_slice.result.now ≡ c.consumer.inside.states = c.as_mut_slice.ensures.value ∙ c.into_vec-states.ensures ∙ c.replace.ensures.value in
+    let were : c.as_mut_slice-2.result.now ≡ c.consumer.inside.indexes = c.as_mut_slice-2.ensures.value ∙ c.into_vec-indexes.ensures ∙ c.replace-2.ensures.value in
+    let states : c.from_vec.result ≡ c.take_parts-taken.new.states = c.from_vec.ensures ∙ with_items_is c.into_vec-states.result c.take_parts-taken.new.states (omega (arith, c.take_parts-taken.auto.states, c.as_mut_slice.ensures.len)) in
+    let indexes : c.from_vec-2.result ≡ c.take_parts-taken.new.indexes = c.from_vec-2.ensures ∙ with_items_is c.into_vec-indexes.result c.take_parts-taken.new.indexes (omega (arith, c.take_parts-taken.auto.indexes, c.as_mut_slice-2.ensures.len)) in
+    let tag : to_z w64 (of_z w64 c.args.tag) ≡ c.args.tag = grind (arith, ints, to_z-of_z) in
+    let takes = subst (λ (xs : List State). TakesParts c.consumer.inside.model c.args.parts.now xs c.take_parts-taken.new.states c.in_ok-past.past) was c.in_ok-past.ensures.takes in
+    let alike = c.take_parts-taken.ensures.same ∙ ap (map index_kept) were in
+    subst (λ (t : ℤ). IfSome c.args.consumer.now (λ from. IsTaken c.args.tag c.args.parts.now from (position_of t c.consumer.inside.model c.from_vec.result c.in_ok-past.past c.from_vec-2.result))) (sym tag)
+    (subst (λ (xs : List State). IfSome c.args.consumer.now (λ from. IsTaken c.args.tag c.args.parts.now from (position_of c.args.tag c.consumer.inside.model xs c.in_ok-past.past c.from_vec-2.result))) (sym states)
+    (subst (λ (ks : List Indexed). IfSome c.args.consumer.now (λ from. IsTaken c.args.tag c.args.parts.now from (position_of c.args.tag c.consumer.inside.model c.take_parts-taken.new.states c.in_ok-past.past ks))) (sym indexes)
+    (taken_from c.consumer.inside.tag c.consumer.inside.model c.consumer.inside.states c.consumer.inside.past c.consumer.inside.indexes c.consumer.invariant c.args.consumer.now c.consumer.view_is c.requires.standing c.args.tag c.args.parts.now c.take_parts-taken.new.states c.in_ok-past.past c.take_parts-taken.new.indexes takes alike c.in_ok-past.ensures.follow)))
+
+pub returns-clause-counted : goal.returns-clause-counted
+returns-clause-counted g c =
+    let was : c.as_mut_slice.result.now ≡ c.consumer.inside.states = c.as_mut_slice.ensures.value ∙ c.into_vec-states.ensures ∙ c.replace.ensures.value in
+    let were : c.as_mut_slice-2.result.now ≡ c.consumer.inside.indexes = c.as_mut_slice-2.ensures.value ∙ c.into_vec-indexes.ensures ∙ c.replace-2.ensures.value in
+    let states : c.from_vec.result ≡ c.take_parts-taken.new.states = c.from_vec.ensures ∙ with_items_is c.into_vec-states.result c.take_parts-taken.new.states (omega (arith, c.take_parts-taken.auto.states, c.as_mut_slice.ensures.len)) in
+    let indexes : c.from_vec-2.result ≡ c.take_parts-taken.new.indexes = c.from_vec-2.ensures ∙ with_items_is c.into_vec-indexes.result c.take_parts-taken.new.indexes (omega (arith, c.take_parts-taken.auto.indexes, c.as_mut_slice-2.ensures.len)) in
+    let tag : to_z w64 (of_z w64 c.args.tag) ≡ c.args.tag = grind (arith, ints, to_z-of_z) in
+    let takes = subst (λ (xs : List State). TakesParts c.consumer.inside.model c.args.parts.now xs c.take_parts-taken.new.states c.in_ok-past.past) was c.in_ok-past.ensures.takes in
+    let alike = c.take_parts-taken.ensures.same ∙ ap (map index_kept) were in
+    let rose = subst (λ (ks : List Indexed). c.take_parts-taken.new.steps ≡ c.args.steps.now + sum_by (λ kept. count_came c.in_ok-past.past kept.type_index) ks) were c.in_ok-past.ensures.counted in
+    subst (λ (t : ℤ). CountsStep (position_of t c.consumer.inside.model c.from_vec.result c.in_ok-past.past c.from_vec-2.result) c.args.steps.now c.take_parts-taken.new.steps) (sym tag)
+    (subst (λ (xs : List State). CountsStep (position_of c.args.tag c.consumer.inside.model xs c.in_ok-past.past c.from_vec-2.result) c.args.steps.now c.take_parts-taken.new.steps) (sym states)
+    (subst (λ (ks : List Indexed). CountsStep (position_of c.args.tag c.consumer.inside.model c.take_parts-taken.new.states c.in_ok-past.past ks) c.args.steps.now c.take_parts-taken.new.steps) (sym indexes)
+    (step_counted c.consumer.inside.tag c.consumer.inside.model c.consumer.inside.states c.consumer.inside.past c.consumer.inside.indexes c.consumer.invariant c.args.consumer.now c.consumer.view_is c.requires.standing c.args.tag c.args.parts.now c.take_parts-taken.new.states c.in_ok-past.past c.take_parts-taken.new.indexes takes alike c.in_ok-past.ensures.follow c.args.steps.now c.take_parts-taken.new.steps rose)))

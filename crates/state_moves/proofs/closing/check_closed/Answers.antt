@@ -13,7 +13,7 @@ returns-then-not-branch c = λ closed. false≢true (sym c.if-not-branch.true �
 
 pub loop-type_index-preserved : goal.loop-type_index-preserved
 loop-type_index-preserved c =
-    types_more c.args.model.now (table_of (coming_halves c.args.states.now c.args.past.now)) c.loop-type_index.type_index c.loop-type_index.invariant (c.in_ok-is_type_closed.ensures.0 c.if-not-branch.false)
+    types_more c.args.model.now (table_of (coming_halves c.args.states.now c.args.named.now)) c.loop-type_index.type_index c.loop-type_index.invariant (c.in_ok-is_type_closed.ensures.0 c.if-not-branch.false)
 
 pub returns : goal.returns
-returns c = types_done c.args.model.now (table_of (coming_halves c.args.states.now c.args.past.now)) c.loop-type_index.type_index (omega arith) c.loop-type_index.invariant
+returns c = types_done c.args.model.now (table_of (coming_halves c.args.states.now c.args.named.now)) c.loop-type_index.type_index (omega arith) c.loop-type_index.invariant

@@ -22,15 +22,20 @@ returns-in_err-moved-clause-refused c =
     (stuck_here c.args.states.now c.loop-part.states c.args.parts.now c.loop-part.part-index c.part-item.result c.requires.readable c.loop-part-test.true c.part-item.is c.loop-part.invariant.stays
     c.index-states-place.result) c.in_err-moved.ensures.refused)
 
+pub bounds-named-place : goal.bounds-named-place
+bounds-named-place c =
+    let within = type_within c.args.states.now c.loop-part.states c.args.parts.now c.loop-part.part-index c.part-item.result c.requires.readable c.loop-part-test.true c.part-item.is c.loop-part.invariant.stays in
+    omega (arith, within, c.loop-part.invariant.moved.named_long)
+
 pub bounds-past-place : goal.bounds-past-place
 bounds-past-place c =
     let within = type_within c.args.states.now c.loop-part.states c.args.parts.now c.loop-part.part-index c.part-item.result c.requires.readable c.loop-part-test.true c.part-item.is c.loop-part.invariant.stays in
-    omega (arith, within, c.loop-part.invariant.moved.long)
+    omega (arith, within, c.loop-part.invariant.moved.past_long)
 
 pub loop-part-preserved : goal.loop-part-preserved
 loop-part-preserved c = record {
   stays = stays_set c.args.states.now c.loop-part.states c.part-item.result.type_index c.move_type.new.state c.index-states-place.result c.loop-part.invariant.stays c.move_type.ensures.schema c.move_type.ensures.current;
   moved =
       moved_more c.args.states.now c.loop-part.states c.args.parts.now c.loop-part.part-index c.part-item.result c.requires.readable c.loop-part-test.true c.part-item.is c.loop-part.invariant.stays
-      c.loop-part.past c.move_type.new.state c.in_ok-moved.moved c.loop-part.invariant.moved c.in_ok-moved.ensures.moved;
+      c.loop-part.named c.loop-part.past c.move_type.new.state c.in_ok-moved.moved c.loop-part.invariant.moved c.in_ok-moved.ensures.moved;
 }

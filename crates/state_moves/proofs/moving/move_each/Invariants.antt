@@ -5,5 +5,5 @@ use Rattle.state_moves.proofs.moving.move_each.Given as goal
 abbrev pub invariant-loop-part : goal.invariant-loop-part
 invariant-loop-part l = record {
   stays : StaysCurrent l.initial.states l.states;
-  moved : AreMoved (take l.part-index l.parts) l.states l.past;
+  moved : AreMoved (take l.part-index l.parts) l.states l.named l.past;
 }

@@ -1,31 +1,53 @@
-use Rattle.std.proofs.Common.{rules, ◌≤◌, ◌∙◌, ap, sym, subst, length}
-use Rattle.std.specs.Prelude.{slice_index}
-use Rattle.type_rows.specs.Outline.{layout_at}
+use Rattle.std.proofs.Common.{rules, [], ◌∙◌, sym, subst, arith}
+use Rattle.std.specs.FinMap.{values}
+use Rattle.row_model.specs.Row.{FitsShape, stored_row}
+use Rattle.std.proofs.Common.{◌≡◌}
+use Rattle.packed_half.specs.Laying.{CanLay, EachRowOf}
+use Rattle.type_rows.specs.Ends.{AreOfKind}
+use Rattle.type_rows.specs.Holds.{HoldsRows}
 use Rattle.type_rows.specs.Patches.{RefusesMove}
-use Rattle.type_rows.proofs.Places.{wide_long, wide_narrow}
+use Rattle.type_state.specs.declared.differences.Differences.{Differences}
+use Rattle.type_state.specs.Current.{Standing}
+use Rattle.type_state.specs.declared.moving.Move.{Move}
 use Rattle.type_state.specs.Differences.{rows_with}
-use Rattle.type_state.proofs.HeldMoves.{moved_by, moved_kinds, refuses_held}
+use Rattle.type_state.specs.Kept.{half_rows}
+use Rattle.type_state.specs.Moved.{IsMoveOf}
+use Rattle.type_state.proofs.Halves.{half_fits, half_held, half_kinds, half_stored}
+use Rattle.type_state.proofs.LiveSets.{keys_moved}
+use Rattle.type_state.proofs.MovedHalf.{can_lay}
+use Rattle.type_state.proofs.Moves.{added_small, are_apart}
 use Rattle.type_state.proofs.moving.moved.Goals as goal
 
-pub test_held-requires-clause-widths : goal.test_held-requires-clause-widths
-test_held-requires-clause-widths c = ap (λ layout. length layout.widths) c.in_ok-next.ensures.layout ∙ wide_long c.args.schema.now.shape c.args.patch.now.max c.args.patch.now.widths c.requires.readable.well.wide
+pub planned-requires-clause-kinds : goal.planned-requires-clause-kinds
+planned-requires-clause-kinds c = subst (λ (s : Standing). AreOfKind c.args.schema.now.shape s.rows) (sym c.new-rows.ensures) (half_kinds c.args.schema.now.shape c.args.current.half.now c.args.current.words.now c.requires.kept)
 
-pub test_held-requires-clause-narrow : goal.test_held-requires-clause-narrow
-test_held-requires-clause-narrow c = λ part.
-    subst (λ layout. slice_index layout.widths part ≤ 64) (sym c.in_ok-next.ensures.layout) (wide_narrow c.args.schema.now.shape c.args.patch.now.max c.args.patch.now.widths c.requires.readable.well.wide part)
+pub planned-requires-clause-held : goal.planned-requires-clause-held
+planned-requires-clause-held c = subst (λ (s : Standing). HoldsRows c.args.schema.now.shape s.widths [] (values s.rows)) (sym c.new-rows.ensures) (half_held c.args.schema.now.shape c.args.current.half.now c.args.current.words.now c.requires.kept)
 
-pub test_held-requires-clause-kinds : goal.test_held-requires-clause-kinds
-test_held-requires-clause-kinds c = moved_kinds c.args.schema.now.shape c.args.patch.now c.args.rows.now.rows (rows_with c.args.rows.now.rows c.in_ok-next.next.differences) c.requires.readable c.in_ok-next.ensures.tells c.requires.kinds
-
-pub returns-in_err-totals-clause-tells : goal.returns-in_err-totals-clause-tells
-returns-in_err-totals-clause-tells c =
-    let told : RefusesMove c.args.schema.now.shape c.args.patch.now c.args.rows.now.rows c.in_err-totals.field-0.0 =
-    refuses_held c.args.schema.now.shape c.args.patch.now c.args.rows.now.rows (rows_with c.args.rows.now.rows c.in_ok-next.next.differences) (layout_at c.in_ok-next.next.outline) c.in_err-totals.field-0.0 c.in_ok-next.ensures.layout c.in_ok-next.ensures.tells c.in_err-totals.ensures.tells in
+pub returns-in_err-counted-clause-tells : goal.returns-in_err-counted-clause-tells
+returns-in_err-counted-clause-tells c =
+    let told : RefusesMove c.args.schema.now.shape c.args.patch.now (half_rows c.args.schema.now.shape c.args.current.half.now c.args.current.words.now) c.in_err-counted.field-0.0 =
+    subst (λ (s : Standing). RefusesMove c.args.schema.now.shape c.args.patch.now s.rows c.in_err-counted.field-0.0) c.new-rows.ensures c.in_err-counted.ensures.tells in
     search rules
+
+pub half_of-requires : goal.half_of-requires
+half_of-requires c = added_small c.args.schema.now.shape c.args.patch.now c.new-rows.result.rows c.in_ok-counted.counted.plan.differences c.in_ok-counted.ensures.known (omega (arith, c.requires.readable.few))
 
 pub returns-clause-tells : goal.returns-clause-tells
 returns-clause-tells c =
-    moved_by c.args.schema.now.shape c.args.patch.now c.args.rows.now.rows (rows_with c.args.rows.now.rows c.in_ok-next.next.differences) (layout_at c.in_ok-next.next.outline) c.in_ok-next.ensures.layout c.in_ok-next.ensures.tells c.in_ok-totals.ensures.tells
-
-pub returns-clause-kinds : goal.returns-clause-kinds
-returns-clause-kinds c = moved_kinds c.args.schema.now.shape c.args.patch.now c.args.rows.now.rows (rows_with c.args.rows.now.rows c.in_ok-next.next.differences) c.requires.readable c.in_ok-next.ensures.tells c.requires.kinds
+    let shape = c.args.schema.now.shape in
+    let patch = c.args.patch.now in
+    let rows = c.new-rows.result.rows in
+    let counted = c.in_ok-counted.counted in
+    let ds = counted.plan.differences in
+    let half = c.in_ok-half_of.field-0.half in
+    let known = c.in_ok-counted.ensures.known in
+    let fits = subst (λ (s : Standing). EachRowOf s.rows (FitsShape shape)) (sym c.new-rows.ensures) (half_fits c.args.schema.now.shape c.args.current.half.now c.args.current.words.now c.requires.kept) in
+    let stored = subst (λ (s : Standing). EachRowOf s.rows (λ row. stored_row row ≡ row)) (sym c.new-rows.ensures) (half_stored c.args.schema.now.shape c.args.current.half.now c.args.current.words.now c.requires.kept) in
+    let live = keys_moved rows ds patch.removed known.added.rows known.removed known.added.are ∙ sym c.in_ok-half_of.ensures.live in
+    let can : CanLay shape half (rows_with rows ds) =
+    can_lay shape patch half counted.totals rows (rows_with rows ds) c.requires.readable (c.in_ok-half_of.ensures.layout ∙ c.in_ok-counted.ensures.layout) live c.in_ok-half_of.ensures.total c.in_ok-half_of.ensures.lengths
+    c.in_ok-counted.ensures.totals c.in_ok-counted.ensures.long c.in_ok-counted.ensures.tells c.in_ok-counted.ensures.kinds fits stored in
+    let next : Move = record { half = half; differences = ds } in
+    let is : IsMoveOf shape patch rows next = record { moved = c.in_ok-counted.ensures.tells; can = can; apart = are_apart shape patch rows ds known } in
+    subst (λ (xs : Differences). IsMoveOf shape patch (half_rows c.args.schema.now.shape c.args.current.half.now c.args.current.words.now) record { half = half; differences = xs }) (sym c.in_ok-half_of.ensures.differences) (subst (λ (s : Standing). IsMoveOf shape patch s.rows next) c.new-rows.ensures is)

@@ -4,29 +4,29 @@ use Rattle.row_model.specs.Lent.{lent_row}
 use Rattle.row_model.specs.Table.{Table, IsLive, row_at}
 use Rattle.type_state.specs.Views.{Content, table_of}
 use Rattle.state_moves.specs.Moving.{coming_half, coming_halves}
-use Rattle.state_moves.proofs.Comings.{coming_at, coming_off, laid_at, part_there}
+use Rattle.state_moves.proofs.Comings.{coming_at, coming_off, laid_at, named_within}
 use Rattle.state_moves.proofs.Tables.{lent_at, none_off, some_at}
 use Rattle.state_moves.proofs.coming.ComingRows.lend.Goals as goal
 
-pub part_at-requires : goal.part_at-requires
-part_at-requires c = part_there c.self.inside.states.now c.self.inside.past.now c.args.type_index c.in-Some.state.now c.self.invariant.laid c.in-Some.ensures
+pub is_named-requires : goal.is_named-requires
+is_named-requires c = named_within c.self.inside.states.now c.self.inside.named.now c.args.type_index c.in-Some.state.now c.self.invariant.laid c.in-Some.ensures
 
 pub lend_to_come-requires-clause-laid : goal.lend_to_come-requires-clause-laid
-lend_to_come-requires-clause-laid c = laid_at c.self.inside.states.now c.self.inside.past.now c.args.type_index c.in-Some.state.now c.part_at.result.now c.self.invariant.laid c.in-Some.ensures c.part_at.ensures
+lend_to_come-requires-clause-laid c = laid_at c.self.inside.states.now c.self.inside.named.now c.args.type_index c.in-Some.state.now c.is_named.result c.self.invariant.laid c.in-Some.ensures c.is_named.ensures
 
 pub lend_to_come-requires-clause-live : goal.lend_to_come-requires-clause-live
 lend_to_come-requires-clause-live c =
-    some_at (table_of (coming_halves c.self.inside.states.now c.self.inside.past.now)) c.args.type_index c.args.ordinal (coming_half c.in-Some.state.now c.part_at.result.now).rows
-    (coming_at c.self.inside.states.now c.self.inside.past.now c.args.type_index c.in-Some.state.now c.part_at.result.now c.in-Some.ensures c.part_at.ensures)
+    some_at (table_of (coming_halves c.self.inside.states.now c.self.inside.named.now)) c.args.type_index c.args.ordinal (coming_half c.in-Some.state.now c.is_named.result).rows
+    (coming_at c.self.inside.states.now c.self.inside.named.now c.args.type_index c.in-Some.state.now c.is_named.result c.in-Some.ensures c.is_named.ensures)
     (subst (λ (table : Table). IsLive table c.args.type_index c.args.ordinal) (sym (ap (λ (content : Content). content.table) c.self.view_is)) c.requires)
 
 pub unreachable-requires : goal.unreachable-requires
 unreachable-requires c =
-    none_off (table_of (coming_halves c.self.inside.states.now c.self.inside.past.now)) c.args.type_index c.args.ordinal (coming_off c.self.inside.states.now c.self.inside.past.now c.args.type_index c.in-None.ensures)
+    none_off (table_of (coming_halves c.self.inside.states.now c.self.inside.named.now)) c.args.type_index c.args.ordinal (coming_off c.self.inside.states.now c.self.inside.named.now c.args.type_index c.in-None.ensures)
     (subst (λ (table : Table). IsLive table c.args.type_index c.args.ordinal) (sym (ap (λ (content : Content). content.table) c.self.view_is)) c.requires)
 
 pub returns : goal.returns
 returns c =
     subst (λ (table : Table). IfOk c.lend_to_come.result (λ lent. row_at table c.args.type_index c.args.ordinal ≡ Some (lent_row lent))) (ap (λ (content : Content). content.table) c.self.view_is)
-    (lent_at (table_of (coming_halves c.self.inside.states.now c.self.inside.past.now)) c.args.type_index c.args.ordinal (coming_half c.in-Some.state.now c.part_at.result.now).rows c.lend_to_come.result
-    (coming_at c.self.inside.states.now c.self.inside.past.now c.args.type_index c.in-Some.state.now c.part_at.result.now c.in-Some.ensures c.part_at.ensures) c.lend_to_come.ensures)
+    (lent_at (table_of (coming_halves c.self.inside.states.now c.self.inside.named.now)) c.args.type_index c.args.ordinal (coming_half c.in-Some.state.now c.is_named.result).rows c.lend_to_come.result
+    (coming_at c.self.inside.states.now c.self.inside.named.now c.args.type_index c.in-Some.state.now c.is_named.result c.in-Some.ensures c.is_named.ensures) c.lend_to_come.ensures)

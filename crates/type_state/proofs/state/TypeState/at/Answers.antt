@@ -1,11 +1,12 @@
-use Rattle.std.proofs.Common.{◌≡◌, Some, ap, sym, subst, ◌∙◌}
-use Rattle.std.specs.FinMap.{get}
-use Rattle.bucket_codec.specs.Run.{FindsIn}
-use Rattle.type_state.specs.Lookup.{pairs_of}
+use Rattle.std.proofs.Common.{ap, refl}
+use Rattle.std.proofs.lemmas.Bool.{false≢true}
+use Rattle.type_state.specs.State.{State}
+use Rattle.type_state.proofs.HalfRows.{has_rows, no_pairs}
 use Rattle.type_state.proofs.state.TypeState.at.Goals as goal
 
-pub returns-in-Some : goal.returns-in-Some
-returns-in-Some c =
-    let at : get c.args.self.now.current.rows c.args.ordinal ≡ Some c.in-Some.row.now =
-    ap (λ state. get state.current.rows c.args.ordinal) (sym c.self.view_is) ∙ ap (get c.self.inside.rows.rows) (sym c.from.ensures) ∙ c.in-Some.ensures in
-    subst (λ found. FindsIn (pairs_of found) c.args.key c.at.result) (sym at) c.at.ensures
+pub returns-then-not-contains : goal.returns-then-not-contains
+returns-then-not-contains c =
+    λ value at. no_pairs c.self.inside.schema.shape c.self.inside.now c.self.inside.twin.current c.args.ordinal c.args.key value c.args.self.now.current.rows (ap (λ (s : State). s.current.rows) c.self.view_is) (λ live. false≢true (c.if-not-contains.ensures.member.1 live)) at
+
+pub at-requires : goal.at-requires
+at-requires c = has_rows c.self.inside.schema.shape c.self.inside.now c.self.inside.twin.current c.current.result.now c.args.ordinal c.current.ensures c.self.invariant.current_half (c.if-not-contains.ensures.member.0 refl)

@@ -1,33 +1,38 @@
-use Rattle.std.proofs.Common.{rules, Ok, subst, sym}
-use Rattle.hol_varint.specs.Yields.{Yields}
-use Rattle.row_model.specs.Table.{RowMap}
-use Rattle.type_rows.specs.Loads.{IsFreeRow}
-use Rattle.type_rows.specs.Patches.{IsMovedBy, IsReadablePatch, RefusesMove, TellsMove}
+use Rattle.std.proofs.Common.{rules, ◌≡◌, inl, List, ℕ, refl, subst, sym}
+use Rattle.packed_half.specs.Laying.{CanLay}
+use Rattle.type_rows.specs.Patches.{IsMovedBy, IsReadablePatch, TellsMove}
 use Rattle.type_state.specs.Differences.{rows_with}
-use Rattle.type_state.specs.State.{State, half_of}
-use Rattle.type_state.proofs.HeldMoves.{moves_exact}
+use Rattle.type_state.specs.Kept.{IsHalf, half_in, half_rows}
+use Rattle.type_state.specs.State.{State}
+use Rattle.type_state.proofs.HalfRows.{laid_half, laid_rows}
 use Rattle.type_state.proofs.LaidOut.{laid_by}
+use Rattle.type_state.proofs.MovesExact.{moves_exact}
 use Rattle.type_state.proofs.state.TypeState.move_next.Goals as goal
 
-pub returns-in_err-counted-clause-tells : goal.returns-in_err-counted-clause-tells
-returns-in_err-counted-clause-tells c =
-    let told : RefusesMove c.args.self.now.schema.shape c.args.patch.now c.args.self.now.current.rows c.in_err-counted.field-0.0 =
-    subst (λ (s : State). RefusesMove s.schema.shape c.args.patch.now s.current.rows c.in_err-counted.field-0.0) c.self.view_is c.in_err-counted.ensures.tells in
-    search rules
-
-pub returns-in_err-counted-clause-exact : goal.returns-in_err-counted-clause-exact
-returns-in_err-counted-clause-exact c =
-    let told : RefusesMove c.args.self.now.schema.shape c.args.patch.now c.args.self.now.current.rows c.in_err-counted.field-0.0 =
-    subst (λ (s : State). RefusesMove s.schema.shape c.args.patch.now s.current.rows c.in_err-counted.field-0.0) c.self.view_is c.in_err-counted.ensures.tells in
+pub returns-in_err-next-clause-exact : goal.returns-in_err-next-clause-exact
+returns-in_err-next-clause-exact c =
     let tells : TellsMove c.args.self.now.schema.shape c.args.patch.now c.args.self.now.current.rows c.args.self.now.other.rows c.from_residual.result = search rules in
     moves_exact c.args.self.now.schema.shape c.args.patch.now c.args.self.now.current.rows c.args.self.now.other.rows c.from_residual.result tells
 
+pub invariant_of-self-2 : goal.invariant_of-self-2
+invariant_of-self-2 c = record {
+  current_half = subst (λ (words : List ℕ). IsHalf c.self.inside.schema.shape c.self.inside.now words) (sym c.in_ok-lay_moved_next.ensures.current) c.self.invariant.current_half;
+  other_half = laid_half c.self.inside.schema.shape c.in_ok-next.next.half c.lay_moved_next.new.twin.other (rows_with (half_rows c.self.inside.schema.shape c.self.inside.now c.self.inside.twin.current) c.in_ok-next.next.differences)
+      (subst (λ (s : State). CanLay s.schema.shape c.in_ok-next.next.half (rows_with s.current.rows c.in_ok-next.next.differences)) (sym c.self.view_is) c.in_ok-next.ensures.tells.can) c.in_ok-lay_moved_next.ensures.laid;
+}
+
 pub returns-clause-exact : goal.returns-clause-exact
-returns-clause-exact c =
-    let Goal : State → Type 0 = λ s. Yields IsFreeRow (Ok tt) (Ok tt) ((some : RowMap) × IsMovedBy s.schema.shape c.args.patch.now s.current.rows some) in
-    subst Goal c.self.view_is (moves_exact c.self.inside.schema.shape c.args.patch.now c.self.inside.rows.rows (rows_with c.self.inside.rows.rows c.in_ok-counted.counted.next.differences) (Ok tt) c.in_ok-counted.ensures.tells)
+returns-clause-exact c = (λ e. (rows_with c.args.self.now.current.rows c.in_ok-next.next.differences, c.in_ok-next.ensures.tells.moved), λ some. inl refl)
+
+pub returns-clause-tells : goal.returns-clause-tells
+returns-clause-tells c =
+    let rows = half_rows c.self.inside.schema.shape c.self.inside.now c.self.inside.twin.current in
+    let words = half_rows c.self.inside.schema.shape c.in_ok-next.next.half c.lay_moved_next.new.twin.other in
+    let is : words ≡ rows_with rows c.in_ok-next.next.differences = laid_rows c.self.inside.schema.shape c.in_ok-next.next.half c.lay_moved_next.new.twin.other (rows_with rows c.in_ok-next.next.differences) c.in_ok-lay_moved_next.ensures.laid in
+    subst (λ (s : State). IsMovedBy c.args.self.now.schema.shape c.args.patch.now c.args.self.now.current.rows words) c.self.view_is
+    (subst (IsMovedBy c.args.self.now.schema.shape c.args.patch.now c.args.self.now.current.rows) (sym (subst (λ (s : State). words ≡ rows_with s.current.rows c.in_ok-next.next.differences) c.self.view_is is)) c.in_ok-next.ensures.tells.moved)
 
 pub returns-clause-laid : goal.returns-clause-laid
 returns-clause-laid c =
-    let readable : IsReadablePatch c.self.inside.schema.shape c.args.patch.now = subst (λ s. IsReadablePatch s.schema.shape c.args.patch.now) (sym c.self.view_is) c.requires in
-    laid_by c.self.inside.schema c.args.patch.now (half_of c.in_ok-counted.counted.next.outline (rows_with c.grow.new.self.rows c.in_ok-counted.counted.next.differences)) readable c.in_ok-counted.ensures.layout
+    let readable : IsReadablePatch c.self.inside.schema.shape c.args.patch.now = subst (λ (s : State). IsReadablePatch s.schema.shape c.args.patch.now) (sym c.self.view_is) c.requires in
+    laid_by c.self.inside.schema c.args.patch.now (half_in c.self.inside.schema.shape c.in_ok-next.next.half c.lay_moved_next.new.twin.other) readable c.in_ok-next.ensures.layout

@@ -1,0 +1,75 @@
+-- Lemmas on the records of a half that is kept: a live ordinal has a record at its place, which has the room that its row has.
+use Rattle.std.proofs.Common.{◌≡◌, ℕ, ◌^◌, ◌<◌, List, Option, None, Some, Result, refl, sym, subst, ap, true, false}
+use Rattle.std.specs.Prelude.{IsSome, OnOk}
+use Rattle.std.specs.FinMap.{get}
+use Rattle.schema_model.specs.declared.schema.Shape.{Shape}
+use Rattle.schema_model.specs.Parts.{shape_fields}
+use Rattle.row_model.specs.declared.row.Row.{Row}
+use Rattle.object_codec.specs.ObjectPlace.{HoldsPlace, IsObject, SpellsObjectRow}
+use Rattle.object_codec.specs.Packing.{HasRoom, IsRowPut}
+use Rattle.type_rows.specs.declared.section.Section.{Section}
+use Rattle.type_rows.specs.Layout.{places_of}
+use Rattle.type_rows.specs.Loads.{IsSpelledIn, Spells}
+use Rattle.type_rows.proofs.Rising.{none_is_not}
+use Rattle.packed_half.specs.declared.half.HalfShape.{HalfShape}
+use Rattle.packed_half.specs.Half.{section_in}
+use Rattle.packed_half.proofs.Looking.{object_holds}
+use Rattle.packed_half.proofs.Parted.{on_ok}
+use Rattle.packed_half.proofs.RowPlaces.{entry_of, placed_in}
+use Rattle.type_state.specs.Kept.{IsHalf, IsPacked, half_rows}
+use Rattle.type_state.proofs.Halves.{packed_there}
+
+row_in : (row : Option Row) → IsSome row → (r : Row) × (row ≡ Some r)
+row_in None some = absurd (none_is_not {X = Row} None refl some)
+row_in (Some r) some = (r, refl)
+
+spells_record : (shape : Shape) (section : Section) (place : ℕ) (row : Row) → IsObject shape → Spells shape section place row → SpellsObjectRow shape section.widths section.first section.areas place row
+spells_record (Shape.Object key fields) section place row object spelled = spelled
+spells_record (Shape.List element) section place row object spelled = absurd object
+spells_record (Shape.Set element) section place row object spelled = absurd object
+spells_record (Shape.Map key value) section place row object spelled = absurd object
+
+module _
+    (shape given : Shape) (half : HalfShape) (words widths first : List ℕ) (areas : List (List ℕ)) (place ordinal : ℕ) (same : shape ≡ given) (widths_are : widths ≡ half.widths)
+    (first_is : first ≡ (section_in shape half words).first) (areas_are : areas ≡ (section_in shape half words).areas) (place_is : place ≡ ordinal)
+    (kept : IsHalf shape half words) (object : IsObject given) (some : IsSome (get (half_rows shape half words) ordinal)) (small : ordinal < 2 ^ 32) where
+  -- what holds of the parts of the half holds of these
+  over : (P : Shape → List ℕ → List ℕ → List (List ℕ) → ℕ → Type 0) → P shape half.widths (section_in shape half words).first (section_in shape half words).areas ordinal → P given widths first areas place
+  over P h =
+      subst (λ (s : Shape). P s widths first areas place) same
+      (subst (λ (ws : List ℕ). P shape ws first areas place) (sym widths_are)
+      (subst (λ (ws : List ℕ). P shape half.widths ws areas place) (sym first_is)
+      (subst (λ (bytes : List (List ℕ)). P shape half.widths (section_in shape half words).first bytes place) (sym areas_are)
+      (subst (λ (n : ℕ). P shape half.widths (section_in shape half words).first (section_in shape half words).areas n) (sym place_is) h))))
+
+  packed : IsPacked shape half words
+  packed = packed_there shape half words ordinal kept some
+
+  row : (r : Row) × (get (half_rows shape half words) ordinal ≡ Some r)
+  row = row_in (get (half_rows shape half words) ordinal) some
+
+  is_object : IsObject shape
+  is_object = subst IsObject (sym same) object
+
+  pub record_holds : HoldsPlace (shape_fields given) widths first areas place
+  record_holds =
+      over (λ s ws fs bs n. HoldsPlace (shape_fields s) ws fs bs n)
+      (object_holds shape half words (half_rows shape half words) ordinal is_object packed.laid (placed_in (half_rows shape half words) (places_of half.max) ordinal row.0 packed.can.held.places row.1) small)
+
+  record_spelled : SpellsObjectRow given widths first areas place row.0
+  record_spelled =
+      over (λ s ws fs bs n. SpellsObjectRow s ws fs bs n row.0)
+      (spells_record shape (section_in shape half words) ordinal row.0 is_object (entry_of (IsSpelledIn shape (section_in shape half words)) (half_rows shape half words) ordinal row.0 packed.laid.is.spelled row.1))
+
+  pub record_room : (there old : List ℕ) (bytes : List (List ℕ)) → HasRoom given there old bytes ordinal (get (half_rows shape half words) ordinal)
+      → (r : Row) × SpellsObjectRow given widths first areas place r × HasRoom given there old bytes place (Some r)
+  record_room there old bytes room =
+      (row.0, record_spelled, subst (λ (n : ℕ). HasRoom given there old bytes n (Some row.0)) (sym place_is) (subst (λ (r : Option Row). HasRoom given there old bytes ordinal r) row.1 room))
+
+  pub record_put : {E : Type 0} (result : Result (Unit {0}) E) (there old new : List ℕ) (old_bytes bytes : List (List ℕ))
+      → OnOk result ((r : Row) → SpellsObjectRow given widths first areas place r → IsRowPut given there old old_bytes new bytes place (Some r))
+      → OnOk result (IsRowPut given there old old_bytes new bytes ordinal (get (half_rows shape half words) ordinal))
+  record_put result there old new old_bytes bytes put =
+      on_ok result _ _
+      (λ h. subst (λ (r : Option Row). IsRowPut given there old old_bytes new bytes ordinal r) (sym row.1)
+      (subst (λ (n : ℕ). IsRowPut given there old old_bytes new bytes n (Some row.0)) place_is (h row.0 record_spelled))) put

@@ -1,0 +1,46 @@
+-- The records of OBJECT types without STRING and BYTES, as they stand at their places, in any order.
+use Rattle.std.specs.Prelude.{◌≡◌, ℕ, ◌*◌, ◌^◌, ◌<◌, ◌≤◌, List, length, sum, slice_get, slice_index, Some, IfSome, IsSome}
+use Rattle.std.specs.List.{AllZip}
+use Rattle.std.specs.FinMap.{get}
+use Rattle.schema_model.specs.Parts.{shape_fields}
+use Rattle.schema_model.specs.declared.schema.Shape.{Shape}
+use Rattle.row_model.specs.Row.{FitsShape}
+use Rattle.row_model.specs.Table.{RowMap}
+use Rattle.row_model.specs.declared.row.Row.{Row}
+use Rattle.object_codec.specs.ObjectPlace.{IsFieldWidth, IsObject}
+use Rattle.object_codec.specs.Packing.{HoldsValue, PacksPlace}
+use Rattle.object_codec.specs.Stored.{values_of_row}
+use Rattle.fixed_records.specs.Fixed.{AreFixed}
+use Rattle.packed_half.specs.declared.half.HalfShape.{HalfShape}
+use Rattle.type_rows.specs.Differing.{Difference}
+
+-- Each place spells the row that stands under its ordinal, or has none.
+abbrev pub AreRecorded : Shape → List ℕ → List ℕ → ℕ → RowMap → Type 0
+AreRecorded shape widths first places rows =
+    (areas : List (List ℕ)) → length areas ≡ length (shape_fields shape) → (place : ℕ) → place < places → PacksPlace shape widths first areas place (get rows place)
+
+-- A type of records without STRING and BYTES, words that hold so many of them, and widths that its fields may have.
+pub record HasPlaces (shape : Shape) (widths first : List ℕ) (places : ℕ) : Type 0 where
+  pub object : IsObject shape
+  pub fixed : AreFixed (shape_fields shape)
+  pub few : length (shape_fields shape) ≤ 1024
+  pub long : length widths ≡ length (shape_fields shape)
+  pub wide : 0 < places → AllZip IsFieldWidth (shape_fields shape) widths
+  pub within : places * sum widths ≤ 64 * length first
+  pub counted : places * sum widths < 2 ^ 64
+  pub below : places ≤ 2 ^ 32
+
+-- A half of such records, which may be copied as they stand to another one, at the same widths.
+pub record CanCopy (shape : Shape) (before after : HalfShape) : Type 0 where
+  pub object : IsObject shape
+  pub fixed : AreFixed (shape_fields shape)
+  pub places : IsSome before.max
+  pub widths : after.widths ≡ before.widths
+
+-- A row fits the type, and the widths hold its numbers.
+abbrev pub FitsRecord : Shape → List ℕ → Row → Type 0
+FitsRecord shape widths row = FitsShape shape row × ((index : ℕ) → IfSome (slice_get (values_of_row row) index) (HoldsValue (slice_index widths index)))
+
+-- A row that comes under an ordinal with a place fits there.
+abbrev pub HasRoomFor : Shape → List ℕ → ℕ → Difference → Type 0
+HasRoomFor shape widths places difference = (row : Row) → difference.1 ≡ Some row → difference.0 < places → FitsRecord shape widths row

@@ -1,0 +1,78 @@
+//! The records of a half that is kept, each copied to a place of other words as it stands.
+ghost use Rattle.std.specs.Prelude.{◌≡◌, IsSome, OnOk, map};
+ghost use Rattle.std.specs.FinMap.{get};
+ghost use Rattle.object_codec.specs.Packing.{HasRoom, IsRowPut};
+ghost use Rattle.packed_half.specs.Half.{section_in};
+ghost use Rattle.record_views.specs.Bytes.{bytes_of};
+ghost use Rattle.type_state.specs.Kept.{IsHalf, half_rows};
+ghost use Rattle.type_state.specs.KeptRecords.{AreKept, kept_rows};
+
+use hol_varint::Octets;
+use packed_half::{HalfRows, HalfShape};
+use record_moves::{RecordPlace, WordRecords, copy_record};
+use record_views::PackedBytes;
+use row_model::Parts;
+use schema_model::{Schema, Shape};
+use std::alloc::{AllocError, Global};
+
+/// The records of a half that is kept.
+#[derive(Clone, Copy)]
+pub(crate) struct KeptRecords<'a> {
+    /// The shape of their type.
+    pub(crate) shape: &'a Shape,
+    /// What describes the words of the half.
+    pub(crate) half: &'a HalfShape,
+    /// The words of the half.
+    pub(crate) words: &'a [u64],
+    /// The records where they stand in the words.
+    pub(crate) records: WordRecords<'a>,
+}
+
+impl<'a> KeptRecords<'a> {
+    /// The records of a half, the bytes of whose fields stand here.
+    pub(crate) fn new(current: &'a HalfRows<'a>, areas: &'a [PackedBytes<'a>]) -> KeptRecords<'a>
+        requires half { IsHalf current.now.shape.now current.now.half.now current.now.words.now }
+        requires bytes { map bytes_of areas.now ≡ (section_in current.now.shape.now current.now.half.now current.now.words.now).areas }
+        ensures kept { AreKept result }
+        ensures shape { result.shape.now ≡ current.now.shape.now }
+        ensures rows { kept_rows result ≡ half_rows current.now.shape.now current.now.half.now current.now.words.now }
+    {
+        let records = WordRecords {
+            first: current.first(),
+            areas,
+        };
+        KeptRecords {
+            shape: current.shape,
+            half: current.half,
+            words: current.words,
+            records,
+        }
+    }
+
+    /// Copies the record under a live ordinal to its place in other words, and its bytes behind those of the fields.
+    ///
+    /// Memory is taken for the bytes alone; where it is refused, those of some fields may be there.
+    pub(crate) fn copy_record(
+        self,
+        alloc: Global,
+        schema: &Schema,
+        widths: &[u32],
+        first: &mut [u64],
+        areas: &mut [Octets],
+        ordinal: u32,
+    ) -> Result<(), AllocError>
+        requires kept { AreKept self }
+        requires shape { self.shape.now ≡ schema.now.shape }
+        requires live { IsSome (get (kept_rows self) ordinal) }
+        requires room { HasRoom schema.now.shape widths.now first.old areas.old ordinal (get (kept_rows self) ordinal) }
+        ensures { OnOk result (IsRowPut schema.now.shape widths.now first.old areas.old first.new areas.new ordinal (get (kept_rows self.entry) ordinal)) }
+    {
+        let place = u64::from(ordinal);
+        let there = RecordPlace {
+            widths: self.half.widths.as_slice(),
+            place,
+        };
+        let here = RecordPlace { widths, place };
+        copy_record(alloc, schema, &self.records, there, here, first, areas)
+    }
+}

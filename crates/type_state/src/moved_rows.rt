@@ -1,0 +1,89 @@
+//! The rows that a patch moves others to: each made as it is asked for, and its record copied as it stands where the patch keeps it.
+ghost use Rattle.std.specs.Prelude.{◌≡◌};
+ghost use Rattle.type_state.specs.Differences.{AreApart, rows_with};
+ghost use Rattle.type_state.specs.KeptRecords.{AreKept, kept_rows};
+
+use crate::current::Current;
+use crate::differences::Differences;
+use crate::kept_records::KeptRecords;
+use hol_varint::Octets;
+use object_codec::put_row;
+use packed_half::NewRows;
+use row_model::Row;
+use schema_model::Schema;
+use std::alloc::{AllocError, Global};
+use std::marker::Model;
+
+/// The current rows with differences.
+#[derive(Drop)]
+pub(crate) struct MovedRows<'a> {
+    rows: &'a Current<'a>,
+    records: KeptRecords<'a>,
+    differences: &'a Differences,
+}
+
+impl<'a> Model for MovedRows<'a> {
+    ghost use Rattle.std.specs.Prelude.{◌≡◌};
+    ghost use Rattle.type_state.specs.Differences.{AreApart, rows_with};
+    ghost use Rattle.type_state.specs.KeptRecords.{AreKept, TypedRows, kept_rows, typed_code};
+
+    ghost Value = { TypedRows };
+
+    ghost coded = { typed_code };
+
+    ghost view = { λ m. record { shape = m.records.shape.now; rows = rows_with m.rows.now.rows m.differences.now } };
+
+    ghost invariant = { λ m. AreApart m.differences.now × AreKept m.records × (kept_rows m.records ≡ m.rows.now.rows) };
+}
+
+impl<'a> MovedRows<'a> {
+    /// These rows, whose records stand here, with these differences.
+    pub(crate) fn new(
+        rows: &'a Current<'a>,
+        records: KeptRecords<'a>,
+        differences: &'a Differences,
+    ) -> MovedRows<'a>
+        requires apart { AreApart differences.now }
+        requires kept { AreKept records }
+        requires same { kept_rows records ≡ rows.now.rows }
+        ensures shape { result.shape ≡ records.entry.shape.now }
+        ensures rows { result.rows ≡ rows_with rows.now.rows differences.now }
+    {
+        MovedRows {
+            rows,
+            records,
+            differences,
+        }
+    }
+}
+
+impl NewRows for MovedRows<'_> {
+    ghost rows = { λ m. m.rows };
+
+    ghost suits = { λ m shape. m.shape ≡ shape };
+
+    fn new_row(&self, alloc: Global, ordinal: u32) -> Result<Row, AllocError> {
+        match self.differences.find(alloc, self.rows, ordinal)? {
+            Some(row) => Ok(row),
+            None => unreachable!(),
+        }
+    }
+
+    fn put_record(
+        &self,
+        alloc: Global,
+        schema: &Schema,
+        widths: &[u32],
+        first: &mut [u64],
+        areas: &mut [Octets],
+        ordinal: u32,
+    ) -> Result<(), AllocError> {
+        let place = u64::from(ordinal);
+        match self.differences.at(ordinal) {
+            Some(row) => put_row(alloc, schema, widths, first, areas, place, row),
+            None => self
+                .records
+                .copy_record(alloc, schema, widths, first, areas, ordinal),
+        }
+    }
+}

@@ -1,0 +1,38 @@
+//! The next half laid out beside the current one.
+ghost use Rattle.std.specs.Prelude.{◌≡◌, OnOk};
+ghost use Rattle.packed_half.specs.LaidOut.{IsLaidOut};
+ghost use Rattle.packed_half.specs.Laying.{CanLay};
+ghost use Rattle.type_state.specs.Differences.{AreApart, rows_with};
+ghost use Rattle.type_state.specs.Kept.{IsHalf, half_rows};
+
+use crate::moving::{Move, lay_moved};
+use packed_half::{HalfRows, HalfShape, words_of_half};
+use raw_words::{Halves, TwinWords};
+use schema_model::Schema;
+use std::alloc::{AllocError, Global};
+
+#[tactic(auto, using(crate::proofs::Fitting::moved_fit))]
+/// Lays out the rows of a move in the next half of two, in the words that it takes.
+pub(crate) fn lay_moved_next(
+    alloc: Global,
+    schema: &Schema,
+    current: &HalfShape,
+    next: &Move,
+    twin: &mut TwinWords,
+) -> Result<(), AllocError>
+    requires kept { IsHalf schema.now.shape current.now twin.old.current }
+    requires apart { AreApart next.now.differences }
+    requires can { CanLay schema.now.shape next.now.half (rows_with (half_rows schema.now.shape current.now twin.old.current) next.now.differences) }
+    ensures current { twin.new.current ≡ twin.old.current }
+    ensures laid { OnOk result (IsLaidOut schema.now.shape next.now.half twin.new.other (rows_with (half_rows schema.now.shape current.now twin.old.current) next.now.differences)) }
+{
+    twin.reserve_next(words_of_half(&schema.shape, &next.half) as usize)?;
+    let Halves { from, to } = twin.split();
+    let current = HalfRows {
+        shape: &schema.shape,
+        half: current,
+        words: from,
+    };
+    lay_moved(alloc, schema, current, next, to)?;
+    Ok(())
+}
