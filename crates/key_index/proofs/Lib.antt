@@ -1,6 +1,7 @@
 pub mod Answering
 pub mod Following
+pub mod Keeping
 pub mod KeptKeys
-pub mod PairLists
+pub mod Lists
 pub mod SlotKeys
-pub mod SlotPairs
+pub mod Walking

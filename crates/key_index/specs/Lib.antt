@@ -1,3 +1,2 @@
 pub mod Indexed
-pub mod Pairs
 pub mod Slots

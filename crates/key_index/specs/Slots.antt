@@ -1,57 +1,51 @@
--- What stands under each ordinal, in the two states that an index keeps.
-use Rattle.std.specs.Prelude.{refl, ◌≡◌, ◌↔◌, ◌⊎◌, ◌+◌, ℕ, Bool, true, false, List, [], ◌∷◌, ◌++◌, Option, Some, None, Contains, slice_get, fold, replicate, option_and_then, if◌then◌else◌, ◌&&◌, is_some}
-use Rattle.std.specs.Coded.{Coded, code_by, coded×}
-use Rattle.std.specs.FinMap.{from_entries, get, insert, remove}
+-- What stands under each ordinal, the keys of the rows that slots make, and those of the next state.
+use Rattle.std.specs.Prelude.{refl, ◌≡◌, ◌↔◌, ◌+◌, ◌<◌, ◌≤◌, ◌^◌, ℕ, Bool, List, [], ◌∷◌, ◌++◌, Option, Some, None, Contains, max, length, slice_get, count_by, fold, replicate, option_and_then, option_map, is_some, nat_eq, if◌then◌else◌}
+use Rattle.std.specs.Coded.{Coded, code_by, coded×, coded_ℕ}
+use Rattle.std.specs.FinMap.{from_entries, insert, remove}
+use Rattle.linked_slots.specs.Chained.{Chained, IsBuckets, hash_of}
+use Rattle.row_hash.specs.Hash.{values_hash}
 use Rattle.row_model.specs.declared.row.Value.{Value}
+use Rattle.row_model.specs.Row.{Rises}
+use Rattle.key_index.specs.declared.reserved.AddedRow.{AddedRow}
+use Rattle.key_index.specs.declared.reserved.Reserved.{Reserved}
 use Rattle.key_index.specs.declared.slot.Slot.{Slot}
+use Rattle.key_index.specs.declared.slot.Slot.TheVariants.{Free, Keyless, One, More}
 use Rattle.key_index.specs.Indexed.{KeyMap, key_map_code}
-use Rattle.key_index.specs.Pairs.{HasBytes}
 
--- the keys of the rows now, and those of another state
-pub record TwoStates : Type 0 where
-  pub current : KeyMap
-  pub next : KeyMap
+-- for how many ordinals there is room, and the keys of the rows
+pub record Roomy : Type 0 where
+  pub room : ℕ
+  pub keys : KeyMap
 
-abbrev pub two_states_code : Coded TwoStates
-two_states_code = code_by (KeyMap × KeyMap) (coded× key_map_code key_map_code) (λ s. (s.current, s.next)) (λ p. record { current = p.0; next = p.1 }) (λ _. refl)
+abbrev pub roomy_code : Coded Roomy
+roomy_code = code_by (ℕ × KeyMap) (coded× coded_ℕ key_map_code) (λ r. (r.room, r.keys)) (λ p. record { room = p.0; keys = p.1 }) (λ _. refl)
 
--- A row that is not among these ordinals has one key in both states, or is in neither.
-abbrev pub AreSettled : TwoStates → List ℕ → Type 0
-AreSettled states changed = (ordinal : ℕ) → Contains changed ordinal ⊎ (get states.current ordinal ≡ get states.next ordinal)
+-- ---- one slot
 
--- keys without some ordinals
-abbrev pub without : KeyMap → List ℕ → KeyMap
-without keys ordinals = fold (λ left ordinal. remove left ordinal) keys ordinals
+-- the key of the row there, if there is a row
+abbrev pub row_key : Slot → Option (Option (List Value))
+row_key Free = None
+row_key Keyless = Some None
+row_key (One value) = Some (Some (value ∷ []))
+row_key (More values) = Some (Some values)
 
--- keys with those of further ordinals
-abbrev pub with_keys : (ℕ → Option (List Value)) → KeyMap → List ℕ → KeyMap
-with_keys key keys ordinals = fold (λ more ordinal. insert more ordinal (key ordinal)) keys ordinals
+-- the key, if there is a row that has one
+abbrev pub key_in : Slot → Option (List Value)
+key_in Free = None
+key_in Keyless = None
+key_in (One value) = Some (value ∷ [])
+key_in (More values) = Some values
 
--- whether the state has a row there
-abbrev pub is_in : Bool → Slot → Bool
-is_in false slot = slot.in_even
-is_in true slot = slot.in_odd
+-- whether there is a row that has a key
+abbrev pub has_key : Slot → Bool
+has_key slot = is_some (key_in slot)
 
--- the slot, where the state has a row there or not
-abbrev pub with_flag : Bool → Bool → Slot → Slot
-with_flag false flag slot = record slot { in_even = flag }
-with_flag true flag slot = record slot { in_odd = flag }
+-- keys with what stands under an ordinal in the place of what stood there
+abbrev pub placed : KeyMap → ℕ → Option (Option (List Value)) → KeyMap
+placed keys ordinal None = remove keys ordinal
+placed keys ordinal (Some key) = insert keys ordinal key
 
--- no row in either state
-abbrev pub free_slot : Slot
-free_slot = record { key = None; in_even = false; in_odd = false }
-
--- free slots stand behind those that were there
-abbrev pub Widens : List Slot → List Slot → Type 0
-Widens slots more = (n : ℕ) × (more ≡ slots ++ replicate n free_slot)
-
--- the key of the state's row there, if the state has a row there
-abbrev pub key_in : Bool → Slot → Option (Option (List Value))
-key_in odd slot = (if is_in odd slot then Some slot.key else None)
-
--- whether the state has a row with a key there
-abbrev pub is_keyed : Bool → Slot → Bool
-is_keyed odd slot = is_in odd slot && is_some slot.key
+-- ---- all slots
 
 -- what a reading of the slots gives under an ordinal
 abbrev pub read_at : {X : Type 0} → (Slot → Option X) → List Slot → ℕ → Option X
@@ -67,10 +61,67 @@ abbrev pub entries_from : {X : Type 0} → (Slot → Option X) → ℕ → List 
 entries_from read place [] = []
 entries_from read place (slot ∷ slots) = with_place place (read slot) (entries_from read (place + 1) slots)
 
--- the keys of the rows of a state
-unfoldable pub keys_of : Bool → List Slot → KeyMap
-keys_of odd slots = from_entries (entries_from (key_in odd) 0 slots)
+-- the keys of the rows
+unfoldable pub keys_of : List Slot → KeyMap
+keys_of slots = from_entries (entries_from row_key 0 slots)
 
--- each key of a slot stands with its ordinal among the pairs, and nothing else does
-abbrev pub ArePaired : List Slot → List (List ℕ × ℕ) → Type 0
-ArePaired slots pairs = (bytes : List ℕ) (ordinal : ℕ) → Contains pairs (bytes, ordinal) ↔ HasBytes (read_at (λ slot. slot.key) slots ordinal) bytes
+-- free slots stand behind those that were there, up to a number of them
+pub record Widens (slots : List Slot) (room : ℕ) (more : List Slot) : Type 0 where
+  pub count : ℕ
+  pub padded : more ≡ slots ++ replicate count Free
+  pub short : length more ≤ max (length slots) room
+
+-- ---- the chains of the keys
+
+-- one, if it is so
+abbrev pub one_if : Bool → ℕ
+one_if b = (if b then 1 else 0)
+
+-- no number stands there twice
+abbrev pub AreOnce : List ℕ → Type 0
+AreOnce numbers = (number : ℕ) → count_by (nat_eq number) numbers ≤ 1
+
+-- The same numbers, rising.
+pub record AreSorted (numbers sorted : List ℕ) : Type 0 where
+  pub rising : Rises sorted
+  pub same : (number : ℕ) → Contains sorted number ↔ Contains numbers number
+
+-- the hash of a key, if there is one
+abbrev pub key_hash : Option (List Value) → Option ℕ
+key_hash key = option_map values_hash key
+
+-- the keys' hashes are linked under the rows' ordinals
+abbrev pub AreHashed : List Slot → Chained → Type 0
+AreHashed slots chains = (ordinal : ℕ) → hash_of chains ordinal ≡ key_hash (read_at key_in slots ordinal)
+
+-- The slots and the chains of the keys' hashes agree, there is a chain place for each slot, and so many slots have a key.
+pub record AreKept (slots : List Slot) (chains : Chained) (buckets keyed : ℕ) : Type 0 where
+  pub few : length slots < 2 ^ 32
+  pub room : length slots ≤ chains.slots
+  pub buckets_are : length chains.chains ≡ buckets
+  pub powered : IsBuckets buckets
+  pub bucketed : 0 < length slots → 0 < buckets
+  pub hashed : AreHashed slots chains
+  pub count : keyed ≡ count_by has_key slots
+
+-- ---- the next state
+
+-- keys without some ordinals
+abbrev pub without : KeyMap → List ℕ → KeyMap
+without keys ordinals = fold (λ left ordinal. remove left ordinal) keys ordinals
+
+-- keys with those of further ordinals
+abbrev pub with_keys : (ℕ → Option (List Value)) → KeyMap → List ℕ → KeyMap
+with_keys key keys ordinals = fold (λ more ordinal. insert more ordinal (key ordinal)) keys ordinals
+
+-- keys with those of rows that come
+abbrev pub with_added : KeyMap → List AddedRow → KeyMap
+with_added keys rows = fold (λ more (row : AddedRow). insert more row.ordinal row.key) keys rows
+
+-- the row that comes under an ordinal
+abbrev pub added_row : (ℕ → Option (List Value)) → ℕ → AddedRow
+added_row key ordinal = record { ordinal = ordinal; key = key ordinal }
+
+-- the keys of the next state
+abbrev pub next_of : KeyMap → Reserved → KeyMap
+next_of keys reserved = with_added (without keys reserved.removed) reserved.added

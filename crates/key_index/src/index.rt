@@ -1,13 +1,12 @@
 //! An index of the rows of a type by their keys, kept over the steps of a consumer.
-ghost use Rattle.std.specs.Prelude.{◌≡◌, ◌+◌, ◌≤◌, ◌<◌, ℕ, All, IfOk, IsSome, IsSomeAnd, None, OnOk, OnErr, length};
-ghost use Rattle.std.specs.FinMap.{get};
-ghost use Rattle.row_model.specs.Key.{IsResolved, key_of};
-ghost use Rattle.row_model.specs.Table.{IsClosed, IsLive};
+ghost use Rattle.std.specs.Prelude.{◌≡◌, ◌+◌, ◌≤◌, ◌<◌, All, IfOk, IsSome, IsSomeAnd, None, OnOk, OnErr, length};
+ghost use Rattle.row_model.specs.Key.{IsResolved};
+ghost use Rattle.row_model.specs.Table.{IsClosed};
 ghost use Rattle.key_index.specs.Indexed.{AreKeysOf, AreUnder, CountsKeys, CountsLive, Follows, IsIndexBy};
-ghost use Rattle.key_index.specs.Slots.{AreSettled, with_keys, without};
 
-use crate::key_slots::KeySlots;
+use crate::key_rows::KeyRows;
 use crate::read::read_key;
+use crate::reserved::Reserved;
 use hol_io::Steps;
 use hol_varint::Ordinals;
 use row_model::{Rows, Values};
@@ -22,84 +21,24 @@ pub struct KeyIndex {
     alloc: Global,
     type_index: u32,
     paths: Paths,
-    /// The keys of the rows now, and those of another state: the next one, where it is reserved.
-    rows: KeySlots,
-    /// Whether the next state is reserved.
-    reserved: bool,
-    /// The ordinals of all rows in which the two states differ.
-    changed: Vec<u32>,
+    /// The rows now, by their keys.
+    rows: KeyRows,
+    /// The rows by which the next state differs, where it is reserved.
+    next: Option<Reserved>,
 }
 
 impl Model for KeyIndex {
-    ghost use Rattle.std.specs.Prelude.{Some, None, if◌then◌else◌};
+    ghost use Rattle.std.specs.Prelude.{◌<◌, All, IfSome, option_map};
     ghost use Rattle.key_index.specs.Indexed.{Indexed, indexed_code};
-    ghost use Rattle.key_index.specs.Slots.{AreSettled};
+    ghost use Rattle.key_index.specs.Slots.{next_of};
 
     ghost Value = { Indexed };
 
     ghost coded = { indexed_code };
 
-    ghost view = { λ a. record { type_index = a.type_index; paths = a.paths; keys = a.rows.current; next = (if a.reserved then Some a.rows.next else None) } };
+    ghost view = { λ a. record { type_index = a.type_index; paths = a.paths; keys = a.rows.keys; next = option_map (next_of a.rows.keys) a.next } };
 
-    ghost invariant = { λ a. AreSettled a.rows a.changed.items };
-}
-
-// Makes the next state what that of now is, under the changed ordinals.
-fn settle(rows: &mut KeySlots, changed: &mut Vec<u32>) -> Result<(), AllocError>
-    requires settled { AreSettled rows.old changed.old.items }
-    ensures settled { AreSettled rows.new changed.new.items }
-    ensures current { rows.new.current ≡ rows.old.current }
-    ensures same { OnOk result (rows.new.next ≡ rows.old.current) }
-{
-    while let Some(ordinal) = changed.last() {
-        rows.settle(*ordinal)?;
-        changed.pop();
-    }
-    Ok(())
-}
-
-// Drops rows from the next state.
-fn leave_all(rows: &mut KeySlots, changed: &mut Vec<u32>, removed: &[u32]) -> Result<(), AllocError>
-    requires settled { AreSettled rows.old changed.old.items }
-    ensures settled { AreSettled rows.new changed.new.items }
-    ensures current { rows.new.current ≡ rows.old.current }
-    ensures left { OnOk result (rows.new.next ≡ without rows.old.next removed.now) }
-{
-    for ordinal in removed {
-        changed.push(*ordinal)?;
-        rows.leave(*ordinal);
-    }
-    Ok(())
-}
-
-// Puts rows with their keys into the next state. It counts a step for each.
-fn enter_all<R: Rows, L: Ledger>(
-    alloc: Global,
-    rows: &mut KeySlots,
-    changed: &mut Vec<u32>,
-    next: &R,
-    paths: &Paths,
-    type_index: u32,
-    added: &[u32],
-    steps: &mut Steps<L>,
-) -> Result<(), AllocError>
-    requires type_there { type_index < length (R.schemas next.now) }
-    requires closed { IsClosed (R.schemas next.now) (R.table next.now) }
-    requires live { All (λ ordinal. IsLive (R.table next.now) type_index ordinal) added.now }
-    requires free { All (λ ordinal. get rows.old.current ordinal ≡ None) added.now }
-    requires settled { AreSettled rows.old changed.old.items }
-    ensures settled { AreSettled rows.new changed.new.items }
-    ensures current { rows.new.current ≡ rows.old.current }
-    ensures entered { OnOk result (rows.new.next ≡ with_keys (key_of (R.schemas next.now) (R.table next.now) type_index paths.now) rows.old.next added.now) }
-    ensures counted { OnOk result (steps.new ≡ steps.old + length added.now) }
-    ensures bounded { (steps.old ≤ steps.new) × (steps.new ≤ steps.old + length added.now) }
-{
-    for ordinal in added {
-        let key = read_key(alloc, next, paths, type_index, *ordinal, steps)?;
-        changed.push(*ordinal)?;
-        rows.put(*ordinal, key, false)?;
-    }
-    Ok(())
+    ghost invariant = { λ a. IfSome a.next (λ reserved. All (λ row. row.ordinal < a.rows.room) reserved.added) };
 }
 
 impl KeyIndex {
@@ -120,20 +59,21 @@ impl KeyIndex {
         ensures unreserved { IfOk result (λ index. index.next ≡ None) }
         ensures counted { OnOk result (CountsLive (R.table rows.now) type_index steps.old steps.new) }
     {
-        let mut slots = KeySlots::new(alloc);
-        for ordinal in 0..rows.bound(type_index) {
+        let bound = rows.bound(type_index);
+        let mut kept = KeyRows::new(alloc);
+        kept.reserve(bound)?;
+        for ordinal in 0..bound {
             if rows.is_live(type_index, ordinal) {
                 let key = read_key(alloc, rows, &paths, type_index, ordinal, steps)?;
-                slots.put(ordinal, key, true)?;
+                kept.put(ordinal, key);
             }
         }
         Ok(KeyIndex {
             alloc,
             type_index,
             paths,
-            rows: slots,
-            reserved: false,
-            changed: Vec::new(alloc),
+            rows: kept,
+            next: None,
         })
     }
 
@@ -156,20 +96,18 @@ impl KeyIndex {
         ensures bounded { (steps.old ≤ steps.new) × (steps.new ≤ steps.old + length added.now) }
         ensures refused { OnErr result (self.new.next ≡ None) }
     {
-        self.reserved = false;
-        settle(&mut self.rows, &mut self.changed)?;
-        leave_all(&mut self.rows, &mut self.changed, removed.as_slice())?;
-        enter_all(
+        self.forget();
+        self.rows.reserve(next.bound(self.type_index))?;
+        let reserved = Reserved::read(
             self.alloc,
-            &mut self.rows,
-            &mut self.changed,
             next,
             &self.paths,
             self.type_index,
-            added.as_slice(),
+            removed,
+            added,
             steps,
         )?;
-        self.reserved = true;
+        self.next = Some(reserved);
         Ok(())
     }
 
@@ -180,15 +118,16 @@ impl KeyIndex {
         ensures kept { (self.new.type_index ≡ self.old.type_index) × (self.new.paths ≡ self.old.paths) }
         ensures unreserved { self.new.next ≡ None }
     {
-        self.rows.turn();
-        self.reserved = false;
+        if let Some(reserved) = self.next.take() {
+            reserved.turn(&mut self.rows);
+        }
     }
 
     /// Drops what was reserved. It takes no memory.
     pub fn forget(&mut self)
         ensures { self.new ≡ record self.old { next = None } }
     {
-        self.reserved = false;
+        self.next = None;
     }
 
     /// The indexed ordinals whose rows have a key, rising. It costs its answer, and no walk over the rows.

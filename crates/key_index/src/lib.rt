@@ -2,10 +2,11 @@
 #![tactic(auto)]
 
 mod index;
-mod key_pairs;
-mod key_slots;
+mod key_chains;
+mod key_rows;
 pub mod laws;
 mod read;
+mod reserved;
 mod slot;
 
 pub use index::KeyIndex;

@@ -1,4 +1,4 @@
--- The hash of a row: a fold over its numbers, of which the upper half is kept.
+-- The hash of a row, and that of values: a fold over the numbers, of which the upper half is kept.
 use Rattle.std.specs.Prelude.{List, ℕ, ◌*◌, ◌/◌, ◌%◌, ◌^◌, true, false, length, bit_xor}
 use Rattle.std.specs.Int.{rotate_left}
 use Rattle.std.specs.List.{fold}
@@ -36,3 +36,7 @@ mixed_row (Row.Map pairs) = fold mixed_pair 0 pairs
 -- the hash of a row: mixed once more, so that the last number too is spread over the upper half
 unfoldable pub row_hash : Row → ℕ
 row_hash row = mixed (mixed_row row) 0 / 2 ^ 32
+
+-- the hash of values, that of the record that has them
+unfoldable pub values_hash : List Value → ℕ
+values_hash values = mixed (fold mixed_value 0 values) 0 / 2 ^ 32

@@ -1,7 +1,7 @@
-//! The hash of a row: its numbers are mixed one by one.
+//! The hash of a row, and that of values: the numbers are mixed one by one.
 ghost use Rattle.std.specs.Prelude.{◌≡◌};
 ghost use Rattle.std.specs.List.{fold};
-ghost use Rattle.row_hash.specs.Hash.{mixed, mixed_pair, mixed_row, mixed_value, row_hash as hash_of};
+ghost use Rattle.row_hash.specs.Hash.{mixed, mixed_pair, mixed_row, mixed_value, row_hash as hash_of, values_hash as hash_of_values};
 
 use hol_varint::{zigzag32, zigzag64};
 use row_model::{Row, Value};
@@ -20,6 +20,14 @@ pub fn row_hash(row: &Row) -> u32
     ensures { result ≡ hash_of row.now }
 {
     (mix(mix_row(row), 0) / 0x1_0000_0000) as u32
+}
+
+/// The hash of values: one number for equal lists of values, that of the record that has them. It takes no memory.
+#[tactic(auto, unfolding(crate::specs::Hash::values_hash))]
+pub fn values_hash(values: &[Value]) -> u32
+    ensures { result ≡ hash_of_values values.now }
+{
+    (mix(mix_values(values), 0) / 0x1_0000_0000) as u32
 }
 
 // All of a row.

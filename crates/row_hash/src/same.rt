@@ -1,4 +1,4 @@
-//! When two rows are the same.
+//! When two rows, or two lists of values, are the same.
 ghost use Rattle.std.specs.Prelude.{◌≡◌, ◌↔◌, IsTrue};
 
 use row_model::{Row, Value};
@@ -18,8 +18,8 @@ pub fn same_row(row: &Row, other: &Row) -> bool
     }
 }
 
-// Whether they are as many values, and the same one by one.
-fn same_values(values: &[Value], others: &[Value]) -> bool
+/// Whether they are as many values, and the same one by one.
+pub fn same_values(values: &[Value], others: &[Value]) -> bool
     ensures { IsTrue result ↔ (values.now ≡ others.now) }
 {
     if values.len() != others.len() {
