@@ -60,12 +60,16 @@ module _ (old new : Table) (type_index : ℕ) where
       by_old None was (Some b) is = let live = alike.1 (ap is_some is) in let none = sym (ap is_some was) ∙ live in absurd cc
       by_old (Some a) was None is = let live = alike.0 (ap is_some was) in let none = sym (ap is_some is) ∙ live in absurd cc
 
-  -- where no ordinal is, the rows are the same
+  -- where the same ordinals are live, the rows are the same
+  pub same_where_alike : Agree old new type_index → ((ordinal : ℕ) → IsLive old type_index ordinal ↔ IsLive new type_index ordinal) → rows_in old type_index ≡ rows_in new type_index
+  same_where_alike agree alike =
+      same_map nat_cmp_total nat_cmp-IsAntisymmetric (rows_in old type_index) (rows_in new type_index)
+      (λ q. get_in old type_index q ∙ same_place agree q (alike q) ∙ sym (get_in new type_index q))
+
+  -- so it is where none is live in one state alone up to the bounds of both
   pub same_rows : (bound bound' limit : ℕ) → Agree old new type_index → IsBound old type_index bound → IsBound new type_index bound' → limit ≡ max bound bound' → AreAlike old new type_index limit
       → rows_in old type_index ≡ rows_in new type_index
-  same_rows bound bound' limit agree is is' up_to alike =
-      same_map nat_cmp_total nat_cmp-IsAntisymmetric (rows_in old type_index) (rows_in new type_index)
-      (λ q. get_in old type_index q ∙ same_place agree q (everywhere q) ∙ sym (get_in new type_index q))
+  same_rows bound bound' limit agree is is' up_to alike = same_where_alike agree everywhere
     where
       everywhere : (q : ℕ) → IsLive old type_index q ↔ IsLive new type_index q
       everywhere q =

@@ -25,3 +25,12 @@ HaveFewPaths schemas types = All (HasFewPathsAt schemas) types
 abbrev pub MeansLarge : Type 0 → WriteFault → Type 0
 MeansLarge Fact Large = Fact
 MeansLarge Fact Memory = Unit {0}
+
+-- Want of memory may come in place of any answer.
+abbrev pub IsFreeWrite : WriteFault → Type 0
+IsFreeWrite Large = ⊥
+IsFreeWrite Memory = Unit {0}
+
+-- There is such a blob, and it has more than 2^28 bytes.
+abbrev pub IsTooLarge : (List ℕ → Type 0) → Type 0
+IsTooLarge IsBlob = (blob : List ℕ) × IsBlob blob × (2 ^ 28 < length blob)

@@ -1,19 +1,23 @@
 //! Writing a delta.
-ghost use Rattle.std.specs.Prelude.{◌≡◌, ◌<◌, ◌≤◌, ◌^◌, ◌++◌, All, IfErr, IfOk, List, ℕ, OnOk, length};
+ghost use Rattle.std.specs.Prelude.{◌≡◌, ◌<◌, ◌≤◌, ◌^◌, ◌++◌, All, IfErr, IfOk, List, ℕ, OnOk, Err, length};
+ghost use Rattle.hol_varint.specs.Yields.{Yields};
 ghost use Rattle.schema_model.specs.Model.{IsModel};
 ghost use Rattle.row_packing.specs.States.{AreWritable};
-ghost use Rattle.blob_writing.specs.Limits.{HasFewPathsAt, HaveFewPaths, MeansLarge};
+ghost use Rattle.blob_writing.specs.Limits.{HasFewPathsAt, HaveFewPaths, IsFreeWrite, IsTooLarge, MeansLarge};
+ghost use Rattle.blob_writing.specs.declared.fault.WriteFault.TheVariants.{Large};
 ghost use Rattle.blob_writing.specs.Changes.{AreChangesOf, IsChangeOf, IsDeltaBetween, IsFrontLong, IsLongDelta, gone};
 ghost use Rattle.blob_writing.specs.Delta.{TypeChange, body_bytes, change_bytes};
 
 use crate::changed::changed_types;
 use crate::fault::WriteFault;
 use crate::header::{check_length, put_limited_header};
+use crate::shared::shared_model;
 use crate::types::put_delta_type;
 use blob_sections::PackedRows;
 use hol_varint::{Ordinals, put_vlong};
 use row_model::Rows;
 use row_packing::{Chosen, choose, delta_rows, live_ordinals};
+use schema_model::Model;
 use std::alloc::{AllocError, Global};
 
 /// Writes the delta from an old to a new state of the same model, from one tag to another: the types whose rows differ, in
@@ -35,9 +39,32 @@ pub fn write_delta<A: Rows, B: Rows>(
     ensures short { IfOk result (λ blob. length blob.items ≤ 2 ^ 28) }
     ensures front { IfErr result (MeansLarge (IsLongDelta (B.schemas new.now) (A.table old.now) (B.table new.now) origin destination)) }
     ensures large { IfErr result (MeansLarge ((blob : List ℕ) → IsDeltaBetween (B.schemas new.now) (A.table old.now) (B.table new.now) origin destination blob → 2 ^ 28 < length blob)) }
+    ensures exact { Yields IsFreeWrite result (Err Large) (IsTooLarge (IsDeltaBetween (B.schemas new.now) (A.table old.now) (B.table new.now) origin destination)) }
 {
     row_packing::laws::one_packing_of_places();
-    let model = new.model();
+    let model = shared_model(old, new);
+    limited_delta(alloc, old, new, model, origin, destination)
+}
+
+// The same, by what each answer means: `Large`, that each such blob has more than 2^28 bytes.
+fn limited_delta<A: Rows, B: Rows>(
+    alloc: Global,
+    old: &A,
+    new: &B,
+    model: &Model,
+    origin: i64,
+    destination: i64,
+) -> Result<Vec<u8>, WriteFault>
+    requires model { A.schemas old.now ≡ B.schemas new.now }
+    requires same { model.now ≡ B.schemas new.now }
+    requires states { AreWritable (B.schemas new.now) (A.table old.now) (B.table new.now) }
+    ensures sound { IsModel (B.schemas new.now) }
+    ensures written { IfOk result (λ blob. IsDeltaBetween (B.schemas new.now) (A.table old.now) (B.table new.now) origin destination blob.items) }
+    ensures short { IfOk result (λ blob. length blob.items ≤ 2 ^ 28) }
+    ensures front { IfErr result (MeansLarge (IsLongDelta (B.schemas new.now) (A.table old.now) (B.table new.now) origin destination)) }
+    ensures large { IfErr result (MeansLarge ((blob : List ℕ) → IsDeltaBetween (B.schemas new.now) (A.table old.now) (B.table new.now) origin destination blob → 2 ^ 28 < length blob)) }
+{
+    row_packing::laws::one_packing_of_places();
     let types = changed_types(alloc, old, new)?;
     let mut out = Vec::new(alloc);
     put_limited_header(&mut out, origin, destination, model, &types)?;

@@ -8,7 +8,7 @@ ghost use Rattle.schema_model.specs.declared.schema.Schema.{Schema};
 ghost use Rattle.schema_model.specs.declared.schema.Shape.{Shape};
 ghost use Rattle.schema_model.specs.Model.{IsModel};
 ghost use Rattle.schema_model.specs.Schema.{EachName, IsSpellable};
-ghost use Rattle.row_model.specs.Table.{Table};
+ghost use Rattle.row_model.specs.Table.{IsTableOf, Table};
 ghost use Rattle.row_packing.specs.States.{AreWritable};
 ghost use Rattle.type_rows.specs.Layout.{places_of};
 ghost use Rattle.blob_frame.specs.Item.{counted_run};
@@ -79,3 +79,15 @@ pub fn one_written_delta()
 {
     laws::one_packing_of_places();
 }
+
+/// There is a snapshot of each two states that can be laid out together, between any tags.
+pub fn snapshot_exists()
+    ensures { (schemas : List Schema) (old new : Table) (origin destination : ℤ) → IsModel schemas → IsTableOf schemas old → IsTableOf schemas new → AreWritable schemas old new
+        → (blob : List ℕ) × IsWrittenSnapshot schemas old new origin destination blob }
+{}
+
+/// There is a delta between each two states that can be laid out together, between any tags.
+pub fn delta_exists()
+    ensures { (schemas : List Schema) (old new : Table) (origin destination : ℤ) → IsModel schemas → IsTableOf schemas old → IsTableOf schemas new → AreWritable schemas old new
+        → (blob : List ℕ) × IsDeltaBetween schemas old new origin destination blob }
+{}

@@ -10,6 +10,7 @@ mod items;
 pub mod laws;
 mod ordinals;
 mod packed;
+mod shared;
 mod snapshot;
 mod types;
 

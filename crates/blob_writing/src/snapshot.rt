@@ -1,13 +1,16 @@
 //! Writing a snapshot.
-ghost use Rattle.std.specs.Prelude.{◌≡◌, ◌<◌, ◌≤◌, ◌^◌, ◌++◌, All, IfErr, IfOk, List, ℕ, OnOk, length};
+ghost use Rattle.std.specs.Prelude.{◌≡◌, ◌<◌, ◌≤◌, ◌^◌, ◌++◌, All, IfErr, IfOk, List, ℕ, OnOk, Err, length};
 ghost use Rattle.std.specs.List.{range_with_len};
+ghost use Rattle.hol_varint.specs.Yields.{Yields};
 ghost use Rattle.schema_model.specs.Model.{IsModel};
 ghost use Rattle.row_packing.specs.States.{AreWritable};
-ghost use Rattle.blob_writing.specs.Limits.{HasFewPathsAt, HaveFewPaths, MeansLarge};
+ghost use Rattle.blob_writing.specs.Limits.{HasFewPathsAt, HaveFewPaths, IsFreeWrite, IsTooLarge, MeansLarge};
+ghost use Rattle.blob_writing.specs.declared.fault.WriteFault.TheVariants.{Large};
 ghost use Rattle.blob_writing.specs.Snapshot.{AreCarriedOf, IsCarriedOf, IsFrontLong, IsLongSnapshot, IsWrittenSnapshot, TypeRows, body_bytes, type_bytes};
 
 use crate::fault::WriteFault;
 use crate::header::{check_length, put_limited_header};
+use crate::shared::shared_model;
 use crate::types::put_snapshot_type;
 use blob_sections::PackedRows;
 use hol_varint::{Ordinals, put_vlong};
@@ -34,8 +37,31 @@ pub fn write_snapshot<A: Rows, B: Rows>(
     ensures short { IfOk result (λ blob. length blob.items ≤ 2 ^ 28) }
     ensures front { IfErr result (MeansLarge (IsLongSnapshot (B.schemas new.now) (A.table old.now) (B.table new.now) origin destination)) }
     ensures large { IfErr result (MeansLarge ((blob : List ℕ) → IsWrittenSnapshot (B.schemas new.now) (A.table old.now) (B.table new.now) origin destination blob → 2 ^ 28 < length blob)) }
+    ensures exact { Yields IsFreeWrite result (Err Large) (IsTooLarge (IsWrittenSnapshot (B.schemas new.now) (A.table old.now) (B.table new.now) origin destination)) }
 {
-    let model = new.model();
+    row_packing::laws::one_packing_of_places();
+    let model = shared_model(old, new);
+    limited_snapshot(alloc, old, new, model, origin, destination)
+}
+
+// The same, by what each answer means: `Large`, that each such blob has more than 2^28 bytes.
+fn limited_snapshot<A: Rows, B: Rows>(
+    alloc: Global,
+    old: &A,
+    new: &B,
+    model: &Model,
+    origin: i64,
+    destination: i64,
+) -> Result<Vec<u8>, WriteFault>
+    requires model { A.schemas old.now ≡ B.schemas new.now }
+    requires same { model.now ≡ B.schemas new.now }
+    requires states { AreWritable (B.schemas new.now) (A.table old.now) (B.table new.now) }
+    ensures sound { IsModel model.now }
+    ensures written { IfOk result (λ blob. IsWrittenSnapshot (B.schemas new.now) (A.table old.now) (B.table new.now) origin destination blob.items) }
+    ensures short { IfOk result (λ blob. length blob.items ≤ 2 ^ 28) }
+    ensures front { IfErr result (MeansLarge (IsLongSnapshot (B.schemas new.now) (A.table old.now) (B.table new.now) origin destination)) }
+    ensures large { IfErr result (MeansLarge ((blob : List ℕ) → IsWrittenSnapshot (B.schemas new.now) (A.table old.now) (B.table new.now) origin destination blob → 2 ^ 28 < length blob)) }
+{
     let types = all_types(alloc, model)?;
     let mut out = Vec::new(alloc);
     put_limited_header(&mut out, origin, destination, model, &types)?;

@@ -1,91 +1,23 @@
-use Rattle.std.proofs.Common.{◌≡◌, ◌<◌, ◌≤◌, ◌^◌, ◌∙◌, List, length, ap, subst, inl, inr, arith}
+use Rattle.std.proofs.Common.{◌≡◌, arith, subst}
 use Rattle.std.specs.Int.{w64}
-use Rattle.std.specs.List.{range_with_len}
 use mir.Val.{to_z, of_z}
 use Rattle.std.proofs.lemmas.Int.{ints, to_z-of_z}
 use Rattle.schema_model.specs.Model.{IsModel}
-use Rattle.schema_model.specs.declared.schema.Schema.{Schema}
-use Rattle.blob_frame.specs.Written.{schemas_at, schema_list_bytes}
-use Rattle.blob_writing.proofs.Refusing.{header_put, means_exit}
-use Rattle.blob_writing.proofs.FewPaths.{few_listed}
-use Rattle.blob_writing.proofs.OneSnapshot.{long_list}
-use Rattle.blob_writing.proofs.WritingSnapshots.{in_types, long_schemas, rising_types, snapshot_front, snapshot_large, snapshot_written}
+use Rattle.blob_writing.specs.Snapshot.{IsWrittenSnapshot}
+use Rattle.blob_writing.proofs.OneSnapshot.{snapshot_once}
+use Rattle.blob_writing.proofs.WholeBlobs.{exactly_between, snapshot_is_there}
 use Rattle.blob_writing.proofs.snapshot.write_snapshot.Goals as goal
 
-pub put_limited_header-requires-clause-in_model : goal.put_limited_header-requires-clause-in_model
-put_limited_header-requires-clause-in_model g c = in_types (length c.model-model.result.now) c.in_ok-types.types c.in_ok-types.ensures.all
-
-pub put_limited_header-requires-clause-rising : goal.put_limited_header-requires-clause-rising
-put_limited_header-requires-clause-rising g c = rising_types (length c.model-model.result.now) c.in_ok-types.types c.in_ok-types.ensures.all
-
-pub returns-in_err-put_limited_header-clause-large : goal.returns-in_err-put_limited_header-clause-large
-returns-in_err-put_limited_header-clause-large g c =
+pub returns-clause-exact : goal.returns-clause-exact
+returns-clause-exact g c =
     let schemas = g.B.Rows.schemas c.args.new.now in
-    let types = c.in_ok-types.types in
-    let all = c.in_ok-types.ensures.all ∙ ap (λ (ss : List Schema). range_with_len 0 (length ss)) c.model-model.ensures.model in
-    means_exit c.from_residual-in_err-put_limited_header.result c.in_err-put_limited_header.field-0.0 (2 ^ 28 < length (schema_list_bytes (schemas_at c.model-model.result.now types))) _
-    c.from_residual-in_err-put_limited_header.ensures.1 c.in_err-put_limited_header.ensures.large
-    (λ over blob is.
-    long_list schemas (g.A.Rows.table c.args.old.now) (g.B.Rows.table c.args.new.now) types c.args.origin c.args.destination blob all
-    (subst (λ (ss : List Schema). 2 ^ 28 < length (schema_list_bytes (schemas_at ss types))) c.model-model.ensures.model over) is)
-
-pub put_types-requires-clause-sound : goal.put_types-requires-clause-sound
-put_types-requires-clause-sound g c = subst IsModel c.model-model.ensures.model c.all_types.ensures.sound
-
-pub put_types-requires-clause-in_model : goal.put_types-requires-clause-in_model
-put_types-requires-clause-in_model g c =
-    in_types (length (g.B.Rows.schemas c.args.new.now)) c.in_ok-types.types (c.in_ok-types.ensures.all ∙ ap (λ (ss : List Schema). range_with_len 0 (length ss)) c.model-model.ensures.model)
-
-pub put_types-requires-clause-few : goal.put_types-requires-clause-few
-put_types-requires-clause-few g c =
-    few_listed (g.B.Rows.schemas c.args.new.now) c.in_ok-types.types
-    (subst (λ (ss : List Schema). length (schema_list_bytes (schemas_at ss c.in_ok-types.types)) ≤ 2 ^ 28) c.model-model.ensures.model c.in_ok-put_limited_header.ensures.short)
-
-pub returns-in_err-put_types-clause-large : goal.returns-in_err-put_types-clause-large
-returns-in_err-put_types-clause-large g c =
-    let types = c.in_ok-types.types in
-    let all = c.in_ok-types.ensures.all ∙ ap (λ (ss : List Schema). range_with_len 0 (length ss)) c.model-model.ensures.model in
+    let old = g.A.Rows.table c.args.old.now in
+    let new = g.B.Rows.table c.args.new.now in
     let from : to_z w64 (of_z w64 c.args.origin) ≡ c.args.origin = grind (arith, ints, to_z-of_z) in
     let to : to_z w64 (of_z w64 c.args.destination) ≡ c.args.destination = grind (arith, ints, to_z-of_z) in
-    let header =
-    header_put c.put_limited_header.new.out.items c.new-out.result.items (to_z w64 (of_z w64 c.args.origin)) c.args.origin (to_z w64 (of_z w64 c.args.destination)) c.args.destination
-    (schemas_at c.model-model.result.now types) (schemas_at (g.B.Rows.schemas c.args.new.now) types) c.in_ok-put_limited_header.ensures.ok c.new-out.ensures.items from to
-    (ap (λ (ss : List Schema). schemas_at ss types) c.model-model.ensures.model) in
-    means_exit c.from_residual-in_err-put_types.result c.in_err-put_types.field-0.0 _ _ c.from_residual-in_err-put_types.ensures.1 c.in_err-put_types.ensures.large
-    (snapshot_large (g.B.Rows.schemas c.args.new.now) (g.A.Rows.table c.args.old.now) (g.B.Rows.table c.args.new.now) types c.args.origin c.args.destination c.put_limited_header.new.out.items all header)
-
-pub returns-clause-written : goal.returns-clause-written
-returns-clause-written g c =
-    let types = c.in_ok-types.types in
-    let all = c.in_ok-types.ensures.all ∙ ap (λ (ss : List Schema). range_with_len 0 (length ss)) c.model-model.ensures.model in
-    let from : to_z w64 (of_z w64 c.args.origin) ≡ c.args.origin = grind (arith, ints, to_z-of_z) in
-    let to : to_z w64 (of_z w64 c.args.destination) ≡ c.args.destination = grind (arith, ints, to_z-of_z) in
-    let header =
-    header_put c.put_limited_header.new.out.items c.new-out.result.items (to_z w64 (of_z w64 c.args.origin)) c.args.origin (to_z w64 (of_z w64 c.args.destination)) c.args.destination
-    (schemas_at c.model-model.result.now types) (schemas_at (g.B.Rows.schemas c.args.new.now) types) c.in_ok-put_limited_header.ensures.ok c.new-out.ensures.items from to
-    (ap (λ (ss : List Schema). schemas_at ss types) c.model-model.ensures.model) in
-    snapshot_written (g.B.Rows.schemas c.args.new.now) (g.A.Rows.table c.args.old.now) (g.B.Rows.table c.args.new.now) types c.args.origin c.args.destination c.put_limited_header.new.out.items all header
-    c.put_types.new.out.items c.in_ok-put_types.ensures.written
-
-pub returns-in_err-put_limited_header-clause-front : goal.returns-in_err-put_limited_header-clause-front
-returns-in_err-put_limited_header-clause-front g c =
-    let types = c.in_ok-types.types in
-    let all = c.in_ok-types.ensures.all ∙ ap (λ (ss : List Schema). range_with_len 0 (length ss)) c.model-model.ensures.model in
-    means_exit c.from_residual-in_err-put_limited_header.result c.in_err-put_limited_header.field-0.0 (2 ^ 28 < length (schema_list_bytes (schemas_at c.model-model.result.now types))) _
-    c.from_residual-in_err-put_limited_header.ensures.1 c.in_err-put_limited_header.ensures.large
-    (λ over.
-    inl (long_schemas (g.B.Rows.schemas c.args.new.now) types all (subst (λ (ss : List Schema). 2 ^ 28 < length (schema_list_bytes (schemas_at ss types))) c.model-model.ensures.model over)))
-
-pub returns-in_err-put_types-clause-front : goal.returns-in_err-put_types-clause-front
-returns-in_err-put_types-clause-front g c =
-    let types = c.in_ok-types.types in
-    let all = c.in_ok-types.ensures.all ∙ ap (λ (ss : List Schema). range_with_len 0 (length ss)) c.model-model.ensures.model in
-    let from : to_z w64 (of_z w64 c.args.origin) ≡ c.args.origin = grind (arith, ints, to_z-of_z) in
-    let to : to_z w64 (of_z w64 c.args.destination) ≡ c.args.destination = grind (arith, ints, to_z-of_z) in
-    let header =
-    header_put c.put_limited_header.new.out.items c.new-out.result.items (to_z w64 (of_z w64 c.args.origin)) c.args.origin (to_z w64 (of_z w64 c.args.destination)) c.args.destination
-    (schemas_at c.model-model.result.now types) (schemas_at (g.B.Rows.schemas c.args.new.now) types) c.in_ok-put_limited_header.ensures.ok c.new-out.ensures.items from to
-    (ap (λ (ss : List Schema). schemas_at ss types) c.model-model.ensures.model) in
-    means_exit c.from_residual-in_err-put_types.result c.in_err-put_types.field-0.0 _ _ c.from_residual-in_err-put_types.ensures.1 c.in_err-put_types.ensures.front
-    (λ front.
-    inr (snapshot_front (g.B.Rows.schemas c.args.new.now) (g.A.Rows.table c.args.old.now) (g.B.Rows.table c.args.new.now) types c.args.origin c.args.destination c.put_limited_header.new.out.items all header front))
+    let model : IsModel schemas = subst IsModel c.shared_model-model.ensures.model c.limited_snapshot.ensures.sound in
+    exactly_between (IsWrittenSnapshot schemas old new) (λ blob. blob.items) c.limited_snapshot.result (to_z w64 (of_z w64 c.args.origin)) c.args.origin (to_z w64 (of_z w64 c.args.destination))
+    c.args.destination from to
+    (snapshot_is_there schemas model old new c.shared_model-model.ensures.before c.shared_model-model.ensures.after c.requires.states c.args.origin c.args.destination)
+    (snapshot_once c.one_packing_of_places.ensures schemas model old new c.requires.states c.args.origin c.args.destination) c.limited_snapshot.ensures.written c.limited_snapshot.ensures.short
+    c.limited_snapshot.ensures.large
