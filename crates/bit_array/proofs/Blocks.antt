@@ -86,7 +86,7 @@ block_apart old new at width value small change i v (inr above) = block_above ol
 -- ---- blocks side by side
 
 -- the digits of two blocks side by side
-two_fields : (n at a b : ℕ) → n / 2 ^ at % 2 ^ (a + b) ≡ n / 2 ^ (at + a) % 2 ^ b * 2 ^ a + n / 2 ^ at % 2 ^ a
+pub two_fields : (n at a b : ℕ) → n / 2 ^ at % 2 ^ (a + b) ≡ n / 2 ^ (at + a) % 2 ^ b * 2 ^ a + n / 2 ^ at % 2 ^ a
 two_fields n at a b =
     let turned : a + b ≡ b + a = omega arith in
     ap (λ k. n / 2 ^ at % 2 ^ k) turned

@@ -3,3 +3,4 @@ pub mod DigitCounts
 pub mod Totals
 pub mod Blocks
 pub mod SameWords
+pub mod Runs

@@ -45,7 +45,7 @@ pub fn set_element(words: &mut [u64], at: u64, w: u32, value: u64)
 }
 
 /// The same, by the number that the words stand for.
-fn put_block(words: &mut [u64], at: u64, w: u32, value: u64)
+pub(crate) fn put_block(words: &mut [u64], at: u64, w: u32, value: u64)
     requires width { w ≤ 64 }
     requires inside { at + w ≤ 64 * length words.old }
     requires small { value < 2 ^ w }

@@ -1,6 +1,6 @@
 -- Reading from the bytes that stand ahead: a run of them, and a number of a fixed size.
 use Rattle.std.proofs.Common.{◌≡◌, ◌≤◌, ◌+◌, ◌-◌, ℕ, ◌<◌, List, [], ◌∷◌, ◌++◌, get_or, take, drop, length, Option, Some, None, Result, Ok, Err, refl, ◌∙◌, subst, sym, ap, arith}
-use Rattle.std.specs.Int.{Width, w8, byte_len, from_be_bytes}
+use Rattle.std.specs.Int.{Width, w8, w64, byte_len, from_be_bytes}
 use Rattle.std.proofs.lemmas.List.{drop-take, drop-drop, take-take, length-drop, take_more}
 use Rattle.hol_io.specs.Store.{told}
 use Rattle.blob_frame.specs.declared.fault.BlobFault.{BlobFault}
@@ -108,3 +108,8 @@ first_four xs h = first_more 3 xs (omega arith) (first_more 2 xs (omega arith) (
 pub first_eight : (xs : List ℕ) → 8 ≤ length xs → take 8 xs ≡ get_or xs 0 0 ∷ get_or xs 1 0 ∷ get_or xs 2 0 ∷ get_or xs 3 0 ∷ get_or xs 4 0 ∷ get_or xs 5 0 ∷ get_or xs 6 0 ∷ get_or xs 7 0 ∷ []
 first_eight xs h = first_more 7 xs (omega arith)
     (first_more 6 xs (omega arith) (first_more 5 xs (omega arith) (first_more 4 xs (omega arith) (first_four xs (omega arith)) refl) refl) refl) refl
+
+-- the number that eight bytes spell
+pub value_eight : (xs : List ℕ) (v : ℕ) → 8 ≤ length xs → v ≡ from_be_bytes w64 (get_or xs 0 0 ∷ get_or xs 1 0 ∷ get_or xs 2 0 ∷ get_or xs 3 0 ∷ get_or xs 4 0 ∷ get_or xs 5 0 ∷ get_or xs 6 0 ∷ get_or xs 7 0 ∷ [])
+    → v ≡ from_be_bytes w64 (take 8 xs)
+value_eight xs v h is = is ∙ ap (from_be_bytes w64) (sym (first_eight xs h))

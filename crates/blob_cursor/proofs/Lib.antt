@@ -9,3 +9,4 @@ pub mod TextReading
 pub mod Counting
 pub mod Envelopes
 pub mod Decided
+pub mod Words

@@ -1,5 +1,5 @@
 -- Reading a run of bytes piece by piece, moving past one, and the end of a blob.
-use Rattle.std.proofs.Common.{◌≡◌, ◌≤◌, ◌<◌, ◌+◌, ◌-◌, ◌*◌, ◌^◌, ℕ, List, [], ◌∷◌, ◌++◌, take, drop, length, min, Result, Ok, Err, refl, ◌∙◌, subst, sym, ap, arith, length-append}
+use Rattle.std.proofs.Common.{◌≡◌, ◌≤◌, ◌<◌, ◌+◌, ◌-◌, ℕ, List, [], ◌∷◌, ◌++◌, take, drop, length, min, Result, Ok, Err, refl, ◌∙◌, subst, sym, ap, arith, length-append}
 use Rattle.std.specs.Option.{IfSome}
 use Rattle.std.proofs.Math.Seq.{take-add}
 use Rattle.std.proofs.lemmas.List.{drop-drop, length-take-le}
@@ -93,17 +93,6 @@ reads_end {now} over is = reads_found (stays_here now) over (λ blob holds. (is 
 pub reads_trailing : {now : Scene} {r : Result Unit BlobFault} → IsOver now → now.place.at < now.place.size → r ≡ Err (fault.Bad now.place.at TrailingBytes) → Reads end now now r
 unfolding end
 reads_trailing {now} over less is = reads_missed (stays_here now) over (λ blob holds. (omega (arith, less, (place_in (stays_here now) over blob holds).0), refl, refl)) is
-
--- one word more, and the cursor stands behind it
-pub words_more : (list all : List ℕ) (x start now next : ℕ) → now ≡ start + 8 * length list → (next ≡ now + 8) × (next ≤ 2 ^ 28) → all ≡ list ++ x ∷ [] →
-    (next ≡ start + 8 * length all) × (8 * length all ≤ 2 ^ 28)
-words_more list all x start now next at moved is =
-    let longer = ap (λ (xs : List ℕ). length xs) is ∙ length-append list (x ∷ []) in
-    (omega (arith, longer, at, moved.0), omega (arith, longer, at, moved.0, moved.1))
-
--- no word yet
-pub words_none : (list : List ℕ) (start : ℕ) → list ≡ [] → (start ≡ start + 8 * length list) × (8 * length list ≤ 2 ^ 28)
-words_none list start is = let none = ap (λ (xs : List ℕ). length xs) is in (omega (arith, none), omega (arith, none))
 
 -- a list with one more is one longer
 pub one_longer : {X : Type 0} (list all : List X) (x : X) {done : ℕ} → length list ≡ done → all ≡ list ++ x ∷ [] → length all ≡ done + 1

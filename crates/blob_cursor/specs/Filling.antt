@@ -1,5 +1,6 @@
 -- How a cursor reads ahead.
-use Rattle.std.specs.Prelude.{◌≡◌, ◌≤◌, ◌<◌, ◌+◌, ◌-◌, ℕ, List, length, drop, min, Bool, Option, Some, Result, Err, OnOk, IfOk, IfErr, IfSome, MatchBool}
+use Rattle.std.specs.Prelude.{◌≡◌, ◌≤◌, ◌<◌, ◌+◌, ◌-◌, ℕ, zero, suc, List, [], ◌∷◌, length, take, drop, min, Bool, Option, Some, Result, Err, OnOk, IfOk, IfErr, IfSome, MatchBool}
+use Rattle.std.specs.Int.{w64, from_be_bytes}
 use Rattle.hol_varint.specs.Varint.{GoOn}
 use Rattle.blob_grammar.specs.Words.{StopsLater}
 use Rattle.hol_io.specs.Causes.{Rose}
@@ -46,3 +47,8 @@ pub record Seeks (before after : Scene) (answer : Result Bool BlobFault) : Type 
 -- As many bytes stand ahead as are there, up to this count.
 abbrev pub HasAhead : ℕ → Scene → Type 0
 HasAhead count now = IfSome (told now.held now.place.name) (λ blob. min count (length blob - now.place.at) ≤ length now.place.ahead)
+
+-- The first words that bytes spell: 8 bytes each, the highest byte first.
+unfoldable pub words_in : ℕ → List ℕ → List ℕ
+words_in zero bytes = []
+words_in (suc n) bytes = from_be_bytes w64 (take 8 bytes) ∷ words_in n (drop 8 bytes)

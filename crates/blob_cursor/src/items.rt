@@ -1,9 +1,10 @@
 //! Reading numbers of a fixed size, runs of bytes, and the end.
-ghost use Rattle.std.specs.Prelude.{◌≡◌, ◌≤◌, ◌+◌, ◌*◌, ◌^◌, ℕ, IfErr, IfOk, OnOk, Option, length};
-ghost use Rattle.std.specs.Int.{w8, w16, w32, w64};
+ghost use Rattle.std.specs.Prelude.{◌≡◌, ◌≤◌, ◌+◌, ◌*◌, ◌^◌, ◌++◌, ℕ, IfErr, IfOk, OnOk, Option, length, take};
+ghost use Rattle.std.specs.Int.{w8, w16, w32, w64, from_be_bytes};
 ghost use Rattle.hol_io.specs.Store.{Seen};
 ghost use Rattle.blob_grammar.specs.Form.{repeated};
 ghost use Rattle.blob_frame.specs.Item.{counted_run, fixed, signed, run, skipped, end};
+ghost use Rattle.blob_cursor.specs.Filling.{words_in};
 ghost use Rattle.blob_cursor.specs.Scene.{IsAbove, Leads, IsOver, IsReadFault, Reads, scene};
 
 use crate::cursor::Cursor;
@@ -12,6 +13,7 @@ use hol_io::BlobStore;
 use hol_varint::Octets;
 use row_model::Words;
 use schema_model::Reason;
+use std::alloc::AllocError;
 
 impl Cursor {
     /// The next byte. `Truncated` where the blob has none.
@@ -60,16 +62,14 @@ impl Cursor {
         ensures moved { OnOk result ((self.new.at ≡ self.old.at + 8) × (self.new.at ≤ 2 ^ 28)) }
     {
         self.need(store, 8)?;
-        let bytes = self.ahead();
-        let number = u64::from_be_bytes([
-            bytes[0], bytes[1], bytes[2], bytes[3], bytes[4], bytes[5], bytes[6], bytes[7],
-        ]);
+        let number = word_of(self.ahead());
         self.pass(8);
         Ok(number)
     }
 
     /// The next words, so many of them, each an item of its own. `Truncated`, at the offset of the first one that is
-    /// not whole, where the blob has fewer. The memory that they take grows with the bytes that are there.
+    /// not whole, where the blob has fewer. They are taken from what was read ahead, piece by piece; the memory that they take
+    /// grows with the bytes that are there.
     pub fn words<S: BlobStore>(&mut self, store: &mut S, count: u64) -> Result<Words, BlobFault>
         requires over { IsAbove S.seen store.old self.old }
         ensures reads { Leads S.seen (repeated count (fixed w64)) store.old self.old store.new self.new result }
@@ -77,8 +77,12 @@ impl Cursor {
         ensures long { IfOk result (λ words. length words ≡ count) }
     {
         let mut list = Words::new(self.allocator());
-        for _item in 0..count {
-            list.push(self.be64(store)?)?;
+        while (list.len() as u64) < count {
+            self.need(store, 8)?;
+            let there = self.ahead().len() as u64 / 8;
+            let more = there.min(count - list.len() as u64) as usize;
+            push_words(&mut list, self.ahead(), more)?;
+            self.pass(8 * more);
         }
         Ok(list)
     }
@@ -159,4 +163,29 @@ impl Cursor {
         }
         Ok(())
     }
+}
+
+/// The number that the first 8 bytes spell, the highest byte first.
+#[tactic(auto, using(crate::proofs::Fixed::value_eight))]
+#[inline(always)]
+fn word_of(bytes: &[u8]) -> u64
+    requires { 8 ≤ length bytes.now }
+    ensures { result ≡ from_be_bytes w64 (take 8 bytes.now) }
+{
+    u64::from_be_bytes([
+        bytes[0], bytes[1], bytes[2], bytes[3], bytes[4], bytes[5], bytes[6], bytes[7],
+    ])
+}
+
+/// Adds the first words that bytes spell to others.
+#[tactic(auto, using(crate::proofs::Words::one_more_put, crate::proofs::Words::none_put))]
+fn push_words(list: &mut Words, bytes: &[u8], count: usize) -> Result<(), AllocError>
+    requires { 8 * count ≤ length bytes.now }
+    ensures { OnOk result (list.new ≡ list.old ++ words_in count bytes.now) }
+{
+    for index in 0..count {
+        let at = 8 * index;
+        list.push(word_of(&bytes[at..at + 8]))?;
+    }
+    Ok(())
 }

@@ -1,6 +1,6 @@
-use Rattle.std.proofs.Common.{rules, sym, ap, ◌∙◌, ℕ, List, ◌∷◌, [], get_or}
+use Rattle.std.proofs.Common.{rules, ap, ◌∙◌, ℕ, List, take}
 use Rattle.std.specs.Int.{w64, from_be_bytes}
-use Rattle.blob_cursor.proofs.Fixed.{reads_fixed, reads_no_fixed, first_eight}
+use Rattle.blob_cursor.proofs.Fixed.{reads_fixed, reads_no_fixed}
 use Rattle.blob_cursor.proofs.cursor.Cursor.be64.Goals as goal
 
 pub returns-in_err-need-clause-reads : goal.returns-in_err-need-clause-reads
@@ -8,6 +8,4 @@ returns-in_err-need-clause-reads g c = reads_no_fixed w64 c.in_err-need.ensures.
 
 pub returns-clause-reads : goal.returns-clause-reads
 returns-clause-reads g c =
-    reads_fixed w64 c.in_ok-need.ensures.needs c.pass.ensures.moved
-    (c.from_be_bytes-number.ensures ∙ (ap (λ (xs : List ℕ). from_be_bytes w64 (get_or xs 0 0 ∷ get_or xs 1 0 ∷ get_or xs 2 0 ∷ get_or xs 3 0 ∷ get_or xs 4 0 ∷ get_or xs 5 0 ∷ get_or xs 6 0 ∷ get_or xs 7 0 ∷ [])) c.ahead-bytes.ensures.value
-    ∙ ap (from_be_bytes w64) (sym (first_eight c.need.new.self.ahead c.in_ok-need.ensures.needs.enough))))
+    reads_fixed w64 c.in_ok-need.ensures.needs c.pass.ensures.moved (c.word_of-number.ensures ∙ ap (λ (xs : List ℕ). from_be_bytes w64 (take 8 xs)) c.ahead.ensures.value)
