@@ -3,5 +3,4 @@ pub mod AmongModel
 pub mod Indexed
 pub mod NamedParts
 pub mod PatchTelling
-pub mod SameLists
 pub mod WholeDeltas

@@ -8,7 +8,6 @@ mod ordinals;
 mod part;
 mod patch;
 mod read;
-mod same;
 
 pub use part::{DeltaPart, DeltaParts};
 pub use patch::{Patch, PatchPart, PatchParts};

@@ -11,11 +11,11 @@ ghost use Rattle.delta_blob.specs.declared.patch.PatchPart.{PatchPart};
 
 use crate::part::{DeltaPart, DeltaParts};
 use crate::patch::{PatchPart, PatchParts};
-use crate::same::same_schema;
 use blob_frame::BlobFault;
 use hol_varint::{Duplicate, Ordinals};
 use schema_model::{
     Limit, MAX_ITEMS, MAX_ORDINALS, Model, ModelFault, Reason, Rule, Schema, Schemas, model_of,
+    same_schema,
 };
 use std::alloc::{AllocError, Global};
 

@@ -8,6 +8,7 @@ pub mod ModelFacts
 pub mod NamedTypes
 pub mod ReferenceChains
 pub mod RuleTests
+pub mod SameLists
 pub mod Spellable
 pub mod Spellings
 pub mod Ways

@@ -20,4 +20,5 @@ pub use model::{Model, model_of, resolve};
 pub use reason::Reason;
 pub use schema::name::Name;
 pub use schema::put::put_schema;
+pub use schema::same::same_schema;
 pub use schema::{Field, FieldKind, Schema, Shape};

@@ -1,6 +1,7 @@
 //! Schemas: the types of a model and their fields.
 pub(crate) mod name;
 pub(crate) mod put;
+pub(crate) mod same;
 
 use crate::{Fields, Name, Names};
 use hol_varint::Duplicate;

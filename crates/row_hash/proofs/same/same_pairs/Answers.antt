@@ -1,6 +1,6 @@
 use Rattle.std.proofs.Common.{arith, refl}
 use Rattle.std.proofs.lemmas.List.{take_more_same}
-use Rattle.row_hash.proofs.SameLists.{same_all}
+use Rattle.schema_model.proofs.SameLists.{same_all}
 use Rattle.row_hash.proofs.same.same_pairs.Goals as goal
 
 pub loop-place-preserved : goal.loop-place-preserved

@@ -1,5 +1,5 @@
 use Rattle.std.proofs.Common.{arith, refl}
-use Rattle.row_hash.proofs.SameLists.{same_all, same_more}
+use Rattle.schema_model.proofs.SameLists.{same_all, same_more}
 use Rattle.row_hash.proofs.same.same_values.Goals as goal
 
 pub loop-place-preserved : goal.loop-place-preserved

@@ -1,10 +1,10 @@
 //! When two schemas are the same.
 ghost use Rattle.std.specs.Prelude.{◌≡◌, ◌↔◌, IsTrue};
 
-use schema_model::{Field, FieldKind, Name, Names, Schema, Shape};
+use crate::{Field, FieldKind, Name, Names, Schema, Shape};
 
 /// Whether two schemas are the same.
-pub(crate) fn same_schema(schema: &Schema, other: &Schema) -> bool
+pub fn same_schema(schema: &Schema, other: &Schema) -> bool
     ensures { IsTrue result ↔ (schema.now ≡ other.now) }
 {
     same_name(&schema.name, &other.name) && same_shape(&schema.shape, &other.shape)

@@ -1,5 +1,5 @@
 use Rattle.std.proofs.Common.{◌≡◌, take}
-use Rattle.delta_blob.proofs.same.same_names.Given as goal
+use Rattle.schema_model.proofs.schema.same.same_names.Given as goal
 
 -- the first ones are the same
 abbrev pub invariant-loop-place : goal.invariant-loop-place

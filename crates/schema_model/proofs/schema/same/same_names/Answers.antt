@@ -1,6 +1,6 @@
 use Rattle.std.proofs.Common.{arith, refl}
-use Rattle.delta_blob.proofs.SameLists.{same_all, same_more}
-use Rattle.delta_blob.proofs.same.same_names.Goals as goal
+use Rattle.schema_model.proofs.SameLists.{same_all, same_more}
+use Rattle.schema_model.proofs.schema.same.same_names.Goals as goal
 
 pub loop-place-preserved : goal.loop-place-preserved
 loop-place-preserved c =
