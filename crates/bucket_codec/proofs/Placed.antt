@@ -1,5 +1,5 @@
 -- Lemmas on the rows that are written one after another.
-use Rattle.std.proofs.Common.{◌≡◌, ℕ, suc, ◌+◌, ◌*◌, ◌^◌, ◌<◌, ◌≤◌, List, [], ◌∷◌, ◌++◌, length, map, take, get_or, All, Option, Some, None, arith, refl, sym, ap, subst, ⊎_elim, ◌∙◌}
+use Rattle.std.proofs.Common.{◌≡◌, ℕ, suc, ◌+◌, ◌*◌, ◌^◌, ◌<◌, ◌≤◌, List, [], ◌∷◌, ◌++◌, length, map, take, get_or, slice_get, All, Option, Some, None, arith, refl, sym, ap, subst, ⊎_elim, ◌∙◌}
 use Rattle.std.proofs.Math.Nat.{mul-le-mul_right}
 use Rattle.std.proofs.Math.Pow.{pow_mono}
 use Rattle.std.proofs.Math.Seq.{take-append_seam}
@@ -7,7 +7,7 @@ use Rattle.std.proofs.lemmas.Bool.{cases_lt}
 use Rattle.std.proofs.lemmas.List.Elements.{All-get_or, All-weaker}
 use Rattle.std.proofs.lemmas.List.Sums.{sum_by_more, sum_by-take-le}
 use Rattle.std.proofs.lemmas.Option.{get_or_from_slice_get, slice_get_within}
-use Rattle.std.proofs.lemmas.List.{get_or_past, get_or_default, take_all}
+use Rattle.std.proofs.lemmas.List.{get_or_past, take_all}
 use Rattle.bit_array.specs.Element.{words_of}
 use Rattle.row_model.specs.Row.{Rises, FitsShape}
 use Rattle.schema_model.specs.declared.schema.Shape.{Shape}
@@ -214,43 +214,49 @@ packs_rows shape widths rows first second packable packs place total row at more
     (subst (λ r. PacksPairs widths (bucket_total rows) first second place r) is (packs place below))
 
 -- the same of the lists that the code holds
-pub packs_all : (shape : Shape) (widths widths' : List ℕ) (rows rows' : List (Option Row)) (first first' second second' : List ℕ) → IsPackable shape widths rows → rows' ≡ rows → widths' ≡ widths
-    → first ≡ first' → second ≡ second' → ((place : ℕ) → place < length rows' → PacksPairs widths' (bucket_total rows') first' second' place (get_or rows' place None))
+pub packs_all : (shape : Shape) (widths widths' : List ℕ) (rows : List (Option Row)) (first first' second second' : List ℕ) → IsPackable shape widths rows → widths' ≡ widths
+    → first ≡ first' → second ≡ second' → ((place : ℕ) → place < length rows → PacksPairs widths' (bucket_total rows) first' second' place (get_or rows place None))
     → PacksRows shape widths rows first second
-packs_all shape widths widths' rows rows' first first' second second' packable same_rows same_widths same_first same_second packs =
-    let Packs : List ℕ → List (Option Row) → List ℕ → List ℕ → Type 0 = λ w r f s. (place : ℕ) → place < length r → PacksPairs w (bucket_total r) f s place (get_or r place None) in
+packs_all shape widths widths' rows first first' second second' packable same_widths same_first same_second packs =
+    let Packs : List ℕ → List ℕ → List ℕ → Type 0 = λ w f s. (place : ℕ) → place < length rows → PacksPairs w (bucket_total rows) f s place (get_or rows place None) in
     packs_rows shape widths rows first second packable
-    (subst (λ w. Packs w rows first second) same_widths
-    (subst (λ r. Packs widths' r first second) same_rows
-    (subst (λ f. Packs widths' rows' f second) (sym same_first)
-    (subst (λ s. Packs widths' rows' first' s) (sym same_second) packs))))
+    (subst (λ w. Packs w first second) same_widths
+    (subst (λ f. Packs widths' f second) (sym same_first)
+    (subst (λ s. Packs widths' first' s) (sym same_second) packs)))
 
-pub lays_all : (widths widths' : List ℕ) (rows rows' : List (Option Row)) (first first' second second' : List ℕ) → rows' ≡ rows → widths' ≡ widths → first ≡ first' → second ≡ second'
-    → ((place : ℕ) → place < length rows' → LaysRun widths' first' second' place (get_or rows' place None)) → LaysRuns widths rows first second
-lays_all widths widths' rows rows' first first' second second' same_rows same_widths same_first same_second laid =
-    let Lays : List ℕ → List (Option Row) → List ℕ → List ℕ → Type 0 = λ w r f s. (place : ℕ) → place < length r → LaysRun w f s place (get_or r place None) in
-    let all : Lays widths rows first second =
-    subst (λ w. Lays w rows first second) same_widths
-    (subst (λ r. Lays widths' r first second) same_rows
-    (subst (λ f. Lays widths' rows' f second) (sym same_first)
-    (subst (λ s. Lays widths' rows' first' s) (sym same_second) laid))) in
+pub lays_all : (widths widths' : List ℕ) (rows : List (Option Row)) (first first' second second' : List ℕ) → widths' ≡ widths → first ≡ first' → second ≡ second'
+    → ((place : ℕ) → place < length rows → LaysRun widths' first' second' place (get_or rows place None)) → LaysRuns widths rows first second
+lays_all widths widths' rows first first' second second' same_widths same_first same_second laid =
+    let Lays : List ℕ → List ℕ → List ℕ → Type 0 = λ w f s. (place : ℕ) → place < length rows → LaysRun w f s place (get_or rows place None) in
+    let all : Lays widths first second =
+    subst (λ w. Lays w first second) same_widths
+    (subst (λ f. Lays widths' f second) (sym same_first)
+    (subst (λ s. Lays widths' first' s) (sym same_second) laid)) in
     λ place row at.
     subst (λ r. LaysRun widths first second place r) (get_or_from_slice_get rows place row None at) (all place (slice_get_within rows place row at))
 
-pub zeros_all : (widths widths' : List ℕ) (rows rows' : List (Option Row)) (second second' : List ℕ) → rows' ≡ rows → widths' ≡ widths → second ≡ second' → HasZeros widths' rows' second'
-    → HasZeros widths rows second
-zeros_all widths widths' rows rows' second second' same_rows same_widths same_second zeros =
-    subst (λ w. HasZeros w rows second) same_widths (subst (λ r. HasZeros widths' r second) same_rows (subst (λ s. HasZeros widths' rows' s) (sym same_second) zeros))
+pub zeros_all : (widths widths' : List ℕ) (rows : List (Option Row)) (second second' : List ℕ) → widths' ≡ widths → second ≡ second' → HasZeros widths' rows second' → HasZeros widths rows second
+zeros_all widths widths' rows second second' same_widths same_second zeros =
+    subst (λ w. HasZeros w rows second) same_widths (subst (λ s. HasZeros widths' rows s) (sym same_second) zeros)
 
 pub words_long : (made old new words : List ℕ) (bits bits' : ℕ) → length made ≡ words_of bits' → old ≡ made → length new ≡ length old → words ≡ new → bits' ≡ bits → length words ≡ words_of bits
 words_long made old new words bits bits' long is_old same is bits_are = ap length is ∙ same ∙ ap length is_old ∙ long ∙ ap words_of bits_are
 
-pub total_small : (shape : Shape) (widths : List ℕ) (rows : List (Option Row)) → IsPackable shape widths rows → bucket_total rows < 2 ^ 64
-total_small shape widths rows h = let small : 2 ^ pointer_width widths ≤ 2 ^ 64 = pow_mono (narrow_any widths 0 h.narrow) in omega (arith, h.pointers, small)
+-- the row that is lent of a place is the one there
+pub lent_is : (rows : List (Option Row)) (place : ℕ) (row lent : Option Row) → slice_get rows place ≡ Some lent → row ≡ lent → row ≡ get_or rows place None
+lent_is rows place row lent there is = is ∙ sym (get_or_from_slice_get rows place lent None there)
 
--- the row that the loop comes to
-pub item_is : (rows : List (Option Row)) (index : ℕ) (row : Option Row) → index < length rows → row ≡ get_or rows index row → row ≡ get_or rows index None
-item_is rows index row below is = is ∙ get_or_default rows index row None below
+-- what holds of all places holds of the row that is lent
+pub lent_has : (P : Option Row → Type 0) (rows : List (Option Row)) (place : ℕ) (row lent : Option Row) → All P rows → slice_get rows place ≡ Some lent → row ≡ lent → P row
+lent_has P rows place row lent all there is = subst P (sym (lent_is rows place row lent there is)) (All-get_or P rows place None (slice_get_within rows place lent there) all)
+
+-- its buckets are counted
+pub total_more : (rows : List (Option Row)) (place total count : ℕ) (row lent : Option Row) → slice_get rows place ≡ Some lent → row ≡ lent → count ≡ buckets_of row → total ≡ bucket_total (take place rows)
+    → total + count ≡ bucket_total (take (place + 1) rows)
+total_more rows place total count row lent there is counted so_far =
+    let more = sum_by_more buckets_of rows place None (slice_get_within rows place lent there) in
+    let here = ap buckets_of (lent_is rows place row lent there is) in
+    omega (arith, more, here, counted, so_far)
 
 -- a vector whose items are all written over
 pub written_over : (new behind : List ℕ) (len : ℕ) → len ≡ length new → take len (new ++ behind) ≡ new

@@ -8,7 +8,7 @@ use Rattle.std.proofs.lemmas.Nat.{pow_pos}
 use Rattle.std.proofs.lemmas.List.{length-append, drop_all, take_all, take_at, drop_at}
 use Rattle.std.proofs.lemmas.List.Elements.{All-take, All-drop}
 use Rattle.std.proofs.lemmas.List.FromFn.{length-map-range_with_len}
-use Rattle.std.proofs.lemmas.Option.{unwrap_or-slice_get}
+use Rattle.std.proofs.lemmas.Option.{slice_get_within, unwrap_or-slice_get}
 use Rattle.bit_array.specs.Element.{number_of, element_of, words_of}
 use Rattle.schema_model.specs.declared.schema.Shape.{Shape}
 use Rattle.row_model.specs.declared.row.Row.{Row}
@@ -33,6 +33,15 @@ places_from rows index d row inside is =
     ap elements_of_places split
 
 -- ---- counting
+
+-- the elements of the place that is lent are counted
+pub counted_more : (rows : List Place) (place count : ℕ) (lent : Place) (elements : List ℕ) → slice_get rows place ≡ Some lent → elements ≡ elements_of_place lent
+    → count + length (elements_of_places (drop place rows)) ≡ length (elements_of_places rows) → count + length elements + length (elements_of_places (drop (place + 1) rows)) ≡ length (elements_of_places rows)
+counted_more rows place count lent elements there are counted =
+    let parts = places_from rows place None lent (slice_get_within rows place lent there) (place_is rows place lent there) in
+    let split = ap (λ (es : List ℕ). length es) parts ∙ length-append (elements_of_place lent) (elements_of_places (drop (place + 1) rows)) in
+    let long = ap (λ (es : List ℕ). length es) are in
+    omega (arith, counted, split, long)
 
 -- ---- places packed one after the other
 

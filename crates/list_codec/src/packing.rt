@@ -1,26 +1,28 @@
 //! Lists written at their places.
 ghost use Rattle.std.specs.Prelude.{ℕ, List, ◌≡◌, ◌+◌, ◌*◌, ◌^◌, ◌<◌, ◌≤◌, [], length, replicate, All, IfOk};
+ghost use Rattle.std.specs.Option.{option_map};
 ghost use Rattle.bit_array.specs.Element.{element_of, number_of, words_of};
+ghost use Rattle.row_model.specs.Lent.{lent_row};
 ghost use Rattle.list_codec.specs.ListPlace.{pointer_width, element_width, end_at, elements_between, SpellsList};
 ghost use Rattle.list_codec.specs.Packing.{HasRoom, CanPack, IsPacked, WordsOf, elements_of_place, elements_of_places};
 
 use crate::chosen::elements_of;
 use bit_array::{set_element, words_for};
-use row_model::{Areas, Packed, Places, Row, Widths, Words};
+use row_model::{Areas, LentRow, Packed, PlacedRows, Widths, Words};
 use schema_model::Schema;
 use std::alloc::{AllocError, Global};
 
 /// The packed words of the lists of a LIST type, place by place; a place without a row repeats the pointer before it.
 ///
 /// The widths hold the number of all elements and each of them.
-pub fn pack(
+pub fn pack<P: PlacedRows>(
     alloc: Global,
     _schema: &Schema,
     widths: &Widths,
-    rows: &Places,
+    rows: &P,
 ) -> Result<Packed, AllocError>
-    requires { CanPack _schema.now.shape widths.now rows.now }
-    ensures packed { IfOk result (λ packed. IsPacked widths.now rows.now packed.first packed.second) }
+    requires { CanPack _schema.now.shape widths.now (P.places rows.now) }
+    ensures packed { IfOk result (λ packed. IsPacked widths.now (P.places rows.now) packed.first packed.second) }
     ensures areas { IfOk result (λ packed. packed.areas ≡ []) }
 {
     let (first, second) = pack_words(alloc, widths, rows)?;
@@ -32,47 +34,49 @@ pub fn pack(
 }
 
 /// The pointer words and the element words.
-fn pack_words(
+fn pack_words<P: PlacedRows>(
     alloc: Global,
     widths: &Widths,
-    rows: &Places,
+    rows: &P,
 ) -> Result<(Vec<u64>, Vec<u64>), AllocError>
     requires two { length widths.now ≡ 2 }
     requires narrow { All (λ width. width ≤ 64) widths.now }
-    requires below { length (elements_of_places rows.now) < 2 ^ pointer_width widths.now }
-    requires small { All (λ element. element < 2 ^ element_width widths.now) (elements_of_places rows.now) }
-    ensures { IfOk result (λ words. WordsOf widths.now rows.now words.0.items words.1.items (length rows.now) (length (elements_of_places rows.now))) }
+    requires below { length (elements_of_places (P.places rows.now)) < 2 ^ pointer_width widths.now }
+    requires small { All (λ element. element < 2 ^ element_width widths.now) (elements_of_places (P.places rows.now)) }
+    ensures { IfOk result (λ words. WordsOf widths.now (P.places rows.now) words.0.items words.1.items (length (P.places rows.now)) (length (elements_of_places (P.places rows.now)))) }
 {
-    let mut first = zeros(alloc, rows.len() as u64, *widths.get(0))?;
-    let mut second = zeros(alloc, count_of(rows.as_slice()), *widths.get(1))?;
+    let mut first = zeros(alloc, rows.count() as u64, *widths.get(0))?;
+    let mut second = zeros(alloc, count_of(alloc, rows)?, *widths.get(1))?;
     let mut end = 0;
-    for place in 0..rows.len() {
-        let elements = elements_in(rows.get(place));
+    for place in 0..rows.count() {
+        let lent = rows.place(alloc, place)?;
+        let elements = elements_in(&lent);
         end = put_row(&mut first, &mut second, widths, place as u64, end, elements);
     }
     Ok((first, second))
 }
 
 /// The elements that a place takes: those of its list, none where it has no row.
-fn elements_in(row: &Option<Row>) -> &[u32]
-    ensures { result.now ≡ elements_of_place row.now }
+fn elements_in<'a>(place: &'a Option<LentRow<'_>>) -> &'a [u32]
+    ensures { result.now ≡ elements_of_place (option_map lent_row place.now) }
 {
-    match row {
-        Some(row) => elements_of(row),
+    match place {
+        Some(lent) => elements_of(lent.row()),
         None => &[],
     }
 }
 
 /// How many elements the lists of all places have.
-fn count_of(rows: &[Option<Row>]) -> u64
-    requires { length (elements_of_places rows.now) < 2 ^ 64 }
-    ensures { result ≡ length (elements_of_places rows.now) }
+fn count_of<P: PlacedRows>(alloc: Global, rows: &P) -> Result<u64, AllocError>
+    requires { length (elements_of_places (P.places rows.now)) < 2 ^ 64 }
+    ensures { IfOk result (λ count. count ≡ length (elements_of_places (P.places rows.now))) }
 {
     let mut count = 0;
-    for row in rows {
-        count += elements_in(row).len() as u64;
+    for place in 0..rows.count() {
+        let lent = rows.place(alloc, place)?;
+        count += elements_in(&lent).len() as u64;
     }
-    count
+    Ok(count)
 }
 
 /// Words of zeros for so many elements of a width.

@@ -30,6 +30,10 @@ use Rattle.object_codec.proofs.Spreads.{byte_count-append}
 abbrev pub Place : Type 0
 Place = Option Row
 
+-- the row that is lent of a place is the one there
+pub lent_is : (rows : List Place) (place : ℕ) (row lent : Place) → slice_get rows place ≡ Some lent → row ≡ lent → row ≡ get_or rows place row
+lent_is rows place row lent there is = is ∙ sym (get_or_from_slice_get rows place lent row there)
+
 -- ---- the bytes of the fields
 
 column_push : (index : ℕ) (rows : List Place) (row : Place) → column index (map values_of_place (rows ++ row ∷ [])) ≡ column index (map values_of_place rows) ++ value_at index (values_of_place row)

@@ -1,5 +1,5 @@
 //! Records written at their places.
-ghost use Rattle.std.specs.Prelude.{◌≡◌, ◌*◌, [], length, replicate, sum, IfOk, OnOk};
+ghost use Rattle.std.specs.Prelude.{◌≡◌, ◌*◌, [], length, option_copied, replicate, sum, IfOk, OnOk};
 ghost use Rattle.bit_array.specs.Element.{words_of};
 ghost use Rattle.schema_model.specs.Parts.{shape_fields};
 ghost use Rattle.object_codec.specs.Packing.{HasRoom, IsRowPut, CanPack, IsPacked, values_of_place};
@@ -8,7 +8,7 @@ use crate::encoded::take_value;
 use crate::stored::values_of;
 use bit_array::{set_element, total_width, words_for};
 use hol_varint::Octets;
-use row_model::{Areas, Packed, Places, Row, Value, Widths, Words};
+use row_model::{Areas, Packed, PlacedRows, Row, Value, Widths, Words, row_of_place};
 use schema_model::Schema;
 use std::alloc::{AllocError, Global};
 
@@ -16,19 +16,18 @@ use std::alloc::{AllocError, Global};
 /// row each offset of a STRING or BYTES is that of the place before, and all other bits are zero.
 ///
 /// The widths hold the numbers of all records and the bytes of each field.
-pub fn pack(
+pub fn pack<P: PlacedRows>(
     alloc: Global,
     schema: &Schema,
     widths: &Widths,
-    rows: &Places,
+    rows: &P,
 ) -> Result<Packed, AllocError>
-    requires { CanPack schema.now.shape widths.now rows.now }
-    ensures packed { IfOk result (λ packed. IsPacked schema.now.shape widths.now rows.now packed.first packed.areas) }
+    requires { CanPack schema.now.shape widths.now (P.places rows.now) }
+    ensures packed { IfOk result (λ packed. IsPacked schema.now.shape widths.now (P.places rows.now) packed.first packed.areas) }
     ensures second { IfOk result (λ packed. packed.second ≡ []) }
 {
     let widths = widths.as_slice();
-    let rows = rows.as_slice();
-    let mut first = zeros(alloc, rows.len() as u64 * total_width(widths) as u64)?;
+    let mut first = zeros(alloc, rows.count() as u64 * total_width(widths) as u64)?;
     let mut areas = no_bytes(alloc, schema.shape.fields().len())?;
     put_rows(
         alloc,
@@ -64,20 +63,22 @@ fn no_bytes(alloc: Global, fields: usize) -> Result<Vec<Octets>, AllocError>
 }
 
 /// Writes the records of all places into words of zeros.
-fn put_rows(
+fn put_rows<P: PlacedRows>(
     alloc: Global,
     schema: &Schema,
     widths: &[u32],
-    rows: &[Option<Row>],
+    rows: &P,
     first: &mut [u64],
     areas: &mut [Octets],
 ) -> Result<(), AllocError>
-    requires can { CanPack schema.now.shape widths.now rows.now }
-    requires zeros { first.old ≡ replicate (words_of (length rows.now * sum widths.now)) 0 }
+    requires can { CanPack schema.now.shape widths.now (P.places rows.now) }
+    requires zeros { first.old ≡ replicate (words_of (length (P.places rows.now) * sum widths.now)) 0 }
     requires none { areas.old ≡ replicate (length (shape_fields schema.now.shape)) [] }
-    ensures { OnOk result (IsPacked schema.now.shape widths.now rows.now first.new areas.new) }
+    ensures { OnOk result (IsPacked schema.now.shape widths.now (P.places rows.now) first.new areas.new) }
 {
-    for (place, row) in rows.iter().enumerate() {
+    for place in 0..rows.count() {
+        let lent = rows.place(alloc, place)?;
+        let row = row_of_place(&lent);
         put_row(alloc, schema, widths, first, areas, place as u64, row)?;
     }
     Ok(())
@@ -95,10 +96,10 @@ pub fn put_row(
     first: &mut [u64],
     areas: &mut [Octets],
     place: u64,
-    row: &Option<Row>,
+    row: Option<&Row>,
 ) -> Result<(), AllocError>
-    requires { HasRoom schema.now.shape widths.now first.old areas.old place row.now }
-    ensures { OnOk result (IsRowPut schema.now.shape widths.now first.old areas.old first.new areas.new place row.now) }
+    requires { HasRoom schema.now.shape widths.now first.old areas.old place (option_copied row) }
+    ensures { OnOk result (IsRowPut schema.now.shape widths.now first.old areas.old first.new areas.new place (option_copied row.entry)) }
 {
     let fields = schema.shape.fields();
     let values = values_in(row);
@@ -113,8 +114,8 @@ pub fn put_row(
 }
 
 /// The values that a place takes: those of its record, none where it has no row.
-fn values_in(row: &Option<Row>) -> &[Value]
-    ensures { result.now ≡ values_of_place row.now }
+fn values_in(row: Option<&Row>) -> &[Value]
+    ensures { result.now ≡ values_of_place (option_copied row.entry) }
 {
     match row {
         Some(row) => values_of(row),

@@ -11,3 +11,4 @@ pub mod Parted
 pub mod Looking
 pub mod Lookups
 pub mod Counts
+mod SameMembers

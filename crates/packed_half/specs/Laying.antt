@@ -1,7 +1,9 @@
 -- Which rows can be laid out in the words of a half.
-use Rattle.std.specs.Prelude.{◌≡◌, ℕ, ◌<◌, ◌≤◌, List, length, map, Option, Some}
+use Rattle.std.specs.Prelude.{◌≡◌, ℕ, ◌+◌, ◌*◌, ◌^◌, ◌<◌, ◌≤◌, List, length, map, Option, Some}
 use Rattle.std.specs.List.{range_with_len}
 use Rattle.std.specs.FinMap.{get, keys, values}
+use Rattle.bit_array.specs.Element.{number_of}
+use Rattle.list_codec.specs.ListPlace.{end_at, element_width, pointer_width, SpellsList}
 use Rattle.schema_model.specs.declared.limit.Limit.TheVariants.{Ordinals}
 use Rattle.schema_model.specs.declared.schema.Shape.{Shape}
 use Rattle.schema_model.specs.Limit.{number_of_limit}
@@ -61,3 +63,13 @@ HasRuns _ = ⊥
 -- Sets or maps that can be laid out.
 abbrev pub CanLayRuns : HalfShape → RowMap → Type 0
 CanLayRuns half rows = (shape : Shape) × HasRuns shape × CanLay shape half rows
+
+-- A list is written at a place, its elements from a start up to an end, counted in elements: the place spells it, those before whose ends are not
+-- above the start spell what they spelled, and no bit is behind the place, and none behind the end.
+pub record IsListPut (widths old_first old_second first second : List ℕ) (place start end : ℕ) (elements : List ℕ) : Type 0 where
+  pub ends : end ≡ start + length elements
+  pub pointer : end_at widths first place ≡ end
+  pub spelled : SpellsList widths end first second place elements
+  pub earlier : (before total : ℕ) (list : List ℕ) → before < place → total ≤ start → SpellsList widths total old_first old_second before list → SpellsList widths total first second before list
+  pub pointer_bits : number_of old_first < 2 ^ (place * pointer_width widths) → number_of first < 2 ^ ((place + 1) * pointer_width widths)
+  pub element_bits : number_of old_second < 2 ^ (start * element_width widths) → number_of second < 2 ^ (end * element_width widths)

@@ -12,9 +12,11 @@ mod new_rows;
 mod records;
 mod rows;
 mod runs;
+mod same;
 
 pub use bytes::put_areas;
 pub use half::{HalfShape, bytes_of_half, words_of_half};
 pub use laying::lay_out;
+pub use lists::{elements_in, put_elements};
 pub use new_rows::NewRows;
 pub use rows::HalfRows;

@@ -1,13 +1,16 @@
 //! Rows that are to be laid out, each asked for as its place comes.
-ghost use Rattle.std.specs.Prelude.{◌≡◌, Some, IsSome, IfOk, OnOk};
+ghost use Rattle.std.specs.Prelude.{◌≡◌, ℕ, List, Some, IsSome, IfOk, OnOk};
 ghost use Rattle.std.specs.FinMap.{get, keys};
 ghost use Rattle.row_model.specs.Table.{RowMap};
 ghost use Rattle.schema_model.specs.declared.schema.Shape.{Shape};
 ghost use Rattle.object_codec.specs.Packing.{HasRoom, IsRowPut};
+ghost use Rattle.list_codec.specs.Packing.{HasRoom as HasListRoom, elements_of_place};
+ghost use Rattle.packed_half.specs.Laying.{IsListPut};
 
 use crate::HalfShape;
+use crate::lists::{elements_in, put_elements};
 use hol_varint::Octets;
-use row_model::Row;
+use row_model::{Row, Widths};
 use schema_model::Schema;
 use std::alloc::{AllocError, Global};
 
@@ -41,7 +44,7 @@ pub trait NewRows {
         requires room { HasRoom schema.now.shape widths.now first.old areas.old ordinal (get (rows self.now) ordinal) }
         ensures { OnOk result (IsRowPut schema.now.shape widths.now first.old areas.old first.new areas.new ordinal (get (rows self.now) ordinal)) }
     {
-        let row = Some(self.new_row(alloc, ordinal)?);
+        let row = self.new_row(alloc, ordinal)?;
         object_codec::put_row(
             alloc,
             schema,
@@ -49,8 +52,30 @@ pub trait NewRows {
             first,
             areas,
             u64::from(ordinal),
-            &row,
+            Some(&row),
         )
+    }
+
+    /// Writes the list under an ordinal that has one at its place, its elements from a start on, and answers where they end.
+    ///
+    /// Memory is taken for the list.
+    fn put_list(
+        &self,
+        alloc: Global,
+        widths: &Widths,
+        first: &mut [u64],
+        second: &mut [u64],
+        ordinal: u32,
+        start: u64,
+    ) -> Result<u64, AllocError>
+        requires suits { (element : List ℕ) × suits self.now (Shape.List element) }
+        requires live { IsSome (get (rows self.now) ordinal) }
+        requires room { HasListRoom widths.now first.old second.old ordinal start (elements_of_place (get (rows self.now) ordinal)) }
+        ensures { IfOk result (λ end. IsListPut widths.now first.old second.old first.new second.new ordinal start end (elements_of_place (get (rows self.now) ordinal))) }
+    {
+        let row = Some(self.new_row(alloc, ordinal)?);
+        let elements = elements_in(&row);
+        Ok(put_elements(widths, first, second, u64::from(ordinal), start, elements))
     }
 }
 

@@ -90,5 +90,5 @@ fn put_place<N: NewRows>(
     if half.live.contains(place) {
         return new.put_record(alloc, schema, widths, first, areas, place);
     }
-    object_codec::put_row(alloc, schema, widths, first, areas, u64::from(place), &None)
+    object_codec::put_row(alloc, schema, widths, first, areas, u64::from(place), None)
 }

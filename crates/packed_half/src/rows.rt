@@ -36,6 +36,20 @@ impl<'a> HalfRows<'a> {
         }
     }
 
+    /// The words of the places.
+    pub fn places(&self) -> &'a [u64]
+        ensures { result.now ≡ (section_in self.now.shape.now self.now.half.now self.now.words.now).first }
+    {
+        self.cut().first
+    }
+
+    /// The words of the elements or buckets.
+    pub fn items(&self) -> &'a [u64]
+        ensures { result.now ≡ (section_in self.now.shape.now self.now.half.now self.now.words.now).second }
+    {
+        self.cut().second
+    }
+
     /// The words of the bytes of the fields, those of each field from a word of its own on.
     pub fn bytes(&self) -> &'a [u64]
         ensures { result.now ≡ behind_items self.now.shape.now self.now.half.now self.now.words.now }

@@ -29,7 +29,7 @@ pub(crate) fn lay_runs<N: NewRows>(
     let mut end = 0;
     for place in 0..place_count(half.max) {
         let row = row_under(alloc, half, new, place as u32)?;
-        end = bucket_codec::put_row(widths, &row, first, second, place, end);
+        end = bucket_codec::put_row(widths, row.as_ref(), first, second, place, end);
     }
     Ok(())
 }

@@ -1,5 +1,6 @@
 //! Rows to look at.
-ghost use Rattle.std.specs.Prelude.{◌≡◌};
+ghost use Rattle.std.specs.Prelude.{◌≡◌, option_copied};
+ghost use Rattle.std.specs.Option.{option_map};
 ghost use Rattle.row_model.specs.Lent.{lent_row};
 
 use crate::Row;
@@ -22,5 +23,16 @@ impl LentRow<'_> {
             LentRow::Kept(row) => row,
             LentRow::Made(row) => row,
         }
+    }
+}
+
+/// The row of a place, none where it holds none.
+#[inline(always)]
+pub fn row_of_place<'a>(place: &'a Option<LentRow<'_>>) -> Option<&'a Row>
+    ensures { option_copied result ≡ option_map lent_row place.now }
+{
+    match place {
+        Some(lent) => Some(lent.row()),
+        None => None,
     }
 }

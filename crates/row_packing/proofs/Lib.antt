@@ -7,6 +7,7 @@ pub mod ListPlaces
 pub mod LiveRows
 pub mod ObjectPlaces
 pub mod PackedOnce
+pub mod PlacesLent
 pub mod RowBytes
 pub mod RowsUnder
 pub mod Suiting

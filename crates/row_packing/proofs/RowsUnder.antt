@@ -1,13 +1,11 @@
 -- Lemmas on the rows under rising ordinals, by those of two states: what they have together, and what holds of each.
-use Rattle.std.proofs.Common.{◌≡◌, ℕ, zero, suc, ◌+◌, ◌-◌, ◌<◌, ◌≤◌, List, [], ◌∷◌, ◌++◌, length, get_or, take, Option, Some, None, Bool, true, false, T, leb, refl, sym, ap, ◌∙◌, subst, arith}
+use Rattle.std.proofs.Common.{◌≡◌, ℕ, zero, suc, ◌+◌, ◌-◌, ◌<◌, ◌≤◌, List, [], ◌∷◌, ◌++◌, Option, Some, None, Bool, true, false, T, leb, refl, sym, ap, ◌∙◌, subst, arith}
 use Rattle.std.specs.Prelude.{All, map, filter, nat_le, sum_by, is_some, IfSome, slice_get}
 use Rattle.std.specs.Option.{option_map_or, option_to_list}
 use Rattle.std.specs.List.{range_with_len}
 use Rattle.std.specs.Ordering.{nat_cmp}
 use Rattle.std.specs.FinMap.{find, is_sorted, entries, entries_sorted, get, get-entries, values}
 use Rattle.std.proofs.lemmas.Bool.{and_parts, cond-true, le-leb}
-use Rattle.std.proofs.lemmas.List.{map-append, take_more}
-use Rattle.std.proofs.lemmas.List.FromFn.{map-range_with_len_more}
 use Rattle.std.proofs.lemmas.List.Sums.{sum_by-append, sum_by-cons}
 use Rattle.std.proofs.lemmas.List.Elements.{All-append, All-cons, All-head, All-map, All-tail}
 use Rattle.row_model.specs.declared.row.Row.{Row}
@@ -256,23 +254,3 @@ sum_new f old new type_index limit agree below =
 
 pub sum_old : (f : Row → ℕ) (old new : Table) (type_index : ℕ) → sum_by f (rows_from 0 (rows_in old type_index)) ≤ sum_by f (rows_of_both old new type_index)
 sum_old f old new type_index = omega (arith, sum_by-append f (rows_from 0 (rows_in old type_index)) (rows_from 0 (rows_added old new type_index)))
-
--- ---- places, one by one
-
--- one place more of those up to an ordinal
-pub places_more : (table : Table) (type_index ordinal : ℕ) (places more : List (Option Row)) (row : Option Row) → places ≡ places_under table type_index (range_with_len 0 ordinal) → row ≡ row_at table type_index ordinal
-    → more ≡ places ++ row ∷ [] → more ≡ places_under table type_index (range_with_len 0 (ordinal + 1))
-places_more table type_index ordinal places more row so_far is pushed =
-    pushed
-    ∙ ap (λ (rows : List (Option Row)). rows ++ row ∷ []) so_far
-    ∙ ap (λ (r : Option Row). places_under table type_index (range_with_len 0 ordinal) ++ r ∷ []) is
-    ∙ sym (map-range_with_len_more (row_at table type_index) 0 ordinal ordinal (omega arith))
-
--- one place more of those of listed ordinals
-pub places_listed : (table : Table) (type_index index ordinal : ℕ) (ordinals : List ℕ) (places more : List (Option Row)) (row : Option Row) → places ≡ places_under table type_index (take index ordinals)
-    → index < length ordinals → ordinal ≡ get_or ordinals index 0 → row ≡ row_at table type_index ordinal → more ≡ places ++ row ∷ [] → more ≡ places_under table type_index (take (index + 1) ordinals)
-places_listed table type_index index ordinal ordinals places more row so_far inside here is pushed =
-    pushed
-    ∙ ap (λ (rows : List (Option Row)). rows ++ row ∷ []) so_far
-    ∙ ap (λ (r : Option Row). places_under table type_index (take index ordinals) ++ r ∷ []) (is ∙ ap (row_at table type_index) here)
-    ∙ sym (ap (map (row_at table type_index)) (take_more ordinals index 0 inside) ∙ map-append (row_at table type_index) (take index ordinals) (get_or ordinals index 0 ∷ []))

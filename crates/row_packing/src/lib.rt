@@ -6,6 +6,7 @@ pub mod laws;
 mod limit;
 mod live;
 mod packed;
+mod places;
 
 pub use chosen::{Chosen, choose};
 pub use limit::type_limit;

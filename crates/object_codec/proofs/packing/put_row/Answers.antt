@@ -1,5 +1,5 @@
 use Rattle.std.proofs.Common.{◌≡◌, ◌+◌, ◌*◌, ◌^◌, ◌<◌, ◌-◌, ℕ, List, get_or, length, subst, sym, ◌∙◌, arith, refl, Fits, w64, set}
-use Rattle.std.specs.Prelude.{slice_get}
+use Rattle.std.specs.Prelude.{option_copied, slice_get}
 use Rattle.row_model.specs.Areas.{area_of}
 use Rattle.object_codec.specs.Encoded.{IsTaken}
 use Rattle.object_codec.specs.Stored.{value_at, values_bytes}
@@ -89,4 +89,4 @@ loop-index-preserved c =
 pub returns : goal.returns
 returns c =
     row_put c.args.schema.now.shape c.fields-fields.result.now c.args.widths.now c.args.first.now c.args.areas.now c.values_in-values.result.now c.loop-index.first c.loop-index.areas c.args.place c.loop-index.index c.loop-index.at
-    c.args.row.now c.requires c.fields-fields.ensures c.values_in-values.ensures (omega arith) c.loop-index.invariant
+    (option_copied c.args.row) c.requires c.fields-fields.ensures c.values_in-values.ensures (omega arith) c.loop-index.invariant

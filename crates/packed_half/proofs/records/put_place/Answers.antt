@@ -1,4 +1,4 @@
-use Rattle.std.proofs.Common.{◌≡◌, ◌∙◌, List, ℕ, Option, None, sym, ap, subst}
+use Rattle.std.proofs.Common.{List, ℕ, Option, None, sym, subst}
 use Rattle.std.specs.Prelude.{OnOk}
 use Rattle.std.specs.FinMap.{get}
 use Rattle.row_model.specs.declared.row.Row.{Row}

@@ -1,4 +1,4 @@
-use Rattle.std.proofs.Common.{refl, sym, arith}
+use Rattle.std.proofs.Common.{refl, arith}
 use Rattle.std.specs.FinMap.{get}
 use Rattle.packed_half.proofs.PlacedRecords.{records_begun, record_room, record_more, records_done}
 use Rattle.packed_half.proofs.records.put_records.Goals as goal
