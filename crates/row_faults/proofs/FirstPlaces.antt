@@ -27,13 +27,13 @@ no_field (field ∷ fields) (part ∷ parts) reason none (inr later) = no_field 
 no_field [] parts reason none fails = fails
 no_field (field ∷ fields) [] reason none fails = fails
 
-no_ordinals : (shape : Shape) (section : Section) (place : ℕ) → Fails shape section place Reason.BadOrdinals → ⊥
+pub no_ordinals : (shape : Shape) (section : Section) (place : ℕ) → Fails shape section place Reason.BadOrdinals → ⊥
 no_ordinals (Shape.Object key fields) section place fails = no_field fields (objects.parts_of section.widths section.first section.areas place) Reason.BadOrdinals (λ kind part f. f) fails
 no_ordinals (Shape.List element) section place fails = fails
 no_ordinals (Shape.Set element) section place fails = fails
 no_ordinals (Shape.Map key value) section place fails = fails
 
-no_width : (shape : Shape) (section : Section) (place : ℕ) → Fails shape section place Reason.BadWidth → ⊥
+pub no_width : (shape : Shape) (section : Section) (place : ℕ) → Fails shape section place Reason.BadWidth → ⊥
 no_width (Shape.Object key fields) section place fails = no_field fields (objects.parts_of section.widths section.first section.areas place) Reason.BadWidth (λ kind part f. f) fails
 no_width (Shape.List element) section place fails = fails
 no_width (Shape.Set element) section place fails = fails

@@ -44,7 +44,7 @@ module _ (patch : PatchSection) (old : RowMap) where
   ordinal_or_ordered a (inr (inr f)) pass = pass.staying a f.2.holds
 
 -- The number at an index of those from 0 on is the index.
-counted : (many index number : ℕ) → slice_get (range_with_len 0 many) index ≡ Some number → (index ≡ number) × (index < many)
+pub counted : (many index number : ℕ) → slice_get (range_with_len 0 many) index ≡ Some number → (index ≡ number) × (index < many)
 counted many index number at =
     let inside : index < many = omega (arith, slice_get_within (range_with_len 0 many) index number at, length-range_with_len 0 many) in
     let there = slice_get-get_or (range_with_len 0 many) index 0 (omega (arith, inside, length-range_with_len 0 many)) in
@@ -89,10 +89,10 @@ rising_above numbers index number rise at low =
 among : (P : ℕ → Type 0) (numbers : List ℕ) (number : ℕ) → All P numbers → Contains numbers number → P number
 among P numbers number all at = subst P at.2 (all at.0 number at.1)
 
-key_of_live : (rows : RowMap) (ordinal : ℕ) → IsSome (get rows ordinal) → Contains (keys rows) ordinal
+pub key_of_live : (rows : RowMap) (ordinal : ℕ) → IsSome (get rows ordinal) → Contains (keys rows) ordinal
 key_of_live rows ordinal live = Contains-from_any (tells_apart nat_cmp-IsAntisymmetric) ordinal (keys rows) (sym (contains_key-keys rows ordinal) ∙ live)
 
-live_key : (rows : RowMap) (ordinal : ℕ) → Contains (keys rows) ordinal → IsSome (get rows ordinal)
+pub live_key : (rows : RowMap) (ordinal : ℕ) → Contains (keys rows) ordinal → IsSome (get rows ordinal)
 live_key rows ordinal at = contains_key-keys rows ordinal ∙ list_any-from_Contains (eq_by_cmp_equiv nat_cmp_total) ordinal (keys rows) at
 
 dead_key : (rows : RowMap) (ordinal : ℕ) → get rows ordinal ≡ None → Contains (keys rows) ordinal → ⊥

@@ -9,15 +9,21 @@ use Rattle.type_rows.specs.declared.patch.PatchSection.{PatchSection}
 use Rattle.type_rows.specs.Layout.{places_of}
 use Rattle.row_faults.specs.First.{FirstFails, NoneFails}
 use Rattle.row_faults.specs.MoveFault.{AddedPass, FailsOrdinals, RemovedPass, StayingPass}
-use Rattle.row_faults.specs.Ordinals.{FailsAdded, FailsRemoved, HoldsNowhere, IsLeast, StaysOutside}
+use Rattle.row_faults.specs.Ordinals.{FailsAdded, FailsRemoved, HoldsNowhere, IsLeast, IsNotAbove, StaysOutside}
 
--- Numbers of which none fails rise.
-pub removed_rise : (live removed : List ℕ) → NoneFails (FailsRemoved live removed) removed → IsStrictlyIncreasing removed
-removed_rise live removed none k inside = elim (cases_lt (get_or removed k 0) (get_or removed (k + 1) 0)) [
+-- Numbers of which none fails rise, where one that is not above the one before it fails.
+rising : (Test : ℕ → ℕ → Type 0) (numbers : List ℕ) → ((index number : ℕ) → IsNotAbove numbers index number → Test index number) → NoneFails Test numbers → IsStrictlyIncreasing numbers
+rising Test numbers low_fails none k inside = elim (cases_lt (get_or numbers k 0) (get_or numbers (k + 1) 0)) [
   | inl low ↦ low
-  | inr high ↦ absurd (none (k + 1) (get_or removed (k + 1) 0) (slice_get-get_or removed (k + 1) 0 inside)
-      (inl (record { earlier = k; previous = get_or removed k 0; behind = omega arith; stands = slice_get-get_or removed k 0 (omega (arith, inside)); below = high })))
+  | inr high ↦ absurd (none (k + 1) (get_or numbers (k + 1) 0) (slice_get-get_or numbers (k + 1) 0 inside)
+      (low_fails (k + 1) (get_or numbers (k + 1) 0) (record { earlier = k; previous = get_or numbers k 0; behind = omega arith; stands = slice_get-get_or numbers k 0 (omega (arith, inside)); below = high })))
 ]
+
+pub removed_rise : (live removed : List ℕ) → NoneFails (FailsRemoved live removed) removed → IsStrictlyIncreasing removed
+removed_rise live removed none = rising (FailsRemoved live removed) removed (λ index number low. inl low) none
+
+pub added_rise : (live : List ℕ) (places : ℕ) (added : List ℕ) → NoneFails (FailsAdded live places added) added → IsStrictlyIncreasing added
+added_rise live places added none = rising (FailsAdded live places added) added (λ index number low. inl low) none
 
 module _ (patch : PatchSection) (live : List ℕ) (old : RowMap) (same : keys old ≡ live) where
   pub removed_pass : (removed : List ℕ) → removed ≡ patch.removed → NoneFails (FailsRemoved live removed) removed → RemovedPass patch old

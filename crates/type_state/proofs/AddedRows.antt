@@ -1,15 +1,20 @@
 -- The rows that the places of a patch spell, read one after another.
 use Rattle.std.proofs.Common.{◌≡◌, ℕ, zero, suc, ◌+◌, ◌<◌, ◌≤◌, List, [], ◌∷◌, ◌++◌, length, map, take, get_or, Some, refl, ap, sym, ◌∙◌, subst, arith}
 use Rattle.std.specs.Prelude.{slice_get}
+use Rattle.std.specs.List.{range_with_len}
 use Rattle.std.specs.Map.{keys_of, values_of}
+use Rattle.std.proofs.lemmas.List.FromFn.{get_or-range_with_len, length-range_with_len}
 use Rattle.std.proofs.lemmas.List.{take_more, take_all, map-append, length-map, length-take}
 use Rattle.std.proofs.lemmas.Option.{slice_get-get_or}
 use Rattle.schema_model.specs.declared.schema.Shape.{Shape}
+use Rattle.schema_model.specs.declared.reason.Reason.{Reason}
 use Rattle.row_model.specs.declared.row.Row.{Row}
 use Rattle.type_rows.specs.declared.patch.PatchSection.{PatchSection}
 use Rattle.type_rows.specs.Loads.{Spells, IsSpelledIn}
-use Rattle.type_rows.specs.Patches.{AddsRows, places_in}
+use Rattle.type_rows.specs.Patches.{places_in}
 use Rattle.type_rows.specs.Differing.{Difference}
+use Rattle.row_faults.specs.Places.{Fails, FirstPlaceFails, SpellsSome}
+use Rattle.row_faults.proofs.MoveFaults.{counted}
 use Rattle.type_state.specs.Moving.{AreAdded}
 use Rattle.type_state.specs.Differences.{present}
 
@@ -57,9 +62,25 @@ all_read shape patch place differences r end =
     let count = long shape patch place differences r (omega arith) in
     record { keys = r.keys ∙ take_all place patch.added (omega arith); rows = r.rows; are = r.are; adds = record { each = omega (arith, count); spelled = r.spelled } }
 
--- A place that spells no row: the patch adds none.
-pub none_at : (shape : Shape) (patch : PatchSection) (place : ℕ) → place < length patch.added → ((row : Row) → IsSpelledIn shape (places_in patch) (place, row) → ⊥) → (rows : List Row) → AddsRows shape patch rows → ⊥
-none_at shape patch place inside none rows h =
-    let count = h.each in
-    let d : Row = Row.List [] in
-    none (get_or rows place d) (h.spelled place (get_or rows place d) (slice_get-get_or rows place d (omega arith)))
+-- Each number from 0 on stands at its own index.
+number_there : (many number : ℕ) → number < many → slice_get (range_with_len 0 many) number ≡ Some number
+number_there many number inside =
+    let count = get_or-range_with_len 0 many number 0 inside in
+    let is : get_or (range_with_len 0 many) number 0 ≡ number = omega (arith, count) in
+    slice_get-get_or (range_with_len 0 many) number 0 (omega (arith, inside, length-range_with_len 0 many)) ∙ ap Some is
+
+-- A place that spells no row is the first such, where those before it are read.
+pub first_failed : (shape : Shape) (patch : PatchSection) (place o : ℕ) (reason : Reason) (differences : List Difference) → AreRead shape patch place differences → place < length patch.added → o ≡ get_or patch.added place 0
+    → Fails shape (places_in patch) place reason → FirstPlaceFails shape (places_in patch) (range_with_len 0 (length patch.added)) patch.added reason o
+first_failed shape patch place o reason differences r inside is fails = record {
+  index = place;
+  place = place;
+  stands = number_there (length patch.added) place inside;
+  of = slice_get-get_or patch.added place 0 inside ∙ ap Some (sym is);
+  fails = fails;
+  before = λ earlier other low at.
+      (let same = counted (length patch.added) earlier other at in
+      let count = long shape patch place differences r (omega (arith, inside)) in
+      let row = get_or r.rows earlier (Row.List []) in
+      subst (λ p. SpellsSome shape (places_in patch) p) same.0 (row, r.spelled earlier row (slice_get-get_or r.rows earlier (Row.List []) (omega (arith, low, count)))));
+}

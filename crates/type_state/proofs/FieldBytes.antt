@@ -1,5 +1,5 @@
 -- Lemmas on the bytes of fields in words: each byte is an element of 8 bits, and the fields follow one another.
-use Rattle.std.proofs.Common.{◌≡◌, ℕ, ◌+◌, ◌*◌, ◌/◌, ◌%◌, ◌^◌, ◌<◌, ◌≤◌, List, [], ◌∷◌, ◌++◌, length, drop, get_or, zero, suc, refl, sym, ap, ◌∙◌, subst, arith, append_assoc, append-nil, drop-cons, Fits, w64}
+use Rattle.std.proofs.Common.{◌≡◌, ℕ, ◌+◌, ◌*◌, ◌/◌, ◌%◌, ◌^◌, ◌<◌, ◌≤◌, List, [], ◌∷◌, ◌++◌, length, drop, get_or, zero, suc, refl, sym, ap, ◌∙◌, subst, arith, append-nil, drop-cons, Fits, w64}
 use Rattle.std.specs.Prelude.{map, slice_index}
 use Rattle.std.specs.List.{range_with_len}
 use Rattle.std.proofs.lemmas.List.{length-drop}
@@ -8,6 +8,7 @@ use Rattle.bit_array.specs.Element.{element_of}
 use Rattle.bit_array.proofs.Elements.{element_of_one_word}
 use Rattle.record_views.specs.declared.bytes.PackedBytes.{PackedBytes}
 use Rattle.record_views.specs.Bytes.{bytes_of}
+use Rattle.row_model.specs.Areas.{area_of}
 use Rattle.packed_half.specs.Half.{areas_in, byte_in, byte_words, bytes_in, words_for_bytes}
 
 -- ---- one field
@@ -86,3 +87,48 @@ all_cut words lengths rest areas index cut all =
     none_left [] index all = ap (λ (n : ℕ). drop {A = ℕ} n []) all
     none_left (count ∷ lengths) zero all = absurd (omega arith)
     none_left (count ∷ lengths) (suc index) all = none_left lengths index (omega arith)
+
+-- ---- one field behind others
+
+-- the bytes of each field from one on stand in the words that are left
+pub record IsBehind (words lengths rest : List ℕ) (index : ℕ) : Type 0 where
+  pub behind : (k : ℕ) → area_of (areas_in words lengths) (index + k) ≡ area_of (areas_in rest (drop index lengths)) k
+  pub inside : byte_words (drop index lengths) ≤ length rest
+  pub few : byte_words (drop index lengths) < 2 ^ 58
+
+pub none_behind : (words lengths : List ℕ) → byte_words lengths ≤ length words → byte_words lengths < 2 ^ 58 → IsBehind words lengths words 0
+none_behind words lengths inside few = record { behind = λ k. ap (area_of (areas_in words lengths)) (omega arith); inside = inside; few = few }
+
+pub room_behind : (words lengths rest : List ℕ) (index : ℕ) → IsBehind words lengths rest index → index < length lengths
+    → (words_for_bytes (slice_index lengths index) ≤ length rest) × (words_for_bytes (slice_index lengths index) < 2 ^ 58)
+room_behind words lengths rest index is inside =
+    let count = slice_index lengths index in
+    let sum = ap byte_words (drop-cons lengths index 0 inside) ∙ sum_by-cons words_for_bytes count (drop (suc index) lengths) in
+    (omega (arith, sum, is.inside), omega (arith, sum, is.few))
+
+pub one_behind : (words lengths rest rest' : List ℕ) (index : ℕ) → IsBehind words lengths rest index → index < length lengths → rest' ≡ drop (words_for_bytes (slice_index lengths index)) rest
+    → IsBehind words lengths rest' (index + 1)
+one_behind words lengths rest rest' index is inside left =
+    let count = slice_index lengths index in
+    let tail = drop (suc index) lengths in
+    let here : drop index lengths ≡ count ∷ tail = drop-cons lengths index 0 inside in
+    let sum = ap byte_words here ∙ sum_by-cons words_for_bytes count tail in
+    let long = ap (λ (ws : List ℕ). length ws) left ∙ length-drop (words_for_bytes count) rest in
+    let next : index + 1 ≡ suc index = omega arith in
+    subst (λ (n : ℕ). IsBehind words lengths rest' n) (sym next)
+    record {
+      behind = λ k.
+          (let later : suc index + k ≡ index + suc k = omega arith in
+          ap (area_of (areas_in words lengths)) later
+          ∙ is.behind (suc k)
+          ∙ ap (λ (ls : List ℕ). area_of (areas_in rest ls) (suc k)) here
+          ∙ ap (λ (ws : List ℕ). area_of (areas_in ws tail) k) (sym left));
+      inside = omega (arith, sum, long, is.inside);
+      few = omega (arith, sum, is.few);
+    }
+
+pub there_behind : (words lengths rest : List ℕ) (index : ℕ) (bytes : List ℕ) → IsBehind words lengths rest index → index < length lengths → bytes ≡ bytes_in rest (slice_index lengths index)
+    → area_of (areas_in words lengths) index ≡ bytes
+there_behind words lengths rest index bytes is inside are =
+    let none : index ≡ index + 0 = omega arith in
+    ap (area_of (areas_in words lengths)) none ∙ is.behind 0 ∙ ap (λ (ls : List ℕ). area_of (areas_in rest ls) 0) (drop-cons lengths index 0 inside) ∙ sym are

@@ -1,5 +1,5 @@
 -- Lemmas on the records of a half that is kept: a live ordinal has a record at its place, which has the room that its row has.
-use Rattle.std.proofs.Common.{◌≡◌, ℕ, ◌^◌, ◌<◌, List, Option, None, Some, Result, refl, sym, subst, ap, true, false}
+use Rattle.std.proofs.Common.{◌≡◌, ℕ, ◌^◌, ◌<◌, List, Option, None, Some, Result, refl, sym, subst}
 use Rattle.std.specs.Prelude.{IsSome, OnOk}
 use Rattle.std.specs.FinMap.{get}
 use Rattle.schema_model.specs.declared.schema.Shape.{Shape}
@@ -7,13 +7,16 @@ use Rattle.schema_model.specs.Parts.{shape_fields}
 use Rattle.row_model.specs.declared.row.Row.{Row}
 use Rattle.object_codec.specs.ObjectPlace.{HoldsPlace, IsObject, SpellsObjectRow}
 use Rattle.object_codec.specs.Packing.{HasRoom, IsRowPut}
+use Rattle.list_codec.specs.ListPlace.{HoldsListPlace, IsList, SpellsList}
+use Rattle.list_codec.specs.Packing.{elements_of_place}
+use Rattle.list_codec.specs.Widths.{elements_of_row}
 use Rattle.type_rows.specs.declared.section.Section.{Section}
 use Rattle.type_rows.specs.Layout.{places_of}
 use Rattle.type_rows.specs.Loads.{IsSpelledIn, Spells}
 use Rattle.type_rows.proofs.Rising.{none_is_not}
 use Rattle.packed_half.specs.declared.half.HalfShape.{HalfShape}
 use Rattle.packed_half.specs.Half.{section_in}
-use Rattle.packed_half.proofs.Looking.{object_holds}
+use Rattle.packed_half.proofs.Looking.{list_holds, object_holds}
 use Rattle.packed_half.proofs.Parted.{on_ok}
 use Rattle.packed_half.proofs.RowPlaces.{entry_of, placed_in}
 use Rattle.type_state.specs.Kept.{IsHalf, IsPacked, half_rows}
@@ -73,3 +76,39 @@ module _
       on_ok result _ _
       (λ h. subst (λ (r : Option Row). IsRowPut given there old old_bytes new bytes ordinal r) (sym row.1)
       (subst (λ (n : ℕ). IsRowPut given there old old_bytes new bytes n (Some row.0)) place_is (h row.0 record_spelled))) put
+
+-- ---- lists
+
+spells_list : (shape : Shape) (section : Section) (place : ℕ) (row : Row) → IsList shape → Spells shape section place row → SpellsList section.widths section.total section.first section.second place (elements_of_row row)
+spells_list (Shape.List element) section place (Row.List ordinals) list spelled = spelled
+spells_list (Shape.List element) section place (Row.Object values) list spelled = absurd spelled
+spells_list (Shape.List element) section place (Row.Set ordinals) list spelled = absurd spelled
+spells_list (Shape.List element) section place (Row.Map pairs) list spelled = absurd spelled
+spells_list (Shape.Object key fields) section place _ list spelled = absurd list
+spells_list (Shape.Set element) section place _ list spelled = absurd list
+spells_list (Shape.Map key value) section place _ list spelled = absurd list
+
+module _ (shape : Shape) (half : HalfShape) (words widths first second : List ℕ) (place ordinal : ℕ) (widths_are : widths ≡ half.widths) (first_is : first ≡ (section_in shape half words).first) (second_is : second ≡ (section_in shape half words).second) (place_is : place ≡ ordinal) (kept : IsHalf shape half words) (list : IsList shape) (some : IsSome (get (half_rows shape half words) ordinal)) where
+  list_over : (P : List ℕ → List ℕ → List ℕ → ℕ → Type 0) → P half.widths (section_in shape half words).first (section_in shape half words).second ordinal → P widths first second place
+  list_over P h =
+      subst (λ (ws : List ℕ). P ws first second place) (sym widths_are)
+      (subst (λ (ws : List ℕ). P half.widths ws second place) (sym first_is)
+      (subst (λ (ws : List ℕ). P half.widths (section_in shape half words).first ws place) (sym second_is)
+      (subst (λ (n : ℕ). P half.widths (section_in shape half words).first (section_in shape half words).second n) (sym place_is) h)))
+
+  list_packed : IsPacked shape half words
+  list_packed = packed_there shape half words ordinal kept some
+
+  list_row : (r : Row) × (get (half_rows shape half words) ordinal ≡ Some r)
+  list_row = row_in (get (half_rows shape half words) ordinal) some
+
+  pub list_holds_there : HoldsListPlace widths first place
+  list_holds_there =
+      list_over (λ ws fs ss n. HoldsListPlace ws fs n)
+      (list_holds shape half words (half_rows shape half words) ordinal list list_packed.laid (placed_in (half_rows shape half words) (places_of half.max) ordinal list_row.0 list_packed.can.held.places list_row.1))
+
+  pub list_spelled : SpellsList widths half.total first second place (elements_of_place (get (half_rows shape half words) ordinal))
+  list_spelled =
+      subst (λ (r : Option Row). SpellsList widths half.total first second place (elements_of_place r)) (sym list_row.1)
+      (list_over (λ ws fs ss n. SpellsList ws half.total fs ss n (elements_of_row list_row.0))
+      (spells_list shape (section_in shape half words) ordinal list_row.0 list (entry_of (IsSpelledIn shape (section_in shape half words)) (half_rows shape half words) ordinal list_row.0 list_packed.laid.is.spelled list_row.1)))

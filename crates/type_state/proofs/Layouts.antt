@@ -1,27 +1,31 @@
 -- Rows that are laid out one behind the other, and what a layout holds.
-use Rattle.std.proofs.Common.{◌≡◌, ℕ, ◌+◌, ◌-◌, ◌^◌, ◌≤◌, inl, inr, min, List, [], ◌∷◌, ◌++◌, length, Option, None, Some, refl, ap, sym, ◌∙◌, subst, arith, append_assoc, add-zero}
-use Rattle.std.specs.Prelude.{IsSome, is_some, slice_index}
+use Rattle.std.proofs.Common.{◌≡◌, ℕ, ◌+◌, ◌-◌, ◌^◌, ◌≤◌, inl, inr, min, List, [], ◌∷◌, ◌++◌, length, take, Option, None, Some, refl, ap, sym, ◌∙◌, subst, arith, append_assoc, add-zero}
+use Rattle.std.specs.Prelude.{IsSome, is_some, slice_get, slice_index}
 use Rattle.std.specs.Ordering.{nat_cmp}
-use Rattle.std.specs.FinMap.{find, entries, get, get-entries, keys}
+use Rattle.std.specs.FinMap.{find, entries, get, get-entries, keys, values}
 use Rattle.std.specs.Map.{keys_of, values_of}
 use Rattle.std.proofs.lemmas.Bool.{cases_eq}
 use Rattle.std.proofs.lemmas.List.{append-nil, map-append}
 use Rattle.std.proofs.lemmas.List.Sums.{sum_by-append}
 use Rattle.ordinal_set.specs.Ordinals.{bound_of}
 use Rattle.schema_model.specs.Parts.{shape_fields}
+use Rattle.schema_model.specs.declared.reason.Reason.{Reason}
 use Rattle.row_model.specs.Table.{RowMap}
 use Rattle.schema_model.specs.declared.schema.Shape.{Shape}
 use Rattle.row_model.specs.declared.row.Row.{Row}
 use Rattle.type_rows.specs.WordsHeld.{row_bytes, part_bytes}
-use Rattle.type_rows.specs.Layout.{items_of_row}
-use Rattle.type_rows.specs.Holds.{HoldsRows}
+use Rattle.type_rows.specs.Layout.{Layout, items_of_row}
 use Rattle.type_rows.specs.Ends.{FitsBehind}
-use Rattle.type_rows.proofs.Reading.{held_more, held_at, more_bytes, more_items, holds_row, fits_row}
+use Rattle.type_rows.proofs.Reading.{held_more, more_bytes, more_items, holds_row}
 use Rattle.type_rows.proofs.Entries.{below_bound, entries_rise}
 use Rattle.type_rows.proofs.Rising.{RiseFrom, none_is_not}
 use Rattle.type_rows.specs.declared.ends.Ends.{Ends}
 use Rattle.type_rows.specs.declared.fault.RowFault.{RowFault}
-use Rattle.type_state.specs.Moving.{AreLaidOut, FitsSlot, LaysSlot, UnlessMemory}
+use Rattle.row_faults.specs.Sums.{AreLaid}
+use Rattle.row_faults.specs.Widths.{FirstUnheld}
+use Rattle.row_faults.proofs.Laying.{first_unheld}
+use Rattle.type_state.specs.FirstFaults.{FailsHeld, FailsSlot}
+use Rattle.type_state.specs.Moving.{AreLaidOut, FitsSlot, LaysSlot}
 use Rattle.type_state.proofs.Lookups.{found, none_below, skipped}
 
 abbrev pub Entry : Type 0
@@ -120,15 +124,30 @@ laid_more shape widths rows o row ends after items more bytes total l at fits gr
     } in
     record { done = l.done ++ (o, row) ∷ []; rest = c.behind; parted = c.parted; out = subst (λ rs. AreLaidOut shape widths rs after more total) (sym values) out }
 
--- A row that does not fit: the layout does not hold the rows.
-pub misfit : (shape : Shape) (widths : List ℕ) (rows : RowMap) (o : ℕ) (row : Row) (ends : List ℕ) (items bytes : ℕ) → Laid shape widths rows o ends items bytes → get rows o ≡ Some row
-    → (FitsBehind shape widths ends items row → ⊥) → HoldsRows shape widths [] (values_of (entries rows)) → ⊥
-misfit shape widths rows o row ends items bytes l at wide held =
+-- Behind some entries their number is the index of the next one, and the front of so many is theirs.
+key_behind : (done rest : List Entry) (o : ℕ) (row : Row) → slice_get (keys_of (done ++ (o, row) ∷ rest)) (length done) ≡ Some o
+key_behind [] rest o row = refl
+key_behind (e ∷ done) rest o row = key_behind done rest o row
+
+row_behind : (done rest : List Entry) (o : ℕ) (row : Row) → slice_get (values_of (done ++ (o, row) ∷ rest)) (length done) ≡ Some row
+row_behind [] rest o row = refl
+row_behind (e ∷ done) rest o row = row_behind done rest o row
+
+rows_before : (done rest : List Entry) → take (length done) (values_of (done ++ rest)) ≡ values_of done
+rows_before [] rest = refl
+rows_before (e ∷ done) rest = ap (λ rows. e.1 ∷ rows) (rows_before done rest)
+
+-- A row that does not fit is the first such, where those before it are laid out.
+first_misfit : (shape : Shape) (widths : List ℕ) (rows : RowMap) (o : ℕ) (row : Row) (ends : List ℕ) (items bytes : ℕ) → Laid shape widths rows o ends items bytes → get rows o ≡ Some row
+    → (FitsBehind shape widths ends items row → ⊥) → FirstUnheld shape widths (keys rows) (values rows) o
+first_misfit shape widths rows o row ends items bytes l at wide =
     let c = comes rows o row l.done l.rest l.parted at in
-    let whole : values_of (entries rows) ≡ values_of l.done ++ row ∷ values_of c.behind =
-    ap values_of l.parted.whole ∙ map-append (λ (e : Entry). e.1) l.done l.rest ∙ ap (λ (es : List Entry). values_of l.done ++ values_of es) c.is in
-    let at_row = held_at shape widths [] (values_of l.done) row (values_of c.behind) (subst (HoldsRows shape widths []) whole held) in
-    wide (fits_row shape widths ends items (values_of l.done) row l.out.reached l.out.counted at_row)
+    let whole : entries rows ≡ l.done ++ (o, row) ∷ c.behind = l.parted.whole ∙ ap (λ (es : List Entry). l.done ++ es) c.is in
+    let out : AreLaid shape widths (values_of l.done) items ends bytes = record { held = l.out.held; counted = l.out.counted; reached = l.out.reached; total = l.out.total } in
+    subst (λ (es : List Entry). FirstUnheld shape widths (keys_of es) (values_of es) o) (sym whole)
+    (first_unheld shape widths (keys_of (l.done ++ (o, row) ∷ c.behind)) (values_of (l.done ++ (o, row) ∷ c.behind)) (length l.done) o row items ends bytes
+    (subst (λ front. AreLaid shape widths front items ends bytes) (sym (rows_before l.done ((o, row) ∷ c.behind))) out)
+    (key_behind l.done c.behind o row) (row_behind l.done c.behind o row) wide)
 
 -- What stands under the ordinal is laid out, if a row does.
 pub laid_slot : (shape : Shape) (widths : List ℕ) (rows : RowMap) (o : ℕ) (slot : Option Row) (before after : Ends) (bytes more total : ℕ) → Laid shape widths rows o before.offsets.items before.items bytes → slot ≡ get rows o
@@ -148,17 +167,19 @@ laid_slot shape widths rows o None before after bytes more total l is h sum = re
 laid_slot shape widths rows o (Some row) before after bytes more total l is h sum =
     laid_more shape widths rows o row before.offsets.items after.offsets.items before.items after.items bytes total l (sym is) h.fits h.ends h.items h.long (let own = h.own in omega (arith, own, sum))
 
--- What does not fit: the layout does not hold the rows.
-misfit_slot : (shape : Shape) (widths : List ℕ) (rows : RowMap) (o : ℕ) (slot : Option Row) (ends : Ends) (bytes : ℕ) → Laid shape widths rows o ends.offsets.items ends.items bytes → slot ≡ get rows o → (FitsSlot shape widths slot ends → ⊥)
-    → HoldsRows shape widths [] (values_of (entries rows)) → ⊥
-misfit_slot shape widths rows o None ends bytes l is bad held = bad tt
-misfit_slot shape widths rows o (Some row) ends bytes l is bad held = misfit shape widths rows o row ends.offsets.items ends.items bytes l (sym is) bad held
+-- What does not fit is the first fault of the rows.
+first_slot : (shape : Shape) (widths : List ℕ) (rows : RowMap) (o : ℕ) (slot : Option Row) (ends : Ends) (bytes : ℕ) → Laid shape widths rows o ends.offsets.items ends.items bytes → slot ≡ get rows o → (FitsSlot shape widths slot ends → ⊥)
+    → FirstUnheld shape widths (keys rows) (values rows) o
+first_slot shape widths rows o None ends bytes l is bad = absurd (bad tt)
+first_slot shape widths rows o (Some row) ends bytes l is bad = first_misfit shape widths rows o row ends.offsets.items ends.items bytes l (sym is) bad
 
-pub refused_slot : (shape : Shape) (widths : List ℕ) (rows : RowMap) (o : ℕ) (slot : Option Row) (ends : Ends) (bytes : ℕ) (fault : RowFault) → Laid shape widths rows o ends.offsets.items ends.items bytes → slot ≡ get rows o
-    → UnlessMemory (FitsSlot shape widths slot ends → ⊥) fault → UnlessMemory (HoldsRows shape widths [] (values_of (entries rows)) → ⊥) fault
-refused_slot shape widths rows o slot ends bytes RowFault.Memory l is bad = tt
-refused_slot shape widths rows o slot ends bytes (RowFault.At reason at) l is bad = misfit_slot shape widths rows o slot ends bytes l is bad
-refused_slot shape widths rows o slot ends bytes (RowFault.Limit limit) l is bad = misfit_slot shape widths rows o slot ends bytes l is bad
+pub fails_slot : (shape : Shape) (layout : Layout) (rows : RowMap) (o : ℕ) (slot : Option Row) (ends : Ends) (bytes : ℕ) (fault : RowFault) → Laid shape layout.widths rows o ends.offsets.items ends.items bytes → slot ≡ get rows o
+    → FailsSlot shape layout.widths o slot ends fault → FailsHeld shape layout rows fault
+fails_slot shape layout rows o slot ends bytes (RowFault.At Reason.BadWidth at) l is f =
+    subst (λ n. FirstUnheld shape layout.widths (keys rows) (values rows) n) (sym f.0) (first_slot shape layout.widths rows o slot ends bytes l is f.1)
+fails_slot shape layout rows o slot ends bytes (RowFault.At _ at) l is f = absurd f
+fails_slot shape layout rows o slot ends bytes (RowFault.Limit limit) l is f = absurd f
+fails_slot shape layout rows o slot ends bytes RowFault.Memory l is f = tt
 
 -- All rows are laid out.
 pub all_laid : (shape : Shape) (widths : List ℕ) (rows : RowMap) (o : ℕ) (ends : List ℕ) (items bytes : ℕ) → Laid shape widths rows o ends items bytes → bound_of (keys rows) ≤ o → AreLaidOut shape widths (values_of (entries rows)) ends items bytes

@@ -1,6 +1,5 @@
 pub mod AddedRows
 pub mod AddedUp
-pub mod Additions
 pub mod Bounds
 pub mod Changes
 pub mod CopiedBytes
@@ -11,8 +10,10 @@ pub mod DifferingRows
 pub mod FieldBytes
 pub mod Fitting
 pub mod FixedHalves
+pub mod HalfColumns
 pub mod HalfRows
 pub mod Halves
+pub mod HeldWords
 pub mod HeldMoves
 pub mod KeptRecords
 pub mod KindsKept
@@ -25,6 +26,8 @@ pub mod MovedHalf
 pub mod Moves
 pub mod MovesExact
 pub mod NextStates
+pub mod PassedOrdinals
+pub mod PlaceReasons
 pub mod ReadPlaces
 pub mod RecordedRows
 pub mod RowSums

@@ -23,7 +23,7 @@ use Rattle.type_state.proofs.Lookups.{found, key_live, skipped}
 
 -- ---- the keys of rows
 
-keys_rise : (rows : RowMap) → IsStrictlyIncreasing (keys rows)
+pub keys_rise : (rows : RowMap) → IsStrictlyIncreasing (keys rows)
 keys_rise rows = λ k below. below_from_sorted (keys rows) k (k + 1) 0 (entries_rise rows) (omega arith) below
 
 key_there : (es : List (ℕ × Row)) (o : ℕ) → IsSome (find nat_cmp o es) → Contains (keys_of es) o

@@ -6,7 +6,7 @@ use Rattle.std.specs.List.Sorted.{IsStrictlySortedBy}
 use Rattle.std.specs.Ordering.{nat_cmp}
 use Rattle.std.specs.FinMap.{find, get, keys}
 use Rattle.std.specs.Map.{keys_of, values_of}
-use Rattle.std.proofs.lemmas.Bool.{cases_eq}
+use Rattle.std.proofs.lemmas.Bool.{cases_eq, cases_lt}
 use Rattle.std.proofs.lemmas.List.{get_or-map, length-map}
 use Rattle.std.proofs.lemmas.List.Elements.{All-contains}
 use Rattle.std.proofs.lemmas.Map.Keys.{sorted_from_strictly_increasing}
@@ -18,11 +18,12 @@ use Rattle.row_model.specs.Table.{RowMap}
 use Rattle.type_rows.specs.declared.patch.PatchSection.{PatchSection}
 use Rattle.type_rows.specs.Differing.{Difference}
 use Rattle.type_rows.specs.Layout.{places_of}
-use Rattle.type_rows.specs.Patches.{IsMovedBy, MovesRows}
+use Rattle.type_rows.specs.Patches.{MovesRows}
 use Rattle.type_rows.proofs.Entries.{below_bound}
-use Rattle.type_rows.proofs.MovedRows.{one_result}
 use Rattle.type_rows.proofs.Removal.{has_or}
 use Rattle.type_rows.proofs.Rising.{RiseFrom, none_is_not, from_sorted}
+use Rattle.row_faults.specs.MoveFault.{LeadsTo}
+use Rattle.row_faults.proofs.MoveFaults.{key_of_live}
 use Rattle.type_state.specs.declared.differences.Differences.{Differences}
 use Rattle.type_state.specs.Differences.{AreApart, AreBelow, present, removal, rows_with}
 use Rattle.type_state.specs.Moving.{IsDifferent, IsMoved}
@@ -51,11 +52,6 @@ behind o m os at = (suc at.0, omega (arith, at.1), at.2)
 lacks : {X : Type 0} (o : ℕ) (es : List (ℕ × X)) → (Contains (keys_of es) o → ⊥) → find nat_cmp o es ≡ None
 lacks o [] none = refl
 lacks o (e ∷ es) none = skipped o e es (λ same. none (0, omega arith, sym same)) ∙ lacks o es (λ at. none (behind o e.0 (keys_of es) at))
-
-all_below : (os : List ℕ) (limit : ℕ) → All (λ o. o < limit) os → bound_of os ≤ limit
-unfolding bound_of
-all_below [] limit below = omega arith
-all_below (o ∷ os) limit below = let first = below 0 0 (omega arith) in let rest = all_below os limit (λ k d inside. below (suc k) d (omega arith)) in omega (arith, first, rest)
 
 -- ---- what a patch makes differ
 
@@ -125,23 +121,30 @@ module _ (shape : Shape) (patch : PatchSection) (old : RowMap) (ds : Differences
         ∙ ap (λ f. either f (get old o)) (not_removed o removed);
   }
 
-  -- Where the bound of the new rows is one of a place, each has a place.
-  pub are_moved : bound_of (keys (rows_with old ds)) ≤ places_of patch.max → IsMoved shape patch old (rows_with old ds)
-  are_moved placed = record {
+  -- Each new row has a place: the added ones do, and those that stay.
+  each_placed : (o : ℕ) → IsSome (get (rows_with old ds) o) → o < places_of patch.max
+  each_placed o some = elim (has_or patch.added o) [
+    | inl at ↦ All-contains (λ m. m < places_of patch.max) patch.added o d.addable.placed at
+    | inr other ↦ elim (has_or patch.removed o) [
+      | inl gone ↦ absurd (none_is_not (get (rows_with old ds) o) (are_moves.gone o gone) some)
+      | inr stays ↦ elim (cases_lt o (places_of patch.max)) [
+        | inl low ↦ low
+        | inr high ↦ absurd (d.ordinals.staying o (key_of_live old o (subst IsSome (are_moves.kept o stays other) some), stays, high))
+      ]
+    ]
+  ]
+
+  pub are_moved : IsMoved shape patch old (rows_with old ds)
+  are_moved = record {
     added = d.added.rows;
     adds = d.added.adds;
     ordinals = record { removed_rise = d.removable.rise; removed_live = d.removable.live; added_rise = d.addable.rise; added_placed = d.addable.placed; added_free = d.addable.free };
     moves = are_moves;
-    placed = λ o some. let below = below_bound (rows_with old ds) o some in omega (arith, below, placed);
+    placed = each_placed;
   }
 
-  -- Else the patch moves the rows to none.
-  pub not_placed : places_of patch.max < bound_of (keys (rows_with old ds)) → (rows : RowMap) → IsMovedBy shape patch old rows → ⊥
-  not_placed high rows m =
-      let same : rows ≡ rows_with old ds = one_result shape patch old rows (rows_with old ds) m.added d.added.rows m.adds d.added.adds m.moves are_moves in
-      let low = all_below (keys rows) (places_of patch.max) m.held.places in
-      let bound = ap (λ (r : RowMap). bound_of (keys r)) same in
-      omega (arith, low, bound, high)
+  pub leads : LeadsTo shape patch old (rows_with old ds)
+  leads = record { ordinals = d.ordinals; rows = d.added.rows; adds = d.added.adds; moves = are_moves }
 
   pub added_small : places_of patch.max ≤ 2 ^ 22 → AreBelow (2 ^ 32 - 1) ds.added.items
   added_small few k e inside =

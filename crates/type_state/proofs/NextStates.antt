@@ -1,11 +1,16 @@
 -- The rows in the next halves of some states, as a table.
-use Rattle.std.proofs.Common.{◌≡◌, ℕ, zero, suc, ◌<◌, ◌≤◌, inl, inr, List, [], ◌∷◌, length, Some, refl, ap, sym, ◌∙◌, subst, arith}
-use Rattle.std.specs.Prelude.{slice_get, IsSome}
+use Rattle.std.proofs.Common.{◌≡◌, ℕ, zero, suc, ◌<◌, ◌≤◌, inl, inr, List, [], ◌∷◌, length, Option, None, Some, refl, ap, sym, ◌∙◌, subst, arith}
+use Rattle.std.specs.Prelude.{slice_get, IfSome, IsSome}
 use Rattle.std.specs.FinMap.{entries, keys, get}
 use Rattle.std.proofs.lemmas.Bool.{false≢true}
 use Rattle.ordinal_set.specs.Ordinals.{bound_of}
 use Rattle.row_model.specs.Table.{row_at, IsLive, IsBound}
 use Rattle.type_rows.proofs.Entries.{found_live, greatest, live_below, live_found}
+use Rattle.record_views.specs.declared.column.Column.{Column}
+use Rattle.column_rows.specs.declared.items.PackedItems.{PackedItems}
+use Rattle.column_rows.specs.Columns.{IsColumnOf}
+use Rattle.column_rows.specs.Items.{AreListsOf, AreRunsOf}
+use Rattle.type_state.specs.Columns.{AreListsIn, AreRunsIn, IsColumnIn}
 use Rattle.type_state.specs.State.{State}
 use Rattle.type_state.specs.Views.{table_of, next_halves}
 
@@ -34,3 +39,18 @@ bound_of_state states t bound state is bound_is = record {
 -- a type that is not there has the bound 0
 pub bound_of_none : (states : List State) (t : ℕ) → length states ≤ t → IsBound (table_of (next_halves states)) t 0
 bound_of_none states t past = record { above = λ o live. absurd (no_row states t o past live); least = inl refl }
+
+-- ---- rows that are looked at where they stand
+
+module _ (states : List State) (t : ℕ) (state : State) (is : slice_get states t ≡ Some state) where
+  pub next_column_is : (field : ℕ) (found : Option Column) → IfSome found (IsColumnIn state.other.rows field) → IfSome found (IsColumnOf (table_of (next_halves states)) t field)
+  next_column_is field None shown = shown
+  next_column_is field (Some column) shown = λ ordinal row at. shown ordinal row (sym (row_of_state states t ordinal state is) ∙ at)
+
+  pub next_lists_are : (found : Option PackedItems) → IfSome found (AreListsIn state.other.rows) → IfSome found (AreListsOf (table_of (next_halves states)) t)
+  next_lists_are None shown = shown
+  next_lists_are (Some items) shown = λ ordinal row at. shown ordinal row (sym (row_of_state states t ordinal state is) ∙ at)
+
+  pub next_runs_are : (found : Option PackedItems) → IfSome found (AreRunsIn state.other.rows) → IfSome found (AreRunsOf (table_of (next_halves states)) t)
+  next_runs_are None shown = shown
+  next_runs_are (Some items) shown = λ ordinal row at. shown ordinal row (sym (row_of_state states t ordinal state is) ∙ at)

@@ -1,9 +1,9 @@
 -- How the rows of a half are kept: in packed words.
-use Rattle.std.specs.Prelude.{◌≡◌, ◌⊎◌, ℕ, List, [], None}
+use Rattle.std.specs.Prelude.{◌≡◌, ◌⊎◌, ℕ, List, [], None, length}
 use Rattle.schema_model.specs.declared.schema.Shape.{Shape}
 use Rattle.row_model.specs.Table.{RowMap}
 use Rattle.packed_half.specs.declared.half.HalfShape.{HalfShape}
-use Rattle.packed_half.specs.Half.{section_in}
+use Rattle.packed_half.specs.Half.{section_in, words_for}
 use Rattle.packed_half.specs.LaidOut.{IsLaidOut}
 use Rattle.packed_half.specs.Laying.{CanLay}
 use Rattle.spelled_rows.specs.Rows.{rows_in}
@@ -34,7 +34,9 @@ pub record IsPacked (shape : Shape) (half : HalfShape) (words : List ℕ) : Type
 abbrev pub IsHalf : Shape → HalfShape → List ℕ → Type 0
 IsHalf shape half words = IsBare half ⊎ IsPacked shape half words
 
--- Both halves of a type.
+-- Both halves of a type: each has as many words as it takes, none where nothing is laid out.
 pub record AreHalves (shape : Shape) (current other : HalfShape) (words others : List ℕ) : Type 0 where
   pub current_half : IsHalf shape current words
   pub other_half : IsHalf shape other others
+  pub current_long : length words ≡ words_for shape current
+  pub other_long : length others ≡ words_for shape other

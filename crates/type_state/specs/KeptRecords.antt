@@ -14,10 +14,11 @@ use Rattle.type_state.specs.Kept.{IsHalf, half_rows}
 abbrev pub kept_rows : KeptRecords → RowMap
 kept_rows kept = half_rows kept.shape.now kept.half.now kept.words.now
 
--- They are the records of a half that is kept, with the bytes of their fields.
+-- They are the records of a half that is kept, with the elements of their lists and the bytes of their fields.
 pub record AreKept (kept : KeptRecords) : Type 0 where
   pub half : IsHalf kept.shape.now kept.half.now kept.words.now
   pub first : kept.records.first.now ≡ (section_in kept.shape.now kept.half.now kept.words.now).first
+  pub second : kept.second.now ≡ (section_in kept.shape.now kept.half.now kept.words.now).second
   pub bytes : map bytes_of kept.records.areas.now ≡ (section_in kept.shape.now kept.half.now kept.words.now).areas
 
 -- The rows of a type of this shape.

@@ -1,6 +1,8 @@
+pub mod Columns
 pub mod Counted
 pub mod Current
 pub mod Differences
+pub mod FirstFaults
 pub mod Kept
 pub mod KeptRecords
 pub mod Live
@@ -11,3 +13,4 @@ pub mod Recorded
 pub mod SectionRows
 pub mod State
 pub mod Views
+pub mod WordsHeld

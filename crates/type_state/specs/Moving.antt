@@ -8,7 +8,6 @@ use Rattle.schema_model.specs.Parts.{shape_fields}
 use Rattle.row_model.specs.Table.{RowMap}
 use Rattle.schema_model.specs.declared.schema.Shape.{Shape}
 use Rattle.row_model.specs.declared.row.Row.{Row}
-use Rattle.type_rows.specs.declared.fault.RowFault.{RowFault}
 use Rattle.type_rows.specs.declared.patch.PatchSection.{PatchSection}
 use Rattle.type_rows.specs.declared.ends.Ends.{Ends}
 use Rattle.type_rows.specs.Ends.{FitsBehind}
@@ -16,13 +15,9 @@ use Rattle.type_rows.specs.Layout.{Layout, item_count, items_of_row, places_of}
 use Rattle.type_rows.specs.WordsHeld.{field_bytes, bytes_held, part_bytes, row_bytes}
 use Rattle.type_rows.specs.Holds.{HoldsRows, KeepsLimits}
 use Rattle.type_rows.specs.Patches.{AddsRows, FitsOrdinals, MovesRows, patch_layout}
+use Rattle.row_faults.specs.MoveFault.{OrdinalsPass}
 use Rattle.type_state.specs.declared.differences.Differences.{Differences}
 use Rattle.type_state.specs.Differences.{present, removal}
-
--- A fault other than want of memory tells this.
-abbrev pub UnlessMemory : Type 0 → RowFault → Type 0
-UnlessMemory told RowFault.Memory = Unit {0}
-UnlessMemory told _ = told
 
 -- The removed ordinals rise and are live.
 pub record AreRemovable (old : RowMap) (removed : List ℕ) : Type 0 where
@@ -42,9 +37,10 @@ pub record AreAdded (shape : Shape) (patch : PatchSection) (differences : List (
   pub are : values_of differences ≡ map present rows
   pub adds : AddsRows shape patch rows
 
--- The ordinals of a patch fit the old rows, and these are the differences that it makes: no row under a removed ordinal, and under an added
+-- No ordinal of a patch is bad beside the old rows, and these are the differences that it makes: no row under a removed ordinal, and under an added
 -- one the row that its place spells.
 pub record IsDifferent (shape : Shape) (patch : PatchSection) (old : RowMap) (differences : Differences) : Type 0 where
+  pub ordinals : OrdinalsPass patch old
   pub removable : AreRemovable old patch.removed
   pub addable : AreAddable old (places_of patch.max) patch.added
   pub removed : differences.removed.items ≡ map removal patch.removed

@@ -54,16 +54,6 @@ impl<'a> Current<'a> {
         self.half.live.contains(ordinal)
     }
 
-    /// Whether a row stands under a number that may be none of an ordinal.
-    pub(crate) fn has_row(&self, number: u64) -> bool
-        ensures { IsTrue result ↔ IsSome (get self.now.rows number) }
-    {
-        if number >= u64::from(self.half.live.bound()) {
-            return false;
-        }
-        self.half.live.contains(number as u32)
-    }
-
     /// The row under a live ordinal.
     pub(crate) fn row(&self, alloc: Global, ordinal: u32) -> Result<Row, AllocError>
         requires { IsSome (get self.now.rows ordinal) }

@@ -1,5 +1,6 @@
 //! The bytes of the fields of a half, each where it stands in words.
-ghost use Rattle.std.specs.Prelude.{◌≡◌, ◌^◌, ◌<◌, ◌≤◌, IfOk, length, map};
+ghost use Rattle.std.specs.Prelude.{◌≡◌, ◌^◌, ◌<◌, ◌≤◌, IfOk, drop, length, map};
+ghost use Rattle.row_model.specs.Areas.{area_of};
 ghost use Rattle.packed_half.specs.Half.{areas_in, byte_words, bytes_in, words_for_bytes};
 ghost use Rattle.record_views.specs.Bytes.{bytes_of};
 
@@ -37,4 +38,26 @@ pub(crate) fn bytes_of_fields<'a>(
         rest = &rest[len.div_ceil(8) as usize..];
     }
     Ok(areas)
+}
+
+/// The words behind those of so many bytes.
+fn behind(words: &[u64], len: u64) -> &[u64]
+    requires { words_for_bytes len ≤ length words.now }
+    ensures { result.now ≡ drop (words_for_bytes len) words.now }
+{
+    &words[len.div_ceil(8) as usize..]
+}
+
+/// The bytes of one of these fields. It takes no memory.
+pub(crate) fn bytes_of_field<'a>(words: &'a [u64], lengths: &[u64], index: usize) -> PackedBytes<'a>
+    requires inside { byte_words lengths.now ≤ length words.now }
+    requires few { byte_words lengths.now < 2 ^ 58 }
+    requires there { index < length lengths.now }
+    ensures { area_of (areas_in words.now lengths.now) index ≡ bytes_of result }
+{
+    let mut rest = words;
+    for before in 0..index {
+        rest = behind(rest, lengths[before]);
+    }
+    first_bytes(rest, lengths[index])
 }

@@ -1,17 +1,17 @@
 //! Whether a layout holds its rows, and whether they keep the limits.
-ghost use Rattle.std.specs.Prelude.{◌≡◌, ◌≤◌, ℕ, [], IfErr, IfOk, MatchResult, Some, length, slice_index};
+ghost use Rattle.std.specs.Prelude.{◌≡◌, ◌≤◌, ℕ, [], IfOk, MatchResult, Some, length, slice_index};
 ghost use Rattle.std.specs.FinMap.{keys, values};
 ghost use Rattle.ordinal_set.specs.Ordinals.{bound_of};
 ghost use Rattle.row_model.specs.declared.row.Row.{Row as StoredRow};
 ghost use Rattle.schema_model.specs.Parts.{shape_fields};
 ghost use Rattle.type_rows.specs.Layout.{width_count};
 ghost use Rattle.type_rows.specs.Holds.{HoldsRows};
-ghost use Rattle.type_rows.specs.Loads.{IsLoadFault};
 ghost use Rattle.type_rows.specs.Ends.{AreOfKind, IsOfKind};
 ghost use Rattle.type_rows.specs.Outline.{layout_at};
 ghost use Rattle.type_rows.specs.Totals.{AreTotals};
 ghost use Rattle.type_state.specs.Differences.{AreApart, rows_with};
-ghost use Rattle.type_state.specs.Moving.{AreLaidOut, FitsSlot, IsHeld, LaysSlot, UnlessMemory};
+ghost use Rattle.type_state.specs.FirstFaults.{FailsHeld, FailsSlot};
+ghost use Rattle.type_state.specs.Moving.{AreLaidOut, IsHeld, LaysSlot};
 
 use crate::change::totals_by_change;
 use crate::current::Current;
@@ -21,7 +21,7 @@ use schema_model::{Limit, MAX_BYTES, MAX_WORDS, Reason, Schema, Shape};
 use std::alloc::Global;
 use type_rows::{Ends, MOST_ITEMS, RowFault, Totals, fixed_words, row_len};
 
-/// Lays out what stands under an ordinal, if a row does, and tests that each part of it fits its width; gives its bytes.
+/// Lays out what stands under an ordinal, if a row does, and tests that each part of it fits its width; gives its bytes. The fault names the ordinal.
 fn lay_slot(
     shape: &Shape,
     widths: &[u32],
@@ -33,8 +33,7 @@ fn lay_slot(
     requires narrow { (part : ℕ) → slice_index widths.now part ≤ 64 }
     requires long { length ends.old.offsets.items ≡ length (shape_fields shape.now) }
     requires kind { (row : StoredRow) → slot.now ≡ Some row → IsOfKind shape.now row }
-    ensures tells { MatchResult result (LaysSlot shape.now widths.now slot.now ends.old ends.new) (UnlessMemory (FitsSlot shape.now widths.now slot.now ends.old → ⊥)) }
-    ensures kind { IfErr result IsLoadFault }
+    ensures { MatchResult result (LaysSlot shape.now widths.now slot.now ends.old ends.new) (FailsSlot shape.now widths.now ordinal slot.now ends.old) }
 {
     let Some(row) = slot else {
         return Ok(0);
@@ -48,7 +47,8 @@ fn lay_slot(
     Ok(row_len(row))
 }
 
-/// Lays out rows one behind the other, tests that each part of them fits its width, and counts their bytes; the ends are at 0.
+/// Lays out rows one behind the other, tests that each part of them fits its width, and counts their bytes; the ends are at 0. The fault is that
+/// of the first row that does not fit.
 fn lay_out(
     alloc: Global,
     schema: &Schema,
@@ -64,8 +64,7 @@ fn lay_out(
     requires zero { (f : ℕ) → slice_index ends.old.offsets.items f ≡ 0 }
     requires long { length ends.old.offsets.items ≡ length (shape_fields schema.now.shape) }
     requires none { ends.old.items ≡ 0 }
-    ensures tells { MatchResult result (AreLaidOut schema.now.shape next.now.outline.widths (values (rows_with rows.now.rows next.now.differences)) ends.new.offsets.items ends.new.items) (UnlessMemory (HoldsRows schema.now.shape next.now.outline.widths [] (values (rows_with rows.now.rows next.now.differences)) → ⊥)) }
-    ensures kind { IfErr result IsLoadFault }
+    ensures { MatchResult result (AreLaidOut schema.now.shape next.now.outline.widths (values (rows_with rows.now.rows next.now.differences)) ends.new.offsets.items ends.new.items) (FailsHeld schema.now.shape (layout_at next.now.outline) (rows_with rows.now.rows next.now.differences)) }
 {
     let mut bytes: u64 = 0;
     for ordinal in 0..next.outline.bound {
@@ -82,7 +81,8 @@ fn lay_out(
     Ok(bytes)
 }
 
-/// Tests that the layout of a half holds its rows, laid out one behind the other, and that they keep the limits; gives what they add up to.
+/// Tests that the layout of a half holds its rows, laid out one behind the other, and that they keep the limit on words, then that on bytes;
+/// gives what they add up to.
 fn test_all(
     alloc: Global,
     schema: &Schema,
@@ -94,10 +94,9 @@ fn test_all(
     requires kinds { AreOfKind schema.now.shape (rows_with rows.now.rows next.now.differences) }
     requires apart { AreApart next.now.differences }
     requires bound { next.now.outline.bound ≡ bound_of (keys (rows_with rows.now.rows next.now.differences)) }
-    ensures tells { MatchResult result (λ _. IsHeld schema.now.shape (layout_at next.now.outline) (rows_with rows.now.rows next.now.differences)) (UnlessMemory (IsHeld schema.now.shape (layout_at next.now.outline) (rows_with rows.now.rows next.now.differences) → ⊥)) }
+    ensures tells { MatchResult result (λ _. IsHeld schema.now.shape (layout_at next.now.outline) (rows_with rows.now.rows next.now.differences)) (FailsHeld schema.now.shape (layout_at next.now.outline) (rows_with rows.now.rows next.now.differences)) }
     ensures totals { IfOk result (AreTotals (values (rows_with rows.now.rows next.now.differences))) }
     ensures long { IfOk result (λ sums. length sums.ends.offsets.items ≡ length (shape_fields schema.now.shape)) }
-    ensures kind { IfErr result IsLoadFault }
 {
     let mut ends = Ends::new(alloc, &schema.shape)?;
     let bytes = lay_out(alloc, schema, next, rows, &mut ends)?;
@@ -130,10 +129,9 @@ pub(crate) fn test_held(
     requires apart { AreApart next.now.differences }
     requires bound { next.now.outline.bound ≡ bound_of (keys (rows_with rows.now.rows next.now.differences)) }
     requires held { HoldsRows schema.now.shape rows.now.widths [] (values rows.now.rows) }
-    ensures tells { MatchResult result (λ _. IsHeld schema.now.shape (layout_at next.now.outline) (rows_with rows.now.rows next.now.differences)) (UnlessMemory (IsHeld schema.now.shape (layout_at next.now.outline) (rows_with rows.now.rows next.now.differences) → ⊥)) }
+    ensures tells { MatchResult result (λ _. IsHeld schema.now.shape (layout_at next.now.outline) (rows_with rows.now.rows next.now.differences)) (FailsHeld schema.now.shape (layout_at next.now.outline) (rows_with rows.now.rows next.now.differences)) }
     ensures totals { IfOk result (AreTotals (values (rows_with rows.now.rows next.now.differences))) }
     ensures long { IfOk result (λ sums. length sums.ends.offsets.items ≡ length (shape_fields schema.now.shape)) }
-    ensures kind { IfErr result IsLoadFault }
 {
     match totals_by_change(alloc, schema, next, rows)? {
         Some(sums) => Ok(sums),

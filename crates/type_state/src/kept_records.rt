@@ -1,17 +1,20 @@
-//! The records of a half that is kept, each copied to a place of other words as it stands.
+//! The records and lists of a half that is kept, each copied to a place of other words as it stands.
 ghost use Rattle.std.specs.Prelude.{◌≡◌, IsSome, OnOk, map};
 ghost use Rattle.std.specs.FinMap.{get};
 ghost use Rattle.object_codec.specs.Packing.{HasRoom, IsRowPut};
+ghost use Rattle.list_codec.specs.ListPlace.{IsList};
+ghost use Rattle.list_codec.specs.Packing.{HasRoom as HasListRoom, elements_of_place};
 ghost use Rattle.packed_half.specs.Half.{section_in};
+ghost use Rattle.packed_half.specs.Laying.{IsListPut};
 ghost use Rattle.record_views.specs.Bytes.{bytes_of};
 ghost use Rattle.type_state.specs.Kept.{IsHalf, half_rows};
 ghost use Rattle.type_state.specs.KeptRecords.{AreKept, kept_rows};
 
 use hol_varint::Octets;
 use packed_half::{HalfRows, HalfShape};
-use record_moves::{RecordPlace, WordRecords, copy_record};
-use record_views::PackedBytes;
-use row_model::Parts;
+use record_moves::{RecordPlace, WordRecords, copy_list, copy_record};
+use record_views::{PackedBytes, elements_at};
+use row_model::{Parts, Widths};
 use schema_model::{Schema, Shape};
 use std::alloc::{AllocError, Global};
 
@@ -26,6 +29,8 @@ pub(crate) struct KeptRecords<'a> {
     pub(crate) words: &'a [u64],
     /// The records where they stand in the words.
     pub(crate) records: WordRecords<'a>,
+    /// The elements of lists where they stand in the words.
+    pub(crate) second: &'a [u64],
 }
 
 impl<'a> KeptRecords<'a> {
@@ -46,6 +51,7 @@ impl<'a> KeptRecords<'a> {
             half: current.half,
             words: current.words,
             records,
+            second: current.second(),
         }
     }
 
@@ -74,5 +80,35 @@ impl<'a> KeptRecords<'a> {
         };
         let here = RecordPlace { widths, place };
         copy_record(alloc, schema, &self.records, there, here, first, areas)
+    }
+
+    /// Copies the list under a live ordinal to its place in other words, its elements from a start on, and answers where they end. It takes no
+    /// memory.
+    pub(crate) fn copy_list(
+        self,
+        widths: &Widths,
+        first: &mut [u64],
+        second: &mut [u64],
+        ordinal: u32,
+        start: u64,
+    ) -> u64
+        requires kept { AreKept self }
+        requires list { IsList self.shape.now }
+        requires live { IsSome (get (kept_rows self) ordinal) }
+        requires room { HasListRoom widths.now first.old second.old ordinal start (elements_of_place (get (kept_rows self) ordinal)) }
+        ensures { IsListPut widths.now first.old second.old first.new second.new ordinal start result (elements_of_place (get (kept_rows self.entry) ordinal)) }
+    {
+        let place = u64::from(ordinal);
+        let there = self.half.widths.as_slice();
+        match elements_at(
+            there,
+            self.half.total,
+            self.records.first,
+            self.second,
+            place,
+        ) {
+            Some(elements) => copy_list(elements, widths.as_slice(), first, second, place, start),
+            None => unreachable!(),
+        }
     }
 }

@@ -3,6 +3,7 @@
 
 mod added;
 mod change;
+mod columns;
 mod copied;
 mod copied_areas;
 mod copied_lists;
@@ -17,7 +18,6 @@ mod live;
 mod loading;
 mod moved_rows;
 mod moving;
-mod ordinals;
 mod place;
 mod planning;
 mod section_rows;

@@ -1,8 +1,9 @@
 //! From a section of a snapshot to the words of a half.
-ghost use Rattle.std.specs.Prelude.{◌≡◌, IfErr, MatchResult, OnOk, replicate};
+ghost use Rattle.std.specs.Prelude.{◌≡◌, [], IfErr, MatchResult, OnErr, OnOk, replicate};
 ghost use Rattle.row_model.specs.Table.{RowMap};
 ghost use Rattle.type_rows.specs.Loads.{IsLoadFault, Loads, RefusesLoad, layout_of};
 ghost use Rattle.type_rows.specs.WellFormed.{IsReadable};
+ghost use Rattle.row_faults.specs.LoadFault.{FailsLoad};
 ghost use Rattle.packed_half.specs.Half.{layout_in, words_for};
 ghost use Rattle.packed_half.specs.LaidOut.{IsLaidOut};
 ghost use Rattle.packed_half.specs.Laying.{CanLay};
@@ -11,6 +12,7 @@ use crate::copied::{copy_section, stand_alike};
 use crate::copied_areas::{copy_areas, records_stand_alike};
 use crate::copied_lists::{copy_lists, lists_stand_alike};
 use crate::section_rows::SectionRows;
+use crate::turning::clear_next;
 use hol_varint::Duplicate;
 use packed_half::{HalfShape, lay_out, words_of_half};
 use raw_words::{Halves, TwinWords};
@@ -28,6 +30,7 @@ pub(crate) fn half_of_section(
     requires { IsReadable schema.now.shape section.now }
     ensures tells { MatchResult result (λ half. (rows : RowMap) × Loads schema.now.shape section.now rows × CanLay schema.now.shape half rows × (layout_in half ≡ layout_of section.now)) (RefusesLoad schema.now.shape section.now) }
     ensures kind { IfErr result IsLoadFault }
+    ensures fault { IfErr result (FailsLoad schema.now.shape section.now) }
 {
     let Sums { items, lengths } = test_section(alloc, schema, section)?;
     let live = section.live.copy(alloc)?;
@@ -41,7 +44,7 @@ pub(crate) fn half_of_section(
 }
 
 #[tactic(auto, using(crate::proofs::Fitting::words_fit))]
-/// Lays out the rows of a section in the next half of two, in the words that it takes.
+/// Lays out the rows of a section in the next half of two, in the words that it takes. Where memory is refused the next half has no words.
 pub(crate) fn lay_section_next(
     alloc: Global,
     schema: &Schema,
@@ -52,12 +55,19 @@ pub(crate) fn lay_section_next(
     requires readable { IsReadable schema.now.shape section.now }
     requires loads { (rows : RowMap) × Loads schema.now.shape section.now rows × CanLay schema.now.shape half.now rows }
     ensures current { twin.new.current ≡ twin.old.current }
+    ensures lost { OnErr result (twin.new.other ≡ []) }
     ensures laid { OnOk result ((rows : RowMap) → Loads schema.now.shape section.now rows → IsLaidOut schema.now.shape half.now twin.new.other rows) }
 {
+    clear_next(twin);
     twin.reserve_next(words_of_half(&schema.shape, half) as usize)?;
     let Halves { from: _, to } = twin.split();
-    lay_section(alloc, schema, section, half, to)?;
-    Ok(())
+    match lay_section(alloc, schema, section, half, to) {
+        Ok(()) => Ok(()),
+        Err(refused) => {
+            clear_next(twin);
+            Err(refused)
+        }
+    }
 }
 
 /// Lays out the rows of a section in the words of a half.

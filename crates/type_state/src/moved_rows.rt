@@ -1,4 +1,4 @@
-//! The rows that a patch moves others to: each made as it is asked for, and its record copied as it stands where the patch keeps it.
+//! The rows that a patch moves others to: each made as it is asked for, and its record or list copied as it stands where the patch keeps it.
 ghost use Rattle.std.specs.Prelude.{◌≡◌};
 ghost use Rattle.type_state.specs.Differences.{AreApart, rows_with};
 ghost use Rattle.type_state.specs.KeptRecords.{AreKept, kept_rows};
@@ -8,8 +8,8 @@ use crate::differences::Differences;
 use crate::kept_records::KeptRecords;
 use hol_varint::Octets;
 use object_codec::put_row;
-use packed_half::NewRows;
-use row_model::Row;
+use packed_half::{NewRows, elements_in, put_elements};
+use row_model::{Row, Widths};
 use schema_model::Schema;
 use std::alloc::{AllocError, Global};
 use std::marker::Model;
@@ -80,10 +80,28 @@ impl NewRows for MovedRows<'_> {
     ) -> Result<(), AllocError> {
         let place = u64::from(ordinal);
         match self.differences.at(ordinal) {
-            Some(row) => put_row(alloc, schema, widths, first, areas, place, row),
+            Some(row) => put_row(alloc, schema, widths, first, areas, place, row.as_ref()),
             None => self
                 .records
                 .copy_record(alloc, schema, widths, first, areas, ordinal),
         }
+    }
+
+    fn put_list(
+        &self,
+        _alloc: Global,
+        widths: &Widths,
+        first: &mut [u64],
+        second: &mut [u64],
+        ordinal: u32,
+        start: u64,
+    ) -> Result<u64, AllocError> {
+        let place = u64::from(ordinal);
+        Ok(match self.differences.at(ordinal) {
+            Some(row) => put_elements(widths, first, second, place, start, elements_in(row)),
+            None => self
+                .records
+                .copy_list(widths, first, second, ordinal, start),
+        })
     }
 }

@@ -5,6 +5,7 @@ ghost use Rattle.packed_half.specs.Half.{layout_in, words_for};
 ghost use Rattle.packed_half.specs.LaidOut.{IsLaidOut};
 ghost use Rattle.packed_half.specs.Laying.{CanLay};
 ghost use Rattle.type_rows.specs.Loads.{IsLoadFault};
+ghost use Rattle.row_faults.specs.MoveFault.{FailsMove};
 ghost use Rattle.type_rows.specs.Outline.{layout_at};
 ghost use Rattle.type_rows.specs.Patches.{IsReadablePatch, RefusesMove, patch_layout};
 ghost use Rattle.type_state.specs.Differences.{AreApart, AreBelow, rows_with};
@@ -80,9 +81,7 @@ fn half_of(alloc: Global, rows: &Current<'_>, counted: CountedPlan) -> Result<Mo
 
 /// The half that a patch moves the current one to, at the patch's layout, which holds its rows within the limits.
 ///
-/// `At` names an ordinal: `BadOrdinals` a removed one that does not rise or is not live, an added one that does not rise, has no place or is
-/// live, and one that stays and has no place; the other reasons an added one whose place spells no row, `BadWidth` one of the new rows that the
-/// widths cannot hold. `Limit` names the limit on words or bytes that the new rows pass.
+/// Each fault but want of memory is the first of the patch, as `TypeState::move_next` tells of it.
 pub(crate) fn moved(
     alloc: Global,
     schema: &Schema,
@@ -95,6 +94,7 @@ pub(crate) fn moved(
     ensures tells { MatchResult result (IsMoveOf schema.now.shape patch.now (half_rows schema.now.shape current.entry.half.now current.entry.words.now)) (RefusesMove schema.now.shape patch.now (half_rows schema.now.shape current.entry.half.now current.entry.words.now)) }
     ensures layout { IfOk result (λ next. layout_in next.half ≡ patch_layout patch.now) }
     ensures kind { IfErr result IsLoadFault }
+    ensures fault { IfErr result (FailsMove schema.now.shape patch.now (half_rows schema.now.shape current.entry.half.now current.entry.words.now)) }
 {
     let rows = Current::new(schema, current.half, current.words);
     let counted = planned(alloc, schema, &rows, patch)?;

@@ -1,13 +1,15 @@
 //! The row at a place, by the codec of its kind.
+ghost use Rattle.std.specs.Prelude.{IfErr};
 ghost use Rattle.type_rows.specs.Layout.{places_of};
 ghost use Rattle.type_rows.specs.WellFormed.{IsReadable};
 ghost use Rattle.type_rows.specs.Loads.{TellsPlace, parts_up_to};
+ghost use Rattle.type_state.specs.FirstFaults.{FailsPlace};
 
 use row_model::{Parts, PlaceFault, Row, Widths};
 use schema_model::{Schema, Shape};
 use std::alloc::Global;
 
-/// The row that a place of the parts of a type spells. Whether they can be read does not hang on the total.
+/// The row that a place of the parts of a type spells, or why it spells none. Whether they can be read does not hang on the total.
 pub(crate) fn read_place<P: Parts>(
     alloc: Global,
     schema: &Schema,
@@ -17,7 +19,8 @@ pub(crate) fn read_place<P: Parts>(
     place: u64,
 ) -> Result<Row, PlaceFault>
     requires { IsReadable schema.now.shape (parts_up_to widths.now 0 (P.first_words parts.now) (P.second_words parts.now) (P.area_bytes parts.now) place) }
-    ensures { TellsPlace schema.now.shape (parts_up_to widths.now total (P.first_words parts.now) (P.second_words parts.now) (P.area_bytes parts.now) place) place result }
+    ensures tells { TellsPlace schema.now.shape (parts_up_to widths.now total (P.first_words parts.now) (P.second_words parts.now) (P.area_bytes parts.now) place) place result }
+    ensures reason { IfErr result (FailsPlace schema.now.shape (parts_up_to widths.now total (P.first_words parts.now) (P.second_words parts.now) (P.area_bytes parts.now) place) place) }
 {
     match &schema.shape {
         Shape::Object(_, _) => object_codec::read(alloc, schema, widths, total, parts, place),

@@ -1,14 +1,14 @@
 //! From the current rows of a type and a patch to its next rows: their layout, the differences, and what the rows add up to.
-ghost use Rattle.std.specs.Prelude.{◌≡◌, ◌<◌, ◌≤◌, ◌-◌, ◌^◌, [], None, All, IfErr, IfOk, MatchResult, length, map};
+ghost use Rattle.std.specs.Prelude.{◌≡◌, ◌<◌, ◌≤◌, ◌-◌, ◌^◌, [], None, All, IfOk, MatchResult, length, map};
 ghost use Rattle.std.specs.FinMap.{keys, values};
 ghost use Rattle.ordinal_set.specs.Ordinals.{bound_of};
 ghost use Rattle.schema_model.specs.Parts.{shape_fields};
 ghost use Rattle.type_rows.specs.Holds.{HoldsRows};
-ghost use Rattle.type_rows.specs.Loads.{IsLoadFault};
-ghost use Rattle.type_rows.specs.Patches.{IsMovedBy, IsReadablePatch, RefusesMove, patch_layout};
+ghost use Rattle.type_rows.specs.Patches.{IsMovedBy, IsReadablePatch, patch_layout};
 ghost use Rattle.type_rows.specs.Ends.{AreOfKind};
 ghost use Rattle.type_rows.specs.Outline.{layout_at};
 ghost use Rattle.type_rows.specs.Totals.{AreTotals};
+ghost use Rattle.row_faults.specs.MoveFault.{FailsMove};
 ghost use Rattle.type_state.specs.Differences.{AreApart, AreBelow, removal, rows_with};
 ghost use Rattle.type_state.specs.Moving.{IsDifferent, IsMoved};
 
@@ -16,11 +16,11 @@ use crate::added::read_added;
 use crate::current::Current;
 use crate::differences::{Difference, Differences};
 use crate::held::test_held;
-use crate::ordinals::{test_added, test_removed};
 use hol_varint::Duplicate;
+use row_faults::first_bad_ordinal;
 use schema_model::{Reason, Schema};
 use std::alloc::{AllocError, Global};
-use type_rows::{Outline, PatchSection, RowFault, Totals, place_count};
+use type_rows::{Outline, PatchSection, RowFault, Totals};
 
 /// The rows that a patch moves others to, as differences from these, and their layout.
 #[derive(Debug, Drop)]
@@ -78,7 +78,8 @@ fn bound_with(rows: &Current<'_>, differences: &Differences) -> u32
     0
 }
 
-/// The differences of the rows that a patch moves others to. The removed ordinals are live, and so below the bound.
+/// The differences of the rows that a patch moves others to, or its first fault: its ordinals are tried, then the places of the added ones.
+/// The removed ordinals are live, and so below the bound.
 fn differences_of(
     alloc: Global,
     schema: &Schema,
@@ -86,20 +87,19 @@ fn differences_of(
     patch: &PatchSection,
 ) -> Result<Differences, RowFault>
     requires { IsReadablePatch schema.now.shape patch.now }
-    ensures tells { MatchResult result (λ differences. IsDifferent schema.now.shape patch.now rows.now.rows differences) (RefusesMove schema.now.shape patch.now rows.now.rows) }
-    ensures kind { IfErr result IsLoadFault }
+    ensures { MatchResult result (IsDifferent schema.now.shape patch.now rows.now.rows) (FailsMove schema.now.shape patch.now rows.now.rows) }
 {
     let _bound = rows.bound();
-    let places = place_count(patch.max);
-    test_removed(rows, patch.removed.as_slice())?;
-    test_added(rows, patch.added.as_slice(), places)?;
+    if let Some(ordinal) = first_bad_ordinal(rows.live(), patch) {
+        return Err(RowFault::At(Reason::BadOrdinals, ordinal));
+    }
     Ok(Differences {
         removed: removals(alloc, patch.removed.as_slice())?,
         added: read_added(alloc, schema, patch)?,
     })
 }
 
-/// The rows that a patch moves others to, at its layout, where each has a place.
+/// The rows that a patch moves others to, at its layout, where each has a place, or the first fault of its ordinals and places.
 fn differing(
     alloc: Global,
     schema: &Schema,
@@ -107,19 +107,14 @@ fn differing(
     patch: &PatchSection,
 ) -> Result<Plan, RowFault>
     requires { IsReadablePatch schema.now.shape patch.now }
-    ensures tells { MatchResult result (λ next. IsMoved schema.now.shape patch.now rows.now.rows (rows_with rows.now.rows next.differences)) (RefusesMove schema.now.shape patch.now rows.now.rows) }
+    ensures tells { MatchResult result (λ next. IsMoved schema.now.shape patch.now rows.now.rows (rows_with rows.now.rows next.differences)) (FailsMove schema.now.shape patch.now rows.now.rows) }
     ensures layout { IfOk result (λ next. layout_at next.outline ≡ patch_layout patch.now) }
     ensures bound { IfOk result (λ next. next.outline.bound ≡ bound_of (keys (rows_with rows.now.rows next.differences))) }
     ensures apart { IfOk result (λ next. AreApart next.differences) }
     ensures known { IfOk result (λ next. IsDifferent schema.now.shape patch.now rows.now.rows next.differences) }
-    ensures kind { IfErr result IsLoadFault }
 {
     let differences = differences_of(alloc, schema, rows, patch)?;
     let next_bound = bound_with(rows, &differences);
-    if u64::from(next_bound) > place_count(patch.max) {
-        let last = u64::from(next_bound - 1);
-        return Err(RowFault::At(Reason::BadOrdinals, last));
-    }
     let outline = Outline {
         max: patch.max,
         widths: patch.widths.copy(alloc)?,
@@ -131,7 +126,7 @@ fn differing(
     })
 }
 
-/// The rows that a patch moves others to, at its layout, which holds them within the limits, with what they add up to.
+/// The rows that a patch moves others to, at its layout, which holds them within the limits, with what they add up to; or the patch's first fault.
 pub(crate) fn planned(
     alloc: Global,
     schema: &Schema,
@@ -141,13 +136,12 @@ pub(crate) fn planned(
     requires readable { IsReadablePatch schema.now.shape patch.now }
     requires kinds { AreOfKind schema.now.shape rows.now.rows }
     requires held { HoldsRows schema.now.shape rows.now.widths [] (values rows.now.rows) }
-    ensures tells { MatchResult result (λ counted. IsMovedBy schema.now.shape patch.now rows.now.rows (rows_with rows.now.rows counted.plan.differences)) (RefusesMove schema.now.shape patch.now rows.now.rows) }
+    ensures tells { MatchResult result (λ counted. IsMovedBy schema.now.shape patch.now rows.now.rows (rows_with rows.now.rows counted.plan.differences)) (FailsMove schema.now.shape patch.now rows.now.rows) }
     ensures kinds { IfOk result (λ counted. AreOfKind schema.now.shape (rows_with rows.now.rows counted.plan.differences)) }
     ensures layout { IfOk result (λ counted. layout_at counted.plan.outline ≡ patch_layout patch.now) }
     ensures known { IfOk result (λ counted. IsDifferent schema.now.shape patch.now rows.now.rows counted.plan.differences) }
     ensures totals { IfOk result (λ counted. AreTotals (values (rows_with rows.now.rows counted.plan.differences)) counted.totals) }
     ensures long { IfOk result (λ counted. length counted.totals.ends.offsets.items ≡ length (shape_fields schema.now.shape)) }
-    ensures kind { IfErr result IsLoadFault }
 {
     let plan = differing(alloc, schema, rows, patch)?;
     let totals = test_held(alloc, schema, &plan, rows)?;

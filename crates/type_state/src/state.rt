@@ -1,27 +1,35 @@
 //! The state of one type: its current rows, and those of the state before or of the next one.
-ghost use Rattle.std.specs.Prelude.{◌≡◌, ◌↔◌, Some, IsSome, IfErr, IfOk, IsTrue, MatchResult, OnOk};
-ghost use Rattle.std.specs.FinMap.{get, keys};
+ghost use Rattle.std.specs.Prelude.{◌≡◌, ◌↔◌, Some, IsSome, IfErr, IfOk, IfSome, IsTrue, MatchResult, OnOk};
+ghost use Rattle.std.specs.FinMap.{get, keys, values};
 ghost use Rattle.ordinal_set.specs.Ordinals.{bound_of};
 ghost use Rattle.hol_varint.specs.Yields.{Yields};
 ghost use Rattle.row_model.specs.Lent.{lent_row};
 ghost use Rattle.row_model.specs.Table.{RowMap};
 ghost use Rattle.std.specs.List.{Contains};
 ghost use Rattle.bucket_codec.specs.Run.{FindsIn};
+ghost use Rattle.type_state.specs.Columns.{AreListsIn, AreRunsIn, IsColumnIn};
 ghost use Rattle.type_state.specs.Lookup.{elements_of, pairs_of};
 ghost use Rattle.type_rows.specs.WellFormed.{IsReadable};
 ghost use Rattle.type_rows.specs.Loads.{IsLoadFault, IsFreeRow, Loads, TellsLoad, layout_of};
 ghost use Rattle.type_rows.specs.Patches.{IsMovedBy, IsReadablePatch, RefusesMove, TellsMove, patch_layout};
+ghost use Rattle.row_faults.specs.LoadFault.{FailsLoad};
+ghost use Rattle.row_faults.specs.MoveFault.{FailsMove};
 ghost use Rattle.packed_half.specs.Half.{layout_in};
 ghost use Rattle.type_state.specs.Moved.{IsMoveOf};
 ghost use Rattle.type_state.specs.Kept.{IsBare};
+ghost use Rattle.type_rows.specs.WordsHeld.{bytes_held};
 ghost use Rattle.type_state.specs.State.{IsLaidOut, empty_half};
+ghost use Rattle.type_state.specs.WordsHeld.{words_held};
 
+use crate::columns::{column_in, lists_in, runs_in};
 use crate::loading::{half_of_section, lay_section_next};
 use crate::moving::{Move, moved};
-use crate::turning::lay_moved_next;
+use crate::turning::{clear_next, lay_moved_next};
+use column_rows::PackedItems;
 use ordinal_set::OrdinalSet;
-use packed_half::{HalfRows, HalfShape};
+use packed_half::{HalfRows, HalfShape, bytes_of_half};
 use raw_words::TwinWords;
+use record_views::Column;
 use row_model::{LentRow, Row, Widths, Words};
 use schema_model::Schema;
 use std::alloc::{AllocError, Global};
@@ -91,15 +99,18 @@ impl TypeState {
     /// Reads the live rows of a section of a snapshot into the next half, at the section's layout. The current half stays as it is. What the
     /// other one holds where the section is refused is not said.
     ///
-    /// `At` names an ordinal: `BadOrdinals` one above the max ordinal, `BadPointers`, `BadText`, `BadValue` and `BadBuckets` one whose place
-    /// spells no row, `BadWidth` one whose row the widths cannot hold when the live rows are laid out with no place between them. `Limit`
-    /// names the limit on words or bytes that the rows pass. `Memory` comes also where the lists have more than 2^28 elements together, which
-    /// within the limit on words only elements of no bits can, and where the runs of the sets or maps have more than 2^28 buckets, which
-    /// only runs that stand at many places can.
+    /// The fault is the first one of the section, and each comes exactly where it is that, or want of memory in its place (`row_faults` has the law
+    /// that there is one at most). The ordinals are tried first, then the places, the widths, the limit on words and that on bytes. `At` names an
+    /// ordinal: `BadOrdinals` the least live one above the max ordinal, `BadPointers`, `BadText`, `BadValue` and `BadBuckets` the first whose place
+    /// spells no row, `BadWidth` the first whose row the widths cannot hold when the live rows are laid out with no place between them. `Limit`
+    /// names the limit that the rows pass. `Memory` comes also where the lists have more than 2^28 elements together, which within the limit on
+    /// words only elements of no bits can, and where the runs of the sets or maps have more than 2^28 buckets, which only runs that stand at many
+    /// places can.
     pub fn load_next(&mut self, section: &Section) -> Result<(), RowFault>
         requires { IsReadable self.old.schema.shape section.now }
         ensures exact { Yields IsFreeRow result (Ok tt) ((rows : RowMap) × Loads self.old.schema.shape section.now rows) }
         ensures tells { TellsLoad self.old.schema.shape section.now self.new.other.rows result }
+        ensures fault { IfErr result (FailsLoad self.old.schema.shape section.now) }
         ensures kind { IfErr result IsLoadFault }
         ensures layout { OnOk result (self.new.other.layout ≡ layout_of section.now) }
         ensures laid { OnOk result (IsLaidOut self.new.schema self.new.other) }
@@ -116,15 +127,18 @@ impl TypeState {
     /// Lays out in the next half the current rows without those that a patch removes and with those that it adds, at the patch's layout. The
     /// current half stays as it is. What the other one holds where the patch is refused is not said.
     ///
-    /// `At` names an ordinal: `BadOrdinals` a removed one that does not rise or is not live, an added one that does not rise, has no place or is
-    /// live, and one that stays and has no place; `BadPointers`, `BadText`, `BadValue` and `BadBuckets` an added one whose place spells no row,
-    /// `BadWidth` one of the new rows that the widths cannot hold when they are laid out with no place between them. `Limit` names the limit
-    /// on words or bytes that the new rows pass. `Memory` comes also where these have more than 2^28 elements or buckets together, which
-    /// within the limit on words only those of no bits can.
+    /// The fault is the first one of the patch, and each comes exactly where it is that, or want of memory in its place (`row_faults` has the law
+    /// that there is one at most). The ordinals are tried first, then the places of the added ones, the widths, the limit on words and that on
+    /// bytes. `At` names an ordinal: `BadOrdinals` the first removed one that does not rise or is not live, else the first added one that does not
+    /// rise, has no place or is live, else the least that stays and has no place; `BadPointers`, `BadText`, `BadValue` and `BadBuckets` the first
+    /// added one whose place spells no row; `BadWidth` the first of the new rows that the widths cannot hold when they are laid out with no place
+    /// between them. `Limit` names the limit that the new rows pass. `Memory` comes also where these have more than 2^28 elements or buckets
+    /// together, which within the limit on words only those of no bits can.
     pub fn move_next(&mut self, patch: &PatchSection) -> Result<(), RowFault>
         requires { IsReadablePatch self.old.schema.shape patch.now }
         ensures exact { Yields IsFreeRow result (Ok tt) ((rows : RowMap) × IsMovedBy self.old.schema.shape patch.now self.old.current.rows rows) }
         ensures tells { TellsMove self.old.schema.shape patch.now self.old.current.rows self.new.other.rows result }
+        ensures fault { IfErr result (FailsMove self.old.schema.shape patch.now self.old.current.rows) }
         ensures kind { IfErr result IsLoadFault }
         ensures layout { OnOk result (self.new.other.layout ≡ patch_layout patch.now) }
         ensures laid { OnOk result (IsLaidOut self.new.schema self.new.other) }
@@ -148,6 +162,7 @@ impl TypeState {
         ensures tells { MatchResult result (λ next. IsMoveOf self.entry.now.schema.shape patch.now self.entry.now.current.rows next) (RefusesMove self.entry.now.schema.shape patch.now self.entry.now.current.rows) }
         ensures layout { IfOk result (λ next. layout_in next.half ≡ patch_layout patch.now) }
         ensures kind { IfErr result IsLoadFault }
+        ensures fault { IfErr result (FailsMove self.entry.now.schema.shape patch.now self.entry.now.current.rows) }
     {
         let current = HalfRows {
             shape: &self.schema.shape,
@@ -162,6 +177,7 @@ impl TypeState {
         ensures { self.new ≡ record self.old { other = empty_half } }
     {
         self.other = bare_half(self.alloc);
+        clear_next(&mut self.twin);
     }
 
     /// Makes the next half the current one, and the current one that of the state before. It takes no memory.
@@ -178,6 +194,20 @@ impl TypeState {
         ensures { result ≡ self.entry.now.current.layout.max }
     {
         self.now.max
+    }
+
+    /// How many words the current rows take where they stand: at the layout of the blob that last named the type, with nothing between them.
+    pub fn words_held(&self) -> u64
+        ensures { result ≡ words_held self.entry.now.schema.shape self.entry.now.current }
+    {
+        self.twin.current().len() as u64
+    }
+
+    /// How many bytes of STRING and BYTES fields the current rows have.
+    pub fn bytes_held(&self) -> u64
+        ensures { result ≡ bytes_held (values self.entry.now.current.rows) }
+    {
+        bytes_of_half(&self.now)
     }
 
     /// One past the greatest live ordinal of the current state, 0 for none.
@@ -205,6 +235,16 @@ impl TypeState {
             words: self.twin.current(),
         };
         half.row(alloc, &self.schema, ordinal)
+    }
+
+    /// Whether the current rows are seen to be those of another type of the same shape, with none of them looked at: both halves are described in
+    /// the same way, and have the same words. It answers true only where the rows are the same; the same rows may stand in other words too, at
+    /// another layout. It takes no memory.
+    pub fn has_same_rows(&self, other: &TypeState) -> bool
+        requires { self.now.schema.shape ≡ other.now.schema.shape }
+        ensures { IsTrue result → self.entry.now.current.rows ≡ other.entry.now.current.rows }
+    {
+        self.now.is_same(&other.now) && self.twin.current() == other.twin.current()
     }
 
     /// One past the greatest ordinal that was live in the state before, 0 for none.
@@ -305,5 +345,112 @@ impl TypeState {
         ensures { IfOk result (λ lent. get self.entry.now.other.rows ordinal ≡ Some (lent_row lent)) }
     {
         Ok(LentRow::Made(self.row_before(alloc, ordinal)?))
+    }
+
+    /// A field of the records of the current state; none where the type has no such field, and where there is no place. It takes no memory.
+    pub fn column(&self, field: u32) -> Option<Column<'_>>
+        ensures { IfSome result (IsColumnIn self.entry.now.current.rows field) }
+    {
+        let half = HalfRows {
+            shape: &self.schema.shape,
+            half: &self.now,
+            words: self.twin.current(),
+        };
+        column_in(half, field)
+    }
+
+    /// The lists of the current state; none where the type is of another kind, and where there is no place. It takes no memory.
+    pub fn lists(&self) -> Option<PackedItems<'_>>
+        ensures { IfSome result (AreListsIn self.entry.now.current.rows) }
+    {
+        let half = HalfRows {
+            shape: &self.schema.shape,
+            half: &self.now,
+            words: self.twin.current(),
+        };
+        lists_in(half)
+    }
+
+    /// The sets or maps of the current state; none where the type is of another kind, and where there is no place. It takes no memory.
+    pub fn runs(&self) -> Option<PackedItems<'_>>
+        ensures { IfSome result (AreRunsIn self.entry.now.current.rows) }
+    {
+        let half = HalfRows {
+            shape: &self.schema.shape,
+            half: &self.now,
+            words: self.twin.current(),
+        };
+        runs_in(half)
+    }
+
+    /// A field of the records of the next half, as `column` of the current one.
+    pub fn next_column(&self, field: u32) -> Option<Column<'_>>
+        ensures { IfSome result (IsColumnIn self.entry.now.other.rows field) }
+    {
+        let half = HalfRows {
+            shape: &self.schema.shape,
+            half: &self.other,
+            words: self.twin.other(),
+        };
+        column_in(half, field)
+    }
+
+    /// The lists of the next half, as `lists` of the current one.
+    pub fn next_lists(&self) -> Option<PackedItems<'_>>
+        ensures { IfSome result (AreListsIn self.entry.now.other.rows) }
+    {
+        let half = HalfRows {
+            shape: &self.schema.shape,
+            half: &self.other,
+            words: self.twin.other(),
+        };
+        lists_in(half)
+    }
+
+    /// The sets or maps of the next half, as `runs` of the current one.
+    pub fn next_runs(&self) -> Option<PackedItems<'_>>
+        ensures { IfSome result (AreRunsIn self.entry.now.other.rows) }
+    {
+        let half = HalfRows {
+            shape: &self.schema.shape,
+            half: &self.other,
+            words: self.twin.other(),
+        };
+        runs_in(half)
+    }
+}
+
+#[cfg(test)]
+mod tests {
+    use super::TypeState;
+    use packed_half::HalfShape;
+    use schema_model::{Fields, Name, Schema, Shape};
+    use std::test::Fail;
+
+    // Nothing else is kept of a type and of a half: a further field would have to be named here.
+    #[test]
+    fn keeps_nothing_else(rt: HostRuntime) -> Result<(), Fail> {
+        let name = Name::from_text(rt.alloc(), "A")?;
+        let shape = Shape::Object(None, Fields::new(rt.alloc()));
+        let state = TypeState::new(rt.alloc(), Schema { name, shape });
+        assert_eq!(rt; state.words_held(), 0);
+        assert_eq!(rt; state.bytes_held(), 0);
+        let TypeState {
+            alloc: _,
+            schema: _,
+            twin: _,
+            now,
+            other: _,
+        } = state;
+        let HalfShape {
+            max,
+            widths,
+            total,
+            lengths,
+            live,
+        } = now;
+        assert!(rt; max.is_none() && widths.is_empty() && total == 0);
+        assert!(rt; lengths.is_empty() && live.bound() == 0);
+        Ok(())
     }
 }

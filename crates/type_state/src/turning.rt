@@ -1,5 +1,5 @@
 //! The next half laid out beside the current one.
-ghost use Rattle.std.specs.Prelude.{◌≡◌, OnOk};
+ghost use Rattle.std.specs.Prelude.{◌≡◌, [], OnErr, OnOk};
 ghost use Rattle.packed_half.specs.LaidOut.{IsLaidOut};
 ghost use Rattle.packed_half.specs.Laying.{CanLay};
 ghost use Rattle.type_state.specs.Differences.{AreApart, rows_with};
@@ -11,8 +11,15 @@ use raw_words::{Halves, TwinWords};
 use schema_model::Schema;
 use std::alloc::{AllocError, Global};
 
+/// Leaves no words in the next half of two. It takes no memory.
+pub(crate) fn clear_next(twin: &mut TwinWords)
+    ensures { twin.new ≡ record twin.old { other = [] } }
+{
+    twin.reserve_next(0).unwrap();
+}
+
 #[tactic(auto, using(crate::proofs::Fitting::moved_fit))]
-/// Lays out the rows of a move in the next half of two, in the words that it takes.
+/// Lays out the rows of a move in the next half of two, in the words that it takes. Where memory is refused the next half has no words.
 pub(crate) fn lay_moved_next(
     alloc: Global,
     schema: &Schema,
@@ -24,8 +31,10 @@ pub(crate) fn lay_moved_next(
     requires apart { AreApart next.now.differences }
     requires can { CanLay schema.now.shape next.now.half (rows_with (half_rows schema.now.shape current.now twin.old.current) next.now.differences) }
     ensures current { twin.new.current ≡ twin.old.current }
+    ensures lost { OnErr result (twin.new.other ≡ []) }
     ensures laid { OnOk result (IsLaidOut schema.now.shape next.now.half twin.new.other (rows_with (half_rows schema.now.shape current.now twin.old.current) next.now.differences)) }
 {
+    clear_next(twin);
     twin.reserve_next(words_of_half(&schema.shape, &next.half) as usize)?;
     let Halves { from, to } = twin.split();
     let current = HalfRows {
@@ -33,6 +42,11 @@ pub(crate) fn lay_moved_next(
         half: current,
         words: from,
     };
-    lay_moved(alloc, schema, current, next, to)?;
-    Ok(())
+    match lay_moved(alloc, schema, current, next, to) {
+        Ok(()) => Ok(()),
+        Err(refused) => {
+            clear_next(twin);
+            Err(refused)
+        }
+    }
 }

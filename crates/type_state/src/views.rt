@@ -3,6 +3,8 @@ ghost use Rattle.std.specs.Prelude.{◌≡◌};
 ghost use Rattle.type_state.specs.Views.{AreNext, table_of, next_halves};
 
 use crate::TypeStates;
+use column_rows::{ColumnRows, PackedItems};
+use record_views::Column;
 use row_model::{LentRow, Row, Rows};
 use schema_model::Model;
 use std::alloc::{AllocError, Global};
@@ -79,5 +81,31 @@ impl<'a> Rows for NextRows<'a> {
         self.states
             .get(type_index as usize)
             .lend_next(alloc, ordinal)
+    }
+}
+
+impl<'a> ColumnRows for NextRows<'a> {
+    fn column(&self, type_index: u32, field: u32) -> Option<Column<'_>> {
+        let type_index = type_index as usize;
+        if type_index >= self.states.len() {
+            return None;
+        }
+        self.states.get(type_index).next_column(field)
+    }
+
+    fn lists(&self, type_index: u32) -> Option<PackedItems<'_>> {
+        let type_index = type_index as usize;
+        if type_index >= self.states.len() {
+            return None;
+        }
+        self.states.get(type_index).next_lists()
+    }
+
+    fn runs(&self, type_index: u32) -> Option<PackedItems<'_>> {
+        let type_index = type_index as usize;
+        if type_index >= self.states.len() {
+            return None;
+        }
+        self.states.get(type_index).next_runs()
     }
 }

@@ -1,25 +1,24 @@
-use Rattle.std.proofs.Common.{rules, [], arith}
-use Rattle.std.specs.FinMap.{values}
-use Rattle.type_rows.specs.Holds.{HoldsRows}
+use Rattle.std.proofs.Common.{rules, arith}
+use Rattle.type_rows.specs.Outline.{layout_at}
 use Rattle.type_state.specs.Differences.{rows_with}
-use Rattle.type_state.specs.Moving.{UnlessMemory}
-use Rattle.type_state.proofs.Layouts.{all_laid, begun, laid_slot, refused_slot}
+use Rattle.type_state.specs.FirstFaults.{FailsHeld}
+use Rattle.type_state.proofs.Layouts.{all_laid, begun, fails_slot, laid_slot}
 use Rattle.type_state.proofs.held.lay_out.Goals as goal
 
 pub loop-ordinal-init : goal.loop-ordinal-init
 loop-ordinal-init c =
     begun c.args.schema.now.shape c.args.next.now.outline.widths (rows_with c.args.rows.now.rows c.args.next.now.differences) c.args.ends.now.offsets.items c.args.ends.now.items c.requires.zero c.requires.none c.requires.long
 
-pub returns-clause-tells : goal.returns-clause-tells
-returns-clause-tells c =
+pub returns : goal.returns
+returns c =
     all_laid c.args.schema.now.shape c.args.next.now.outline.widths (rows_with c.args.rows.now.rows c.args.next.now.differences) c.loop-ordinal.ordinal c.loop-ordinal.ends.offsets.items c.loop-ordinal.ends.items c.loop-ordinal.bytes
     c.loop-ordinal.invariant (omega (arith, c.requires.bound, c.loop-ordinal-test.false))
 
-pub returns-in_err-more-clause-tells : goal.returns-in_err-more-clause-tells
-returns-in_err-more-clause-tells c =
+pub returns-in_err-more : goal.returns-in_err-more
+returns-in_err-more c =
     let rows = rows_with c.args.rows.now.rows c.args.next.now.differences in
-    let told : UnlessMemory (HoldsRows c.args.schema.now.shape c.args.next.now.outline.widths [] (values rows) → ⊥) c.in_err-more.field-0.0 =
-    refused_slot c.args.schema.now.shape c.args.next.now.outline.widths rows c.loop-ordinal.ordinal c.in_ok-slot.slot c.loop-ordinal.ends c.loop-ordinal.bytes c.in_err-more.field-0.0 c.loop-ordinal.invariant c.in_ok-slot.ensures (search rules) in
+    let told : FailsHeld c.args.schema.now.shape (layout_at c.args.next.now.outline) rows c.in_err-more.field-0.0 =
+    fails_slot c.args.schema.now.shape (layout_at c.args.next.now.outline) rows c.loop-ordinal.ordinal c.in_ok-slot.slot c.loop-ordinal.ends c.loop-ordinal.bytes c.in_err-more.field-0.0 c.loop-ordinal.invariant c.in_ok-slot.ensures (search rules) in
     search rules
 
 pub loop-ordinal-preserved : goal.loop-ordinal-preserved

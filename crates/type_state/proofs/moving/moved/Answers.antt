@@ -5,7 +5,9 @@ use Rattle.std.proofs.Common.{◌≡◌}
 use Rattle.packed_half.specs.Laying.{CanLay, EachRowOf}
 use Rattle.type_rows.specs.Ends.{AreOfKind}
 use Rattle.type_rows.specs.Holds.{HoldsRows}
+use Rattle.type_rows.specs.Loads.{IsLoadFault}
 use Rattle.type_rows.specs.Patches.{RefusesMove}
+use Rattle.row_faults.specs.MoveFault.{FailsMove}
 use Rattle.type_state.specs.declared.differences.Differences.{Differences}
 use Rattle.type_state.specs.Current.{Standing}
 use Rattle.type_state.specs.declared.moving.Move.{Move}
@@ -13,6 +15,7 @@ use Rattle.type_state.specs.Differences.{rows_with}
 use Rattle.type_state.specs.Kept.{half_rows}
 use Rattle.type_state.specs.Moved.{IsMoveOf}
 use Rattle.type_state.proofs.Halves.{half_fits, half_held, half_kinds, half_stored}
+use Rattle.type_state.proofs.HeldMoves.{is_load_fault, refuses_move}
 use Rattle.type_state.proofs.LiveSets.{keys_moved}
 use Rattle.type_state.proofs.MovedHalf.{can_lay}
 use Rattle.type_state.proofs.Moves.{added_small, are_apart}
@@ -27,7 +30,19 @@ planned-requires-clause-held c = subst (λ (s : Standing). HoldsRows c.args.sche
 pub returns-in_err-counted-clause-tells : goal.returns-in_err-counted-clause-tells
 returns-in_err-counted-clause-tells c =
     let told : RefusesMove c.args.schema.now.shape c.args.patch.now (half_rows c.args.schema.now.shape c.args.current.half.now c.args.current.words.now) c.in_err-counted.field-0.0 =
-    subst (λ (s : Standing). RefusesMove c.args.schema.now.shape c.args.patch.now s.rows c.in_err-counted.field-0.0) c.new-rows.ensures c.in_err-counted.ensures.tells in
+    subst (λ (s : Standing). RefusesMove c.args.schema.now.shape c.args.patch.now s.rows c.in_err-counted.field-0.0) c.new-rows.ensures
+    (refuses_move c.args.schema.now.shape c.args.patch.now c.new-rows.result.rows c.in_err-counted.field-0.0 c.in_err-counted.ensures.tells) in
+    search rules
+
+pub returns-in_err-counted-clause-kind : goal.returns-in_err-counted-clause-kind
+returns-in_err-counted-clause-kind c =
+    let told : IsLoadFault c.in_err-counted.field-0.0 = is_load_fault c.args.schema.now.shape c.args.patch.now c.new-rows.result.rows c.in_err-counted.field-0.0 c.in_err-counted.ensures.tells in
+    search rules
+
+pub returns-in_err-counted-clause-fault : goal.returns-in_err-counted-clause-fault
+returns-in_err-counted-clause-fault c =
+    let told : FailsMove c.args.schema.now.shape c.args.patch.now (half_rows c.args.schema.now.shape c.args.current.half.now c.args.current.words.now) c.in_err-counted.field-0.0 =
+    subst (λ (s : Standing). FailsMove c.args.schema.now.shape c.args.patch.now s.rows c.in_err-counted.field-0.0) c.new-rows.ensures c.in_err-counted.ensures.tells in
     search rules
 
 pub half_of-requires : goal.half_of-requires

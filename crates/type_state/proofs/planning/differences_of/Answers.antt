@@ -1,11 +1,39 @@
-use Rattle.std.proofs.Common.{◌<◌, ◌^◌, List, ℕ, subst, sym, arith}
+use Rattle.std.proofs.Common.{◌<◌, ◌^◌, List, ℕ, map, ap, ◌∙◌, subst, sym, arith, rules}
 use Rattle.std.specs.Prelude.{All}
 use Rattle.type_rows.proofs.Entries.{below_bound}
-use Rattle.type_state.specs.Moving.{AreRemovable}
+use Rattle.row_faults.specs.MoveFault.{FailsMove, OrdinalsPass}
+use Rattle.type_state.specs.Differences.{removal}
+use Rattle.type_state.proofs.PassedOrdinals.{addable, fails_adds, removable}
 use Rattle.type_state.proofs.planning.differences_of.Goals as goal
+
+pub returns-in-Some : goal.returns-in-Some
+returns-in-Some c = c.in-Some.ensures c.args.rows.now.rows (sym c.live.ensures)
 
 pub removals-requires : goal.removals-requires
 removals-requires c =
-    let removable : AreRemovable c.args.rows.now.rows c.args.patch.now.removed = subst (λ (os : List ℕ). AreRemovable c.args.rows.now.rows os) c.as_slice.ensures c.in_ok-test_removed.ensures.tells in
-    let small : All (λ o. o < 2 ^ 32) c.args.patch.now.removed = λ k d inside. (let low = below_bound c.args.rows.now.rows _ (removable.live k d inside) in omega (arith, low, c.bound-bound.ensures.bound, c.bound-bound.ensures.small)) in
-    subst (All (λ o. o < 2 ^ 32)) (sym c.as_slice-3.ensures) small
+    let live = (removable c.args.patch.now c.args.rows.now.rows (c.in_default.ensures c.args.rows.now.rows (sym c.live.ensures)).removed).live in
+    let small : All (λ o. o < 2 ^ 32) c.args.patch.now.removed = λ k d inside. (let low = below_bound c.args.rows.now.rows _ (live k d inside) in omega (arith, low, c.bound-bound.ensures.bound, c.bound-bound.ensures.small)) in
+    subst (All (λ o. o < 2 ^ 32)) (sym c.as_slice.ensures) small
+
+pub read_added-requires-clause-rising : goal.read_added-requires-clause-rising
+read_added-requires-clause-rising c = (addable c.args.patch.now c.args.rows.now.rows (c.in_default.ensures c.args.rows.now.rows (sym c.live.ensures)).added).rise
+
+pub read_added-requires-clause-placed : goal.read_added-requires-clause-placed
+read_added-requires-clause-placed c = (addable c.args.patch.now c.args.rows.now.rows (c.in_default.ensures c.args.rows.now.rows (sym c.live.ensures)).added).placed
+
+pub returns-in_err-read_added : goal.returns-in_err-read_added
+returns-in_err-read_added c =
+    let told : FailsMove c.args.schema.now.shape c.args.patch.now c.args.rows.now.rows c.in_err-read_added.field-0.0 =
+    fails_adds c.args.schema.now.shape c.args.patch.now c.args.rows.now.rows c.in_err-read_added.field-0.0 (c.in_default.ensures c.args.rows.now.rows (sym c.live.ensures)) c.in_err-read_added.ensures in
+    search rules
+
+pub returns : goal.returns
+returns c =
+    let ordinals : OrdinalsPass c.args.patch.now c.args.rows.now.rows = c.in_default.ensures c.args.rows.now.rows (sym c.live.ensures) in
+    record {
+      ordinals = ordinals;
+      removable = removable c.args.patch.now c.args.rows.now.rows ordinals.removed;
+      addable = addable c.args.patch.now c.args.rows.now.rows ordinals.added;
+      removed = c.in_ok-removals.ensures ∙ ap (λ (os : List ℕ). map removal os) c.as_slice.ensures;
+      added = c.in_ok-read_added.ensures;
+    }

@@ -1,26 +1,19 @@
 use Rattle.std.proofs.Common.{arith}
-use Rattle.type_state.proofs.Moves.{added_small, are_apart, are_moved, not_placed, removed_below}
+use Rattle.type_state.proofs.Moves.{added_small, are_apart, are_moved, removed_below}
 use Rattle.type_state.proofs.planning.differing.Goals as goal
 
 pub bound_with-next_bound-requires-clause-apart : goal.bound_with-next_bound-requires-clause-apart
-bound_with-next_bound-requires-clause-apart c = are_apart c.args.schema.now.shape c.args.patch.now c.args.rows.now.rows c.in_ok-differences.differences c.in_ok-differences.ensures.tells
+bound_with-next_bound-requires-clause-apart c = are_apart c.args.schema.now.shape c.args.patch.now c.args.rows.now.rows c.in_ok-differences.differences c.in_ok-differences.ensures
 
 pub bound_with-next_bound-requires-clause-small : goal.bound_with-next_bound-requires-clause-small
 bound_with-next_bound-requires-clause-small c =
-    added_small c.args.schema.now.shape c.args.patch.now c.args.rows.now.rows c.in_ok-differences.differences c.in_ok-differences.ensures.tells (omega (arith, c.requires.few))
+    added_small c.args.schema.now.shape c.args.patch.now c.args.rows.now.rows c.in_ok-differences.differences c.in_ok-differences.ensures (omega (arith, c.requires.few))
 
 pub bound_with-next_bound-requires-clause-removed : goal.bound_with-next_bound-requires-clause-removed
-bound_with-next_bound-requires-clause-removed c = removed_below c.args.schema.now.shape c.args.patch.now c.args.rows.now.rows c.in_ok-differences.differences c.in_ok-differences.ensures.tells
-
-pub returns-then-from-place_count-clause-tells : goal.returns-then-from-place_count-clause-tells
-returns-then-from-place_count-clause-tells c =
-    not_placed c.args.schema.now.shape c.args.patch.now c.args.rows.now.rows c.in_ok-differences.differences c.in_ok-differences.ensures.tells
-    (omega (arith, c.bound_with-next_bound.ensures, c.from.ensures, c.place_count.ensures.is, c.if-from-place_count.true))
+bound_with-next_bound-requires-clause-removed c = removed_below c.args.schema.now.shape c.args.patch.now c.args.rows.now.rows c.in_ok-differences.differences c.in_ok-differences.ensures
 
 pub returns-clause-tells : goal.returns-clause-tells
-returns-clause-tells c =
-    are_moved c.args.schema.now.shape c.args.patch.now c.args.rows.now.rows c.in_ok-differences.differences c.in_ok-differences.ensures.tells
-    (omega (arith, c.bound_with-next_bound.ensures, c.from.ensures, c.place_count.ensures.is, c.if-from-place_count.false))
+returns-clause-tells c = are_moved c.args.schema.now.shape c.args.patch.now c.args.rows.now.rows c.in_ok-differences.differences c.in_ok-differences.ensures
 
 pub returns-clause-apart : goal.returns-clause-apart
-returns-clause-apart c = are_apart c.args.schema.now.shape c.args.patch.now c.args.rows.now.rows c.in_ok-differences.differences c.in_ok-differences.ensures.tells
+returns-clause-apart c = are_apart c.args.schema.now.shape c.args.patch.now c.args.rows.now.rows c.in_ok-differences.differences c.in_ok-differences.ensures

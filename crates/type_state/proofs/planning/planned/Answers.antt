@@ -1,10 +1,11 @@
 use Rattle.std.proofs.Common.{rules, ◌≤◌, ◌∙◌, ap, sym, subst, length}
 use Rattle.std.specs.Prelude.{slice_index}
 use Rattle.type_rows.specs.Outline.{layout_at}
-use Rattle.type_rows.specs.Patches.{RefusesMove}
+use Rattle.row_faults.specs.MoveFault.{FailsMove}
 use Rattle.type_rows.proofs.Places.{wide_long, wide_narrow}
 use Rattle.type_state.specs.Differences.{rows_with}
-use Rattle.type_state.proofs.HeldMoves.{moved_by, moved_kinds, refuses_held}
+use Rattle.type_state.proofs.HeldMoves.{fails_held, moved_by, moved_kinds}
+use Rattle.type_state.proofs.Moves.{leads}
 use Rattle.type_state.proofs.planning.planned.Goals as goal
 
 pub test_held-requires-clause-widths : goal.test_held-requires-clause-widths
@@ -19,8 +20,9 @@ test_held-requires-clause-kinds c = moved_kinds c.args.schema.now.shape c.args.p
 
 pub returns-in_err-totals-clause-tells : goal.returns-in_err-totals-clause-tells
 returns-in_err-totals-clause-tells c =
-    let told : RefusesMove c.args.schema.now.shape c.args.patch.now c.args.rows.now.rows c.in_err-totals.field-0.0 =
-    refuses_held c.args.schema.now.shape c.args.patch.now c.args.rows.now.rows (rows_with c.args.rows.now.rows c.in_ok-plan.plan.differences) (layout_at c.in_ok-plan.plan.outline) c.in_err-totals.field-0.0 c.in_ok-plan.ensures.layout c.in_ok-plan.ensures.tells c.in_err-totals.ensures.tells in
+    let told : FailsMove c.args.schema.now.shape c.args.patch.now c.args.rows.now.rows c.in_err-totals.field-0.0 =
+    fails_held c.args.schema.now.shape c.args.patch.now c.args.rows.now.rows (rows_with c.args.rows.now.rows c.in_ok-plan.plan.differences) (layout_at c.in_ok-plan.plan.outline) c.in_err-totals.field-0.0 c.in_ok-plan.ensures.layout
+    (leads c.args.schema.now.shape c.args.patch.now c.args.rows.now.rows c.in_ok-plan.plan.differences c.in_ok-plan.ensures.known) c.in_err-totals.ensures.tells in
     search rules
 
 pub returns-clause-tells : goal.returns-clause-tells

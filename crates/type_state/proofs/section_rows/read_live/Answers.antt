@@ -18,12 +18,12 @@ unreachable-requires c =
     let shape = c.args.schema.now.shape in
     let section = c.args.section.now in
     let told = subst (λ (r : Result Row PlaceFault). TellsPlace shape section c.from-place.result r) (c.in-Err-Bad.is ∙ ap (λ (f : PlaceFault). Err f) c.in-Err-Bad.field-0-is)
-    (tells_place shape section c.from-place.result c.read_place.result c.read_place.ensures) in
+    (tells_place shape section c.from-place.result c.read_place.result c.read_place.ensures.tells) in
     never_bad shape section c.args.ordinal c.requires.has c.requires.live (λ row spells. told row (subst (λ (n : ℕ). Spells shape section n row) (sym c.from-place.ensures) spells))
 
 pub returns-in-Ok : goal.returns-in-Ok
 returns-in-Ok c =
     let shape = c.args.schema.now.shape in
     let section = c.args.section.now in
-    let told = subst (λ (r : Result Row PlaceFault). TellsPlace shape section c.from-place.result r) c.in-Ok.is (tells_place shape section c.from-place.result c.read_place.result c.read_place.ensures) in
+    let told = subst (λ (r : Result Row PlaceFault). TellsPlace shape section c.from-place.result r) c.in-Ok.is (tells_place shape section c.from-place.result c.read_place.result c.read_place.ensures.tells) in
     row_live shape section c.args.ordinal c.requires.has c.requires.live c.in-Ok.row (subst (λ (n : ℕ). Spells shape section n c.in-Ok.row) c.from-place.ensures told)

@@ -1,4 +1,4 @@
-use Rattle.std.proofs.Common.{inl, List, ℕ, refl, subst, sym}
+use Rattle.std.proofs.Common.{inl, List, ℕ, length, refl, ap, subst, sym, ◌∙◌}
 use Rattle.row_model.specs.Table.{RowMap}
 use Rattle.type_rows.specs.Loads.{Loads}
 use Rattle.type_rows.specs.WellFormed.{IsReadable}
@@ -14,6 +14,8 @@ invariant_of-self-2 c =
     record {
       current_half = subst (λ (words : List ℕ). IsHalf c.self.inside.schema.shape c.self.inside.now words) (sym c.in_ok-lay_section_next.ensures.current) c.self.invariant.current_half;
       other_half = laid_half c.self.inside.schema.shape c.in_ok-half.half c.lay_section_next.new.twin.other rows c.in_ok-half.ensures.tells.2 (c.in_ok-lay_section_next.ensures.laid rows c.in_ok-half.ensures.tells.1);
+      current_long = ap (λ (words : List ℕ). length words) c.in_ok-lay_section_next.ensures.current ∙ c.self.invariant.current_long;
+      other_long = (c.in_ok-lay_section_next.ensures.laid rows c.in_ok-half.ensures.tells.1).long;
     }
 
 pub returns-clause-exact : goal.returns-clause-exact

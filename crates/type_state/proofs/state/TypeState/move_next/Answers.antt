@@ -1,4 +1,4 @@
-use Rattle.std.proofs.Common.{rules, ◌≡◌, inl, List, ℕ, refl, subst, sym}
+use Rattle.std.proofs.Common.{rules, ◌≡◌, inl, List, ℕ, length, refl, ap, subst, sym, ◌∙◌}
 use Rattle.packed_half.specs.Laying.{CanLay}
 use Rattle.type_rows.specs.Patches.{IsMovedBy, IsReadablePatch, TellsMove}
 use Rattle.type_state.specs.Differences.{rows_with}
@@ -19,6 +19,8 @@ invariant_of-self-2 c = record {
   current_half = subst (λ (words : List ℕ). IsHalf c.self.inside.schema.shape c.self.inside.now words) (sym c.in_ok-lay_moved_next.ensures.current) c.self.invariant.current_half;
   other_half = laid_half c.self.inside.schema.shape c.in_ok-next.next.half c.lay_moved_next.new.twin.other (rows_with (half_rows c.self.inside.schema.shape c.self.inside.now c.self.inside.twin.current) c.in_ok-next.next.differences)
       (subst (λ (s : State). CanLay s.schema.shape c.in_ok-next.next.half (rows_with s.current.rows c.in_ok-next.next.differences)) (sym c.self.view_is) c.in_ok-next.ensures.tells.can) c.in_ok-lay_moved_next.ensures.laid;
+  current_long = ap (λ (words : List ℕ). length words) c.in_ok-lay_moved_next.ensures.current ∙ c.self.invariant.current_long;
+  other_long = c.in_ok-lay_moved_next.ensures.laid.long;
 }
 
 pub returns-clause-exact : goal.returns-clause-exact

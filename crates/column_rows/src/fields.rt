@@ -1,0 +1,98 @@
+//! Whether the records of a type name live rows alone, field by field.
+ghost use Rattle.std.specs.Prelude.{ℕ, ◌≡◌, IsTrue, slice_get, Some};
+ghost use Rattle.schema_model.specs.declared.schema.Field.{Field as FieldOf};
+ghost use Rattle.column_rows.specs.Columns.{IsColumnOf};
+ghost use Rattle.column_rows.specs.Closed.{FieldNamesLive, NamesLiveThere};
+ghost use Rattle.column_rows.specs.Looked.{IsLooked};
+
+use crate::ColumnRows;
+use crate::looked::Looked;
+use record_views::{Column, ValueRef};
+use schema_model::{Field, FieldKind};
+
+/// Whether a field of the record under an ordinal, if there is one, names a live row of another type, if it names one.
+#[inline(always)]
+fn is_field_live<R: ColumnRows>(
+    rows: &R,
+    column: &Column,
+    type_index: u32,
+    field: u32,
+    target: u32,
+    ordinal: u32,
+) -> bool
+    requires { IsColumnOf (R.table rows.now) type_index field column.now }
+    ensures { IsTrue result → NamesLiveThere (R.table rows.now) type_index field target ordinal }
+{
+    if !rows.is_live(type_index, ordinal) {
+        return true;
+    }
+    match column.value(u64::from(ordinal)) {
+        ValueRef::Ref(named) => rows.is_live(target, named),
+        _ => true,
+    }
+}
+
+/// Whether a field of the records that are looked at in a type names live rows of another type alone.
+fn field_live<R: ColumnRows>(
+    rows: &R,
+    column: &Column,
+    type_index: u32,
+    field: u32,
+    target: u32,
+    looked: Looked<'_>,
+) -> bool
+    requires { IsColumnOf (R.table rows.now) type_index field column.now }
+    ensures { IsTrue result → (ordinal : ℕ) → IsLooked looked.entry ordinal → NamesLiveThere (R.table rows.now) type_index field target ordinal }
+{
+    let count = looked.count(rows.bound(type_index));
+    for index in 0..count {
+        let ordinal = looked.ordinal(index);
+        if !is_field_live(rows, column, type_index, field, target, ordinal) {
+            return false;
+        }
+    }
+    true
+}
+
+/// Whether a field of this kind names live rows alone in each record that is looked at; false also where the records do not stand packed.
+fn is_field_closed<R: ColumnRows>(
+    rows: &R,
+    type_index: u32,
+    kind: &FieldKind,
+    field: u32,
+    looked: Looked<'_>,
+) -> bool
+    ensures { IsTrue result → (ordinal : ℕ) → IsLooked looked.entry ordinal → FieldNamesLive (R.schemas rows.now) (R.table rows.now) type_index kind.now field ordinal }
+{
+    let FieldKind::Reference(name) = kind else {
+        return true;
+    };
+    let Some(target) = rows.model().index_of(name.text()) else {
+        return false;
+    };
+    let Some(column) = rows.column(type_index, field) else {
+        return false;
+    };
+    field_live(rows, &column, type_index, field, target, looked)
+}
+
+/// Whether each of these fields does.
+pub(crate) fn fields_closed<R: ColumnRows>(
+    rows: &R,
+    type_index: u32,
+    fields: &[Field],
+    looked: Looked<'_>,
+) -> bool
+    ensures { IsTrue result → (index : ℕ) (field : FieldOf) → slice_get fields.now index ≡ Some field → (ordinal : ℕ) → IsLooked looked.entry ordinal → FieldNamesLive (R.schemas rows.now) (R.table rows.now) type_index field.kind index ordinal }
+{
+    let Ok(count) = u32::try_from(fields.len()) else {
+        return false;
+    };
+    for index in 0..count {
+        let kind = &fields[index as usize].kind;
+        if !is_field_closed(rows, type_index, kind, index, looked) {
+            return false;
+        }
+    }
+    true
+}

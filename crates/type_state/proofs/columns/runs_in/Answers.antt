@@ -1,0 +1,12 @@
+use Rattle.std.proofs.Common.{rules, ◌≡◌, None}
+use Rattle.type_state.proofs.HalfColumns.{half_runs, packed_by_max}
+use Rattle.type_state.proofs.columns.runs_in.Goals as goal
+
+pub returns : goal.returns
+returns c =
+    let shape = c.args.rows.shape.now in
+    let half = c.args.rows.half.now in
+    let words = c.args.rows.words.now in
+    let some : half.max ≡ None → ⊥ = search rules in
+    half_runs shape half words c.items_of.result (c.has_runs.ensures c.if-not-has_runs.false) (packed_by_max shape half words c.requires some)
+    record { widths = c.items_of.ensures.widths; total = c.items_of.ensures.total; first = c.items_of.ensures.first; second = c.items_of.ensures.second }
