@@ -6,7 +6,6 @@ mod comparing;
 pub mod laws;
 mod models;
 mod place;
-mod same_schema;
 mod states;
 mod walk;
 

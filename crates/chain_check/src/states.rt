@@ -3,25 +3,27 @@ ghost use Rattle.std.specs.Prelude.{◌≡◌, ◌<◌, ◌↔◌, ℕ, IfOk, If
 ghost use Rattle.row_model.specs.Table.{IsLive, IsTableOf, row_at};
 ghost use Rattle.chain_check.specs.Compare.{FirstOtherOrdinal, FirstOtherRow};
 
-use crate::RowPlace;
+use crate::{RowPlace, Walk};
+use column_rows::are_same;
 use row_hash::same_row;
 use row_model::Rows;
 use std::alloc::{AllocError, Global};
 
 /// The place of the first rows of a model that differ in two states, one of them missing included: the first type, and its least such ordinal.
-/// `None` exactly where all rows are the same. Rows are looked at one by one, and no state is copied.
-pub fn first_other_row<A: Rows, B: Rows>(
+/// `None` exactly where all rows are the same. A type is asked as a whole first, and then looked at where it stands packed; where neither tells
+/// that its rows are the same, they are looked at one by one. No state is copied.
+pub fn first_other_row<W: Walk>(
     alloc: Global,
-    walked: &A,
-    fresh: &B,
+    walked: &W,
+    fresh: &W,
 ) -> Result<Option<RowPlace>, AllocError>
-    requires models { A.schemas walked.now ≡ B.schemas fresh.now }
-    requires fits { IsTableOf (B.schemas fresh.now) (B.table fresh.now) }
-    ensures first { IfOk result (FirstOtherRow (A.table walked.now) (B.table fresh.now)) }
-    ensures inside { IfOk result (λ place. IfSome place (λ at. at.type_index < length (B.schemas fresh.now))) }
+    requires models { W.schemas walked.now ≡ W.schemas fresh.now }
+    requires fits { IsTableOf (W.schemas fresh.now) (W.table fresh.now) }
+    ensures first { IfOk result (FirstOtherRow (W.table walked.now) (W.table fresh.now)) }
+    ensures inside { IfOk result (λ place. IfSome place (λ at. at.type_index < length (W.schemas fresh.now))) }
 {
     for type_index in 0..walked.model().len() {
-        if let Some(ordinal) = first_other_ordinal(alloc, walked, fresh, type_index)? {
+        if let Some(ordinal) = first_other_of_type(alloc, walked, fresh, type_index)? {
             return Ok(Some(RowPlace {
                 type_index,
                 ordinal,
@@ -31,7 +33,25 @@ pub fn first_other_row<A: Rows, B: Rows>(
     Ok(None)
 }
 
-// The least ordinal under which the rows of a type differ.
+// The least ordinal under which the rows of a type differ; where they are seen to be the same as a whole, none is made.
+fn first_other_of_type<W: Walk>(
+    alloc: Global,
+    walked: &W,
+    fresh: &W,
+    type_index: u32,
+) -> Result<Option<u32>, AllocError>
+    requires type_there { type_index < length (W.schemas walked.now) }
+    requires models { W.schemas walked.now ≡ W.schemas fresh.now }
+    requires fits { IsTableOf (W.schemas fresh.now) (W.table fresh.now) }
+    ensures { IfOk result (FirstOtherOrdinal (W.table walked.now) (W.table fresh.now) type_index) }
+{
+    if walked.has_same_rows(fresh, type_index) || are_same(walked, fresh, type_index) {
+        return Ok(None);
+    }
+    first_other_ordinal(alloc, walked, fresh, type_index)
+}
+
+// The same, row by row.
 fn first_other_ordinal<A: Rows, B: Rows>(
     alloc: Global,
     walked: &A,

@@ -1,16 +1,17 @@
 //! What walks along a chain.
-ghost use Rattle.std.specs.Prelude.{◌≡◌, ◌≢◌, ◌≤◌, ℕ, ℤ, Option, Some, Result, Ok, IfErr, OnOk};
+ghost use Rattle.std.specs.Prelude.{◌≡◌, ◌≢◌, ◌≤◌, ℕ, ℤ, Option, Some, Result, Ok, IfErr, IsTrue, OnOk};
 ghost use Rattle.hol_io.specs.Causes.{Rose};
 ghost use Rattle.hol_io.specs.Store.{Store};
+ghost use Rattle.row_model.specs.Table.{row_at};
 
+use column_rows::ColumnRows;
 use hol_io::BlobStore;
-use row_model::Rows;
 
 /// A state that is loaded from the snapshot of a version, and led from version to version by deltas and reverse deltas.
 ///
 /// What its calls answer is told by relations that each implementation names: of what the store tells that it holds, of the walker before and
 /// after the call, and of the answer.
-pub trait Walk: Rows {
+pub trait Walk: ColumnRows {
     /// Why a load or a step is refused.
     type Fault;
 
@@ -58,6 +59,12 @@ pub trait Walk: Rows {
     /// The tag of its state.
     fn walk_tag(&self) -> i64
         ensures { result ≡ tag self.now };
+
+    /// Whether all rows of a type are seen to be the same as those of another state of the same model, with none of them looked at by itself. It
+    /// answers true only where they are the same, and may answer false of any type.
+    fn has_same_rows(&self, other: &Self, type_index: u32) -> bool
+        requires { Self.schemas self.now ≡ Self.schemas other.now }
+        ensures { IsTrue result → (ordinal : ℕ) → row_at (Self.table self.now) type_index ordinal ≡ row_at (Self.table other.now) type_index ordinal };
 
     // Loads of a version lead to one state, where the store tells what it holds.
     ghost one_load: { (store : Store) (version : ℕ) (a b a' b' : Self) → loads (Some store) version a a' (Ok tt) → loads (Some store) version b b' (Ok tt) → a' ≡ b' };

@@ -7,6 +7,7 @@ ghost use Rattle.key_index.specs.Indexed.{AreKeysOf, AreUnder, CountsKeys, Count
 use crate::key_rows::KeyRows;
 use crate::read::read_key;
 use crate::reserved::Reserved;
+use column_rows::ColumnRows;
 use hol_io::Steps;
 use hol_varint::Ordinals;
 use row_model::{Rows, Values};
@@ -45,7 +46,7 @@ impl KeyIndex {
     /// An index of the live rows of a type by the values at the ends of paths. It counts a step for each live row.
     ///
     /// The rows are closed, and the paths are resolved paths of the type.
-    pub fn build<R: Rows, L: Ledger>(
+    pub fn build<R: ColumnRows, L: Ledger>(
         alloc: Global,
         rows: &R,
         type_index: u32,
@@ -79,7 +80,7 @@ impl KeyIndex {
 
     /// Makes ready for the rows of the next state: reads the keys of those that are added, and makes the room for them. What the index answers stays as
     /// it is, also where memory is refused; what was reserved before is forgotten. It counts a step for each row that is added, and on a refusal no more.
-    pub fn reserve<R: Rows, L: Ledger>(
+    pub fn reserve<R: ColumnRows, L: Ledger>(
         &mut self,
         next: &R,
         removed: &Ordinals,

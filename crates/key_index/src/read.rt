@@ -1,12 +1,11 @@
 //! Reading the key of a row.
 ghost use Rattle.std.specs.Prelude.{◌≡◌, ◌+◌, ◌<◌, IfOk, Some, length};
-ghost use Rattle.row_model.specs.Key.{key_of, type_behind as type_led_to, unless_null, value_along as value_at, value_in as field_value};
-ghost use Rattle.std.specs.Option.{option_copied};
+ghost use Rattle.row_model.specs.Key.{key_of, type_behind as type_led_to, unless_null as not_null, value_along as value_at};
 ghost use Rattle.row_model.specs.Table.{IsClosed, IsLive};
 
+use column_rows::{ColumnRows, field_value};
 use hol_io::Steps;
-use hol_varint::Duplicate;
-use row_model::{Row, Rows, Value, Values};
+use row_model::{Rows, Value, Values};
 use schema_model::{FieldKind, Model, Paths};
 use std::alloc::{AllocError, Global};
 use std::sync::ledger::Ledger;
@@ -14,7 +13,7 @@ use std::sync::ledger::Ledger;
 /// The key of the row under a live ordinal: the values at the ends of the paths, none where a null stands on one of them. It counts one step.
 ///
 /// The rows are closed.
-pub fn read_key<R: Rows, L: Ledger>(
+pub fn read_key<R: ColumnRows, L: Ledger>(
     alloc: Global,
     rows: &R,
     paths: &Paths,
@@ -40,7 +39,7 @@ pub fn read_key<R: Rows, L: Ledger>(
 }
 
 // The value to which fields lead from the row under a live ordinal; none where a null stands on the way or at its end.
-fn value_along<R: Rows>(
+fn value_along<R: ColumnRows>(
     alloc: Global,
     rows: &R,
     type_index: u32,
@@ -55,37 +54,26 @@ fn value_along<R: Rows>(
     let [field, rest @ ..] = fields else {
         return Ok(None);
     };
-    let lent = rows.lend(alloc, type_index, ordinal)?;
-    let Some(value) = value_in(lent.row(), *field) else {
+    let Some(value) = field_value(alloc, rows, type_index, ordinal, *field)? else {
         return Ok(None);
     };
     if rest.is_empty() {
-        return copy_unless_null(alloc, value);
+        return Ok(unless_null(value));
     }
     let (Value::Ref(named), Some(next)) = (value, type_behind(rows.model(), type_index, *field))
     else {
         return Ok(None);
     };
-    value_along(alloc, rows, next, *named, rest)
+    value_along(alloc, rows, next, named, rest)
 }
 
-// The value of a field of a record.
-fn value_in(row: &Row, field: u32) -> Option<&Value>
-    ensures { option_copied result ≡ field_value (Some row.now) field }
-{
-    match row {
-        Row::Object(values) => values.as_slice().get(field as usize),
-        _ => None,
-    }
-}
-
-// A copy of a value that is not null.
-fn copy_unless_null(alloc: Global, value: &Value) -> Result<Option<Value>, AllocError>
-    ensures { IfOk result (λ copy. copy ≡ unless_null (Some value.now)) }
+// A value that is not null.
+fn unless_null(value: Value) -> Option<Value>
+    ensures { result ≡ not_null (Some value) }
 {
     match value {
-        Value::Null => Ok(None),
-        _ => Ok(Some(value.copy(alloc)?)),
+        Value::Null => None,
+        _ => Some(value),
     }
 }
 

@@ -6,6 +6,7 @@ ghost use Rattle.key_index.specs.Slots.{added_row, next_of, with_added, without}
 
 use crate::key_rows::KeyRows;
 use crate::read::read_key;
+use column_rows::ColumnRows;
 use hol_io::Steps;
 use hol_varint::{Duplicate, List, Ordinals};
 use row_model::{Rows, Values};
@@ -32,7 +33,7 @@ pub(crate) struct Reserved {
 }
 
 // The rows under ordinals with their keys. It counts a step for each.
-fn read_added<R: Rows, L: Ledger>(
+fn read_added<R: ColumnRows, L: Ledger>(
     alloc: Global,
     next: &R,
     paths: &Paths,
@@ -79,7 +80,7 @@ fn put_all(rows: &mut KeyRows, added: AddedRows)
 
 impl Reserved {
     /// The rows that leave, and those that come with their keys. It counts a step for each row that comes, and on a refusal no more.
-    pub(crate) fn read<R: Rows, L: Ledger>(
+    pub(crate) fn read<R: ColumnRows, L: Ledger>(
         alloc: Global,
         next: &R,
         paths: &Paths,

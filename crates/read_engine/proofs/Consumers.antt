@@ -5,6 +5,7 @@ use Rattle.std.specs.FinMap.{get}
 use Rattle.std.specs.Option.{option_map}
 use Rattle.std.proofs.lemmas.Bool.{false≢true}
 use Rattle.std.proofs.lemmas.List.{length-map}
+use Rattle.std.proofs.lemmas.Option.{slice_get-map}
 use Rattle.schema_model.specs.declared.schema.Schema.{Schema}
 use Rattle.row_model.specs.Table.{IsTableOf, Table, row_at}
 use Rattle.type_state.specs.State.{Half, State}
@@ -17,7 +18,7 @@ use Rattle.state_moves.specs.Moving.{RefusesParts, StaysCurrent, TellsRefusal}
 use Rattle.state_moves.specs.Past.{PastPart, table_before}
 use Rattle.read_engine.specs.Indexes.{CountsStep}
 use Rattle.read_engine.specs.Kept.{IsKept, count_came, index_kept}
-use Rattle.read_engine.specs.Position.{IsPosition, Position, rows_now}
+use Rattle.read_engine.specs.Position.{IsOfType, IsPosition, Position, rows_now}
 use Rattle.read_engine.specs.Standing.{HasParts, IsStanding, position_of, stands_at}
 use Rattle.read_engine.specs.Taken.{CountsTaken, IsNotTaken, IsTaken, ReadsSome, TakesParts, TellsTaken}
 use Rattle.read_engine.specs.Walking.{schemas_at, table_at, tag_at}
@@ -113,6 +114,13 @@ module _ (tag : Option ℤ) (schemas : List Schema) (states : List State) (past 
       of_tag None nothing = ap (λ (xs : List State). table_of (current_halves xs)) nothing.no_states
       of_tag (Some at) stands = refl
 
+  pub named_are : map (λ (s : State). s.schema) states ≡ schemas_at now
+  named_are = subst (λ (n : Option Position). map (λ (s : State). s.schema) states ≡ schemas_at n) view (of_tag tag has)
+    where
+      of_tag : (t : Option ℤ) → HasParts t schemas states past kept → map (λ (s : State). s.schema) states ≡ schemas_at (stands_at t schemas states past kept)
+      of_tag None nothing = ap (λ (xs : List State). map (λ (s : State). s.schema) xs) nothing.no_states
+      of_tag (Some at) stands = stands.named
+
   pub is_position : IfSome now IsPosition
   is_position = each_position IsPosition (λ at stands. stands.position)
 
@@ -123,6 +131,18 @@ states_length at schemas states past kept stands = sym (length-map states (λ (s
 -- the current row of a type
 pub row_is : (states : List State) (t o : ℕ) (state : State) → slice_get states t ≡ Some state → row_at (table_of (current_halves states)) t o ≡ get state.current.rows o
 row_is states t o state there = row_of (table_of (current_halves states)) t o state.current.rows (current_at states t state there)
+
+-- what is so of a state is so of its type
+pub of_state : (at : ℤ) (schemas : List Schema) (states : List State) (past : List PastPart) (kept : List Indexed) → IsStanding at schemas states past kept → (t : ℕ) (state : State) → slice_get states t ≡ Some state → (Is : Schema → Half → Type 0)
+    → Is state.schema state.current → IsOfType (position_of at schemas states past kept) t Is
+of_state at schemas states past kept stands t state there Is is = λ schema half schema_there half_there.
+    let named : Some schema ≡ Some state.schema =
+    sym schema_there ∙ ap (λ (ss : List Schema). slice_get ss t) (sym stands.named) ∙ slice_get-map (λ (s : State). s.schema) states t ∙ ap (option_map (λ (s : State). s.schema)) there
+    in
+    let held : Some half ≡ Some state.current = sym half_there ∙ slice_get-map (λ (s : State). s.current) states t ∙ ap (option_map (λ (s : State). s.current)) there in
+    let same : schema ≡ state.schema = cc in
+    let current : half ≡ state.current = cc in
+    subst (λ (h : Half). Is schema h) (sym current) (subst (λ (s : Schema). Is s state.current) (sym same) is)
 
 -- ---- a step
 

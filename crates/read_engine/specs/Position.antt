@@ -1,5 +1,5 @@
 -- Where a consumer stands: the state that it has, and the rows before the last step.
-use Rattle.std.specs.Prelude.{◌<◌, ◌≤◌, ℕ, ℤ, List, All, length, refl}
+use Rattle.std.specs.Prelude.{◌≡◌, ◌<◌, ◌≤◌, ℕ, ℤ, List, All, Some, length, refl, slice_get}
 use Rattle.std.specs.Coded.{Coded, code_by, coded×, coded_ℕ, coded_ℤ, coded_list}
 use Rattle.std.specs.FinMap.{code}
 use Rattle.schema_model.specs.declared.limit.Limit.TheVariants.{Indexes}
@@ -32,6 +32,10 @@ pub record Position : Type 0 where
 -- The rows of the state.
 abbrev pub rows_now : Position → Table
 rows_now position = table_of position.halves
+
+-- Something is so of the type at an index, by its schema and its half.
+abbrev pub IsOfType : Position → ℕ → (Schema → Half → Type 0) → Type 0
+IsOfType position t Is = (schema : Schema) (half : Half) → slice_get position.schemas t ≡ Some schema → slice_get position.halves t ≡ Some half → Is schema half
 
 -- The paths of an index are resolved paths of its type.
 pub record IsIndexOf (schemas : List Schema) (index : Index) : Type 0 where

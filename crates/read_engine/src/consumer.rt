@@ -1,5 +1,6 @@
 //! A consumer: at first it has no state; a load gives it one, and steps move it.
-ghost use Rattle.std.specs.Prelude.{◌≡◌, ◌≢◌, ◌≤◌, ◌<◌, ◌↔◌, ◌⊎◌, Contains, Err, IfErr, IfSome, IsSome, IsSomeAnd, IsTrue, MatchOption, None, OnErr, OnOk, length};
+ghost use Rattle.std.specs.Prelude.{◌≡◌, ◌≢◌, ◌≤◌, ◌<◌, ◌↔◌, ◌⊎◌, Contains, Err, IfErr, IfSome, IsSome, IsSomeAnd, IsTrue, MatchOption, None, OnErr, OnOk, length, map};
+ghost use Rattle.std.specs.FinMap.{values};
 ghost use Rattle.std.specs.Option.{option_map};
 ghost use Rattle.hol_io.specs.declared.name.BlobName.TheVariants.{Snapshot};
 ghost use Rattle.hol_io.specs.Causes.{Rose};
@@ -8,11 +9,13 @@ ghost use Rattle.row_model.specs.Table.{row_at};
 ghost use Rattle.bucket_codec.specs.Run.{FindsIn};
 ghost use Rattle.type_state.specs.Lookup.{elements_of, pairs_of};
 ghost use Rattle.type_state.specs.Views.{table_of};
+ghost use Rattle.type_state.specs.WordsHeld.{words_held};
+ghost use Rattle.type_rows.specs.WordsHeld.{bytes_held};
 ghost use Rattle.snapshot_blob.specs.Snapshot.{IsSnapshotFault};
 ghost use Rattle.state_moves.specs.Halves.{current_halves};
 ghost use Rattle.read_engine.specs.Gone.{AreGone};
 ghost use Rattle.read_engine.specs.Indexes.{CountsStep};
-ghost use Rattle.read_engine.specs.Position.{IsPosition, Position, rows_now};
+ghost use Rattle.read_engine.specs.Position.{IsOfType, IsPosition, Position, rows_now};
 ghost use Rattle.read_engine.specs.Taking.{CountsPart, IsStepFault, IsStepName, LoadsExactly, StepsExactly, TellsLoad, TellsStep};
 ghost use Rattle.read_engine.specs.Walking.{schemas_at, table_at, tag_at};
 
@@ -203,6 +206,30 @@ impl Consumer {
         self.states.get(type_index as usize).at(ordinal, key)
     }
 
+    /// How many words the rows of a type take where they stand.
+    pub fn words_held(&self, type_index: u32) -> u64
+        requires { IsSomeAnd self.now (λ position. type_index < length position.schemas) }
+        ensures { IsSomeAnd self.now (λ position. IsOfType position type_index (λ schema half. result ≡ words_held schema.shape half)) }
+    {
+        self.states.get(type_index as usize).words_held()
+    }
+
+    /// How many bytes of STRING and BYTES fields the rows of a type have.
+    pub fn bytes_held(&self, type_index: u32) -> u64
+        requires { IsSomeAnd self.now (λ position. type_index < length position.schemas) }
+        ensures { IsSomeAnd self.now (λ position. IsOfType position type_index (λ schema half. result ≡ bytes_held (values half.rows))) }
+    {
+        self.states.get(type_index as usize).bytes_held()
+    }
+
+    /// The greatest ordinal of a type that has a place, by the last blob that named the type; none where there is no place.
+    pub fn max(&self, type_index: u32) -> Option<u32>
+        requires { IsSomeAnd self.now (λ position. type_index < length position.schemas) }
+        ensures { IsSomeAnd self.now (λ position. IsOfType position type_index (λ schema half. result ≡ half.layout.max)) }
+    {
+        self.states.get(type_index as usize).max()
+    }
+
     /// The tag of its state, 0 where it has no state.
     pub(crate) fn tag_or_zero(&self) -> i64
         ensures { result ≡ tag_at self.now }
@@ -220,7 +247,8 @@ impl Consumer {
 
     /// The states of these types.
     pub(crate) fn states(&self) -> &[TypeState]
-        ensures { table_of (current_halves result.now) ≡ table_at self.now }
+        ensures table { table_of (current_halves result.now) ≡ table_at self.now }
+        ensures schemas { map (λ state. state.schema) result.now ≡ schemas_at self.now }
     {
         self.states.as_slice()
     }

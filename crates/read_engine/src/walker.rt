@@ -8,10 +8,14 @@ ghost use Rattle.read_engine.specs.Walking.{WalksStep};
 use crate::Consumer;
 use blob_frame::BlobFault;
 use chain_check::Walk;
+use column_rows::{ColumnRows, PackedItems};
 use hol_io::{BlobName, BlobStore, Steps};
+use record_views::Column;
 use row_model::{LentRow, Row, Rows};
 use schema_model::Model;
-use state_moves::{bound_in, is_live_in, lend_in, row_in};
+use state_moves::{
+    bound_in, column_in, has_same_rows_in, is_live_in, lend_in, lists_in, row_in, runs_in,
+};
 use std::alloc::{AllocError, Global};
 use std::marker::Brand;
 use std::sync::ledger::{Blank, Ledger};
@@ -78,6 +82,20 @@ impl Rows for Walker {
     }
 }
 
+impl ColumnRows for Walker {
+    fn column(&self, type_index: u32, field: u32) -> Option<Column<'_>> {
+        column_in(self.consumer.states(), type_index, field)
+    }
+
+    fn lists(&self, type_index: u32) -> Option<PackedItems<'_>> {
+        lists_in(self.consumer.states(), type_index)
+    }
+
+    fn runs(&self, type_index: u32) -> Option<PackedItems<'_>> {
+        runs_in(self.consumer.states(), type_index)
+    }
+}
+
 impl Walk for Walker {
     ghost use Rattle.std.specs.Prelude.{◌≡◌, IsSome};
     ghost use Rattle.blob_frame.specs.declared.fault.BlobFault.TheVariants.{Store as store_failed};
@@ -114,6 +132,10 @@ impl Walk for Walker {
 
     fn walk_tag(&self) -> i64 {
         self.consumer.tag_or_zero()
+    }
+
+    fn has_same_rows(&self, other: &Self, type_index: u32) -> bool {
+        has_same_rows_in(self.consumer.states(), other.consumer.states(), type_index)
     }
 }
 

@@ -13,8 +13,8 @@ ghost use Rattle.snapshot_blob.specs.Stated.{AreAccepted, HasState, IsLoadedFrom
 use crate::body::Body;
 use crate::part::{TypePart, TypeParts};
 use blob_frame::BlobFault;
+use column_rows::first_dangling;
 use hol_varint::{Duplicate, GapList};
-use row_model::first_dangling;
 use schema_model::{Limit, MAX_ITEMS, MAX_ORDINALS, Model, ModelFault, Reason, Schemas, model_of};
 use std::alloc::{AllocError, Global};
 use type_rows::{RowFault, Section};

@@ -1,6 +1,7 @@
 pub mod Came
 pub mod Changed
 pub mod Closed
+pub mod ColumnTables
 pub mod Comings
 pub mod Flips
 pub mod Mapped

@@ -1,12 +1,13 @@
 -- Tables by type: those of the current rows and of the rows before.
 use Rattle.std.proofs.Common.{◌≡◌, ◌<◌, ◌⊎◌, inl, inr, ℕ, zero, suc, List, [], ◌∷◌, length, Bool, false, Option, Some, None, Result, refl, sym, ap, ◌∙◌, subst, arith}
-use Rattle.std.specs.Prelude.{IsSome, IsTrue, IfOk, ◌↔◌, slice_get}
+use Rattle.std.specs.Prelude.{IsSome, IsTrue, IfOk, ◌↔◌, map, slice_get}
 use Rattle.std.specs.List.{AllZip}
 use Rattle.std.specs.declared.alloc.AllocError.{AllocError}
 use Rattle.std.specs.FinMap.{get}
 use Rattle.std.specs.Option.{option_and_then, option_map}
 use Rattle.std.proofs.lemmas.Bool.{false≢true}
 use Rattle.std.proofs.lemmas.Option.{slice_get-map, slice_get_within}
+use Rattle.schema_model.specs.declared.schema.Schema.{Schema}
 use Rattle.row_model.specs.declared.row.Row.{Row}
 use Rattle.row_model.specs.declared.lent.LentRow.{LentRow}
 use Rattle.row_model.specs.Lent.{lent_row}
@@ -72,6 +73,26 @@ pub current_off : (states : List State) (t : ℕ) → slice_get states t ≡ Non
 current_off states t none =
     slice_get-map (λ (half : Half). half.rows) (current_halves states) t
     ∙ ap (option_map (λ (half : Half). half.rows)) (slice_get-map (λ (s : State). s.current) states t ∙ ap (option_map (λ (s : State). s.current)) none)
+
+-- types of the same states have the same shape
+pub same_shape : (states others : List State) (t : ℕ) (state other : State) → map (λ (s : State). s.schema) states ≡ map (λ (s : State). s.schema) others → slice_get states t ≡ Some state → slice_get others t ≡ Some other
+    → state.schema.shape ≡ other.schema.shape
+same_shape states others t state other named is also =
+    let one : Some state.schema ≡ Some other.schema =
+    sym (slice_get-map (λ (s : State). s.schema) states t ∙ ap (option_map (λ (s : State). s.schema)) is)
+    ∙ ap (λ (schemas : List Schema). slice_get schemas t) named
+    ∙ slice_get-map (λ (s : State). s.schema) others t
+    ∙ ap (option_map (λ (s : State). s.schema)) also in
+    let same : state.schema ≡ other.schema = cc in
+    ap (λ (schema : Schema). schema.shape) same
+
+-- types whose rows are the same have the same row under each ordinal
+pub same_rows_at : (states others : List State) (t : ℕ) (state other : State) → slice_get states t ≡ Some state → slice_get others t ≡ Some other → state.current.rows ≡ other.current.rows
+    → (o : ℕ) → row_at (table_of (current_halves states)) t o ≡ row_at (table_of (current_halves others)) t o
+same_rows_at states others t state other is also same o =
+    row_of (table_of (current_halves states)) t o state.current.rows (current_at states t state is)
+    ∙ ap (λ (rows : RowMap). get rows o) same
+    ∙ sym (row_of (table_of (current_halves others)) t o other.current.rows (current_at others t other also))
 
 -- ---- the rows before
 

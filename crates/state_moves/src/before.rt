@@ -7,8 +7,11 @@ ghost use Rattle.type_state.specs.Views.{table_of};
 ghost use Rattle.state_moves.specs.Halves.{current_halves};
 ghost use Rattle.state_moves.specs.Past.{FitsPast, table_before};
 
+use crate::columns::{column_before, lists_before, runs_before};
 use crate::now::state_at;
 use crate::past::{PastPart, bound_before, lend_before, part_at, row_before, was_live};
+use column_rows::{ColumnRows, PackedItems};
+use record_views::Column;
 use row_model::{LentRow, Row, Rows};
 use schema_model::Model;
 use std::alloc::{AllocError, Global};
@@ -80,6 +83,29 @@ impl<'a> Rows for Before<'a> {
         ordinal: u32,
     ) -> Result<LentRow<'_>, AllocError> {
         lend_of_past(alloc, self.states, self.past, type_index, ordinal)
+    }
+}
+
+impl<'a> ColumnRows for Before<'a> {
+    fn column(&self, type_index: u32, field: u32) -> Option<Column<'_>> {
+        match state_at(self.states, type_index) {
+            Some(state) => column_before(state, part_at(self.past, type_index), field),
+            None => None,
+        }
+    }
+
+    fn lists(&self, type_index: u32) -> Option<PackedItems<'_>> {
+        match state_at(self.states, type_index) {
+            Some(state) => lists_before(state, part_at(self.past, type_index)),
+            None => None,
+        }
+    }
+
+    fn runs(&self, type_index: u32) -> Option<PackedItems<'_>> {
+        match state_at(self.states, type_index) {
+            Some(state) => runs_before(state, part_at(self.past, type_index)),
+            None => None,
+        }
     }
 }
 

@@ -13,7 +13,8 @@ ghost use Rattle.state_moves.specs.Past.{FitsPast, table_before};
 use crate::MoveFault;
 use crate::coming::Coming;
 use crate::past::{PastPart, part_at};
-use row_model::{Rows, dangling_in, is_closed_at};
+use column_rows::{are_closed_at, dangling_in};
+use row_model::{Rows, is_closed_at};
 use schema_model::{Field, FieldKind, Model, Name, Reason, Shape};
 use std::alloc::{AllocError, Global};
 use type_state::TypeState;
@@ -78,6 +79,9 @@ fn are_closed(
     requires { IsSomeAnd (slice_get rows.now.schemas type_index) (λ schema. schema.shape ≡ shape.now) }
     ensures { IfOk result (λ closed. IsTrue closed ↔ All (IsClosedAt rows.now.schemas rows.now.table type_index) ordinals.now) }
 {
+    if are_closed_at(rows, type_index, ordinals) {
+        return Ok(true);
+    }
     for ordinal in ordinals {
         if !is_closed_at(alloc, rows, shape, type_index, *ordinal)? {
             return Ok(false);

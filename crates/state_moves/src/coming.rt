@@ -6,8 +6,11 @@ ghost use Rattle.type_state.specs.Views.{table_of};
 ghost use Rattle.state_moves.specs.Moving.{AreComing, IsComingLaid, coming_half, coming_halves};
 ghost use Rattle.state_moves.specs.Halves.{IsRowsBound};
 
+use crate::columns::{column_to_come, lists_to_come, runs_to_come};
 use crate::moved::is_named;
 use crate::now::state_at;
+use column_rows::{ColumnRows, PackedItems};
+use record_views::Column;
 use row_model::{LentRow, Row, Rows};
 use schema_model::Model;
 use std::alloc::{AllocError, Global};
@@ -88,6 +91,29 @@ impl<'a> Rows for Coming<'a> {
         match state_at(self.states, type_index) {
             Some(state) => lend_to_come(alloc, state, is_named(self.named, type_index), ordinal),
             None => unreachable!(),
+        }
+    }
+}
+
+impl<'a> ColumnRows for Coming<'a> {
+    fn column(&self, type_index: u32, field: u32) -> Option<Column<'_>> {
+        match state_at(self.states, type_index) {
+            Some(state) => column_to_come(state, is_named(self.named, type_index), field),
+            None => None,
+        }
+    }
+
+    fn lists(&self, type_index: u32) -> Option<PackedItems<'_>> {
+        match state_at(self.states, type_index) {
+            Some(state) => lists_to_come(state, is_named(self.named, type_index)),
+            None => None,
+        }
+    }
+
+    fn runs(&self, type_index: u32) -> Option<PackedItems<'_>> {
+        match state_at(self.states, type_index) {
+            Some(state) => runs_to_come(state, is_named(self.named, type_index)),
+            None => None,
         }
     }
 }

@@ -4,6 +4,7 @@
 
 mod before;
 mod closing;
+mod columns;
 mod coming;
 mod fault;
 mod moved;
@@ -14,10 +15,11 @@ mod past;
 mod turning;
 
 pub use before::Before;
+pub use columns::{column_in, lists_in, runs_in};
 pub use coming::Coming;
 pub use fault::MoveFault;
 pub use moved::{Moved, NamedTypes};
 pub use next_state::move_state;
-pub use now::{Now, bound_in, is_live_in, lend_in, row_in};
+pub use now::{Now, bound_in, has_same_rows_in, is_live_in, lend_in, row_in};
 pub use past::{PastPart, PastParts, no_past, part_at};
 pub use turning::{flip_all, flip_named};

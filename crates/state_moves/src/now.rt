@@ -1,10 +1,13 @@
 //! The rows of a state: the current ones of each type.
-ghost use Rattle.std.specs.Prelude.{◌≡◌, ◌↔◌, Some, None, IfOk, IsTrue, MatchOption, slice_get};
+ghost use Rattle.std.specs.Prelude.{◌≡◌, ◌↔◌, ℕ, Some, None, IfOk, IsTrue, MatchOption, map, slice_get};
 ghost use Rattle.row_model.specs.Lent.{lent_row};
 ghost use Rattle.row_model.specs.Table.{IsBound, IsLive, IsTableOf, row_at};
 ghost use Rattle.type_state.specs.Views.{table_of};
 ghost use Rattle.state_moves.specs.Halves.{current_halves};
 
+use crate::columns::{column_in, lists_in, runs_in};
+use column_rows::{ColumnRows, PackedItems};
+use record_views::Column;
 use row_model::{LentRow, Row, Rows};
 use schema_model::Model;
 use std::alloc::{AllocError, Global};
@@ -73,6 +76,20 @@ impl<'a> Rows for Now<'a> {
     }
 }
 
+impl<'a> ColumnRows for Now<'a> {
+    fn column(&self, type_index: u32, field: u32) -> Option<Column<'_>> {
+        column_in(self.states, type_index, field)
+    }
+
+    fn lists(&self, type_index: u32) -> Option<PackedItems<'_>> {
+        lists_in(self.states, type_index)
+    }
+
+    fn runs(&self, type_index: u32) -> Option<PackedItems<'_>> {
+        runs_in(self.states, type_index)
+    }
+}
+
 /// One past the greatest live ordinal of a type among the current rows of some types, 0 for none.
 pub fn bound_in(states: &[TypeState], type_index: u32) -> u32
     ensures { IsBound (table_of (current_halves states.now)) type_index result }
@@ -123,6 +140,21 @@ pub fn lend_in(
         Some(state) => state.lend(alloc, ordinal),
         None => unreachable!(),
     }
+}
+
+/// Whether the current rows of a type are seen to be the same among two states of the same types, as `has_same_rows` of `TypeState` tells it;
+/// false where there is no such type. It takes no memory.
+pub fn has_same_rows_in(states: &[TypeState], others: &[TypeState], type_index: u32) -> bool
+    requires { map (λ state. state.schema) states.now ≡ map (λ state. state.schema) others.now }
+    ensures { IsTrue result → (ordinal : ℕ) → row_at (table_of (current_halves states.now)) type_index ordinal ≡ row_at (table_of (current_halves others.now)) type_index ordinal }
+{
+    let Some(state) = state_at(states, type_index) else {
+        return false;
+    };
+    let Some(other) = state_at(others, type_index) else {
+        return false;
+    };
+    state.has_same_rows(other)
 }
 
 /// The state of a type, if there is such a type.

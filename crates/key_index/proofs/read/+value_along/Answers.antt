@@ -1,8 +1,5 @@
-use Rattle.std.proofs.Common.{arith, ap, sym, ◌∙◌, ◌≡◌, Some, Option, List}
-use Rattle.std.specs.Option.{option_copied}
+use Rattle.std.proofs.Common.{arith, ap, sym, ◌∙◌, ◌≡◌, Some, List}
 use Rattle.std.specs.Prelude.{slice_index_or}
-use Rattle.row_model.specs.declared.row.Row.{Row}
-use Rattle.row_model.specs.declared.row.Value.{Value}
 use Rattle.schema_model.specs.declared.schema.Schema.{Schema}
 use Rattle.row_model.specs.Key.{ordinal_in, type_behind, value_in}
 use Rattle.row_model.specs.Table.{IsLive, row_at}
@@ -17,10 +14,6 @@ value_along-requires g t c = λ κs within.
     let target : type_behind S c.args.type_index field ≡ Some c.in-Ref-Some.next =
     ap (λ (m : List Schema). type_behind m c.args.type_index field) (sym c.model.ensures.model) ∙ sym c.type_behind.ensures ∙ c.in-Ref-Some.is-1 in
     let names : ordinal_in (value_in (row_at T c.args.type_index c.args.ordinal) field) ≡ Some c.in-Ref-Some.named =
-    ap (λ (row : Option Row). ordinal_in (value_in row field)) c.in_ok-lent.ensures
-    ∙ ap (λ (row : Row). ordinal_in (value_in (Some row) field)) (sym c.row.ensures)
-    ∙ ap ordinal_in (sym c.value_in.ensures)
-    ∙ ap (λ v. ordinal_in (option_copied v)) c.in-Some.is
-    ∙ ap (λ (v : Value). ordinal_in (Some v)) c.in-Ref-Some.is-0 in
+    ap ordinal_in (sym c.in_ok-value.ensures ∙ c.in-Some.is ∙ ap Some c.in-Ref-Some.is-0) in
     let live : IsLive T c.in-Ref-Some.next c.in-Ref-Some.named = named_live S T c.args.type_index c.args.ordinal c.requires.closed field c.in-Ref-Some.next c.in-Ref-Some.named target names in
     ((let here = c.decreases in omega (arith, here)), (within, (live_type S T c.in-Ref-Some.next c.in-Ref-Some.named c.model.ensures.fits live, (c.requires.closed, live))))

@@ -8,13 +8,13 @@ use Rattle.read_engine.proofs.consumer.Consumer.now.Goals as goal
 
 pub new-requires : goal.new-requires
 new-requires c =
-    subst (IsTableOf c.types.result.now) (sym c.states.ensures) (subst (λ (schemas : List Schema). IsTableOf schemas (table_at c.args.self.now)) (sym c.types.ensures.schemas) (fits_at c.args.self.now c.types.ensures.position))
+    subst (IsTableOf c.types.result.now) (sym c.states.ensures.table) (subst (λ (schemas : List Schema). IsTableOf schemas (table_at c.args.self.now)) (sym c.types.ensures.schemas) (fits_at c.args.self.now c.types.ensures.position))
 
 pub returns-clause-schemas : goal.returns-clause-schemas
 returns-clause-schemas c = shows_schemas c.args.self.now c.new.result.schemas c.requires (c.new.ensures.schemas ∙ c.types.ensures.schemas)
 
 pub returns-clause-table : goal.returns-clause-table
-returns-clause-table c = shows_table c.args.self.now c.new.result.table c.requires (c.new.ensures.table ∙ c.states.ensures)
+returns-clause-table c = shows_table c.args.self.now c.new.result.table c.requires (c.new.ensures.table ∙ c.states.ensures.table)
 
 pub returns-clause-position : goal.returns-clause-position
 returns-clause-position c = stands_and c.args.self.now IsPosition c.requires c.types.ensures.position
