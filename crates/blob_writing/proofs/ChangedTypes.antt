@@ -1,56 +1,75 @@
 -- Lemmas on which types differ between two states that agree: those with an ordinal that is live in one of them alone.
-use Rattle.std.proofs.Common.{◌≡◌, ℕ, ◌+◌, ◌<◌, max, inl, inr, List, [], ◌∷◌, ◌++◌, get_or, length, Bool, true, false, Option, Some, None, refl, sym, ap, ◌∙◌, subst, arith}
-use Rattle.std.specs.Prelude.{◌↔◌, All, Contains, IsTrue, is_some, not}
-use mathlib.Core.Bool.{beq}
+use Rattle.std.proofs.Common.{◌≡◌, ◌≢◌, ◌⊎◌, ℕ, ◌+◌, ◌<◌, inl, inr, List, [], ◌∷◌, ◌++◌, get_or, length, true, false, Option, Some, None, refl, sym, ap, ◌∙◌, subst, arith}
+use Rattle.std.specs.Prelude.{◌↔◌, ◌==◌, ◌||◌, All, Contains, filter, is_some, not}
+use Rattle.std.specs.List.{list_any}
 use Rattle.std.specs.Cmp.{nat_cmp_total}
-use Rattle.std.specs.FinMap.{get, nat_cmp-IsAntisymmetric, same_map}
+use Rattle.std.specs.FinMap.{keys, nat_cmp-IsAntisymmetric, same_map}
 use Rattle.std.specs.List.Sorted.{IsStrictlyIncreasing}
-use Rattle.std.proofs.lemmas.Bool.{cases_lt}
+use Rattle.std.proofs.lemmas.Bool.{cases_Bool, cases_eq, cases_lt, eq-eqb, ne_eqb}
 use Rattle.std.proofs.lemmas.List.Elements.{Contains-append_cases, Contains-append_left, Contains-append_right}
 use Rattle.std.proofs.lemmas.List.Quantifiers.{all_pairs_push}
 use Rattle.std.proofs.lemmas.List.{get_or_default}
-use Rattle.ordinal_set.proofs.Members.{first_or_other, here, no_member, same_rising}
+use Rattle.ordinal_set.specs.Ordinals.{lacking}
+use Rattle.ordinal_set.proofs.Members.{Contains-filter, Contains-kept, first_or_other, here, no_member, passes-from_filter, same_rising, there}
 use Rattle.row_model.specs.Row.{Rises}
-use Rattle.row_model.specs.Table.{IsBound, IsLive, RowMap, Table, row_at}
+use Rattle.row_model.specs.Table.{IsLive, RowMap, Table, row_at}
 use Rattle.row_model.specs.declared.row.Row.{Row}
 use Rattle.row_model.specs.BothStates.{rows_in}
 use Rattle.row_model.proofs.RowsFrom.{get_in}
 use Rattle.row_packing.specs.Places.{Agree}
-use Rattle.blob_writing.specs.Changes.{AreChanged, IsChanged}
+use Rattle.row_packing.proofs.LiveRows.{is_live, live_is}
+use Rattle.blob_writing.specs.Changes.{AreChanged, IsChanged, gone}
 
--- ---- the ordinals of one type
+-- ---- the members that another set lacks
 
--- below the number the same ordinals are live
-abbrev pub AreAlike : Table → Table → ℕ → ℕ → Type 0
-AreAlike old new type_index limit = (ordinal : ℕ) → ordinal < limit → IsLive old type_index ordinal ↔ IsLive new type_index ordinal
+any_member : (other : List ℕ) (ordinal : ℕ) → Contains other ordinal → list_any (λ n. n == ordinal) other ≡ true
+any_member [] ordinal h = absurd (no_member ordinal h)
+any_member (x ∷ rest) ordinal h =
+    elim (cases_Bool (x == ordinal)) [
+      | inl same ↦ rw same refl
+      | inr apart ↦
+          elim (first_or_other x rest ordinal h) [
+            | inl is ↦ let test = eq-eqb x ordinal is in absurd cc
+            | inr behind ↦ rw apart (any_member rest ordinal behind)
+          ]
+    ]
+
+member_any : (other : List ℕ) (ordinal : ℕ) → list_any (λ n. n == ordinal) other ≡ true → Contains other ordinal
+member_any [] ordinal h = absurd cc
+member_any (x ∷ rest) ordinal h =
+    elim (cases_eq x ordinal) [
+      | inl same ↦ subst (Contains (x ∷ rest)) same (here x rest)
+      | inr apart ↦ there x rest ordinal (member_any rest ordinal (subst (λ b. (b || list_any (λ n. n == ordinal) rest) ≡ true) (ne_eqb x ordinal apart) h))
+    ]
+
+no_members : (set : List ℕ) → ((n : ℕ) → Contains set n → ⊥) → set ≡ []
+no_members [] none = refl
+no_members (x ∷ rest) none = absurd (none x (here x rest))
+
+-- what is lacked by a set with the same members
+none_lacked : (set other : List ℕ) → ((n : ℕ) → Contains set n → Contains other n) → lacking set other ≡ []
+unfolding lacking
+none_lacked set other all =
+    let lacks = λ (m : ℕ). not (list_any (λ n. n == m) other) in
+    no_members (filter lacks set) (λ n among.
+    let any = any_member other n (all n (Contains-filter lacks set n among)) in
+    let passes = passes-from_filter lacks set n among in
+    let apart : false ≡ true = ap not (sym any) ∙ passes in
+    absurd cc)
+
+-- where none is lacked, each member is one of the other set
+member_of_other : (set other : List ℕ) → lacking set other ≡ [] → (n : ℕ) → Contains set n → Contains other n
+unfolding lacking
+member_of_other set other none n inside =
+    let lacks = λ (m : ℕ). not (list_any (λ n. n == m) other) in
+    elim (cases_Bool (list_any (λ (m : ℕ). m == n) other)) [
+      | inl any ↦ member_any other n any
+      | inr lacked ↦ absurd (no_member n (subst (λ (l : List ℕ). Contains l n) none (Contains-kept lacks set n inside (ap not lacked))))
+    ]
+
+-- ---- one type
 
 module _ (old new : Table) (type_index : ℕ) where
-  alike_from : (ordinal : ℕ) (before after : Bool) → IsTrue before ↔ IsLive old type_index ordinal → IsTrue after ↔ IsLive new type_index ordinal → before ≡ after
-      → IsLive old type_index ordinal ↔ IsLive new type_index ordinal
-  alike_from ordinal before after is_old is_new same =
-      (λ live. is_new.0 (sym same ∙ is_old.1 live), λ live. is_old.0 (same ∙ is_new.1 live))
-
-  pub alike_more : (ordinal : ℕ) (before after : Bool) → AreAlike old new type_index ordinal → IsTrue before ↔ IsLive old type_index ordinal → IsTrue after ↔ IsLive new type_index ordinal
-      → before ≡ after → AreAlike old new type_index (ordinal + 1)
-  alike_more ordinal before after alike is_old is_new same n below =
-      elim (cases_lt n ordinal) [
-        | inl under ↦ alike n under
-        | inr from ↦
-            let is : ordinal ≡ n = omega (arith, from, below) in
-            subst (λ (o : ℕ). IsLive old type_index o ↔ IsLive new type_index o) is (alike_from ordinal before after is_old is_new same)
-      ]
-
-  same_row_at : rows_in old type_index ≡ rows_in new type_index → (ordinal : ℕ) → row_at old type_index ordinal ≡ row_at new type_index ordinal
-  same_row_at same ordinal = sym (get_in old type_index ordinal) ∙ ap (λ (rows : RowMap). get rows ordinal) same ∙ get_in new type_index ordinal
-
-  -- an ordinal that is live in one state alone
-  pub changed_at : (ordinal : ℕ) (before after : Bool) → IsTrue before ↔ IsLive old type_index ordinal → IsTrue after ↔ IsLive new type_index ordinal → (before ≡ after → ⊥)
-      → IsChanged old new type_index
-  changed_at ordinal true true is_old is_new differ same = differ refl
-  changed_at ordinal false false is_old is_new differ same = differ refl
-  changed_at ordinal true false is_old is_new differ same = differ (sym (is_new.1 (ap is_some (sym (same_row_at same ordinal)) ∙ is_old.0 refl)))
-  changed_at ordinal false true is_old is_new differ same = differ (is_old.1 (ap is_some (same_row_at same ordinal) ∙ is_new.0 refl))
-
   same_place : Agree old new type_index → (ordinal : ℕ) → IsLive old type_index ordinal ↔ IsLive new type_index ordinal → row_at old type_index ordinal ≡ row_at new type_index ordinal
   same_place agree ordinal alike = by_old (row_at old type_index ordinal) refl (row_at new type_index ordinal) refl
     where
@@ -61,30 +80,41 @@ module _ (old new : Table) (type_index : ℕ) where
       by_old (Some a) was None is = let live = alike.0 (ap is_some was) in let none = sym (ap is_some is) ∙ live in absurd cc
 
   -- where the same ordinals are live, the rows are the same
-  pub same_where_alike : Agree old new type_index → ((ordinal : ℕ) → IsLive old type_index ordinal ↔ IsLive new type_index ordinal) → rows_in old type_index ≡ rows_in new type_index
+  same_where_alike : Agree old new type_index → ((ordinal : ℕ) → IsLive old type_index ordinal ↔ IsLive new type_index ordinal) → rows_in old type_index ≡ rows_in new type_index
   same_where_alike agree alike =
       same_map nat_cmp_total nat_cmp-IsAntisymmetric (rows_in old type_index) (rows_in new type_index)
       (λ q. get_in old type_index q ∙ same_place agree q (alike q) ∙ sym (get_in new type_index q))
 
-  -- so it is where none is live in one state alone up to the bounds of both
-  pub same_rows : (bound bound' limit : ℕ) → Agree old new type_index → IsBound old type_index bound → IsBound new type_index bound' → limit ≡ max bound bound' → AreAlike old new type_index limit
-      → rows_in old type_index ≡ rows_in new type_index
-  same_rows bound bound' limit agree is is' up_to alike = same_where_alike agree everywhere
-    where
-      everywhere : (q : ℕ) → IsLive old type_index q ↔ IsLive new type_index q
-      everywhere q =
-          elim (cases_lt q limit) [
-            | inl below ↦ alike q below
-            | inr past ↦
-                (λ live. let under = is.above q live in absurd (omega (arith, under, past, up_to)), λ live. let under = is'.above q live in absurd (omega (arith, under, past, up_to)))
-          ]
+  -- an ordinal that goes
+  pub goes_changed : gone old new type_index ≢ [] → IsChanged old new type_index
+  goes_changed some same =
+      let was = keys (rows_in old type_index) in
+      some (ap (λ (rows : RowMap). lacking was (keys rows)) (sym same) ∙ none_lacked was was (λ n inside. inside))
 
--- what the test of two answers tells
-pub differ : (before after : Bool) → not (beq before after) ≡ true → before ≡ after → ⊥
-differ true true test same = absurd cc
-differ false false test same = absurd cc
-differ true false test same = absurd cc
-differ false true test same = absurd cc
+  -- one that comes
+  pub comes_changed : gone new old type_index ≢ [] → IsChanged old new type_index
+  comes_changed some same =
+      let is = keys (rows_in new type_index) in
+      some (ap (λ (rows : RowMap). lacking is (keys rows)) same ∙ none_lacked is is (λ n inside. inside))
+
+  -- where none goes and none comes, the rows are the same
+  pub same_where_none : Agree old new type_index → gone old new type_index ≡ [] → gone new old type_index ≡ [] → rows_in old type_index ≡ rows_in new type_index
+  same_where_none agree goes comes =
+      let was = keys (rows_in old type_index) in
+      let is = keys (rows_in new type_index) in
+      same_where_alike agree
+      (λ n. (
+        λ live. is_live new type_index n (member_of_other was is goes n (live_is old type_index n live)),
+        λ live. is_live old type_index n (member_of_other is was comes n (live_is new type_index n live)),
+      ))
+
+  pub same_or_changed : Agree old new type_index → (rows_in old type_index ≡ rows_in new type_index) ⊎ IsChanged old new type_index
+  same_or_changed agree = by_lists (gone old new type_index) refl (gone new old type_index) refl
+    where
+      by_lists : (goes : List ℕ) → gone old new type_index ≡ goes → (comes : List ℕ) → gone new old type_index ≡ comes → (rows_in old type_index ≡ rows_in new type_index) ⊎ IsChanged old new type_index
+      by_lists [] goes [] comes = inl (same_where_none agree goes comes)
+      by_lists (n ∷ rest) goes them comes = inr (goes_changed (λ none. let e : n ∷ rest ≡ [] = sym goes ∙ none in absurd cc))
+      by_lists [] goes (n ∷ rest) comes = inr (comes_changed (λ none. let e : n ∷ rest ≡ [] = sym comes ∙ none in absurd cc))
 
 -- ---- the types
 

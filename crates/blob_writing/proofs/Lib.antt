@@ -12,6 +12,7 @@ pub mod PackingPlaces
 pub mod PackingRecords
 pub mod PackingRuns
 pub mod Placing
+pub mod Planning
 pub mod Populating
 pub mod Progress
 pub mod Refusing

@@ -7,6 +7,14 @@ use Rattle.std.proofs.lemmas.List.Concat.{flat_map-append}
 use Rattle.std.proofs.lemmas.Slice.Zip.{AllZip-long}
 use Rattle.hol_varint.specs.Varint.{varint_bytes}
 
+-- one thing more at the end, as it is said of an index more
+pub pushed : {X : Type 0} (R : ℕ → X → Type 0) (indexes : List ℕ) (things : List X) (index : ℕ) (x : X) → AllZip R indexes things → R index x
+    → AllZip R (indexes ++ index ∷ []) (things ++ x ∷ [])
+pushed R [] [] index x are is = (is, tt)
+pushed R [] (y ∷ things) index x are is = absurd are
+pushed R (i ∷ indexes) [] index x are is = absurd are
+pushed R (i ∷ indexes) (y ∷ things) index x are is = (are.0, pushed R indexes things index x are.1 is)
+
 module _ {X : Type 0} (R : ℕ → X → Type 0) (bytes : X → List ℕ) where
   -- the things of the first indexes stand behind what stood there
   pub record AreWrittenTo (indexes : List ℕ) (count : ℕ) (start out : List ℕ) : Type 0 where
@@ -17,17 +25,11 @@ module _ {X : Type 0} (R : ℕ → X → Type 0) (bytes : X → List ℕ) where
   pub none_written : (indexes start : List ℕ) → AreWrittenTo indexes 0 start start
   none_written indexes start = record { things = []; are = tt; is = sym (append-nil start) }
 
-  pushed : (indexes : List ℕ) (things : List X) (index : ℕ) (x : X) → AllZip R indexes things → R index x → AllZip R (indexes ++ index ∷ []) (things ++ x ∷ [])
-  pushed [] [] index x are is = (is, tt)
-  pushed [] (y ∷ things) index x are is = absurd are
-  pushed (i ∷ indexes) [] index x are is = absurd are
-  pushed (i ∷ indexes) (y ∷ things) index x are is = (are.0, pushed indexes things index x are.1 is)
-
   pub one_written : (indexes : List ℕ) (count : ℕ) (start out more : List ℕ) (x : X) → count < length indexes → AreWrittenTo indexes count start out → R (get_or indexes count 0) x → more ≡ out ++ bytes x
       → AreWrittenTo indexes (count + 1) start more
   one_written indexes count start out more x inside to is put = record {
     things = to.things ++ x ∷ [];
-    are = subst (λ (front : List ℕ). AllZip R front (to.things ++ x ∷ [])) (sym (take_more indexes count 0 inside)) (pushed (take count indexes) to.things (get_or indexes count 0) x to.are is);
+    are = subst (λ (front : List ℕ). AllZip R front (to.things ++ x ∷ [])) (sym (take_more indexes count 0 inside)) (pushed R (take count indexes) to.things (get_or indexes count 0) x to.are is);
     is = put ∙ ap (λ (xs : List ℕ). xs ++ bytes x) to.is ∙ append_assoc start (flat_map bytes to.things) (bytes x)
         ∙ ap (λ (xs : List ℕ). start ++ xs) (sym (flat_map-append bytes to.things (x ∷ []) ∙ ap (λ (xs : List ℕ). flat_map bytes to.things ++ xs) (append-nil (bytes x))));
   }

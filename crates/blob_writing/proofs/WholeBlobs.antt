@@ -1,74 +1,31 @@
 -- Whole blobs of two states that can be laid out together: there is a snapshot, and a delta; and a blob is refused as too large exactly where it is.
-use Rattle.std.proofs.Common.{◌≡◌, ℕ, ℤ, ◌+◌, ◌^◌, ◌<◌, ◌≤◌, ◌⊎◌, suc, zero, inl, inr, List, [], ◌∷◌, ◌++◌, length, Bool, true, false, Result, Ok, Err, refl, sym, ap, ◌∙◌, subst, arith}
-use Rattle.std.specs.Prelude.{All, IfErr, IfOk, is_some}
+use Rattle.std.proofs.Common.{◌≡◌, ℕ, ℤ, ◌+◌, ◌^◌, ◌<◌, ◌≤◌, suc, zero, inl, inr, List, [], ◌∷◌, ◌++◌, length, Result, Ok, Err, refl, ap, subst, arith}
+use Rattle.std.specs.Prelude.{All, IfErr, IfOk}
 use Rattle.std.specs.List.{range_with_len}
-use Rattle.std.proofs.lemmas.Bool.{cases_lt}
 use Rattle.hol_varint.specs.Yields.{Yields}
 use Rattle.schema_model.specs.Model.{IsModel}
 use Rattle.schema_model.specs.declared.schema.Schema.{Schema}
-use Rattle.row_model.specs.BothStates.{rows_in}
-use Rattle.row_model.specs.Table.{IsLive, IsTableOf, Table, row_at}
-use Rattle.row_packing.specs.Places.{Agree}
+use Rattle.row_model.specs.Table.{IsTableOf, Table}
 use Rattle.row_packing.specs.States.{AreWritable}
-use Rattle.blob_writing.specs.Changes.{AreChanged, AreChangesOf, IsChanged, IsDeltaBetween}
+use Rattle.blob_writing.specs.Changes.{AreChanged, AreChangesOf, IsDeltaBetween}
 use Rattle.blob_writing.specs.Delta.{TypeChange, delta_bytes}
 use Rattle.blob_writing.specs.Limits.{IsFreeWrite, IsTooLarge, MeansLarge}
 use Rattle.blob_writing.specs.Snapshot.{AreCarriedOf, IsWrittenSnapshot, TypeRows, snapshot_bytes}
 use Rattle.blob_writing.specs.declared.fault.WriteFault.{WriteFault}
 use Rattle.blob_writing.specs.declared.fault.WriteFault.TheVariants.{Large, Memory}
 use Rattle.blob_writing.proofs.CarryingTypes.{type_carried, type_changed}
-use Rattle.blob_writing.proofs.ChangedTypes.{AreAlike, alike_more, all_below, changed_at, none_changed, one_changed, one_same, same_where_alike}
+use Rattle.blob_writing.proofs.ChangedTypes.{all_below, none_changed, one_changed, one_same, same_or_changed}
 use Rattle.blob_writing.proofs.WritingSnapshots.{in_types}
 
--- ---- which types change
-
--- below a number the same ordinals are live, or one is not
-alike_or_changed : (old new : Table) (type_index limit : ℕ) → AreAlike old new type_index limit ⊎ IsChanged old new type_index
-alike_or_changed old new type_index zero = inl (λ ordinal below. absurd (omega arith))
-alike_or_changed old new type_index (suc limit) =
-    elim (alike_or_changed old new type_index limit) [
-      | inr changed ↦ inr changed
-      | inl alike ↦ next alike (is_some (row_at old type_index limit)) (is_some (row_at new type_index limit)) refl refl
-    ]
-  where
-    one_more : AreAlike old new type_index limit → is_some (row_at old type_index limit) ≡ is_some (row_at new type_index limit) → AreAlike old new type_index (suc limit)
-    one_more alike same =
-        let next : limit + 1 ≡ suc limit = omega arith in
-        subst (AreAlike old new type_index) next
-        (alike_more old new type_index limit (is_some (row_at old type_index limit)) (is_some (row_at new type_index limit)) alike (λ live. live, λ live. live) (λ live. live, λ live. live) same)
-
-    one_apart : (is_some (row_at old type_index limit) ≡ is_some (row_at new type_index limit) → ⊥) → IsChanged old new type_index
-    one_apart apart =
-        changed_at old new type_index limit (is_some (row_at old type_index limit)) (is_some (row_at new type_index limit)) (λ live. live, λ live. live) (λ live. live, λ live. live) apart
-
-    next : AreAlike old new type_index limit → (before after : Bool) → is_some (row_at old type_index limit) ≡ before → is_some (row_at new type_index limit) ≡ after
-        → AreAlike old new type_index (suc limit) ⊎ IsChanged old new type_index
-    next alike true true was is = inl (one_more alike (was ∙ sym is))
-    next alike false false was is = inl (one_more alike (was ∙ sym is))
-    next alike true false was is = inr (one_apart (λ same. let e : true ≡ false = sym was ∙ same ∙ is in absurd cc))
-    next alike false true was is = inr (one_apart (λ same. let e : false ≡ true = sym was ∙ same ∙ is in absurd cc))
-
-same_or_changed : (old new : Table) (type_index limit : ℕ) → Agree old new type_index → ((ordinal : ℕ) → IsLive old type_index ordinal ⊎ IsLive new type_index ordinal → ordinal < limit)
-    → (rows_in old type_index ≡ rows_in new type_index) ⊎ IsChanged old new type_index
-same_or_changed old new type_index limit agree below =
-    elim (alike_or_changed old new type_index limit) [
-      | inr changed ↦ inr changed
-      | inl alike ↦
-          inl (same_where_alike old new type_index agree (λ ordinal.
-          elim (cases_lt ordinal limit) [
-            | inl less ↦ alike ordinal less
-            | inr past ↦
-                (λ live. let less = below ordinal (inl live) in absurd (omega (arith, less, past)), λ live. let less = below ordinal (inr live) in absurd (omega (arith, less, past)))
-          ]))
-    ]
-
 module _ (schemas : List Schema) (model : IsModel schemas) (old new : Table) (before : IsTableOf schemas old) (after : IsTableOf schemas new) (can : AreWritable schemas old new) where
+  -- ---- which types change
+
   changed_up_to : (count : ℕ) → count ≤ length schemas → (types : List ℕ) × AreChanged count old new types
   changed_up_to zero within = ([], none_changed old new)
   changed_up_to (suc count) within =
       let so_far = changed_up_to count (omega arith) in
       let next : count + 1 ≡ suc count = omega arith in
-      elim (same_or_changed old new count (2 ^ 22) (can.agree count (omega arith)) (can.keeps count (omega arith)).ordinals) [
+      elim (same_or_changed old new count (can.agree count (omega arith))) [
         | inl same ↦ (so_far.0, subst (λ (n : ℕ). AreChanged n old new so_far.0) next (one_same count old new so_far.0 so_far.1 same))
         | inr changed ↦
             (so_far.0 ++ count ∷ [], subst (λ (n : ℕ). AreChanged n old new (so_far.0 ++ count ∷ [])) next (one_changed count old new so_far.0 (so_far.0 ++ count ∷ []) so_far.1 changed refl))

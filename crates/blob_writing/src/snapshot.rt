@@ -6,33 +6,37 @@ ghost use Rattle.schema_model.specs.Model.{IsModel};
 ghost use Rattle.row_packing.specs.States.{AreWritable};
 ghost use Rattle.blob_writing.specs.Limits.{HasFewPathsAt, HaveFewPaths, IsFreeWrite, IsTooLarge, MeansLarge};
 ghost use Rattle.blob_writing.specs.declared.fault.WriteFault.TheVariants.{Large};
+ghost use Rattle.blob_writing.specs.Plan.{IsPlanOf};
 ghost use Rattle.blob_writing.specs.Snapshot.{AreCarriedOf, IsCarriedOf, IsFrontLong, IsLongSnapshot, IsWrittenSnapshot, TypeRows, body_bytes, type_bytes};
 
 use crate::fault::WriteFault;
 use crate::header::{check_length, put_limited_header};
+use crate::plan::Plan;
 use crate::shared::shared_model;
 use crate::types::put_snapshot_type;
 use blob_sections::PackedRows;
-use hol_varint::{Ordinals, put_vlong};
+use hol_varint::{Duplicate, Ordinals, put_vlong};
 use row_model::Rows;
-use row_packing::{Chosen, choose, live_ordinals, snapshot_rows};
+use row_packing::snapshot_rows;
 use schema_model::Model;
 use std::alloc::{AllocError, Global};
 
 /// Writes the snapshot of a new state that follows an old one of the same model, from one tag to another: a header with all
 /// schemas, and each type's new rows and population, with the widths that are chosen over both states.
 ///
-/// The states agree, and keep the limits on ordinals, items and bytes. `Large` comes exactly where the blob has more than
-/// 2^28 bytes.
+/// The states agree, and keep the limits on ordinals, items and bytes, and the plan is theirs. `Large` comes exactly where the
+/// blob has more than 2^28 bytes.
 pub fn write_snapshot<A: Rows, B: Rows>(
     alloc: Global,
     old: &A,
     new: &B,
+    plan: &Plan,
     origin: i64,
     destination: i64,
 ) -> Result<Vec<u8>, WriteFault>
     requires model { A.schemas old.now ≡ B.schemas new.now }
     requires states { AreWritable (B.schemas new.now) (A.table old.now) (B.table new.now) }
+    requires plan { IsPlanOf (B.schemas new.now) (A.table old.now) (B.table new.now) plan.now }
     ensures written { IfOk result (λ blob. IsWrittenSnapshot (B.schemas new.now) (A.table old.now) (B.table new.now) origin destination blob.items) }
     ensures short { IfOk result (λ blob. length blob.items ≤ 2 ^ 28) }
     ensures front { IfErr result (MeansLarge (IsLongSnapshot (B.schemas new.now) (A.table old.now) (B.table new.now) origin destination)) }
@@ -41,7 +45,7 @@ pub fn write_snapshot<A: Rows, B: Rows>(
 {
     row_packing::laws::one_packing_of_places();
     let model = shared_model(old, new);
-    limited_snapshot(alloc, old, new, model, origin, destination)
+    limited_snapshot(alloc, old, new, model, plan, origin, destination)
 }
 
 // The same, by what each answer means: `Large`, that each such blob has more than 2^28 bytes.
@@ -50,13 +54,15 @@ fn limited_snapshot<A: Rows, B: Rows>(
     old: &A,
     new: &B,
     model: &Model,
+    plan: &Plan,
     origin: i64,
     destination: i64,
 ) -> Result<Vec<u8>, WriteFault>
     requires model { A.schemas old.now ≡ B.schemas new.now }
     requires same { model.now ≡ B.schemas new.now }
+    requires sound { IsModel (B.schemas new.now) }
     requires states { AreWritable (B.schemas new.now) (A.table old.now) (B.table new.now) }
-    ensures sound { IsModel model.now }
+    requires plan { IsPlanOf (B.schemas new.now) (A.table old.now) (B.table new.now) plan.now }
     ensures written { IfOk result (λ blob. IsWrittenSnapshot (B.schemas new.now) (A.table old.now) (B.table new.now) origin destination blob.items) }
     ensures short { IfOk result (λ blob. length blob.items ≤ 2 ^ 28) }
     ensures front { IfErr result (MeansLarge (IsLongSnapshot (B.schemas new.now) (A.table old.now) (B.table new.now) origin destination)) }
@@ -65,7 +71,7 @@ fn limited_snapshot<A: Rows, B: Rows>(
     let types = all_types(alloc, model)?;
     let mut out = Vec::new(alloc);
     put_limited_header(&mut out, origin, destination, model, &types)?;
-    put_types(&mut out, old, new, &types)?;
+    put_types(&mut out, old, new, plan, &types)?;
     Ok(out)
 }
 
@@ -86,6 +92,7 @@ fn put_types<A: Rows, B: Rows>(
     out: &mut Vec<u8>,
     old: &A,
     new: &B,
+    plan: &Plan,
     types: &Ordinals,
 ) -> Result<(), WriteFault>
     requires model { A.schemas old.now ≡ B.schemas new.now }
@@ -93,6 +100,7 @@ fn put_types<A: Rows, B: Rows>(
     requires in_model { All (λ type_index. type_index < length (B.schemas new.now)) types.now }
     requires few { HaveFewPaths (B.schemas new.now) types.now }
     requires states { AreWritable (B.schemas new.now) (A.table old.now) (B.table new.now) }
+    requires plan { IsPlanOf (B.schemas new.now) (A.table old.now) (B.table new.now) plan.now }
     ensures written { OnOk result ((carried : List TypeRows) × AreCarriedOf (B.schemas new.now) (A.table old.now) (B.table new.now) types.now carried × (out.new.items ≡ out.old.items ++ body_bytes carried)) }
     ensures short { OnOk result (length out.new.items ≤ 2 ^ 28) }
     ensures front { IfErr result (MeansLarge (IsFrontLong (B.schemas new.now) (A.table old.now) (B.table new.now) types.now out.old.items)) }
@@ -103,7 +111,7 @@ fn put_types<A: Rows, B: Rows>(
     let indexes = types.as_slice();
     for type_index in indexes {
         check_length(out.as_slice())?;
-        put_type(out, old, new, *type_index)?;
+        put_type(out, old, new, plan, *type_index)?;
     }
     check_length(out.as_slice())
 }
@@ -113,24 +121,26 @@ fn put_type<A: Rows, B: Rows>(
     out: &mut Vec<u8>,
     old: &A,
     new: &B,
+    plan: &Plan,
     type_index: u32,
 ) -> Result<(), AllocError>
     requires model { A.schemas old.now ≡ B.schemas new.now }
     requires known { type_index < length (B.schemas new.now) }
     requires few { HasFewPathsAt (B.schemas new.now) type_index }
     requires states { AreWritable (B.schemas new.now) (A.table old.now) (B.table new.now) }
+    requires plan { IsPlanOf (B.schemas new.now) (A.table old.now) (B.table new.now) plan.now }
     ensures { OnOk result ((carried : TypeRows) × IsCarriedOf (B.schemas new.now) (A.table old.now) (B.table new.now) type_index carried × (out.new.items ≡ out.old.items ++ type_bytes carried)) }
 {
     let alloc = *out.allocator();
     schema_model::laws::spellable_model();
-    let chosen = choose(alloc, old, new, type_index)?;
-    let packed = snapshot_rows(alloc, new, type_index, &chosen)?;
-    let live = live_ordinals(alloc, new, type_index)?;
-    let Chosen { max, widths, total } = chosen;
+    let place = type_index as usize;
+    let chosen = plan.chosen.get(place);
+    let packed = snapshot_rows(alloc, new, type_index, chosen)?;
     let rows = PackedRows {
-        widths,
-        total,
+        widths: chosen.widths.copy(alloc)?,
+        total: chosen.total,
         packed,
     };
-    put_snapshot_type(out, new.model().schema(type_index), max, &rows, &live)
+    let live = plan.after.ordinals.get(place);
+    put_snapshot_type(out, new.model().schema(type_index), chosen.max, &rows, live)
 }

@@ -1,7 +1,9 @@
 -- The blobs of a cycle that are too long.
-use Rattle.std.proofs.Common.{◌≡◌, ◌≤◌, ◌^◌, ℕ, ℤ, List, [], ◌∷◌, All, subst, length, arith}
+use Rattle.std.proofs.Common.{◌≡◌, ◌≤◌, ◌^◌, ℕ, ℤ, List, [], ◌∷◌, All, Result, subst, length, arith}
+use Rattle.std.specs.Prelude.{IfErr}
 use Rattle.std.proofs.lemmas.List.Elements.{All-head, All-tail}
 use Rattle.hol_io.specs.declared.name.BlobName.TheVariants as name
+use Rattle.schema_model.specs.declared.schema.Schema.{Schema}
 use Rattle.row_model.specs.Table.{Table}
 use Rattle.blob_writing.specs.declared.fault.WriteFault.{WriteFault}
 use Rattle.blob_writing.specs.declared.fault.WriteFault.TheVariants.{Large, Memory}
@@ -16,6 +18,18 @@ use Rattle.state_blobs.specs.Blobs.{AreLong, AreNotShort}
 pub means_more : (P Q : Type 0) (fault : WriteFault) → (P → Q) → MeansLarge P fault → MeansLarge Q fault
 means_more P Q Large more means = more means
 means_more P Q Memory more means = tt
+
+-- what it means of the delta between two states and tags, it means of that between the same ones
+pub means_between : {T : Type 0} (result : Result T WriteFault) (schemas schemas' : List Schema) (from from' to to' : Table) (origin origin' destination destination' : ℤ) → schemas ≡ schemas' → from ≡ from'
+    → to ≡ to' → origin ≡ origin' → destination ≡ destination' → IfErr result (MeansLarge (AreLong (IsDeltaBetween schemas from to origin destination)))
+    → IfErr result (MeansLarge (AreLong (IsDeltaBetween schemas' from' to' origin' destination')))
+means_between result schemas schemas' from from' to to' origin origin' destination destination' same_schemas same_from same_to same_origin same_destination means =
+    let Means : List Schema → Table → Table → ℤ → ℤ → Type 0 = λ ss a b o d. IfErr result (MeansLarge (AreLong (IsDeltaBetween ss a b o d))) in
+    subst (λ (d : ℤ). Means schemas' from' to' origin' d) same_destination
+    (subst (λ (o : ℤ). Means schemas' from' to' o destination) same_origin
+    (subst (λ (b : Table). Means schemas' from' b origin destination) same_to
+    (subst (λ (a : Table). Means schemas' a to origin destination) same_from
+    (subst (λ (ss : List Schema). Means ss from to origin destination) same_schemas means))))
 
 pub first_long : (last : Published) (rows : Table) (version : ℕ) (tag : ℤ) → AreLong (IsWrittenSnapshot last.model last.rows rows last.tag tag) → AreNotShort (AreFirst last rows version tag)
 first_long last rows version tag long = λ blobs (snapshot, written, are) short.

@@ -3,13 +3,14 @@ ghost use Rattle.std.specs.Prelude.{◌≤◌, ◌^◌, None, All, IfErr, IfOk, 
 ghost use Rattle.blob_writing.specs.Limits.{MeansLarge};
 ghost use Rattle.blob_writing.specs.Snapshot.{IsWrittenSnapshot};
 ghost use Rattle.blob_writing.specs.Changes.{IsDeltaBetween};
+ghost use Rattle.blob_writing.specs.Plan.{IsPlanOf};
 ghost use Rattle.write_engine.specs.CycleLimit.{TellsTypes};
 ghost use Rattle.state_blobs.specs.Published.{published_of};
 ghost use Rattle.state_blobs.specs.Puts.{AreBlobs, AreFirst, AreLater, IsShort};
 ghost use Rattle.state_blobs.specs.Blobs.{AreLong, AreNotShort, puts_in};
 
-use blob_writing::{WriteFault, write_delta, write_snapshot};
-use std::alloc::Global;
+use blob_writing::{Plan, WriteFault, write_delta, write_snapshot};
+use std::alloc::{AllocError, Global};
 use write_engine::{Producer, laws};
 
 /// The blobs that are put for a state.
@@ -69,7 +70,8 @@ fn write_first(
     ensures short { IfOk result (λ blobs. All IsShort (puts_in blobs)) }
     ensures large { IfErr result (MeansLarge (AreNotShort (AreFirst (published_of producer.now) producer.now.current version tag))) }
 {
-    let snapshot = write_whole(alloc, producer, tag)?;
+    let plan = plan_of(alloc, producer)?;
+    let snapshot = write_whole(alloc, producer, &plan, tag)?;
     Ok(Blobs::First { version, snapshot })
 }
 
@@ -85,9 +87,10 @@ fn write_later(
     ensures short { IfOk result (λ blobs. All IsShort (puts_in blobs)) }
     ensures large { IfErr result (MeansLarge (AreNotShort (AreLater (published_of producer.now) producer.now.current version tag))) }
 {
-    let delta = write_forth(alloc, producer, tag)?;
-    let reverse = write_back(alloc, producer, tag)?;
-    let snapshot = write_whole(alloc, producer, tag)?;
+    let plan = plan_of(alloc, producer)?;
+    let delta = write_forth(alloc, producer, &plan, tag)?;
+    let snapshot = write_whole(alloc, producer, &plan, tag)?;
+    let reverse = write_back(alloc, producer, plan, tag)?;
     Ok(Blobs::Later {
         last: producer.version(),
         version,
@@ -97,9 +100,26 @@ fn write_later(
     })
 }
 
-// The snapshot of the cycle.
-fn write_whole(alloc: Global, producer: &Producer, tag: i64) -> Result<Vec<u8>, WriteFault>
+// What the blobs of the cycle are written by.
+fn plan_of(alloc: Global, producer: &Producer) -> Result<Plan, AllocError>
     requires kept { TellsTypes producer.now.schemas producer.now.previous producer.now.current None }
+    ensures { IfOk result (IsPlanOf producer.now.schemas producer.now.previous producer.now.current) }
+{
+    laws::can_be_written();
+    let previous = producer.previous();
+    let current = producer.current();
+    Plan::new(alloc, &previous, &current)
+}
+
+// The snapshot of the cycle.
+fn write_whole(
+    alloc: Global,
+    producer: &Producer,
+    plan: &Plan,
+    tag: i64,
+) -> Result<Vec<u8>, WriteFault>
+    requires kept { TellsTypes producer.now.schemas producer.now.previous producer.now.current None }
+    requires plan { IsPlanOf producer.now.schemas producer.now.previous producer.now.current plan.now }
     ensures written { IfOk result (λ blob. IsWrittenSnapshot producer.now.schemas producer.now.previous producer.now.current producer.now.tag tag blob.items) }
     ensures short { IfOk result (λ blob. length blob.items ≤ 2 ^ 28) }
     ensures large { IfErr result (MeansLarge (AreLong (IsWrittenSnapshot producer.now.schemas producer.now.previous producer.now.current producer.now.tag tag))) }
@@ -107,12 +127,18 @@ fn write_whole(alloc: Global, producer: &Producer, tag: i64) -> Result<Vec<u8>, 
     laws::can_be_written();
     let previous = producer.previous();
     let current = producer.current();
-    write_snapshot(alloc, &previous, &current, producer.tag(), tag)
+    write_snapshot(alloc, &previous, &current, plan, producer.tag(), tag)
 }
 
 // The delta from the last state to the cycle.
-fn write_forth(alloc: Global, producer: &Producer, tag: i64) -> Result<Vec<u8>, WriteFault>
+fn write_forth(
+    alloc: Global,
+    producer: &Producer,
+    plan: &Plan,
+    tag: i64,
+) -> Result<Vec<u8>, WriteFault>
     requires kept { TellsTypes producer.now.schemas producer.now.previous producer.now.current None }
+    requires plan { IsPlanOf producer.now.schemas producer.now.previous producer.now.current plan.now }
     ensures written { IfOk result (λ blob. IsDeltaBetween producer.now.schemas producer.now.previous producer.now.current producer.now.tag tag blob.items) }
     ensures short { IfOk result (λ blob. length blob.items ≤ 2 ^ 28) }
     ensures large { IfErr result (MeansLarge (AreLong (IsDeltaBetween producer.now.schemas producer.now.previous producer.now.current producer.now.tag tag))) }
@@ -120,12 +146,18 @@ fn write_forth(alloc: Global, producer: &Producer, tag: i64) -> Result<Vec<u8>, 
     laws::can_be_written();
     let previous = producer.previous();
     let current = producer.current();
-    write_delta(alloc, &previous, &current, producer.tag(), tag)
+    write_delta(alloc, &previous, &current, plan, producer.tag(), tag)
 }
 
-// The delta from the cycle back to the last state.
-fn write_back(alloc: Global, producer: &Producer, tag: i64) -> Result<Vec<u8>, WriteFault>
+// The delta from the cycle back to the last state, by the plan of the delta to it.
+fn write_back(
+    alloc: Global,
+    producer: &Producer,
+    plan: Plan,
+    tag: i64,
+) -> Result<Vec<u8>, WriteFault>
     requires kept { TellsTypes producer.now.schemas producer.now.previous producer.now.current None }
+    requires plan { IsPlanOf producer.now.schemas producer.now.previous producer.now.current plan }
     ensures written { IfOk result (λ blob. IsDeltaBetween producer.now.schemas producer.now.current producer.now.previous tag producer.now.tag blob.items) }
     ensures short { IfOk result (λ blob. length blob.items ≤ 2 ^ 28) }
     ensures large { IfErr result (MeansLarge (AreLong (IsDeltaBetween producer.now.schemas producer.now.current producer.now.previous tag producer.now.tag))) }
@@ -133,5 +165,6 @@ fn write_back(alloc: Global, producer: &Producer, tag: i64) -> Result<Vec<u8>, W
     laws::can_be_written();
     let previous = producer.previous();
     let current = producer.current();
-    write_delta(alloc, &current, &previous, tag, producer.tag())
+    let turned = plan.turned();
+    write_delta(alloc, &current, &previous, &turned, tag, producer.tag())
 }

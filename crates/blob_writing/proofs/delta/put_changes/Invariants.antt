@@ -6,4 +6,4 @@ use Rattle.blob_writing.proofs.delta.put_changes.Given as goal
 
 abbrev pub invariant-loop-type_index : goal.invariant-loop-type_index
 invariant-loop-type_index g l =
-    AreWrittenTo (IsChangeOf (g.B.Rows.schemas l.new) (g.A.Rows.table l.old) (g.B.Rows.table l.new)) change_bytes l.types l.type_index-index l.initial.out.items l.out.items
+    AreWrittenTo (IsChangeOf (g.B.Rows.schemas l.new) (g.A.Rows.table l.old) (g.B.Rows.table l.new)) change_bytes l.plan.changed l.type_index-index l.initial.out.items l.out.items

@@ -14,7 +14,7 @@ returns-clause-exact g c =
     let new = g.B.Rows.table c.args.new.now in
     let from : to_z w64 (of_z w64 c.args.origin) ≡ c.args.origin = grind (arith, ints, to_z-of_z) in
     let to : to_z w64 (of_z w64 c.args.destination) ≡ c.args.destination = grind (arith, ints, to_z-of_z) in
-    let sound = c.limited_delta.ensures.sound in
+    let sound = c.shared_model-model.ensures.sound in
     exactly_between (IsDeltaBetween schemas old new) (λ blob. blob.items) c.limited_delta.result (to_z w64 (of_z w64 c.args.origin)) c.args.origin (to_z w64 (of_z w64 c.args.destination))
     c.args.destination from to
     (delta_is_there schemas sound old new c.shared_model-model.ensures.before c.shared_model-model.ensures.after c.requires.states c.args.origin c.args.destination)

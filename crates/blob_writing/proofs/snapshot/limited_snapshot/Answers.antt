@@ -3,7 +3,6 @@ use Rattle.std.specs.Int.{w64}
 use Rattle.std.specs.List.{range_with_len}
 use mir.Val.{to_z, of_z}
 use Rattle.std.proofs.lemmas.Int.{ints, to_z-of_z}
-use Rattle.schema_model.specs.Model.{IsModel}
 use Rattle.schema_model.specs.declared.schema.Schema.{Schema}
 use Rattle.blob_frame.specs.Written.{schemas_at, schema_list_bytes}
 use Rattle.blob_writing.proofs.Refusing.{header_put, means_exit}
@@ -30,7 +29,7 @@ returns-in_err-put_limited_header-clause-large g c =
     (subst (λ (ss : List Schema). 2 ^ 28 < length (schema_list_bytes (schemas_at ss types))) c.requires.same over) is)
 
 pub put_types-requires-clause-sound : goal.put_types-requires-clause-sound
-put_types-requires-clause-sound g c = subst IsModel c.requires.same c.all_types.ensures.sound
+put_types-requires-clause-sound g c = c.requires.sound
 
 pub put_types-requires-clause-in_model : goal.put_types-requires-clause-in_model
 put_types-requires-clause-in_model g c =

@@ -1,4 +1,4 @@
-use Rattle.std.proofs.Common.{◌≡◌, arith, subst}
+use Rattle.std.proofs.Common.{◌≡◌, arith}
 use Rattle.std.specs.Int.{w64}
 use mir.Val.{to_z, of_z}
 use Rattle.std.proofs.lemmas.Int.{ints, to_z-of_z}
@@ -15,7 +15,7 @@ returns-clause-exact g c =
     let new = g.B.Rows.table c.args.new.now in
     let from : to_z w64 (of_z w64 c.args.origin) ≡ c.args.origin = grind (arith, ints, to_z-of_z) in
     let to : to_z w64 (of_z w64 c.args.destination) ≡ c.args.destination = grind (arith, ints, to_z-of_z) in
-    let model : IsModel schemas = subst IsModel c.shared_model-model.ensures.model c.limited_snapshot.ensures.sound in
+    let model : IsModel schemas = c.shared_model-model.ensures.sound in
     exactly_between (IsWrittenSnapshot schemas old new) (λ blob. blob.items) c.limited_snapshot.result (to_z w64 (of_z w64 c.args.origin)) c.args.origin (to_z w64 (of_z w64 c.args.destination))
     c.args.destination from to
     (snapshot_is_there schemas model old new c.shared_model-model.ensures.before c.shared_model-model.ensures.after c.requires.states c.args.origin c.args.destination)
