@@ -8,8 +8,9 @@ use Rattle.chain_laws.proofs.LoadLaws.{load_lawful}
 use Rattle.chain_laws.proofs.ModelLaws.{model_lawful}
 use Rattle.chain_laws.proofs.PastLaws.{past_lawful}
 use Rattle.chain_laws.proofs.RestoreLaws.{restore_lawful}
+use Rattle.chain_laws.proofs.StatLaws.{stat_lawful}
 use Rattle.chain_laws.proofs.StepLaws.{step_lawful}
-use Rattle.chain_laws.proofs.Lawful.{IsLawful, unbuilt_lawful}
+use Rattle.chain_laws.proofs.Lawful.{IsLawful}
 use Rattle.chain_laws.proofs.LookLaws.{at_lawful, find_lawful, get_lawful, has_lawful, live_lawful, row_lawful}
 
 pub laws : (kind : Kind) → IsLawful kind (form kind)
@@ -27,4 +28,4 @@ laws Kind.Has = has_lawful
 laws Kind.At = at_lawful
 laws Kind.Past = past_lawful
 laws Kind.Check = check_lawful
-laws Kind.Stat = unbuilt_lawful Kind.Stat
+laws Kind.Stat = stat_lawful

@@ -9,7 +9,7 @@ use Rattle.hol_answers.specs.declared.refusal.Refusal.{Refusal}
 use Rattle.hol_answers.specs.declared.reply.Reply.{Reply}
 use Rattle.hol_answers.specs.declared.reply.Reply.TheVariants as reply
 use Rattle.read_engine.specs.Position.{Position}
-use Rattle.hollow_machine.specs.Forms.{OrderForm, Refuses, looking, unbuilt}
+use Rattle.hollow_machine.specs.Forms.{OrderForm, Refuses, looking}
 use Rattle.hollow_machine.specs.State.{Machine, with_consumer}
 use Rattle.written_laws.specs.Chain.{Chain, ChainState, HasVersion, IsChain}
 use Rattle.written_laws.specs.HoldsChain.{HoldsChain}
@@ -102,7 +102,7 @@ moved_of machine chain next position next_is is_in = subst (λ (m : Machine). Is
 pub says_both : (one other : Reply) (next after : Machine) → (one ≡ other) × (next ≡ after) → SaysOne one other × (next ≡ after)
 says_both one other next after (same, and) = (says one other same, and)
 
--- ---- orders that look, and orders that are not built
+-- ---- orders that look
 
 pub looks_lawful : (kind : Kind) (Answers : Option Position → (shape kind).Asked → Reply → Type 0) (of_state : Bool)
     → ((consumer : Option Position) (asked : (shape kind).Asked) (one other : Reply) → IfSome consumer IsTyped → Answers consumer asked one → Answers consumer asked other → SaysOne one other)
@@ -117,15 +117,6 @@ looks_lawful k Answers of_state one none afresh = record {
       same_keeps machine line chain kept over answer next (unless_cycle machine line chain answer (none machine.consumer asked answer is.0)) is.1;
   moves = λ machine chain holds of asked answer next is. same_of machine chain of next is.1;
   afresh = λ can machine fresh chain sound of is_fresh asked answer next is. (afresh can machine fresh chain sound of is_fresh asked answer is.0, refl);
-}
-
-pub unbuilt_lawful : (kind : Kind) → IsLawful kind unbuilt
-unbuilt_lawful k = record {
-  once = λ written machine sound asked one other next after is also. says_both one other next after (is.0 ∙ sym also.0, is.1 ∙ sym also.1);
-  sound = λ machine sound asked answer next is. stays_sound machine sound next is.1;
-  keeps = λ machine chain kept over line order orders asked asks_it answer next is. refused_keeps machine line chain kept over answer next _ is;
-  moves = λ machine chain holds of asked answer next is. same_of machine chain of next is.1;
-  afresh = λ can. absurd cc;
 }
 
 -- ---- orders that move the consumer, or leave it

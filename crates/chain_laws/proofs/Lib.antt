@@ -46,6 +46,7 @@ mod ReadTexts
 mod RestoreLaws
 mod RestoredChains
 mod SoundMachines
+mod StatLaws
 mod StepLaws
 mod StoreNames
 mod StoredRows

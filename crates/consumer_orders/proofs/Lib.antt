@@ -1,4 +1,5 @@
 mod Asking
+mod Counting
 mod Indexing
 mod KeyTexts
 mod KeyWays

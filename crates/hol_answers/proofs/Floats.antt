@@ -7,7 +7,8 @@ use Rattle.serde_json.specs.declared.value.Value.{Value}
 use Rattle.serde_json.specs.Written.{has_float, items_have_float, compact_text}
 use Rattle.json_rows.proofs.Printed.{items_have_float-items_of, integer_has_none}
 use Rattle.hol_answers.specs.declared.reply.Reply.{Reply}
-use Rattle.hol_answers.specs.declared.reply.Reply.TheVariants.{Head, Cycle, Restore, Load, Step, Get, Find, Live, Row, At, Past, Refused}
+use Rattle.hol_answers.specs.declared.reply.Reply.TheVariants.{Head, Cycle, Restore, Load, Step, Get, Find, Live, Row, At, Past, Stat, Refused}
+use Rattle.hol_answers.specs.declared.stat.TypeCounts.{TypeCounts}
 use Rattle.hol_answers.specs.declared.refusal.ItemFault.{ItemFault}
 use Rattle.hol_answers.specs.declared.refusal.Refusal.{Refusal}
 use Rattle.hol_answers.specs.declared.refusal.RowPlace.{RowPlace}
@@ -18,7 +19,7 @@ use Rattle.hol_orders.specs.Parts.{whole}
 use Rattle.hol_answers.specs.Plain.{IsPlain}
 use Rattle.hol_answers.specs.Member.{number_or_null, text_or_null}
 use Rattle.hol_answers.specs.Refusal.{bad_blob_data, refusal_data}
-use Rattle.hol_answers.specs.Reply.{reply_data, head_data, cycle_data, restore_data, tag_data, get_data, ordinals_data, at_data, row_data, past_item, texts_data, names_data, tags_data, line_of}
+use Rattle.hol_answers.specs.Reply.{reply_data, head_data, cycle_data, restore_data, tag_data, get_data, ordinals_data, at_data, row_data, past_item, texts_data, names_data, tags_data, counts_data, max_data, stat_data, types_data, line_of}
 
 -- a name or a number that may be null has none
 has_float-text_or_null : (text : Option (List ℕ)) → has_float (text_or_null text) ≡ false
@@ -67,6 +68,18 @@ has_float-ordinals_data word ordinals =
 pub has_float-at_data : (value : Option ℕ) → has_float (at_data value) ≡ false
 has_float-at_data value = rw (has_float-number_or_null value) refl
 
+has_float-max_data : (max : Option ℕ) → has_float (max_data max) ≡ false
+has_float-max_data None = refl
+has_float-max_data (Some max) = refl
+
+has_float-counts_data : (counts : TypeCounts) → has_float (counts_data counts) ≡ false
+has_float-counts_data counts = rw (has_float-max_data counts.max) refl
+
+pub has_float-stat_data : (tag : ℤ) (types : List TypeCounts) → has_float (stat_data tag types) ≡ false
+has_float-stat_data tag types =
+    let each : has_float (types_data types) ≡ false = items_have_float-items_of _ has_float-counts_data types in
+    rw (integer_has_none tag, each) refl
+
 -- an answer that holds no JSON value
 abbrev pub IsBare : Reply → Type 0
 IsBare (Get ordinal row) = ⊥
@@ -86,6 +99,7 @@ has_float-reply_data (Live ordinals) is = has_float-ordinals_data (codes "live")
 has_float-reply_data (Row row) is = absurd is
 has_float-reply_data (At value) is = has_float-at_data value
 has_float-reply_data (Past entries) is = absurd is
+has_float-reply_data (Stat tag types) is = has_float-stat_data tag types
 has_float-reply_data (Refused refusal) is = has_float-refusal_data refusal
 has_float-reply_data _ is = refl
 

@@ -1,5 +1,5 @@
 -- The answers of one line: each as a JSON object, its members in byte order of their names, and its line.
-use Rattle.std.specs.Prelude.{ℕ, ℤ, List, [], ◌∷◌, ◌++◌, map, codes, Bool, true, false, Option}
+use Rattle.std.specs.Prelude.{ℕ, ℤ, List, [], ◌∷◌, ◌++◌, map, codes, Bool, true, false, Option, Some, None, negsuc}
 use Rattle.serde_json.specs.Data.{Data, boolean, number, unsigned, string, array, object, no_members, member}
 use Rattle.serde_json.specs.Find.{of_integer}
 use Rattle.serde_json.specs.View.{items_of, view}
@@ -10,7 +10,8 @@ use Rattle.schema_model.specs.declared.schema.Schema.{Schema}
 use Rattle.blob_frame.specs.declared.header.Header.{Header}
 use Rattle.hol_answers.specs.declared.reply.Made.{Made}
 use Rattle.hol_answers.specs.declared.reply.Reply.{Reply}
-use Rattle.hol_answers.specs.declared.reply.Reply.TheVariants.{Head, Model, Cycle, Restore, Load, Step, Index, Get, Find, Live, Row, Has, At, Past, Check, Make, Refused}
+use Rattle.hol_answers.specs.declared.reply.Reply.TheVariants.{Head, Model, Cycle, Restore, Load, Step, Index, Get, Find, Live, Row, Has, At, Past, Check, Stat, Make, Refused}
+use Rattle.hol_answers.specs.declared.stat.TypeCounts.{TypeCounts}
 use Rattle.hol_orders.specs.Parts.{pair, whole}
 use Rattle.hol_answers.specs.Member.{number_or_null}
 use Rattle.hol_answers.specs.Refusal.{refusal_data}
@@ -139,6 +140,30 @@ check_data states = object
     (member (codes "ok") (string (codes "check"))
     (member (codes "states") (whole states) no_members))
 
+-- the greatest ordinal that has a place, and -1 where there is no place
+abbrev pub max_data : Option ℕ → Data
+max_data None = number (of_integer (negsuc 0))
+max_data (Some max) = whole max
+
+-- what a consumer keeps of a type, and of the types in their order
+abbrev pub counts_data : TypeCounts → Data
+counts_data counts = object
+    (member (codes "bytes") (whole counts.bytes)
+    (member (codes "live") (whole counts.live)
+    (member (codes "max") (max_data counts.max)
+    (member (codes "name") (string counts.type_name)
+    (member (codes "words") (whole counts.words) no_members)))))
+
+abbrev pub types_data : List TypeCounts → Data
+types_data types = array (items_of (map counts_data types))
+
+-- what a consumer keeps, whose state has this tag
+abbrev pub stat_data : ℤ → List TypeCounts → Data
+stat_data tag types = object
+    (member (codes "ok") (string (codes "stat"))
+    (member (codes "tag") (number (of_integer tag))
+    (member (codes "types") (types_data types) no_members)))
+
 -- how many rows there are of each type of `make`
 abbrev pub made_rows : Made → Data
 made_rows made = object
@@ -170,6 +195,7 @@ reply_data (Has there) = has_data there
 reply_data (At value) = at_data value
 reply_data (Past entries) = past_data entries
 reply_data (Check states) = check_data states
+reply_data (Stat tag types) = stat_data tag types
 reply_data (Make made) = make_data made
 reply_data (Refused refusal) = refusal_data refusal
 
@@ -191,6 +217,7 @@ is_refusal (Has there) = false
 is_refusal (At value) = false
 is_refusal (Past entries) = false
 is_refusal (Check states) = false
+is_refusal (Stat tag types) = false
 is_refusal (Make made) = false
 
 -- The line of an answer: its JSON text without spaces, and a newline.

@@ -9,6 +9,7 @@ mod plain;
 mod refusal;
 mod refusal_json;
 mod reply;
+mod stat;
 
 pub use faults::{blob_refusal, body_refusal};
 pub use line::put_line;
@@ -19,3 +20,4 @@ pub use refusal::{
 };
 pub use refusal_json::refusal_value;
 pub use reply::{Made, PastRows, Reply, put_reply, reply_line};
+pub use stat::{TypeCounts, TypesCounts};

@@ -140,8 +140,6 @@ pub enum Refusal {
     WrongKind(Name),
     /// 34: the values are no key.
     BadKey,
-    /// 90: the command or the order is not built.
-    NotYet,
     /// 92: the blob's header can be read, but the rest of the blob is refused.
     BadBody(BlobName),
 }

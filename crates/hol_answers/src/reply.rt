@@ -7,7 +7,8 @@ ghost use Rattle.hol_answers.specs.Reply.{reply_data, head_data, model_data, cyc
 use crate::Content::{Integer, Json, Number, Text};
 use crate::line::{line_text, put_line};
 use crate::plain::PlainValue;
-use crate::{Content, Refusal, object_of, refusal_value};
+use crate::stat::stat_value;
+use crate::{Content, Refusal, TypesCounts, object_of, refusal_value};
 use blob_frame::Header;
 use hol_varint::{List, Ordinals};
 use schema_model::{Name, NamePairs, Names, Schemas};
@@ -80,6 +81,13 @@ pub enum Reply {
     Past(PastRows),
     /// So many states of a walk are those of their snapshots.
     Check(u64),
+    /// What the consumer keeps.
+    Stat {
+        /// The tag of its state.
+        tag: i64,
+        /// What it keeps of each type, in model order.
+        types: TypesCounts,
+    },
     /// The summary of the command `make`.
     Make(Made),
     /// Why the command or the order is refused.
@@ -138,6 +146,7 @@ fn reply_value(alloc: Global, reply: Reply) -> Result<Value, AllocError>
         Reply::At(value) => at_value(alloc, value),
         Reply::Past(rows) => past_value(alloc, rows),
         Reply::Check(states) => check_value(alloc, states),
+        Reply::Stat { tag, types } => stat_value(alloc, tag, &types),
         Reply::Make(made) => make_value(alloc, &made),
         Reply::Refused(refusal) => refusal_value(alloc, &refusal),
     }

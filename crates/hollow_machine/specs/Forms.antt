@@ -1,6 +1,5 @@
 -- What the orders of a kind are answered.
-use Rattle.std.specs.Prelude.{◌≡◌, Option, Bool, false}
-use Rattle.hol_answers.specs.declared.refusal.Refusal.TheVariants.{NotYet}
+use Rattle.std.specs.Prelude.{◌≡◌, Option, Bool}
 use Rattle.hol_answers.specs.declared.refusal.Refusal.{Refusal}
 use Rattle.hol_answers.specs.declared.reply.Reply.{Reply}
 use Rattle.hol_answers.specs.declared.reply.Reply.TheVariants.{Refused}
@@ -20,7 +19,3 @@ Refuses machine refusal reply next = (reply ≡ Refused refusal) × (next ≡ ma
 -- Orders that are answered of where the consumer stands, and change nothing.
 abbrev pub looking : {Asked : Type 0} → (Option Position → Asked → Reply → Type 0) → Bool → OrderForm Asked
 looking Answers of_state = record { Answers = λ machine asked reply next. Answers machine.consumer asked reply × (next ≡ machine); of_state = of_state }
-
--- Orders that are not built.
-abbrev pub unbuilt : {Asked : Type 0} → OrderForm Asked
-unbuilt = record { Answers = λ machine asked reply next. Refuses machine NotYet reply next; of_state = false }

@@ -17,4 +17,5 @@ pub mod RowOrders
 pub mod Script
 pub mod State
 pub mod Step
+pub mod StatOrder
 pub mod StepOrder

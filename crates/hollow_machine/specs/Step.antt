@@ -1,13 +1,13 @@
 -- What the machine answers to an order, and the machine behind it.
 use Rattle.hol_orders.specs.declared.kind.Kind.{Kind}
-use Rattle.hol_orders.specs.declared.kind.Kind.TheVariants.{Model, Cycle, Restore, Load, Step as StepKind, Index, Get, Find, Live, Row, Has, At, Past, Check}
+use Rattle.hol_orders.specs.declared.kind.Kind.TheVariants.{Model, Cycle, Restore, Load, Step as StepKind, Index, Get, Find, Live, Row, Has, At, Past, Check, Stat}
 use Rattle.hol_orders.specs.declared.order.Order.{Order}
 use Rattle.hol_orders.specs.Kind.{shape}
 use Rattle.hol_orders.specs.Order.{asked_of, kind_of}
 use Rattle.hol_answers.specs.declared.reply.Reply.{Reply}
 use Rattle.hollow_machine.specs.CheckOrder.{check_form}
 use Rattle.hollow_machine.specs.CycleOrder.{cycle_form}
-use Rattle.hollow_machine.specs.Forms.{OrderForm, unbuilt}
+use Rattle.hollow_machine.specs.Forms.{OrderForm}
 use Rattle.hollow_machine.specs.IndexOrder.{index_form}
 use Rattle.hollow_machine.specs.KeyOrders.{find_form, get_form}
 use Rattle.hollow_machine.specs.LoadOrder.{load_form}
@@ -16,9 +16,10 @@ use Rattle.hollow_machine.specs.ModelOrder.{model_form}
 use Rattle.hollow_machine.specs.RestoreOrder.{restore_form}
 use Rattle.hollow_machine.specs.RowOrders.{live_form, past_form, row_form}
 use Rattle.hollow_machine.specs.State.{Machine}
+use Rattle.hollow_machine.specs.StatOrder.{stat_form}
 use Rattle.hollow_machine.specs.StepOrder.{step_form}
 
--- What the orders of each kind are answered. Those of the last line are not built yet.
+-- What the orders of each kind are answered.
 abbrev pub form : (kind : Kind) → OrderForm (shape kind).Asked
 form Model = model_form
 form Cycle = cycle_form
@@ -34,7 +35,7 @@ form Has = has_form
 form At = at_form
 form Past = past_form
 form Check = check_form
-form _ = unbuilt
+form Stat = stat_form
 
 -- What an order is answered.
 abbrev pub Step : Machine → Order → Reply → Machine → Type 0

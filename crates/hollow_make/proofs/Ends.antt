@@ -96,3 +96,9 @@ pub ends_made : (held : Option Store) (published : List ℕ) (rows : Table) (ans
     → SumsUp published rows made → TellsEnd {E = OrderStop} published rows held (Ok (Make made))
 ends_made None published rows answer made check not sums = tt
 ends_made (Some store) published rows answer made check not sums = (answer, check, not, sums)
+
+-- Memory is refused before the summary: there is no answer to tell of.
+pub ends_stopped : (held : Option Store) (published : List ℕ) (rows : Table) (result : Result Reply OrderStop) (Why : OrderStop → Type 0) → IsErrAnd result Why → TellsEnd published rows held result
+ends_stopped None published rows result Why stopped = tt
+ends_stopped (Some store) published rows (Ok reply) Why stopped = absurd stopped
+ends_stopped (Some store) published rows (Err stop) Why stopped = tt

@@ -36,6 +36,8 @@ mod shows;
 #[cfg(test)]
 mod states;
 #[cfg(test)]
+mod stats;
+#[cfg(test)]
 mod turned;
 #[cfg(test)]
 mod usage;

@@ -50,11 +50,11 @@ out {"error":14,"name":"ModelFixed"}
 input {"model":[]}
 run 0 run
 out {"ok":"model","types":0}
-# An order that is not built.
+# What a consumer without a state keeps, and a line that is no order.
 input {"stat":true}
 input {"stat":false}
 run 1 run
-out {"error":90,"name":"NotYet"}
+out {"error":21,"name":"NoState"}
 out {"error":10,"name":"BadOrder"}"#;
 
 /// A source and a sink that fail. The source gives 7 bytes a call, and the sink takes 7.

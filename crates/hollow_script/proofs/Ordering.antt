@@ -8,9 +8,7 @@ use Rattle.write_engine.specs.Production.{Production}
 use Rattle.read_engine.specs.Position.{Position}
 use Rattle.hol_orders.specs.declared.order.Order.{Order}
 use Rattle.hol_orders.specs.declared.order.Order.TheVariants as order
-use Rattle.hol_answers.specs.declared.refusal.Refusal.TheVariants.{NotYet}
 use Rattle.hol_answers.specs.declared.reply.Reply.{Reply}
-use Rattle.hol_answers.specs.declared.reply.Reply.TheVariants.{Refused}
 use Rattle.hol_orders.specs.declared.order.NextState.{NextState}
 use Rattle.hol_orders.specs.Parts.{asked_state}
 use Rattle.hollow_machine.specs.Records.{asked_cycle}
@@ -25,12 +23,6 @@ use Rattle.hol_orders.specs.declared.order_stop.OrderStop.{OrderStop}
 use Rattle.hollow_script.specs.Kept.{MovesKept, kept_of}
 use Rattle.hollow_script.specs.Looking.{LooksAt}
 use Rattle.hollow_script.specs.declared.keep.Keep.{Keep}
-
--- an answer that leaves the machine as it was moves it so
-pub stays : (IsStep : Machine → Reply → Machine → Type 0) (held : Option Store) (keep : Keep) (reply : Reply) → ((machine : Machine) → IsStep machine reply machine) →
-    MovesKept {E = OrderStop} IsStep held keep held keep (Ok reply)
-stays IsStep None keep reply steps = tt
-stays IsStep (Some store) keep reply steps = (store, refl, steps (machine_of store (kept_of keep)))
 
 -- an order that moves the machine in a way that is that of its kind
 pub asked_moves : (held held' : Option Store) (kept kept' : Kept) (asked other : Order) (r : Result Reply OrderStop) → asked ≡ other →
@@ -80,6 +72,7 @@ look_steps (order.Row name ordinal) machine reply is = (is, refl)
 look_steps (order.Has name ordinal element) machine reply is = (is, refl)
 look_steps (order.At name ordinal key) machine reply is = (is, refl)
 look_steps (order.Past name) machine reply is = (is, refl)
+look_steps order.Stat machine reply is = (is, refl)
 look_steps _ machine reply is = absurd is
 
 pub looks : (held : Option Store) (kept : Kept) (asked : Order) (r : Result Reply OrderStop) → IfOk r (LooksAt asked kept.consumer) →
@@ -95,9 +88,3 @@ checks None held' kept asked versions r is same answers = tt
 checks (Some store) held' kept asked versions (Err stop) is same answers = tt
 checks (Some store) held' kept asked versions (Ok reply) is same answers =
     (store, same, subst (λ o. Step (machine_of store kept) o reply (machine_of store kept)) (sym is) (answers, refl))
-
--- an order that is not built is told so
-pub not_built : (held : Option Store) (keep : Keep) (asked : Order) → asked ≡ order.Stat →
-    MovesKept {E = OrderStop} (λ machine reply next. Step machine asked reply next) held keep held keep (Ok (Refused NotYet))
-not_built held keep asked is =
-    stays (λ machine reply next. Step machine asked reply next) held keep (Refused NotYet) (λ machine. subst (λ o. Step machine o (Refused NotYet) machine) (sym is) (refl, refl))

@@ -2,12 +2,13 @@
 use Rattle.std.specs.Prelude.{Option}
 use Rattle.serde_json.specs.View.{view}
 use Rattle.hol_orders.specs.declared.order.Order.{Order}
-use Rattle.hol_orders.specs.declared.order.Order.TheVariants.{At, Find, Get, Has, Live, Past, Row}
+use Rattle.hol_orders.specs.declared.order.Order.TheVariants.{At, Find, Get, Has, Live, Past, Row, Stat}
 use Rattle.hol_answers.specs.declared.reply.Reply.{Reply}
 use Rattle.hollow_machine.specs.KeyOrders.{FindReply, GetReply}
 use Rattle.hollow_machine.specs.KeyPaths.{texts_of_array}
 use Rattle.hollow_machine.specs.MemberOrders.{AtReply, HasReply}
 use Rattle.hollow_machine.specs.RowOrders.{LiveReply, PastReply, RowReply}
+use Rattle.hollow_machine.specs.StatOrder.{StatReply}
 use Rattle.read_engine.specs.Position.{Position}
 
 -- The order looks at a consumer's state.
@@ -19,6 +20,7 @@ IsLook (Row name ordinal) = Unit {0}
 IsLook (Has name ordinal element) = Unit {0}
 IsLook (At name ordinal key) = Unit {0}
 IsLook (Past name) = Unit {0}
+IsLook Stat = Unit {0}
 IsLook _ = ⊥
 
 -- What it is answered of where the consumer stands.
@@ -30,4 +32,5 @@ LooksAt (Row name ordinal) consumer reply = RowReply consumer name ordinal reply
 LooksAt (Has name ordinal element) consumer reply = HasReply consumer name ordinal element reply
 LooksAt (At name ordinal key) consumer reply = AtReply consumer name ordinal key reply
 LooksAt (Past name) consumer reply = PastReply consumer name reply
+LooksAt Stat consumer reply = StatReply consumer reply
 LooksAt _ consumer reply = ⊥

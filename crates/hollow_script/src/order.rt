@@ -10,8 +10,8 @@ ghost use Rattle.hollow_script.specs.Looking.{IsLook, LooksAt};
 
 use crate::keep::Keep;
 use chain_orders::{check, restore};
-use consumer_orders::{at, find, get, has, index, live, load, past, row, step};
-use hol_answers::{Refusal, Reply};
+use consumer_orders::{at, find, get, has, index, live, load, past, row, stat, step};
+use hol_answers::Reply;
 use hol_io::BlobStore;
 use hol_orders::{Order, OrderStop};
 use producer_orders::{cycle, model};
@@ -25,7 +25,7 @@ pub fn may_put(order: &Order) -> bool
     matches!(order, Order::Cycle(_))
 }
 
-/// Answers an order. `stat` is not built.
+/// Answers an order.
 pub fn answer<S: BlobStore>(
     alloc: Global,
     order: &Order,
@@ -48,7 +48,6 @@ pub fn answer<S: BlobStore>(
         Order::Step { from, to } => step(store, &mut keep.consumer, *from, *to),
         Order::Index { type_name, paths } => index(alloc, &mut keep.consumer, type_name, paths),
         Order::Check(versions) => check(alloc, store, versions),
-        Order::Stat => Ok(Reply::Refused(Refusal::NotYet)),
         _ => look(alloc, order, &keep.consumer),
     }
 }
@@ -79,6 +78,7 @@ fn look(alloc: Global, order: &Order, consumer: &Consumer) -> Result<Reply, Orde
             key,
         } => at(alloc, consumer, type_name, *ordinal, *key),
         Order::Past(type_name) => past(alloc, consumer, type_name),
+        Order::Stat => stat(alloc, consumer),
         _ => unreachable!(),
     }
 }

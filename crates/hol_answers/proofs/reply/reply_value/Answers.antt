@@ -1,4 +1,4 @@
-use Rattle.hol_answers.specs.declared.reply.Reply.TheVariants.{Head, Cycle, Find, Live, Has, At}
+use Rattle.hol_answers.specs.declared.reply.Reply.TheVariants.{Head, Cycle, Find, Live, Has, At, Stat}
 use Rattle.hol_answers.proofs.Floats.{plain_answer}
 use Rattle.hol_answers.proofs.reply.reply_value.Goals as goal
 
@@ -19,3 +19,6 @@ returns-in-Has-clause-plain c = plain_answer (Has c.in-Has.there) c.has_value.re
 
 pub returns-in-At-clause-plain : goal.returns-in-At-clause-plain
 returns-in-At-clause-plain c = plain_answer (At c.in-At.value) c.at_value.result tt c.at_value.ensures
+
+pub returns-in-Stat-clause-plain : goal.returns-in-Stat-clause-plain
+returns-in-Stat-clause-plain c = plain_answer (Stat _ c.in-Stat.types) c.stat_value.result tt c.stat_value.ensures

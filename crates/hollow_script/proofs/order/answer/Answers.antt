@@ -1,7 +1,7 @@
 use Rattle.std.proofs.Common.{refl, subst}
 use Rattle.hol_orders.specs.declared.order.Order.TheVariants as order
 use Rattle.hol_orders.specs.Order.{IsOrder}
-use Rattle.hollow_script.proofs.Ordering.{checks, consumer_moves, cycle_moves, looks, model_moves, not_built, restore_moves}
+use Rattle.hollow_script.proofs.Ordering.{checks, consumer_moves, cycle_moves, looks, model_moves, restore_moves}
 use Rattle.hollow_script.specs.Kept.{kept_of}
 use Rattle.hollow_script.proofs.order.answer.Goals as goal
 
@@ -50,9 +50,6 @@ pub returns-in-Check-clause-step : goal.returns-in-Check-clause-step
 returns-in-Check-clause-step g c =
     checks (g.S.BlobStore.seen c.args.store.now).held (g.S.BlobStore.seen c.check.new.store).held (kept_of c.args.keep.now) c.args.order.now c.in-Check.versions c.check.result
     c.in-Check.is c.check.ensures.held c.check.ensures.reply
-
-pub returns-in-Stat-clause-step : goal.returns-in-Stat-clause-step
-returns-in-Stat-clause-step g c = not_built (g.S.BlobStore.seen c.args.store.now).held c.args.keep.now c.args.order.now c.in-Stat.is
 
 pub returns-in_default-clause-step : goal.returns-in_default-clause-step
 returns-in_default-clause-step g c =
