@@ -3,6 +3,7 @@ mod Missing
 mod Parts
 mod Lists
 mod OfKind
+mod PlainCycles
 mod Words
 mod Told
 mod Walks

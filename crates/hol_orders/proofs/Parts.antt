@@ -3,12 +3,13 @@ use Rattle.std.proofs.Common.{◌≡◌, [], ◌∷◌, Result, Ok, Err, refl, s
 use Rattle.std.specs.Prelude.{IsErrAnd}
 use Rattle.serde_json.specs.Data.{Data}
 use Rattle.serde_json.specs.View.{view}
+use Rattle.serde_json.specs.declared.value.Value.{Value}
 use Rattle.hol_orders.specs.declared.order.NextState.{NextState}
 use Rattle.hol_orders.specs.declared.json.Records.{Records}
 use Rattle.hol_orders.specs.declared.order.OrderFault.{OrderFault}
 use Rattle.hol_orders.specs.declared.order.OrderFault.TheVariants.{BadOrder, Memory}
 use Rattle.hol_orders.specs.Kind.{IsNextState}
-use Rattle.hol_orders.specs.Parts.{pair, triple, state_data, asked_state, state_asked}
+use Rattle.hol_orders.specs.Parts.{added, pair, triple, state_data, asked_state, state_asked}
 use Rattle.hol_orders.specs.Shapes.{Finds, AreRecords}
 use Rattle.hol_orders.specs.Taken.{TellsItems, TellsThree}
 use Rattle.hol_orders.proofs.Missing.{no_whole}
@@ -55,13 +56,13 @@ no_third FitsA FitsB FitsC spelled_a spelled_b spelled_c json r fault is x y z t
     (λ all fits same. (all.2, fits.2, (same_parts (spelled_a all.0) (spelled_b all.1) (spelled_c all.2) x y z json same there).2)) none
 
 -- what a cycle asks for has an object of arrays
-pub no_records : (json add tag version : Data) (r : Result NextState OrderFault) (fault : OrderFault) → IsErrAnd r (λ e. e ≡ fault) → state_data add tag version ≡ json →
-    Finds {T = Records} (λ records. AreRecords (view records.0)) (λ records. view records.0) add (Err fault) →
+pub no_records : (json : Data) (add : Value) (tag version : Data) (r : Result NextState OrderFault) (fault : OrderFault) → IsErrAnd r (λ e. e ≡ fault) → state_data (view add) tag version ≡ json →
+    Finds {T = Records} (λ records. AreRecords (view records.0)) (λ records. view records.0) (view add) (Err fault) →
     Finds {T = NextState} (λ next. IsNextState (asked_state next)) (λ next. state_asked (asked_state next)) json r
 no_records json add tag version r fault is there none =
     no_whole {A = Records} {T = NextState} (λ records. AreRecords (view records.0)) (λ records. view records.0)
-    (λ next. IsNextState (asked_state next)) (λ next. state_asked (asked_state next)) add json r fault is
-    (λ next fits same. (record { 0 = next.add }, fits.2, same_add next same)) none
+    (λ next. IsNextState (asked_state next)) (λ next. state_asked (asked_state next)) (view add) json r fault is
+    (λ next fits same. (record { 0 = add }, subst AreRecords (same_add next same) fits.2, refl)) none
   where
-    same_add : (next : NextState) → state_asked (asked_state next) ≡ json → view next.add ≡ add
+    same_add : (next : NextState) → state_asked (asked_state next) ≡ json → added next.add ≡ view add
     same_add next same = cc

@@ -3,6 +3,9 @@ use Rattle.std.specs.Prelude.{ℕ, ℤ, List, map, codes}
 use Rattle.serde_json.specs.Data.{Data, number, unsigned, array, object, no_items, item, no_members, member}
 use Rattle.serde_json.specs.Find.{of_integer}
 use Rattle.serde_json.specs.View.{items_of, view}
+use Rattle.record_stream.specs.CycleLine.{added_by}
+use Rattle.hol_orders.specs.declared.added.Added.{Added}
+use Rattle.hol_orders.specs.declared.added.Added.TheVariants.{Json, Line}
 use Rattle.hol_orders.specs.declared.order.NextState.{NextState}
 
 -- a whole number
@@ -34,8 +37,13 @@ pub record AskedState : Type 0 where
   pub tag : ℤ
   pub add : Data
 
+-- the records that a cycle adds, wherever they are: a value, or what a line adds
+abbrev pub added : Added → Data
+added (Json add) = view add
+added (Line line) = added_by line
+
 abbrev pub asked_state : NextState → AskedState
-asked_state next = record { version = next.version; tag = next.tag; add = view next.add }
+asked_state next = record { version = next.version; tag = next.tag; add = added next.add }
 
 abbrev pub state_asked : AskedState → Data
 state_asked asked = state_data asked.add (number (of_integer asked.tag)) (whole asked.version)

@@ -7,6 +7,7 @@ ghost use Rattle.hol_orders.specs.Parts.{whole as whole_data, triple, state_data
 ghost use Rattle.hol_orders.specs.Shapes.{ArePaths, AreTexts, AreRecords, AreArrays, AreVersions, DoNeighboursDiffer, Finds, IsTruth};
 ghost use Rattle.hol_orders.specs.Taken.{TellsItems, TellsMember, TellsNext, TellsThree};
 
+use crate::added::Added;
 use crate::order::{NextState, OrderFault, Versions};
 use json_values::are_schemas;
 use schema_model::Name;
@@ -192,7 +193,11 @@ impl FromJson for NextState {
         let Records(add) = FromJson::from_json(alloc, add)?;
         let tag = FromJson::from_json(alloc, tag)?;
         let version = FromJson::from_json(alloc, version)?;
-        Ok(NextState { version, tag, add })
+        Ok(NextState {
+            version,
+            tag,
+            add: Added::Json(add),
+        })
     }
 }
 

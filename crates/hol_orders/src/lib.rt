@@ -1,6 +1,8 @@
 //! The shapes of orders: what a line of a script asks for.
 #![tactic(auto)]
 
+mod added;
+mod cycle_in_line;
 mod json;
 mod kind;
 pub mod laws;
@@ -8,6 +10,7 @@ mod order;
 mod order_stop;
 mod shapes;
 
+pub use added::Added;
 pub use kind::Kind;
 pub use order::{NextState, Order, OrderFault, Versions, order_of};
 pub use order_stop::OrderStop;

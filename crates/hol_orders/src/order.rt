@@ -3,6 +3,8 @@ ghost use Rattle.std.specs.Prelude.{◌≡◌, ◌⊎◌, Ok, Err, IsErrAnd};
 ghost use Rattle.hol_varint.specs.Yields.{Yields};
 ghost use Rattle.hol_orders.specs.Order.{Orders, TellsOrder, IsFreeOrder, order_data};
 
+use crate::added::Added;
+use crate::cycle_in_line::cycle_in_line;
 use crate::json::only_member;
 use crate::kind::Kind;
 use crate::shapes::order_with;
@@ -21,8 +23,8 @@ pub struct NextState {
     pub version: u64,
     /// The tag that it is to have.
     pub tag: i64,
-    /// The records that it adds by type, still JSON: an object of arrays.
-    pub add: Value,
+    /// The records that it adds.
+    pub add: Added,
 }
 
 /// What one line of a script asks for. Versions are numbers from 1 to 2^63 - 1.
@@ -144,8 +146,18 @@ pub fn order_of(alloc: Global, line: &[u8]) -> Result<Order, OrderFault>
     read_order(alloc, line)
 }
 
-// The same, step by step.
+// The same: a cycle in its plain form stays in its line, and any other line is read whole.
 fn read_order(alloc: Global, line: &[u8]) -> Result<Order, OrderFault>
+    ensures { TellsOrder line.now result }
+{
+    match cycle_in_line(alloc, line)? {
+        Some(order) => Ok(order),
+        None => order_in_json(alloc, line),
+    }
+}
+
+// The same of a line that is read whole.
+fn order_in_json(alloc: Global, line: &[u8]) -> Result<Order, OrderFault>
     ensures { TellsOrder line.now result }
 {
     let value = match Value::from_slice(alloc, line) {

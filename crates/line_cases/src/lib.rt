@@ -2,4 +2,6 @@
 #![tactic(auto)]
 
 #[cfg(test)]
+mod plain_cycles;
+#[cfg(test)]
 mod replies;

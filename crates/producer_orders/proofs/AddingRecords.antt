@@ -155,7 +155,7 @@ told_before : (before now : Production) (done : List Entry) (rows rows' : Table)
 told_before before now done rows rows' all full result kept tells =
     subst (λ (p : Production). AreAdded p.schemas p.previous done rows full → TellsAdded p.schemas p.previous all rows' result) kept tells
 
-kept_both : (before now after : Production) → now ≡ record before { current = now.current } → after ≡ record now { current = after.current } → after ≡ record before { current = after.current }
+pub kept_both : (before now after : Production) → now ≡ record before { current = now.current } → after ≡ record now { current = after.current } → after ≡ record before { current = after.current }
 kept_both before now after kept also = also ∙ ap (λ (p : Production). record p { current = after.current }) kept
 
 pub values_step : (t : ℕ) (values : List Data) (before now after : Production) (full_before full full' : Bool) (place : ℕ) (value : Data) → slice_get values place ≡ Some value

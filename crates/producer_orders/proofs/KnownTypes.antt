@@ -1,21 +1,24 @@
 -- The names under which records stand, and the records under a name.
-use Rattle.std.proofs.Common.{◌≡◌, ℕ, List, [], ◌∷◌, ◌++◌, Bool, true, false, cond, map, String, string_bytes, Option, Some, None, refl, sym, ap, ◌∙◌, subst}
-use Rattle.std.specs.Prelude.{IsSome, not}
+use Rattle.std.proofs.Common.{◌≡◌, ℕ, List, [], ◌∷◌, ◌++◌, Bool, true, false, cond, map, String, string_bytes, Option, Some, None, Result, Ok, Err, refl, sym, ap, ◌∙◌, subst}
+use Rattle.std.specs.Prelude.{IfOk, IsSome, not}
+use Rattle.std.specs.declared.alloc.AllocError.{AllocError}
 use Rattle.std.specs.List.{find, All}
 use Rattle.std.specs.Map.{keys_of}
 use Rattle.std.specs.Option.{is_none, option_and_then, option_map, option_map_or}
 use Rattle.std.specs.declared.alloc.Global.{Global}
 use Rattle.std.proofs.lemmas.List.Elements.{All-cons, All-nil}
-use Rattle.serde_json.specs.Data.{Data, array, object}
+use Rattle.serde_json.specs.Data.{Data, Members, array, member, no_members, object}
 use Rattle.serde_json.specs.Find.{as_array, get}
 use Rattle.serde_json.specs.View.{items_of, items_view, members_view, view}
 use Rattle.serde_json.specs.declared.value.Value.{Value}
+use Rattle.record_stream.specs.CycleLine.{bare}
 use Rattle.schema_model.specs.declared.schema.Schema.{Schema}
 use Rattle.schema_model.specs.Parts.{index_of_type}
+use Rattle.hol_orders.specs.Shapes.{AreArrays, AreRecords}
 use Rattle.hollow_machine.specs.Records.{listed, names_in, values_under}
 use Rattle.producer_orders.specs.Parts.{TellsUnknown}
 
-listed_items : (values : List Data) → listed (items_of values) ≡ values
+pub listed_items : (values : List Data) → listed (items_of values) ≡ values
 listed_items [] = refl
 listed_items (value ∷ values) = ap (λ vs. value ∷ vs) (listed_items values)
 
@@ -90,3 +93,27 @@ flipped true true is = absurd cc
 flipped true false is = refl
 flipped false true is = refl
 flipped false false is = absurd cc
+
+-- ---- names that stand in an object with no records
+
+names_in-bare : (ms : Members) → names_in (bare ms) ≡ names_in ms
+names_in-bare no_members = refl
+names_in-bare (member name json rest) = ap (λ ns. name ∷ ns) (names_in-bare rest)
+
+arrays-bare : (ms : Members) → AreArrays (bare ms)
+arrays-bare no_members = tt
+arrays-bare (member name json rest) = (tt, arrays-bare rest)
+
+-- an object of names has records, though none
+pub are_bare : (names : Data) (ms : Members) → names ≡ object (bare ms) → AreRecords names
+are_bare names ms are = subst AreRecords (sym are) (arrays-bare ms)
+
+unknown_bare : (schemas : List Schema) (ms : Members) (o : Option (List ℕ)) → TellsUnknown schemas (object (bare ms)) o → TellsUnknown schemas (object ms) o
+unknown_bare schemas ms None told = subst (λ ns. All (λ name. IsSome (index_of_type schemas name)) ns) (names_in-bare ms) told
+unknown_bare schemas ms (Some name) first = record { before = first.before; rest = first.rest; split = sym (names_in-bare ms) ∙ first.split; known = first.known; unknown = first.unknown }
+
+-- what is told of the names is told of the records
+pub unknown_named : (schemas : List Schema) (names add : Data) (ms : Members) (r : Result (Option (List ℕ)) AllocError) → add ≡ object ms → names ≡ object (bare ms) → IfOk r (TellsUnknown schemas names)
+    → IfOk r (TellsUnknown schemas add)
+unknown_named schemas names add ms (Ok o) is are told = subst (λ (d : Data). TellsUnknown schemas d o) (sym is) (unknown_bare schemas ms o (subst (λ (d : Data). TellsUnknown schemas d o) are told))
+unknown_named schemas names add ms (Err e) is are told = tt

@@ -1,4 +1,5 @@
 mod AddingRecords
+mod AheadRecords
 mod Cycling
 mod FilmRecords
 mod KnownTypes

@@ -1,9 +1,9 @@
 -- What a cycle asks for, wherever its records come from.
 use Rattle.std.specs.Prelude.{◌≡◌, ◌≤◌, ℕ, ℤ, List, [], ◌∷◌, filter, map}
-use Rattle.serde_json.specs.View.{view}
 use Rattle.film_script.specs.Films.{film, film_schemas, film_type, films, is_shown}
 use Rattle.row_model.specs.PlainTree.{PlainTree}
 use Rattle.schema_model.specs.declared.schema.Schema.{Schema}
+use Rattle.hol_orders.specs.Parts.{added}
 use Rattle.hol_orders.specs.Shapes.{AreRecords}
 use Rattle.hollow_machine.specs.Records.{Adding, AskedCycle, given, spelled}
 use Rattle.producer_orders.specs.declared.asked.FilmCycle.{FilmCycle}
@@ -12,7 +12,7 @@ use Rattle.producer_orders.specs.declared.asked.Records.TheVariants.{Films, Spel
 
 -- the records, as the machine has them
 abbrev pub adding_of : Records → Adding
-adding_of (Spelled add) = spelled (view add.now)
+adding_of (Spelled add) = spelled (added add.now)
 adding_of (Films script) = given (films script.seed script.rows script.cycle)
 
 -- what is asked for, as the machine has it: a version, a tag and records
@@ -29,5 +29,5 @@ IsFilmCycle script = (script.seed ≤ 1000000) × (script.rows ≤ 1000000) × (
 
 -- The records can be asked for of a producer of this model: JSON has its shape, and films are of the script's model.
 abbrev pub Suit : List Schema → Records → Type 0
-Suit schemas (Spelled add) = AreRecords (view add.now)
+Suit schemas (Spelled add) = AreRecords (added add.now)
 Suit schemas (Films script) = (schemas ≡ film_schemas) × IsFilmCycle script

@@ -1,5 +1,5 @@
 //! The records that a cycle asks for, wherever they come from.
-use serde_json::Value;
+use hol_orders::Added;
 
 /// A cycle of the script of `make`: the films that it shows of so many.
 #[derive(Clone, Copy)]
@@ -15,8 +15,8 @@ pub(crate) struct FilmCycle {
 /// The records that a cycle adds.
 #[derive(Drop)]
 pub(crate) enum Records<'a> {
-    /// The JSON of an order.
-    Spelled(&'a Value),
+    /// Those of an order, still JSON.
+    Spelled(&'a Added),
     /// The films of a cycle of the script.
     Films(FilmCycle),
 }

@@ -6,6 +6,7 @@ mod cycle_end;
 mod cycle_order;
 mod films;
 mod follow;
+mod line_records;
 mod make;
 mod model_order;
 mod record_fault;

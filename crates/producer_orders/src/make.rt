@@ -1,7 +1,7 @@
 //! The next state of a producer is made of the records of a cycle.
 ghost use Rattle.std.specs.Prelude.{◌≡◌, ◌<◌, All, IfOk, Some, length, slice_get};
-ghost use Rattle.serde_json.specs.View.{view};
 ghost use Rattle.schema_model.specs.declared.schema.Schema.{Schema};
+ghost use Rattle.hol_orders.specs.Parts.{added};
 ghost use Rattle.hol_orders.specs.Shapes.{AreRecords};
 ghost use Rattle.hol_answers.specs.Refusal.{bad_record as refused_record};
 ghost use Rattle.hollow_machine.specs.CycleOrder.{AreNamed};
@@ -19,10 +19,9 @@ use crate::record_fault::RecordFault;
 use crate::records::add_records;
 use crate::types::unknown_type;
 use hol_answers::{Refusal, RefusedRecord};
-use hol_orders::OrderStop;
+use hol_orders::{Added, OrderStop};
 use hol_varint::{Duplicate, Ordinals};
 use schema_model::{Limit, Model, Names, Reason};
-use serde_json::Value;
 use std::alloc::{AllocError, Global};
 use write_engine::{Closed, Producer};
 
@@ -65,11 +64,11 @@ fn take_records(
 }
 
 // Adds the records of an order to a producer.
-fn take_spelled(alloc: Global, producer: &mut Producer, add: &Value) -> Result<(), CycleEnd>
+fn take_spelled(alloc: Global, producer: &mut Producer, add: &Added) -> Result<(), CycleEnd>
     requires resting { IsResting producer.old }
-    requires records { AreRecords (view add.now) }
-    ensures tells { TellsEnd (λ _. AreTaken (published_of producer.old) (spelled (view add.now)) producer.new.current)
-        (AreRefused (published_of producer.old) (spelled (view add.now))) IsMemory result }
+    requires records { AreRecords (added add.now) }
+    ensures tells { TellsEnd (λ _. AreTaken (published_of producer.old) (spelled (added add.now)) producer.new.current)
+        (AreRefused (published_of producer.old) (spelled (added add.now))) IsMemory result }
     ensures kept { producer.new ≡ record producer.old { current = producer.new.current } }
 {
     if let Some(name) = unknown_type(alloc, producer.model(), add)? {
@@ -80,11 +79,11 @@ fn take_spelled(alloc: Global, producer: &mut Producer, add: &Value) -> Result<(
 
 // The same of records whose types are known.
 #[tactic(auto, using(crate::proofs::Makings::are_taken, crate::proofs::Makings::too_many))]
-fn take_known(alloc: Global, producer: &mut Producer, add: &Value) -> Result<(), CycleEnd>
+fn take_known(alloc: Global, producer: &mut Producer, add: &Added) -> Result<(), CycleEnd>
     requires resting { IsResting producer.old }
-    requires types { AreTypes producer.old.schemas (view add.now) }
-    ensures tells { TellsEnd (λ _. AreTaken (published_of producer.old) (spelled (view add.now)) producer.new.current)
-        (AreRefused (published_of producer.old) (spelled (view add.now))) IsMemory result }
+    requires types { AreTypes producer.old.schemas (added add.now) }
+    ensures tells { TellsEnd (λ _. AreTaken (published_of producer.old) (spelled (added add.now)) producer.new.current)
+        (AreRefused (published_of producer.old) (spelled (added add.now))) IsMemory result }
     ensures kept { producer.new ≡ record producer.old { current = producer.new.current } }
 {
     match add_records(alloc, producer, add) {

@@ -4,12 +4,14 @@ ghost use Rattle.serde_json.specs.View.{view};
 ghost use Rattle.schema_model.specs.declared.schema.Schema.{Schema};
 ghost use Rattle.schema_model.specs.Model.{IsModel};
 ghost use Rattle.write_engine.specs.Agreement.{HoldsOnce};
-ghost use Rattle.hol_orders.specs.Shapes.{AreRecords};
+ghost use Rattle.hol_orders.specs.Parts.{added};
 ghost use Rattle.hollow_machine.specs.Kept.{IsResting};
 ghost use Rattle.hollow_machine.specs.Records.{Entry, entries, entries_at, values_under};
 ghost use Rattle.producer_orders.specs.Parts.{AreAdded, TellsAdded, TellsRecords};
 
+use crate::line_records::add_from_line;
 use crate::record_fault::RecordFault;
+use hol_orders::Added;
 use json_values::ValueFault;
 use ordinal_map::PutRowFault;
 use record_json::{laws, tree_from};
@@ -23,10 +25,10 @@ use write_engine::Producer;
 pub(crate) fn add_records(
     alloc: Global,
     producer: &mut Producer,
-    add: &Value,
+    add: &Added,
 ) -> Result<(), RecordFault>
     requires resting { IsResting producer.old }
-    ensures tells { TellsRecords producer.old.schemas producer.old.previous (entries producer.old.schemas (view add.now)) producer.new.current result }
+    ensures tells { TellsRecords producer.old.schemas producer.old.previous (entries producer.old.schemas (added add.now)) producer.new.current result }
     ensures kept { producer.new ≡ record producer.old { current = producer.new.current } }
 {
     let _agreeing = producer.current();
@@ -38,19 +40,44 @@ pub(crate) fn add_records(
 }
 
 // Adds the records of all types, and tells whether they are too many.
-fn add_types(alloc: Global, producer: &mut Producer, add: &Value) -> Result<bool, RecordFault>
+fn add_types(alloc: Global, producer: &mut Producer, add: &Added) -> Result<bool, RecordFault>
     requires resting { IsResting producer.old }
     requires once { HoldsOnce producer.old.previous }
-    ensures tells { TellsAdded producer.old.schemas producer.old.previous (entries producer.old.schemas (view add.now)) producer.new.current result }
+    ensures tells { TellsAdded producer.old.schemas producer.old.previous (entries producer.old.schemas (added add.now)) producer.new.current result }
     ensures kept { producer.new ≡ record producer.old { current = producer.new.current } }
 {
     let types = producer.model().len();
     let mut full = false;
     for type_index in 0..types {
-        let values = values_of(producer.model(), type_index, add);
-        full = add_values(alloc, producer, type_index, values, full)?;
+        full = add_type(alloc, producer, type_index, add, full)?;
     }
     Ok(full)
+}
+
+// Adds the records of a type behind others, and tells whether they all are too many.
+fn add_type(
+    alloc: Global,
+    producer: &mut Producer,
+    type_index: u32,
+    add: &Added,
+    full: bool,
+) -> Result<bool, RecordFault>
+    requires type_in { type_index < length producer.old.schemas }
+    requires model { IsModel producer.old.schemas }
+    requires open { producer.old.closed ≡ false }
+    requires once { HoldsOnce producer.old.previous }
+    ensures tells { (schema : Schema) (done : List Entry) → slice_get producer.old.schemas type_index ≡ Some schema
+        → AreAdded producer.old.schemas producer.old.previous done producer.old.current full
+        → TellsAdded producer.old.schemas producer.old.previous (done ++ entries_at type_index (values_under (added add.now) schema.name)) producer.new.current result }
+    ensures kept { producer.new ≡ record producer.old { current = producer.new.current } }
+{
+    match add {
+        Added::Json(json) => {
+            let values = values_of(producer.model(), type_index, json);
+            add_values(alloc, producer, type_index, values, full)
+        }
+        Added::Line(line) => add_from_line(alloc, producer, type_index, line, full),
+    }
 }
 
 // The records of a type.
@@ -87,8 +114,8 @@ fn add_values(
     Ok(full)
 }
 
-// Reads a record and adds it behind others, but where these are too many already; tells whether they all are too many.
-fn add_value(
+/// Reads a record and adds it behind others, but where these are too many already; tells whether they all are too many.
+pub(crate) fn add_value(
     alloc: Global,
     producer: &mut Producer,
     type_index: u32,

@@ -2,9 +2,11 @@
 ghost use Rattle.std.specs.Prelude.{IfOk};
 ghost use Rattle.serde_json.specs.Data.{object};
 ghost use Rattle.serde_json.specs.View.{view, members_view};
+ghost use Rattle.hol_orders.specs.Parts.{added};
 ghost use Rattle.hol_orders.specs.Shapes.{AreRecords};
 ghost use Rattle.producer_orders.specs.Parts.{TellsUnknown};
 
+use hol_orders::Added;
 use schema_model::{Model, Name};
 use serde_json::{Map, Value};
 use std::alloc::{AllocError, Global};
@@ -13,8 +15,19 @@ use std::alloc::{AllocError, Global};
 pub(crate) fn unknown_type(
     alloc: Global,
     model: &Model,
-    add: &Value,
+    add: &Added,
 ) -> Result<Option<Name>, AllocError>
+    requires { AreRecords (added add.now) }
+    ensures { IfOk result (TellsUnknown model.now (added add.now)) }
+{
+    match add {
+        Added::Json(json) => unknown_name(alloc, model, json),
+        Added::Line(line) => unknown_name(alloc, model, line.names()),
+    }
+}
+
+// The same of the names of an object.
+fn unknown_name(alloc: Global, model: &Model, add: &Value) -> Result<Option<Name>, AllocError>
     requires { AreRecords (view add.now) }
     ensures { IfOk result (TellsUnknown model.now (view add.now)) }
 {

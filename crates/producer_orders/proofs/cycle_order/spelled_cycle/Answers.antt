@@ -1,5 +1,5 @@
 use Rattle.std.proofs.Common.{ℤ, Some}
-use Rattle.serde_json.specs.View.{view}
+use Rattle.hol_orders.specs.Parts.{added}
 use Rattle.hollow_machine.specs.CycleOrder.{CycleStep}
 use Rattle.hollow_machine.specs.Kept.{MovesProducer}
 use Rattle.hollow_machine.specs.Records.{spelled}
@@ -11,5 +11,5 @@ returns-clause-step g c =
     let held = (g.S.BlobStore.seen c.args.store.now).held in
     let held' = (g.S.BlobStore.seen c.cycle_of.new.store).held in
     let next = c.args.next.now in
-    at_tag (λ (t : ℤ). MovesProducer (λ machine reply after. CycleStep machine (record { version = next.version; tag = t; add = spelled (view next.add) }) reply after) held (Some c.args.producer.now) held' (Some c.cycle_of.new.producer) c.cycle_of.result)
+    at_tag (λ (t : ℤ). MovesProducer (λ machine reply after. CycleStep machine (record { version = next.version; tag = t; add = spelled (added next.add) }) reply after) held (Some c.args.producer.now) held' (Some c.cycle_of.new.producer) c.cycle_of.result)
     next.tag c.requires.order.1 c.cycle_of.ensures.step

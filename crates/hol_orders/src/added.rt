@@ -1,0 +1,12 @@
+//! The records that a cycle adds.
+use record_stream::CycleLine;
+use serde_json::Value;
+
+/// The records that a cycle adds by type, still JSON: an object of arrays.
+#[derive(Debug, Drop)]
+pub enum Added {
+    /// As a value.
+    Json(Value),
+    /// In the line of the order, from which they are read one by one.
+    Line(CycleLine),
+}

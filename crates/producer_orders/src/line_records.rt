@@ -1,0 +1,75 @@
+//! The records of a cycle that are read from its line one by one, and added to the producer.
+ghost use Rattle.std.specs.Prelude.{◌≡◌, ◌<◌, ◌++◌, List, Some, false, length, slice_get};
+ghost use Rattle.json.specs.Token.{Token};
+ghost use Rattle.serde_json.specs.Data.{Data};
+ghost use Rattle.record_stream.specs.CycleLine.{added_by};
+ghost use Rattle.record_stream.specs.Records.{AreAhead};
+ghost use Rattle.schema_model.specs.declared.schema.Schema.{Schema};
+ghost use Rattle.schema_model.specs.Model.{IsModel};
+ghost use Rattle.write_engine.specs.Agreement.{HoldsOnce};
+ghost use Rattle.hollow_machine.specs.Records.{Entry, entries_at, values_under};
+ghost use Rattle.producer_orders.specs.Parts.{AreAdded, TellsAdded};
+
+use crate::record_fault::RecordFault;
+use crate::records::add_value;
+use json::{Reader, Scratch};
+use record_stream::{CycleLine, next_record};
+use std::alloc::Global;
+use write_engine::Producer;
+
+/// Adds the records of a type in a line behind others, and tells whether they all are too many.
+pub(crate) fn add_from_line(
+    alloc: Global,
+    producer: &mut Producer,
+    type_index: u32,
+    line: &CycleLine,
+    full: bool,
+) -> Result<bool, RecordFault>
+    requires type_in { type_index < length producer.old.schemas }
+    requires model { IsModel producer.old.schemas }
+    requires open { producer.old.closed ≡ false }
+    requires once { HoldsOnce producer.old.previous }
+    ensures tells { (schema : Schema) (done : List Entry) → slice_get producer.old.schemas type_index ≡ Some schema
+        → AreAdded producer.old.schemas producer.old.previous done producer.old.current full
+        → TellsAdded producer.old.schemas producer.old.previous (done ++ entries_at type_index (values_under (added_by line.now) schema.name)) producer.new.current result }
+    ensures kept { producer.new ≡ record producer.old { current = producer.new.current } }
+{
+    let mut scratch = Scratch::new(alloc);
+    let name = producer.model().schema(type_index).name.text();
+    match line.records(&mut scratch, name) {
+        Ok(Some(mut reader)) => add_ahead(alloc, producer, type_index, &mut reader, full),
+        Ok(None) => Ok(full),
+        Err(_) => Err(RecordFault::Memory),
+    }
+}
+
+// Adds the records that are ahead behind others, and tells whether they all are too many.
+fn add_ahead(
+    alloc: Global,
+    producer: &mut Producer,
+    type_index: u32,
+    reader: &mut Reader<'_>,
+    full_before: bool,
+) -> Result<bool, RecordFault>
+    requires ahead { (records : List Data) × (rest : List Token) × AreAhead reader.old records rest }
+    requires type_in { type_index < length producer.old.schemas }
+    requires model { IsModel producer.old.schemas }
+    requires open { producer.old.closed ≡ false }
+    requires once { HoldsOnce producer.old.previous }
+    ensures tells { (records : List Data) (rest : List Token) (done : List Entry) → AreAhead reader.old records rest
+        → AreAdded producer.old.schemas producer.old.previous done producer.old.current full_before
+        → TellsAdded producer.old.schemas producer.old.previous (done ++ entries_at type_index records) producer.new.current result }
+    ensures kept { producer.new ≡ record producer.old { current = producer.new.current } }
+{
+    let mut full = full_before;
+    for place in 0..u64::MAX {
+        let value = match next_record(alloc, reader) {
+            Ok(Some(value)) => value,
+            Ok(None) => return Ok(full),
+            Err(_) => return Err(RecordFault::Memory),
+        };
+        full = add_value(alloc, producer, type_index, place, &value, full)?;
+    }
+    // A line has fewer records than that.
+    Err(RecordFault::Memory)
+}

@@ -1,0 +1,10 @@
+mod Converted
+mod Enough
+mod Listed
+mod Named
+mod Opened
+mod Passed
+mod Records
+mod Sought
+mod Typing
+mod Whole

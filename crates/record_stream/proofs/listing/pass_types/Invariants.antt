@@ -1,0 +1,10 @@
+use Rattle.std.proofs.Common.{length}
+use Rattle.serde_json.specs.View.{members_view}
+use Rattle.record_stream.proofs.Typing.{HavePassed}
+use Rattle.record_stream.proofs.listing.pass_types.Given as goal
+
+abbrev pub invariant-types : goal.invariant-types
+invariant-types l = HavePassed l.initial.reader l.reader (members_view l.names.entries)
+
+abbrev pub decreases-types : goal.decreases-types
+decreases-types l = length l.reader

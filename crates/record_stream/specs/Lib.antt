@@ -1,0 +1,3 @@
+pub mod CycleLine
+pub mod Passing
+pub mod Records

@@ -1,0 +1,112 @@
+//! The line of a cycle, from which its records are read one by one.
+ghost use Rattle.std.specs.Prelude.{◌≡◌, List, Some, IfOk, IfSome, string_bytes};
+ghost use Rattle.serde_json.specs.Data.{Members, no_members, object};
+ghost use Rattle.serde_json.specs.Read.{read};
+ghost use Rattle.serde_json.specs.View.{view};
+ghost use Rattle.record_stream.specs.CycleLine.{TellsRecords, Typed, added_by, bare, cycle_data, with_types};
+
+use crate::listing::{pass_types, seek};
+use crate::opening::{is_line_closed, open_cycle, pass_opening};
+use crate::read_fault::ReadFault;
+use json::{Reader, Scratch};
+use serde_json::Value;
+use std::alloc::{AllocError, Global};
+use std::marker::Model;
+
+/// The line of a cycle in its plain form, whose records are read one by one. A clause sees its bytes.
+#[derive(Debug, Drop)]
+pub struct CycleLine {
+    text: String,
+    // The names of the types, each with an empty array.
+    names: Value,
+}
+
+impl Model for CycleLine {
+    ghost use Rattle.std.specs.Prelude.{ℕ, List, string_bytes};
+    ghost use Rattle.std.specs.Coded.{coded_ℕ, coded_list};
+
+    ghost Value = { List ℕ };
+
+    ghost coded = { coded_list coded_ℕ };
+
+    ghost use Rattle.serde_json.specs.View.{view as value_view};
+    ghost use Rattle.record_stream.specs.CycleLine.{IsKept};
+
+    ghost view = { λ a. string_bytes a.text };
+
+    ghost invariant = { λ a. IsKept (string_bytes a.text) (value_view a.names) };
+}
+
+/// What a cycle asks for whose records stay in its line.
+#[derive(Drop)]
+pub struct CycleParts {
+    /// The version, still JSON.
+    pub version: Value,
+    /// The tag, still JSON.
+    pub tag: Value,
+    /// The records that it adds by type, still in the line.
+    pub add: CycleLine,
+}
+
+/// The parts of the cycle that a line is in its plain form: `{"cycle":{"version":V,"tag":T,"add":{type:[records]}}}`, these members in this order, and
+/// up to eight types, each once. The records are read once, so that it is known that they can be. `None` tells nothing of the line.
+pub fn split_cycle(alloc: Global, line: &str) -> Result<Option<CycleParts>, AllocError>
+    ensures same { IfOk result (λ found. IfSome found (λ parts. parts.add ≡ line.now)) }
+    ensures read { IfOk result (λ found. IfSome found (λ parts. read line.now ≡ Some (cycle_data (view parts.version) (view parts.tag) (added_by line.now)))) }
+    ensures types { IfOk result (λ found. IfSome found (λ parts. (types : List Typed) × (added_by line.now ≡ object (with_types types no_members)))) }
+{
+    match parts_of(alloc, line) {
+        Ok(parts) => Ok(Some(parts)),
+        Err(ReadFault::Invalid) => Ok(None),
+        Err(ReadFault::Memory) => Err(AllocError),
+    }
+}
+
+// The same, where there are some.
+fn parts_of(alloc: Global, line: &str) -> Result<CycleParts, ReadFault>
+    ensures same { IfOk result (λ parts. parts.add ≡ line.now) }
+    ensures read { IfOk result (λ parts. read line.now ≡ Some (cycle_data (view parts.version) (view parts.tag) (added_by line.now))) }
+    ensures types { IfOk result (λ parts. (types : List Typed) × (added_by line.now ≡ object (with_types types no_members))) }
+{
+    let mut scratch = Scratch::new(alloc);
+    let mut reader = Reader::new(line, &mut scratch)?;
+    let (version, tag) = open_cycle(alloc, &mut reader)?;
+    let names = pass_types(alloc, &mut reader)?;
+    if !is_line_closed(&mut reader) {
+        return Err(ReadFault::Invalid);
+    }
+    let add = CycleLine {
+        text: String::from_str(alloc, line)?,
+        names: Value::Object(names),
+    };
+    Ok(CycleParts { version, tag, add })
+}
+
+impl CycleLine {
+    /// The names of the types under which records are added, as an object that has an empty array under each.
+    pub fn names(&self) -> &Value
+        ensures { (members : Members) × (added_by self.now ≡ object members) × (view result.now ≡ object (bare members)) }
+    {
+        &self.names
+    }
+
+    /// A reader that stands at the first record of a type, or `None` exactly where no records are added under its name.
+    pub fn records<'a>(
+        &'a self,
+        scratch: &'a mut Scratch,
+        name: &str,
+    ) -> Result<Option<Reader<'a>>, AllocError>
+        ensures { IfOk result (TellsRecords name.now (added_by self.now)) }
+    {
+        if self.names.get(name).is_none() {
+            return Ok(None);
+        }
+        let mut reader = Reader::new(self.text.as_str(), scratch)?;
+        pass_opening(&mut reader);
+        if seek(&mut reader, name) {
+            Ok(Some(reader))
+        } else {
+            Ok(None)
+        }
+    }
+}

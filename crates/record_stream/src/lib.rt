@@ -1,0 +1,14 @@
+//! The records of a cycle, one after another, from the tokens of its line.
+#![tactic(auto)]
+
+mod cycle_line;
+mod listing;
+mod number;
+mod opening;
+mod passing;
+mod read_fault;
+mod record;
+mod value;
+
+pub use cycle_line::{CycleLine, CycleParts, split_cycle};
+pub use record::next_record;
