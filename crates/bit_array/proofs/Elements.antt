@@ -27,7 +27,7 @@ field_within n m s w h =
     sym (field_of n w s) ∙ ap (λ x. x / 2 ^ s) (sym low) ∙ field_of (n % 2 ^ m) w s
 
 -- the number without its first words is that of the words behind them
-number_of-drop : (words : List ℕ) (count : ℕ) → ((k : ℕ) → Fits w64 (get_or words k 0)) → number_of words / 2 ^ (64 * count) ≡ number_of (drop count words)
+pub number_of-drop : (words : List ℕ) (count : ℕ) → ((k : ℕ) → Fits w64 (get_or words k 0)) → number_of words / 2 ^ (64 * count) ≡ number_of (drop count words)
 unfolding number_of
 number_of-drop words zero fits = div-one (number_of words)
 number_of-drop [] (suc count) fits = zero-div (2 ^ (64 * suc count))
@@ -137,7 +137,7 @@ group : (m p n word : ℕ) → (m * p + n) * 2 ^ 64 + word ≡ m * (p * 2 ^ 64) 
 group m p n word = omega arith
 
 -- the number of words with more behind them
-number_of-append : (words more : List ℕ) → number_of (words ++ more) ≡ number_of more * 2 ^ (64 * length words) + number_of words
+pub number_of-append : (words more : List ℕ) → number_of (words ++ more) ≡ number_of more * 2 ^ (64 * length words) + number_of words
 unfolding number_of
 number_of-append [] more = omega arith
 number_of-append (word ∷ rest) more =

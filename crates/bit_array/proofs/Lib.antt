@@ -4,3 +4,4 @@ pub mod Totals
 pub mod Blocks
 pub mod SameWords
 pub mod Runs
+pub mod WordRuns

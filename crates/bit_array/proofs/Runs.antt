@@ -34,13 +34,6 @@ word_put words place word fits inside =
 pub none_copied : (from words : List ℕ) (at place : ℕ) → SetsBlock words words place 0 (element_of from at 0)
 none_copied from words at place = no_block words place (element_of from at 0) (element_of-lt from at 0)
 
--- an element that is a word
-pub whole_word : (words : List ℕ) (place at : ℕ) → ((k : ℕ) → Fits w64 (get_or words k 0)) → place < length words → at ≡ 64 * place → get_or words place 0 ≡ element_of words at 64
-whole_word words place at fits inside is =
-    let here : 64 * place + 0 ≡ at = omega arith in
-    let whole : get_or words place 0 / 2 ^ 0 % 2 ^ 64 ≡ get_or words place 0 = let f = (fits place).fits in omega arith in
-    subst (λ k. get_or words place 0 ≡ element_of words k 64) here (sym (element_in_word words place 0 64 fits inside (omega arith) (omega arith) ∙ whole))
-
 or_whole : (a b : ℕ) → a < 2 ^ 64 → b < 2 ^ 64 → bit_or a b % 2 ^ 64 ≡ bit_or a b
 or_whole a b small below =
     let x : a % 2 ^ 64 ≡ a = omega arith in

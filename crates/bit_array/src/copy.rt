@@ -65,9 +65,9 @@ fn copy_whole(from: &[u64], base: u64, to: &mut [u64], first: u64, count: u64)
     requires inside { first + count ≤ length to.old }
     ensures { SetsBlock to.old to.new (64 * first) (64 * count) (element_of from.now (64 * base) (64 * count)) }
 {
-    for index in 0..count {
-        put_word(to, (first + index) as usize, from[(base + index) as usize]);
-    }
+    let (begin, end) = (first as usize, (first + count) as usize);
+    let (start, stop) = (base as usize, (base + count) as usize);
+    to[begin..end].copy_from_slice(&from[start..stop]);
 }
 
 /// The same where each word is made of the end of one word and the front of the next.

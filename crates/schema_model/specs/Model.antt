@@ -62,6 +62,11 @@ Breaks schemas BadPath t s = IsBadKey schemas t (shape_key s.shape)
 abbrev pub BreaksAt : List Schema → Rule → ℕ → Type 0
 BreaksAt schemas rule t = (s : Schema) × (slice_get schemas t ≡ Some s) × Breaks schemas rule t s
 
+-- This is the first type that breaks the rule.
+pub record IsFirstBreaking (schemas : List Schema) (rule : Rule) (t : ℕ) : Type 0 where
+  pub broken : BreaksAt schemas rule t
+  pub least : (u : ℕ) → u < t → ¬ BreaksAt schemas rule u
+
 -- No type breaks the rule.
 abbrev pub IsKept : List Schema → Rule → Type 0
 IsKept schemas rule = (t : ℕ) → ¬ BreaksAt schemas rule t

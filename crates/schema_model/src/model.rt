@@ -3,7 +3,7 @@ ghost use Rattle.std.specs.Prelude.{◌≡◌, ◌<◌, ◌≤◌, ◌↔◌, �
 ghost use Rattle.hol_varint.specs.Yields.{Yields};
 ghost use Rattle.schema_model.specs.Checked.{Indexes};
 ghost use Rattle.schema_model.specs.Faults.{IsFreeModel, IsFreePath, TellsFault, TellsModel, TellsPath};
-ghost use Rattle.schema_model.specs.Model.{IsFirstBroken, IsModel};
+ghost use Rattle.schema_model.specs.Model.{BreaksAt, IsFirstBreaking, IsFirstBroken, IsKept, IsModel};
 ghost use Rattle.schema_model.specs.Parts.{index_of_type, type_names};
 ghost use Rattle.schema_model.specs.Path.{Resolves};
 ghost use Rattle.schema_model.specs.declared.model.path.Path.{Path};
@@ -76,6 +76,25 @@ pub fn model_of(alloc: Global, schemas: Schemas) -> Result<Model, ModelFault>
 {
     let index = check(alloc, &schemas)?;
     Ok(Model { schemas, index })
+}
+
+/// The first type that is more than 32 types deep, where the one at `deep` is; a type whose references lead into a cycle is so too. So a
+/// blob is told its first type of either kind. Each type that is named is there.
+pub fn first_too_deep(alloc: Global, schemas: &Schemas, deep: u32) -> Result<u32, AllocError>
+    requires few { length schemas.now ≤ 512 }
+    requires known { IsKept schemas.now Rule.UnknownType }
+    requires deep { BreaksAt schemas.now Rule.TooDeep deep }
+    ensures { IfOk result (IsFirstBreaking schemas.now Rule.TooDeep) }
+{
+    let index = index_types(alloc, schemas)?;
+    let Ok(graph) = check_named_types(alloc, schemas, &index) else {
+        return Err(AllocError);
+    };
+    match check_depth(alloc, schemas, graph.as_slice()) {
+        Ok(()) => Ok(deep),
+        Err(ModelFault::Broken(_, first)) => Ok(first),
+        Err(ModelFault::Memory) => Err(AllocError),
+    }
 }
 
 impl Model {

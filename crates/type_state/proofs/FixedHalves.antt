@@ -36,12 +36,12 @@ use Rattle.type_state.proofs.LiveSets.{live_key}
 use Rattle.type_state.proofs.Lookups.{found_at}
 use Rattle.type_state.proofs.RecordedRows.{moved_place}
 
-areas_long : (words lengths : List ℕ) → length (areas_in words lengths) ≡ length lengths
+pub areas_long : (words lengths : List ℕ) → length (areas_in words lengths) ≡ length lengths
 areas_long words [] = refl
 areas_long words (count ∷ rest) = ap (λ n. suc n) (areas_long (drop (words_for_bytes count) words) rest)
 
 -- There is an area for each field.
-lengths_long : (shape : Shape) (half : HalfShape) (rows : RowMap) → half.lengths ≡ lengths_of shape (values rows) → length half.lengths ≡ length (shape_fields shape)
+pub lengths_long : (shape : Shape) (half : HalfShape) (rows : RowMap) → half.lengths ≡ lengths_of shape (values rows) → length half.lengths ≡ length (shape_fields shape)
 lengths_long shape half rows is = ap length is ∙ length-map-range_with_len _ 0 (length (shape_fields shape))
 
 -- ---- the records of a half
@@ -68,7 +68,7 @@ packed_object key fields half words p place inside (Some row) is =
     subst (SpellsObjectRow (Shape.Object key fields) half.widths (section_in (Shape.Object key fields) half words).first (section_in (Shape.Object key fields) half words).areas place) (sym (p.can.stored place row is))
     (spells_there (Shape.Object key fields) half words p place row is)
 
-packed_place : (shape : Shape) (half : HalfShape) (words : List ℕ) → IsObject shape → IsPacked shape half words → (place : ℕ) → place < places_of half.max
+pub packed_place : (shape : Shape) (half : HalfShape) (words : List ℕ) → IsObject shape → IsPacked shape half words → (place : ℕ) → place < places_of half.max
     → PacksPlace shape half.widths (section_in shape half words).first (section_in shape half words).areas place (get (half_rows shape half words) place)
 packed_place (Shape.Object key fields) half words object p place inside = packed_object key fields half words p place inside (get (half_rows (Shape.Object key fields) half words) place) refl
 packed_place (Shape.List element) half words object p place inside = absurd object
@@ -94,7 +94,7 @@ copied shape half words widths from to before places object fixed wide p is coun
 
 -- ---- a half of records
 
-field_widths : (max : Option ℕ) (fields : List Field) (widths : List ℕ) → 0 < places_of max → AllZip (λ (field : Field) width. IsWidth max field.kind width) fields widths → AllZip IsFieldWidth fields widths
+pub field_widths : (max : Option ℕ) (fields : List Field) (widths : List ℕ) → 0 < places_of max → AllZip (λ (field : Field) width. IsWidth max field.kind width) fields widths → AllZip IsFieldWidth fields widths
 field_widths None fields widths some h = absurd (omega (arith, some))
 field_widths (Some max) fields widths some h = h
 

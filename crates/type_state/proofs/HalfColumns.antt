@@ -1,6 +1,6 @@
 -- Lemmas on the rows of a half that are looked at where they stand.
-use Rattle.std.proofs.Common.{◌≡◌, ℕ, ◌+◌, ◌*◌, ◌^◌, ◌<◌, ◌≤◌, inl, inr, List, length, drop, Option, Some, None, refl, sym, ap, subst, ◌∙◌, arith}
-use Rattle.std.specs.Prelude.{IsSome, is_some, sum}
+use Rattle.std.proofs.Common.{◌≡◌, ℕ, ◌*◌, ◌^◌, ◌<◌, ◌≤◌, inl, inr, List, length, Option, Some, None, refl, sym, ap, subst, ◌∙◌, arith}
+use Rattle.std.specs.Prelude.{IsSome}
 use Rattle.std.specs.List.{AllZip}
 use Rattle.std.specs.FinMap.{get, values}
 use Rattle.std.proofs.lemmas.List.{length-drop}
@@ -8,7 +8,6 @@ use Rattle.std.proofs.lemmas.List.FromFn.{length-map-range_with_len}
 use Rattle.schema_model.specs.declared.schema.Field.{Field}
 use Rattle.schema_model.specs.declared.schema.Shape.{Shape}
 use Rattle.schema_model.specs.declared.schema.name.Name.{Name}
-use Rattle.schema_model.specs.Parts.{shape_fields}
 use Rattle.row_model.specs.Areas.{area_of}
 use Rattle.row_model.specs.declared.row.Row.{Row}
 use Rattle.row_model.specs.declared.row.Value.{Value}
@@ -16,21 +15,20 @@ use Rattle.object_codec.specs.ObjectPlace.{HoldsPlace, IsFieldWidth, SpellsObjec
 use Rattle.object_codec.specs.Stored.{values_of_row}
 use Rattle.list_codec.specs.ListPlace.{HoldsListPlace, SpellsList}
 use Rattle.bucket_codec.specs.BucketPlace.{HoldsPointers, SpellsPairs, IsRowOf, IsWidthCount}
-use Rattle.record_views.specs.Bytes.{bytes_of}
 use Rattle.record_views.specs.declared.column.Column.{Column}
 use Rattle.column_rows.specs.Columns.{HasValueOf}
-use Rattle.column_rows.specs.Items.{HoldsRunAt, IsListThere, IsOfPairs, IsRunThere}
+use Rattle.column_rows.specs.Items.{IsListThere, IsOfPairs}
 use Rattle.column_rows.specs.declared.items.PackedItems.{PackedItems}
 use Rattle.type_rows.specs.Layout.{places_of}
 use Rattle.type_rows.specs.Loads.{Spells}
-use Rattle.type_rows.specs.WellFormed.{AreWidths, IsWidth}
+use Rattle.type_rows.specs.WellFormed.{AreWidths}
 use Rattle.type_rows.specs.WordsHeld.{field_bytes}
 use Rattle.packed_half.specs.declared.half.HalfShape.{HalfShape}
 use Rattle.packed_half.specs.Half.{areas_in, behind_items, behind_places, byte_words, item_words, place_words, section_in}
 use Rattle.packed_half.specs.Laying.{HasRuns}
 use Rattle.packed_half.proofs.Looking.{list_holds, live_inside, object_holds, runs_hold, spelled_there}
 use Rattle.type_state.specs.Columns.{AreListsIn, AreRunsIn, IsColumnIn}
-use Rattle.type_state.specs.Kept.{IsBare, IsHalf, IsPacked, half_rows}
+use Rattle.type_state.specs.Kept.{IsHalf, IsPacked, half_rows}
 
 some_there : {A : Type 0} (o : Option A) (x : A) → o ≡ Some x → IsSome o
 some_there None x e = absurd cc

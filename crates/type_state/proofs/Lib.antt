@@ -16,6 +16,7 @@ pub mod Halves
 pub mod HeldWords
 pub mod HeldMoves
 pub mod KeptRecords
+pub mod KeptRuns
 pub mod KindsKept
 pub mod LaidOut
 pub mod Layouts

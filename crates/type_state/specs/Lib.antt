@@ -5,6 +5,7 @@ pub mod Differences
 pub mod FirstFaults
 pub mod Kept
 pub mod KeptRecords
+pub mod LeftDifferences
 pub mod Live
 pub mod Lookup
 pub mod Moved

@@ -1,4 +1,4 @@
--- The records of OBJECT types without STRING and BYTES, as they stand at their places, in any order.
+-- The records of OBJECT types: those without STRING and BYTES, as they stand at their places, in any order, and which halves may be copied.
 use Rattle.std.specs.Prelude.{◌≡◌, ℕ, ◌*◌, ◌^◌, ◌<◌, ◌≤◌, List, length, sum, slice_get, slice_index, Some, IfSome, IsSome}
 use Rattle.std.specs.List.{AllZip}
 use Rattle.std.specs.FinMap.{get}
@@ -44,3 +44,9 @@ FitsRecord shape widths row = FitsShape shape row × ((index : ℕ) → IfSome (
 -- A row that comes under an ordinal with a place fits there.
 abbrev pub HasRoomFor : Shape → List ℕ → ℕ → Difference → Type 0
 HasRoomFor shape widths places difference = (row : Row) → difference.1 ≡ Some row → difference.0 < places → FitsRecord shape widths row
+
+-- A half of records, which may be copied run by run to another one, at the same widths.
+pub record CanCopyRuns (shape : Shape) (before after : HalfShape) : Type 0 where
+  pub object : IsObject shape
+  pub places : IsSome before.max
+  pub widths : after.widths ≡ before.widths

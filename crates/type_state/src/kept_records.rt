@@ -40,6 +40,7 @@ impl<'a> KeptRecords<'a> {
         requires bytes { map bytes_of areas.now ≡ (section_in current.now.shape.now current.now.half.now current.now.words.now).areas }
         ensures kept { AreKept result }
         ensures shape { result.shape.now ≡ current.now.shape.now }
+        ensures half { result.half.now ≡ current.now.half.now }
         ensures rows { kept_rows result ≡ half_rows current.now.shape.now current.now.half.now current.now.words.now }
     {
         let records = WordRecords {

@@ -14,6 +14,8 @@ mod field_bytes;
 mod fixed_moves;
 mod held;
 mod kept_records;
+mod kept_runs;
+mod left_differences;
 mod live;
 mod loading;
 mod moved_rows;

@@ -18,6 +18,7 @@ use crate::differences::Differences;
 use crate::field_bytes::bytes_of_fields;
 use crate::fixed_moves::{can_copy, lay_fixed};
 use crate::kept_records::KeptRecords;
+use crate::kept_runs::{can_copy_runs, lay_by_runs};
 use crate::live::live_with;
 use crate::moved_rows::MovedRows;
 use crate::planning::{CountedPlan, Plan, planned};
@@ -124,7 +125,8 @@ pub(crate) fn lay_moved<'a>(
     lay_each(alloc, schema, current, next, words)
 }
 
-/// The same, record by record: those that stay are copied, and no row is made of one; rows of the other kinds are made anew.
+/// The same, run by run where the widths are those of the current half, and else record by record: those that stay are copied, and no row is made of
+/// one; rows of the other kinds are made anew.
 fn lay_each<'a>(
     alloc: Global,
     schema: &'a Schema,
@@ -141,6 +143,9 @@ fn lay_each<'a>(
 {
     let areas = bytes_of_fields(alloc, current.bytes(), current.half.lengths.as_slice())?;
     let records = KeptRecords::new(&current, areas.as_slice());
+    if can_copy_runs(&schema.shape, current.half, &next.half) {
+        return lay_by_runs(alloc, schema, records, next, words);
+    }
     let rows = Current::new(schema, current.half, current.words);
     let moved = MovedRows::new(&rows, records, &next.differences);
     lay_out(alloc, schema, &next.half, &moved, words)

@@ -1,13 +1,14 @@
-use Rattle.std.proofs.Common.{◌+◌, ◌*◌, slice_index_or, arith}
-use Rattle.bit_array.proofs.Runs.{none_copied, whole_word, word_grown}
+use Rattle.std.proofs.Common.{◌≡◌, ◌+◌, ◌-◌, ◌*◌, ◌++◌, ◌∙◌, ℕ, take, drop, ap, subst, rules, arith}
+use Rattle.bit_array.specs.Element.{element_of, SetsBlock}
+use Rattle.bit_array.proofs.WordRuns.{words_put}
 use Rattle.bit_array.proofs.copy.copy_whole.Goals as goal
 
-pub loop-index-init : goal.loop-index-init
-loop-index-init c = none_copied c.args.from.now c.args.to.now (64 * c.args.base) (64 * c.args.first)
-
-pub loop-index-preserved : goal.loop-index-preserved
-loop-index-preserved c =
+pub returns : goal.returns
+returns c =
     let from = c.args.from.now in
-    let place = c.args.base + c.loop-index.index in
-    word_grown from c.args.to.now c.loop-index.to c.put_word.new.words (64 * c.args.base) c.args.first c.loop-index.index (slice_index_or from place 0)
-    c.loop-index.invariant c.put_word.ensures (whole_word from place (64 * c.args.base + 64 * c.loop-index.index) c.type_inv.from (omega arith) (omega arith))
+    let to = c.args.to.now in
+    let many : c.args.base + c.args.count - c.args.base ≡ c.args.count = omega arith in
+    let as_many : c.args.count ≡ c.args.first + c.args.count - c.args.first = omega arith in
+    let part : c.copy_from_slice.new.self ≡ take c.args.count (drop c.args.base from) = c.copy_from_slice.ensures.after ∙ ap (λ (n : ℕ). take n (drop c.args.base from)) many in
+    subst (λ (n : ℕ). SetsBlock to (take c.args.first to ++ (c.copy_from_slice.new.self ++ drop n (drop c.args.first to))) (64 * c.args.first) (64 * c.args.count) (element_of from (64 * c.args.base) (64 * c.args.count))) as_many
+    (words_put to from c.copy_from_slice.new.self c.args.first c.args.base c.args.count (search rules) c.type_inv.from c.requires.inside c.requires.source part)

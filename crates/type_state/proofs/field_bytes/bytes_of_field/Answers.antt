@@ -1,6 +1,4 @@
-use Rattle.std.proofs.Common.{◌≡◌, ℕ, List, arith, subst, sym, ◌∙◌, ap}
-use Rattle.std.specs.Prelude.{slice_index}
-use Rattle.packed_half.specs.Half.{bytes_in}
+use Rattle.std.proofs.Common.{◌≡◌, ℕ, arith, subst}
 use Rattle.type_state.proofs.FieldBytes.{IsBehind, one_behind, there_behind}
 use Rattle.type_state.proofs.field_bytes.bytes_of_field.Goals as goal
 

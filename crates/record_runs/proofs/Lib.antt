@@ -1,0 +1,6 @@
+mod Shifts
+mod WordBytes
+mod Parts
+mod Offsets
+mod Moves
+mod Runs

@@ -1,0 +1,118 @@
+//! Records of OBJECT types that are copied run by run, with the bytes of their STRING and BYTES, and written one by one where the rows differ.
+ghost use Rattle.std.specs.Prelude.{◌≡◌, [], IfOk, IsTrue, OnOk, length, replicate};
+ghost use Rattle.object_codec.specs.ObjectPlace.{IsObject};
+ghost use Rattle.object_codec.specs.Packing.{IsPacked as ArePacked};
+ghost use Rattle.packed_half.specs.Half.{place_words, words_for};
+ghost use Rattle.packed_half.specs.LaidOut.{IsLaidOut};
+ghost use Rattle.packed_half.specs.Laying.{CanLay, places_in};
+ghost use Rattle.schema_model.specs.Parts.{shape_fields};
+ghost use Rattle.type_rows.specs.Layout.{places_of};
+ghost use Rattle.type_state.specs.Differences.{AreApart, rows_with};
+ghost use Rattle.type_state.specs.KeptRecords.{AreKept, kept_rows};
+ghost use Rattle.type_state.specs.Recorded.{CanCopyRuns};
+
+use crate::kept_records::KeptRecords;
+use crate::left_differences::{behind, first_ordinal, row_at};
+use crate::moving::Move;
+use hol_varint::Octets;
+use object_codec::put_row;
+use packed_half::{HalfShape, put_areas};
+use record_runs::{Run, copy_run};
+use schema_model::{Schema, Shape};
+use std::alloc::{AllocError, Global};
+use type_rows::{fixed_words, place_count, words_needed};
+
+/// Whether the records of a half may be copied to another one run by run: those of an OBJECT type, at the same widths.
+pub(crate) fn can_copy_runs(shape: &Shape, before: &HalfShape, after: &HalfShape) -> bool
+    ensures { IsTrue result → CanCopyRuns shape.now before.now after.now }
+{
+    let Shape::Object(_, _) = shape else {
+        return false;
+    };
+    before.max.is_some() && before.widths.as_slice() == after.widths.as_slice()
+}
+
+/// No bytes for each field of a half, with room for those that the field has there.
+fn empty_areas(alloc: Global, lengths: &[u64]) -> Result<Vec<Octets>, AllocError>
+    ensures { IfOk result (λ areas. areas.items ≡ replicate (length lengths.now) []) }
+{
+    let mut areas = Vec::with_capacity(alloc, lengths.len())?;
+    for index in 0..lengths.len() {
+        areas.push(Octets::with_capacity(alloc, lengths[index] as usize)?)?;
+    }
+    Ok(areas)
+}
+
+/// Writes the records of the rows of a move at their places, in words of zeros, and the bytes of each field behind one another.
+///
+/// The records between two differences are copied at once, and those that differ are written from their rows. A place behind those of the half
+/// before has a row only where one comes.
+fn put_places(
+    alloc: Global,
+    schema: &Schema,
+    kept: KeptRecords<'_>,
+    next: &Move,
+    first: &mut [u64],
+    areas: &mut [Octets],
+) -> Result<(), AllocError>
+    requires kept { AreKept kept }
+    requires shape { kept.shape.now ≡ schema.now.shape }
+    requires copies { CanCopyRuns schema.now.shape kept.half.now next.now.half }
+    requires apart { AreApart next.now.differences }
+    requires can { CanLay schema.now.shape next.now.half (rows_with (kept_rows kept) next.now.differences) }
+    requires zeros { first.old ≡ replicate (place_words schema.now.shape next.now.half) 0 }
+    requires none { areas.old ≡ replicate (length (shape_fields schema.now.shape)) [] }
+    ensures { OnOk result (ArePacked schema.now.shape next.now.half.widths (places_in (rows_with (kept_rows kept.entry) next.now.differences) (places_of next.now.half.max)) first.new areas.new) }
+{
+    let widths = next.half.widths.as_slice();
+    let places = place_count(next.half.max);
+    let stable = place_count(kept.half.max).min(places);
+    let mut removed = next.differences.removed.as_slice();
+    let mut added = next.differences.added.as_slice();
+    let mut place = 0;
+    while place < places {
+        let gone = first_ordinal(removed);
+        let come = first_ordinal(added);
+        let end = gone.min(come).min(stable);
+        if place < end {
+            let run = Run { place, end };
+            copy_run(alloc, schema, widths, &kept.records, run, first, areas)?;
+            place = end;
+            continue;
+        }
+        let row = row_at(removed, added, place);
+        put_row(alloc, schema, widths, first, areas, place, row)?;
+        removed = behind(removed, place);
+        added = behind(added, place);
+        place += 1;
+    }
+    Ok(())
+}
+
+/// Lays the rows of a move out in words of zeros, at the widths of the current half. Memory is taken for the bytes of the fields.
+pub(crate) fn lay_by_runs(
+    alloc: Global,
+    schema: &Schema,
+    kept: KeptRecords<'_>,
+    next: &Move,
+    words: &mut [u64],
+) -> Result<(), AllocError>
+    requires kept { AreKept kept }
+    requires shape { kept.shape.now ≡ schema.now.shape }
+    requires copies { CanCopyRuns schema.now.shape kept.half.now next.now.half }
+    requires apart { AreApart next.now.differences }
+    requires can { CanLay schema.now.shape next.now.half (rows_with (kept_rows kept) next.now.differences) }
+    requires zeros { words.old ≡ replicate (words_for schema.now.shape next.now.half) 0 }
+    ensures { OnOk result (IsLaidOut schema.now.shape next.now.half words.new (rows_with (kept_rows kept.entry) next.now.differences)) }
+{
+    let half = &next.half;
+    let widths = half.widths.as_slice();
+    let places = words_needed(&schema.shape, half.max, widths) as usize;
+    let items = fixed_words(&schema.shape, None, widths, half.total) as usize;
+    let (first, behind) = words.split_at_mut(places);
+    let (_second, bytes) = behind.split_at_mut(items);
+    let mut areas = empty_areas(alloc, half.lengths.as_slice())?;
+    put_places(alloc, schema, kept, next, first, areas.as_mut_slice())?;
+    put_areas(bytes, areas.as_slice());
+    Ok(())
+}
