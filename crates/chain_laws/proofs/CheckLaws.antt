@@ -13,12 +13,13 @@ use Rattle.hol_answers.specs.declared.refusal.Refusal.{Refusal}
 use Rattle.hol_answers.specs.declared.refusal.Refusal.TheVariants.{Mismatch}
 use Rattle.hol_answers.specs.declared.reply.Reply.{Reply}
 use Rattle.hol_answers.specs.declared.reply.Reply.TheVariants as reply
-use Rattle.hollow_machine.proofs.Refusals.{one_snapshot_refusal, some_one}
+use Rattle.hollow_machine.proofs.Refusals.{one_snapshot_refusal, one_step_refusal, some_one}
 use Rattle.hollow_machine.specs.CheckOrder.{CheckReply, WalkLoads, WalkSteps, both_new, check_form, walk_calls}
 use Rattle.hollow_machine.specs.StepOrder.{StepRefusal}
 use Rattle.chain_laws.proofs.Answering.{IsNoCycle, unless_cycle}
+use Rattle.chain_laws.proofs.ConsumerOrders.{no_refusal}
 use Rattle.chain_laws.proofs.Lawful.{IsLawful, same_keeps, same_of, says_both, stays_sound}
-use Rattle.chain_laws.proofs.OneMove.{one_step_refusal, step_apart, step_once}
+use Rattle.chain_laws.proofs.OneMove.{step_once}
 use Rattle.chain_laws.proofs.OneRestore.{stored_apart, stored_once}
 use Rattle.chain_laws.proofs.OneWalk.{Ending, Ends, passed, differs, refused, differs_end, ends_one, passes_end, stops_end}
 use Rattle.chain_laws.proofs.TypedConsumers.{IsTyped, load_typed, step_typed}
@@ -41,9 +42,9 @@ module _ (store : Store) where
   loads_typed version before now (position, (blob, at, loads), is) = subst (λ (consumer : Option Position). IfSome consumer IsTyped) (sym is) (load_typed blob position loads)
 
   -- what a step from this position is answered in place of a refusal
-  steps_not : (from to : ℕ) (at position : Position) (blob : List ℕ) (refusal : Refusal) → stored_at (name_of_step from to) ≡ Some blob → StepsBy blob at position
+  steps_not : (from to : ℕ) (at position : Position) (blob : List ℕ) (refusal : Refusal) → IsTyped at → stored_at (name_of_step from to) ≡ Some blob → StepsBy blob at position
       → StepRefusal (name_of_step from to) (stored_at (name_of_step from to)) (Some at) refusal → ⊥
-  steps_not from to at position blob refusal there steps refuses = step_apart (name_of_step from to) (stored_at (name_of_step from to)) blob at position refusal there steps refuses
+  steps_not from to at position blob refusal typed there steps refuses = no_refusal (name_of_step from to) (stored_at (name_of_step from to)) blob at position there typed steps refusal refuses
 
   steps_one : (from to : ℕ) (before now also : Option Position) (one other : Result (Unit {0}) Refusal) → IfSome before IsTyped → WalkSteps (Some store) from to before now one
       → WalkSteps (Some store) from to before also other → (one ≡ other) × (now ≡ also)
@@ -53,8 +54,8 @@ module _ (store : Store) where
       let same = some_one (stored_at (name_of_step from to)) bytes blob there_too there in
       let moved = step_once blob at position place typed steps (subst (λ (b : List ℕ). StepsBy b at place) same steps_too) in
       (refl, is ∙ ap Some moved ∙ sym is_too)
-  steps_one from to (Some at) now also (Ok done) (Err refusal) typed (blob, position, there, steps, is) other = absurd (steps_not from to at position blob refusal there steps other.0)
-  steps_one from to (Some at) now also (Err refusal) (Ok done) typed one (blob, position, there, steps, is) = absurd (steps_not from to at position blob refusal there steps one.0)
+  steps_one from to (Some at) now also (Ok done) (Err refusal) typed (blob, position, there, steps, is) other = absurd (steps_not from to at position blob refusal typed there steps other.0)
+  steps_one from to (Some at) now also (Err refusal) (Ok done) typed one (blob, position, there, steps, is) = absurd (steps_not from to at position blob refusal typed there steps one.0)
   steps_one from to before now also (Err r) (Err s) typed one other =
       (ap Err (one_step_refusal (name_of_step from to) (stored_at (name_of_step from to)) before r s one.0 other.0), one.1 ∙ sym other.1)
 

@@ -1,24 +1,28 @@
 -- The orders that move a consumer over a store that holds a chain: which are taken, and that a step from another state is refused.
-use Rattle.std.proofs.Common.{◌≡◌, ◌≢◌, ℕ, ℤ, List, [], length, Bool, true, false, if◌then◌else◌, Option, Some, None, refl, sym, ap, subst, ◌∙◌, arith}
+use Rattle.std.proofs.Common.{◌≡◌, ◌≢◌, ℕ, ℤ, List, [], Bool, true, false, if◌then◌else◌, inl, inr, Option, Some, None, refl, sym, ap, subst, ◌∙◌, length}
 use Rattle.std.specs.Prelude.{IsSomeAnd, nat_lt}
 use Rattle.std.specs.FinMap.{get}
 use Rattle.hol_io.specs.declared.name.BlobName.{BlobName}
 use Rattle.hol_io.specs.declared.name.BlobName.TheVariants.{Snapshot, Delta, Reverse}
 use Rattle.schema_model.specs.declared.schema.Schema.{Schema}
 use Rattle.type_state.specs.Views.{table_of}
+use Rattle.blob_frame.specs.declared.fault.BlobFault.TheVariants as fault
 use Rattle.blob_frame.specs.declared.header.Header.{Header}
 use Rattle.blob_frame.specs.Header.{HeaderIs, header, HasHeader}
-use Rattle.snapshot_blob.specs.Snapshot.{IsAccepted}
-use Rattle.snapshot_blob.proofs.Whole.{begins}
+use Rattle.blob_faults.specs.Judge.{◌>>=◌, test}
+use Rattle.blob_faults.specs.Reading.{short, standing, starts}
+use Rattle.delta_blob.specs.Judged as judged
 use Rattle.delta_blob.specs.Patch.{TypePatch, DeltaIs}
+use Rattle.read_engine.specs.Judged.{RefusesLoad, RefusesStep, step_of}
 use Rattle.read_engine.specs.Position.{Position}
 use Rattle.read_engine.specs.Taking.{LoadsFrom, StepsBy}
+use Rattle.read_engine.proofs.TakenOrFault.{loaded_or_fault, stepped_or_fault}
+use Rattle.hol_answers.specs.BlobRefusal.{refusal_of_blob}
 use Rattle.hol_answers.specs.declared.refusal.Refusal.{Refusal}
-use Rattle.hol_answers.specs.declared.refusal.Refusal.TheVariants.{BadBlob, BadBody, NoBlob, NoState, OtherOrigin, TooLarge}
 use Rattle.hol_answers.specs.Refusal.{other_origin}
 use Rattle.hol_answers.specs.declared.reply.Reply.{Reply}
 use Rattle.hol_answers.specs.declared.reply.Reply.TheVariants as reply
-use Rattle.hollow_machine.proofs.Refusals.{one_header, some_one}
+use Rattle.hollow_machine.proofs.Refusals.{one_step_refusal, some_one}
 use Rattle.hollow_machine.specs.Blobs.{SnapshotRefusal}
 use Rattle.hollow_machine.specs.LoadOrder.{LoadStep}
 use Rattle.hollow_machine.specs.State.{Machine, with_consumer}
@@ -29,6 +33,7 @@ use Rattle.chain_laws.specs.Consumers.{Fresh, IsIn, StandsAt, StartsAt}
 use Rattle.chain_laws.proofs.BlobTags.{delta_begins}
 use Rattle.chain_laws.proofs.ConsumerMoves.{delta_of, loads_state, own_delta, step_there, steps_in}
 use Rattle.chain_laws.proofs.StoreNames.{found, found_with}
+use Rattle.chain_laws.proofs.TypedConsumers.{IsTyped, typed_in}
 
 -- ---- names and headers
 
@@ -52,24 +57,18 @@ delta_origin content schemas blob head origin destination patch at (x, n, at_x, 
 -- ---- steps
 
 -- a step that can be taken is not refused
-pub no_refusal : (name : BlobName) (content : Option (List ℕ)) (head : Header) (blob : List ℕ) (now to : Position) → content ≡ Some blob → HasHeader content head → head.origin ≡ now.tag → StepsBy blob now to
+pub no_refusal : (name : BlobName) (content : Option (List ℕ)) (blob : List ℕ) (now to : Position) → content ≡ Some blob → IsTyped now → StepsBy blob now to
     → (refusal : Refusal) → StepRefusal name content (Some now) refusal → ⊥
-no_refusal name content head blob now to at has starts steps NoState is = absurd cc
-no_refusal name content head blob now to at has starts steps (OtherOrigin fault) (named, current_is, apart, (its, its_has, its_origin)) =
-    apart (sym its_origin ∙ ap (λ (h : Header). h.origin) (one_header content its head its_has has) ∙ starts ∙ sym current_is)
-no_refusal name content head blob now to at has starts steps (BadBody other) (named, (its, x, its_has, at_x, its_origin, none)) =
-    none to (subst (λ (b : List ℕ). StepsBy b now to) (some_one content blob x at at_x) steps)
-no_refusal name content head blob now to at has starts steps (NoBlob other) (named, none) = let no : Some blob ≡ None = sym at ∙ none in absurd cc
-no_refusal name content head blob now to at (y, n, at_y, short, begin) starts steps (BadBlob fault) (x, at_x, its_short, stuck, named, row_is) =
-    header.decided.apart x 0 head n fault.at fault.reason (subst (λ (b : List ℕ). HeaderIs b n head) (some_one content y x at_y at_x) begin) stuck
-no_refusal name content head blob now to at (y, n, at_y, short, begin) starts steps (TooLarge what) (x, at_x, over, what_is) =
-    let same : length y ≡ length x = ap (λ (b : List ℕ). length b) (some_one content y x at_y at_x) in omega (arith, short, over, same)
-no_refusal name content head blob now to at has starts steps _ is = absurd is
+no_refusal name content blob now to at typed steps refusal (found, fails, is) =
+    stepped_or_fault blob now to found typed.names steps (subst (λ (c : Option (List ℕ)). RefusesStep name c now found) at fails)
 
 module _ (machine : Machine) (chain : Chain) (name : BlobName) (now : Position) (holds : HoldsChain machine.store chain) (of_step : IsStep name) (was : machine.consumer ≡ Some now) (is : IsIn chain now)
     (starts : StartsAt machine.store name now.tag) where
   abbrev stored : Option (List ℕ)
   stored = get machine.store name
+
+  typed : IsTyped now
+  typed = typed_in chain (Some now) holds.sound is
 
   can_step : (blob : List ℕ) × (to : Position) × (stored ≡ Some blob) × StepsBy blob now to
   can_step =
@@ -98,35 +97,31 @@ module _ (machine : Machine) (chain : Chain) (name : BlobName) (now : Position) 
       (to, steps_in machine.store chain holds name blob now to of_step at is from_now, ap (λ (t : ℤ). reply.Step t) tag_is, next_is)
   step_only (reply.Refused refusal) next step =
       let (blob, to, at, steps) = can_step in
-      absurd (no_refusal name stored starts.0 blob now to at starts.1 starts.2 steps refusal (subst (λ (consumer : Option Position). StepRefusal name stored consumer refusal) was step.0))
+      absurd (no_refusal name stored blob now to at typed steps refusal (subst (λ (consumer : Option Position). StepRefusal name stored consumer refusal) was step.0))
   step_only _ next step = absurd step
 
 -- ---- a step from another state
 
-other_refusal : (name : BlobName) (content : Option (List ℕ)) (head : Header) (now : Position) (origin : ℤ) → HasHeader content head → head.origin ≡ origin → origin ≢ now.tag
-    → (refusal : Refusal) → StepRefusal name content (Some now) refusal → refusal ≡ other_origin name origin now.tag
-other_refusal name content head now origin has starts apart NoState is = absurd cc
-other_refusal name content head now origin has starts apart (OtherOrigin fault) (named, current_is, not, (its, its_has, its_origin)) =
-    let from : fault.found ≡ origin = sym its_origin ∙ ap (λ (h : Header). h.origin) (one_header content its head its_has has) ∙ starts in
-    λ i. other_origin (named i) (from i) (current_is i)
-other_refusal name content head now origin has starts apart (BadBody other) (named, (its, x, its_has, at_x, its_origin, none)) =
-    absurd (apart (sym starts ∙ ap (λ (h : Header). h.origin) (one_header content head its has its_has) ∙ its_origin))
-other_refusal name content head now origin (y, n, at_y, short, begin) starts apart (NoBlob other) (named, none) = let no : Some y ≡ None = sym at_y ∙ none in absurd cc
-other_refusal name content head now origin (y, n, at_y, short, begin) starts apart (BadBlob fault) (x, at_x, its_short, stuck, named, row_is) =
-    absurd (header.decided.apart x 0 head n fault.at fault.reason (subst (λ (b : List ℕ). HeaderIs b n head) (some_one content y x at_y at_x) begin) stuck)
-other_refusal name content head now origin (y, n, at_y, short, begin) starts apart (TooLarge what) (x, at_x, over, what_is) =
-    let same : length y ≡ length x = ap (λ (b : List ℕ). length b) (some_one content y x at_y at_x) in absurd (omega (arith, short, over, same))
-other_refusal name content head now origin has starts apart _ is = absurd is
+-- a blob that starts elsewhere is refused for that
+other_fault : (name : BlobName) (content : Option (List ℕ)) (head : Header) (now : Position) → HasHeader content head → head.origin ≢ now.tag
+    → RefusesStep name content now (fault.OtherOrigin head.origin now.tag)
+unfolding step_of judged.delta_of ◌>>=◌ short standing starts test
+other_fault name content head now (blob, n, at, small, begin) apart =
+    subst (λ (c : Option (List ℕ)). RefusesStep name c now (fault.OtherOrigin head.origin now.tag)) (sym at) (inl (inr (tt, small, inr ((head, n), begin, inl (apart, refl)))))
 
 module _ (machine : Machine) (name : BlobName) (now : Position) (origin : ℤ) (was : machine.consumer ≡ Some now) (starts : StartsAt machine.store name origin) (apart : origin ≢ now.tag) where
   abbrev content : Option (List ℕ)
   content = get machine.store name
 
-  pub other_refused : StepStep machine name (reply.Refused (other_origin name origin now.tag)) machine
-  other_refused = (
-    subst (λ (consumer : Option Position). StepRefusal name content consumer (other_origin name origin now.tag)) (sym was) (refl, refl, apart, (starts.0, starts.1, starts.2)),
-    refl,
+  refused_so : StepRefusal name content (Some now) (other_origin name origin now.tag)
+  refused_so = (
+    fault.OtherOrigin starts.0.origin now.tag,
+    other_fault name content starts.0 now starts.1 (λ same. apart (sym starts.2 ∙ same)),
+    ap (λ (o : ℤ). refusal_of_blob name (fault.OtherOrigin o now.tag)) starts.2,
   )
+
+  pub other_refused : StepStep machine name (reply.Refused (other_origin name origin now.tag)) machine
+  other_refused = (subst (λ (consumer : Option Position). StepRefusal name content consumer (other_origin name origin now.tag)) (sym was) refused_so, refl)
 
   pub other_only : (answer : Reply) (next : Machine) → StepStep machine name answer next → (answer ≡ reply.Refused (other_origin name origin now.tag)) × (next ≡ machine)
   other_only (reply.Step tag) next step =
@@ -135,7 +130,7 @@ module _ (machine : Machine) (name : BlobName) (now : Position) (origin : ℤ) (
       absurd (apart (sym starts.2 ∙ delta_origin content here.schemas blob starts.0 here.tag to.tag steps.patch at starts.1 steps.is ∙ ap (λ (p : Position). p.tag) same))
   other_only (reply.Refused refusal) next step = (
     ap (λ (r : Refusal). reply.Refused r)
-        (other_refusal name content starts.0 now origin starts.1 starts.2 apart refusal (subst (λ (consumer : Option Position). StepRefusal name content consumer refusal) was step.0)),
+        (one_step_refusal name content (Some now) refusal (other_origin name origin now.tag) (subst (λ (consumer : Option Position). StepRefusal name content consumer refusal) was step.0) refused_so),
     step.1,
   )
   other_only _ next step = absurd step
@@ -144,16 +139,8 @@ module _ (machine : Machine) (name : BlobName) (now : Position) (origin : ℤ) (
 
 -- a snapshot that can be loaded is not refused
 pub no_load_refusal : (version : ℕ) (content : Option (List ℕ)) (blob : List ℕ) (position : Position) → content ≡ Some blob → LoadsFrom blob position → (refusal : Refusal) → SnapshotRefusal (Snapshot version) content refusal → ⊥
-no_load_refusal version content blob position at (head, accepted, tag, before, bare) (BadBody other) (named, (its, x, has, at_x, none)) =
-    none head position.schemas position.halves (subst (λ (b : List ℕ). IsAccepted b head position.schemas position.halves) (some_one content blob x at at_x) accepted)
-no_load_refusal version content blob position at loads (NoBlob other) (named, none) = let no : Some blob ≡ None = sym at ∙ none in absurd cc
-no_load_refusal version content blob position at (head, accepted, tag, before, bare) (BadBlob fault) (x, at_x, its_short, stuck, named, row_is) =
-    let (n, begin, short) = begins blob head position.schemas position.halves accepted in
-    header.decided.apart x 0 head n fault.at fault.reason (subst (λ (b : List ℕ). HeaderIs b n head) (some_one content blob x at at_x) begin) stuck
-no_load_refusal version content blob position at (head, accepted, tag, before, bare) (TooLarge what) (x, at_x, over, what_is) =
-    let (n, begin, short) = begins blob head position.schemas position.halves accepted in
-    let same : length blob ≡ length x = ap (λ (b : List ℕ). length b) (some_one content blob x at at_x) in omega (arith, short, over, same)
-no_load_refusal version content blob position at loads _ is = absurd is
+no_load_refusal version content blob position at loads refusal (found, fails, is) =
+    loaded_or_fault blob position found loads (subst (λ (c : Option (List ℕ)). RefusesLoad (Snapshot version) c found) at fails)
 
 module _ (machine : Machine) (chain : Chain) (version : ℕ) (state : ChainState) (holds : HoldsChain machine.store chain) (there : HasVersion chain version state) (whole : IsThere machine.store (Snapshot version)) where
   pub can_load : (blob : List ℕ) × (position : Position) × (get machine.store (Snapshot version) ≡ Some blob) × LoadsFrom blob position

@@ -10,26 +10,21 @@ use Rattle.hol_io.specs.declared.name.BlobName.TheVariants.{Snapshot}
 use Rattle.type_state.specs.State.{Half}
 use Rattle.type_state.specs.Views.{table_of}
 use Rattle.blob_frame.specs.declared.header.Header.{Header}
-use Rattle.blob_frame.specs.Header.{HasHeader}
 use Rattle.snapshot_blob.proofs.Whole.{one_snapshot}
 use Rattle.delta_blob.specs.Moved.{EachNamed, IsUnnamed, Moved}
 use Rattle.delta_blob.specs.Patch.{TypePatch}
 use Rattle.hol_answers.specs.declared.refusal.Refusal.{Refusal}
-use Rattle.hol_answers.specs.declared.refusal.Refusal.TheVariants.{BadBody, NoState, OtherOrigin}
-use Rattle.hol_answers.specs.Refusal.{other_origin}
 use Rattle.hol_answers.specs.declared.reply.Reply.{Reply}
 use Rattle.hol_answers.specs.declared.reply.Reply.TheVariants as reply
 use Rattle.read_engine.specs.Position.{Position, rows_now}
 use Rattle.read_engine.specs.Taking.{LoadsFrom, StepsBy, layout_at}
-use Rattle.hollow_machine.specs.Blobs.{HeadRefusal}
-use Rattle.hollow_machine.proofs.Refusals.{head_apart, one_head_refusal, one_header, one_snapshot_refusal, some_one}
+use Rattle.hollow_machine.proofs.Refusals.{one_snapshot_refusal, one_step_refusal, some_one}
 use Rattle.hollow_machine.specs.LoadOrder.{LoadStep}
 use Rattle.hollow_machine.specs.State.{Machine, with_consumer}
 use Rattle.hollow_machine.specs.StepOrder.{StepRefusal, StepStep}
 use Rattle.written_laws.proofs.MovedOnce.{moved_once}
 use Rattle.written_laws.proofs.PatchOnce.{patch_once, tags_once}
 use Rattle.chain_laws.specs.Answers.{SaysOne}
-use Rattle.chain_laws.proofs.BlobTags.{delta_begins}
 use Rattle.chain_laws.proofs.ConsumerOrders.{no_load_refusal, no_refusal}
 use Rattle.chain_laws.proofs.OneLook.{says}
 use Rattle.chain_laws.proofs.StoreNames.{found_with}
@@ -123,44 +118,6 @@ step_once blob now a b typed one other =
     let indexes = one.indexes ∙ sym other.indexes in
     λ i. record { tag = tags.1 i; schemas = schemas i; halves = halves i; before = before i; indexes = indexes i }
 
-module _ (name : BlobName) (content : Option (List ℕ)) (now : Position) where
-  abbrev StepKind : Refusal → Type 0
-  StepKind refusal =
-      ((head : Header) × HasHeader content head
-      × (((head.origin ≢ now.tag) × (refusal ≡ other_origin name head.origin now.tag)) ⊎ ((head.origin ≡ now.tag) × (refusal ≡ BadBody name))))
-      ⊎ HeadRefusal name content refusal
-
-  step_kind : (refusal : Refusal) → StepRefusal name content (Some now) refusal → StepKind refusal
-  step_kind NoState is = absurd cc
-  step_kind (OtherOrigin fault) (named, current_is, not, (head, has, is)) =
-      inl (head, has, inl ((λ same. not (sym is ∙ same ∙ sym current_is)), (λ i. other_origin (named i) (sym is i) (current_is i))))
-  step_kind (BadBody other) (named, (head, blob, has, at, starts, none)) = inl (head, has, inr (starts, ap (λ (n : BlobName). BadBody n) named))
-  step_kind _ is = inr is
-
-  step_kinds : (one other : Refusal) → StepKind one → StepKind other → one ≡ other
-  step_kinds one other (inl (head, has, inl apart)) (inl (its, its_has, inl also)) =
-      apart.1 ∙ ap (λ (h : Header). other_origin name h.origin now.tag) (one_header content head its has its_has) ∙ sym also.1
-  step_kinds one other (inl (head, has, inl apart)) (inl (its, its_has, inr also)) = absurd (apart.0 (ap (λ (h : Header). h.origin) (one_header content head its has its_has) ∙ also.0))
-  step_kinds one other (inl (head, has, inr body)) (inl (its, its_has, inl also)) = absurd (also.0 (ap (λ (h : Header). h.origin) (one_header content its head its_has has) ∙ body.0))
-  step_kinds one other (inl (head, has, inr body)) (inl (its, its_has, inr also)) = body.1 ∙ sym also.1
-  step_kinds one other (inl (head, has, why)) (inr no_head) = absurd (head_apart name content head other has no_head)
-  step_kinds one other (inr no_head) (inl (head, has, why)) = absurd (head_apart name content head one has no_head)
-  step_kinds one other (inr no_head) (inr also) = one_head_refusal name content one other no_head also
-
-no_state : (name : BlobName) (content : Option (List ℕ)) (refusal : Refusal) → StepRefusal name content None refusal → refusal ≡ NoState
-no_state name content NoState is = refl
-no_state name content _ is = absurd is
-
-pub one_step_refusal : (name : BlobName) (content : Option (List ℕ)) (consumer : Option Position) (one other : Refusal) → StepRefusal name content consumer one → StepRefusal name content consumer other → one ≡ other
-one_step_refusal name content None one other a b = no_state name content one a ∙ sym (no_state name content other b)
-one_step_refusal name content (Some now) one other a b = step_kinds name content now one other (step_kind name content now one a) (step_kind name content now other b)
-
--- a step that can be taken is not refused
-pub step_apart : (name : BlobName) (content : Option (List ℕ)) (blob : List ℕ) (now to : Position) (refusal : Refusal) → content ≡ Some blob → StepsBy blob now to → StepRefusal name content (Some now) refusal → ⊥
-step_apart name content blob now to refusal at steps refuses =
-    let (n, begin) = delta_begins blob steps.is.head steps.is.parts (length blob) steps.is.items.items in
-    no_refusal name content steps.is.head blob now to at (blob, n, at, steps.short, begin) steps.is.from_tag steps refusal refuses
-
 module _ (machine : Machine) (name : BlobName) (typed : IfSome machine.consumer IsTyped) where
   abbrev content : Option (List ℕ)
   content = get machine.store name
@@ -168,7 +125,8 @@ module _ (machine : Machine) (name : BlobName) (typed : IfSome machine.consumer 
   -- a step that was taken is not refused
   taken_not : (now to : Position) (blob : List ℕ) (refusal : Refusal) → machine.consumer ≡ Some now → content ≡ Some blob → StepsBy blob now to → StepRefusal name content machine.consumer refusal → ⊥
   taken_not now to blob refusal is at steps refuses =
-      step_apart name content blob now to refusal at steps (subst (λ (consumer : Option Position). StepRefusal name content consumer refusal) is refuses)
+      let here : IsTyped now = subst (λ (consumer : Option Position). IfSome consumer IsTyped) is typed in
+      no_refusal name content blob now to at here steps refusal (subst (λ (consumer : Option Position). StepRefusal name content consumer refusal) is refuses)
 
   pub one_move : (one other : Reply) (next after : Machine) → StepStep machine name one next → StepStep machine name other after → Alike one next other after
   one_move (reply.Step tag) (reply.Step also) next after one other =

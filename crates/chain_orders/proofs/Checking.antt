@@ -5,19 +5,20 @@ use Rattle.hol_io.specs.declared.name.BlobName.{BlobName}
 use Rattle.hol_io.specs.declared.name.BlobName.TheVariants.{Snapshot}
 use Rattle.hol_io.specs.Store.{Store, told}
 use Rattle.blob_frame.specs.declared.fault.BlobFault.{BlobFault}
+use Rattle.blob_frame.specs.declared.fault.BlobFault.TheVariants as blob_fault
 use Rattle.chain_check.specs.Walk.{Arrives, Both, Calls, Comes, Differs, Goes, Passes, Refuses, Stops, TellsCheck, calls_by, name_of_call, name_of_step}
 use Rattle.chain_check.specs.declared.checking.CheckFault.{CheckFault}
 use Rattle.chain_check.specs.declared.checking.CheckFault.TheVariants as check_fault
 use Rattle.read_engine.specs.Position.{Position}
 use Rattle.read_engine.specs.Walking.{WalksLoad, WalksStep, schemas_at, table_at, tag_at}
 use Rattle.schema_model.specs.declared.schema.name.Name.{Name}
+use Rattle.hol_answers.specs.declared.refusal.Difference.{Difference}
 use Rattle.hol_answers.specs.declared.refusal.Refusal.{Refusal}
 use Rattle.hol_answers.specs.declared.refusal.Refusal.TheVariants as refusal
 use Rattle.hol_answers.specs.declared.reply.Reply.TheVariants as reply
 use Rattle.hollow_machine.specs.CheckOrder.{CheckReply, WalkLoads, WalkSteps, both_new, walk_calls}
-use Rattle.consumer_orders.specs.Taken.{IsTakeRefusal}
-use Rattle.consumer_orders.proofs.Loading.{snapshot_refused}
-use Rattle.consumer_orders.proofs.Stepping.{delta_refused, of_delta}
+use Rattle.hollow_machine.proofs.Refusals.{delta_refused, snapshot_refused}
+use Rattle.hollow_machine.specs.Blobs.{TellsOf}
 
 -- the calls of a walker
 abbrev pub walker_calls : Calls (Option Position) BlobFault
@@ -70,31 +71,29 @@ module _ (store : Store) where
   -- ---- calls that are refused
 
   load_refused : (version : ℕ) (before now : Option Position) (fault : BlobFault) (why : Refusal) → WalksLoad held version before now (Err fault)
-      → IsTakeRefusal (Snapshot version) (told held (Snapshot version)) fault why → WalkLoads held version before now (Err why)
-  load_refused version before now fault why walks is =
-      (snapshot_refused (Snapshot version) (told held (Snapshot version)) now fault why is walks.tells walks.exact, walks.refused)
+      → TellsOf (Snapshot version) fault why → WalkLoads held version before now (Err why)
+  load_refused version before now fault why walks is = (snapshot_refused (Snapshot version) (told held (Snapshot version)) fault why is walks.tells, walks.refused)
 
   step_refused : (from to : ℕ) (before now : Option Position) (fault : BlobFault) (why : Refusal) → WalksStep held from to before now (Err fault)
-      → IsTakeRefusal (name_of_step from to) (told held (name_of_step from to)) fault why → WalkSteps held from to before now (Err why)
+      → TellsOf (name_of_step from to) fault why → WalkSteps held from to before now (Err why)
   step_refused from to None now fault why walks is = absurd walks.steps
   step_refused from to (Some at) now fault why walks is =
-      let name = name_of_step from to in
-      (of_delta name (told held name) at why (delta_refused name (told held name) at now fault why is walks.steps.tells walks.steps.exact), walks.refused)
+      let name = name_of_step from to in (delta_refused name (told held name) at fault why is walks.steps.tells, walks.refused)
 
   call_refused : (from : Option ℕ) (to : ℕ) (before now : Option Position) (fault : BlobFault) (why : Refusal) → Goes walker_calls held from to before now (Err fault)
-      → IsTakeRefusal (name_of_call from to) (told held (name_of_call from to)) fault why → Goes walk_calls held from to before now (Err why)
+      → TellsOf (name_of_call from to) fault why → Goes walk_calls held from to before now (Err why)
   call_refused None to before now fault why walks is = load_refused to before now fault why walks is
   call_refused (Some from) to before now fault why walks is = step_refused from to before now fault why walks is
 
   refuses : (from : Option ℕ) (to : ℕ) (before now : Both (Option Position)) (name : BlobName) (fault : BlobFault) (why : Refusal) → Refuses walker_calls held from to before name fault now
-      → IsTakeRefusal name (told held name) fault why → Refuses walk_calls held from to before name why now
+      → TellsOf name fault why → Refuses walk_calls held from to before name why now
   refuses from to before now name fault why (inl (named, walks, same)) is =
-      inl (named, call_refused from to before.walker now.walker fault why walks (subst (λ (n : BlobName). IsTakeRefusal n (told held n) fault why) named is), same)
+      inl (named, call_refused from to before.walker now.walker fault why walks (subst (λ (n : BlobName). TellsOf n fault why) named is), same)
   refuses from to before now name fault why (inr (named, walks, fresh)) is =
-      inr (named, goes from to before.walker now.walker walks, load_refused to before.fresh now.fresh fault why fresh (subst (λ (n : BlobName). IsTakeRefusal n (told held n) fault why) named is))
+      inr (named, goes from to before.walker now.walker walks, load_refused to before.fresh now.fresh fault why fresh (subst (λ (n : BlobName). TellsOf n fault why) named is))
 
   stops : (versions : List ℕ) (start now : Both (Option Position)) (name : BlobName) (fault : BlobFault) (why : Refusal) → Stops walker_calls held versions start name fault now
-      → IsTakeRefusal name (told held name) fault why → Stops walk_calls held versions start name why now
+      → TellsOf name fault why → Stops walk_calls held versions start name why now
   stops versions start now name fault why is taken = record {
     from = is.from;
     to = is.to;
@@ -130,17 +129,28 @@ different (Some store) versions asked walker fresh now found version type_name o
     let told_so = begun (Some store) versions asked walker fresh now (Err found) same none bare tells in
     (now, differs store versions both_new version type_name ordinal now (subst (λ (f : CheckFault BlobFault). TellsCheck walker_calls (Some store) versions both_new now (Err f)) is told_so))
 
+-- no fault of a blob is that two states differ
+no_mismatch : (name : BlobName) (found : BlobFault) (difference : Difference) → TellsOf name found (refusal.Mismatch difference) → ⊥
+no_mismatch name (blob_fault.NoBlob other) difference is = cc
+no_mismatch name (blob_fault.Large limit) difference is = cc
+no_mismatch name (blob_fault.Bad at reason) difference is = cc
+no_mismatch name (blob_fault.BadRow at reason of ordinal) difference is = cc
+no_mismatch name (blob_fault.OtherOrigin origin current) difference is = cc
+no_mismatch name (blob_fault.OtherModel of) difference is = cc
+no_mismatch name blob_fault.Store difference is = cc
+no_mismatch name blob_fault.Memory difference is = cc
+
 -- the refusal of a stopped walk is one of the check: it is no difference
 stopped_reply : (store : Store) (versions : List ℕ) (now : Both (Option Position)) (name : BlobName) (why : Refusal) → Stops walk_calls (Some store) versions both_new name why now
     → CheckReply store versions (reply.Refused why)
 stopped_reply store versions now name (refusal.Mismatch difference) is = absurd (no_stop is.from is.to is.before now is.refuses)
   where
     no_load : (version : ℕ) (before after : Option Position) → ¬ WalkLoads (Some store) version before after (Err (refusal.Mismatch difference))
-    no_load version before after (never, same) = never
+    no_load version before after ((found, fails, is), same) = no_mismatch (Snapshot version) found difference is
 
     no_step : (from to : ℕ) (before after : Option Position) → ¬ WalkSteps (Some store) from to before after (Err (refusal.Mismatch difference))
-    no_step from to None after (never, same) = never
-    no_step from to (Some at) after (never, same) = never
+    no_step from to None after (is, same) = cc
+    no_step from to (Some at) after ((found, fails, is), same) = no_mismatch (name_of_step from to) found difference is
 
     no_stop : (from : Option ℕ) (to : ℕ) (before after : Both (Option Position)) → ¬ Refuses walk_calls (Some store) from to before name (refusal.Mismatch difference) after
     no_stop None to before after (inl (named, walks, same)) = no_load to before.walker after.walker walks
@@ -149,13 +159,11 @@ stopped_reply store versions now name (refusal.Mismatch difference) is = absurd 
 stopped_reply store versions now name _ is = (name, now, is)
 
 -- a blob is refused on the way
-pub refused : (held between : Option Store) (versions asked : List ℕ) (walker fresh : Option Position) (now : Both (Option Position)) (found : CheckFault BlobFault) (name : BlobName) (fault : BlobFault) (why : Refusal)
-    → asked ≡ versions → walker ≡ None → fresh ≡ None → found ≡ check_fault.Walk name fault → between ≡ held
-    → TellsCheck walker_calls held asked (record { walker = walker; fresh = fresh }) now (Err found)
-    → IfSome between (λ store. IsTakeRefusal name (told between name) fault why) → IfSome held (λ store. CheckReply store versions (reply.Refused why))
-refused None between versions asked walker fresh now found name fault why same none bare is kept tells taken = tt
-refused (Some store) between versions asked walker fresh now found name fault why same none bare is kept tells taken =
+pub refused : (held : Option Store) (versions asked : List ℕ) (walker fresh : Option Position) (now : Both (Option Position)) (found : CheckFault BlobFault) (name : BlobName) (why : BlobFault) (answer : Refusal)
+    → asked ≡ versions → walker ≡ None → fresh ≡ None → found ≡ check_fault.Walk name why → TellsOf name why answer
+    → TellsCheck walker_calls held asked (record { walker = walker; fresh = fresh }) now (Err found) → IfSome held (λ store. CheckReply store versions (reply.Refused answer))
+refused None versions asked walker fresh now found name why answer same none bare is refusal_is tells = tt
+refused (Some store) versions asked walker fresh now found name why answer same none bare is refusal_is tells =
     let told_so = begun (Some store) versions asked walker fresh now (Err found) same none bare tells in
     let stopped = subst (λ (f : CheckFault BlobFault). TellsCheck walker_calls (Some store) versions both_new now (Err f)) is told_so in
-    let here = subst (λ (h : Option Store). IfSome h (λ s. IsTakeRefusal name (told h name) fault why)) kept taken in
-    stopped_reply store versions now name why (stops store versions both_new now name fault why stopped here)
+    stopped_reply store versions now name answer (stops store versions both_new now name why answer stopped refusal_is)

@@ -5,8 +5,7 @@ ghost use Rattle.hol_orders.specs.Shapes.{IsWalk};
 ghost use Rattle.hollow_machine.specs.CheckOrder.{CheckReply};
 
 use chain_check::{CheckFault, check as check_walk};
-use consumer_orders::take_refusal;
-use hol_answers::{Difference, Refusal, Reply};
+use hol_answers::{Difference, Refusal, Reply, blob_refusal};
 use hol_io::BlobStore;
 use hol_orders::{OrderStop, Versions};
 use read_engine::Walker;
@@ -32,7 +31,7 @@ pub fn check<S: BlobStore>(
     match check_walk(alloc, &mut walker, &mut fresh, store, versions.as_slice()) {
         Ok(()) => Ok(Reply::Check(versions.len() as u64)),
         Err(CheckFault::Walk(name, fault)) => {
-            let refusal = take_refusal(alloc, store, &name, fault)?;
+            let refusal = blob_refusal(&name, fault)?;
             Ok(Reply::Refused(refusal))
         }
         Err(CheckFault::Mismatch(version, type_name, ordinal)) => Ok(Reply::Refused(

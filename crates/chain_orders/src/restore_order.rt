@@ -9,8 +9,7 @@ ghost use Rattle.hollow_machine.specs.RestoreOrder.{RestoreStep};
 ghost use Rattle.chain_orders.specs.Restored.{RestoresFrom, TellsStored, body_of, position_of};
 
 use crate::announced::why_not_last;
-use consumer_orders::take_refusal;
-use hol_answers::{EqualRows, Refusal, Reply};
+use hol_answers::{EqualRows, Refusal, Reply, blob_refusal};
 use hol_io::{BlobName, BlobStore};
 use hol_orders::OrderStop;
 use hol_varint::Duplicate;
@@ -70,7 +69,7 @@ fn stored_snapshot<S: BlobStore>(
     match read_snapshot(alloc, store, &name) {
         Ok(loaded) => Ok(Ok(loaded)),
         Err(fault) => {
-            let refusal = take_refusal(alloc, store, &name, fault)?;
+            let refusal = blob_refusal(&name, fault)?;
             Ok(Err(refusal))
         }
     }

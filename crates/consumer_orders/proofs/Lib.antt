@@ -7,6 +7,5 @@ mod LiveLists
 pub mod Loading
 mod LookingUp
 mod PastRows
-mod Refusing
 mod ShownRows
 pub mod Stepping

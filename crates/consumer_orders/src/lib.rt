@@ -14,7 +14,6 @@ mod past_order;
 mod row_order;
 mod stat_order;
 mod step_order;
-mod taking;
 mod type_order;
 
 pub use at_order::at;
@@ -28,4 +27,3 @@ pub use past_order::past;
 pub use row_order::row;
 pub use stat_order::stat;
 pub use step_order::step;
-pub use taking::take_refusal;

@@ -4,15 +4,14 @@ ghost use Rattle.hol_io.specs.Causes.{Rose};
 ghost use Rattle.hollow_machine.specs.Kept.{MovesConsumer};
 ghost use Rattle.hollow_machine.specs.LoadOrder.{LoadStep};
 
-use crate::taking::take_refusal;
-use hol_answers::Reply;
+use hol_answers::{Reply, blob_refusal};
 use hol_io::{BlobName, BlobStore};
 use hol_orders::OrderStop;
 use read_engine::Consumer;
 
-/// The consumer becomes the state of a version's snapshot, and the answer tells its tag; or the snapshot is refused, with the first cause: `NoBlob`,
-/// `TooLarge` and `BadBlob` where it has no header, and `BadBody` where it has one and is no snapshot within the limits. After a refusal or a stop the
-/// consumer is as before. The store stays as it is. `Store` comes only where the store's count of faults rose.
+/// The consumer becomes the state of a version's snapshot, and the answer tells its tag; or the snapshot is refused, with its first fault: `NoBlob`,
+/// `TooLarge` or `BadBlob`. After a refusal or a stop the consumer is as before. The store stays as it is. `Store` comes only where the store's count
+/// of faults rose.
 pub fn load<S: BlobStore>(
     store: &mut S,
     consumer: &mut Consumer,
@@ -26,8 +25,7 @@ pub fn load<S: BlobStore>(
     ensures later { (S.seen store.old).faults ≤ (S.seen store.new).faults }
 {
     if let Err(fault) = consumer.load(store, version) {
-        let name = BlobName::Snapshot(version);
-        let refusal = take_refusal(consumer.allocator(), store, &name, fault)?;
+        let refusal = blob_refusal(&BlobName::Snapshot(version), fault)?;
         return Ok(Reply::Refused(refusal));
     }
     match consumer.tag() {

@@ -5,18 +5,17 @@ ghost use Rattle.hollow_machine.specs.Kept.{MovesConsumer};
 ghost use Rattle.hollow_machine.specs.StepOrder.{StepStep, step_name};
 ghost use Rattle.read_engine.specs.Taking.{IsStepName};
 
-use crate::taking::take_refusal;
-use hol_answers::{Refusal, Reply};
+use hol_answers::{Refusal, Reply, blob_refusal};
 use hol_io::{BlobName, BlobStore, Steps};
 use hol_orders::OrderStop;
 use read_engine::Consumer;
 use std::marker::Brand;
 use std::sync::ledger::{Blank, Ledger};
 
-/// The consumer moves along the blob that leads from one version to another, and the answer tells its new tag; or the order is refused, with the first
-/// cause: `NoState` where the consumer has no state, `NoBlob`, `TooLarge` and `BadBlob` where the blob has no header, `OtherOrigin` where it does not
-/// start from the consumer's tag, and `BadBody` where it does and is no delta that the consumer can take. After a refusal or a stop the consumer is as
-/// before. The store stays as it is. `Store` comes only where the store's count of faults rose.
+/// The consumer moves along the blob that leads from one version to another, and the answer tells its new tag; or the order is refused: `NoState` where
+/// the consumer has no state, and else with the first fault of the blob: `NoBlob`, `TooLarge`, `BadBlob`, `OtherOrigin` where it does not start from the
+/// consumer's tag, or `OtherModel`. After a refusal or a stop the consumer is as before. The store stays as it is. `Store` comes only where the store's
+/// count of faults rose.
 pub fn step<S: BlobStore>(
     store: &mut S,
     consumer: &mut Consumer,
@@ -57,7 +56,7 @@ fn move_along<S: BlobStore, L: Ledger>(
 {
     let mut steps = Steps::<L>::new(blank);
     if let Err(fault) = consumer.step(store, name, &mut steps) {
-        let refusal = take_refusal(consumer.allocator(), store, name, fault)?;
+        let refusal = blob_refusal(name, fault)?;
         return Ok(Reply::Refused(refusal));
     }
     match consumer.tag() {

@@ -1,51 +1,33 @@
--- What a refusal of one thing tells of another that asks for it, and the types of a delta as parts of a model.
-use Rattle.std.proofs.Common.{◌≡◌, ◌≤◌, ◌<◌, ◌+◌, ℕ, List, [], ◌∷◌, ◌++◌, Some, length, take, map, Result, Err, sym, ◌∙◌, ap, subst, inl, inr, append_assoc, append-nil, length-append, arith}
-use Rattle.std.specs.Prelude.{All, MatchResult, slice_get}
+-- What the rule of names says of the types of a delta, and these types as parts of a model.
+use Rattle.std.proofs.Common.{◌≡◌, ◌≤◌, ◌<◌, ◌+◌, ℕ, List, [], ◌∷◌, ◌++◌, Some, get_or, length, take, map, Result, Ok, refl, sym, ◌∙◌, ap, subst, inl, inr, append_assoc, append-nil, length-append, arith}
+use Rattle.std.specs.Prelude.{All, MatchResult, option_map, slice_get}
 use Rattle.std.specs.List.{AllZip}
 use Rattle.std.proofs.lemmas.Bool.{cases_lt}
-use Rattle.std.proofs.lemmas.List.{map-append, take_all, take_more}
+use Rattle.std.proofs.lemmas.List.{length-map, map-append, take_all, take_more}
 use Rattle.std.proofs.lemmas.List.Elements.{All-cons, All-head, All-nil, All-tail}
-use Rattle.std.proofs.lemmas.Option.{get_or_from_slice_get, slice_get_within}
+use Rattle.std.proofs.lemmas.Option.{get_or_from_slice_get, slice_get-get_or, slice_get-map, slice_get_within}
 use Rattle.std.proofs.lemmas.Slice.Zip.{AllZip-long, all_zipped_more}
 use Rattle.schema_model.specs.declared.model.faults.ModelFault.{ModelFault}
 use Rattle.schema_model.specs.declared.model.faults.ModelFault.TheVariants.{Broken}
 use Rattle.schema_model.specs.declared.model.rule.Rule.{Rule}
-use Rattle.schema_model.specs.declared.model.rule.Rule.TheVariants.{DuplicateName, TooMany}
+use Rattle.schema_model.specs.declared.model.rule.Rule.TheVariants.{BadPath, CyclicModel, DuplicateName, FloatField, LongName, TooDeep, TooMany, UnknownType}
+use Rattle.schema_model.specs.declared.reason.Reason.TheVariants.{BadSchema}
 use Rattle.schema_model.specs.declared.schema.Schema.{Schema}
-use Rattle.schema_model.specs.Faults.{TellsFault}
+use Rattle.schema_model.specs.Faults.{TellsFault, TellsModel}
 use Rattle.schema_model.specs.Model.{IsFirstBroken, IsModel}
 use Rattle.schema_model.specs.Parts.{fields_of}
 use Rattle.type_rows.specs.Patches.{IsReadablePatch}
 use Rattle.blob_frame.specs.declared.fault.BlobFault.{BlobFault}
+use Rattle.blob_cursor.specs.Scene.{IsFree}
+use Rattle.blob_faults.specs.Judge.{Blames}
+use Rattle.blob_faults.specs.Models.{names_once}
 use Rattle.blob_frame.specs.declared.fault.BlobFault.TheVariants as fault
 use Rattle.delta_blob.specs.declared.part.DeltaPart.{DeltaPart}
 use Rattle.delta_blob.specs.declared.patch.PatchPart.{PatchPart}
-use Rattle.delta_blob.specs.OfModel.{AreAmong, IsIndexOf, IsTaken, IsUnlike, Refuses}
+use Rattle.delta_blob.specs.OfModel.{AreAmong, AreSpelled, IsIndexOf, IsTaken, names_in}
 use Rattle.delta_blob.specs.Parts.{IsWellFormedPart}
 use Rattle.delta_blob.specs.Patch.{NamesOnce, schemas_in}
 use Rattle.delta_blob.specs.Reads.{AreOfModel, IsOfModel, IsWholePart, KeepsCounts}
-
--- ---- refusals
-
--- a fault that refuses one thing refuses what asks for it
-pub refused : {T U : Type 0} (P : T → Type 0) (Q : U → Type 0) → ((u : U) → Q u → (t : T) × P t) → (e : BlobFault) → Refuses T P e → Refuses U Q e
-refused P Q asks (fault.Bad place why) none = λ u q. let asked = asks u q in none asked.0 asked.1
-refused P Q asks (fault.OtherModel of) none = λ u q. let asked = asks u q in none asked.0 asked.1
-refused P Q asks (fault.Large limit) (of, none) = (of, λ u q. let asked = asks u q in none asked.0 asked.1)
-refused P Q asks fault.Memory none = tt
-refused P Q asks _ none = absurd none
-
--- an answer that is such a fault
-pub refusal : {T U : Type 0} (V : Type 0) (P : T → Type 0) (Q : U → Type 0) (accepted : V → Type 0) → ((u : U) → Q u → (t : T) × P t) → (r : Result V BlobFault) (e : BlobFault) → r ≡ Err e → Refuses T P e
-    → MatchResult r accepted (Refuses U Q)
-refusal {T} {U} V P Q accepted asks r e is none = subst (λ (r : Result V BlobFault). MatchResult r accepted (Refuses U Q)) (sym is) (refused P Q asks e none)
-
--- a fault of types that are not among those of a model
-pub unlike_among : (schemas : List Schema) (parts : List DeltaPart) → ((indexes : List ℕ) → AreAmong schemas parts indexes → ⊥) → (e : BlobFault) → IsUnlike parts e → Refuses (List ℕ) (AreAmong schemas parts) e
-unlike_among schemas parts none (fault.Bad place why) unlike = none
-unlike_among schemas parts none (fault.OtherModel of) unlike = none
-unlike_among schemas parts none fault.Memory unlike = tt
-unlike_among schemas parts none _ unlike = absurd unlike
 
 -- ---- the rule of names
 
@@ -53,9 +35,37 @@ unlike_among schemas parts none _ unlike = absurd unlike
 pub first_broken : (schemas : List Schema) (e : ModelFault) (rule : Rule) (type_index : ℕ) → e ≡ Broken rule type_index → rule ≡ DuplicateName → TellsFault schemas e → IsFirstBroken schemas DuplicateName type_index
 first_broken schemas e rule type_index is names tells = subst (TellsFault schemas) (is ∙ ap (λ (r : Rule). Broken r type_index) names) tells
 
--- names that break the rule do not stand once
-pub broken_names : (parts : List DeltaPart) (schemas : List Schema) (type_index : ℕ) → schemas ≡ schemas_in parts → IsFirstBroken schemas DuplicateName type_index → NamesOnce parts → ⊥
-broken_names parts schemas type_index are first once = once type_index (subst (λ (ss : List Schema). IsFirstBroken ss DuplicateName type_index) are first).broken
+-- the first type whose name stands twice is at fault
+pub name_blamed : (parts : List DeltaPart) (t : ℕ) (d : DeltaPart) → IsFirstBroken (schemas_in parts) DuplicateName t → (names_in parts).Fails (fault.Bad (get_or parts t d).at BadSchema)
+unfolding names_once
+name_blamed parts t d first =
+    let offset_of = λ (p : DeltaPart). p.at in
+    let (of_type, there, breaks) = first.broken in
+    let inside : t < length parts = omega (arith, slice_get_within (schemas_in parts) t of_type there, length-map parts (λ (p : DeltaPart). p.schema)) in
+    let at = slice_get-map offset_of parts t ∙ ap (option_map offset_of) (slice_get-get_or parts t d inside) in
+    (t, record { broken = first.broken; least = first.least }, ((get_or parts t d).at, at, refl))
+
+-- where the first rule that is broken is another, and types are spelled, no name stands twice
+pub other_rule : (parts : List DeltaPart) (rule : Rule) (t : ℕ) → (rule ≡ DuplicateName → ⊥) → IsFirstBroken (schemas_in parts) rule t → AreSpelled parts → NamesOnce parts
+other_rule parts TooMany t other first spelled = absurd (spelled.few t first.broken)
+other_rule parts LongName t other first spelled = absurd (spelled.short t first.broken)
+other_rule parts DuplicateName t other first spelled = absurd (other refl)
+other_rule parts FloatField t other first spelled = first.earlier DuplicateName (omega arith)
+other_rule parts UnknownType t other first spelled = first.earlier DuplicateName (omega arith)
+other_rule parts CyclicModel t other first spelled = first.earlier DuplicateName (omega arith)
+other_rule parts TooDeep t other first spelled = first.earlier DuplicateName (omega arith)
+other_rule parts BadPath t other first spelled = first.earlier DuplicateName (omega arith)
+
+-- in a model no name stands twice
+pub model_names : (parts : List DeltaPart) (schemas model : List Schema) (answer : Result (List Schema) ModelFault) → schemas ≡ schemas_in parts → answer ≡ Ok model → TellsModel schemas answer → NamesOnce parts
+model_names parts schemas model answer are is tells =
+    let told = subst (λ (a : Result (List Schema) ModelFault). TellsModel schemas a) is tells in
+    subst (λ (ss : List Schema). IsModel ss) are told.1 DuplicateName
+
+-- what trying the names answers
+pub names_tell : (parts : List DeltaPart) (answer other : Result Unit BlobFault) → answer ≡ other → MatchResult other (λ done. NamesOnce parts) (Blames (names_in parts) IsFree)
+    → MatchResult answer (λ done. NamesOnce parts) (Blames (names_in parts) IsFree)
+names_tell parts answer other is tells = subst (λ (a : Result Unit BlobFault). MatchResult a (λ done. NamesOnce parts) (Blames (names_in parts) IsFree)) (sym is) tells
 
 -- ---- parts of the model
 
@@ -103,16 +113,6 @@ named_of_model schemas parts named indexes among counts taken same = record {
   each = taken_named schemas parts named taken (subst (λ (is : List ℕ). AllZip (IsIndexOf schemas) parts is) (sym same) among.each);
   counts = counts;
 }
-
-indexes_named : (schemas : List Schema) (parts : List DeltaPart) (named : List PatchPart) → AllZip (IsOfModel schemas) parts named → AllZip (IsIndexOf schemas) parts (map (λ (n : PatchPart). n.type_index) named)
-indexes_named schemas [] [] each = tt
-indexes_named schemas (part ∷ parts) (n ∷ named) each = (each.0.means, indexes_named schemas parts named each.1)
-indexes_named schemas [] (n ∷ named) each = absurd each
-indexes_named schemas (part ∷ parts) [] each = absurd each
-
--- parts of the model ask for indexes
-pub asks_indexes : (schemas : List Schema) (parts : List DeltaPart) (named : List PatchPart) → AreOfModel schemas parts named → (indexes : List ℕ) × AreAmong schemas parts indexes
-asks_indexes schemas parts named are = (map (λ (n : PatchPart). n.type_index) named, record { once = are.once; each = indexes_named schemas parts named are.each })
 
 -- in a model each type has few fields
 few_fields : (schemas : List Schema) (index : ℕ) (schema : Schema) → IsModel schemas → slice_get schemas index ≡ Some schema → length (fields_of schema) ≤ 1024

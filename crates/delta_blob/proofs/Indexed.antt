@@ -12,7 +12,7 @@ use Rattle.schema_model.specs.Parts.{index_of_type, type_names}
 use Rattle.schema_model.proofs.Indexing.{item_name}
 use Rattle.schema_model.proofs.ModelFacts.{index_at}
 use Rattle.delta_blob.specs.declared.part.DeltaPart.{DeltaPart}
-use Rattle.delta_blob.specs.OfModel.{AreAmong, IsIndexOf}
+use Rattle.delta_blob.specs.OfModel.{IsIndexOf}
 use Rattle.delta_blob.specs.Patch.{Means, NamesOnce, schemas_in}
 
 -- what stands beside one of a list
@@ -142,7 +142,7 @@ named_twice parts a b one other below at_a at_b same once =
 
 -- ---- walking over the types
 
-take_there : {X : Type 0} (xs : List X) (i k : ℕ) (x : X) → slice_get (take i xs) k ≡ Some x → (k < i) × (slice_get xs k ≡ Some x)
+pub take_there : {X : Type 0} (xs : List X) (i k : ℕ) (x : X) → slice_get (take i xs) k ≡ Some x → (k < i) × (slice_get xs k ≡ Some x)
 take_there [] zero k x at = absurd cc
 take_there [] (suc i) k x at = absurd cc
 take_there (y ∷ xs) zero k x at = absurd cc
@@ -156,17 +156,6 @@ indexes_more schemas parts place index part indexes all inside is before at push
     let next : take (place + 1) parts ≡ take place parts ++ part ∷ [] = take_more parts place part inside ∙ ap (λ (p : DeltaPart). take place parts ++ p ∷ []) (sym is) in
     subst (λ (ps : List DeltaPart). AllZip (IsIndexOf schemas) ps all) (sym next)
     (subst (λ (is : List ℕ). AllZip (IsIndexOf schemas) (take place parts ++ part ∷ []) is) (sym pushed) (all_zipped_more (IsIndexOf schemas) (take place parts) indexes part index before at))
-
--- a type whose every index is that of an earlier one is not among those of the model
-pub none_among : (schemas : List Schema) (parts : List DeltaPart) (place : ℕ) (part : DeltaPart) (taken : List ℕ) → place < length parts → part ≡ get_or parts place part
-    → AllZip (IsIndexOf schemas) (take place parts) taken → ((index : ℕ) → Means schemas part.schema index → Contains taken index) → (indexes : List ℕ) → AreAmong schemas parts indexes → ⊥
-none_among schemas parts place part taken inside is walked all_taken indexes among =
-    let at : slice_get parts place ≡ Some part = slice_get-get_or parts place part inside ∙ ap Some (sym is) in
-    let (index, at_index, own) = zip_at (IsIndexOf schemas) parts indexes place part among.each at in
-    let (k, within, same) = all_taken index own in
-    let (earlier, at_earlier, its) = zip_beside (IsIndexOf schemas) (take place parts) taken k index walked (slice_get-get_or taken k _ within ∙ ap Some same) in
-    let there = take_there parts place k earlier at_earlier in
-    named_twice parts k place earlier part there.0 there.1 at (one_name schemas index earlier.schema part.schema its own) among.once
 
 -- ---- the index of a schema
 

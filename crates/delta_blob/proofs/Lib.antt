@@ -1,6 +1,10 @@
 pub mod AddedItems
 pub mod AmongModel
+pub mod DeltaTelling
 pub mod Indexed
+pub mod JudgedTypes
+pub mod Meant
 pub mod NamedParts
 pub mod PatchTelling
+pub mod SpelledParts
 pub mod WholeDeltas

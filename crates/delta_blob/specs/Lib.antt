@@ -1,5 +1,8 @@
 pub mod Added
+pub mod Deciding
 pub mod Fits
+pub mod Judged
+pub mod Meant
 pub mod Moved
 pub mod OfModel
 pub mod Ordinals

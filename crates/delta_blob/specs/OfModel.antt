@@ -1,12 +1,20 @@
--- The types of a delta against a model: which of its types they are, and what a refusal of them tells.
-use Rattle.std.specs.Prelude.{◌≡◌, ℕ, List}
+-- The types of a delta against a model: which of its types they are, and what a fault of them tells.
+use Rattle.std.specs.Prelude.{◌≡◌, ◌⊎◌, ℕ, List}
 use Rattle.std.specs.List.{AllZip}
+use Rattle.schema_model.specs.declared.model.rule.Rule.TheVariants.{LongName, TooMany}
+use Rattle.schema_model.specs.declared.schema.name.Name.{Name}
 use Rattle.schema_model.specs.declared.schema.Schema.{Schema}
+use Rattle.schema_model.specs.Model.{IsKept}
 use Rattle.blob_frame.specs.declared.fault.BlobFault.{BlobFault}
 use Rattle.blob_frame.specs.declared.fault.BlobFault.TheVariants as fault
+use Rattle.blob_cursor.specs.Scene.{IsFree}
+use Rattle.blob_faults.specs.Judge.{Blames, Judge, each_of}
+use Rattle.blob_faults.specs.Models.{names_once}
+use Rattle.blob_faults.specs.Rows.{counts}
 use Rattle.delta_blob.specs.declared.part.DeltaPart.{DeltaPart}
 use Rattle.delta_blob.specs.declared.patch.PatchPart.{PatchPart}
-use Rattle.delta_blob.specs.Patch.{Means, NamesOnce}
+use Rattle.delta_blob.specs.Judged.{offsets_in}
+use Rattle.delta_blob.specs.Patch.{Means, NamesOnce, schemas_in}
 use Rattle.delta_blob.specs.Reads.{IsCountLimit}
 
 -- A type of the delta means the one at this index of the model.
@@ -23,17 +31,32 @@ pub record IsTaken (part : DeltaPart) (named : PatchPart) : Type 0 where
   pub at : named.at ≡ part.at
   pub section : named.section ≡ part.section
 
--- What a refusal tells: that this holds of nothing. Want of memory tells nothing, and no other fault comes from the types of a delta.
-abbrev pub Refuses : (T : Type 0) → (T → Type 0) → BlobFault → Type 0
-Refuses T P (fault.Bad place why) = (t : T) → P t → ⊥
-Refuses T P (fault.OtherModel of) = (t : T) → P t → ⊥
-Refuses T P (fault.Large limit) = IsCountLimit limit × ((t : T) → P t → ⊥)
-Refuses T P fault.Memory = Unit {0}
-Refuses T P _ = ⊥
+-- There are no more types, and no more fields in a type, than a model may have, and no text of them is too long: so it is with all types that stand
+-- in a blob.
+pub record AreSpelled (parts : List DeltaPart) : Type 0 where
+  pub few : IsKept (schemas_in parts) TooMany
+  pub short : IsKept (schemas_in parts) LongName
 
--- A fault of types that are not those of the model: two have one name or one has a field twice, or it is another model.
-abbrev pub IsUnlike : List DeltaPart → BlobFault → Type 0
-IsUnlike parts (fault.Bad place why) = NamesOnce parts → ⊥
-IsUnlike parts (fault.OtherModel of) = Unit {0}
-IsUnlike parts fault.Memory = Unit {0}
-IsUnlike parts _ = ⊥
+-- That no name of the types stands twice.
+abbrev pub names_in : List DeltaPart → Judge Unit
+names_in parts = names_once (offsets_in parts) (schemas_in parts)
+
+-- The numbers of ordinals and items of a type.
+abbrev pub counts_of : DeltaPart → Judge Unit
+counts_of part = counts part.section.max part.section.total
+
+-- Those of each type.
+abbrev pub counts_in : List DeltaPart → Judge (List Unit)
+counts_in parts = each_of counts_of parts
+
+-- What is tried of the types fails with no other fault.
+abbrev pub IsTypesFault : BlobFault → Type 0
+IsTypesFault (fault.Bad place why) = Unit {0}
+IsTypesFault (fault.OtherModel of) = Unit {0}
+IsTypesFault (fault.Large limit) = IsCountLimit limit
+IsTypesFault fault.Memory = Unit {0}
+IsTypesFault _ = ⊥
+
+-- A fault of types of which the one of this name is none of the model, or stands twice: a name that stands twice is at fault first.
+abbrev pub IsUnlike : List DeltaPart → Name → BlobFault → Type 0
+IsUnlike parts name found = Blames (names_in parts) IsFree found ⊎ (NamesOnce parts × (found ≡ fault.OtherModel name))

@@ -1,10 +1,9 @@
 -- What each answer of the reader of a delta's types tells: from a place behind the header up to the end of the blob, against a model.
-use Rattle.std.specs.Prelude.{◌≡◌, ◌≤◌, ◌<◌, ◌⊎◌, ℕ, ℤ, List, Option, Some, None, Result, Ok, Err, All, length, slice_get, IsErrAnd}
+use Rattle.std.specs.Prelude.{◌≡◌, ◌≤◌, ◌⊎◌, ℕ, ℤ, List, Option, Some, None, Result, Ok, Err, All, length, slice_get, IsErrAnd}
 use Rattle.std.specs.List.{AllZip}
 use Rattle.hol_io.specs.declared.name.BlobName.{BlobName}
 use Rattle.schema_model.specs.declared.limit.Limit.{Limit}
 use Rattle.schema_model.specs.declared.limit.Limit.TheVariants.{Blob, Ordinals, Items}
-use Rattle.schema_model.specs.declared.reason.Reason.{Reason}
 use Rattle.schema_model.specs.declared.schema.Schema.{Schema}
 use Rattle.schema_model.specs.Limit.{number_of_limit}
 use Rattle.type_rows.specs.Layout.{places_of}
@@ -12,11 +11,13 @@ use Rattle.type_rows.specs.Patches.{IsReadablePatch}
 use Rattle.blob_frame.specs.declared.fault.BlobFault.{BlobFault}
 use Rattle.blob_frame.specs.declared.fault.BlobFault.TheVariants as fault
 use Rattle.blob_frame.specs.declared.header.Header.{Header}
-use Rattle.blob_frame.specs.Header.{HeaderIs, StuckInHeader}
+use Rattle.blob_frame.specs.Header.{HeaderIs}
 use Rattle.blob_cursor.specs.Scene.{IsFree}
+use Rattle.blob_faults.specs.Judge.{Blames}
 use Rattle.delta_blob.specs.declared.part.DeltaPart.{DeltaPart}
 use Rattle.delta_blob.specs.declared.patch.Patch.{Patch}
 use Rattle.delta_blob.specs.declared.patch.PatchPart.{PatchPart}
+use Rattle.delta_blob.specs.Judged.{delta_of, patch_of}
 use Rattle.delta_blob.specs.Parts.{body}
 use Rattle.delta_blob.specs.Patch.{Means, NamesOnce}
 
@@ -42,15 +43,6 @@ pub record AreOfModel (schemas : List Schema) (parts : List DeltaPart) (named : 
 abbrev pub IsPatchAt : List ℕ → ℕ → List Schema → List PatchPart → Type 0
 IsPatchAt blob at schemas named = (parts : List DeltaPart) × body.Stands blob at parts (length blob) × AreOfModel schemas parts named
 
--- No types of the model stand there up to the end of the blob.
-abbrev pub HasNoPatch : List ℕ → ℕ → List Schema → Type 0
-HasNoPatch blob at schemas = (named : List PatchPart) → IsPatchAt blob at schemas named → ⊥
-
--- Types stand there up to the end of the blob, and they are none of the model within the limits on ordinals and items.
-abbrev pub HasOtherTypes : List ℕ → ℕ → List Schema → Type 0
-HasOtherTypes blob at schemas =
-    (parts : List DeltaPart) × body.Stands blob at parts (length blob) × ((named : List PatchPart) → AreOfModel schemas parts named → ⊥)
-
 -- The limits that a type of a delta may pass as it stands in the blob.
 abbrev pub IsCountLimit : Limit → Type 0
 IsCountLimit Ordinals = Unit {0}
@@ -66,27 +58,18 @@ IsPatchFault fault.Store = Unit {0}
 IsPatchFault fault.Memory = Unit {0}
 IsPatchFault _ = ⊥
 
--- What each answer tells of the blob.
+-- What each answer tells of the blob: the types that stand there are those of the model, or what is tried of them fails with this fault.
 abbrev pub TellsPatch : List ℕ → ℕ → List Schema → Result (List PatchPart) BlobFault → Type 0
 TellsPatch blob at schemas (Ok named) = IsPatchAt blob at schemas named
-TellsPatch blob at schemas (Err (fault.Bad place why)) = body.Stuck blob at place why ⊎ HasOtherTypes blob at schemas
-TellsPatch blob at schemas (Err (fault.OtherModel of)) = HasOtherTypes blob at schemas
-TellsPatch blob at schemas (Err (fault.Large limit)) = HasOtherTypes blob at schemas
-TellsPatch blob at schemas (Err fault.Store) = Unit {0}
-TellsPatch blob at schemas (Err fault.Memory) = Unit {0}
-TellsPatch blob at schemas (Err _) = ⊥
+TellsPatch blob at schemas (Err found) = Blames (patch_of blob at schemas) IsFree found
 
--- Where reading the types is stuck at an item the answer is the fault of it, but for the free ones.
-abbrev pub StopsPatch : List ℕ → ℕ → Result (List PatchPart) BlobFault → Type 0
-StopsPatch blob at answer = (place : ℕ) (why : Reason) → body.Stuck blob at place why → (answer ≡ Err (fault.Bad place why)) ⊎ IsErrAnd answer IsFree
+-- Where what is tried of the types fails the answer is the fault of it, but for the free ones.
+abbrev pub FailsPatch : List ℕ → ℕ → List Schema → Result (List PatchPart) BlobFault → Type 0
+FailsPatch blob at schemas answer = (found : BlobFault) → (patch_of blob at schemas).Fails found → (answer ≡ Err found) ⊎ IsErrAnd answer IsFree
 
 -- A type that was read can be moved by, wherever the blob came from: it is one of the model, and its section can be read.
 abbrev pub IsWholePart : List Schema → PatchPart → Type 0
 IsWholePart schemas part = (schema : Schema) × (slice_get schemas part.type_index ≡ Some schema) × IsReadablePatch schema.shape part.section
-
--- The blob is not too large and begins with a header of this origin tag, and from the place behind it on this holds.
-abbrev pub IsBehind : List ℕ → ℤ → (ℕ → Type 0) → Type 0
-IsBehind blob origin Holds = (head : Header) × (n : ℕ) × HeaderIs blob n head × (length blob ≤ number_of_limit Blob) × (head.origin ≡ origin) × Holds n
 
 -- What each answer of the reader of a delta tells of what the store has under its name, where the consumer is at this tag.
 abbrev pub TellsDelta : BlobName → ℤ → List Schema → Option (List ℕ) → Result Patch BlobFault → Type 0
@@ -94,17 +77,21 @@ TellsDelta name current schemas None answer = (answer ≡ Err (fault.NoBlob name
 TellsDelta name current schemas (Some blob) (Ok patch) =
     (head : Header) × (n : ℕ) × HeaderIs blob n head × (head.origin ≡ current) × (head.destination ≡ patch.destination) × (length blob ≡ patch.length)
     × (length blob ≤ number_of_limit Blob) × IsPatchAt blob n schemas patch.parts
-TellsDelta name current schemas (Some blob) (Err (fault.OtherOrigin found at)) =
-    (head : Header) × (n : ℕ) × HeaderIs blob n head × (length blob ≤ number_of_limit Blob) × (head.origin ≡ found) × (at ≡ current) × (found ≡ current → ⊥)
-TellsDelta name current schemas (Some blob) (Err (fault.Large limit)) =
-    ((limit ≡ Blob) × (number_of_limit Blob < length blob)) ⊎ (IsCountLimit limit × IsBehind blob current (λ n. HasOtherTypes blob n schemas))
-TellsDelta name current schemas (Some blob) (Err (fault.Bad place why)) =
-    ((length blob ≤ number_of_limit Blob) × StuckInHeader blob place why)
-    ⊎ IsBehind blob current (λ n. body.Stuck blob n place why ⊎ HasOtherTypes blob n schemas)
-TellsDelta name current schemas (Some blob) (Err (fault.OtherModel of)) = IsBehind blob current (λ n. HasOtherTypes blob n schemas)
-TellsDelta name current schemas (Some blob) (Err fault.Store) = Unit {0}
-TellsDelta name current schemas (Some blob) (Err fault.Memory) = Unit {0}
-TellsDelta name current schemas (Some blob) (Err _) = ⊥
+TellsDelta name current schemas (Some blob) (Err found) = Blames (delta_of blob current schemas) IsFree found
+
+-- A delta of this length with this header and these types.
+abbrev pub patch_as : ℕ → Header → List PatchPart → Patch
+patch_as size head named = record { destination = head.destination; length = size; parts = named }
+
+-- Where what is tried of a delta passes it is answered, but for the free faults.
+abbrev pub FindsDelta : ℤ → List Schema → List ℕ → Result Patch BlobFault → Type 0
+FindsDelta current schemas blob answer =
+    (head : Header) (named : List PatchPart) → (delta_of blob current schemas).Passes (head, named)
+    → (answer ≡ Ok (patch_as (length blob) head named)) ⊎ IsErrAnd answer IsFree
+
+-- Where it fails the answer is the fault of it, but for the free ones.
+abbrev pub FailsDelta : ℤ → List Schema → List ℕ → Result Patch BlobFault → Type 0
+FailsDelta current schemas blob answer = (found : BlobFault) → (delta_of blob current schemas).Fails found → (answer ≡ Err found) ⊎ IsErrAnd answer IsFree
 
 -- The faults of a delta of this name, for a consumer at this tag.
 abbrev pub IsDeltaFault : BlobName → ℤ → BlobFault → Type 0

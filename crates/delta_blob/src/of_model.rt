@@ -1,35 +1,39 @@
 //! The types of a delta, as they stand in the blob, against a model.
-ghost use Rattle.std.specs.Prelude.{◌≡◌, ◌↔◌, ℕ, List, All, Contains, IfErr, IfOk, IsTrue, MatchOption, MatchResult, length, map};
+ghost use Rattle.std.specs.Prelude.{◌≡◌, ◌↔◌, ℕ, All, Contains, IfErr, IfOk, IsTrue, MatchOption, MatchResult, length, map};
 ghost use Rattle.std.specs.List.{AllZip};
 ghost use Rattle.schema_model.specs.Faults.{TellsFault};
 ghost use Rattle.schema_model.specs.Model.{IsModel};
-ghost use Rattle.delta_blob.specs.OfModel.{AreAmong, IsTaken, IsUnlike, Refuses};
+ghost use Rattle.blob_cursor.specs.Scene.{IsFree};
+ghost use Rattle.blob_faults.specs.Judge.{Blames};
+ghost use Rattle.delta_blob.specs.Judged.{parts_in};
+ghost use Rattle.delta_blob.specs.OfModel.{AreAmong, AreSpelled, IsTaken, IsTypesFault, IsUnlike, counts_in, names_in};
 ghost use Rattle.delta_blob.specs.Parts.{IsWellFormedPart};
-ghost use Rattle.delta_blob.specs.Patch.{Means, schemas_in};
+ghost use Rattle.delta_blob.specs.Patch.{Means, NamesOnce, schemas_in};
 ghost use Rattle.delta_blob.specs.Reads.{AreOfModel, IsWholePart, KeepsCounts};
 ghost use Rattle.delta_blob.specs.declared.patch.PatchPart.{PatchPart};
 
 use crate::part::{DeltaPart, DeltaParts};
 use crate::patch::{PatchPart, PatchParts};
+use blob_faults::counts_fault;
 use blob_frame::BlobFault;
 use hol_varint::{Duplicate, Ordinals};
-use schema_model::{
-    Limit, MAX_ITEMS, MAX_ORDINALS, Model, ModelFault, Reason, Rule, Schema, Schemas, model_of,
-    same_schema,
-};
+use schema_model::{Model, ModelFault, Reason, Rule, Schema, Schemas, model_of, same_schema};
 use std::alloc::{AllocError, Global};
 
 /// The types of a delta as those of a model, within the limits.
 ///
-/// `Bad` with `BadSchema` names the first type whose name stands earlier or that has a field twice, `OtherModel` the first one whose schema
-/// is not the model's of its name, `Large` a limit that is passed.
+/// `Bad` with `BadSchema` names the first type whose name stands earlier or that has a field twice. Where there is none `OtherModel` names the
+/// first type whose schema is not the model's of its name, and else `Large` the first limit that is passed.
 pub(crate) fn parts_of(
     alloc: Global,
     parts: DeltaParts,
     model: &Model,
 ) -> Result<PatchParts, BlobFault>
     requires { All IsWellFormedPart parts }
-    ensures tells { MatchResult result (AreOfModel model.now parts) (Refuses (List PatchPart) (AreOfModel model.now parts)) }
+    ensures found { IfOk result (AreOfModel model.now parts) }
+    ensures blames { AreSpelled parts → IfErr result (Blames (parts_in model.now parts) IsFree) }
+    ensures kind { IfErr result IsTypesFault }
+    ensures model { IsModel model.now }
     ensures whole { IfOk result (All (IsWholePart model.now)) }
 {
     let indexes = indexes_of(alloc, parts.as_slice(), model)?;
@@ -39,8 +43,10 @@ pub(crate) fn parts_of(
 
 // The index in the model of each type. No two types have one name, and each has the schema of the model.
 fn indexes_of(alloc: Global, parts: &[DeltaPart], model: &Model) -> Result<Ordinals, BlobFault>
-    ensures tells { MatchResult result (AreAmong model.now parts.now) (Refuses (List ℕ) (AreAmong model.now parts.now)) }
-    ensures model { IfOk result (λ indexes. IsModel model.now) }
+    ensures found { IfOk result (AreAmong model.now parts.now) }
+    ensures blames { AreSpelled parts.now → IfErr result (Blames (parts_in model.now parts.now) IsFree) }
+    ensures kind { IfErr result IsTypesFault }
+    ensures model { IsModel model.now }
 {
     let mut indexes = Ordinals::with_capacity(alloc, model.len() as usize)?;
     for part in parts {
@@ -74,7 +80,8 @@ fn has_number(numbers: &[u32], number: u32) -> bool
 
 // The fault of types of which this schema is not that of the model, or stands twice.
 fn unlike(alloc: Global, parts: &[DeltaPart], schema: &Schema) -> BlobFault
-    ensures { IsUnlike parts.now result }
+    ensures tells { AreSpelled parts.now → IsUnlike parts.now schema.now.name result }
+    ensures kind { IsTypesFault result }
 {
     if let Err(fault) = check_names(alloc, parts) {
         return fault;
@@ -87,7 +94,8 @@ fn unlike(alloc: Global, parts: &[DeltaPart], schema: &Schema) -> BlobFault
 
 // Tries the names of the types and of their fields, where there are few enough types and fields and no name is too long, as in a blob.
 fn check_names(alloc: Global, parts: &[DeltaPart]) -> Result<(), BlobFault>
-    ensures { IfErr result (IsUnlike parts.now) }
+    ensures tells { AreSpelled parts.now → MatchResult result (λ done. NamesOnce parts.now) (Blames (names_in parts.now) IsFree) }
+    ensures kind { IfErr result IsTypesFault }
 {
     let mut schemas = Schemas::new(alloc);
     for part in parts {
@@ -102,7 +110,8 @@ fn check_names(alloc: Global, parts: &[DeltaPart]) -> Result<(), BlobFault>
 // What a fault of the model of all schemas says of their names. The other rules are not those of a delta.
 fn names_fault(parts: &[DeltaPart], fault: ModelFault) -> Result<(), BlobFault>
     requires { TellsFault (schemas_in parts.now) fault }
-    ensures { IfErr result (IsUnlike parts.now) }
+    ensures tells { AreSpelled parts.now → MatchResult result (λ done. NamesOnce parts.now) (Blames (names_in parts.now) IsFree) }
+    ensures kind { IfErr result IsTypesFault }
 {
     match fault {
         ModelFault::Broken(rule, type_index) => match rule {
@@ -117,14 +126,11 @@ fn names_fault(parts: &[DeltaPart], fault: ModelFault) -> Result<(), BlobFault>
 
 // Tries in each type the limit on ordinals, and then that on elements or buckets.
 fn check_counts(parts: &[DeltaPart]) -> Result<(), BlobFault>
-    ensures { MatchResult result (λ done. All KeepsCounts parts.now) (Refuses (Unit {0}) (λ done. All KeepsCounts parts.now)) }
+    ensures { MatchResult result (λ done. All KeepsCounts parts.now) (counts_in parts.now).Fails }
 {
     for part in parts {
-        if part.section.max.is_some_and(|max| max >= MAX_ORDINALS) {
-            return Err(BlobFault::Large(Limit::Ordinals));
-        }
-        if part.section.total > MAX_ITEMS {
-            return Err(BlobFault::Large(Limit::Items));
+        if let Some(fault) = counts_fault(part.section.max, part.section.total) {
+            return Err(fault);
         }
     }
     Ok(())

@@ -19,9 +19,3 @@ refusal_of_blob name (fault.OtherOrigin found current) = Ok (other_origin name f
 refusal_of_blob name (fault.OtherModel type_name) = Ok (refusal.OtherModel name type_name)
 refusal_of_blob name fault.Store = Err stop.Store
 refusal_of_blob name fault.Memory = Err stop.Memory
-
--- the refusal for a fault of what stands behind its header: each fault is the one refusal
-abbrev pub refusal_of_body : BlobName → BlobFault → Result Refusal OrderStop
-refusal_of_body name fault.Store = Err stop.Store
-refusal_of_body name fault.Memory = Err stop.Memory
-refusal_of_body name _ = Ok (refusal.BadBody name)

@@ -12,7 +12,7 @@ use Rattle.schema_model.specs.Limit.{name_of_limit, number_of_limit}
 use Rattle.schema_model.specs.Reason.{number_of_reason}
 use Rattle.schema_model.specs.Rule.{name_of_rule}
 use Rattle.hol_answers.specs.declared.refusal.Refusal.{Refusal}
-use Rattle.hol_answers.specs.declared.refusal.Refusal.TheVariants.{BadOrder, LineTooLong, BadModel, NoModel, ModelFixed, BadRecord, BadVersion, TagUsed, NoBlob, BadBlob, OtherOrigin, NoState, NoType, NoRow, BadPath, NoMatch, Ambiguous, Mismatch, TooLarge, DuplicateRow, OtherModel, NotLast, NoIndex, WrongKind, BadKey, BadBody}
+use Rattle.hol_answers.specs.declared.refusal.Refusal.TheVariants.{BadOrder, LineTooLong, BadModel, NoModel, ModelFixed, BadRecord, BadVersion, TagUsed, NoBlob, BadBlob, OtherOrigin, NoState, NoType, NoRow, BadPath, NoMatch, Ambiguous, Mismatch, TooLarge, DuplicateRow, OtherModel, NotLast, NoIndex, WrongKind, BadKey}
 use Rattle.hol_answers.specs.declared.refusal.RefusedRecord.{RefusedRecord}
 use Rattle.hol_answers.specs.declared.refusal.ItemFault.{ItemFault}
 use Rattle.hol_answers.specs.declared.refusal.OriginFault.{OriginFault}
@@ -215,7 +215,6 @@ refusal_data (NotLast announced) = not_last_data announced
 refusal_data NoIndex = plain_data 32 (codes "NoIndex")
 refusal_data (WrongKind name) = type_data 33 (codes "WrongKind") name
 refusal_data BadKey = plain_data 34 (codes "BadKey")
-refusal_data (BadBody blob) = blob_data 92 (codes "BadBody") blob
 
 -- The line of a refusal: its JSON text without spaces, and a newline.
 abbrev pub refusal_line : Refusal → List ℕ

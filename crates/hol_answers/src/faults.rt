@@ -1,6 +1,6 @@
 //! The refusal of a blob, by its fault.
 ghost use Rattle.std.specs.Prelude.{◌≡◌};
-ghost use Rattle.hol_answers.specs.BlobRefusal.{refusal_of_blob, refusal_of_body};
+ghost use Rattle.hol_answers.specs.BlobRefusal.{refusal_of_blob};
 
 use crate::{ItemFault, OriginFault, Refusal, RowPlace};
 use blob_frame::BlobFault;
@@ -37,16 +37,5 @@ pub fn blob_refusal(name: &BlobName, fault: BlobFault) -> Result<Refusal, OrderS
         }),
         BlobFault::Store => Err(OrderStop::Store),
         BlobFault::Memory => Err(OrderStop::Memory),
-    }
-}
-
-/// The refusal of the blob of this name for a fault of what stands behind its header, or why the call stops. Which fault it is is not told.
-pub fn body_refusal(name: &BlobName, fault: BlobFault) -> Result<Refusal, OrderStop>
-    ensures { result ≡ refusal_of_body name.now fault }
-{
-    match fault {
-        BlobFault::Store => Err(OrderStop::Store),
-        BlobFault::Memory => Err(OrderStop::Memory),
-        _ => Ok(Refusal::BadBody(*name)),
     }
 }

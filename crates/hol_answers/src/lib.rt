@@ -11,7 +11,7 @@ mod refusal_json;
 mod reply;
 mod stat;
 
-pub use faults::{blob_refusal, body_refusal};
+pub use faults::blob_refusal;
 pub use line::put_line;
 pub use member::{Content, object_of};
 pub use plain::PlainValue;

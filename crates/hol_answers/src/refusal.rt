@@ -140,6 +140,4 @@ pub enum Refusal {
     WrongKind(Name),
     /// 34: the values are no key.
     BadKey,
-    /// 92: the blob's header can be read, but the rest of the blob is refused.
-    BadBody(BlobName),
 }

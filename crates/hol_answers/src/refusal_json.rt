@@ -43,7 +43,6 @@ pub fn refusal_value(alloc: Global, refusal: &Refusal) -> Result<Value, AllocErr
         Refusal::NoIndex => plain_value(alloc, 32, "NoIndex"),
         Refusal::WrongKind(name) => type_value(alloc, 33, "WrongKind", name),
         Refusal::BadKey => plain_value(alloc, 34, "BadKey"),
-        Refusal::BadBody(blob) => blob_value(alloc, 92, "BadBody", blob),
     }
 }
 

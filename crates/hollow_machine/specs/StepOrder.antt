@@ -1,17 +1,17 @@
 -- The order `step`: what it answers, and the machine behind it.
-use Rattle.std.specs.Prelude.{◌≡◌, ◌≢◌, ℕ, List, Option, Some, None, IsSomeAnd, if◌then◌else◌, nat_lt, false}
+use Rattle.std.specs.Prelude.{◌≡◌, ℕ, List, Option, Some, None, IsSomeAnd, if◌then◌else◌, nat_lt, false}
 use Rattle.hol_io.specs.declared.name.BlobName.{BlobName}
 use Rattle.hol_io.specs.declared.name.BlobName.TheVariants.{Delta, Reverse}
 use Rattle.hol_io.specs.Store.{told}
-use Rattle.blob_frame.specs.declared.header.Header.{Header}
-use Rattle.blob_frame.specs.Header.{HasHeader}
+use Rattle.blob_frame.specs.declared.fault.BlobFault.{BlobFault}
+use Rattle.read_engine.specs.Judged.{RefusesStep}
 use Rattle.read_engine.specs.Position.{Position}
 use Rattle.read_engine.specs.Taking.{StepsBy}
 use Rattle.hol_answers.specs.declared.refusal.Refusal.{Refusal}
-use Rattle.hol_answers.specs.declared.refusal.Refusal.TheVariants.{BadBody, NoState, OtherOrigin}
+use Rattle.hol_answers.specs.declared.refusal.Refusal.TheVariants.{NoState}
 use Rattle.hol_answers.specs.declared.reply.Reply.{Reply}
 use Rattle.hol_answers.specs.declared.reply.Reply.TheVariants.{Refused, Step}
-use Rattle.hollow_machine.specs.Blobs.{HeadRefusal}
+use Rattle.hollow_machine.specs.Blobs.{TellsOf}
 use Rattle.hollow_machine.specs.State.{Machine, with_consumer}
 use Rattle.hollow_machine.specs.Forms.{OrderForm}
 
@@ -19,24 +19,14 @@ use Rattle.hollow_machine.specs.Forms.{OrderForm}
 abbrev pub step_name : ℕ → ℕ → BlobName
 step_name from to = if nat_lt from to then Delta from to else Reverse from to
 
--- What the name holds has a header, and starts from the consumer's tag, but is no delta that the consumer can take.
-abbrev pub HasBadDelta : Option (List ℕ) → Position → Type 0
-HasBadDelta content now =
-    (header : Header) × (blob : List ℕ) × HasHeader content header × (content ≡ Some blob) × (header.origin ≡ now.tag)
-    × ((to : Position) → ¬ StepsBy blob now to)
-
--- Why what a name holds does not move a consumer: the first cause that there is no header; or it starts from another state; or else it is no delta
--- that fits.
+-- Why what a name holds does not move a consumer: its fault.
 abbrev pub DeltaRefusal : BlobName → Option (List ℕ) → Position → Refusal → Type 0
-DeltaRefusal name content now (OtherOrigin fault) =
-    (fault.blob ≡ name) × (fault.current ≡ now.tag) × (fault.found ≢ fault.current) × ((header : Header) × HasHeader content header × (header.origin ≡ fault.found))
-DeltaRefusal name content now (BadBody blob) = (blob ≡ name) × HasBadDelta content now
-DeltaRefusal name content now refusal = HeadRefusal name content refusal
+DeltaRefusal name content now refusal = (found : BlobFault) × RefusesStep name content now found × TellsOf name found refusal
 
--- Why the order is refused: the consumer has no state, or what there is to the blob.
+-- Why the order is refused: the consumer has no state, or the fault of the blob.
 abbrev pub StepRefusal : BlobName → Option (List ℕ) → Option Position → Refusal → Type 0
-StepRefusal name content consumer NoState = consumer ≡ None
-StepRefusal name content consumer refusal = IsSomeAnd consumer (λ now. DeltaRefusal name content now refusal)
+StepRefusal name content None refusal = refusal ≡ NoState
+StepRefusal name content (Some now) refusal = DeltaRefusal name content now refusal
 
 -- The consumer moves along the blob, to the tag of its destination, or the order is refused and all stays.
 abbrev pub StepStep : Machine → BlobName → Reply → Machine → Type 0

@@ -141,7 +141,7 @@ fill 255 0000000000000000
 holds snapshot-1
 input {"load":1}
 go 1 run
-out {"blob":"snapshot-1","error":92,"name":"BadBody"}
+out {"at":40,"blob":"snapshot-1","error":19,"name":"BadBlob","ordinal":2,"reason":51,"type":"A"}
 blob 00000406 0000000000000000 0000000000000047 10 01 00 'A 0001 'n 'INT 00 0000
 more 01 00 'A 0001 'n 'INT 020001 01 04 01 00000000000000FA 00 00000100 0000000000000003
 fill 255 0000000000000000
@@ -153,7 +153,7 @@ input {"load":1}
 input {"step":[1,2]}
 go 1 run
 out {"ok":"load","tag":71}
-out {"blob":"delta-1-2","error":92,"name":"BadBody"}
+out {"blob":"delta-1-2","error":30,"name":"OtherModel","type":"A"}
 # Lines that are no orders, and values of fields: out of range, of an odd number of digits, at their ends.
 empty
 input {"step":[1,1]}
@@ -197,7 +197,7 @@ go 1 run
 out {"ok":"load","tag":71}
 out {"blob":"delta-2-3","current":71,"error":20,"found":72,"name":"OtherOrigin"}
 out {"ok":"step","tag":72}
-out {"blob":"delta-2-3","error":92,"name":"BadBody"}
+out {"at":72,"blob":"delta-2-3","error":19,"name":"BadBlob","reason":40}
 out {"ok":"live","ordinals":[0,2]}
 # A source that fails at its second read: nothing is answered, and nothing is put.
 empty

@@ -9,13 +9,15 @@
 //! | `fill N PIECE` | and behind them this piece so many times |
 //! | `input TEXT`, `last TEXT` | the input of the next run goes on with this line, or with this text |
 //! | `again N TEXT` | and it goes on with this text so many times |
+//! | `each N TEXT`, `lines N TEXT` | the same with this text or this line, each time with its number, from 0 on, in place of the `#` in it |
 //! | `calls N..`, `piece N` | in the next run these calls of the source fail, or it gives so many bytes a call |
 //! | `reads N..`, `writes N..`, `room N` | in the next run these calls of the store or of the sink fail, or the sink takes so much |
 //! | `run STATUS WORDS` | the words of a command line end with this status |
 //! | `out TEXT`, `part TEXT` | and what they write is this line, or ends in this front of one |
+//! | `outs N TEXT` | and it is this line so many times, each time with its number in place of the `#` in it |
 //! | `size N` | and what they write has so many bytes |
 //! | `stuck N REASON` | `head` and `show` refuse the header: its item at this offset, for this reason |
-//! | `differs` | `show` ends well for the blob, and refuses the body of its faulty twin |
+//! | `differs TEXT` | `show` ends well for the blob, and writes this line of a refusal for its faulty twin |
 //!
 //! A piece is a run of hexadecimal digits or, behind a quote, a text with the length in front that a blob gives it. A
 //! piece `a/b` is `a` in the blob, and `b` in its faulty twin. A line that begins with `#`, and an empty one, says
@@ -26,9 +28,6 @@ use hollow_top::{Keep, Silent, run};
 use std::alloc::{AllocError, Global};
 use std::process::Abort;
 use std::test::Fail;
-
-/// The one line for a fault of a body.
-pub const BAD_BODY: &[u8] = b"{\"blob\":\"snapshot-1\",\"error\":92,\"name\":\"BadBody\"}\n";
 
 /// The format, an origin tag 0, a destination tag 71, an envelope without schemas, and no tags.
 const HEADER: &str = "00000406 0000000000000000 0000000000000047 00 0000";
@@ -117,12 +116,15 @@ impl Bench {
             b"input" => self.ask(rest, "\n"),
             b"last" => self.ask(rest, ""),
             b"again" => self.ask_again(rest),
+            b"each" => self.ask_each(rest, ""),
+            b"lines" => self.ask_each(rest, "\n"),
             b"run" => self.run(rest),
             b"out" => self.want(rest, "\n"),
+            b"outs" => self.want_each(rest, "\n"),
             b"part" => self.want(rest, ""),
             b"size" => self.measure(rest),
             b"stuck" => self.stuck(rest),
-            b"differs" => self.differs(),
+            b"differs" => self.differs(rest),
             _ => self.arrange(word, rest),
         }
     }
@@ -172,6 +174,18 @@ impl Bench {
             self.ask(text, "")?;
         }
         Ok(true)
+    }
+
+    // The input goes on with a text so many times, each time with its number.
+    fn ask_each(&mut self, rest: &str, end: &str) -> Result<bool, Fail> {
+        let text = numbered(self.alloc, rest, end)?;
+        self.ask(text.as_str(), "")
+    }
+
+    // A text is to have been written so many times, each time with its number.
+    fn want_each(&mut self, rest: &str, end: &str) -> Result<bool, Fail> {
+        let text = numbered(self.alloc, rest, end)?;
+        self.want(text.as_str(), "")
     }
 
     // What fails in the next run. Other words say nothing.
@@ -244,8 +258,8 @@ impl Bench {
         self.texts.0.as_slice()
     }
 
-    // More is to have been written.
-    fn want(&mut self, text: &str, end: &str) -> Result<bool, Fail> {
+    /// More is to have been written.
+    pub fn want(&mut self, text: &str, end: &str) -> Result<bool, Fail> {
         self.texts.1.extend_from_slice(text.as_bytes())?;
         self.texts.1.extend_from_slice(end.as_bytes())?;
         Ok(true)
@@ -272,13 +286,13 @@ impl Bench {
         self.want(line.as_str(), "")
     }
 
-    // The blob is shown, and its twin is refused.
-    fn differs(&mut self) -> Result<bool, Fail> {
+    // The blob is shown, and its twin is refused with this line.
+    fn differs(&mut self, line: &str) -> Result<bool, Fail> {
         let sound = self.blob()?;
         let faulty = self.faulty_blob()?;
         let shown = self.answer("show snapshot-1", sound.as_slice())?;
         let refused = self.answer("show snapshot-1", faulty.as_slice())?;
-        self.texts.1.extend_from_slice(BAD_BODY)?;
+        self.want(line, "\n")?;
         Ok(shown == 0 && refused == 1 && self.is_settled())
     }
 }
@@ -290,6 +304,18 @@ fn words_of(alloc: Global, line: &str) -> Result<Vec<String>, AllocError> {
         words.push(String::from_str(alloc, word)?)?;
     }
     Ok(words)
+}
+
+// A text so many times, each time with its number in place of the `#` in it, and with this end.
+fn numbered(alloc: Global, rest: &str, end: &str) -> Result<String, Fail> {
+    let (count, text) = rest.split_once(' ').unwrap_or((rest, ""));
+    let (front, back) = text.split_once('#').unwrap_or((text, ""));
+    let mut all = String::new(alloc);
+    for number in 0..count.parse::<u32>()? {
+        let one = format!(in alloc; "{front}{number}{back}{end}")?;
+        all.push_str(one.as_str())?;
+    }
+    Ok(all)
 }
 
 // Adds the bytes of a piece.

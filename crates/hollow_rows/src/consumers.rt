@@ -271,7 +271,7 @@ input {"live":"A"}
 input {"past":"A"}
 go 1 run
 out {"ok":"load","tag":71}
-out {"blob":"delta-1-2","error":92,"name":"BadBody"}
+out {"at":40,"blob":"delta-1-2","error":19,"name":"BadBlob","ordinal":5,"reason":51,"type":"A"}
 out {"ok":"live","ordinals":[0,1]}
 out {"ok":"past","rows":[]}
 # A live ordinal is added.
@@ -283,7 +283,7 @@ input {"live":"A"}
 input {"past":"A"}
 go 1 run
 out {"ok":"load","tag":71}
-out {"blob":"delta-1-2","error":92,"name":"BadBody"}
+out {"at":40,"blob":"delta-1-2","error":19,"name":"BadBlob","ordinal":1,"reason":51,"type":"A"}
 out {"ok":"live","ordinals":[0,1]}
 out {"ok":"past","rows":[]}
 # An ordinal above the max ordinal is added.
@@ -295,7 +295,7 @@ input {"live":"A"}
 input {"past":"A"}
 go 1 run
 out {"ok":"load","tag":71}
-out {"blob":"delta-1-2","error":92,"name":"BadBody"}
+out {"at":40,"blob":"delta-1-2","error":19,"name":"BadBlob","ordinal":3,"reason":51,"type":"A"}
 out {"ok":"live","ordinals":[0,1]}
 out {"ok":"past","rows":[]}
 # A max ordinal below an added one.
@@ -307,7 +307,7 @@ input {"live":"A"}
 input {"past":"A"}
 go 1 run
 out {"ok":"load","tag":71}
-out {"blob":"delta-1-2","error":92,"name":"BadBody"}
+out {"at":40,"blob":"delta-1-2","error":19,"name":"BadBlob","ordinal":2,"reason":51,"type":"A"}
 out {"ok":"live","ordinals":[0,1]}
 out {"ok":"past","rows":[]}
 # A removed list that is no list of gaps.
@@ -319,7 +319,7 @@ input {"live":"A"}
 input {"past":"A"}
 go 1 run
 out {"ok":"load","tag":71}
-out {"blob":"delta-1-2","error":92,"name":"BadBody"}
+out {"at":59,"blob":"delta-1-2","error":19,"name":"BadBlob","reason":42}
 out {"ok":"live","ordinals":[0,1]}
 out {"ok":"past","rows":[]}
 # A width over 64.
@@ -331,7 +331,7 @@ input {"live":"A"}
 input {"past":"A"}
 go 1 run
 out {"ok":"load","tag":71}
-out {"blob":"delta-1-2","error":92,"name":"BadBody"}
+out {"at":62,"blob":"delta-1-2","error":19,"name":"BadBlob","reason":48}
 out {"ok":"live","ordinals":[0,1]}
 out {"ok":"past","rows":[]}
 # A width that does not hold a row that stays.
@@ -343,7 +343,7 @@ input {"live":"A"}
 input {"past":"A"}
 go 1 run
 out {"ok":"load","tag":71}
-out {"blob":"delta-1-2","error":92,"name":"BadBody"}
+out {"at":40,"blob":"delta-1-2","error":19,"name":"BadBlob","ordinal":0,"reason":48,"type":"A"}
 out {"ok":"live","ordinals":[0,1]}
 out {"ok":"past","rows":[]}
 # Too few words.
@@ -355,7 +355,7 @@ input {"live":"A"}
 input {"past":"A"}
 go 1 run
 out {"ok":"load","tag":71}
-out {"blob":"delta-1-2","error":92,"name":"BadBody"}
+out {"at":63,"blob":"delta-1-2","error":19,"name":"BadBlob","reason":49}
 out {"ok":"live","ordinals":[0,1]}
 out {"ok":"past","rows":[]}
 # The end is missing.
@@ -367,7 +367,7 @@ input {"live":"A"}
 input {"past":"A"}
 go 1 run
 out {"ok":"load","tag":71}
-out {"blob":"delta-1-2","error":92,"name":"BadBody"}
+out {"at":72,"blob":"delta-1-2","error":19,"name":"BadBlob","reason":40}
 out {"ok":"live","ordinals":[0,1]}
 out {"ok":"past","rows":[]}
 # A byte too many.
@@ -379,7 +379,7 @@ input {"live":"A"}
 input {"past":"A"}
 go 1 run
 out {"ok":"load","tag":71}
-out {"blob":"delta-1-2","error":92,"name":"BadBody"}
+out {"at":73,"blob":"delta-1-2","error":19,"name":"BadBlob","reason":50}
 out {"ok":"live","ordinals":[0,1]}
 out {"ok":"past","rows":[]}
 # Another schema of the name.
@@ -391,7 +391,7 @@ input {"live":"A"}
 input {"past":"A"}
 go 1 run
 out {"ok":"load","tag":71}
-out {"blob":"delta-1-2","error":92,"name":"BadBody"}
+out {"blob":"delta-1-2","error":30,"name":"OtherModel","type":"A"}
 out {"ok":"live","ordinals":[0,1]}
 out {"ok":"past","rows":[]}
 # The sound twin, and after it a step that is refused: the state before stays too.
@@ -432,7 +432,7 @@ out {"ok":"load","tag":71}
 out {"error":28,"limit":1048576,"name":"TooLarge","what":"nodes"}
 out {"ok":"row","row":{}}
 out {"ok":"live","ordinals":[0]}
-# A snapshot that is none: its header is told, and of what stands behind it that it is refused. The state stays.
+# A snapshot that is none: its first fault is told. The state stays.
 empty
 input {"model":[{"fields":[{"name":"n","type":"INT"}],"kind":"OBJECT","name":"A"}]}
 input {"cycle":{"add":{"A":[{"n":5},{"n":null}]},"tag":71,"version":1}}
@@ -457,7 +457,7 @@ holds snapshot-2
 input {"load":2}
 input {"live":"A"}
 go 1 run
-out {"blob":"snapshot-2","error":92,"name":"BadBody"}
+out {"at":39,"blob":"snapshot-2","error":19,"name":"BadBlob","reason":40}
 out {"error":21,"name":"NoState"}"#;
 
 #[test]

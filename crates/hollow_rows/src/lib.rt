@@ -12,11 +12,15 @@ mod consumers;
 #[cfg(test)]
 mod cycles;
 #[cfg(test)]
+mod firsts;
+#[cfg(test)]
 mod guide;
 #[cfg(test)]
 mod heads;
 #[cfg(test)]
 mod kinds;
+#[cfg(test)]
+mod large;
 #[cfg(test)]
 mod limits;
 #[cfg(test)]

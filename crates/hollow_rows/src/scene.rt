@@ -9,7 +9,7 @@
 //! | `has NAME` | a name of it holds just the blob |
 //! | `told TEXT` | it announces this text |
 //! | `names NAME..` | it has these names alone, in their order |
-//! | `moves` | behind a load of snapshot-1, a step along the blob as delta-1-2 is taken, and one along its faulty twin is refused for its body |
+//! | `moves TEXT` | behind a load of snapshot-1, a step along the blob as delta-1-2 is taken, and one along its faulty twin answers this line |
 use crate::case::{Bench, put_numbers};
 use hol_io::{BlobName, BlobStore, name_text, parse_name};
 use hol_memory::MemStore;
@@ -20,17 +20,11 @@ use std::test::Fail;
 /// A load, and a step from it.
 const MOVE: [&str; 2] = [r#"input {"load":1}"#, r#"input {"step":[1,2]}"#];
 
-/// What they answer where the step is taken.
-const TAKEN: [&str; 2] = [
-    r#"out {"ok":"load","tag":71}"#,
-    r#"out {"ok":"step","tag":72}"#,
-];
+/// What the load answers.
+const LOADED: &str = r#"out {"ok":"load","tag":71}"#;
 
-/// What they answer where the body of the delta is refused.
-const REFUSED: [&str; 2] = [
-    r#"out {"ok":"load","tag":71}"#,
-    r#"out {"blob":"delta-1-2","error":92,"name":"BadBody"}"#,
-];
+/// What the step answers where it is taken.
+const TAKEN: &str = r#"{"ok":"step","tag":72}"#;
 
 /// A bench, and a store that stays.
 #[derive(Drop)]
@@ -63,7 +57,7 @@ impl Scene {
             b"has" => self.has(rest),
             b"told" => self.is_told(rest),
             b"names" => self.has_names(rest),
-            b"moves" => self.moves(),
+            b"moves" => self.moves(rest),
             _ => self.bench.step(line),
         }
     }
@@ -112,26 +106,25 @@ impl Scene {
         Ok(settled && ended == status.parse::<u8>()?)
     }
 
-    // A step along the blob is taken, and one along its faulty twin is refused.
-    fn moves(&mut self) -> Result<bool, Fail> {
+    // A step along the blob is taken, and one along its faulty twin is refused with this line.
+    fn moves(&mut self, line: &str) -> Result<bool, Fail> {
         let settled = self.bench.is_settled();
         let sound = self.bench.blob()?;
         let faulty = self.bench.faulty_blob()?;
         let taken = self.comes_to(sound.as_slice(), TAKEN)?;
-        let refused = self.comes_to(faulty.as_slice(), REFUSED)?;
+        let refused = self.comes_to(faulty.as_slice(), line)?;
         Ok(settled && taken && refused)
     }
 
-    // Whether a load and a step along this delta answer that.
-    fn comes_to(&mut self, delta: &[u8], lines: [&str; 2]) -> Result<bool, Fail> {
+    // Whether a step along this delta, behind a load, answers this line.
+    fn comes_to(&mut self, delta: &[u8], line: &str) -> Result<bool, Fail> {
         self.put("delta-1-2", delta)?;
         for order in MOVE {
             self.bench.step(order)?;
         }
         self.bench.answer_over("run", &mut self.store)?;
-        for line in lines {
-            self.bench.step(line)?;
-        }
+        self.bench.step(LOADED)?;
+        self.bench.want(line, "\n")?;
         Ok(self.bench.is_settled())
     }
 

@@ -300,16 +300,16 @@ out {"ordinal":2,"row":{"b":false,"i":-3,"l":7,"o":"00","r":0,"t":"é"},"type":"
 # A BOOLEAN that is none, texts that end past the bytes or before they begin, and a text that is no units.
 types 02 00 'T 0000 020001 02 00 00000001 0000000000000007
 more 00 'A 0006 'r 'REFERENCE 'T 'i 'INT 'l 'LONG 'b 'BOOLEAN 't 'STRING 'o 'BYTES 020001 00 02 04 05 02 04 03 01 0000000000024BEA/00000000000253EA 00 00 00 00 04 48698169 02 FF00 00000001 0000000000000001
-differs
+differs {"at":47,"blob":"snapshot-1","error":19,"name":"BadBlob","ordinal":0,"reason":52,"type":"A"}
 types 02 00 'T 0000 020001 02 00 00000001 0000000000000007
 more 00 'A 0006 'r 'REFERENCE 'T 'i 'INT 'l 'LONG 'b 'BOOLEAN 't 'STRING 'o 'BYTES 020001 00 02 04 05 02 04 03 01 0000000000024BEA/000000000002ABEA 00 00 00 00 04 48698169 02 FF00 00000001 0000000000000001
-differs
+differs {"at":47,"blob":"snapshot-1","error":19,"name":"BadBlob","ordinal":0,"reason":54,"type":"A"}
 types 02 00 'T 0000 020001 02 00 00000001 0000000000000007
 more 00 'A 0006 'r 'REFERENCE 'T 'i 'INT 'l 'LONG 'b 'BOOLEAN 't 'STRING 'o 'BYTES 020001 01 02 04 05 02 04 03 01 000000B5FFF24BEA/000000A3FFF24BEA 00 00 00 00 04 48698169 02 FF00 00000001 0000000000000003
-differs
+differs {"at":47,"blob":"snapshot-1","error":19,"name":"BadBlob","ordinal":1,"reason":54,"type":"A"}
 types 02 00 'T 0000 020001 02 00 00000001 0000000000000007
 more 00 'A 0006 'r 'REFERENCE 'T 'i 'INT 'l 'LONG 'b 'BOOLEAN 't 'STRING 'o 'BYTES 020001 00 02 04 05 02 04 03 01 0000000000024BEA/0000000000026BEA 00 00 00 00 04 48698169 02 FF00 00000001 0000000000000001
-differs
+differs {"at":47,"blob":"snapshot-1","error":19,"name":"BadBlob","ordinal":0,"reason":53,"type":"A"}
 # Sets and a map as words.
 types 02 00 'N 0000 020001 04 00 00000001 000000000000001F
 more 01 'S 'N 020001 00 03 02 02 04 01 0000000000000014 01 000000000000001F 00000001 0000000000000001
@@ -332,33 +332,33 @@ out {"ordinal":0,"row":[[0,1]],"type":"M"}
 # No sets: of another size, out of reach, with an element twice, of three buckets, of five, and with one out of reach behind others.
 types 02 00 'N 0000 020001 04 00 00000001 000000000000001F
 more 01 'S 'N 020001 00 03 02 02 04 01 0000000000000014/000000000000000C 01 000000000000001F/000000000000001F 00000001 0000000000000001
-differs
+differs {"at":47,"blob":"snapshot-1","error":19,"name":"BadBlob","ordinal":0,"reason":55,"type":"S"}
 types 02 00 'N 0000 020001 04 00 00000001 000000000000001F
 more 01 'S 'N 020001 00 03 02 02 04 01 0000000000000014/0000000000000014 01 000000000000001F/000000000000007C 00000001 0000000000000001
-differs
+differs {"at":47,"blob":"snapshot-1","error":19,"name":"BadBlob","ordinal":0,"reason":55,"type":"S"}
 types 02 00 'N 0000 020001 04 00 00000001 000000000000001F
 more 01 'S 'N 020001 00 03 02 02 04 01 0000000000000014/0000000000000014 01 000000000000001F/000000000000000F 00000001 0000000000000001
-differs
+differs {"at":47,"blob":"snapshot-1","error":19,"name":"BadBlob","ordinal":0,"reason":55,"type":"S"}
 types 02 00 'N 0000 020001 04 00 00000001 000000000000001F
 more 01 'S 'N 020001 00 03 02 02 04 01 0000000000000014/0000000000000013 01 000000000000001F/000000000000001F 00000001 0000000000000001
-differs
+differs {"at":47,"blob":"snapshot-1","error":19,"name":"BadBlob","ordinal":0,"reason":55,"type":"S"}
 types 02 00 'N 0000 020001 04 00 00000001 000000000000001F
 more 01 'S 'N 020001 00 03 02 02 04 01 0000000000000014/0000000000000015 01 000000000000001F/000000000000001F 00000001 0000000000000001
-differs
+differs {"at":47,"blob":"snapshot-1","error":19,"name":"BadBlob","ordinal":0,"reason":54,"type":"S"}
 types 02 00 'N 0000 020001 07 00 00000001 00000000000000FF
 more 01 'S 'N 020001 00 03 03 03 04 01 0000000000000014/0000000000000024 01 000000000000007F/0000000000000688 00000001 0000000000000001
-differs
+differs {"at":47,"blob":"snapshot-1","error":19,"name":"BadBlob","ordinal":0,"reason":55,"type":"S"}
 # A run that is full.
 types 02 00 'N 0000 020001 04 00 00000001 000000000000001F
 more 01 'S 'N 020001 00 03 03 03 04 01 000000000000001C/0000000000000024 01 0000000000000057/0000000000000053 00000001 0000000000000001
-differs
+differs {"at":47,"blob":"snapshot-1","error":19,"name":"BadBlob","ordinal":0,"reason":55,"type":"S"}
 # Lists as words: one of three, a pointer below the one before or past the total, and elements of no bits.
 types 02 00 'N 0000 020001 04 00 00000001 000000000000001F
 more 02 'L 'N 020001 01 04 04 03 01 0000000000000033/0000000000000023 01 0000000000000321 00000001 0000000000000003
-differs
+differs {"at":47,"blob":"snapshot-1","error":19,"name":"BadBlob","ordinal":1,"reason":54,"type":"L"}
 types 02 00 'N 0000 020001 04 00 00000001 000000000000001F
 more 02 'L 'N 020001 01 04 04 03 01 0000000000000033/0000000000000043 01 0000000000004321 00000001 0000000000000003
-differs
+differs {"at":47,"blob":"snapshot-1","error":19,"name":"BadBlob","ordinal":1,"reason":54,"type":"L"}
 types 02 00 'N 0000 020001 04 00 00000001 000000000000001F
 more 02 'L 'N 020001 00 04 04 03 01 0000000000000003 01 0000000000000321 00000001 0000000000000001
 run 0 show snapshot-1
@@ -380,11 +380,11 @@ out {"ordinal":0,"row":[0],"type":"L"}
 out {"ordinal":1,"row":[0],"type":"L"}
 # An INT and a STRING; a live ordinal without a place, a text that ends past the bytes, and an INT that the width does not hold.
 types 01 00 'A 0002 'n 'INT 's 'STRING 020001 02 04 04 01 00000000004F202A 00 04 48698169 00000001 0000000000000005/0000000000000009
-differs
+differs {"at":24,"blob":"snapshot-1","error":19,"name":"BadBlob","ordinal":3,"reason":51,"type":"A"}
 types 01 00 'A 0002 'n 'INT 's 'STRING 020001 02 04 04 01 00000000004F202A/00000000005F202A 00 04 48698169 00000001 0000000000000005
-differs
+differs {"at":24,"blob":"snapshot-1","error":19,"name":"BadBlob","ordinal":2,"reason":54,"type":"A"}
 types 01 00 'A 0002 'n 'INT 's 'STRING 020001 02 04 04 01 00000000004F202A/00000000004F004A 00 04 48698169 00000001 0000000000000005
-differs
+differs {"at":24,"blob":"snapshot-1","error":19,"name":"BadBlob","ordinal":2,"reason":48,"type":"A"}
 types 01 00 'A 0002 'n 'INT 's 'STRING 020001 02 04 04 01 00000000004F202A 00 04 48698169 00000001 0000000000000005
 run 0 show snapshot-1
 out {"ordinal":0,"row":{"n":5,"s":"Hi"},"type":"A"}

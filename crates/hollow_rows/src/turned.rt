@@ -17,19 +17,19 @@ out {"changed":["A"],"ok":"cycle","published":true,"version":2}"#;
 const DELTA: &str =
     "blob 0000040600000000000000470000000000000048100100000141000100016E0003494E540000000100000141000100016E0003494E5402000102010101020401000000000000000100";
 
-/// What a step along the delta comes to where a bit of it is turned, byte by byte, the least bit of each first: `h` a fault of the header, `o`
-/// another origin, `b` a fault of the body, `k` a step.
+/// What a step along the delta comes to where a bit of it is turned, byte by byte, the least bit of each first: `h` a fault at a place, `o` another
+/// origin, `m` another model, `k` a step.
 const TURNED: &str =
     "hhhhhhhh hhhhhhhh hhhhhhhh hhhhhhhh oooooooo oooooooo oooooooo oooooooo oooooooo oooooooo oooooooo oooooooo \
     kkkkkkkk kkkkkkkk kkkkkkkk kkkkkkkk kkkkkkkk kkkkkkkk kkkkkkkk kkkkkkkk kkkkhkkh hhhhhhhh hhhhhhhh hhhhhhhh \
     hhhhhhhh kkkkkkkh hhhhhhhh hhhhhhhh hhhhhhhh hhhhhhhh kkkkkkkh hhhhhhhh hhhhhhhh hhhhhhhh hhhhhhhh hhhhhhhh \
-    hhhhhbhh hhhhhhhh hhhhhhhh bbbbbbbb bbbbbbbb bbbbbbbb bbbbbbbb bbbbbbbb bbbbbbbb bbbbbbbb bbbbbbbb bbbbbbbb \
-    bbbbbbbb bbbbbbbb bbbbbbbb bbbbbbbb bbbbbbbb bbbbbbbb kbkkkkkb bbbbbbbb bbbbbbbb kbkkkkkb bbbbbbbb kbbbbbbb \
-    bbbbbbbb bbbbbbbb kkbkkkbb bbbbbbbb kkkkkkkk kkkkkkkk kkkkkkkk kkkkkkkk kkkkkkkk kkkkkkkk kkkkkkkk kkkkkkkk \
-    bbbbbbbb";
+    hhhhhhhh hhhhhhhh hhhhhhhh hhhhhhhh hhhhhhhh hhhhhhhh hhhhhhhh mmmmmmmh hhhhhhhh hhhhhhhh hhhhhhhh hhhhhhhh \
+    mmmmmmmh hhhhhhhh hhhhhhhh hhhhhhhh hhhhhhhh hhhhhhhh khkkkkkh hhhhhhhh hhhhhhhh khkkkkkh hhhhhhhh khhhhhhh \
+    hhhhhhhh hhhhhhhh kkhkkkhh hhhhhhhh kkkkkkkk kkkkkkkk kkkkkkkk kkkkkkkk kkkkkkkk kkkkkkkk kkkkkkkk kkkkkkkk \
+    hhhhhhhh";
 
 /// The same where the delta ends behind so many bytes, from none on.
-const CUT: &str = "hhhhhhhhhhhhhhhhhhhhhhhhhhhhhhhhhhhhhhhbbbbbbbbbbbbbbbbbbbbbbbbbbbbbbbbbb";
+const CUT: &str = "hhhhhhhhhhhhhhhhhhhhhhhhhhhhhhhhhhhhhhhhhhhhhhhhhhhhhhhhhhhhhhhhhhhhhhhhh";
 
 /// The orders over each such delta.
 const ORDERS: [&str; 3] = [
@@ -43,7 +43,7 @@ fn begin_of(kind: u8) -> &'static str {
     match kind {
         b'h' => r#"{"at":"#,
         b'o' => r#"{"blob":"delta-1-2","current":71,"error":20,"found":"#,
-        b'b' => r#"{"blob":"delta-1-2","error":92,"name":"BadBody"}"#,
+        b'm' => r#"{"blob":"delta-1-2","error":30,"name":"OtherModel","type":""#,
         _ => r#"{"ok":"step","tag":"#,
     }
 }

@@ -14,17 +14,19 @@ use Rattle.schema_model.specs.declared.schema.Schema.{Schema}
 use Rattle.schema_model.specs.declared.schema.Shape.{Shape}
 use Rattle.type_state.specs.State.{Half}
 use Rattle.type_state.specs.Views.{table_of}
+use Rattle.blob_frame.specs.declared.fault.BlobFault.{BlobFault}
 use Rattle.blob_frame.specs.declared.header.Header.{Header}
 use Rattle.blob_frame.specs.Header.{header, HeaderIs, HasHeader}
 use Rattle.snapshot_blob.specs.declared.part.TypePart.{TypePart}
+use Rattle.snapshot_blob.specs.Judged.{snapshot_of}
 use Rattle.snapshot_blob.specs.Snapshot.{SnapshotIs, IsAccepted}
+use Rattle.read_engine.specs.Judged.{RefusesLoad}
 use Rattle.json_rows.specs.StoredRow.{IsRowData}
 use Rattle.hol_answers.specs.declared.reply.Reply.{Reply}
 use Rattle.hol_answers.specs.declared.reply.Reply.TheVariants.{Head, Refused}
 use Rattle.hol_answers.specs.declared.refusal.Refusal.{Refusal}
-use Rattle.hol_answers.specs.declared.refusal.Refusal.TheVariants.{BadBody}
 use Rattle.hollow_machine.proofs.Refusals.{head_apart, one_head_refusal, one_header, one_snapshot_refusal, some_one}
-use Rattle.hollow_machine.specs.Blobs.{HasBadBody, HeadRefusal, SnapshotRefusal}
+use Rattle.hollow_machine.specs.Blobs.{SnapshotRefusal}
 use Rattle.hollow_machine.specs.MakeCommand.{Makes}
 use Rattle.hollow_machine.specs.Script.{Script}
 use Rattle.hollow_machine.specs.State.{Machine, started}
@@ -48,10 +50,10 @@ abbrev pub IsOneSnapshot : Type 0
 IsOneSnapshot = (blob : List ℕ) (a b : Header) (ps qs : List TypePart) (s t : List Schema) (x y : List Half) →
     SnapshotIs blob a ps s x → SnapshotIs blob b qs t y → (a ≡ b) × (ps ≡ qs) × (s ≡ t) × (x ≡ y)
 
--- a snapshot begins with its header
-abbrev pub BeginsWithHeader : Type 0
-BeginsWithHeader = (blob : List ℕ) (head : Header) (schemas : List Schema) (halves : List Half) → IsAccepted blob head schemas halves →
-    (n : ℕ) × HeaderIs blob n head × (length blob ≤ number_of_limit limit.Blob)
+-- a snapshot that is accepted has no fault
+abbrev pub IsNoFault : Type 0
+IsNoFault = (blob : List ℕ) (head : Header) (schemas : List Schema) (halves : List Half) (found : BlobFault) → IsAccepted blob head schemas halves →
+    (snapshot_of blob).Fails found → ⊥
 
 module _ (name : BlobName) where
   one_head : (content : Option (List ℕ)) (one other : Reply) → HeadIs name content one → HeadIs name content other → one ≡ other
@@ -97,26 +99,11 @@ rows_once prints snapshots content one other (blob, head, schemas, halves, there
     let here = subst (λ (rows : List Listed). AreLinesOf rows other) (λ i. rows_in_order (equal.2 i) (table_of (equal.3 i))) lines' in
     lines_once prints (rows_in_order schemas (table_of halves)) one other lines here
 
-snapshot_head : BeginsWithHeader → (content : Option (List ℕ)) (text : List ℕ) → ShowsRows content text → (head : Header) × HasHeader content head
-snapshot_head begins content text (blob, head, schemas, halves, there, accepted, lines) =
-    let (n, stands, short) = begins blob head schemas halves accepted in
-    (head, (blob, n, there, short, stands))
-
--- a refusal of `show` is one of the header, or that of a bad body
-shown_refusals : (name : BlobName) (content : Option (List ℕ)) (refusal : Refusal) → SnapshotRefusal name content refusal →
-    HeadRefusal name content refusal ⊎ ((refusal ≡ BadBody name) × HasBadBody content)
-shown_refusals name content (BadBody other) is = inr (ap BadBody is.0, is.1)
-shown_refusals name content _ is = inl is
-
-module _ (prints : PrintsOnce) (snapshots : IsOneSnapshot) (begins : BeginsWithHeader) (name : BlobName) (content : Option (List ℕ)) where
+module _ (prints : PrintsOnce) (snapshots : IsOneSnapshot) (taken : IsNoFault) (name : BlobName) (content : Option (List ℕ)) where
   -- what is shown is no refusal
   not_refused : (text : List ℕ) (refusal : Refusal) → ShowsRows content text → SnapshotRefusal name content refusal → ⊥
-  not_refused text refusal shows refuses =
-      elim (shown_refusals name content refusal refuses) [
-        | inl head ↦ (let h = snapshot_head begins content text shows in head_apart name content h.0 refusal h.1 head)
-        | inr body ↦ (
-            let (header, blob, has, there, never) = body.1 in never shows.1 shows.2 shows.3 (subst (λ b. IsAccepted b shows.1 shows.2 shows.3) (some_one content shows.0 blob shows.4 there) shows.5))
-      ]
+  not_refused text refusal (blob, head, schemas, halves, there, accepted, lines) (found, fails, is) =
+      taken blob head schemas halves found accepted (subst (λ (c : Option (List ℕ)). RefusesLoad name c found) there fails)
 
   one_shown : (one other : List ℕ) (refused also : Bool) → ShowsContent name content one refused → ShowsContent name content other also → (one ≡ other) × (refused ≡ also)
   one_shown one other false false a b = (rows_once prints snapshots content one other a b, refl)
@@ -146,7 +133,7 @@ made_text makes store seed rows cycles one other refused also next after (a, a_i
     (one_is ∙ ap line_of same ∙ sym other_is, refused_is ∙ ap is_refusal same ∙ sym also_is, machines)
 
 -- a command writes one text, and leaves one machine
-module _ (prints : PrintsOnce) (snapshots : IsOneSnapshot) (begins : BeginsWithHeader) (scripts : IsOneScript) (makes : IsOneMake) (input : Option (List ℕ)) (store : Store) where
+module _ (prints : PrintsOnce) (snapshots : IsOneSnapshot) (taken : IsNoFault) (scripts : IsOneScript) (makes : IsOneMake) (input : Option (List ℕ)) (store : Store) where
   pub one_text : (asked : Command) (one other : List ℕ) (refused also : Bool) (next after : Machine) → Writes input store asked one refused next →
       Writes input store asked other also after → (one ≡ other) × (refused ≡ also) × (next ≡ after)
   one_text command.Run one other refused also next after a b = script_text scripts input store one other refused also next after a b
@@ -154,7 +141,7 @@ module _ (prints : PrintsOnce) (snapshots : IsOneSnapshot) (begins : BeginsWithH
       let same = one_line (HeadIs name (told (Some store) name)) (one_head name (told (Some store) name)) one other refused also a.0 b.0 in
       (same.0, same.1, a.1 ∙ sym b.1)
   one_text (command.Show version) one other refused also next after a b =
-      let same = one_shown prints snapshots begins (Snapshot version) (told (Some store) (Snapshot version)) one other refused also a.0 b.0 in
+      let same = one_shown prints snapshots taken (Snapshot version) (told (Some store) (Snapshot version)) one other refused also a.0 b.0 in
       (same.0, same.1, a.1 ∙ sym b.1)
   one_text (command.Make seed rows cycles) one other refused also next after a b = made_text makes store seed rows cycles one other refused also next after a b
 

@@ -18,13 +18,19 @@ use Rattle.type_rows.specs.Loads.{SectionIs}
 use Rattle.type_state.specs.State.{Half}
 use Rattle.type_state.specs.Views.{table_of}
 use Rattle.blob_grammar.specs.Decided.{AreBytes, IsDecided}
+use Rattle.blob_frame.specs.declared.fault.BlobFault.{BlobFault}
+use Rattle.blob_frame.specs.declared.fault.BlobFault.TheVariants as fault
 use Rattle.blob_frame.specs.declared.header.Header.{Header}
 use Rattle.blob_frame.specs.Header.{header}
+use Rattle.blob_faults.specs.Deciding.{IsOwn}
 use Rattle.snapshot_blob.specs.declared.part.TypePart.{TypePart}
-use Rattle.snapshot_blob.specs.Snapshot.{IsAccepted, IsRefused}
+use Rattle.snapshot_blob.specs.Judged.{snapshot_of}
+use Rattle.snapshot_blob.specs.Snapshot.{IsAccepted}
 use Rattle.snapshot_blob.specs.Stated.{TypeIs, schemas_of}
-use Rattle.hol_answers.specs.declared.refusal.Refusal.TheVariants.{NoBlob, TooLarge, BadBody}
-use Rattle.hol_answers.specs.Refusal.{bad_item, refusal_line}
+use Rattle.hol_answers.specs.declared.refusal.Refusal.{Refusal}
+use Rattle.hol_answers.specs.declared.refusal.Refusal.TheVariants.{BadBlob, NoBlob, OtherModel, TooLarge}
+use Rattle.hol_answers.specs.Refusal.{bad_item, other_origin, refusal_line}
+use Rattle.hollow_machine.specs.Blobs.{TellsOf}
 use Rattle.hol_answers.specs.declared.reply.Reply.{Reply}
 use Rattle.hol_answers.specs.declared.reply.Reply.TheVariants.{Head, Refused}
 use Rattle.hollow_machine.specs.State.{started}
@@ -34,7 +40,6 @@ use Rattle.hollow_top.specs.Head.{HeadIs}
 use Rattle.hol_answers.specs.Reply.{is_refusal, line_of}
 use Rattle.hollow_top.specs.RowLines.{AreLinesOf, AreRowLines, rows_in_order}
 use Rattle.hollow_top.specs.Show.{ShowsContent}
-use Rattle.hollow_top.proofs.Shown.{head_shown}
 use Rattle.hollow_top.proofs.SortedRows.{each_found}
 use Rattle.hollow_top.proofs.Walks.{FitsEach, FitTypes, sorted_entries, types_have_lines}
 
@@ -71,26 +76,38 @@ accepted_lines fits blob head schemas halves (parts, is, keeps) =
     let lines = types_have_lines (zip (schemas_of parts) (table_of halves)) (parts_fit fits parts halves is.state.types) in
     (lines.0, subst (λ (named : List Schema). AreLinesOf (rows_in_order named (table_of halves)) lines.0) is.state.named lines.1)
 
+-- the refusal for a fault of a blob
+refusal_for : (name : BlobName) (found : BlobFault) → IsOwn found → (refusal : Refusal) × TellsOf name found refusal
+refusal_for name (fault.NoBlob other) own = (NoBlob name, refl)
+refusal_for name (fault.Large what) own = (TooLarge what, refl)
+refusal_for name (fault.Bad at reason) own = (bad_item name at reason, refl)
+refusal_for name (fault.BadRow at reason of ordinal) own = (BadBlob (record { blob = name; at = at; reason = reason; row = Some (record { type_name = of; ordinal = ordinal }) }), refl)
+refusal_for name (fault.OtherOrigin origin current) own = (other_origin name origin current, refl)
+refusal_for name (fault.OtherModel of) own = (OtherModel name of, refl)
+refusal_for name fault.Store own = absurd own
+refusal_for name fault.Memory own = absurd own
+
+-- a blob of bytes is a snapshot, or has a fault: that it is neither cannot be
+abbrev pub IsSettled : Type 0
+IsSettled = (blob : List ℕ) → AreBytes blob → ((head : Header) (schemas : List Schema) (halves : List Half) → IsAccepted blob head schemas halves → ⊥) →
+    ((found : BlobFault) → (snapshot_of blob).Fails found → ⊥) → ⊥
+
 -- that nothing is shown cannot be
-shown_some : IsDecided header.Stands header.Stuck → FitsRows → (name : BlobName) (content : Option (List ℕ)) → IfSome content AreBytes →
+shown_some : IsSettled → FitsRows → (name : BlobName) (content : Option (List ℕ)) → IfSome content AreBytes →
     ((text : List ℕ) (refused : Bool) → ShowsContent name content text refused → ⊥) → ⊥
-shown_some decided fits name content bytes none = let some = head_some decided name content bytes in with_reply some.0 some.1
-  where
-    with_reply : (reply : Reply) → HeadIs name content reply → ⊥
-    with_reply (Refused refusal) is = none (refusal_line refusal) true (refusal, head_shown name content refusal is, refl)
-    with_reply (Head h) is =
-        let never : IsRefused is.0 = λ head schemas halves accepted.
-        (let lines = accepted_lines fits is.0 head schemas halves accepted in none lines.0 false (is.0, head, schemas, halves, is.2, accepted, lines.1)) in
-        none (refusal_line (BadBody name)) true (BadBody name, (refl, (h, is.0, is, is.2, never)), refl)
-    with_reply _ is = absurd is
+shown_some settled fits name None bytes none = none (refusal_line (NoBlob name)) true (NoBlob name, (fault.NoBlob name, refl, refl), refl)
+shown_some settled fits name (Some blob) bytes none =
+    settled blob bytes
+    (λ head schemas halves accepted. let lines = accepted_lines fits blob head schemas halves accepted in none lines.0 false (blob, head, schemas, halves, refl, accepted, lines.1))
+    (λ found fails. let told_so = refusal_for name found ((snapshot_of blob).decided.own found fails) in none (refusal_line told_so.0) true (told_so.0, (found, fails, told_so.1), refl))
 
 pub some_head : IsDecided header.Stands header.Stuck → (input : Option (List ℕ)) (store : Store) (blob : BlobName) → HoldsBytes store → WritesSome input store (command.Head blob)
 some_head decided input store blob bytes =
     let some = head_some decided blob (told (Some store) blob) (bytes blob) in
     (line_of some.0, is_refusal some.0, (started store, ((some.0, some.1, refl, refl), refl)))
 
-pub some_show : IsDecided header.Stands header.Stuck → FitsRows → (input : Option (List ℕ)) (store : Store) (version : ℕ) → HoldsBytes store →
+pub some_show : IsSettled → FitsRows → (input : Option (List ℕ)) (store : Store) (version : ℕ) → HoldsBytes store →
     (WritesSome input store (command.Show version) → ⊥) → ⊥
-some_show decided fits input store version bytes none =
-    shown_some decided fits (Snapshot version) (told (Some store) (Snapshot version)) (bytes (Snapshot version))
+some_show settled fits input store version bytes none =
+    shown_some settled fits (Snapshot version) (told (Some store) (Snapshot version)) (bytes (Snapshot version))
     (λ text refused shows. none (text, refused, (started store, (shows, refl))))

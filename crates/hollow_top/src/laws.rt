@@ -24,7 +24,7 @@ pub fn one_answer()
         → (one ≡ other) × (refused ≡ also) × (next ≡ after) }
 {
     snapshot_blob::laws::one_snapshot();
-    snapshot_blob::laws::header_and_body();
+    snapshot_blob::laws::one_fault();
     json_rows::laws::one_row_value();
     chain_laws::laws::one_make();
     chain_laws::laws::one_script();
@@ -38,5 +38,6 @@ pub fn some_answer()
         → (WritesSome input store (Command.Show version) → ⊥) → ⊥ }
 {
     blob_frame::laws::one_header();
+    snapshot_blob::laws::some_fault();
     type_rows::laws::rows_fit();
 }

@@ -7,16 +7,14 @@ ghost use Rattle.hollow_top.specs.Stopping.{GainsFront, IsVerdict, Leaves};
 use crate::answer::write_reply;
 use crate::row_lines::show_rows;
 use crate::stop::Stop;
-use blob_cursor::opened;
-use hol_answers::{Reply, blob_refusal, body_refusal};
+use hol_answers::{Reply, blob_refusal};
 use hol_io::{BlobName, BlobStore, Sink};
-use snapshot_blob::{laws, read_body};
+use snapshot_blob::read_snapshot;
 use std::alloc::Global;
 
 /// Writes a line for each row of the snapshot of a version, types in model order and the ordinals of each type rising,
-/// or the one line of a refusal: `NoBlob`, `TooLarge` and `BadBlob` as of `head`, and `BadBody` where the header can be
-/// read and the blob is no snapshot, or passes a limit. It tells whether it was refused. Where memory is refused, the
-/// sink has a front of what was to be written.
+/// or the one line of a refusal, with the first fault of the blob: `NoBlob`, `TooLarge` or `BadBlob`. It tells whether
+/// it was refused. Where memory is refused, the sink has a front of what was to be written.
 pub fn show<O: Sink, S: BlobStore>(
     alloc: Global,
     version: u64,
@@ -35,16 +33,11 @@ pub fn show<O: Sink, S: BlobStore>(
         (λ held. GainsFront (Shows held version) (O.taken out.old) (O.taken out.new)) }
 {
     let name = BlobName::Snapshot(version);
-    laws::header_and_body();
-    let (_header, mut cursor) = match opened(alloc, store, &name) {
-        Ok(opened) => opened,
-        Err(fault) => return write_reply(alloc, Reply::Refused(blob_refusal(&name, fault)?), out),
-    };
-    match read_body(alloc, &mut cursor, store) {
-        Ok(body) => {
-            show_rows(alloc, &body.rows(), out)?;
+    match read_snapshot(alloc, store, &name) {
+        Ok(loaded) => {
+            show_rows(alloc, &loaded.rows(), out)?;
             Ok(false)
         }
-        Err(fault) => write_reply(alloc, Reply::Refused(body_refusal(&name, fault)?), out),
+        Err(fault) => write_reply(alloc, Reply::Refused(blob_refusal(&name, fault)?), out),
     }
 }

@@ -1,6 +1,6 @@
 -- What a step tells, of a consumer by the tag and the model that it shows: those of its position, where it has one.
-use Rattle.std.proofs.Common.{◌≡◌, ◌⊎◌, inl, inr, ℕ, ℤ, List, Option, Some, None, Result, Ok, Err, IfErr, IfSome, subst, sym}
-use Rattle.std.specs.Prelude.{All, IsSomeAnd}
+use Rattle.std.proofs.Common.{◌≡◌, ◌⊎◌, inl, inr, ℕ, ℤ, List, [], ◌∷◌, Option, Some, None, Result, Ok, Err, IfErr, IfSome, subst, sym}
+use Rattle.std.specs.Prelude.{All, IsSomeAnd, OnErr}
 use Rattle.hol_io.specs.declared.name.BlobName.{BlobName}
 use Rattle.hol_io.specs.Store.{Store, told}
 use Rattle.schema_model.specs.declared.schema.Schema.{Schema}
@@ -8,16 +8,25 @@ use Rattle.blob_frame.specs.declared.fault.BlobFault.{BlobFault}
 use Rattle.blob_frame.specs.declared.fault.BlobFault.TheVariants as fault
 use Rattle.delta_blob.specs.declared.patch.Patch.{Patch}
 use Rattle.delta_blob.specs.declared.patch.PatchPart.{PatchPart}
-use Rattle.delta_blob.specs.Reads.{IsDeltaFault, IsWholePart, TellsDelta}
-use Rattle.state_moves.specs.declared.fault.MoveFault.{MoveFault}
-use Rattle.state_moves.specs.declared.fault.MoveFault.TheVariants as move_fault
-use Rattle.state_moves.specs.Moving.{TellsRefusal}
-use Rattle.read_engine.specs.Faults.{step_fault}
-use Rattle.read_engine.specs.Position.{IsPosition, Position}
-use Rattle.read_engine.specs.Taken.{CountsTaken, IsNotTaken, IsTaken}
+use Rattle.blob_faults.specs.Judge.{◌>>=◌, each_of, item_at, nothing}
+use Rattle.blob_faults.specs.Rows.{closed, moves}
+use Rattle.delta_blob.specs.Reads.{IsCountLimit, IsDeltaFault, IsWholePart, TellsDelta}
+use Rattle.row_model.specs.Table.{RowMap, Table}
+use Rattle.row_faults.specs.MoveFault.{FailsMove}
+use Rattle.schema_model.specs.declared.limit.Limit.{Limit}
+use Rattle.schema_model.specs.declared.limit.Limit.TheVariants.{Bytes, Items, Ordinals, Words}
+use Rattle.schema_model.specs.declared.schema.Shape.{Shape}
+use Rattle.schema_model.specs.declared.schema.name.Name.{Name}
+use Rattle.snapshot_blob.specs.Stated.{IsTypeLimit}
+use Rattle.state_moves.specs.Judged.{IsFreeMove, part_moves, state_moved}
+use Rattle.blob_faults.specs.Blame.{row_blame}
+use Rattle.type_rows.specs.declared.fault.RowFault.{RowFault}
+use Rattle.type_rows.specs.declared.patch.PatchSection.{PatchSection}
+use Rattle.read_engine.specs.Position.{IsPosition, Position, rows_now}
+use Rattle.read_engine.specs.Taken.{BlamesParts, CountsTaken, IsTaken, TellsTaken}
 use Rattle.read_engine.specs.Taking.{CountsPart, IsStepFault, TellsStep}
 use Rattle.read_engine.specs.Walking.{schemas_at, tag_at}
-use Rattle.read_engine.proofs.StepsTold.{OnceLaw, count_limit, move_limit, part_counted, refused_told, taken_told, untaken_told}
+use Rattle.read_engine.proofs.StepsTold.{part_counted, refused_told, taken_told, untaken_told}
 
 -- of one that has no state nothing is told
 nowhere : (held : Option Store) → IfSome held (λ store. Unit {0})
@@ -50,27 +59,44 @@ module _ (name : BlobName) (held : Option Store) (tag : ℤ) (schemas : List Sch
   unread None now tag_is schemas_are found answer is tells = nowhere held
   unread (Some from) now tag_is schemas_are found answer is tells = refused_told name from held now found answer is (of_position from (Err found) tag_is schemas_are tells)
 
-  module _ (once : OnceLaw) (patch : Patch) (read : Tells (Ok patch)) where
+  module _ (patch : Patch) (read : Tells (Ok patch)) where
     -- a delta whose parts are taken
-    pub taken : (old now : Option Position) → IfSome old IsPosition → tag ≡ tag_at old → schemas ≡ schemas_at old → IfSome old (λ from. IsSomeAnd now (IsTaken patch.destination patch.parts from))
+    taken : (old now : Option Position) → IfSome old IsPosition → tag ≡ tag_at old → schemas ≡ schemas_at old → IfSome old (λ from. IsSomeAnd now (IsTaken patch.destination patch.parts from))
         → IfSome held (λ store. IfSome old (λ from. TellsStep name (told held name) from now (Ok tt)))
     taken None now position tag_is schemas_are takes = nowhere held
     taken (Some from) None position tag_is schemas_are takes = absurd takes
-    taken (Some from) (Some to) position tag_is schemas_are takes = taken_told name from once position patch held to (of_position from (Ok patch) tag_is schemas_are read) takes
+    taken (Some from) (Some to) position tag_is schemas_are takes = taken_told name from position patch held to (of_position from (Ok patch) tag_is schemas_are read) takes
 
     -- a delta whose parts are not taken
-    pub untaken : (old now : Option Position) → IfSome old IsPosition → tag ≡ tag_at old → schemas ≡ schemas_at old → (moved : MoveFault) → IfSome old (λ from. TellsRefusal (IsNotTaken patch.parts from) moved)
-        → IfSome held (λ store. IfSome old (λ from. TellsStep name (told held name) from now (Err (step_fault patch.length moved))))
-    untaken None now position tag_is schemas_are moved refuses = nowhere held
-    untaken (Some from) now position tag_is schemas_are moved refuses = untaken_told name from once position patch held now moved (of_position from (Ok patch) tag_is schemas_are read) refuses
+    untaken : (old now : Option Position) → IfSome old IsPosition → tag ≡ tag_at old → schemas ≡ schemas_at old → (found : BlobFault) → IfSome old (BlamesParts patch.length patch.parts found)
+        → IfSome held (λ store. IfSome old (λ from. TellsStep name (told held name) from now (Err found)))
+    untaken None now position tag_is schemas_are found blames = nowhere held
+    untaken (Some from) now position tag_is schemas_are found blames = untaken_told name from position patch held now found (of_position from (Ok patch) tag_is schemas_are read) blames
 
     -- what is counted where memory is refused
-    pub counted : (old : Option Position) → IfSome old IsPosition → tag ≡ tag_at old → schemas ≡ schemas_at old → (before after : ℕ) → IfSome old (λ from. (after ≡ before) ⊎ CountsTaken patch.destination patch.parts from before after)
+    counted : (old : Option Position) → IfSome old IsPosition → tag ≡ tag_at old → schemas ≡ schemas_at old → (before after : ℕ) → IfSome old (λ from. (after ≡ before) ⊎ CountsTaken patch.destination patch.parts from before after)
         → IfSome held (λ store. IfSome old (λ from. (after ≡ before) ⊎ CountsPart (told held name) from before after))
     counted None position tag_is schemas_are before after counts = nowhere held
-    counted (Some from) position tag_is schemas_are before after counts = part_counted name from once position patch held before after (of_position from (Ok patch) tag_is schemas_are read) counts
+    counted (Some from) position tag_is schemas_are before after counts = part_counted name from position patch held before after (of_position from (Ok patch) tag_is schemas_are read) counts
+
+    -- what the answer to the move tells of the delta
+    pub moved_told : (old now : Option Position) → IfSome old IsPosition → tag ≡ tag_at old → schemas ≡ schemas_at old → (answer : Result (Unit {0}) BlobFault)
+        → IfSome old (λ from. TellsTaken patch.length patch.destination patch.parts from now answer) → IfSome held (λ store. IfSome old (λ from. TellsStep name (told held name) from now answer))
+    moved_told old now position tag_is schemas_are (Ok done) tells = taken old now position tag_is schemas_are tells
+    moved_told old now position tag_is schemas_are (Err found) tells = untaken old now position tag_is schemas_are found tells
+
+    pub counted_told : (old : Option Position) → IfSome old IsPosition → tag ≡ tag_at old → schemas ≡ schemas_at old → (before after : ℕ) (answer : Result (Unit {0}) BlobFault)
+        → OnErr answer (IfSome old (λ from. (after ≡ before) ⊎ CountsTaken patch.destination patch.parts from before after))
+        → OnErr answer (IfSome held (λ store. IfSome old (λ from. (after ≡ before) ⊎ CountsPart (told held name) from before after)))
+    counted_told old position tag_is schemas_are before after (Ok done) counts = tt
+    counted_told old position tag_is schemas_are before after (Err found) counts = counted old position tag_is schemas_are before after counts
 
 -- ---- which faults come
+
+count_limit : (limit : Limit) → IsCountLimit limit → IsTypeLimit limit
+count_limit Ordinals of = tt
+count_limit Items of = tt
+count_limit _ of = absurd of
 
 read_kind : (name : BlobName) (tag : ℤ) (found : BlobFault) → IsDeltaFault name tag found → IsStepFault name tag found
 read_kind name tag (fault.NoBlob other) kind = kind
@@ -89,9 +115,45 @@ pub delta_kind : (name : BlobName) (tag : ℤ) (old : Option Position) → tag �
 delta_kind name tag None tag_is found answer is kind = subst (λ (a : Result (Unit {0}) BlobFault). IfErr a (λ fault. Unit {0})) (sym is) tt
 delta_kind name tag (Some from) tag_is found answer is kind = subst (λ (a : Result (Unit {0}) BlobFault). IfErr a (IsStepFault name from.tag)) (sym is) (read_kind name from.tag found (subst (λ (t : ℤ). IsDeltaFault name t found) tag_is kind))
 
+-- rows that are not moved pass a limit on words or bytes, if any
+move_limit : (shape : Shape) (patch : PatchSection) (old : RowMap) (limit : Limit) → FailsMove shape patch old (RowFault.Limit limit) → IsTypeLimit limit
+move_limit shape patch old Words fails = tt
+move_limit shape patch old Bytes fails = tt
+move_limit shape patch old _ fails = absurd fails
+
+module _ (name : BlobName) (tag : ℤ) where
+  row_kind : (at : ℕ) (of : Name) (shape : Shape) (patch : PatchSection) (old : RowMap) (why : RowFault) → FailsMove shape patch old why → IsStepFault name tag (row_blame at of why)
+  row_kind at of shape patch old (RowFault.At reason ordinal) fails = tt
+  row_kind at of shape patch old (RowFault.Limit limit) fails = inr (move_limit shape patch old limit fails)
+  row_kind at of shape patch old RowFault.Memory fails = tt
+
+  part_kind : (schemas : List Schema) (table : Table) (part : PatchPart) (found : BlobFault) → (part_moves schemas table part).Fails found → IsStepFault name tag found
+  unfolding part_moves ◌>>=◌ item_at moves
+  part_kind schemas table part found (inl none) = absurd none
+  part_kind schemas table part found (inr (schema, at, (why, some, fails, is))) =
+      subst (IsStepFault name tag) (sym is) (row_kind part.at schema.name schema.shape part.section _ why fails)
+
+  parts_kind : (schemas : List Schema) (table : Table) (parts : List PatchPart) (found : BlobFault) → (each_of (part_moves schemas table) parts).Fails found → IsStepFault name tag found
+  unfolding each_of ◌>>=◌ nothing
+  parts_kind schemas table [] found none = absurd none
+  parts_kind schemas table (part ∷ parts) found (inl fails) = part_kind schemas table part found fails
+  parts_kind schemas table (part ∷ parts) found (inr (rows, passes, inl fails)) = parts_kind schemas table parts found fails
+  parts_kind schemas table (part ∷ parts) found (inr (rows, passes, inr none)) = absurd none.2
+
+  state_kind : (schemas : List Schema) (parts : List PatchPart) (size : ℕ) (table : Table) (found : BlobFault) → (state_moved schemas parts size table).Fails found → IsStepFault name tag found
+  unfolding state_moved ◌>>=◌ closed nothing
+  state_kind schemas parts size table found (inl fails) = parts_kind schemas table parts found fails
+  state_kind schemas parts size table found (inr (rows, passes, inl (row, tells, (at, schema, here, there, is)))) = subst (IsStepFault name tag) (sym is) tt
+  state_kind schemas parts size table found (inr (rows, passes, inr none)) = absurd none.2
+
+  free_kind : (found : BlobFault) → IsFreeMove found → IsStepFault name tag found
+  free_kind fault.Memory free = tt
+  free_kind _ free = absurd free
+
 -- the faults of the move
-pub moved_kind : (name : BlobName) (old : Option Position) (size : ℕ) (parts : Position → Type 0) (moved : MoveFault) → IfSome old (λ from. TellsRefusal (parts from) moved) → IfSome old (λ from. IsStepFault name from.tag (step_fault size moved))
-moved_kind name None size parts moved refuses = tt
-moved_kind name (Some from) size parts (move_fault.Refused why) refuses = tt
-moved_kind name (Some from) size parts (move_fault.Large limit) (of, refuses) = inr (move_limit limit of)
-moved_kind name (Some from) size parts move_fault.Memory refuses = tt
+pub moved_kind : (name : BlobName) (old now : Option Position) (size : ℕ) (tag : ℤ) (parts : List PatchPart) (answer : Result (Unit {0}) BlobFault) → IfSome old (λ from. TellsTaken size tag parts from now answer)
+    → IfErr answer (λ fault. IfSome old (λ from. IsStepFault name from.tag fault))
+moved_kind name old now size tag parts (Ok done) tells = tt
+moved_kind name None now size tag parts (Err found) tells = tt
+moved_kind name (Some from) now size tag parts (Err found) (inl fails) = state_kind name from.tag from.schemas parts size (rows_now from) found fails
+moved_kind name (Some from) now size tag parts (Err found) (inr free) = free_kind name from.tag found free

@@ -13,16 +13,17 @@ use Rattle.type_state.specs.Views.{table_of}
 use Rattle.delta_blob.specs.declared.patch.PatchPart.{PatchPart}
 use Rattle.key_index.specs.Indexed.{Indexed}
 use Rattle.state_moves.specs.Halves.{current_halves}
-use Rattle.state_moves.specs.declared.fault.MoveFault.{MoveFault}
-use Rattle.state_moves.specs.Moving.{RefusesParts, StaysCurrent, TellsRefusal}
+use Rattle.blob_frame.specs.declared.fault.BlobFault.{BlobFault}
+use Rattle.blob_faults.specs.Judge.{Blames}
+use Rattle.state_moves.specs.Judged.{IsFreeMove, state_moved}
+use Rattle.state_moves.specs.Moving.{StaysCurrent}
 use Rattle.state_moves.specs.Past.{PastPart, table_before}
 use Rattle.read_engine.specs.Indexes.{CountsStep}
 use Rattle.read_engine.specs.Kept.{IsKept, count_came, index_kept}
 use Rattle.read_engine.specs.Position.{IsOfType, IsPosition, Position, rows_now}
 use Rattle.read_engine.specs.Standing.{HasParts, IsStanding, position_of, stands_at}
-use Rattle.read_engine.specs.Taken.{CountsTaken, IsNotTaken, IsTaken, ReadsSome, TakesParts, TellsTaken}
+use Rattle.read_engine.specs.Taken.{BlamesParts, CountsTaken, IsTaken, ReadsSome, TakesParts, TellsTaken}
 use Rattle.read_engine.specs.Walking.{schemas_at, table_at, tag_at}
-use Rattle.state_moves.proofs.Moves.{refuses_as}
 use Rattle.state_moves.proofs.Tables.{current_at, row_of}
 use Rattle.read_engine.proofs.Taken.{counts_step, is_taken, part_counted, stands_after, stands_still}
 
@@ -189,12 +190,9 @@ module _ (held : Option ℤ) (schemas : List Schema) (before : List State) (kept
     pub step_counted : (was is : ℕ) → is ≡ was + sum_by (λ kept. count_came past kept.type_index) indexes → CountsStep to was is
     step_counted was is rose = given (CountsStep to was is) (λ other stands. counts_step tag other schemas parts before after kept past indexes moved stands takes same follow was is rose)
 
-  -- parts that are refused
-  pub not_taken : (parts : List PatchPart) (moved : MoveFault) → TellsRefusal (RefusesParts schemas parts before) moved → IfSome old (λ from. TellsRefusal (IsNotTaken parts from) moved)
-  not_taken parts moved refused =
-      each_position held schemas before kept indexes has old view (λ from. TellsRefusal (IsNotTaken parts from) moved)
-      (λ other stands.
-      refuses_as (RefusesParts schemas parts before) (IsNotTaken parts (position_of other schemas before kept indexes)) moved (λ why. (before, record { schemas = stands.named; halves = refl }, why)) refused)
+  -- parts that are at fault
+  pub not_taken : (size : ℕ) (parts : List PatchPart) (found : BlobFault) → Blames (state_moved schemas parts size (table_of (current_halves before))) IsFreeMove found → IfSome old (BlamesParts size parts found)
+  not_taken size parts found blames = each_position held schemas before kept indexes has old view (BlamesParts size parts found) (λ other stands. blames)
 
   -- nothing was counted, or what the step would count
   pub some_counted : (tag : ℤ) (parts : List PatchPart) (was is : ℕ) → (is ≡ was) ⊎ ReadsSome schemas parts before indexes was is → IfSome old (λ from. (is ≡ was) ⊎ CountsTaken tag parts from was is)
@@ -203,7 +201,7 @@ module _ (held : Option ℤ) (schemas : List Schema) (before : List State) (kept
       (λ other stands. part_counted tag other schemas parts before kept indexes stands was is reads (position_of other schemas before kept indexes) refl)
 
 -- what a fault tells of it
-pub tells_refusal : (tag : ℤ) (parts : List PatchPart) (old now : Option Position) (answer : Result (Unit {0}) MoveFault) (moved : MoveFault) → IsErrAnd answer (λ fault. fault ≡ moved) → IfSome old (λ from. TellsRefusal (IsNotTaken parts from) moved)
-    → IfSome old (λ from. TellsTaken tag parts from now answer)
-tells_refusal tag parts old now (Ok done) moved is refused = absurd is
-tells_refusal tag parts old now (Err fault) moved is refused = subst (λ (found : MoveFault). IfSome old (λ from. TellsRefusal (IsNotTaken parts from) found)) (sym is) refused
+pub tells_refusal : (size : ℕ) (tag : ℤ) (parts : List PatchPart) (old now : Option Position) (answer : Result (Unit {0}) BlobFault) (found : BlobFault) → IsErrAnd answer (λ fault. fault ≡ found) → IfSome old (BlamesParts size parts found)
+    → IfSome old (λ from. TellsTaken size tag parts from now answer)
+tells_refusal size tag parts old now (Ok done) found is blames = absurd is
+tells_refusal size tag parts old now (Err fault) found is blames = subst (λ (found : BlobFault). IfSome old (BlamesParts size parts found)) (sym is) blames

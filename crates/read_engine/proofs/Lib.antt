@@ -13,3 +13,4 @@ mod Places
 mod SteppedOnce
 mod StepsTold
 mod Taken
+pub mod TakenOrFault

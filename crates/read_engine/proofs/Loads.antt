@@ -1,5 +1,5 @@
 -- What a load leaves: where it stands, and what is told of the blob.
-use Rattle.std.proofs.Common.{◌≡◌, inl, inr, ℕ, ℤ, List, [], length, map, Option, Some, None, Result, Ok, Err, IfSome, refl, sym, ap, ◌∙◌, subst, lit≤, replicate}
+use Rattle.std.proofs.Common.{◌≡◌, ◌⊎◌, inl, inr, ℕ, ℤ, List, [], length, map, Option, Some, None, Result, Ok, Err, IfSome, refl, sym, ap, ◌∙◌, subst, lit≤, replicate}
 use Rattle.std.specs.List.{AllZip}
 use Rattle.std.proofs.lemmas.List.Elements.{All-nil}
 use Rattle.hol_io.specs.declared.name.BlobName.{BlobName}
@@ -19,7 +19,8 @@ use Rattle.read_engine.specs.Kept.{IsKept}
 use Rattle.read_engine.specs.Position.{IsIndexOf, IsPosition, Position}
 use Rattle.state_moves.specs.Halves.{current_halves}
 use Rattle.read_engine.specs.Standing.{IsStanding, position_of}
-use Rattle.read_engine.specs.Taking.{RefusesLoad, TellsLoaded, loaded_position}
+use Rattle.read_engine.specs.Judged.{RefusesLoad}
+use Rattle.read_engine.specs.Taking.{TellsLoaded, loaded_position}
 use Rattle.state_moves.proofs.Unchanged.{all_fit_none, same_table}
 
 -- ---- where a load stands
@@ -57,20 +58,10 @@ module _ (tag : ℤ) (body : Body) (states : List State) (past : List PastPart) 
 -- ---- what is told of the blob
 
 module _ (name : BlobName) where
-  free_told : (content : Option (List ℕ)) (found : BlobFault) → IsFree found → RefusesLoad name content found
-  free_told content fault.Store free = tt
-  free_told content fault.Memory free = tt
-  free_told content _ free = absurd free
-
-  refused : (content : Option (List ℕ)) (found : BlobFault) → TellsSnapshot name content (Err found) → RefusesLoad name content found
-  refused None found (inl is) = let same : found ≡ fault.NoBlob name = cc in subst (RefusesLoad name None) (sym same) (refl, refl)
-  refused None found (inr free) = free_told None found free
-  refused (Some blob) (fault.Large limit) tells = (blob, refl, tells)
-  refused (Some blob) (fault.Bad place why) tells = (blob, refl, tells)
-  refused (Some blob) (fault.BadRow place why of ordinal) tells = (blob, refl, tells)
-  refused (Some blob) fault.Store tells = tt
-  refused (Some blob) fault.Memory tells = tt
-  refused (Some blob) _ tells = absurd tells
+  refused : (content : Option (List ℕ)) (found : BlobFault) → TellsSnapshot name content (Err found) → RefusesLoad name content found ⊎ IsFree found
+  refused None found (inl is) = let same : found ≡ fault.NoBlob name = cc in inl same
+  refused None found (inr free) = inr free
+  refused (Some blob) found blames = blames
 
   -- a snapshot that is refused
   pub refused_told : (held : Option Store) (found : BlobFault) (answer : Result (Option Position) BlobFault) → answer ≡ Err found → IfSome held (λ store. TellsSnapshot name (told held name) (Err found))

@@ -23,7 +23,7 @@ use Rattle.delta_blob.specs.Patch.{PartIs, TypePatch}
 use Rattle.delta_blob.proofs.Indexed.{one_type}
 use Rattle.read_engine.specs.Position.{Position, IsPosition, rows_now}
 use Rattle.read_engine.specs.Taking.{StepsBy, layout_at}
-use Rattle.read_engine.proofs.StepsTold.{one_move, same_tables}
+use Rattle.read_engine.proofs.TakenOrFault.{one_move, same_tables}
 
 -- ---- one patch
 

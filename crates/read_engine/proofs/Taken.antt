@@ -1,6 +1,6 @@
 -- What a step takes and leaves.
 use Rattle.std.proofs.Common.{◌≡◌, ◌≤◌, ◌<◌, ◌+◌, ◌⊎◌, inl, inr, ℕ, ℤ, Bool, List, length, map, Result, Ok, Err, refl, sym, ap, ◌∙◌, subst, arith}
-use Rattle.std.specs.Prelude.{All, OnErr, sum_by}
+use Rattle.std.specs.Prelude.{All, IfErr, IsErrAnd, OnErr, sum_by}
 use Rattle.std.specs.List.{AllZip}
 use Rattle.schema_model.specs.declared.schema.Schema.{Schema}
 use Rattle.schema_model.specs.declared.limit.Limit.TheVariants.{Indexes}
@@ -26,6 +26,10 @@ use Rattle.read_engine.proofs.Follow.{KeyLaw, all_follow}
 pub on_err : {T E : Type 0} (r : Result T E) (P : Type 0) → P → OnErr r P
 on_err (Ok x) P p = tt
 on_err (Err e) P p = p
+
+pub err_exit : {T E : Type 0} (r : Result T E) (P : E → Type 0) (e : E) → IsErrAnd r (λ fault. fault ≡ e) → P e → IfErr r P
+err_exit (Ok x) P e is p = absurd is
+err_exit (Err fault) P e is p = subst P (sym is) p
 
 -- ---- before the moves
 

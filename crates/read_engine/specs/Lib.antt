@@ -1,6 +1,6 @@
-pub mod Faults
 pub mod Gone
 pub mod Indexes
+pub mod Judged
 pub mod Kept
 pub mod Position
 pub mod Standing

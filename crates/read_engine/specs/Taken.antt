@@ -2,11 +2,13 @@
 use Rattle.std.specs.Prelude.{◌≡◌, ◌≤◌, ◌+◌, ℕ, ℤ, Bool, List, Option, Result, Ok, Err, IsSomeAnd, map, sum_by}
 use Rattle.schema_model.specs.declared.schema.Schema.{Schema}
 use Rattle.type_state.specs.State.{State}
+use Rattle.blob_frame.specs.declared.fault.BlobFault.{BlobFault}
+use Rattle.blob_faults.specs.Judge.{Blames}
 use Rattle.delta_blob.specs.declared.patch.PatchPart.{PatchPart}
 use Rattle.key_index.specs.Indexed.{Indexed}
-use Rattle.state_moves.specs.declared.fault.MoveFault.{MoveFault}
 use Rattle.state_moves.specs.Halves.{current_halves}
-use Rattle.state_moves.specs.Moving.{MovesParts, RefusesParts, TellsRefusal, coming_halves}
+use Rattle.state_moves.specs.Judged.{IsFreeMove, state_moved}
+use Rattle.state_moves.specs.Moving.{MovesParts, coming_halves}
 use Rattle.state_moves.specs.Past.{PastPart}
 use Rattle.read_engine.specs.Indexes.{CountsAtMost}
 use Rattle.read_engine.specs.Kept.{count_came}
@@ -35,14 +37,14 @@ pub record IsTaken (tag : ℤ) (parts : List PatchPart) (from to : Position) : T
   pub moves : MovesParts from.schemas parts before mid named past
   pub is : to ≡ record { tag = tag; schemas = from.schemas; halves = coming_halves mid named; before = rows_now from; indexes = from.indexes }
 
--- A step from the position does not take the parts.
-abbrev pub IsNotTaken : List PatchPart → Position → Type 0
-IsNotTaken parts from = (states : List State) × AreAt from states × RefusesParts from.schemas parts states
+-- The parts, which stand in a blob of this length, do not move the rows of a position: they have this fault, or memory was refused.
+abbrev pub BlamesParts : ℕ → List PatchPart → BlobFault → Position → Type 0
+BlamesParts size parts found from = Blames (state_moved from.schemas parts size (rows_now from)) IsFreeMove found
 
 -- What each answer tells, of where the consumer stands then.
-abbrev pub TellsTaken : ℤ → List PatchPart → Position → Option Position → Result (Unit {0}) MoveFault → Type 0
-TellsTaken tag parts from now (Ok done) = IsSomeAnd now (IsTaken tag parts from)
-TellsTaken tag parts from now (Err fault) = TellsRefusal (IsNotTaken parts from) fault
+abbrev pub TellsTaken : ℕ → ℤ → List PatchPart → Position → Option Position → Result (Unit {0}) BlobFault → Type 0
+TellsTaken size tag parts from now (Ok done) = IsSomeAnd now (IsTaken tag parts from)
+TellsTaken size tag parts from now (Err found) = BlamesParts size parts found from
 
 -- The parts move the types, and a count of steps rose by at most the ordinals that come in the type of each index.
 pub record ReadsSome (schemas : List Schema) (parts : List PatchPart) (states : List State) (indexes : List Indexed) (before after : ℕ) : Type 0 where

@@ -5,7 +5,6 @@ use Rattle.std.specs.Option.{option_map}
 use Rattle.hol_io.specs.declared.name.BlobName.{BlobName}
 use Rattle.hol_io.specs.declared.name.BlobName.TheVariants.{Delta, Reverse}
 use Rattle.schema_model.specs.declared.limit.Limit.TheVariants.{Blob}
-use Rattle.schema_model.specs.declared.reason.Reason.{Reason}
 use Rattle.schema_model.specs.Limit.{number_of_limit}
 use Rattle.type_rows.specs.Layout.{Layout}
 use Rattle.type_state.specs.State.{Half}
@@ -13,20 +12,16 @@ use Rattle.type_state.specs.Views.{next_halves, table_of}
 use Rattle.blob_frame.specs.declared.fault.BlobFault.{BlobFault}
 use Rattle.blob_frame.specs.declared.fault.BlobFault.TheVariants as fault
 use Rattle.blob_frame.specs.declared.header.Header.{Header}
-use Rattle.blob_frame.specs.Header.{HasHeader, HeaderIs, StuckInHeader}
 use Rattle.blob_cursor.specs.Scene.{IsFree}
 use Rattle.snapshot_blob.specs.declared.body.Body.{Body}
-use Rattle.snapshot_blob.specs.Parts.{snapshot}
-use Rattle.snapshot_blob.specs.Snapshot.{IsAccepted, IsUnstated}
+use Rattle.snapshot_blob.specs.Snapshot.{IsAccepted}
 use Rattle.snapshot_blob.specs.Stated.{IsTypeLimit}
-use Rattle.delta_blob.specs.declared.part.DeltaPart.{DeltaPart}
 use Rattle.delta_blob.specs.Fits.{Fits}
 use Rattle.delta_blob.specs.Moved.{EachNamed, IsUnnamed, Moved}
-use Rattle.delta_blob.specs.Parts.{body}
 use Rattle.delta_blob.specs.Patch.{TypePatch, DeltaIs}
-use Rattle.delta_blob.specs.Reads.{IsBehind}
 use Rattle.delta_blob.specs.Within.{KeepItems, Within}
 use Rattle.read_engine.specs.Indexes.{CountsAtMost}
+use Rattle.read_engine.specs.Judged.{RefusesLoad, RefusesStep}
 use Rattle.read_engine.specs.Position.{Position, rows_now}
 
 -- The blob is a snapshot within the limits, and this is where a consumer stands that loads it: at the destination of its header, with its model,
@@ -64,44 +59,16 @@ IsStepName (Delta from to) = Unit {0}
 IsStepName (Reverse from to) = Unit {0}
 IsStepName _ = ⊥
 
--- The blob is not too large, has the syntax of a delta and starts from the consumer's tag, but it leads to no position.
-pub record IsUntaken (blob : List ℕ) (from : Position) : Type 0 where
-  pub short : length blob ≤ number_of_limit Blob
-  pub head : Header
-  pub place : ℕ
-  pub begins : HeaderIs blob place head
-  pub origin : head.origin ≡ from.tag
-  pub parts : List DeltaPart
-  pub types : body.Stands blob place parts (length blob)
-  pub never : (to : Position) → StepsBy blob from to → ⊥
-
--- What a fault of a load tells of what the name holds: there is nothing, it is too large, its first item that cannot be read, or that it has the
--- syntax of a snapshot and is none within the limits. Which fault of the last kind it is is not told.
-abbrev pub RefusesLoad : BlobName → Option (List ℕ) → BlobFault → Type 0
-RefusesLoad name content (fault.NoBlob other) = (other ≡ name) × (content ≡ None)
-RefusesLoad name content (fault.Large limit) =
-    (blob : List ℕ) × (content ≡ Some blob) × (((limit ≡ Blob) × (number_of_limit Blob < length blob)) ⊎ (IsTypeLimit limit × IsUnstated blob))
-RefusesLoad name content (fault.Bad place why) =
-    (blob : List ℕ) × (content ≡ Some blob) × (((length blob ≤ number_of_limit Blob) × snapshot.Stuck blob 0 place why) ⊎ IsUnstated blob)
-RefusesLoad name content (fault.BadRow place why of ordinal) = (blob : List ℕ) × (content ≡ Some blob) × IsUnstated blob
-RefusesLoad name content fault.Store = Unit {0}
-RefusesLoad name content fault.Memory = Unit {0}
-RefusesLoad name content _ = ⊥
-
 -- What each answer to a load tells of what the name holds, by the position behind it.
 abbrev pub TellsLoad : BlobName → Option (List ℕ) → Option Position → Result (Unit {0}) BlobFault → Type 0
 TellsLoad name content now (Ok done) = (blob : List ℕ) × (position : Position) × (content ≡ Some blob) × (now ≡ Some position) × LoadsFrom blob position
-TellsLoad name content now (Err fault) = RefusesLoad name content fault
+TellsLoad name content now (Err found) = RefusesLoad name content found ⊎ IsFree found
 
--- A load answers each of these exactly where it holds, but for the free answers: that it is done, that there is no blob, that it is too large,
--- and the first item that cannot be read.
+-- A load answers each of these exactly where it holds, but for the free answers: that it is done, and the fault of what the name holds.
 pub record LoadsExactly (name : BlobName) (content : Option (List ℕ)) (now : Option Position) (answer : Result (Unit {0}) BlobFault) : Type 0 where
   pub found : (blob : List ℕ) (position : Position) → content ≡ Some blob → LoadsFrom blob position
       → ((answer ≡ Ok tt) × (now ≡ Some position)) ⊎ IsErrAnd answer IsFree
-  pub absent : content ≡ None → (answer ≡ Err (fault.NoBlob name)) ⊎ IsErrAnd answer IsFree
-  pub large : (blob : List ℕ) → content ≡ Some blob → number_of_limit Blob < length blob → (answer ≡ Err (fault.Large Blob)) ⊎ IsErrAnd answer IsFree
-  pub stuck : (blob : List ℕ) (place : ℕ) (why : Reason) → content ≡ Some blob → length blob ≤ number_of_limit Blob → snapshot.Stuck blob 0 place why
-      → (answer ≡ Err (fault.Bad place why)) ⊎ IsErrAnd answer IsFree
+  pub fails : (found : BlobFault) → RefusesLoad name content found → (answer ≡ Err found) ⊎ IsErrAnd answer IsFree
 
 -- where a consumer stands that loads a body, with this tag
 abbrev pub loaded_position : ℤ → Body → Position
@@ -110,48 +77,23 @@ loaded_position tag body = record { tag = tag; schemas = body.model; halves = ne
 -- What the answer to a load that makes a consumer tells of what the name holds, by where that consumer stands.
 abbrev pub TellsLoaded : BlobName → Option (List ℕ) → Result (Option Position) BlobFault → Type 0
 TellsLoaded name content (Ok now) = TellsLoad name content now (Ok tt)
-TellsLoaded name content (Err fault) = RefusesLoad name content fault
-
--- What a fault of a step tells of what the name holds: there is nothing, it is too large, its first item that cannot be read, that it starts from
--- another state, or that it has the syntax of a delta from the state and leads nowhere. Which fault of the last kind it is is not told.
-abbrev pub RefusesStep : BlobName → Option (List ℕ) → Position → BlobFault → Type 0
-RefusesStep name content from (fault.NoBlob other) = (other ≡ name) × (content ≡ None)
-RefusesStep name content from (fault.Large limit) =
-    (blob : List ℕ) × (content ≡ Some blob) × (((limit ≡ Blob) × (number_of_limit Blob < length blob)) ⊎ (IsTypeLimit limit × IsUntaken blob from))
-RefusesStep name content from (fault.Bad place why) =
-    (blob : List ℕ) × (content ≡ Some blob)
-    × (((length blob ≤ number_of_limit Blob) × StuckInHeader blob place why) ⊎ (IsBehind blob from.tag (λ n. body.Stuck blob n place why) ⊎ IsUntaken blob from))
-RefusesStep name content from (fault.OtherOrigin found current) =
-    (head : Header) × HasHeader content head × (found ≡ head.origin) × (current ≡ from.tag) × (found ≢ current)
-RefusesStep name content from (fault.OtherModel of) = (blob : List ℕ) × (content ≡ Some blob) × IsUntaken blob from
-RefusesStep name content from fault.Store = Unit {0}
-RefusesStep name content from fault.Memory = Unit {0}
-RefusesStep name content from _ = ⊥
+TellsLoaded name content (Err found) = TellsLoad name content None (Err found)
 
 -- What each answer to a step tells of what the name holds, by the position before it and the one behind it.
 abbrev pub TellsStep : BlobName → Option (List ℕ) → Position → Option Position → Result (Unit {0}) BlobFault → Type 0
 TellsStep name content from now (Ok done) = (blob : List ℕ) × (to : Position) × (content ≡ Some blob) × (now ≡ Some to) × StepsBy blob from to
-TellsStep name content from now (Err fault) = RefusesStep name content from fault
+TellsStep name content from now (Err found) = RefusesStep name content from found ⊎ IsFree found
 
--- A step answers each of these exactly where it holds, but for the free answers: that it is done, that there is no blob, that it is too large,
--- the first item of the header that cannot be read, that the blob starts from another state, and the first item behind the header that cannot be
--- read.
+-- A step answers each of these exactly where it holds, but for the free answers: that it is done, and the fault of what the name holds.
 pub record StepsExactly (name : BlobName) (content : Option (List ℕ)) (from : Position) (now : Option Position) (answer : Result (Unit {0}) BlobFault) : Type 0 where
   pub found : (blob : List ℕ) (to : Position) → content ≡ Some blob → StepsBy blob from to → ((answer ≡ Ok tt) × (now ≡ Some to)) ⊎ IsErrAnd answer IsFree
-  pub absent : content ≡ None → (answer ≡ Err (fault.NoBlob name)) ⊎ IsErrAnd answer IsFree
-  pub large : (blob : List ℕ) → content ≡ Some blob → number_of_limit Blob < length blob → (answer ≡ Err (fault.Large Blob)) ⊎ IsErrAnd answer IsFree
-  pub no_header : (blob : List ℕ) (place : ℕ) (why : Reason) → content ≡ Some blob → length blob ≤ number_of_limit Blob → StuckInHeader blob place why
-      → (answer ≡ Err (fault.Bad place why)) ⊎ IsErrAnd answer IsFree
-  pub elsewhere : (head : Header) → HasHeader content head → head.origin ≢ from.tag → (answer ≡ Err (fault.OtherOrigin head.origin from.tag)) ⊎ IsErrAnd answer IsFree
-  pub stuck : (blob : List ℕ) (place : ℕ) (why : Reason) → content ≡ Some blob → IsBehind blob from.tag (λ n. body.Stuck blob n place why)
-      → (answer ≡ Err (fault.Bad place why)) ⊎ IsErrAnd answer IsFree
+  pub fails : (found : BlobFault) → RefusesStep name content from found → (answer ≡ Err found) ⊎ IsErrAnd answer IsFree
 
 -- The faults of a step along the blob of this name, from this tag.
 abbrev pub IsStepFault : BlobName → ℤ → BlobFault → Type 0
 IsStepFault name current (fault.NoBlob other) = other ≡ name
 IsStepFault name current (fault.Large limit) = (limit ≡ Blob) ⊎ IsTypeLimit limit
 IsStepFault name current (fault.OtherOrigin found at) = (at ≡ current) × (found ≢ current)
-IsStepFault name current (fault.BadRow place why of ordinal) = ⊥
 IsStepFault name current _ = Unit {0}
 
 -- The name holds a blob that leads to a position, and a count of steps rose by at most what the step there counts.

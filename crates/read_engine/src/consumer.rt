@@ -85,9 +85,10 @@ impl Consumer {
 
     /// Loads the state of the snapshot of a version, in place of the state that it has; the rows before it are the same, and no index is kept.
     ///
-    /// `NoBlob` comes exactly where the store has no such name, `Large` with `Blob` exactly where the blob has more than 2^28 bytes, and `Bad`
-    /// with the first item that cannot be read, if there is one. Where all can be read, any of `Bad`, `BadRow` and `Large` says only that the
-    /// blob is no snapshot within the limits. `Store` comes only where the store's count of faults rose. After a fault everything is as before.
+    /// `NoBlob` comes exactly where the store has no such name, and any other fault exactly where it is that of the first thing which fails of
+    /// what is tried of the blob: its length (`Large` with `Blob`), its items, its schemas, and type by type the limits on ordinals and items
+    /// (`Large`), the rows (`BadRow`, or `Large` with `Words` or `Bytes`), and at last whether they are closed (`BadRow`). But `Memory` may come
+    /// in place of any answer, and `Store` comes only where the store's count of faults rose. After a fault everything is as before.
     pub fn load<S: BlobStore>(&mut self, store: &mut S, version: u64) -> Result<(), BlobFault>
         ensures tells { IfSome (S.seen store.old).held (λ held. TellsLoad (Snapshot version) (told (S.seen store.old).held (Snapshot version)) self.new result) }
         ensures exact { IfSome (S.seen store.old).held (λ held. LoadsExactly (Snapshot version) (told (S.seen store.old).held (Snapshot version)) self.new result) }
@@ -107,11 +108,12 @@ impl Consumer {
 
     /// Moves its state by the delta or the reverse delta of a name; the rows before it are then those that it had.
     ///
-    /// `NoBlob` comes exactly where the store has no such name, `Large` with `Blob` exactly where the blob has more than 2^28 bytes, `Bad` with
-    /// the first item of the header that cannot be read, then `OtherOrigin` with both tags exactly where the blob starts from another tag than
-    /// that of the state, and then `Bad` with the first item behind the header that cannot be read. Where all can be read, any of `Bad`,
-    /// `OtherModel` and `Large` says only that the blob is no delta that moves the state within the limits. `Store` comes only where the store's
-    /// count of faults rose. After a fault everything is as before, the rows before the last step too.
+    /// `NoBlob` comes exactly where the store has no such name, and any other fault exactly where it is that of the first thing which fails of
+    /// what is tried of the blob: its length (`Large` with `Blob`), its header (`Bad`), the tag that it starts from (`OtherOrigin`), its items and
+    /// that no name stands twice (`Bad`), type by type that it is one of the model (`OtherModel`), then the limits on ordinals and items
+    /// (`Large`), then that it moves the rows (`BadRow`, or `Large` with `Words` or `Bytes`), and at last whether the rows are closed (`BadRow`).
+    /// But `Memory` may come in place of any answer, and `Store` comes only where the store's count of faults rose. After a fault everything is
+    /// as before, the rows before the last step too.
     ///
     /// The indexes stay, and answer of the new rows. A step is counted for each ordinal that comes in the type of each index. After want of
     /// memory no more are, and only where the blob moves the state; after another fault none is.

@@ -4,10 +4,11 @@ ghost use Rattle.hol_io.specs.Causes.{Rose};
 ghost use Rattle.hol_io.specs.Store.{told};
 ghost use Rattle.row_model.specs.Table.{IsClosed, IsTableOf};
 ghost use Rattle.type_state.specs.Views.{table_of};
+ghost use Rattle.blob_faults.specs.Judge.{Blames};
 ghost use Rattle.delta_blob.specs.Reads.{IsWholePart};
 ghost use Rattle.state_moves.specs.Halves.{current_halves};
-ghost use Rattle.state_moves.specs.Moving.{RefusesParts, StaysCurrent, TellsRefusal};
-ghost use Rattle.read_engine.specs.Faults.{step_fault};
+ghost use Rattle.state_moves.specs.Judged.{IsFreeMove, state_moved};
+ghost use Rattle.state_moves.specs.Moving.{StaysCurrent};
 ghost use Rattle.read_engine.specs.Indexes.{CountsStep};
 ghost use Rattle.read_engine.specs.Kept.{IsKept, count_came, index_kept};
 ghost use Rattle.read_engine.specs.Position.{IsPosition};
@@ -22,7 +23,7 @@ use delta_blob::{PatchPart, read_delta};
 use hol_io::{BlobName, BlobStore, Steps};
 use key_index::KeyIndex;
 use schema_model::Model;
-use state_moves::{MoveFault, PastParts, flip_named, move_state};
+use state_moves::{PastParts, flip_named, move_state};
 use std::alloc::Global;
 use std::mem;
 use std::sync::ledger::Ledger;
@@ -51,41 +52,28 @@ pub(crate) fn step<S: BlobStore, L: Ledger>(
     ensures part { OnErr result (IfSome (S.seen store.old).held
         (λ held. IfSome consumer.old (λ from. (steps.new ≡ steps.old) ⊎ CountsPart (told (S.seen store.old).held name.now) from steps.old steps.new))) }
 {
-    type_rows::laws::one_move();
     let current = consumer.tag_or_zero();
     let patch = read_delta(consumer.alloc, store, name, current, consumer.types())?;
     let parts = patch.parts.as_slice();
-    match take(consumer, parts, patch.destination, steps) {
-        Ok(()) => Ok(()),
-        Err(fault) => Err(fault_of(patch.length, fault)),
-    }
+    take(consumer, parts, patch.length, patch.destination, steps)
 }
 
-// The fault of a step along a blob of this length whose parts do not move the state.
-fn fault_of(length: u64, fault: MoveFault) -> BlobFault
-    ensures { result ≡ step_fault length fault }
-{
-    match fault {
-        MoveFault::Refused(reason) => BlobFault::Bad(length, reason),
-        MoveFault::Large(limit) => BlobFault::Large(limit),
-        MoveFault::Memory => BlobFault::Memory,
-    }
-}
-
-// Moves the state of a consumer, which has one, by the parts of a patch, to this tag. After a fault it is as before.
+// Moves the state of a consumer, which has one, by the parts of a patch that stand in a blob of this length, to this tag. After a fault it is as
+// before.
 fn take<L: Ledger>(
     consumer: &mut Consumer,
     parts: &[PatchPart],
+    size: u64,
     tag: i64,
     steps: &mut Steps<L>,
-) -> Result<(), MoveFault>
+) -> Result<(), BlobFault>
     requires standing { IsSome consumer.old }
     requires whole { IfSome consumer.old (λ from. All (IsWholePart from.schemas) parts.now) }
-    ensures tells { IfSome consumer.old (λ from. TellsTaken tag parts.now from consumer.new result) }
+    ensures tells { IfSome consumer.old (λ from. TellsTaken size tag parts.now from consumer.new result) }
     ensures state { IsSome consumer.new }
     ensures refused { OnErr result (consumer.new ≡ consumer.old) }
     ensures counted { OnOk result (IsSomeAnd consumer.new (λ to. CountsStep to steps.old steps.new)) }
-    ensures uncounted { IfErr result (λ fault. fault ≢ MoveFault.Memory → steps.new ≡ steps.old) }
+    ensures uncounted { IfErr result (λ fault. fault ≢ BlobFault.Memory → steps.new ≡ steps.old) }
     ensures part { OnErr result (IfSome consumer.old (λ from. (steps.new ≡ steps.old) ⊎ CountsTaken tag parts.now from steps.old steps.new)) }
 {
     let alloc = consumer.alloc;
@@ -96,6 +84,7 @@ fn take<L: Ledger>(
         &consumer.model,
         states.as_mut_slice(),
         parts,
+        size,
         indexes.as_mut_slice(),
         steps,
     );
@@ -114,9 +103,10 @@ fn take_parts<L: Ledger>(
     model: &Model,
     states: &mut [TypeState],
     parts: &[PatchPart],
+    size: u64,
     indexes: &mut [KeyIndex],
     steps: &mut Steps<L>,
-) -> Result<PastParts, MoveFault>
+) -> Result<PastParts, BlobFault>
     requires named { map (λ state. state.schema) states.old ≡ model.now }
     requires fits { IsTableOf model.now (table_of (current_halves states.old)) }
     requires closed { IsClosed model.now (table_of (current_halves states.old)) }
@@ -128,12 +118,12 @@ fn take_parts<L: Ledger>(
     ensures counted { IfOk result (λ past. steps.new ≡ steps.old + sum_by (λ kept. count_came past kept.type_index) indexes.old) }
     ensures stays { OnErr result (StaysCurrent states.old states.new) }
     ensures unmoved { OnErr result (indexes.new ≡ indexes.old) }
-    ensures refused { IfErr result (TellsRefusal (RefusesParts model.now parts.now states.old)) }
-    ensures uncounted { IfErr result (λ fault. fault ≢ MoveFault.Memory → steps.new ≡ steps.old) }
+    ensures blamed { IfErr result (Blames (state_moved model.now parts.now size (table_of (current_halves states.old))) IsFreeMove) }
+    ensures uncounted { IfErr result (λ fault. fault ≢ BlobFault.Memory → steps.new ≡ steps.old) }
     ensures part { OnErr result ((steps.new ≡ steps.old) ⊎ ReadsSome model.now parts.now states.old indexes.old steps.old steps.new) }
 {
     key_index::laws::kept_key();
-    let moved = move_state(alloc, model, states, parts)?;
+    let moved = move_state(alloc, model, states, parts, size)?;
     let named = moved.named.as_slice();
     let past = moved.past.as_slice();
     reserve_all(indexes, model, states, named, past, steps)?;

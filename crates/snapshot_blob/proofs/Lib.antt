@@ -1,6 +1,13 @@
+pub mod Blamed
 pub mod Bodies
+pub mod FirstFailing
+pub mod Items
 pub mod Loading
-pub mod Refusals
+pub mod PartValues
+pub mod Passed
+pub mod Readable
+pub mod SettledSnapshot
 pub mod StoredRows
+pub mod Trials
 pub mod Whole
 pub mod Zipped

@@ -25,17 +25,17 @@ use Rattle.snapshot_blob.specs.Body.{IsWholeBody}
 use Rattle.snapshot_blob.specs.Stated.{AreAccepted, IsLoadedFrom, KeepsTypeLimits, TypeIs, schemas_of}
 use Rattle.snapshot_blob.proofs.Zipped.{zip_right, zip_second, zip_alike}
 
--- a copy of its schema is one schema more
-pub schemas_more : (parts : List TypePart) (place : ℕ) (part : TypePart) (schemas all : List Schema) (copy : Schema) → place < length parts → part ≡ get_or parts place part
-    → schemas ≡ schemas_of (take place parts) → copy ≡ part.schema → all ≡ schemas ++ copy ∷ [] → all ≡ schemas_of (take (place + 1) parts)
-schemas_more parts place part schemas all copy inside is before same pushed =
-    let joined : schemas ++ copy ∷ [] ≡ schemas_of (take place parts) ++ part.schema ∷ [] = λ i. before i ++ same i ∷ [] in
+-- what is made of one part is one more of what is made of the parts
+pub mapped_more : {X : Type 0} (f : TypePart → X) (parts : List TypePart) (place : ℕ) (part : TypePart) (made all : List X) (x : X) → place < length parts → part ≡ get_or parts place part
+    → made ≡ map f (take place parts) → x ≡ f part → all ≡ made ++ x ∷ [] → all ≡ map f (take (place + 1) parts)
+mapped_more f parts place part made all x inside is before same pushed =
+    let joined : made ++ x ∷ [] ≡ map f (take place parts) ++ f part ∷ [] = λ i. before i ++ same i ∷ [] in
     let next : take (place + 1) parts ≡ take place parts ++ part ∷ [] = take_more parts place part inside ∙ ap (λ (p : TypePart). take place parts ++ p ∷ []) (sym is) in
-    pushed ∙ joined ∙ sym (ap schemas_of next ∙ map-append (λ (p : TypePart). p.schema) (take place parts) (part ∷ []))
+    pushed ∙ joined ∙ sym (ap (map f) next ∙ map-append f (take place parts) (part ∷ []))
 
 -- of all parts
-pub schemas_all : (parts : List TypePart) (place : ℕ) (schemas : List Schema) → length parts ≤ place → schemas ≡ schemas_of (take place parts) → schemas ≡ schemas_of parts
-schemas_all parts place schemas done are = are ∙ ap schemas_of (take_all place parts done)
+pub mapped_all : {X : Type 0} (f : TypePart → X) (parts : List TypePart) (place : ℕ) (made : List X) → length parts ≤ place → made ≡ map f (take place parts) → made ≡ map f parts
+mapped_all f parts place made done are = are ∙ ap (map f) (take_all place parts done)
 
 -- its state is one state more
 pub states_more : (parts : List TypePart) (part : TypePart) (states all : List State) (state : State) → AllZip IsLoadedFrom parts states → IsLoadedFrom part state → all ≡ states ++ state ∷ []

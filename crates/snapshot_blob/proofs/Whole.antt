@@ -1,12 +1,11 @@
 -- What the start at a blob, its header and its body say of the blob as a snapshot.
-use Rattle.std.proofs.Common.{◌≡◌, ◌≤◌, ◌<◌, ◌⊎◌, inl, inr, ℕ, List, length, Option, Some, None, Result, Ok, Err, IfSome, IfErr, OnSome, refl, ap, sym, ◌∙◌, subst, arith}
+use Rattle.std.proofs.Common.{◌≡◌, ◌≤◌, ◌⊎◌, inl, inr, ℕ, List, length, Option, Some, None, Result, Ok, Err, IfSome, IfErr, OnSome, refl, ap, sym, ◌∙◌, subst}
 use Rattle.std.proofs.lemmas.Bool.{cases_lt}
 use Rattle.std.specs.Prelude.{IsErrAnd}
 use Rattle.std.specs.List.{AllZip}
 use Rattle.hol_io.specs.declared.name.BlobName.{BlobName}
 use Rattle.hol_io.specs.Store.{Store, told}
 use Rattle.schema_model.specs.declared.limit.Limit.TheVariants.{Blob}
-use Rattle.schema_model.specs.declared.reason.Reason.{Reason}
 use Rattle.schema_model.specs.declared.schema.Schema.{Schema}
 use Rattle.schema_model.specs.Limit.{number_of_limit}
 use Rattle.type_state.specs.State.{Half}
@@ -22,32 +21,22 @@ use Rattle.blob_cursor.proofs.Chain.{told_stays}
 use Rattle.snapshot_blob.specs.declared.body.Body.{Body}
 use Rattle.snapshot_blob.specs.declared.loaded.Loaded.{Loaded}
 use Rattle.snapshot_blob.specs.declared.part.TypePart.{TypePart}
-use Rattle.snapshot_blob.specs.Body.{IsBody, HasNoState, IsBodyFault, TellsBody}
+use Rattle.snapshot_blob.specs.Body.{IsBody, IsBodyFault, TellsBody}
+use Rattle.snapshot_blob.specs.Judged.{body_of, snapshot_of}
 use Rattle.snapshot_blob.specs.Parts.{body, snapshot}
-use Rattle.snapshot_blob.specs.Stated.{AreAccepted, TypeIs, schemas_of}
-use Rattle.snapshot_blob.specs.Snapshot.{SnapshotIs, IsAccepted, IsRefused, IsUnstated, TellsBlob, TellsSnapshot, ReadsExactly, IsSnapshotFault}
-use Rattle.snapshot_blob.proofs.Bodies.{stated_none}
-use Rattle.snapshot_blob.proofs.Refusals.{same_halves}
+use Rattle.snapshot_blob.specs.Stated.{TypeIs, schemas_of}
+use Rattle.snapshot_blob.specs.Snapshot.{SnapshotIs, IsAccepted, TellsBlob, TellsSnapshot, ReadsExactly, IsSnapshotFault}
+use Rattle.snapshot_blob.proofs.Blamed.{accepted_or_fault, body_fails, head_fails, large_fails, one_fault}
+use Rattle.snapshot_blob.proofs.Items.{joined}
+use Rattle.snapshot_blob.proofs.Readable.{same_halves}
+use Rattle.snapshot_blob.proofs.Trials.{blames_too}
 
--- a header and the body behind it are the items of a snapshot
-pub joined : (blob : List ℕ) (head : Header) (n : ℕ) (parts : List TypePart) → HeaderIs blob n head → body.Stands blob n parts (length blob) → snapshot.Stands blob 0 (head, parts) (length blob)
-unfolding snapshot both ◌>>=◌ nothing
-joined blob head n parts begins stands = (head, n, begins, (parts, length blob, stands, (refl, refl)))
-
--- and the items of a snapshot are its header and its body
+-- the items of a snapshot are its header and its body
 pub split : (blob : List ℕ) (head : Header) (parts : List TypePart) (next : ℕ) → snapshot.Stands blob 0 (head, parts) next → (n : ℕ) × HeaderIs blob n head × body.Stands blob n parts next
 unfolding snapshot both ◌>>=◌ nothing
 split blob head parts next (h, n, begins, (ps, m, stands, is)) =
     let of : ps ≡ parts = ap (λ p. p.1) (sym is.0) in
     (n, subst (λ (h : Header). header.Stands blob 0 h n) (ap (λ p. p.0) (sym is.0)) begins, subst (λ k. body.Stands blob n parts k) (sym is.1) (subst (λ (ps : List TypePart). body.Stands blob n ps m) of stands))
-
-stuck_head : (blob : List ℕ) (place : ℕ) (why : Reason) → header.Stuck blob 0 place why → snapshot.Stuck blob 0 place why
-unfolding snapshot both ◌>>=◌
-stuck_head blob place why stuck = inl stuck
-
-stuck_body : (blob : List ℕ) (head : Header) (n place : ℕ) (why : Reason) → HeaderIs blob n head → body.Stuck blob n place why → snapshot.Stuck blob 0 place why
-unfolding snapshot both ◌>>=◌
-stuck_body blob head n place why begins stuck = inr (head, n, begins, inl stuck)
 
 -- behind the header of an accepted blob stands its body
 behind : (blob : List ℕ) (head other : Header) (n : ℕ) (schemas : List Schema) (halves : List Half) → HeaderIs blob n head → IsAccepted blob other schemas halves → (head ≡ other) × IsBody blob n schemas halves
@@ -62,18 +51,7 @@ begins blob head schemas halves accepted = let items = split blob head accepted.
 
 -- a header and an accepted body are an accepted blob
 pub accepted_body : (blob : List ℕ) (head : Header) (n : ℕ) (found : Body) → HeaderIs blob n head → length blob ≤ number_of_limit Blob → TellsBody blob n (Ok found) → IsAccepted blob head found.model (next_halves found.states)
-accepted_body blob head n found begins short is = (is.0, record { items = joined blob head n is.0 begins is.1; state = is.2.0 }, record { short = short; types = is.2.1 })
-
--- a header and a body that is refused are a refused blob
-pub refused_body : (blob : List ℕ) (head : Header) (n : ℕ) (e : BlobFault) → HeaderIs blob n head → TellsBody blob n (Err e) → IsFree e ⊎ IsRefused blob
-refused_body blob head n (fault.Bad place why) begins (inl stuck) =
-    inr (λ other schemas halves accepted. let is = (behind blob head other n schemas halves begins accepted).1 in body.decided.apart blob n is.0 (length blob) place why is.1 stuck)
-refused_body blob head n (fault.Bad place why) begins (inr none) = inr (λ other schemas halves accepted. stated_none blob n schemas halves none (behind blob head other n schemas halves begins accepted).1)
-refused_body blob head n (fault.BadRow place why of ordinal) begins none = inr (λ other schemas halves accepted. stated_none blob n schemas halves none (behind blob head other n schemas halves begins accepted).1)
-refused_body blob head n (fault.Large limit) begins none = inr (λ other schemas halves accepted. stated_none blob n schemas halves none (behind blob head other n schemas halves begins accepted).1)
-refused_body blob head n fault.Store begins tells = inl tt
-refused_body blob head n fault.Memory begins tells = inl tt
-refused_body blob head n _ begins tells = absurd tells
+accepted_body blob head n found begins short is = (is.0, record { items = joined blob head n (length blob) is.0 begins is.1; state = is.2.0 }, record { short = short; types = is.2.1 })
 
 -- a blob is the snapshot of one state
 pub one_snapshot : (blob : List ℕ) (a b : Header) (ps qs : List TypePart) (s t : List Schema) (x y : List Half) → SnapshotIs blob a ps s x → SnapshotIs blob b qs t y → (a ≡ b) × (ps ≡ qs) × (s ≡ t) × (x ≡ y)
@@ -95,16 +73,16 @@ unstarted name None (fault.Large limit) kind starts = elim (starts.absent refl) 
 unstarted name None _ kind starts = absurd kind
 unstarted name (Some blob) (fault.NoBlob other) kind starts =
     elim (cases_lt (number_of_limit Blob) (length blob)) [
-      | inl large ↦ elim (starts.large blob refl large) [ inl is ↦ absurd cc | inr free ↦ free ]
-      | inr fits ↦ elim (starts.found blob refl fits) [ inl made ↦ absurd (let is = made.1 in cc) | inr free ↦ free ]
+      | inl large ↦ elim (starts.large blob refl large) [ inl is ↦ absurd cc | inr free ↦ inr free ]
+      | inr fits ↦ elim (starts.found blob refl fits) [ inl made ↦ absurd (let is = made.1 in cc) | inr free ↦ inr free ]
     ]
 unstarted name (Some blob) (fault.Large limit) kind starts =
     elim (cases_lt (number_of_limit Blob) (length blob)) [
-      | inl large ↦ inl (kind, large)
+      | inl large ↦ inl (subst (λ l. (snapshot_of blob).Fails (fault.Large l)) (sym kind) (large_fails blob large))
       | inr fits ↦ elim (starts.found blob refl fits) [ inl made ↦ absurd (let is = made.1 in cc) | inr free ↦ absurd free ]
     ]
-unstarted name (Some blob) fault.Store kind starts = tt
-unstarted name (Some blob) fault.Memory kind starts = tt
+unstarted name (Some blob) fault.Store kind starts = inr tt
+unstarted name (Some blob) fault.Memory kind starts = inr tt
 unstarted name (Some blob) _ kind starts = absurd kind
 
 -- a cursor that was made stands in a blob that is not too large
@@ -118,23 +96,14 @@ fitting name (Some blob) place starts =
 
 -- the faults of the header
 head_tells : (blob : List ℕ) (n : ℕ) (e : BlobFault) → length blob ≤ number_of_limit Blob → Tells header (Some blob) 0 (Err e) n → TellsBlob blob (Err e)
-head_tells blob n (fault.Bad place why) short tells = inl (short, stuck_head blob place why tells)
-head_tells blob n fault.Store short tells = tt
-head_tells blob n fault.Memory short tells = tt
-head_tells blob n _ short tells = absurd tells
-
-unstated : (blob : List ℕ) (head : Header) (n : ℕ) → length blob ≤ number_of_limit Blob → HeaderIs blob n head → HasNoState blob n → IsUnstated blob
-unstated blob head n short begins none = record { short = short; items = (head, none.0); stands = joined blob head n none.0 begins none.1; none = none.2 }
+head_tells blob n (fault.Bad place why) fits tells = inl (head_fails blob place why fits tells)
+head_tells blob n fault.Store fits tells = inr tt
+head_tells blob n fault.Memory fits tells = inr tt
+head_tells blob n _ fits tells = absurd tells
 
 -- the faults of the body
-body_tells : (blob : List ℕ) (head : Header) (n : ℕ) (e : BlobFault) → length blob ≤ number_of_limit Blob → HeaderIs blob n head → IsBodyFault e → TellsBody blob n (Err e) → TellsBlob blob (Err e)
-body_tells blob head n (fault.Bad place why) short begins kind (inl stuck) = inl (short, stuck_body blob head n place why begins stuck)
-body_tells blob head n (fault.Bad place why) short begins kind (inr none) = inr (unstated blob head n short begins none)
-body_tells blob head n (fault.BadRow place why of ordinal) short begins kind none = unstated blob head n short begins none
-body_tells blob head n (fault.Large limit) short begins kind none = inr (kind, unstated blob head n short begins none)
-body_tells blob head n fault.Store short begins kind tells = tt
-body_tells blob head n fault.Memory short begins kind tells = tt
-body_tells blob head n _ short begins kind tells = absurd kind
+body_tells : (blob : List ℕ) (head : Header) (n : ℕ) (e : BlobFault) → length blob ≤ number_of_limit Blob → HeaderIs blob n head → TellsBody blob n (Err e) → TellsBlob blob (Err e)
+body_tells blob head n e fits begins tells = blames_too (body_of blob n) (snapshot_of blob) IsFree IsFree (λ first fails. body_fails blob head n first begins fits fails) (λ found free. free) e tells
 
 module _ (name : BlobName) (content : Option (List ℕ)) (place : Place) (starts : Starts name content (Ok place)) where
   -- at the blob that is there
@@ -145,9 +114,9 @@ module _ (name : BlobName) (content : Option (List ℕ)) (place : Place) (starts
   stopped_head : (n : ℕ) (e : BlobFault) → Tells header content 0 (Err e) n → TellsSnapshot name content (Err e)
   stopped_head n e tells = at_blob (Err e) (λ blob is short. head_tells blob n e short (subst (λ c. Tells header c 0 (Err e) n) is tells))
 
-  stopped_body : (head : Header) (n : ℕ) (e : BlobFault) → Tells header content 0 (Ok head) n → IsBodyFault e → IfSome content (λ blob. TellsBody blob n (Err e)) → TellsSnapshot name content (Err e)
-  stopped_body head n e begun kind tells = at_blob (Err e) (λ blob is short.
-      body_tells blob head n e short (subst (λ c. Tells header c 0 (Ok head) n) is begun) kind (subst (λ c. IfSome c (λ blob. TellsBody blob n (Err e))) is tells))
+  stopped_body : (head : Header) (n : ℕ) (e : BlobFault) → Tells header content 0 (Ok head) n → IfSome content (λ blob. TellsBody blob n (Err e)) → TellsSnapshot name content (Err e)
+  stopped_body head n e begun tells = at_blob (Err e) (λ blob is short.
+      body_tells blob head n e short (subst (λ c. Tells header c 0 (Ok head) n) is begun) (subst (λ c. IfSome c (λ blob. TellsBody blob n (Err e))) is tells))
 
   loaded_body : (head : Header) (n : ℕ) (found : Body) → Tells header content 0 (Ok head) n → IfSome content (λ blob. TellsBody blob n (Ok found)) → TellsSnapshot name content (Ok (record { header = head; model = found.model; states = found.states }))
   loaded_body head n found begun tells = at_blob (Ok (record { header = head; model = found.model; states = found.states })) (λ blob is short.
@@ -181,10 +150,10 @@ module _ (held : Option Store) (name : BlobName) (place : Place) {before after :
   pub tells_head : (e : BlobFault) (answer : Result Loaded BlobFault) → answer ≡ Err e → Reads header before after (Err e) → IfSome held (λ store. TellsSnapshot name (told held name) answer)
   tells_head e answer is reads = held_stop held name e answer is starts (λ s. stopped_head name (told held name) place s after.place.at e (begun held name place (Err e) kept at start reads))
 
-  pub tells_body : (head : Header) (e : BlobFault) (answer : Result Loaded BlobFault) → answer ≡ Err e → Reads header before after (Ok head) → IsBodyFault e
+  pub tells_body : (head : Header) (e : BlobFault) (answer : Result Loaded BlobFault) → answer ≡ Err e → Reads header before after (Ok head)
       → IfSome (told after.held after.place.name) (λ blob. TellsBody blob after.place.at (Err e)) → IfSome held (λ store. TellsSnapshot name (told held name) answer)
-  tells_body head e answer is reads kind tells = held_stop held name e answer is starts (λ s. stopped_body name (told held name) place s head after.place.at e
-      (begun held name place (Ok head) kept at start reads) kind (behind_told held name place (Err e) kept at start reads.stays tells))
+  tells_body head e answer is reads tells = held_stop held name e answer is starts (λ s. stopped_body name (told held name) place s head after.place.at e
+      (begun held name place (Ok head) kept at start reads) (behind_told held name place (Err e) kept at start reads.stays tells))
 
 pub tells_loaded : (held : Option Store) (name : BlobName) (place : Place) {before after : Scene} (head : Header) (found : Body) → OnSome held (Starts name (told held name) (Ok place)) → IsStart name place
     → before.held ≡ held → before.place ≡ place → Reads header before after (Ok head) → IfSome (told after.held after.place.name) (λ blob. TellsBody blob after.place.at (Ok found))
@@ -194,53 +163,22 @@ tells_loaded (Some store) name place {before} {after} head found starts start ke
     loaded_body name (told (Some store) name) place starts head after.place.at found (begun (Some store) name place (Ok head) kept at start reads)
     (behind_told (Some store) name place (Ok found) kept at start reads.stays tells)
 
-unstated_refused : (blob : List ℕ) → IsUnstated blob → IsRefused blob
-unstated_refused blob none head schemas halves accepted =
-    let items = (snapshot.decided.one blob 0 (head, accepted.0) none.items (length blob) (length blob) accepted.1.items none.stands).0 in
-    let parts : accepted.0 ≡ none.items.1 = ap (λ i. i.1) items in
-    none.none (schemas, halves, subst (λ (ps : List TypePart). AreAccepted ps schemas halves) parts (accepted.1.state, accepted.2.types))
-
 -- an answer that tells so much is exact
 exact_found : (blob : List ℕ) (answer : Result Loaded BlobFault) → TellsBlob blob answer → (head : Header) (schemas : List Schema) (halves : List Half) → IsAccepted blob head schemas halves
     → ((loaded : Loaded) × (answer ≡ Ok loaded) × (loaded.header ≡ head) × (loaded.model ≡ schemas) × (next_halves loaded.states ≡ halves)) ⊎ IsErrAnd answer IsFree
 exact_found blob (Ok loaded) tells head schemas halves accepted =
     let same = one_snapshot blob loaded.header head tells.0 accepted.0 loaded.model schemas (next_halves loaded.states) halves tells.1 accepted.1 in inl (loaded, refl, same.0, same.2, same.3)
-exact_found blob (Err (fault.Large limit)) (inl long) head schemas halves accepted = absurd (let short = accepted.2.short in omega (arith, short, long.1))
-exact_found blob (Err (fault.Large limit)) (inr none) head schemas halves accepted = absurd (unstated_refused blob none.1 head schemas halves accepted)
-exact_found blob (Err (fault.Bad place why)) (inl stuck) head schemas halves accepted = absurd (snapshot.decided.apart blob 0 (head, accepted.0) (length blob) place why accepted.1.items stuck.1)
-exact_found blob (Err (fault.Bad place why)) (inr none) head schemas halves accepted = absurd (unstated_refused blob none head schemas halves accepted)
-exact_found blob (Err (fault.BadRow place why of ordinal)) none head schemas halves accepted = absurd (unstated_refused blob none head schemas halves accepted)
-exact_found blob (Err fault.Store) tells head schemas halves accepted = inr tt
-exact_found blob (Err fault.Memory) tells head schemas halves accepted = inr tt
-exact_found blob (Err _) tells head schemas halves accepted = absurd tells
+exact_found blob (Err e) (inl fails) head schemas halves accepted = absurd (accepted_or_fault blob head schemas halves e accepted fails)
+exact_found blob (Err e) (inr free) head schemas halves accepted = inr free
 
-exact_large : (blob : List ℕ) (answer : Result Loaded BlobFault) → TellsBlob blob answer → number_of_limit Blob < length blob → (answer ≡ Err (fault.Large Blob)) ⊎ IsErrAnd answer IsFree
-exact_large blob (Ok loaded) tells large = absurd (let short = tells.2.short in omega (arith, short, large))
-exact_large blob (Err (fault.Large limit)) (inl long) large = inl (ap (λ l. Err (fault.Large l)) long.0)
-exact_large blob (Err (fault.Large limit)) (inr none) large = absurd (let short = none.1.short in omega (arith, short, large))
-exact_large blob (Err (fault.Bad place why)) (inl stuck) large = absurd (omega (arith, stuck.0, large))
-exact_large blob (Err (fault.Bad place why)) (inr none) large = absurd (let short = none.short in omega (arith, short, large))
-exact_large blob (Err (fault.BadRow place why of ordinal)) none large = absurd (let short = none.short in omega (arith, short, large))
-exact_large blob (Err fault.Store) tells large = inr tt
-exact_large blob (Err fault.Memory) tells large = inr tt
-exact_large blob (Err _) tells large = absurd tells
-
-exact_stuck : (blob : List ℕ) (answer : Result Loaded BlobFault) → TellsBlob blob answer → (place : ℕ) (why : Reason) → length blob ≤ number_of_limit Blob → snapshot.Stuck blob 0 place why
-    → (answer ≡ Err (fault.Bad place why)) ⊎ IsErrAnd answer IsFree
-exact_stuck blob (Ok loaded) tells place why short stuck = absurd (snapshot.decided.apart blob 0 (loaded.header, tells.0) (length blob) place why tells.1.items stuck)
-exact_stuck blob (Err (fault.Large limit)) (inl long) place why short stuck = absurd (omega (arith, short, long.1))
-exact_stuck blob (Err (fault.Large limit)) (inr none) place why short stuck = absurd (snapshot.decided.apart blob 0 none.1.items (length blob) place why none.1.stands stuck)
-exact_stuck blob (Err (fault.Bad other because)) (inl here) place why short stuck =
-    let same = snapshot.decided.once blob 0 other place because why here.1 stuck in inl (λ i. Err (fault.Bad (same.0 i) (same.1 i)))
-exact_stuck blob (Err (fault.Bad other because)) (inr none) place why short stuck = absurd (snapshot.decided.apart blob 0 none.items (length blob) place why none.stands stuck)
-exact_stuck blob (Err (fault.BadRow other because of ordinal)) none place why short stuck = absurd (snapshot.decided.apart blob 0 none.items (length blob) place why none.stands stuck)
-exact_stuck blob (Err fault.Store) tells place why short stuck = inr tt
-exact_stuck blob (Err fault.Memory) tells place why short stuck = inr tt
-exact_stuck blob (Err _) tells place why short stuck = absurd tells
+exact_fails : (blob : List ℕ) (answer : Result Loaded BlobFault) → TellsBlob blob answer → (first : BlobFault) → (snapshot_of blob).Fails first → (answer ≡ Err first) ⊎ IsErrAnd answer IsFree
+exact_fails blob (Ok loaded) tells first fails = absurd (accepted_or_fault blob loaded.header loaded.model (next_halves loaded.states) first tells fails)
+exact_fails blob (Err e) (inl own) first fails = inl (ap Err (one_fault blob e first own fails))
+exact_fails blob (Err e) (inr free) first fails = inr free
 
 exact_content : (name : BlobName) (content : Option (List ℕ)) (answer : Result Loaded BlobFault) → TellsSnapshot name content answer → IfSome content (λ blob. ReadsExactly blob answer)
 exact_content name None answer tells = tt
-exact_content name (Some blob) answer tells = record { found = exact_found blob answer tells; large = exact_large blob answer tells; stuck = exact_stuck blob answer tells }
+exact_content name (Some blob) answer tells = record { found = exact_found blob answer tells; fails = exact_fails blob answer tells }
 
 pub exact_held : (held : Option Store) (name : BlobName) (answer : Result Loaded BlobFault) → IfSome held (λ store. TellsSnapshot name (told held name) answer) → IfSome (told held name) (λ blob. ReadsExactly blob answer)
 exact_held None name answer tells = tt

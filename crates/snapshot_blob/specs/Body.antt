@@ -2,7 +2,6 @@
 -- end of the blob.
 use Rattle.std.specs.Prelude.{◌≡◌, ◌<◌, ◌⊎◌, ℕ, List, Result, Ok, Err, length, All, IsErrAnd}
 use Rattle.schema_model.specs.declared.limit.Limit.TheVariants.{Ordinals}
-use Rattle.schema_model.specs.declared.reason.Reason.{Reason}
 use Rattle.schema_model.specs.declared.schema.Schema.{Schema}
 use Rattle.schema_model.specs.Limit.{number_of_limit}
 use Rattle.row_model.specs.Table.{IsClosed, IsLive}
@@ -11,35 +10,28 @@ use Rattle.type_state.specs.Views.{AreNext, next_halves, table_of}
 use Rattle.blob_frame.specs.declared.fault.BlobFault.{BlobFault}
 use Rattle.blob_frame.specs.declared.fault.BlobFault.TheVariants as fault
 use Rattle.blob_cursor.specs.Scene.{IsFree}
+use Rattle.blob_faults.specs.Judge.{Blames}
 use Rattle.snapshot_blob.specs.declared.body.Body.{Body}
 use Rattle.snapshot_blob.specs.declared.part.TypePart.{TypePart}
+use Rattle.snapshot_blob.specs.Judged.{body_of}
 use Rattle.snapshot_blob.specs.Parts.{body}
-use Rattle.snapshot_blob.specs.Stated.{AreAccepted, HasState, IsTypeLimit}
+use Rattle.snapshot_blob.specs.Stated.{AreAccepted, IsTypeLimit}
 
 -- From this place on types stand up to the end of the blob, and they are those of this state within the limits.
 abbrev pub IsBody : List ℕ → ℕ → List Schema → List Half → Type 0
 IsBody blob at schemas halves = (parts : List TypePart) × body.Stands blob at parts (length blob) × AreAccepted parts schemas halves
 
--- Types stand there, and they are those of no state within the limits.
-abbrev pub HasNoState : List ℕ → ℕ → Type 0
-HasNoState blob at = (parts : List TypePart) × body.Stands blob at parts (length blob) × (HasState parts → ⊥)
-
--- What each answer tells of the blob.
+-- What each answer tells of the blob: the body that is there, or the fault of the first trial that fails.
 abbrev pub TellsBody : List ℕ → ℕ → Result Body BlobFault → Type 0
 TellsBody blob at (Ok found) = IsBody blob at found.model (next_halves found.states)
-TellsBody blob at (Err (fault.Bad place why)) = body.Stuck blob at place why ⊎ HasNoState blob at
-TellsBody blob at (Err (fault.BadRow place why of ordinal)) = HasNoState blob at
-TellsBody blob at (Err (fault.Large limit)) = HasNoState blob at
-TellsBody blob at (Err fault.Store) = Unit {0}
-TellsBody blob at (Err fault.Memory) = Unit {0}
-TellsBody blob at (Err _) = ⊥
+TellsBody blob at (Err refused) = Blames (body_of blob at) IsFree refused
 
--- The answer is a body exactly where one is there within the limits, and the fault of its syntax exactly where it has
--- it, but for the free answers.
+-- The answer is a body exactly where one is there within the limits, and a fault exactly where it is that of the first
+-- trial that fails, but for the free answers.
 pub record ReadsBody (blob : List ℕ) (at : ℕ) (answer : Result Body BlobFault) : Type 0 where
   pub found : (schemas : List Schema) (halves : List Half) → IsBody blob at schemas halves
       → ((found : Body) × (answer ≡ Ok found) × (found.model ≡ schemas) × (next_halves found.states ≡ halves)) ⊎ IsErrAnd answer IsFree
-  pub stuck : (place : ℕ) (why : Reason) → body.Stuck blob at place why → (answer ≡ Err (fault.Bad place why)) ⊎ IsErrAnd answer IsFree
+  pub fails : (first : BlobFault) → (body_of blob at).Fails first → (answer ≡ Err first) ⊎ IsErrAnd answer IsFree
 
 -- The faults of a body.
 abbrev pub IsBodyFault : BlobFault → Type 0

@@ -1,4 +1,5 @@
 pub mod Body
+pub mod Judged
 pub mod Parts
 pub mod Snapshot
 pub mod Stated

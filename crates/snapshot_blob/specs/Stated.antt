@@ -5,7 +5,8 @@ use Rattle.schema_model.specs.declared.limit.Limit.{Limit}
 use Rattle.schema_model.specs.declared.limit.Limit.TheVariants.{Ordinals, Items, Words, Bytes}
 use Rattle.schema_model.specs.declared.schema.Schema.{Schema}
 use Rattle.schema_model.specs.Limit.{number_of_limit}
-use Rattle.schema_model.specs.Model.{IsModel}
+use Rattle.schema_model.specs.declared.model.rule.Rule.TheVariants.{TooMany, LongName}
+use Rattle.schema_model.specs.Model.{IsKept, IsModel}
 use Rattle.row_model.specs.Table.{RowMap, IsClosed}
 use Rattle.type_state.specs.State.{Half, State, IsLaidOut, empty_half}
 use Rattle.type_rows.specs.Layout.{places_of}
@@ -49,9 +50,10 @@ pub record KeepsTypeLimits (part : TypePart) (half : Half) : Type 0 where
 abbrev pub AreAccepted : List TypePart → List Schema → List Half → Type 0
 AreAccepted parts schemas halves = PartsAre parts schemas halves × AllZip KeepsTypeLimits parts halves
 
--- Some state is that of the parts, within the limits.
-abbrev pub HasState : List TypePart → Type 0
-HasState parts = (schemas : List Schema) × (halves : List Half) × AreAccepted parts schemas halves
+-- There are no more types and fields, and no longer texts, than can stand in a blob: two rules of models are kept.
+pub record CanStand (schemas : List Schema) : Type 0 where
+  pub few : IsKept schemas TooMany
+  pub short : IsKept schemas LongName
 
 -- The limits that a type of a snapshot may pass.
 abbrev pub IsTypeLimit : Limit → Type 0
@@ -61,14 +63,18 @@ IsTypeLimit Words = Unit {0}
 IsTypeLimit Bytes = Unit {0}
 IsTypeLimit _ = ⊥
 
--- What a refusal tells: that this does not hold. Want of memory tells nothing, and no other fault comes from the state
--- of a blob.
-abbrev pub Refuses : Type 0 → BlobFault → Type 0
-Refuses Fact fault.Memory = Unit {0}
-Refuses Fact (fault.Large limit) = IsTypeLimit limit × (Fact → ⊥)
-Refuses Fact (fault.Bad at why) = Fact → ⊥
-Refuses Fact (fault.BadRow at why of ordinal) = Fact → ⊥
-Refuses Fact _ = ⊥
+-- Want of memory, which the state of some types may answer in place of any fault.
+abbrev pub IsWant : BlobFault → Type 0
+IsWant fault.Memory = Unit {0}
+IsWant _ = ⊥
+
+-- The faults that the state of some types answers.
+abbrev pub IsStateFault : BlobFault → Type 0
+IsStateFault (fault.Bad place why) = Unit {0}
+IsStateFault (fault.BadRow place why of ordinal) = Unit {0}
+IsStateFault (fault.Large limit) = IsTypeLimit limit
+IsStateFault fault.Memory = Unit {0}
+IsStateFault _ = ⊥
 
 -- A type's part has these rows, which load.
 abbrev pub LoadsPart : TypePart → RowMap → Type 0

@@ -38,10 +38,12 @@ impl Body {
 /// Reads the body of a snapshot, from where the cursor stands behind the header up to the end of the blob, and makes its
 /// state: its model, and the rows of each type in the next half of a state. Nothing is kept of a body that is refused.
 ///
-/// `Bad` comes at the first item that cannot be read and at the first schema that breaks a rule of models, `Large` where
-/// an ordinal is 2^22 or more, a total over 2^25, or a type has more words or bytes than a state may have, and `BadRow`
-/// at a row that is not spelled, that its widths cannot hold or that names an ordinal that is not live. `Store` comes
-/// only where the store's count of faults rose.
+/// The fault is that of the first trial that fails, and each comes exactly where it is that, or a free one in its place:
+/// `Bad` at the first item that cannot be read; `Bad` with `BadSchema` at the first type that fails a test of models, each
+/// of which goes over all types before the next; type by type `Large` where an ordinal is 2^22 or more, or a total over
+/// 2^25; type by type `BadRow` at a row that is not spelled or that its widths cannot hold, and `Large` where the type has
+/// more words or bytes than a state may have; `BadRow` with `Dangling` at the first row that names an ordinal that is not
+/// live. `Memory` is free, and so is `Store`, which comes only where the store's count of faults rose.
 pub fn read_body<S: BlobStore>(
     alloc: Global,
     cursor: &mut Cursor,

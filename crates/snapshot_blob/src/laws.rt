@@ -1,22 +1,25 @@
 //! Laws of snapshots: what the reader answers is the only answer that the bytes allow.
-ghost use Rattle.std.specs.Prelude.{◌≡◌, ◌≤◌, ◌⊎◌, List, ℕ, Ok, Err, length};
+ghost use Rattle.std.specs.Prelude.{◌≡◌, ◌≤◌, List, ℕ, Ok, length};
 ghost use Rattle.schema_model.specs.declared.limit.Limit.TheVariants.{Blob};
+ghost use Rattle.schema_model.specs.declared.reason.Reason.{Reason};
 ghost use Rattle.schema_model.specs.declared.schema.Schema.{Schema};
 ghost use Rattle.schema_model.specs.Limit.{number_of_limit};
 ghost use Rattle.row_model.specs.Row.{stored_row};
 ghost use Rattle.row_model.specs.Table.{EachRow};
 ghost use Rattle.type_state.specs.State.{Half};
 ghost use Rattle.type_state.specs.Views.{next_halves, table_of};
-ghost use Rattle.blob_grammar.specs.Decided.{EachPlace, IsDecided};
+ghost use Rattle.blob_grammar.specs.Decided.{AreBytes, EachPlace, IsDecided};
 ghost use Rattle.blob_frame.specs.declared.fault.BlobFault.{BlobFault};
+ghost use Rattle.blob_frame.specs.declared.fault.BlobFault.TheVariants.{Bad};
 ghost use Rattle.blob_frame.specs.declared.header.Header.{Header};
-ghost use Rattle.blob_frame.specs.Header.{HeaderIs};
-ghost use Rattle.blob_cursor.specs.Scene.{IsFree};
+ghost use Rattle.blob_frame.specs.Header.{HeaderIs, StuckInHeader};
+ghost use Rattle.blob_faults.specs.Judge.{Judge};
 ghost use Rattle.snapshot_blob.specs.declared.body.Body.{Body};
 ghost use Rattle.snapshot_blob.specs.declared.part.TypePart.{TypePart};
 ghost use Rattle.snapshot_blob.specs.Body.{TellsBody};
+ghost use Rattle.snapshot_blob.specs.Judged.{body_of, snapshot_of};
 ghost use Rattle.snapshot_blob.specs.Parts.{body, snapshot};
-ghost use Rattle.snapshot_blob.specs.Snapshot.{SnapshotIs, IsAccepted, IsRefused};
+ghost use Rattle.snapshot_blob.specs.Snapshot.{SnapshotIs, IsAccepted};
 
 /// At each place a snapshot's types stand in one way at most, reading them is stuck at one place at most and for one
 /// reason, and never both; so it is with the whole of a snapshot.
@@ -38,7 +41,8 @@ pub fn each_place()
 {}
 
 /// A header at the start of a blob and the body behind it are a snapshot: one within the limits where the reader of the
-/// body answers it, and none where it answers a fault that is not free. A snapshot begins with its header.
+/// body answers it, and else its fault is that of the body. A snapshot begins with its header, and where that is stuck,
+/// it is at fault there.
 pub fn header_and_body()
     ensures items { (blob : List ℕ) (head : Header) (n : ℕ) (parts : List TypePart) → HeaderIs blob n head → body.Stands blob n parts (length blob)
         → snapshot.Stands blob 0 (head, parts) (length blob) }
@@ -46,7 +50,24 @@ pub fn header_and_body()
         → (n : ℕ) × HeaderIs blob n head × (length blob ≤ number_of_limit Blob) }
     ensures accepted { (blob : List ℕ) (head : Header) (n : ℕ) (found : Body) → HeaderIs blob n head → length blob ≤ number_of_limit Blob → TellsBody blob n (Ok found)
         → IsAccepted blob head found.model (next_halves found.states) }
-    ensures refused { (blob : List ℕ) (head : Header) (n : ℕ) (fault : BlobFault) → HeaderIs blob n head → TellsBody blob n (Err fault) → IsFree fault ⊎ IsRefused blob }
+    ensures blamed { (blob : List ℕ) (head : Header) (n : ℕ) (fault : BlobFault) → HeaderIs blob n head → length blob ≤ number_of_limit Blob → (body_of blob n).Fails fault
+        → (snapshot_of blob).Fails fault }
+    ensures stuck { (blob : List ℕ) (place : ℕ) (why : Reason) → length blob ≤ number_of_limit Blob → StuckInHeader blob place why → (snapshot_of blob).Fails (Bad place why) }
+{}
+
+/// A blob has one first fault at most, and none where it is a snapshot within the limits.
+pub fn one_fault()
+    ensures once { (blob : List ℕ) (a b : BlobFault) → (snapshot_of blob).Fails a → (snapshot_of blob).Fails b → a ≡ b }
+    ensures apart { (blob : List ℕ) (head : Header) (schemas : List Schema) (halves : List Half) (fault : BlobFault) → IsAccepted blob head schemas halves
+        → (snapshot_of blob).Fails fault → ⊥ }
+    ensures passes { (blob : List ℕ) (head : Header) (schemas : List Schema) (halves : List Half) → IsAccepted blob head schemas halves
+        → (snapshot_of blob).Passes (head, table_of halves) }
+{}
+
+/// That bytes are no snapshot within the limits and have no fault cannot be.
+pub fn some_fault()
+    ensures { (blob : List ℕ) → AreBytes blob → ((head : Header) (schemas : List Schema) (halves : List Half) → IsAccepted blob head schemas halves → ⊥)
+        → ((fault : BlobFault) → (snapshot_of blob).Fails fault → ⊥) → ⊥ }
 {}
 
 /// The rows of a snapshot hold no least INT or LONG: each is the row that a blob holds in its place.

@@ -1,34 +1,42 @@
 //! From the types of a snapshot, as they stand in the blob, to their states.
-ghost use Rattle.std.specs.Prelude.{◌≡◌, List, All, IfOk, MatchResult, length};
+ghost use Rattle.std.specs.Prelude.{◌≡◌, ◌<◌, All, IfErr, IfOk, MatchResult, length};
 ghost use Rattle.std.specs.List.{AllZip};
-ghost use Rattle.schema_model.specs.Model.{IsModel};
-ghost use Rattle.row_model.specs.Table.{RowMap, IsClosed};
+ghost use Rattle.schema_model.specs.Model.{IsFirstBroken, IsModel};
+ghost use Rattle.row_model.specs.Table.{IsClosed};
 ghost use Rattle.type_state.specs.State.{empty_half};
 ghost use Rattle.type_state.specs.Views.{AreNext, next_halves, table_of};
-ghost use Rattle.type_rows.specs.Loads.{Loads};
 ghost use Rattle.type_rows.specs.WellFormed.{IsReadable, IsWellFormed};
+ghost use Rattle.blob_faults.specs.Failing.{IsFirstFailing};
+ghost use Rattle.blob_faults.specs.Judge.{Blames, Judge, each_of};
+ghost use Rattle.blob_faults.specs.Models.{are_model};
+ghost use Rattle.blob_faults.specs.Rows.{closed, counts, loads};
 ghost use Rattle.snapshot_blob.specs.Body.{IsWholeBody};
-ghost use Rattle.snapshot_blob.specs.Stated.{AreAccepted, HasState, IsLoadedFrom, KeepsCounts, LoadsPart, Refuses, schemas_of};
+ghost use Rattle.snapshot_blob.specs.Judged.{offsets_of, types_of};
+ghost use Rattle.snapshot_blob.specs.Stated.{AreAccepted, CanStand, IsLoadedFrom, IsStateFault, IsWant, KeepsCounts, schemas_of};
 
 use crate::body::Body;
 use crate::part::{TypePart, TypeParts};
+use blob_faults::{blame_rows, counts_fault};
 use blob_frame::BlobFault;
 use column_rows::first_dangling;
 use hol_varint::{Duplicate, GapList};
-use schema_model::{Limit, MAX_ITEMS, MAX_ORDINALS, Model, ModelFault, Reason, Schemas, model_of};
+use schema_model::{Model, ModelFault, Reason, Rule, Schemas, first_too_deep, model_of};
 use std::alloc::{AllocError, Global};
-use type_rows::{RowFault, Section};
+use type_rows::Section;
 use type_state::{NextRows, TypeState, TypeStates};
 
 /// The state of a snapshot's types: their model, which their schemas are, the rows of each in the next half of its
 /// state, all within the limits, and each ordinal that a row names live.
 ///
-/// `Bad` with `BadSchema` names the first type that breaks a rule of models, `Large` a limit that is passed, `BadRow` a
-/// row that its place does not spell, that the widths cannot hold, or that names an ordinal that is not live.
+/// The fault is that of the first trial that fails. `Bad` with `BadSchema` names the first type that fails a test of
+/// models, `Large` a limit that is passed, `BadRow` a row that its place does not spell, that the widths cannot hold, or
+/// that names an ordinal that is not live.
 pub(crate) fn state_of(alloc: Global, parts: TypeParts) -> Result<Body, BlobFault>
     requires { All (λ part. IsWellFormed part.schema.shape part.section) parts }
-    ensures tells { MatchResult result (λ found. AreAccepted parts found.model (next_halves found.states)) (Refuses (HasState parts)) }
+    ensures accepted { IfOk result (λ found. AreAccepted parts found.model (next_halves found.states)) }
+    ensures blamed { CanStand (schemas_of parts) → IfErr result (Blames (types_of parts) IsWant) }
     ensures whole { IfOk result IsWholeBody }
+    ensures kind { IfErr result IsStateFault }
 {
     let model = model_of_parts(alloc, parts.as_slice())?;
     check_counts(parts.as_slice())?;
@@ -40,31 +48,59 @@ pub(crate) fn state_of(alloc: Global, parts: TypeParts) -> Result<Body, BlobFaul
 
 // The model that the schemas of the parts are.
 fn model_of_parts(alloc: Global, parts: &[TypePart]) -> Result<Model, BlobFault>
-    ensures { MatchResult result (λ model. (model ≡ schemas_of parts.now) × IsModel model) (Refuses (IsModel (schemas_of parts.now))) }
+    ensures made { IfOk result (λ model. (model ≡ schemas_of parts.now) × IsModel model) }
+    ensures blamed { CanStand (schemas_of parts.now) → IfErr result (Blames (are_model (offsets_of parts.now) (schemas_of parts.now)) IsWant) }
+    ensures kind { IfErr result IsStateFault }
 {
-    let mut schemas = Schemas::new(alloc);
-    for part in parts {
-        schemas.push(part.schema.copy(alloc)?)?;
-    }
-    match model_of(alloc, schemas) {
+    match model_of(alloc, copied_schemas(alloc, parts)?) {
         Ok(model) => Ok(model),
-        Err(ModelFault::Broken(_, type_index)) => {
-            Err(BlobFault::Bad(parts[type_index as usize].at, Reason::BadSchema))
+        Err(ModelFault::Broken(rule, type_index)) => {
+            let first = first_failing(alloc, parts, rule, type_index)?;
+            Err(BlobFault::Bad(parts[first as usize].at, Reason::BadSchema))
         }
         Err(ModelFault::Memory) => Err(BlobFault::Memory),
     }
 }
 
+// The schemas of the parts.
+fn copied_schemas(alloc: Global, parts: &[TypePart]) -> Result<Schemas, AllocError>
+    ensures { IfOk result (λ schemas. schemas ≡ schemas_of parts.now) }
+{
+    let mut schemas = Schemas::new(alloc);
+    for part in parts {
+        schemas.push(part.schema.copy(alloc)?)?;
+    }
+    Ok(schemas)
+}
+
+// The first type that fails a test of models, where this rule is the first that some type breaks, and this type the
+// first that breaks it: a cycle and a chain that is too long are one test.
+fn first_failing(
+    alloc: Global,
+    parts: &[TypePart],
+    rule: Rule,
+    type_index: u32,
+) -> Result<u32, AllocError>
+    requires { IsFirstBroken (schemas_of parts.now) rule type_index }
+    ensures inside { IfOk result (λ first. first < length parts.now) }
+    ensures first { CanStand (schemas_of parts.now) → IfOk result (IsFirstFailing (schemas_of parts.now)) }
+{
+    match rule {
+        Rule::CyclicModel => {
+            let schemas = copied_schemas(alloc, parts)?;
+            first_too_deep(alloc, &schemas, type_index)
+        }
+        _ => Ok(type_index),
+    }
+}
+
 // Tries in each type the limit on ordinals, and then that on elements or buckets.
 fn check_counts(parts: &[TypePart]) -> Result<(), BlobFault>
-    ensures { MatchResult result (λ done. All KeepsCounts parts.now) (Refuses (All KeepsCounts parts.now)) }
+    ensures { MatchResult result (λ done. All KeepsCounts parts.now) (each_of (λ part. counts part.section.max part.section.total) parts.now).Fails }
 {
     for part in parts {
-        if part.section.max.is_some_and(|max| max >= MAX_ORDINALS) {
-            return Err(BlobFault::Large(Limit::Ordinals));
-        }
-        if part.section.total > MAX_ITEMS {
-            return Err(BlobFault::Large(Limit::Items));
+        if let Some(fault) = counts_fault(part.section.max, part.section.total) {
+            return Err(fault);
         }
     }
     Ok(())
@@ -72,7 +108,7 @@ fn check_counts(parts: &[TypePart]) -> Result<(), BlobFault>
 
 // The offset of each schema.
 fn schema_offsets(alloc: Global, parts: &[TypePart]) -> Result<GapList, AllocError>
-    ensures { IfOk result (λ offsets. length offsets ≡ length parts.now) }
+    ensures { IfOk result (λ offsets. offsets ≡ offsets_of parts.now) }
 {
     let mut offsets = GapList::with_capacity(alloc, parts.len())?;
     for part in parts {
@@ -84,7 +120,7 @@ fn schema_offsets(alloc: Global, parts: &[TypePart]) -> Result<GapList, AllocErr
 // Loads each type into the next half of a state.
 fn load_types(alloc: Global, parts: TypeParts) -> Result<TypeStates, BlobFault>
     requires { All (λ part. IsReadable part.schema.shape part.section) parts }
-    ensures { MatchResult result (λ states. AllZip IsLoadedFrom parts states) (Refuses ((rows : List RowMap) × AllZip LoadsPart parts rows)) }
+    ensures { MatchResult result (λ states. AllZip IsLoadedFrom parts states) (Blames (each_of (λ part. loads part.at part.schema part.section) parts) IsWant) }
 {
     let mut states = TypeStates::new(alloc);
     for part in parts.into_vec() {
@@ -96,7 +132,7 @@ fn load_types(alloc: Global, parts: TypeParts) -> Result<TypeStates, BlobFault>
 // Loads a type into the next half of a state.
 fn load_type(alloc: Global, part: TypePart) -> Result<TypeState, BlobFault>
     requires { IsReadable part.schema.shape part.section }
-    ensures { MatchResult result (IsLoadedFrom part) (Refuses ((rows : RowMap) × LoadsPart part rows)) }
+    ensures { MatchResult result (IsLoadedFrom part) (Blames (loads part.at part.schema part.section) IsWant) }
 {
     let TypePart {
         at,
@@ -119,16 +155,11 @@ fn load_rows(
 ) -> Result<(), BlobFault>
     requires readable { IsReadable state.old.schema.shape section.now }
     requires empty { state.old.current ≡ empty_half }
-    ensures { MatchResult result (λ done. IsLoadedFrom (record { at = at; schema = state.old.schema; section = section.now }) state.new) (Refuses ((rows : RowMap) × Loads state.old.schema.shape section.now rows)) }
+    ensures { MatchResult result (λ done. IsLoadedFrom (record { at = at; schema = state.old.schema; section = section.now }) state.new) (Blames (loads at state.old.schema section.now) IsWant) }
 {
     match state.load_next(section) {
         Ok(()) => Ok(()),
-        Err(RowFault::At(reason, ordinal)) => {
-            let name = state.schema().name.copy(alloc)?;
-            Err(BlobFault::BadRow(at, reason, name, ordinal))
-        }
-        Err(RowFault::Limit(limit)) => Err(BlobFault::Large(limit)),
-        Err(RowFault::Memory) => Err(BlobFault::Memory),
+        Err(fault) => Err(blame_rows(alloc, at, &state.schema().name, fault)),
     }
 }
 
@@ -141,7 +172,7 @@ fn check_closed(
 ) -> Result<(), BlobFault>
     requires next { AreNext model.now states.now }
     requires long { length offsets.now ≡ length model.now }
-    ensures { MatchResult result (λ done. IsClosed model.now (table_of (next_halves states.now))) (Refuses (IsClosed model.now (table_of (next_halves states.now)))) }
+    ensures { MatchResult result (λ done. IsClosed model.now (table_of (next_halves states.now))) (Blames (closed offsets.now model.now (table_of (next_halves states.now))) IsWant) }
 {
     let rows = NextRows::new(model, states);
     match first_dangling(alloc, &rows)? {

@@ -4,6 +4,7 @@ pub mod Closed
 pub mod ColumnTables
 pub mod Comings
 pub mod Flips
+pub mod Judging
 pub mod Mapped
 pub mod MovedParts
 pub mod Moves

@@ -1,25 +1,34 @@
 -- Moving the types of a state one after another.
-use Rattle.std.proofs.Common.{◌≡◌, ◌<◌, ◌+◌, ◌-◌, ◌^◌, inl, inr, ℕ, zero, suc, Bool, true, List, [], ◌∷◌, ◌++◌, length, get_or, set, take, map, Option, Some, None, Result, Ok, Err, IfErr, refl, sym, ap, ◌∙◌, subst, arith}
-use Rattle.std.specs.Prelude.{All, IsSome, IsErrAnd, slice_get}
+use Rattle.std.proofs.Common.{◌≡◌, ◌<◌, ◌+◌, ◌-◌, ◌^◌, inl, inr, ℕ, zero, suc, Bool, true, false, List, [], ◌∷◌, ◌++◌, length, get_or, set, take, map, replicate, Option, Some, None, Result, Ok, Err, IfErr, refl, sym, ap, ◌∙◌, subst, arith}
+use Rattle.std.specs.Prelude.{All, IsErrAnd, IsSome, slice_get, unwrap_or}
+use Rattle.std.specs.Ordering.{nat_cmp}
 use Rattle.std.specs.List.{AllZip, cons_option}
-use Rattle.std.specs.FinMap.{get, keys}
+use Rattle.std.specs.FinMap.{empty, get, keys}
 use Rattle.std.specs.Option.{option_map}
 use Rattle.std.proofs.lemmas.Bool.{cases_eq, false≢true}
-use Rattle.std.proofs.lemmas.List.{take_more, length-set}
+use Rattle.std.proofs.lemmas.List.{length-replicate, length-set, take_more}
 use Rattle.std.proofs.lemmas.List.Elements.{All-cons, All-nil, All-head, All-tail}
 use Rattle.std.proofs.lemmas.Option.{slice_get-map, slice_get_within, slice_get-get_or, get_or_from_slice_get}
 use Rattle.ordinal_set.specs.Ordinals.{bound_of}
 use Rattle.row_model.specs.declared.row.Row.{Row}
 use Rattle.schema_model.specs.declared.schema.Schema.{Schema}
-use Rattle.row_model.specs.Table.{RowMap}
+use Rattle.row_model.specs.BothStates.{rows_in}
+use Rattle.row_model.specs.Table.{RowMap, Table}
 use Rattle.type_rows.specs.Patches.{IsMovedBy, IsReadablePatch}
 use Rattle.type_state.specs.State.{Half, State}
+use Rattle.type_state.specs.Views.{table_of}
 use Rattle.delta_blob.specs.declared.patch.PatchPart.{PatchPart}
-use Rattle.state_moves.specs.declared.fault.MoveFault.{MoveFault}
-use Rattle.state_moves.specs.declared.fault.MoveFault.TheVariants.{Large, Memory, Refused}
-use Rattle.state_moves.specs.Past.{PastPart, rows_of_places}
-use Rattle.state_moves.specs.Moving.{AreMoved, IsReadableIn, IsStuck, MovesState, StaysCurrent, TellsRefusal, TypeIs}
+use Rattle.blob_frame.specs.declared.fault.BlobFault.{BlobFault}
+use Rattle.blob_faults.specs.Judge.{Blames, ◌>>=◌, each_of, item_at, nothing}
+use Rattle.blob_faults.specs.Rows.{moves}
+use Rattle.blob_faults.proofs.EachOf.{each_long, fails_next, passes_next}
+use Rattle.state_moves.specs.Halves.{current_halves}
+use Rattle.state_moves.specs.Judged.{IsFreeMove, part_moves}
+use Rattle.state_moves.specs.Past.{PastPart, no_part, rows_of_places}
+use Rattle.state_moves.specs.Moving.{AreMoved, ComesOf, IsReadableIn, MovesState, StaysCurrent, TypeIs, coming_halves, parts_move}
+use Rattle.state_moves.proofs.Judging.{coming_none, coming_set, moved_next, moved_none}
 use Rattle.state_moves.proofs.PastRows.{current_bound}
+use Rattle.state_moves.proofs.Tables.{current_at}
 
 -- ---- lists
 
@@ -112,22 +121,66 @@ module _ (initial states : List State) (parts : List PatchPart) (i : ℕ) (part 
   part_at : slice_get parts i ≡ Some part
   part_at = slice_get-get_or parts i part inside ∙ ap Some (sym is)
 
-  pub stuck_here : (d : State) → ((rows : RowMap) → IsMovedBy (get_or states part.type_index d).schema.shape part.section (get_or states part.type_index d).current.rows rows → ⊥) → IsStuck initial parts
-  stuck_here d none = record {
-    place = i;
-    named = part;
-    state = here.0;
-    part = part_at;
-    type_there = here.1;
-    none = λ rows moved. never rows moved;
+  -- the schema and the rows of the part's type, as they were
+  schema_was : slice_get (map (λ (s : State). s.schema) initial) part.type_index ≡ Some here.0.schema
+  schema_was = slice_get-map (λ (s : State). s.schema) initial part.type_index ∙ ap (option_map (λ (s : State). s.schema)) here.1
+
+  rows_were : rows_in (table_of (current_halves initial)) part.type_index ≡ here.0.current.rows
+  rows_were = ap (λ (found : Option RowMap). unwrap_or found (empty {R = nat_cmp})) (current_at initial part.type_index here.0 here.1)
+
+  -- both still stand there
+  schema_stays : (d : State) → (get_or states part.type_index d).schema ≡ here.0.schema
+  schema_stays d = ap (λ (s : State). s.schema) (get_or_from_slice_get states part.type_index type_there.0 d type_there.1) ∙ type_there.2
+
+  rows_stay : (d : State) → (get_or states part.type_index d).current.rows ≡ rows_in (table_of (current_halves initial)) part.type_index
+  rows_stay d =
+      ap (λ (s : State). s.current.rows) (get_or_from_slice_get states part.type_index type_there.0 d type_there.1) ∙ ap (λ (half : Half). half.rows) type_there.3 ∙ sym rows_were
+
+  -- the part fails as the move of its type does
+  part_fails : (d : State) (fault : BlobFault) → (moves part.at (get_or states part.type_index d).schema part.section (get_or states part.type_index d).current.rows).Fails fault
+      → (part_moves (map (λ (s : State). s.schema) initial) (table_of (current_halves initial)) part).Fails fault
+  unfolding part_moves ◌>>=◌ item_at
+  part_fails d fault fails = inr (
+    here.0.schema,
+    schema_was,
+    subst (λ (rows : RowMap). (moves part.at here.0.schema part.section rows).Fails fault) (rows_stay d)
+        (subst (λ (schema : Schema). (moves part.at schema part.section (get_or states part.type_index d).current.rows).Fails fault) (schema_stays d) fails),
+  )
+
+  -- the part passes with the rows that its type moves to
+  part_passes : (d s : State) → s.schema ≡ (get_or states part.type_index d).schema → s.current ≡ (get_or states part.type_index d).current → IsMovedBy s.schema.shape part.section s.current.rows s.other.rows
+      → (part_moves (map (λ (s : State). s.schema) initial) (table_of (current_halves initial)) part).Passes s.other.rows
+  unfolding part_moves ◌>>=◌ item_at moves
+  part_passes d s schema current moved = (
+    here.0.schema,
+    schema_was,
+    subst (λ (rows : RowMap). IsMovedBy here.0.schema.shape part.section rows s.other.rows) (ap (λ (half : Half). half.rows) current ∙ rows_stay d)
+        (subst (λ (x : Schema). IsMovedBy x.shape part.section s.current.rows s.other.rows) (schema ∙ schema_stays d) moved),
+  )
+
+  -- where the parts before it pass, a fault of the part is that of the parts
+  pub part_blamed : (d : State) (fault : BlobFault) (rows : List RowMap) → (parts_move initial (take i parts)).Passes rows
+      → Blames (moves part.at (get_or states part.type_index d).schema part.section (get_or states part.type_index d).current.rows) IsFreeMove fault → Blames (parts_move initial parts) IsFreeMove fault
+  part_blamed d fault rows passes (inl fails) =
+      inl (fails_next (part_moves (map (λ (s : State). s.schema) initial) (table_of (current_halves initial))) parts i rows part fault part_at passes (part_fails d fault fails))
+  part_blamed d fault rows passes (inr free) = inr free
+
+  -- with the part the rows come that it leads to
+  pub comes_more : (named : List Bool) (d s : State) → length named ≡ length states → s.schema ≡ (get_or states part.type_index d).schema → s.current ≡ (get_or states part.type_index d).current
+      → IsMovedBy s.schema.shape part.section s.current.rows s.other.rows → ComesOf (take i parts) initial states named
+      → ComesOf (take (i + 1) parts) initial (set states part.type_index s) (set named part.type_index true)
+  comes_more named d s long schema current moved before = record {
+    rows = before.rows ++ s.other.rows ∷ [];
+    passes =
+        passes_next (part_moves (map (λ (s : State). s.schema) initial) (table_of (current_halves initial))) parts i before.rows part s.other.rows part_at before.passes
+        (part_passes d s schema current moved);
+    comes =
+        coming_set states named part.type_index s long
+        ∙ ap (λ (table : Table). set table part.type_index s.other.rows) before.comes
+        ∙ sym
+        (moved_next (table_of (current_halves initial)) parts i before.rows part s.other.rows part_at
+        (each_long (part_moves (map (λ (s : State). s.schema) initial) (table_of (current_halves initial))) (take i parts) before.rows before.passes));
   }
-    where
-      never : (rows : RowMap) → IsMovedBy here.0.schema.shape part.section here.0.current.rows rows → ⊥
-      never rows moved =
-          let same = get_or_from_slice_get states part.type_index type_there.0 d type_there.1 in
-          none rows (subst (λ (s : State). IsMovedBy s.schema.shape part.section s.current.rows rows) (sym same)
-          (subst (λ (schema : Schema). IsMovedBy schema.shape part.section type_there.0.current.rows rows) (sym type_there.2)
-          (subst (λ (half : Half). IsMovedBy here.0.schema.shape part.section half.rows rows) (sym type_there.3) moved)))
 
   -- what is put at the part's type is what stands there
   put_there : {A : Type 0} (xs : List A) (t : ℕ) (x y : A) → length xs ≡ length states → part.type_index ≡ t → slice_get (set xs part.type_index x) t ≡ Some y → x ≡ y
@@ -164,16 +217,41 @@ module _ (initial states : List State) (parts : List PatchPart) (i : ℕ) (part 
           (subst (All (λ named. named.type_index ≡ t → ⊥)) (sym (take_more parts i part inside ∙ ap (λ (x : PatchPart). take i parts ++ x ∷ []) last)) (all_push (λ named. named.type_index ≡ t → ⊥) (take i parts) part all apart))
       that t state is_named kept apart (TypeIs.Named flag place by at same moves) = TypeIs.Named flag place by (taken_from parts i place by at) same moves
 
--- ---- refusals
+-- ---- no part
 
-pub refuses_as : (P Q : Type 0) (e : MoveFault) → (P → Q) → TellsRefusal P e → TellsRefusal Q e
-refuses_as P Q (Refused why) gives is = gives is
-refuses_as P Q (Large limit) gives (of, is) = (of, gives is)
-refuses_as P Q Memory gives is = tt
+-- what stands in a list of one value is that value
+one_value : {A : Type 0} (n : ℕ) (value found : A) (t : ℕ) → slice_get (replicate n value) t ≡ Some found → found ≡ value
+one_value zero value found t at = absurd cc
+one_value (suc n) value found zero at = let same : Some value ≡ Some found = at in cc
+one_value (suc n) value found (suc t) at = one_value n value found t at
 
-pub refused_exit : {T : Type 0} (P : Type 0) (r : Result T MoveFault) (e : MoveFault) → IsErrAnd r (λ f. f ≡ e) → TellsRefusal P e → IfErr r (TellsRefusal P)
-refused_exit P (Ok x) e is refuses = absurd is
-refused_exit P (Err f) e is refuses = subst (TellsRefusal P) (sym is) refuses
+-- before the first part no type is moved
+pub moved_none_yet : (states : List State) (parts : List PatchPart) (named : List Bool) (past : List PastPart) → named ≡ replicate (length states) false → past ≡ replicate (length states) no_part
+    → AreMoved (take 0 parts) states named past
+moved_none_yet states parts named past unnamed none = record {
+  named_long = ap length unnamed ∙ length-replicate (length states) false;
+  past_long = ap length none ∙ length-replicate (length states) no_part;
+  types = λ t state is_named part at flag kept. TypeIs.Unnamed
+      (one_value (length states) false is_named t (sym (ap (λ (flags : List Bool). slice_get flags t) unnamed) ∙ flag))
+      (one_value (length states) no_part part t (sym (ap (λ (parts : List PastPart). slice_get parts t) none) ∙ kept))
+      (All-nil (λ (named : PatchPart). named.type_index ≡ t → ⊥));
+}
+
+-- before the first part the current rows come
+pub comes_none : (states : List State) (parts : List PatchPart) (named : List Bool) → named ≡ replicate (length states) false → ComesOf (take 0 parts) states states named
+unfolding each_of nothing
+comes_none states parts named none = record {
+  rows = [];
+  passes = refl;
+  comes = ap (λ (flags : List Bool). table_of (coming_halves states flags)) none ∙ coming_none (length states) states refl ∙ moved_none (table_of (current_halves states)) [];
+}
+
+-- ---- faults
+
+-- a fault that is passed on tells the same
+pub fault_exit : {T : Type 0} (Tells : BlobFault → Type 0) (result : Result T BlobFault) (fault : BlobFault) → IsErrAnd result (λ found. found ≡ fault) → Tells fault → IfErr result Tells
+fault_exit Tells (Ok value) fault is tells = absurd is
+fault_exit Tells (Err found) fault is tells = subst Tells (sym is) tells
 
 -- ---- what is kept
 

@@ -1,4 +1,5 @@
 pub mod Closing
 pub mod Halves
+pub mod Judged
 pub mod Moving
 pub mod Past

@@ -3,8 +3,6 @@
 use Rattle.std.specs.Prelude.{◌≡◌, ◌<◌, ◌-◌, ◌^◌, ℕ, Bool, List, [], ◌∷◌, Some, false, true, if◌then◌else◌, All, length, map, slice_get}
 use Rattle.std.specs.List.{AllZip}
 use Rattle.std.specs.FinMap.{get}
-use Rattle.schema_model.specs.declared.limit.Limit.{Limit}
-use Rattle.schema_model.specs.declared.limit.Limit.TheVariants.{Bytes, Words}
 use Rattle.schema_model.specs.declared.schema.Schema.{Schema}
 use Rattle.row_model.specs.Table.{RowMap, IsClosed, IsTableOf}
 use Rattle.type_rows.specs.declared.patch.PatchSection.{PatchSection}
@@ -12,9 +10,9 @@ use Rattle.type_rows.specs.Patches.{IsMovedBy, IsReadablePatch, IsWellFormedPatc
 use Rattle.type_state.specs.State.{Half, State, IsLaidOut}
 use Rattle.type_state.specs.Views.{table_of}
 use Rattle.delta_blob.specs.declared.patch.PatchPart.{PatchPart}
-use Rattle.state_moves.specs.declared.fault.MoveFault.{MoveFault}
-use Rattle.state_moves.specs.declared.fault.MoveFault.TheVariants.{Large, Memory, Refused}
+use Rattle.blob_faults.specs.Judge.{Judge, each_of}
 use Rattle.state_moves.specs.Halves.{current_halves}
+use Rattle.state_moves.specs.Judged.{moved_table, part_moves}
 use Rattle.state_moves.specs.Past.{FitsPast, PastPart, no_part, table_before}
 
 -- the half that comes: the next one of a type that the step names, else the current one
@@ -76,14 +74,15 @@ pub record StaysCurrent (old new : List State) : Type 0 where
   pub schemas : map (λ state. state.schema) new ≡ map (λ state. state.schema) old
   pub halves : current_halves new ≡ current_halves old
 
--- A part moves the rows of its type to no rows.
-pub record IsStuck (states : List State) (parts : List PatchPart) : Type 0 where
-  pub place : ℕ
-  pub named : PatchPart
-  pub state : State
-  pub part : slice_get parts place ≡ Some named
-  pub type_there : slice_get states named.type_index ≡ Some state
-  pub none : (rows : RowMap) → IsMovedBy state.schema.shape named.section state.current.rows rows → ⊥
+-- What is tried of each part: that it moves the current rows of its type.
+abbrev pub parts_move : List State → List PatchPart → Judge (List RowMap)
+parts_move states parts = each_of (part_moves (map (λ state. state.schema) states) (table_of (current_halves states))) parts
+
+-- The parts pass, and the rows that come are the current ones with those that the parts lead to.
+pub record ComesOf (parts : List PatchPart) (before states : List State) (named : List Bool) : Type 0 where
+  pub rows : List RowMap
+  pub passes : (parts_move before parts).Passes rows
+  pub comes : table_of (coming_halves states named) ≡ moved_table (table_of (current_halves before)) parts rows
 
 -- The parts moved the types into their next halves: the rows that come fit the model and are closed, and what is kept of each type fits them and
 -- gives the rows before.
@@ -94,21 +93,3 @@ pub record MovesParts (schemas : List Schema) (parts : List PatchPart) (before s
   pub closed : IsClosed schemas (table_of (coming_halves states named))
   pub fits : AllZip FitsPast (table_of (coming_halves states named)) past
   pub was : table_before (table_of (coming_halves states named)) past ≡ table_of (current_halves before)
-
--- The limits that a move may pass.
-abbrev pub IsMoveLimit : Limit → Type 0
-IsMoveLimit Words = Unit {0}
-IsMoveLimit Bytes = Unit {0}
-IsMoveLimit _ = ⊥
-
--- What a fault of a move tells: want of memory nothing, and a refusal this.
-abbrev pub TellsRefusal : Type 0 → MoveFault → Type 0
-TellsRefusal Fact (Refused why) = Fact
-TellsRefusal Fact (Large limit) = IsMoveLimit limit × Fact
-TellsRefusal Fact Memory = Unit {0}
-
--- Why the parts are refused: the rows of a type cannot be moved, or the rows that come are not closed.
-pub data RefusesParts (schemas : List Schema) (parts : List PatchPart) (before : List State) : Type 0 where
-  Stuck : IsStuck before parts → RefusesParts schemas parts before
-  Open : (mid : List State) (named : List Bool) (past : List PastPart) → AreMoved parts mid named past → StaysCurrent before mid → (IsClosed schemas (table_of (coming_halves mid named)) → ⊥)
-      → RefusesParts schemas parts before

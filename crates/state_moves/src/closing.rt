@@ -1,48 +1,91 @@
 //! Closedness of the rows that come in a step. A row that stays names what it named, so it is tried only where rows left in a type that its own
 //! names; and each row that came is tried.
-ghost use Rattle.std.specs.Prelude.{◌≡◌, ◌↔◌, ◌<◌, Ok, Err, All, IfOk, IfSome, IsSomeAnd, IsTrue, MatchResult, length, slice_get};
+ghost use Rattle.std.specs.Prelude.{◌≡◌, ◌↔◌, ◌<◌, ◌⊎◌, All, IfOk, IfSome, IsSomeAnd, IsTrue, MatchResult, length, slice_get};
 ghost use Rattle.std.specs.List.{AllZip};
 ghost use Rattle.row_model.specs.Dangling.{IsClosedAt};
 ghost use Rattle.schema_model.specs.Parts.{referenced};
 ghost use Rattle.row_model.specs.Table.{IsClosed};
-ghost use Rattle.type_state.specs.Views.{table_of};
+ghost use Rattle.blob_faults.specs.Blame.{BlamesRow};
+ghost use Rattle.blob_faults.specs.Judge.{Blames};
+ghost use Rattle.blob_faults.specs.Rows.{closed};
 ghost use Rattle.state_moves.specs.Closing.{HasKept, IsTypeClosed, KeepsNamed, NamesKept};
-ghost use Rattle.state_moves.specs.Moving.{AreComing, TellsRefusal, coming_halves};
+ghost use Rattle.state_moves.specs.Judged.{IsFreeMove, offset_among, offsets_among};
 ghost use Rattle.state_moves.specs.Past.{FitsPast, table_before};
 
-use crate::MoveFault;
 use crate::coming::Coming;
 use crate::past::{PastPart, part_at};
-use column_rows::{are_closed_at, dangling_in};
-use row_model::{Rows, is_closed_at};
+use blob_faults::blame_rows;
+use blob_frame::BlobFault;
+use column_rows::{are_closed_at, dangling_in, first_dangling};
+use delta_blob::PatchPart;
+use row_model::{Dangling, Rows, is_closed_at};
 use schema_model::{Field, FieldKind, Model, Name, Reason, Shape};
 use std::alloc::{AllocError, Global};
-use type_state::TypeState;
+use type_rows::RowFault;
 
-/// Tries whether each ordinal that a row names that comes is live, where those of the rows before were; `Refused` comes where one is not.
+/// Tries whether each ordinal that a row names that comes is live, where those of the rows before were. The first row that names another one is at
+/// fault, at the offset of the part that names its type, or at the length of the blob, `size`, where no part does.
 pub(crate) fn check_closed(
     alloc: Global,
-    model: &Model,
-    states: &[TypeState],
-    named: &[bool],
+    rows: &Coming<'_>,
     past: &[PastPart],
-) -> Result<(), MoveFault>
-    requires coming { AreComing model.now states.now named.now }
-    requires fits { AllZip FitsPast (table_of (coming_halves states.now named.now)) past.now }
-    requires closed { IsClosed model.now (table_before (table_of (coming_halves states.now named.now)) past.now) }
-    ensures { MatchResult result (λ done. IsClosed model.now (table_of (coming_halves states.now named.now))) (TellsRefusal (IsClosed model.now (table_of (coming_halves states.now named.now)) → ⊥)) }
+    parts: &[PatchPart],
+    size: u64,
+) -> Result<(), BlobFault>
+    requires fits { AllZip FitsPast rows.now.table past.now }
+    requires closed { IsClosed rows.now.schemas (table_before rows.now.table past.now) }
+    ensures { MatchResult result (λ done. IsClosed rows.now.schemas rows.now.table) (Blames (closed (offsets_among rows.now.schemas parts.now size) rows.now.schemas rows.now.table) IsFreeMove) }
 {
-    let rows = Coming {
-        model,
-        states,
-        named,
-    };
-    for type_index in 0..model.len() {
-        if !is_type_closed(alloc, &rows, past, type_index)? {
-            return Err(MoveFault::Refused(Reason::Dangling));
+    if have_closed(alloc, rows, past)? {
+        return Ok(());
+    }
+    match first_dangling(alloc, rows)? {
+        Some(found) => Err(blame_row(alloc, rows.model(), parts, size, found)),
+        None => Ok(()),
+    }
+}
+
+// The fault of a row that comes and names an ordinal that is not live.
+fn blame_row(
+    alloc: Global,
+    model: &Model,
+    parts: &[PatchPart],
+    size: u64,
+    found: Dangling,
+) -> BlobFault
+    requires { found.type_index < length model.now }
+    ensures { BlamesRow (offsets_among model.now parts.now size) model.now found result ⊎ IsFreeMove result }
+{
+    let at = offset_of(parts, size, found.type_index);
+    let name = &model.schema(found.type_index).name;
+    let fault = RowFault::At(Reason::Dangling, u64::from(found.ordinal));
+    blame_rows(alloc, at, name, fault)
+}
+
+// The offset of the schema of a type: that of the part that names it, and the length of the blob where none does.
+fn offset_of(parts: &[PatchPart], size: u64, type_index: u32) -> u64
+    ensures { result ≡ offset_among parts.now size type_index }
+{
+    for part in parts {
+        if part.type_index == type_index {
+            return part.at;
         }
     }
-    Ok(())
+    size
+}
+
+// Whether the rows that come name live ordinals alone.
+fn have_closed(alloc: Global, rows: &Coming<'_>, past: &[PastPart]) -> Result<bool, AllocError>
+    requires fits { AllZip FitsPast rows.now.table past.now }
+    requires closed { IsClosed rows.now.schemas (table_before rows.now.table past.now) }
+    ensures { IfOk result (λ closed. IsTrue closed ↔ IsClosed rows.now.schemas rows.now.table) }
+{
+    for type_index in 0..rows.model().len() {
+        if !is_type_closed(alloc, rows, past, type_index)? {
+            return Ok(false);
+        }
+    }
+    Ok(true)
 }
 
 // Whether the rows that come in a type name live ordinals alone. All are tried where rows left in a type that they name, and else those that

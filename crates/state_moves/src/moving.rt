@@ -1,35 +1,38 @@
 //! Moving the types of a state by the parts of a patch, into their next halves.
 ghost use Rattle.std.specs.Prelude.{◌≡◌, ◌<◌, ◌^◌, All, IfErr, IfOk, IsSome, OnOk, false, length, map, replicate};
 ghost use Rattle.std.specs.FinMap.{get};
-ghost use Rattle.row_model.specs.Table.{RowMap};
-ghost use Rattle.type_rows.specs.Patches.{FitsOrdinals, IsMovedBy, IsReadablePatch, patch_layout};
-ghost use Rattle.state_moves.specs.Moving.{AreMoved, IsReadableIn, IsStuck, KeepsPatch, MovesState, StaysCurrent, TellsRefusal};
+ghost use Rattle.type_rows.specs.Patches.{FitsOrdinals, IsReadablePatch, patch_layout};
+ghost use Rattle.blob_faults.specs.Judge.{Blames};
+ghost use Rattle.blob_faults.specs.Rows.{moves};
+ghost use Rattle.state_moves.specs.Judged.{IsFreeMove};
+ghost use Rattle.state_moves.specs.Moving.{AreMoved, ComesOf, IsReadableIn, KeepsPatch, MovesState, StaysCurrent, parts_move};
 ghost use Rattle.state_moves.specs.Past.{no_part};
 
-use crate::MoveFault;
 use crate::moved::{Moved, NamedTypes, none_named};
 use crate::past::{PastPart, PastParts, no_past};
+use blob_faults::blame_rows;
+use blob_frame::BlobFault;
 use delta_blob::PatchPart;
 use hol_varint::Ordinals;
 use row_model::Places;
-use schema_model::Limit;
 use std::alloc::{AllocError, Global};
-use type_rows::{PatchSection, RowFault};
+use type_rows::PatchSection;
 use type_state::TypeState;
 
 /// Moves the types, of which there are so many, by the parts of a patch, each into its next half, and answers which types they name and what is
-/// to be kept of each. The current halves stay as they are. `Refused` and `Large` come where a part moves the rows of its type to no rows.
+/// to be kept of each. The current halves stay as they are. The first part that moves the rows of its type to no rows is at fault.
 pub(crate) fn move_types(
     alloc: Global,
     count: u32,
     states: &mut [TypeState],
     parts: &[PatchPart],
-) -> Result<Moved, MoveFault>
+) -> Result<Moved, BlobFault>
     requires count { count ≡ length states.old }
     requires readable { All (IsReadableIn states.old) parts.now }
     ensures stays { StaysCurrent states.old states.new }
     ensures moved { IfOk result (λ moved. AreMoved parts.now states.new moved.named moved.past) }
-    ensures refused { IfErr result (TellsRefusal (IsStuck states.old parts.now)) }
+    ensures comes { IfOk result (λ moved. ComesOf parts.now states.old states.new moved.named) }
+    ensures blamed { IfErr result (Blames (parts_move states.old parts.now) IsFreeMove) }
 {
     let mut named = none_named(alloc, count)?.into_vec();
     let mut past = no_past(alloc, count)?.into_vec();
@@ -53,41 +56,35 @@ fn move_each(
     named: &mut [bool],
     past: &mut [PastPart],
     parts: &[PatchPart],
-) -> Result<(), MoveFault>
+) -> Result<(), BlobFault>
     requires unnamed { named.old ≡ replicate (length states.old) false }
     requires none { past.old ≡ replicate (length states.old) no_part }
     requires readable { All (IsReadableIn states.old) parts.now }
     ensures stays { StaysCurrent states.old states.new }
     ensures moved { OnOk result (AreMoved parts.now states.new named.new past.new) }
-    ensures refused { IfErr result (TellsRefusal (IsStuck states.old parts.now)) }
+    ensures comes { OnOk result (ComesOf parts.now states.old states.new named.new) }
+    ensures blamed { IfErr result (Blames (parts_move states.old parts.now) IsFreeMove) }
 {
     for part in parts {
         let place = part.type_index as usize;
-        let moved = move_type(alloc, &mut states[place], &part.section)?;
+        let moved = move_type(alloc, &mut states[place], part)?;
         named[place] = true;
         past[place] = moved;
     }
     Ok(())
 }
 
-// Moves a type by a section.
-fn move_type(
-    alloc: Global,
-    state: &mut TypeState,
-    section: &PatchSection,
-) -> Result<PastPart, MoveFault>
-    requires { IsReadablePatch state.old.schema.shape section.now }
-    ensures moved { IfOk result (MovesState section.now state.new) }
-    ensures refused { IfErr result (TellsRefusal ((rows : RowMap) → IsMovedBy state.old.schema.shape section.now state.old.current.rows rows → ⊥)) }
+// Moves a type by the section of a part.
+fn move_type(alloc: Global, state: &mut TypeState, part: &PatchPart) -> Result<PastPart, BlobFault>
+    requires { IsReadablePatch state.old.schema.shape part.now.section }
+    ensures moved { IfOk result (MovesState part.now.section state.new) }
+    ensures blamed { IfErr result (Blames (moves part.now.at state.old.schema part.now.section state.old.current.rows) IsFreeMove) }
     ensures schema { state.new.schema ≡ state.old.schema }
     ensures current { state.new.current ≡ state.old.current }
 {
-    match state.move_next(section) {
-        Ok(()) => Ok(kept_part(alloc, state, section)?),
-        Err(RowFault::Memory) => Err(MoveFault::Memory),
-        Err(RowFault::At(reason, _)) => Err(MoveFault::Refused(reason)),
-        Err(RowFault::Limit(Limit::Words)) => Err(MoveFault::Large(Limit::Words)),
-        Err(RowFault::Limit(_)) => Err(MoveFault::Large(Limit::Bytes)),
+    match state.move_next(&part.section) {
+        Ok(()) => Ok(kept_part(alloc, state, &part.section)?),
+        Err(fault) => Err(blame_rows(alloc, part.at, &state.schema().name, fault)),
     }
 }
 

@@ -1,4 +1,4 @@
-use Rattle.std.proofs.Common.{arith}
+use Rattle.std.proofs.Common.{arith, sym}
 use Rattle.chain_orders.proofs.Checking.{checked, different, refused}
 use Rattle.chain_orders.proofs.check_order.check.Goals as goal
 
@@ -9,9 +9,9 @@ returns-in-Ok-clause-reply g c =
 
 pub returns-in-Err-Walk-clause-reply : goal.returns-in-Err-Walk-clause-reply
 returns-in-Err-Walk-clause-reply g c =
-    refused (g.S.BlobStore.seen c.args.store.now).held (g.S.BlobStore.seen c.check.new.store).held c.args.versions.now c.as_slice.result.now c.new-walker.result c.new-fresh.result
+    refused (g.S.BlobStore.seen c.args.store.now).held c.args.versions.now c.as_slice.result.now c.new-walker.result c.new-fresh.result
     (record { walker = c.check.new.walker; fresh = c.check.new.fresh }) c.in-Err-Walk.field-0 c.in-Err-Walk.name c.in-Err-Walk.fault c.in_ok-refusal-in-Err-Walk.refusal
-    c.as_slice.ensures c.new-walker.ensures c.new-fresh.ensures c.in-Err-Walk.field-0-is c.in-Err-Walk.ensures.kept c.in-Err-Walk.ensures.tells c.in_ok-refusal-in-Err-Walk.ensures.tells
+    c.as_slice.ensures c.new-walker.ensures c.new-fresh.ensures c.in-Err-Walk.field-0-is (sym c.in_ok-refusal-in-Err-Walk.ensures) c.in-Err-Walk.ensures.tells
 
 pub returns-in-Err-Mismatch-clause-reply : goal.returns-in-Err-Mismatch-clause-reply
 returns-in-Err-Mismatch-clause-reply g c =

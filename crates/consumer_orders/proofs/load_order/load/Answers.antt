@@ -1,16 +1,13 @@
-use Rattle.std.proofs.Common.{arith}
+use Rattle.std.proofs.Common.{arith, sym}
 use Rattle.std.proofs.lemmas.Int.{ints, to_z-of_z}
-use Rattle.hol_io.specs.declared.name.BlobName.TheVariants.{Snapshot}
 use Rattle.hol_orders.specs.declared.order_stop.OrderStop.{OrderStop}
-use Rattle.consumer_orders.proofs.Refusing.{same_store}
 use Rattle.consumer_orders.proofs.Loading.{loaded, not_loaded}
 use Rattle.consumer_orders.proofs.load_order.load.Goals as goal
 
 pub returns-in-Err-clause-step : goal.returns-in-Err-clause-step
 returns-in-Err-clause-step g c =
     not_loaded OrderStop (g.S.BlobStore.seen c.args.store.now).held c.args.version c.args.consumer.now c.load.new.self c.in-Err.fault c.in_ok-refusal.refusal c.in-Err.ensures.refused
-    (same_store (g.S.BlobStore.seen c.args.store.now).held (g.S.BlobStore.seen c.load.new.store).held (Snapshot c.args.version) c.in-Err.fault c.in_ok-refusal.refusal c.in-Err.ensures.kept c.in_ok-refusal.ensures.tells)
-    c.in-Err.ensures.tells c.in-Err.ensures.exact
+    (sym c.in_ok-refusal.ensures) c.in-Err.ensures.tells
 
 pub returns-clause-step : goal.returns-clause-step
 returns-clause-step g c =

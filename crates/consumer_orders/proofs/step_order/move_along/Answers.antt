@@ -1,15 +1,13 @@
-use Rattle.std.proofs.Common.{arith}
+use Rattle.std.proofs.Common.{arith, sym}
 use Rattle.std.proofs.lemmas.Int.{ints, to_z-of_z}
 use Rattle.hol_orders.specs.declared.order_stop.OrderStop.{OrderStop}
-use Rattle.consumer_orders.proofs.Refusing.{same_store}
 use Rattle.consumer_orders.proofs.Stepping.{moved, not_moved}
 use Rattle.consumer_orders.proofs.step_order.move_along.Goals as goal
 
 pub returns-in-Err-clause-step : goal.returns-in-Err-clause-step
 returns-in-Err-clause-step g c =
     not_moved OrderStop (g.S.BlobStore.seen c.args.store.now).held c.args.name.now c.args.consumer.now c.step.new.self c.in-Err.fault c.in_ok-refusal.refusal c.requires.state c.in-Err.ensures.refused
-    (same_store (g.S.BlobStore.seen c.args.store.now).held (g.S.BlobStore.seen c.step.new.store).held c.args.name.now c.in-Err.fault c.in_ok-refusal.refusal c.in-Err.ensures.kept c.in_ok-refusal.ensures.tells)
-    c.in-Err.ensures.tells c.in-Err.ensures.exact
+    (sym c.in_ok-refusal.ensures) c.in-Err.ensures.tells
 
 pub returns-clause-step : goal.returns-clause-step
 returns-clause-step g c =

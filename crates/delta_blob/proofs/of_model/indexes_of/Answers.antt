@@ -5,16 +5,14 @@ use Rattle.std.proofs.lemmas.List.{take_all}
 use Rattle.schema_model.specs.declared.model.rule.Rule.TheVariants.{DuplicateName}
 use Rattle.delta_blob.specs.declared.part.DeltaPart.{DeltaPart}
 use Rattle.delta_blob.specs.OfModel.{IsIndexOf}
-use Rattle.delta_blob.proofs.AmongModel.{unlike_among}
-use Rattle.delta_blob.proofs.Indexed.{StandOnce, indexes_more, names_once, none_among, once_more}
+use Rattle.delta_blob.proofs.Indexed.{StandOnce, indexes_more, names_once, once_more}
+use Rattle.delta_blob.proofs.JudgedTypes.{unlike_blames}
 use Rattle.delta_blob.proofs.of_model.indexes_of.Goals as goal
 
-pub returns-in_default-clause-tells : goal.returns-in_default-clause-tells
-returns-in_default-clause-tells c =
-    unlike_among c.args.model.now c.args.parts.now
-    (none_among c.args.model.now c.args.parts.now c.loop-part.part-index c.part-item.result c.loop-part.indexes (omega (arith, c.loop-part-test.true)) c.part-item.is c.loop-part.invariant.each
-    (λ index at. subst (λ (taken : List ℕ). Contains taken index) c.as_slice.ensures (c.in_default.ensures index at)))
-    c.unlike.result c.unlike.ensures
+pub returns-in_default-clause-blames : goal.returns-in_default-clause-blames
+returns-in_default-clause-blames c = λ spelled.
+    unlike_blames c.args.model.now (c.len.ensures.model DuplicateName) c.args.parts.now c.loop-part.part-index c.part-item.result c.loop-part.indexes c.unlike.result (omega (arith, c.loop-part-test.true)) c.part-item.is
+    c.loop-part.invariant.each (λ index at. subst (λ (taken : List ℕ). Contains taken index) c.as_slice.ensures (c.in_default.ensures index at)) (c.unlike.ensures.tells spelled)
 
 pub loop-part-preserved : goal.loop-part-preserved
 loop-part-preserved c = record {
@@ -24,7 +22,7 @@ loop-part-preserved c = record {
       (once_more c.loop-part.indexes c.in-Some.type_index c.loop-part.invariant.once (λ taken. c.in-Some.ensures.1 (subst (λ (ns : List ℕ). Contains ns c.in-Some.type_index) (sym c.as_slice.ensures) taken)));
 }
 
-pub returns-clause-tells : goal.returns-clause-tells
-returns-clause-tells c =
+pub returns-clause-found : goal.returns-clause-found
+returns-clause-found c =
     let each = subst (λ (ps : List DeltaPart). AllZip (IsIndexOf c.args.model.now) ps c.loop-part.indexes) (take_all c.loop-part.part-index c.args.parts.now (omega (arith, c.loop-part-test.false))) c.loop-part.invariant.each in
     record { once = names_once c.args.model.now (c.len.ensures.model DuplicateName) c.args.parts.now c.loop-part.indexes each c.loop-part.invariant.once; each = each }

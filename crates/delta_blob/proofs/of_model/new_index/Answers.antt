@@ -1,4 +1,4 @@
-use Rattle.std.proofs.Common.{◌≡◌, ℕ, Option, None, Some, refl, rules, subst, sym}
+use Rattle.std.proofs.Common.{◌≡◌, ℕ, Option, None, refl, rules, subst, sym}
 use Rattle.std.specs.Prelude.{Contains, MatchOption}
 use Rattle.delta_blob.specs.Patch.{Means}
 use Rattle.delta_blob.proofs.Indexed.{its_index, no_index, other_schema, type_inside}

@@ -5,4 +5,4 @@ pub returns-clause-head : goal.returns-clause-head
 returns-clause-head c = some_head c.one_header.ensures
 
 pub returns-clause-show : goal.returns-clause-show
-returns-clause-show c = some_show c.one_header.ensures c.rows_fit.ensures.fits
+returns-clause-show c = some_show c.some_fault.ensures c.rows_fit.ensures.fits

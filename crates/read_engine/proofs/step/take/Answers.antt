@@ -8,7 +8,9 @@ use Rattle.type_state.specs.Views.{table_of}
 use Rattle.delta_blob.specs.Reads.{IsWholePart}
 use Rattle.key_index.specs.Indexed.{Indexed}
 use Rattle.state_moves.specs.Halves.{current_halves}
-use Rattle.state_moves.specs.Moving.{RefusesParts, StaysCurrent, TellsRefusal}
+use Rattle.blob_faults.specs.Judge.{Blames}
+use Rattle.state_moves.specs.Judged.{IsFreeMove, state_moved}
+use Rattle.state_moves.specs.Moving.{StaysCurrent}
 use Rattle.read_engine.specs.Indexes.{CountsStep}
 use Rattle.read_engine.specs.Kept.{IsKept, count_came, index_kept}
 use Rattle.read_engine.specs.Position.{Position}
@@ -84,8 +86,9 @@ returns-in_err-past-clause-state g c =
 pub returns-in_err-past-clause-tells : goal.returns-in_err-past-clause-tells
 returns-in_err-past-clause-tells g c =
     let was : c.as_mut_slice.result.now ≡ c.consumer.inside.states = c.as_mut_slice.ensures.value ∙ c.into_vec-states.ensures ∙ c.replace.ensures.value in
-    tells_refusal c.args.tag c.args.parts.now c.args.consumer.now _ c.from_residual.result c.in_err-past.field-0.0 c.from_residual.ensures.1
-    (not_taken c.consumer.inside.tag c.consumer.inside.model c.consumer.inside.states c.consumer.inside.past c.consumer.inside.indexes c.consumer.invariant c.args.consumer.now c.consumer.view_is c.requires.standing c.args.parts.now c.in_err-past.field-0.0 (subst (λ (xs : List State). TellsRefusal (RefusesParts c.consumer.inside.model c.args.parts.now xs) c.in_err-past.field-0.0) was c.in_err-past.ensures.refused))
+    tells_refusal c.args.size c.args.tag c.args.parts.now c.args.consumer.now _ c.from_residual.result c.in_err-past.field-0.0 c.from_residual.ensures.1
+    (not_taken c.consumer.inside.tag c.consumer.inside.model c.consumer.inside.states c.consumer.inside.past c.consumer.inside.indexes c.consumer.invariant c.args.consumer.now c.consumer.view_is c.requires.standing c.args.size c.args.parts.now c.in_err-past.field-0.0
+    (subst (λ (xs : List State). Blames (state_moved c.consumer.inside.model c.args.parts.now c.args.size (table_of (current_halves xs))) IsFreeMove c.in_err-past.field-0.0) was c.in_err-past.ensures.blamed))
 
 pub returns-in_err-past-clause-part : goal.returns-in_err-past-clause-part
 returns-in_err-past-clause-part g c =

@@ -5,16 +5,19 @@ use Rattle.row_model.specs.Table.{IsClosed}
 use Rattle.type_state.specs.State.{Half}
 use Rattle.type_state.specs.Views.{table_of}
 use Rattle.state_moves.specs.Halves.{current_halves}
-use Rattle.state_moves.specs.Moving.{AreComing, IsComingLaid, RefusesParts, coming_halves}
+use Rattle.blob_faults.specs.Judge.{Blames}
+use Rattle.state_moves.specs.Judged.{IsFreeMove, state_moved}
+use Rattle.state_moves.specs.Moving.{AreComing, IsComingLaid, coming_halves}
 use Rattle.state_moves.specs.Past.{PastPart}
 use Rattle.read_engine.specs.Kept.{FollowsPart, IsKept, count_came, index_kept}
 use Rattle.read_engine.proofs.Follow.{all_moved, all_reserved, all_settled, same_indexes}
-use Rattle.state_moves.proofs.Moves.{refused_exit}
-use Rattle.read_engine.proofs.Taken.{all_ready, on_err}
+use Rattle.read_engine.proofs.Taken.{all_ready, err_exit, on_err}
 use Rattle.read_engine.proofs.step.take_parts.Goals as goal
 
-pub returns-in_err-moved-clause-refused : goal.returns-in_err-moved-clause-refused
-returns-in_err-moved-clause-refused g c = refused_exit (RefusesParts c.args.model.now c.args.parts.now c.args.states.now) c.from_residual.result c.in_err-moved.field-0.0 c.from_residual.ensures.1 c.in_err-moved.ensures.refused
+pub returns-in_err-moved-clause-blamed : goal.returns-in_err-moved-clause-blamed
+returns-in_err-moved-clause-blamed g c =
+    let judge = state_moved c.args.model.now c.args.parts.now c.args.size (table_of (current_halves c.args.states.now)) in
+    err_exit c.from_residual.result (Blames judge IsFreeMove) c.in_err-moved.field-0.0 c.from_residual.ensures.1 c.in_err-moved.ensures.blamed
 
 pub reserve_all-requires-clause-coming : goal.reserve_all-requires-clause-coming
 reserve_all-requires-clause-coming g c = subst (AreComing c.args.model.now c.move_state.new.states) (sym c.as_slice-named.ensures) c.in_ok-moved.ensures.moves.coming

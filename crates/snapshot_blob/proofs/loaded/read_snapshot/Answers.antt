@@ -31,12 +31,12 @@ returns-in_err-header-clause-kind g c =
 pub returns-in_err-model-clause-tells : goal.returns-in_err-model-clause-tells
 returns-in_err-model-clause-tells g c =
     tells_body (g.S.BlobStore.seen c.args.store.now).held c.args.name.now c.in_ok-cursor.cursor c.in_ok-cursor.ensures.starts c.in_ok-cursor.ensures.start c.in_ok-cursor.ensures.kept refl
-    c.in_ok-header.header c.in_err-model.field-0.0 _ (search rules) c.in_ok-header.ensures.reads c.in_err-model.ensures.kind c.in_err-model.ensures.tells
+    c.in_ok-header.header c.in_err-model.field-0.0 _ (search rules) c.in_ok-header.ensures.reads c.in_err-model.ensures.tells
 
 pub returns-in_err-model-clause-exact : goal.returns-in_err-model-clause-exact
 returns-in_err-model-clause-exact g c = exact_held (g.S.BlobStore.seen c.args.store.now).held c.args.name.now _
     (tells_body (g.S.BlobStore.seen c.args.store.now).held c.args.name.now c.in_ok-cursor.cursor c.in_ok-cursor.ensures.starts c.in_ok-cursor.ensures.start c.in_ok-cursor.ensures.kept refl
-    c.in_ok-header.header c.in_err-model.field-0.0 c.from_residual-in_err-model.result (search rules) c.in_ok-header.ensures.reads c.in_err-model.ensures.kind c.in_err-model.ensures.tells)
+    c.in_ok-header.header c.in_err-model.field-0.0 c.from_residual-in_err-model.result (search rules) c.in_ok-header.ensures.reads c.in_err-model.ensures.tells)
 
 pub returns-in_err-model-clause-kind : goal.returns-in_err-model-clause-kind
 returns-in_err-model-clause-kind g c = kind_of c.args.name.now c.in_err-model.field-0.0 _ (search rules) (body_kind c.args.name.now c.in_err-model.field-0.0 c.in_err-model.ensures.kind)

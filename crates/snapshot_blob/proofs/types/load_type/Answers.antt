@@ -1,9 +1,9 @@
 use Rattle.std.proofs.Common.{ap, subst}
-use Rattle.row_model.specs.Table.{RowMap}
 use Rattle.schema_model.specs.declared.schema.Schema.{Schema}
-use Rattle.type_rows.specs.Loads.{Loads}
-use Rattle.snapshot_blob.specs.Stated.{Refuses}
+use Rattle.blob_faults.specs.Judge.{Blames}
+use Rattle.blob_faults.specs.Rows.{loads}
+use Rattle.snapshot_blob.specs.Stated.{IsWant}
 use Rattle.snapshot_blob.proofs.types.load_type.Goals as goal
 
 pub returns : goal.returns
-returns c = subst (λ (schema : Schema). Refuses ((rows : RowMap) × Loads schema.shape c.args.part.section rows) c.in-Err.fault) (ap (λ state. state.schema) c.new-state.ensures) c.in-Err.ensures
+returns c = subst (λ (schema : Schema). Blames (loads c.args.part.at schema c.args.part.section) IsWant c.in-Err.fault) (ap (λ state. state.schema) c.new-state.ensures) c.in-Err.ensures

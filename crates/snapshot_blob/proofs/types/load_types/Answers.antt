@@ -1,13 +1,14 @@
 use Rattle.std.proofs.Common.{◌≡◌, ◌∙◌, [], List, length, ap, sym, subst, refl, rules, arith}
 use Rattle.std.specs.List.{All, AllZip}
 use Rattle.std.specs.Vec.Iter.{into_iter_items}
-use Rattle.row_model.specs.Table.{RowMap}
 use Rattle.type_state.specs.State.{State}
 use Rattle.type_rows.specs.WellFormed.{IsReadable}
+use Rattle.blob_faults.specs.Judge.{Blames, each_of}
+use Rattle.blob_faults.specs.Rows.{loads}
 use Rattle.snapshot_blob.specs.declared.part.TypePart.{TypePart}
-use Rattle.snapshot_blob.specs.Stated.{IsLoadedFrom, LoadsPart}
+use Rattle.snapshot_blob.specs.Stated.{IsLoadedFrom, IsWant}
 use Rattle.snapshot_blob.proofs.Loading.{parts_are, one_taken, states_more, all_taken}
-use Rattle.snapshot_blob.proofs.Refusals.{part_loads, refusal}
+use Rattle.snapshot_blob.proofs.Trials.{told_fault, type_blames}
 use Rattle.snapshot_blob.proofs.Zipped.{all_middle}
 use Rattle.snapshot_blob.proofs.types.load_types.Goals as goal
 
@@ -23,8 +24,9 @@ load_type-requires c =
 pub returns-in_err-load_type : goal.returns-in_err-load_type
 returns-in_err-load_type c =
     let are = parts_are c.loop-part.yielded c.in-Some.ensures.steps.0 c.loop-part.invariant.parts c.into_iter-part-iterator.ensures.into_iter_gives.0 c.into_vec-part-items.ensures in
-    refusal (List State) ((rows : RowMap) × LoadsPart c.in-Some.part rows) ((rows : List RowMap) × AllZip LoadsPart c.args.parts rows) (λ states. AllZip IsLoadedFrom c.args.parts states)
-    (part_loads c.args.parts c.loop-part.yielded c.in-Some.part (into_iter_items c.next.new.self) are) c.from_residual.result c.in_err-load_type.field-0.0 (search rules) c.in_err-load_type.ensures
+    told_fault (λ (states : List State). AllZip IsLoadedFrom c.args.parts states) (Blames (each_of (λ (part : TypePart). loads part.at part.schema part.section) c.args.parts) IsWant)
+    c.from_residual.result c.in_err-load_type.field-0.0 (search rules)
+    (type_blames c.args.parts c.loop-part.yielded c.in-Some.part (into_iter_items c.next.new.self) c.loop-part.states c.in_err-load_type.field-0.0 are c.loop-part.invariant.loaded c.in_err-load_type.ensures)
 
 pub loop-part-preserved : goal.loop-part-preserved
 loop-part-preserved c = record {

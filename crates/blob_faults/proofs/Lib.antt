@@ -1,0 +1,9 @@
+pub mod Counted
+pub mod EachOf
+pub mod FormValues
+pub mod LeastNumber
+pub mod Settled
+pub mod SettledClosed
+pub mod SettledModels
+pub mod SettledRows
+pub mod Spelled

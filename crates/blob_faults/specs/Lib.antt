@@ -1,0 +1,9 @@
+pub mod Judge
+pub mod Decided
+pub mod Deciding
+pub mod Settles
+pub mod Reading
+pub mod Failing
+pub mod Models
+pub mod Blame
+pub mod Rows
