@@ -1,28 +1,52 @@
 //! A folder of files as a store of blobs.
-ghost use Rattle.std.specs.Prelude.{◌≤◌, length, IfOk};
+ghost use Rattle.std.specs.Prelude.{◌≡◌, ◌≤◌, length, IfOk};
+ghost use Rattle.hol_io.specs.Causes.{Rose};
+ghost use Rattle.hol_io.specs.declared.store.PutFault.TheVariants.{Failed};
 
 use hol_io::{BlobName, BlobStore, PutFault, StoreFailed, name_text, parse_name};
 use std::alloc::{AllocError, Global};
-use std::fs::File;
-use std::io::{ErrorKind, Read, Seek, SeekFrom};
+use std::fs::{File, TryLockError};
+use std::io::{ErrorKind, Read, Seek, SeekFrom, Write};
 use std::{fs, io};
+
+/// The file that a put writes before it gives it the blob's name. It is that of no blob, so a list passes it over. A run
+/// that is ended within a put may leave it, and the next put takes it away first.
+const NEW: &str = "hollow.new";
 
 /// A folder, whose files are the blobs of their names. Files of other names are passed over. A folder
 /// that is not there holds no names. It does not tell what it holds.
+///
+/// When a put answers, the blob and its name are durable: the system said so of the file before it took its name, and
+/// then of the folder. Where it does not say so of the folder, the put has failed, though the name may have the blob.
+///
+/// Who publishes asks what is announced, lists the names or puts. From the first such call on this store keeps a lock on
+/// the folder, which ends with it and with the process. While another one keeps it, these calls fail.
 #[derive(Drop)]
 pub struct FolderStore {
     folder: Folder,
     faults: u64,
     puts: u64,
+    failure: Option<Failure>,
 }
 
-/// A folder, and the file in it that was read last.
+/// A failure, and the blob that it came of; none where it came of the folder.
+#[derive(Clone, Copy)]
+struct Failure {
+    blob: Option<BlobName>,
+    error: io::Error,
+}
+
+/// A folder, the file in it that was read last, and what is worked on.
 #[derive(Drop)]
 struct Folder {
     rt: HostRuntime,
     alloc: Global,
     path: String,
     last: Option<OpenBlob>,
+    /// The folder itself, open and locked.
+    held: Option<File>,
+    /// The blob that the calls on the system are for; none for the folder.
+    at: Option<BlobName>,
 }
 
 /// A file that stands open, and the place of its next byte.
@@ -62,41 +86,68 @@ fn fill(file: &mut File, buf: &mut [u8]) -> io::Result<usize>
     Ok(done)
 }
 
-impl FolderStore {
-    /// The store of a folder, of which no call has failed.
-    pub fn new(rt: HostRuntime, alloc: Global, path: &str) -> Result<FolderStore, AllocError> {
-        let folder = Folder {
-            rt,
-            alloc,
-            path: String::from_str(alloc, path)?,
-            last: None,
-        };
-        Ok(FolderStore {
-            folder,
-            faults: 0,
-            puts: 0,
-        })
+// Opens a folder and locks it, or fails where another run keeps the lock. The system lets go of it with the process.
+fn lock_folder(rt: &HostRuntime, path: &str) -> io::Result<File> {
+    let folder = File::open(rt, path)?;
+    match folder.try_lock() {
+        Ok(()) => Ok(folder),
+        Err(TryLockError::WouldBlock) => {
+            let message = "another run publishes there";
+            Err(io::Error::new(ErrorKind::WouldBlock, message))
+        }
+        Err(TryLockError::Error(error)) => Err(error),
     }
 }
 
+// Writes a file whose bytes are durable.
+fn write_durably(rt: &HostRuntime, path: &str, bytes: &[u8]) -> io::Result<()> {
+    let mut file = File::create_new(rt, path)?;
+    file.write_all(bytes)?;
+    file.sync_all()
+}
+
 impl Folder {
-    // The path of a name's file.
-    fn file_path(&self, name: &BlobName) -> Result<String, AllocError> {
-        let file = name_text(self.alloc, name)?;
+    // The path of a file.
+    fn path_of(&self, file: &str) -> Result<String, AllocError> {
         format!(in self.alloc; "{}/{file}", self.path)
+    }
+
+    // The path of a name's file.
+    fn blob_path(&self, name: &BlobName) -> Result<String, AllocError> {
+        self.path_of(name_text(self.alloc, name)?.as_str())
+    }
+
+    // The folder itself, which is locked from now on.
+    fn claimed(&mut self) -> io::Result<&File> {
+        self.at = None;
+        if self.held.is_none() {
+            let path = self.path_of(".")?;
+            self.held = Some(lock_folder(&self.rt, path.as_str())?);
+        }
+        self.held
+            .as_ref()
+            .ok_or(io::Error::from(ErrorKind::NotFound))
     }
 
     // Opens the file of a name, and gives its length; none where it is not there.
     fn open(&mut self, name: &BlobName) -> io::Result<Option<u64>> {
         self.last = None;
-        let path = self.file_path(name)?;
-        let kind = match fs::metadata(&self.rt, path.as_str()) {
-            Ok(kind) => kind,
-            Err(error) if error.kind() == ErrorKind::NotFound => return Ok(None),
-            Err(error) => return Err(error),
-        };
-        if !kind.is_file() {
-            return Err(io::Error::from(ErrorKind::InvalidInput));
+        match self.open_file(name) {
+            Ok(size) => Ok(Some(size)),
+            Err(error) if error.kind() == ErrorKind::NotFound => Ok(None),
+            Err(error) => Err(error),
+        }
+    }
+
+    // Opens the file of a name, and gives its length.
+    fn open_file(&mut self, name: &BlobName) -> io::Result<u64> {
+        if *name == BlobName::Announced {
+            self.claimed()?;
+        }
+        self.at = Some(*name);
+        let path = self.blob_path(name)?;
+        if !fs::metadata(&self.rt, path.as_str())?.is_file() {
+            return Err(io::Error::new(ErrorKind::InvalidInput, "not a file"));
         }
         let file = File::open(&self.rt, path.as_str())?;
         let size = file.metadata()?.len();
@@ -105,7 +156,7 @@ impl Folder {
             file,
             at: 0,
         });
-        Ok(Some(size))
+        Ok(size)
     }
 
     // Places the bytes of a name from `at` on at the front of `buf`, and gives their number.
@@ -116,32 +167,37 @@ impl Folder {
         if !is_open {
             self.open(name)?;
         }
+        self.at = Some(*name);
         match &mut self.last {
             Some(blob) => blob.read_at(at, buf),
             None => Ok(0),
         }
     }
 
-    // Writes a new file, and then gives it the name's.
-    fn replace(&mut self, name: &BlobName, bytes: &[u8]) -> Result<(), PutFault> {
+    // Writes a new file, then gives it the name's, and sees to it that both are durable.
+    fn replace(&mut self, name: &BlobName, bytes: &[u8]) -> io::Result<()> {
         self.last = None;
-        let path = self.file_path(name)?;
-        let new = format!(in self.alloc; "{path}.new")?;
-        let written = fs::write(&self.rt, new.as_str(), bytes);
-        if written.is_err() || fs::rename(&self.rt, new.as_str(), path.as_str()).is_err() {
-            let _removed = fs::remove_file(&self.rt, new.as_str());
-            return Err(PutFault::Failed);
+        self.claimed()?;
+        self.at = Some(*name);
+        let new = self.path_of(NEW)?;
+        let path = self.blob_path(name)?;
+        let _stray = fs::remove_file(&self.rt, new.as_str());
+        let mut done = write_durably(&self.rt, new.as_str(), bytes);
+        if done.is_ok() {
+            done = fs::rename(&self.rt, new.as_str(), path.as_str());
         }
-        Ok(())
+        if done.is_err() {
+            let _removed = fs::remove_file(&self.rt, new.as_str());
+            return done;
+        }
+        self.claimed()?.sync_all()
     }
 
     // The names of the folder's files, in order.
-    fn names(&self) -> Result<Vec<BlobName>, PutFault> {
+    fn names(&mut self) -> io::Result<Vec<BlobName>> {
+        self.claimed()?;
         let mut names = Vec::new(self.alloc);
-        let Ok(entries) = fs::read_dir(&self.rt, self.path.as_str()) else {
-            return Err(PutFault::Failed);
-        };
-        for entry in entries {
+        for entry in fs::read_dir(&self.rt, self.path.as_str())? {
             match entry {
                 Ok(entry) => {
                     if let Some(name) = parse_name(entry.file_name()) {
@@ -149,11 +205,71 @@ impl Folder {
                     }
                 }
                 Err(error) if error.kind() == ErrorKind::InvalidFilename => {}
-                Err(_) => return Err(PutFault::Failed),
+                Err(error) => return Err(error),
             }
         }
         names.sort()?;
         Ok(names)
+    }
+}
+
+impl FolderStore {
+    /// The store of a folder, of which no call has failed.
+    pub fn new(rt: HostRuntime, alloc: Global, path: &str) -> Result<FolderStore, AllocError> {
+        let folder = Folder {
+            rt,
+            alloc,
+            path: String::from_str(alloc, path)?,
+            last: None,
+            held: None,
+            at: None,
+        };
+        Ok(FolderStore {
+            folder,
+            faults: 0,
+            puts: 0,
+            failure: None,
+        })
+    }
+
+    /// What failed last, and the system's words for it; none where no call has failed.
+    pub fn last_failure(&self) -> Result<Option<String>, AllocError> {
+        let Some(failure) = &self.failure else {
+            return Ok(None);
+        };
+        let path = match &failure.blob {
+            Some(name) => self.folder.blob_path(name)?,
+            None => self.folder.path.clone()?,
+        };
+        let text = format!(in self.folder.alloc; "{path}: {}", failure.error)?;
+        Ok(Some(text))
+    }
+
+    // Counts a failure, and remembers it.
+    fn count(&mut self, error: io::Error)
+        ensures later { self.old.faults ≤ self.new.faults }
+        ensures rose { Rose self.old.faults self.new.faults }
+        ensures puts { self.new.puts ≡ self.old.puts }
+    {
+        self.folder.last = None;
+        self.faults = self.faults.saturating_add(1);
+        self.failure = Some(Failure {
+            blob: self.folder.at,
+            error,
+        });
+    }
+
+    // Why a put or a list was refused. Want of memory is not counted.
+    fn refused(&mut self, error: io::Error) -> PutFault
+        ensures later { self.old.faults ≤ self.new.faults }
+        ensures rose { result ≡ PutFault.Failed → Rose self.old.faults self.new.faults }
+        ensures puts { self.new.puts ≡ self.old.puts }
+    {
+        if error.kind() == ErrorKind::OutOfMemory {
+            return PutFault::Memory;
+        }
+        self.count(error);
+        PutFault::Failed
     }
 }
 
@@ -167,8 +283,8 @@ impl BlobStore for FolderStore {
     fn size(&mut self, name: &BlobName) -> Result<Option<u64>, StoreFailed> {
         match self.folder.open(name) {
             Ok(size) => Ok(size),
-            Err(_) => {
-                self.faults = self.faults.saturating_add(1);
+            Err(error) => {
+                self.count(error);
                 Err(StoreFailed)
             }
         }
@@ -177,9 +293,8 @@ impl BlobStore for FolderStore {
     fn read_at(&mut self, name: &BlobName, at: u64, buf: &mut [u8]) -> Result<usize, StoreFailed> {
         match self.folder.read(name, at, buf) {
             Ok(count) => Ok(count),
-            Err(_) => {
-                self.folder.last = None;
-                self.faults = self.faults.saturating_add(1);
+            Err(error) => {
+                self.count(error);
                 Err(StoreFailed)
             }
         }
@@ -189,22 +304,14 @@ impl BlobStore for FolderStore {
         self.puts = self.puts.saturating_add(1);
         match self.folder.replace(name, bytes) {
             Ok(()) => Ok(()),
-            Err(PutFault::Memory) => Err(PutFault::Memory),
-            Err(PutFault::Failed) => {
-                self.faults = self.faults.saturating_add(1);
-                Err(PutFault::Failed)
-            }
+            Err(error) => Err(self.refused(error)),
         }
     }
 
     fn list(&mut self, out: &mut Vec<BlobName>) -> Result<(), PutFault> {
         match self.folder.names() {
             Ok(names) => Ok(out.extend_from_slice(names.as_slice())?),
-            Err(PutFault::Memory) => Err(PutFault::Memory),
-            Err(PutFault::Failed) => {
-                self.faults = self.faults.saturating_add(1);
-                Err(PutFault::Failed)
-            }
+            Err(error) => Err(self.refused(error)),
         }
     }
 }

@@ -1,9 +1,11 @@
 //! The program: `hollow FOLDER WORDS..` over the files of a folder, standard input and standard output.
 #![tactic(auto)]
 
+mod ending;
 mod progress;
 mod usage;
 
+use ending::{NO_MEMORY, NOT_KEPT, NOT_READ, NOT_WRITTEN, TOO_LONG, USAGE, say};
 use hol_files::{FolderStore, StdIn, StdOut};
 use hollow_top::{Keep, run};
 use progress::Shown;
@@ -13,23 +15,19 @@ use std::rt::{Env, Files};
 use std::{env, io};
 use usage::{HELP, UsageFault, VERSION};
 
-/// The status of a command line that asks for nothing.
-const USAGE: u8 = 2;
-
-/// The status of a sink that failed.
-const NOT_WRITTEN: u8 = 4;
-
-/// The status of a want of memory.
-const NO_MEMORY: u8 = 6;
-
 fn main(rt: HostRuntime) -> ExitCode {
     let status = match arguments(&rt) {
         Ok(arguments) => status_of(&rt, arguments.as_slice()),
         Err(error) if error.kind() == io::ErrorKind::InvalidData => USAGE,
         Err(_) => NO_MEMORY,
     };
-    if status == USAGE {
-        let _shown = eprintln!(rt; "{}", UsageFault);
+    match status {
+        USAGE => {
+            let _shown = eprintln!(rt; "{}", UsageFault);
+        }
+        NO_MEMORY => say(&rt, "want of memory", None::<&str>),
+        TOO_LONG => say(&rt, "more than 2^32 bytes of input", None::<&str>),
+        _ => {}
     }
     ExitCode::from(status)
 }
@@ -57,11 +55,14 @@ fn status_of(rt: &HostRuntime, arguments: &[String]) -> u8 {
 fn shown(rt: &HostRuntime, text: &str) -> u8 {
     match println!(rt; "{text}") {
         Ok(()) => 0,
-        Err(_) => NOT_WRITTEN,
+        Err(error) => {
+            say(rt, "standard output failed", Some(error));
+            NOT_WRITTEN
+        }
     }
 }
 
-// Does what the words ask for over a folder.
+// Does what the words ask for over a folder, and says what failed where it did.
 fn served(rt: &HostRuntime, folder: &str, words: &[String]) -> u8 {
     let alloc = rt.alloc();
     let Ok(mut store) = FolderStore::new(*rt, alloc, folder) else {
@@ -71,7 +72,7 @@ fn served(rt: &HostRuntime, folder: &str, words: &[String]) -> u8 {
     let mut out = StdOut::new(rt.stdout());
     let mut keep = Keep::new(alloc);
     let mut progress = Shown::new(*rt);
-    run(
+    let status = run(
         alloc,
         words,
         &mut input,
@@ -79,5 +80,16 @@ fn served(rt: &HostRuntime, folder: &str, words: &[String]) -> u8 {
         &mut store,
         &mut keep,
         &mut progress,
-    )
+    );
+    match status {
+        NOT_READ => say(rt, "standard input failed", input.last_failure()),
+        NOT_WRITTEN => say(rt, "standard output failed", out.last_failure()),
+        NOT_KEPT => say(
+            rt,
+            "the folder failed",
+            store.last_failure().unwrap_or(None),
+        ),
+        _ => {}
+    }
+    status
 }

@@ -15,13 +15,17 @@ fn steps_told(rt: HostRuntime, steps: &[u8]) -> Result<String, AllocError> {
     Ok(told)
 }
 
-/// Makes the folder, with a file of no blob's name (`f`), and a folder of a blob's name in it (`x`), and removes it (`q`), or else takes a
-/// step over the store.
+/// Makes the folder, with a file of no blob's name (`f`), in it a new file as a put that was ended leaves one (`w`) and a folder of a
+/// blob's name (`x`), and removes it (`q`), tells what failed last (`e`) or what another store tells meanwhile (`t`), or else takes
+/// a step over the store.
 fn folder_told(rt: HostRuntime, store: &mut FolderStore, step: u8) -> Result<String, AllocError> {
     match step {
         b'f' => done_told(rt.alloc(), makes_folder(rt)),
+        b'w' => done_told(rt.alloc(), fs::write(&rt, "blobs/hollow.new", "ab").is_ok()),
         b'x' => done_told(rt.alloc(), fs::create_dir(&rt, "blobs/snapshot-2").is_ok()),
         b'q' => done_told(rt.alloc(), fs::remove_dir_all(&rt, "blobs").is_ok()),
+        b'e' => failure_told(rt.alloc(), store),
+        b't' => other_told(rt),
         _ => step_told(rt.alloc(), store, step),
     }
 }
@@ -34,15 +38,38 @@ fn done_told(alloc: Global, done: bool) -> Result<String, AllocError> {
     format!(in alloc; "{done};")
 }
 
+fn failure_told(alloc: Global, store: &FolderStore) -> Result<String, AllocError> {
+    match store.last_failure()? {
+        Some(failure) => format!(in alloc; "{failure};"),
+        None => String::from_str(alloc, "none;"),
+    }
+}
+
+fn other_told(rt: HostRuntime) -> Result<String, AllocError> {
+    let mut other = FolderStore::new(rt, rt.alloc(), "blobs")?;
+    let mut told = step_told(rt.alloc(), &mut other, b'l')?;
+    told.push_str(failure_told(rt.alloc(), &other)?.as_str())?;
+    Ok(told)
+}
+
 #[test]
 fn a_folder(rt: HostRuntime) -> Result<(), AllocError> {
-    let absent = steps_told(rt, b"nls0")?;
-    assert!(rt; absent.as_str() == "Ok(None);Err(Failed) [];Err(Failed);Ok(0) [0, 0, 0];");
-    let told = steps_told(rt, b"fosdlna039xmq")?;
+    let absent = steps_told(rt, b"nlse0")?;
+    assert!(rt;
+        absent.as_str()
+            == "Ok(None);Err(Failed) [];Err(Failed);blobs: No such file or directory (os error 2);Ok(0) [0, 0, 0];"
+    );
+    let told = steps_told(rt, b"fewosdltna039")?;
     assert!(rt;
         told.as_str()
-            == "true;Ok(());Ok(());Ok(());Ok(()) [Snapshot(1), Delta(1, 2)];Ok(Some(5));Ok(None);\
-                Ok(3) [97, 98, 99];Ok(2) [100, 101, 0];Ok(0) [0, 0, 0];true;Err(StoreFailed);true;"
+            == "true;none;true;Ok(());Ok(());Ok(());Ok(()) [Snapshot(1), Delta(1, 2)];\
+                Err(Failed) [];blobs: another run publishes there;Ok(Some(5));Ok(None);\
+                Ok(3) [97, 98, 99];Ok(2) [100, 101, 0];Ok(0) [0, 0, 0];"
+    );
+    let next = steps_told(rt, b"lxmeq")?;
+    assert!(rt;
+        next.as_str()
+            == "Ok(()) [Snapshot(1), Delta(1, 2)];true;Err(StoreFailed);blobs/snapshot-2: not a file;true;"
     );
     Ok(())
 }
