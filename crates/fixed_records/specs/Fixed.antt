@@ -1,5 +1,5 @@
 -- Records of OBJECT types without STRING and BYTES: the bits of the one at a place, and what there must be to write one there.
-use Rattle.std.specs.Prelude.{◌≡◌, ℕ, ◌+◌, ◌*◌, ◌^◌, ◌<◌, ◌≤◌, List, length, sum, take, slice_get, slice_index, All, IfSome}
+use Rattle.std.specs.Prelude.{◌≡◌, ℕ, ◌+◌, ◌-◌, ◌*◌, ◌/◌, ◌^◌, ◌<◌, ◌≤◌, ◌++◌, List, length, min, replicate, sum, take, slice_get, slice_index, All, IfSome}
 use Rattle.std.specs.List.{AllZip}
 use Rattle.bit_array.specs.Element.{number_of, element_of}
 use Rattle.schema_model.specs.Parts.{shape_fields}
@@ -46,3 +46,11 @@ AreOthersKept widths old new place = (other : ℕ) → (other ≡ place → ⊥)
 -- Where no bit stood behind a limit at or behind the place, none stands there.
 abbrev pub IsEndKept : List ℕ → List ℕ → List ℕ → ℕ → Type 0
 IsEndKept widths old new place = (limit : ℕ) → (place + 1) * sum widths ≤ limit → number_of old < 2 ^ limit → number_of new < 2 ^ limit
+
+-- How many words the records fill that both of two word arrays have: from the first word on, without the one that they end in.
+abbrev pub whole_words : List ℕ → ℕ → ℕ → ℕ
+whole_words widths before places = min before places * sum widths / 64
+
+-- The first words are so many of others, and zeros stand behind them.
+abbrev pub HasFront : ℕ → List ℕ → List ℕ → Type 0
+HasFront kept from words = words ≡ take kept from ++ replicate (length words - kept) 0

@@ -8,7 +8,7 @@ mod number;
 mod put;
 mod wide;
 
-pub use copy::copy_records;
+pub use copy::{copy_records, copy_rest, whole_words};
 pub use kinds::is_fixed;
 pub use put::{clear_record, put_record};
 pub use wide::first_wide;

@@ -1,4 +1,3 @@
-mod Floats
-mod Pasts
 pub mod FirstNames
-mod Members
+mod Rising
+mod Sent

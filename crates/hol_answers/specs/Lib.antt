@@ -1,6 +1,9 @@
 pub mod BlobRefusal
+pub mod Content
 pub mod Marks
 pub mod Plain
 pub mod Reply
 pub mod Member
 pub mod Refusal
+pub mod Rising
+pub mod Sent

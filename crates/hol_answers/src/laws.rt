@@ -5,6 +5,12 @@ ghost use Rattle.hol_answers.specs.declared.reply.Reply.{Reply};
 ghost use Rattle.hol_answers.specs.Marks.{is_marked, tells_error};
 ghost use Rattle.hol_answers.specs.Refusal.{refusal_line};
 ghost use Rattle.hol_answers.specs.Reply.{is_refusal, line_of, reply_data};
+ghost use Rattle.hol_answers.specs.Rising.{is_rising};
+
+/// The members of an answer stand in byte order of their names, each once.
+pub fn names_rise()
+    ensures { (reply : Reply) → is_rising (reply_data reply) ≡ true }
+{}
 
 /// An answer has a member `error` exactly where it is a refusal.
 pub fn refusals_told()

@@ -9,15 +9,15 @@ mod plain;
 mod refusal;
 mod refusal_json;
 mod reply;
+mod reply_json;
 mod stat;
+mod to_json;
 
 pub use faults::blob_refusal;
 pub use line::put_line;
-pub use member::{Content, object_of};
 pub use plain::PlainValue;
 pub use refusal::{
     Difference, EqualRows, ItemFault, MAX_LINE_BYTES, OriginFault, Refusal, RefusedRecord, RowPlace,
 };
-pub use refusal_json::refusal_value;
 pub use reply::{Made, PastRows, Reply, put_reply, reply_line};
 pub use stat::{TypeCounts, TypesCounts};

@@ -1,20 +1,10 @@
 //! Lines of JSON.
-ghost use Rattle.std.specs.Prelude.{◌≡◌, ◌++◌, ◌∷◌, [], false, IfOk, OnOk, OnErr, string_bytes};
+ghost use Rattle.std.specs.Prelude.{◌≡◌, ◌++◌, ◌∷◌, [], false, OnOk, OnErr};
 ghost use Rattle.serde_json.specs.View.{view};
 ghost use Rattle.serde_json.specs.Written.{has_float, compact_text};
 
 use serde_json::Value;
 use std::alloc::{AllocError, Global};
-
-/// The line of a value: its text without spaces, and a newline.
-pub(crate) fn line_text(alloc: Global, line: &Value) -> Result<String, AllocError>
-    ensures { IfOk result (λ text. has_float (view line.now) ≡ false
-        → string_bytes text ≡ compact_text (view line.now) ++ 10 ∷ []) }
-{
-    let mut text = line.to_string(alloc)?;
-    text.push('\n')?;
-    Ok(text)
-}
 
 /// Appends the line of a value that has no number with a fraction or an exponent: its JSON text without spaces, the
 /// members of objects in byte order of their names, and a newline. Where memory is refused `out` stays as it was.
@@ -23,6 +13,7 @@ pub fn put_line(alloc: Global, out: &mut Vec<u8>, line: &Value) -> Result<(), Al
     ensures put { OnOk result (out.new.items ≡ out.old.items ++ (compact_text (view line.now) ++ 10 ∷ [])) }
     ensures err { OnErr result (out.new.items ≡ out.old.items) }
 {
-    let text = line_text(alloc, line)?;
+    let mut text = line.to_string(alloc)?;
+    text.push('\n')?;
     out.extend_from_slice(text.as_bytes())
 }

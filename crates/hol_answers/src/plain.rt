@@ -41,12 +41,4 @@ impl PlainValue {
     {
         &self.value
     }
-
-    /// The value itself.
-    pub fn into_value(self) -> Value
-        ensures value { result ≡ self }
-        ensures plain { IsPlain result }
-    {
-        self.value
-    }
 }

@@ -1,15 +1,15 @@
 //! What the order `stat` answers: what a consumer keeps of each type, and the JSON object of it.
-ghost use Rattle.std.specs.Prelude.{◌≡◌, IfOk};
-ghost use Rattle.serde_json.specs.View.{view};
-ghost use Rattle.hol_answers.specs.Member.{content_data};
-ghost use Rattle.hol_answers.specs.Reply.{counts_data, max_data, stat_data, types_data};
+ghost use Rattle.std.specs.Prelude.{◌≡◌, OnOk};
+ghost use Rattle.hol_answers.specs.Content.{content_data};
+ghost use Rattle.hol_answers.specs.Reply.{max_data, stat_data};
+ghost use Rattle.hol_answers.specs.Sent.{Sends};
 
-use crate::Content::{Integer, Json, Number, Text};
-use crate::{Content, object_of};
+use crate::member::Content::{Integer, Number, Text};
+use crate::member::{Content, send_object, send_object_with};
+use crate::to_json::ToJson;
 use hol_varint::List;
 use schema_model::Name;
-use serde_json::Value;
-use std::alloc::{AllocError, Global};
+use serde::Serializer;
 
 /// What a consumer keeps of one type.
 #[derive(Debug, Drop)]
@@ -29,42 +29,36 @@ pub struct TypeCounts {
 /// What a consumer keeps of the types of its model, in model order.
 pub type TypesCounts = List<TypeCounts>;
 
-/// The JSON object that tells what is kept of each type of the state with this tag.
-pub(crate) fn stat_value(alloc: Global, tag: i64, types: &TypesCounts) -> Result<Value, AllocError>
-    ensures { IfOk result (λ value. view value ≡ stat_data tag types.now) }
+/// Sends the object that tells what is kept of each type of the state with this tag.
+pub(crate) fn send_stat<S: Serializer>(
+    tag: i64,
+    types: &TypesCounts,
+    out: &mut S,
+) -> Result<(), S::Error>
+    ensures { OnOk result (Sends (stat_data tag types.now) (S.written out.old) (S.written out.new)) }
 {
-    let types = types_value(alloc, types)?;
-    let members = vec![in alloc;
-        ("ok", Text("stat")),
-        ("tag", Integer(tag)),
-        ("types", Json(types)),
-    ]?;
-    object_of(alloc, members)
-}
-
-// What is kept of the types, in their order.
-fn types_value(alloc: Global, types: &TypesCounts) -> Result<Value, AllocError>
-    ensures { IfOk result (λ value. view value ≡ types_data types.now) }
-{
-    let mut entries = Vec::new(alloc);
-    for counts in types.as_slice() {
-        entries.push(counts_value(alloc, counts)?)?;
-    }
-    Ok(Value::Array(entries))
+    let members = [("ok", Text("stat")), ("tag", Integer(tag))];
+    send_object_with(&members, "types", types, out)
 }
 
 // What is kept of one type.
-fn counts_value(alloc: Global, counts: &TypeCounts) -> Result<Value, AllocError>
-    ensures { IfOk result (λ value. view value ≡ counts_data counts.now) }
-{
-    let members = vec![in alloc;
-        ("bytes", Number(counts.bytes)),
-        ("live", Number(counts.live)),
-        ("max", max_content(counts.max)),
-        ("name", Text(counts.type_name.text())),
-        ("words", Number(counts.words)),
-    ]?;
-    object_of(alloc, members)
+impl ToJson for TypeCounts {
+    ghost use Rattle.hol_answers.specs.Reply.{counts_data};
+
+    ghost json = { counts_data };
+
+    fn send<S: Serializer>(&self, out: &mut S) -> Result<(), S::Error> {
+        send_object(
+            &[
+                ("bytes", Number(self.bytes)),
+                ("live", Number(self.live)),
+                ("max", max_content(self.max)),
+                ("name", Text(self.type_name.text())),
+                ("words", Number(self.words)),
+            ],
+            out,
+        )
+    }
 }
 
 // The greatest ordinal that has a place, -1 where there is no place.

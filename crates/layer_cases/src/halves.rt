@@ -4,13 +4,14 @@ use raw_words::{Halves, TwinWords};
 use std::alloc::{AllocError, Global};
 use std::test::Fail;
 
-/// What is told of new halves (`new`), of two steps (`steps`), of a next half over old words (`again`), or else of one that
-/// grows.
+/// What is told of new halves (`new`), of two steps (`steps`), of a next half over old words (`again`), of one that begins with a current word
+/// (`copied`), or else of one that grows.
 pub fn told(alloc: Global, word: &str) -> Result<String, AllocError> {
     match word.as_bytes() {
         b"new" => both(alloc, &TwinWords::new(alloc)),
         b"steps" => both(alloc, &stepped(alloc)?),
         b"again" => again_told(alloc),
+        b"copied" => copied_told(alloc),
         _ => grown_told(alloc),
     }
 }
@@ -40,6 +41,13 @@ fn again_told(alloc: Global) -> Result<String, AllocError> {
     both(alloc, &twin)
 }
 
+/// The same with the first of the two words, and two zeros behind it.
+fn copied_told(alloc: Global) -> Result<String, AllocError> {
+    let mut twin = stepped(alloc)?;
+    twin.copy_next(1, 3)?;
+    both(alloc, &twin)
+}
+
 /// A next half that gets longer by a word each time, up to nine.
 fn grown_told(alloc: Global) -> Result<String, AllocError> {
     let mut twin = TwinWords::new(alloc);
@@ -53,6 +61,7 @@ fn grown_told(alloc: Global) -> Result<String, AllocError> {
 const HALVES: &str = "new = [] []
 steps = [5, 0] [5, 6, 7]
 again = [5, 0] [0, 0]
+copied = [5, 0] [5, 0, 0]
 grown = [] [0, 0, 0, 0, 0, 0, 0, 0, 0]";
 
 #[test]

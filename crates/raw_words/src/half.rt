@@ -1,5 +1,5 @@
 //! One half: the words at the front of a block of its own.
-ghost use Rattle.std.specs.Prelude.{◌≡◌, ◌≤◌, [], length, replicate, IfOk, IsTrue, false};
+ghost use Rattle.std.specs.Prelude.{◌≡◌, ◌-◌, ◌≤◌, ◌++◌, [], length, replicate, IfOk, IsTrue, false};
 ghost use Rattle.std.specs.Borrow.{sem};
 ghost use Rattle.raw_words.specs.HalfLends.{LendsWords};
 
@@ -90,6 +90,21 @@ impl Half {
         true
     }
 
+    /// Makes it these words and zeros behind them, so many words in all, if its memory holds them.
+    pub(crate) fn copy_within(&mut self, front: &[u64], words: usize) -> bool
+        requires { length front.now ≤ words }
+        ensures copied { IsTrue result → self.new ≡ front.now ++ replicate (words - length front.now) 0 }
+        ensures kept { result ≡ false → self.new ≡ self.old }
+        ensures fits { words ≤ length self.old → IsTrue result }
+    {
+        if words > self.capacity {
+            return false;
+        }
+        self.len = words;
+        copy_front(front, self.block.front_mut(words));
+        true
+    }
+
     /// The words.
     pub(crate) fn words(&self) -> &[u64]
         ensures { result.now ≡ self.now }
@@ -104,6 +119,16 @@ impl Half {
     {
         self.block.front_mut(self.len)
     }
+}
+
+/// Makes words of memory these words, and zeros behind them.
+fn copy_front(front: &[u64], words: &mut [u64])
+    requires { length front.now ≤ length words.old }
+    ensures { words.new ≡ front.now ++ replicate (length words.old - length front.now) 0 }
+{
+    let (copied, rest) = words.split_at_mut(front.len());
+    copied.copy_from_slice(front);
+    rest.fill(0);
 }
 
 impl fmt::Debug for Half {

@@ -1,7 +1,7 @@
 //! Two generations of 64-bit words: one is read while the other is written.
 #![tactic(auto)]
 
-ghost use Rattle.std.specs.Prelude.{◌≡◌, [], ◌≤◌, length, replicate, OnOk, OnErr, IsOk};
+ghost use Rattle.std.specs.Prelude.{◌≡◌, ◌-◌, ◌≤◌, ◌++◌, [], length, replicate, take, OnOk, OnErr, IsOk};
 ghost use Rattle.std.specs.Borrow.{sem};
 ghost use Rattle.raw_words.specs.Lending.{LendsOther};
 
@@ -67,6 +67,27 @@ impl TwinWords {
     {
         if !self.other.clear_within(words) {
             self.other = Half::zeros(self.alloc, words, self.other.grown(words))?;
+        }
+        Ok(())
+    }
+
+    /// Makes the next half so many words: the first ones are the first `kept` of the current half, which stays, and zeros stand behind them. What
+    /// stood in the next half is not cleared before it is copied over. Memory is asked for as by `reserve_next`.
+    ///
+    /// Errors: where memory is refused, and both halves stay as they were. It is not refused for at most as many words as
+    /// the other half has.
+    pub fn copy_next(&mut self, kept: usize, words: usize) -> Result<(), AllocError>
+        requires within { kept ≤ words }
+        requires standing { kept ≤ length self.old.current }
+        ensures ok { OnOk result (self.new ≡ record { current = self.old.current; other = take kept self.old.current ++ replicate (words - kept) 0 }) }
+        ensures err { OnErr result (self.new ≡ self.old) }
+        ensures fits { words ≤ length self.old.other → IsOk result }
+    {
+        let front = &self.current.words()[..kept];
+        if !self.other.copy_within(front, words) {
+            let mut longer = Half::zeros(self.alloc, words, self.other.grown(words))?;
+            longer.copy_within(front, words);
+            self.other = longer;
         }
         Ok(())
     }

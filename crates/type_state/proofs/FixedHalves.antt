@@ -1,13 +1,15 @@
 -- Halves of OBJECT types without STRING and BYTES: their records are those of their rows, and records that are those of rows make up a half.
-use Rattle.std.proofs.Common.{◌≡◌, ℕ, suc, ◌+◌, ◌*◌, ◌/◌, ◌<◌, ◌≤◌, ◌++◌, inl, inr, min, List, [], ◌∷◌, length, get_or, take, drop, Option, None, Some, refl, ap, sym, subst, ◌∙◌, arith}
+use Rattle.std.proofs.Common.{◌≡◌, ℕ, suc, ◌+◌, ◌-◌, ◌*◌, ◌/◌, ◌^◌, ◌<◌, ◌≤◌, ◌++◌, inl, inr, min, List, [], ◌∷◌, length, get_or, take, drop, Option, None, Some, refl, ap, sym, subst, ◌∙◌, arith}
 use Rattle.std.specs.Prelude.{IsSome, is_some, replicate, slice_get, sum}
 use Rattle.std.specs.List.{AllZip}
 use Rattle.std.specs.FinMap.{entries, get, get-entries, keys, values}
 use Rattle.std.proofs.lemmas.Bool.{cases_lt}
-use Rattle.std.proofs.lemmas.List.{get_or-map, length-map, length-replicate, take-append-drop}
+use Rattle.std.proofs.lemmas.List.{drop-replicate, get_or-map, length-append, length-map, length-replicate, length-take-le, take-append-drop, take-replicate, take-take}
 use Rattle.std.proofs.lemmas.List.Elements.{All-contains}
 use Rattle.std.proofs.lemmas.List.FromFn.{get_or-map-range_with_len, length-map-range_with_len}
 use Rattle.std.proofs.lemmas.Option.{slice_get-get_or}
+use Rattle.std.proofs.Math.Nat.{mul-le-mul_right}
+use Rattle.std.proofs.Math.Seq.{drop-append-add, take-append-add}
 use Rattle.schema_model.specs.declared.schema.Field.{Field}
 use Rattle.schema_model.specs.declared.schema.Shape.{Shape}
 use Rattle.schema_model.specs.Parts.{shape_fields}
@@ -15,7 +17,7 @@ use Rattle.row_model.specs.declared.row.Row.{Row}
 use Rattle.row_model.specs.Table.{RowMap}
 use Rattle.object_codec.specs.ObjectPlace.{IsFieldWidth, IsObject, SpellsObjectRow}
 use Rattle.object_codec.specs.Packing.{PacksPlace}
-use Rattle.fixed_records.specs.Fixed.{AreFixed, record_at}
+use Rattle.fixed_records.specs.Fixed.{AreFixed, HasFront, record_at, whole_words}
 use Rattle.fixed_records.proofs.RecordBits.{empty_place}
 use Rattle.packed_half.specs.declared.half.HalfShape.{HalfShape}
 use Rattle.packed_half.specs.Half.{areas_in, behind_items, item_words, place_words, section_in, words_for, words_for_bytes}
@@ -30,7 +32,7 @@ use Rattle.type_rows.proofs.Entries.{entries_rise}
 use Rattle.type_rows.proofs.Places.{wide_long}
 use Rattle.type_rows.proofs.Rising.{none_is_not}
 use Rattle.type_state.specs.Kept.{IsHalf, IsPacked, half_rows}
-use Rattle.type_state.specs.Recorded.{AreRecorded, FitsRecord, HasPlaces}
+use Rattle.type_state.specs.Recorded.{AreRecorded, FitsRecord, HasPlaces, copied_words, kept_words}
 use Rattle.type_state.proofs.Halves.{not_there}
 use Rattle.type_state.proofs.LiveSets.{live_key}
 use Rattle.type_state.proofs.Lookups.{found_at}
@@ -151,16 +153,98 @@ placed_records (Shape.List element) half rows first second areas object can are 
 placed_records (Shape.Set element) half rows first second areas object can are long = absurd object
 placed_records (Shape.Map key value) half rows first second areas object can are long = absurd object
 
+-- ---- words of which the first ones stand already
+
+-- The words of the places of such a type are as many as its records take.
+place_words_of : (shape : Shape) (half : HalfShape) → IsObject shape → place_words shape half ≡ (places_of half.max * sum half.widths + 63) / 64
+place_words_of (Shape.Object key fields) half object = refl
+place_words_of (Shape.List element) half object = absurd object
+place_words_of (Shape.Set element) half object = absurd object
+place_words_of (Shape.Map key value) half object = absurd object
+
+-- How many words are copied: no more than either half has.
+pub record AreFew (shape : Shape) (before after : HalfShape) (words : List ℕ) : Type 0 where
+  pub counted : places_of before.max * sum after.widths < 2 ^ 64
+  pub within : kept_words before after ≤ place_words shape after
+  pub standing : kept_words before after ≤ place_words shape before
+  pub long : place_words shape before ≤ length words
+
+pub few_copied : (shape : Shape) (before after : HalfShape) (words : List ℕ) → IsObject shape → IsPacked shape before words → after.widths ≡ before.widths → AreFew shape before after words
+few_copied shape before after words object p same =
+    let size = sum after.widths in
+    let there = places_of before.max in
+    let here = places_of after.max in
+    let size_before : sum before.widths ≡ size = ap (λ (w : List ℕ). sum w) (sym same) in
+    let bits : there * sum before.widths ≡ there * size = ap (λ n. there * n) size_before in
+    let few = words_few shape before (half_rows shape before words) p.can in
+    let words_before = place_words_of shape before object in
+    let words_after = place_words_of shape after object in
+    let below : min there here ≤ there = omega arith in
+    let below' : min there here ≤ here = omega arith in
+    let first : min there here * size ≤ there * size = mul-le-mul_right size below in
+    let second : min there here * size ≤ here * size = mul-le-mul_right size below' in
+    record {
+      counted = omega (arith, few, words_before, bits);
+      within = omega (arith, words_after, second);
+      standing = omega (arith, words_before, bits, first);
+      long = omega (arith, p.laid.long);
+    }
+
 -- The words of the places are zeros, as many as they take.
-pub zeros_cut : (shape : Shape) (half : HalfShape) (words first behind : List ℕ) (count : ℕ) → words ≡ replicate (words_for shape half) 0 → count ≡ place_words shape half → first ≡ take count words → behind ≡ drop count words
+zeros_cut : (shape : Shape) (half : HalfShape) (words first behind : List ℕ) (count : ℕ) → words ≡ replicate (words_for shape half) 0 → count ≡ place_words shape half → first ≡ take count words → behind ≡ drop count words
     → IsCut shape half first (take (item_words shape half) behind) (drop (item_words shape half) behind)
 zeros_cut shape half words first behind count zeros is front back = cut_zeros shape half words first behind (take (item_words shape half) behind) (drop (item_words shape half) behind) count (item_words shape half) zeros is refl front back refl refl
 
-pub first_long : (shape : Shape) (half : HalfShape) (first second bytes : List ℕ) → IsCut shape half first second bytes → length first ≡ place_words shape half
-first_long shape half first second bytes cut = ap length cut.first_zeros ∙ length-replicate (place_words shape half) 0
+-- The words of the places, whose first ones stand already, and those behind them.
+pub record IsFronted (shape : Shape) (before after : HalfShape) (words first behind : List ℕ) : Type 0 where
+  pub cut : IsCut shape after (replicate (place_words shape after) 0) (take (item_words shape after) behind) (drop (item_words shape after) behind)
+  pub long : length first ≡ place_words shape after
+  pub front : HasFront (kept_words before after) words first
 
-pub first_zeros : (shape : Shape) (half : HalfShape) (first second bytes : List ℕ) → IsCut shape half first second bytes → first ≡ replicate (length first) 0
-first_zeros shape half first second bytes cut = cut.first_zeros ∙ ap (λ n. replicate n 0) (sym (first_long shape half first second bytes cut))
+pub front_cut : (shape : Shape) (before after : HalfShape) (from words first behind : List ℕ) (count : ℕ) → AreFew shape before after from → words ≡ copied_words shape before after from → count ≡ place_words shape after → first ≡ take count words → behind ≡ drop count words
+    → IsFronted shape before after from first behind
+front_cut shape before after from words first behind count few is count_is front back =
+    let kept = kept_words before after in
+    let places = place_words shape after in
+    let all = words_for shape after in
+    let zeros : List ℕ = replicate (all - kept) 0 in
+    let copied = take kept from in
+    let more : places ≤ all = omega arith in
+    let many : length copied ≡ kept = length-take-le kept from (omega (arith, few.standing, few.long)) in
+    let split : places ≡ length copied + (places - kept) = omega (arith, many, few.within) in
+    let cut : take count words ≡ copied ++ take (places - kept) zeros =
+    (λ i. take (count_is i) (is i)) ∙ ap (λ n. take n (copied ++ zeros)) split ∙ take-append-add copied zeros (places - kept) in
+    let cut_zeros : take (places - kept) zeros ≡ replicate (places - kept) 0 = take-replicate (places - kept) (all - kept) 0 (omega (arith, more)) in
+    let first_is : first ≡ copied ++ replicate (places - kept) 0 = front ∙ cut ∙ ap (λ (ws : List ℕ). copied ++ ws) cut_zeros in
+    let zeros_long : length {A = ℕ} (replicate (places - kept) 0) ≡ places - kept = length-replicate (places - kept) 0 in
+    let all_of_them : length copied + length {A = ℕ} (replicate (places - kept) 0) ≡ places = omega (arith, zeros_long, many, few.within) in
+    let long : length first ≡ places =
+    ap (λ (ws : List ℕ). length ws) first_is ∙ length-append copied (replicate (places - kept) 0) ∙ all_of_them in
+    let left : drop count words ≡ drop (places - kept) zeros =
+    (λ i. drop (count_is i) (is i)) ∙ ap (λ n. drop n (copied ++ zeros)) split ∙ drop-append-add copied zeros (places - kept) in
+    let left_zeros : drop (places - kept) zeros ≡ replicate (all - kept - (places - kept)) 0 = drop-replicate (places - kept) (all - kept) 0 in
+    let as_many : all - kept - (places - kept) ≡ all - places = omega (arith, few.within, more) in
+    let behind_is : behind ≡ drop places (replicate all 0) = back ∙ left ∙ left_zeros ∙ ap (λ (n : ℕ). replicate n 0) as_many ∙ sym (drop-replicate places all 0) in
+    record {
+      cut = zeros_cut shape after (replicate all 0) (replicate places 0) behind places refl refl (sym (take-replicate places all 0 more)) behind_is;
+      long = long;
+      front = first_is ∙ ap (λ (n : ℕ). copied ++ replicate (n - kept) 0) (sym long);
+    }
+
+-- The same words are the first ones of the places of the half before, at widths and a count of places that are these.
+pub front_of_places : (shape : Shape) (before : HalfShape) (words widths from first : List ℕ) (count places : ℕ) → IsObject shape → IsPacked shape before words → widths ≡ before.widths → count ≡ places_of before.max → from ≡ (section_in shape before words).first
+    → HasFront (whole_words widths (places_of before.max) places) words first → HasFront (whole_words widths count places) from first
+front_of_places shape before words widths from first count places object p same is from_is front =
+    let size = sum widths in
+    let there = places_of before.max in
+    let kept = whole_words widths there places in
+    let bits : there * sum before.widths ≡ there * size = ap (λ (w : List ℕ). there * sum w) (sym same) in
+    let words_before = place_words_of shape before object in
+    let below : min there places ≤ there = omega arith in
+    let product : min there places * size ≤ there * size = mul-le-mul_right size below in
+    let few : kept ≤ place_words shape before = omega (arith, words_before, bits, product) in
+    let cut : take kept words ≡ take kept from = sym (take-take kept (place_words shape before) words few) ∙ ap (λ (ws : List ℕ). take kept ws) (sym from_is) in
+    subst (λ n. HasFront (whole_words widths n places) from first) (sym is) (front ∙ ap (λ (ws : List ℕ). ws ++ replicate (length first - kept) 0) cut)
 
 -- Records that are those of the rows make up the half.
 pub half_of_records : (shape : Shape) (half : HalfShape) (rows : RowMap) (first first' behind widths : List ℕ) (places : ℕ) → IsObject shape → CanLay shape half rows → IsCut shape half first (take (item_words shape half) behind) (drop (item_words shape half) behind)

@@ -1,5 +1,5 @@
 -- The records of OBJECT types: those without STRING and BYTES, as they stand at their places, in any order, and which halves may be copied.
-use Rattle.std.specs.Prelude.{◌≡◌, ℕ, ◌*◌, ◌^◌, ◌<◌, ◌≤◌, List, length, sum, slice_get, slice_index, Some, IfSome, IsSome}
+use Rattle.std.specs.Prelude.{◌≡◌, ℕ, ◌-◌, ◌*◌, ◌^◌, ◌<◌, ◌≤◌, ◌++◌, List, length, replicate, sum, take, slice_get, slice_index, Some, IfSome, IsSome}
 use Rattle.std.specs.List.{AllZip}
 use Rattle.std.specs.FinMap.{get}
 use Rattle.schema_model.specs.Parts.{shape_fields}
@@ -10,9 +10,11 @@ use Rattle.row_model.specs.declared.row.Row.{Row}
 use Rattle.object_codec.specs.ObjectPlace.{IsFieldWidth, IsObject}
 use Rattle.object_codec.specs.Packing.{HoldsValue, PacksPlace}
 use Rattle.object_codec.specs.Stored.{values_of_row}
-use Rattle.fixed_records.specs.Fixed.{AreFixed}
+use Rattle.fixed_records.specs.Fixed.{AreFixed, whole_words}
 use Rattle.packed_half.specs.declared.half.HalfShape.{HalfShape}
+use Rattle.packed_half.specs.Half.{words_for}
 use Rattle.type_rows.specs.Differing.{Difference}
+use Rattle.type_rows.specs.Layout.{places_of}
 
 -- Each place spells the row that stands under its ordinal, or has none.
 abbrev pub AreRecorded : Shape → List ℕ → List ℕ → ℕ → RowMap → Type 0
@@ -36,6 +38,14 @@ pub record CanCopy (shape : Shape) (before after : HalfShape) : Type 0 where
   pub fixed : AreFixed (shape_fields shape)
   pub places : IsSome before.max
   pub widths : after.widths ≡ before.widths
+
+-- How many words the records fill that both halves have, at the widths of the one after.
+abbrev pub kept_words : HalfShape → HalfShape → ℕ
+kept_words before after = whole_words after.widths (places_of before.max) (places_of after.max)
+
+-- The words of a half before its records are changed: these first words of the half before, and zeros behind them.
+abbrev pub copied_words : Shape → HalfShape → HalfShape → List ℕ → List ℕ
+copied_words shape before after words = take (kept_words before after) words ++ replicate (words_for shape after - kept_words before after) 0
 
 -- A row fits the type, and the widths hold its numbers.
 abbrev pub FitsRecord : Shape → List ℕ → Row → Type 0

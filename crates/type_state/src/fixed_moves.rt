@@ -1,20 +1,20 @@
 //! Records of OBJECT types without STRING and BYTES that are copied as they stand, and written and cleared where they differ.
-ghost use Rattle.std.specs.Prelude.{◌≡◌, All, IsTrue, length, replicate};
+ghost use Rattle.std.specs.Prelude.{◌≡◌, ◌*◌, ◌^◌, ◌<◌, All, IsTrue, sum};
 ghost use Rattle.row_model.specs.Table.{RowMap};
 ghost use Rattle.schema_model.specs.Parts.{shape_fields};
-ghost use Rattle.packed_half.specs.Half.{words_for};
 ghost use Rattle.packed_half.specs.LaidOut.{IsLaidOut};
 ghost use Rattle.packed_half.specs.Laying.{CanLay};
 ghost use Rattle.object_codec.specs.ObjectPlace.{IsObject};
-ghost use Rattle.fixed_records.specs.Fixed.{AreFixed};
+ghost use Rattle.fixed_records.specs.Fixed.{AreFixed, HasFront, whole_words};
 ghost use Rattle.type_rows.specs.Differing.{differ_at};
+ghost use Rattle.type_rows.specs.Layout.{places_of};
 ghost use Rattle.type_state.specs.Differences.{AreApart, differing, rows_with};
 ghost use Rattle.type_state.specs.Kept.{IsPacked, half_rows};
-ghost use Rattle.type_state.specs.Recorded.{AreRecorded, CanCopy, HasPlaces, HasRoomFor};
+ghost use Rattle.type_state.specs.Recorded.{AreRecorded, CanCopy, HasPlaces, HasRoomFor, copied_words, kept_words};
 
 use crate::differences::Difference;
 use crate::moving::Move;
-use fixed_records::{clear_record, copy_records, is_fixed, put_record};
+use fixed_records::{clear_record, copy_rest, is_fixed, put_record, whole_words};
 use packed_half::{HalfRows, HalfShape};
 use row_model::Parts;
 use schema_model::{Schema, Shape};
@@ -59,15 +59,27 @@ fn put_differences(
     }
 }
 
-/// Copies the records of a half to as many places, of words of zeros.
+/// How many words are copied from a half to another one, at its widths: those that the records of both fill.
+pub(crate) fn kept_words(before: &HalfShape, after: &HalfShape) -> u64
+    requires { places_of before.now.max * sum after.now.widths < 2 ^ 64 }
+    ensures { result ≡ kept_words before.now after.now }
+{
+    whole_words(
+        after.widths.as_slice(),
+        place_count(before.max),
+        place_count(after.max),
+    )
+}
+
+/// Copies what the records of a half have behind their whole words, which stand before as many places already.
 fn copy_places(current: HalfRows<'_>, widths: &[u32], first: &mut [u64], places: u64)
     requires kept { IsPacked current.shape.now current.half.now current.words.now }
     requires widths { widths.now ≡ current.half.now.widths }
     requires held { HasPlaces current.shape.now widths.now first.old places }
-    requires zeros { first.old ≡ replicate (length first.old) 0 }
+    requires front { HasFront (whole_words widths.now (places_of current.half.now.max) places) current.words.now first.old }
     ensures { AreRecorded current.entry.shape.now widths.now first.new places (half_rows current.entry.shape.now current.entry.half.now current.entry.words.now) }
 {
-    copy_records(
+    copy_rest(
         widths,
         current.first(),
         place_count(current.half.max),
@@ -88,7 +100,8 @@ pub(crate) fn can_copy(shape: &Shape, before: &HalfShape, after: &HalfShape) -> 
         && before.widths.as_slice() == after.widths.as_slice()
 }
 
-/// Lays the rows of a move out in words of zeros, at the widths of the current half. It takes no memory.
+/// Lays the rows of a move out in the words of its half, at the widths of the current half, whose words stand there already, as many as the records of
+/// both fill, with zeros behind them. It takes no memory.
 pub(crate) fn lay_fixed(schema: &Schema, current: HalfRows<'_>, next: &Move, words: &mut [u64])
     requires kept { IsPacked schema.now.shape current.half.now current.words.now }
     requires object { IsObject schema.now.shape }
@@ -96,7 +109,7 @@ pub(crate) fn lay_fixed(schema: &Schema, current: HalfRows<'_>, next: &Move, wor
     requires widths { next.now.half.widths ≡ current.half.now.widths }
     requires apart { AreApart next.now.differences }
     requires can { CanLay schema.now.shape next.now.half (rows_with (half_rows schema.now.shape current.half.now current.words.now) next.now.differences) }
-    requires zeros { words.old ≡ replicate (words_for schema.now.shape next.now.half) 0 }
+    requires front { words.old ≡ copied_words schema.now.shape current.half.now next.now.half current.words.now }
     ensures { IsLaidOut schema.now.shape next.now.half words.new (rows_with (half_rows schema.now.shape current.entry.half.now current.entry.words.now) next.now.differences) }
 {
     let half = &next.half;

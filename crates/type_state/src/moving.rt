@@ -16,7 +16,6 @@ ghost use Rattle.type_state.specs.Moved.{IsMoveOf};
 use crate::current::Current;
 use crate::differences::Differences;
 use crate::field_bytes::bytes_of_fields;
-use crate::fixed_moves::{can_copy, lay_fixed};
 use crate::kept_records::KeptRecords;
 use crate::kept_runs::{can_copy_runs, lay_by_runs};
 use crate::live::live_with;
@@ -104,30 +103,10 @@ pub(crate) fn moved(
 
 /// Lays the rows that a patch moves others to out in the words of their half. The words are zeros, as many as the half takes; where memory is
 /// refused they may hold anything.
+///
+/// Run by run where the widths are those of the current half, and else record by record: those that stay are copied, and no row is made of one; rows
+/// of the other kinds are made anew.
 pub(crate) fn lay_moved<'a>(
-    alloc: Global,
-    schema: &'a Schema,
-    current: HalfRows<'a>,
-    next: &'a Move,
-    words: &mut [u64],
-) -> Result<(), AllocError>
-    requires shape { current.shape.now ≡ schema.now.shape }
-    requires kept { IsHalf schema.now.shape current.half.now current.words.now }
-    requires apart { AreApart next.now.differences }
-    requires can { CanLay schema.now.shape next.now.half (rows_with (half_rows schema.now.shape current.half.now current.words.now) next.now.differences) }
-    requires zeros { words.old ≡ replicate (words_for schema.now.shape next.now.half) 0 }
-    ensures { OnOk result (IsLaidOut schema.now.shape next.now.half words.new (rows_with (half_rows schema.now.shape current.entry.half.now current.entry.words.now) next.now.differences)) }
-{
-    if can_copy(&schema.shape, current.half, &next.half) {
-        lay_fixed(schema, current, next, words);
-        return Ok(());
-    }
-    lay_each(alloc, schema, current, next, words)
-}
-
-/// The same, run by run where the widths are those of the current half, and else record by record: those that stay are copied, and no row is made of
-/// one; rows of the other kinds are made anew.
-fn lay_each<'a>(
     alloc: Global,
     schema: &'a Schema,
     current: HalfRows<'a>,

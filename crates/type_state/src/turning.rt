@@ -3,8 +3,10 @@ ghost use Rattle.std.specs.Prelude.{◌≡◌, [], OnErr, OnOk};
 ghost use Rattle.packed_half.specs.LaidOut.{IsLaidOut};
 ghost use Rattle.packed_half.specs.Laying.{CanLay};
 ghost use Rattle.type_state.specs.Differences.{AreApart, rows_with};
-ghost use Rattle.type_state.specs.Kept.{IsHalf, half_rows};
+ghost use Rattle.type_state.specs.Kept.{IsHalf, IsPacked, half_rows};
+ghost use Rattle.type_state.specs.Recorded.{CanCopy};
 
+use crate::fixed_moves::{can_copy, kept_words, lay_fixed};
 use crate::moving::{Move, lay_moved};
 use packed_half::{HalfRows, HalfShape, words_of_half};
 use raw_words::{Halves, TwinWords};
@@ -18,7 +20,6 @@ pub(crate) fn clear_next(twin: &mut TwinWords)
     twin.reserve_next(0).unwrap();
 }
 
-#[tactic(auto, using(crate::proofs::Fitting::moved_fit))]
 /// Lays out the rows of a move in the next half of two, in the words that it takes. Where memory is refused the next half has no words.
 pub(crate) fn lay_moved_next(
     alloc: Global,
@@ -35,6 +36,60 @@ pub(crate) fn lay_moved_next(
     ensures laid { OnOk result (IsLaidOut schema.now.shape next.now.half twin.new.other (rows_with (half_rows schema.now.shape current.now twin.old.current) next.now.differences)) }
 {
     clear_next(twin);
+    if can_copy(&schema.shape, current, &next.half) {
+        return lay_copied_next(schema, current, next, twin);
+    }
+    lay_other_next(alloc, schema, current, next, twin)
+}
+
+#[tactic(auto, using(crate::proofs::Fitting::moved_fit))]
+/// The same where the current words may be copied: the next half begins with those that its records fill, and no word is cleared before that is
+/// copied over.
+fn lay_copied_next(
+    schema: &Schema,
+    current: &HalfShape,
+    next: &Move,
+    twin: &mut TwinWords,
+) -> Result<(), AllocError>
+    requires kept { IsPacked schema.now.shape current.now twin.old.current }
+    requires copies { CanCopy schema.now.shape current.now next.now.half }
+    requires apart { AreApart next.now.differences }
+    requires can { CanLay schema.now.shape next.now.half (rows_with (half_rows schema.now.shape current.now twin.old.current) next.now.differences) }
+    requires none { twin.old.other ≡ [] }
+    ensures current { twin.new.current ≡ twin.old.current }
+    ensures lost { OnErr result (twin.new.other ≡ []) }
+    ensures laid { OnOk result (IsLaidOut schema.now.shape next.now.half twin.new.other (rows_with (half_rows schema.now.shape current.now twin.old.current) next.now.differences)) }
+{
+    let kept = kept_words(current, &next.half);
+    let words = words_of_half(&schema.shape, &next.half);
+    twin.copy_next(kept as usize, words as usize)?;
+    let Halves { from, to } = twin.split();
+    let current = HalfRows {
+        shape: &schema.shape,
+        half: current,
+        words: from,
+    };
+    lay_fixed(schema, current, next, to);
+    Ok(())
+}
+
+#[tactic(auto, using(crate::proofs::Fitting::moved_fit))]
+/// The same of all others, in words of zeros.
+fn lay_other_next(
+    alloc: Global,
+    schema: &Schema,
+    current: &HalfShape,
+    next: &Move,
+    twin: &mut TwinWords,
+) -> Result<(), AllocError>
+    requires kept { IsHalf schema.now.shape current.now twin.old.current }
+    requires apart { AreApart next.now.differences }
+    requires can { CanLay schema.now.shape next.now.half (rows_with (half_rows schema.now.shape current.now twin.old.current) next.now.differences) }
+    requires none { twin.old.other ≡ [] }
+    ensures current { twin.new.current ≡ twin.old.current }
+    ensures lost { OnErr result (twin.new.other ≡ []) }
+    ensures laid { OnOk result (IsLaidOut schema.now.shape next.now.half twin.new.other (rows_with (half_rows schema.now.shape current.now twin.old.current) next.now.differences)) }
+{
     twin.reserve_next(words_of_half(&schema.shape, &next.half) as usize)?;
     let Halves { from, to } = twin.split();
     let current = HalfRows {

@@ -1,5 +1,10 @@
-use Rattle.hol_answers.proofs.Floats.{is_line}
+use Rattle.std.proofs.Common.{[], ◌∷◌, ◌++◌, ap, ◌∙◌}
+use Rattle.hol_answers.specs.Reply.{reply_data}
+use Rattle.hol_answers.proofs.Sent.{text_sent}
 use Rattle.hol_answers.proofs.reply.reply_line.Goals as goal
 
 pub returns : goal.returns
-returns c = is_line c.args.reply c.in_ok-value.value c.line_text.result c.in_ok-value.ensures.value c.in_ok-value.ensures.plain c.line_text.ensures
+unfolding lib.Utf8.encode
+returns c =
+    let sent = c.in-Ok.ensures.events in
+    c.in_ok-push.ensures.bytes ∙ ap (λ t. t ++ 10 ∷ []) (text_sent (reply_data c.args.reply) sent.0 _ sent.1 sent.2)
