@@ -5,5 +5,5 @@ mod films;
 pub mod laws;
 mod schemas;
 
-pub use films::{cycle_tag, film, is_shown};
+pub use films::{cycle_tag, is_shown};
 pub use schemas::{FILM_TYPE, TAGS_TYPE, TEXT_TYPE, film_schemas};

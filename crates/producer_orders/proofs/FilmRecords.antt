@@ -4,17 +4,18 @@ use Rattle.std.specs.Prelude.{filter, if◌then◌else◌, ⊤}
 use Rattle.std.specs.List.{range_with_len}
 use Rattle.std.proofs.lemmas.List.{map-append}
 use Rattle.std.proofs.lemmas.List.Elements.{filter-append}
+use Rattle.film_rows.specs.Known.{IsFilming}
 use Rattle.film_script.proofs.Ranges.{range_join}
 use Rattle.film_script.specs.Films.{film, film_schemas, film_type, films, is_shown}
 use Rattle.schema_model.specs.declared.limit.Limit.TheVariants as limit
 use Rattle.schema_model.specs.declared.schema.Schema.{Schema}
-use Rattle.record_trees.specs.FitsTree.{FitsTree}
 use Rattle.row_model.specs.PlainTree.{PlainTree}
 use Rattle.row_model.specs.Table.{Table}
 use Rattle.write_engine.proofs.OneState.{next_is_one}
-use Rattle.write_engine.specs.Agreement.{HoldsOnce}
+use Rattle.write_engine.specs.Agreement.{HoldsOnce, TablesAgree}
 use Rattle.write_engine.specs.Cycle.{Adds, AddsRecords, Next, no_rows}
 use Rattle.write_engine.specs.Production.{Production}
+use Rattle.write_engine.specs.Soundness.{IsClosedTableOf}
 use Rattle.hol_answers.specs.declared.refusal.Refusal.TheVariants as refusal
 use Rattle.state_blobs.specs.Published.{published_of}
 use Rattle.hollow_machine.specs.Records.{given}
@@ -123,22 +124,20 @@ pub not_shown : (script : FilmCycle) (place : ℕ) (schemas : List Schema) (prev
 not_shown script place schemas previous rows not =
     subst (λ (b : Bool). AddsRecords schemas previous (map (λ at. (film_type, film script.seed script.cycle at)) (if b then place ∷ [] else [])) rows rows) (sym not) refl
 
--- the record of a film fits its type
-pub film_fits : (schemas : List Schema) (tree : PlainTree) (seed cycle place : ℕ) → FitsTree film_schemas film_type (film seed cycle place) → schemas ≡ film_schemas → tree ≡ film seed cycle place
-    → FitsTree schemas film_type tree
-film_fits schemas tree seed cycle place fits same is =
-    subst (λ (t : PlainTree). FitsTree schemas film_type t) (sym is) (subst (λ (ss : List Schema). FitsTree ss film_type (film seed cycle place)) (sym same) fits)
-
 -- a film that is shown is added
-pub film_added : (script : FilmCycle) (place : ℕ) (schemas : List Schema) (previous rows after : Table) (tree : PlainTree) (ordinal : ℕ) → is_shown script.cycle place ≡ true → tree ≡ film script.seed script.cycle place
-    → Adds schemas previous film_type tree rows ordinal after → AddsRecords schemas previous (film_at script place) rows after
-film_added script place schemas previous rows after tree ordinal test is adds =
+pub film_added : (script : FilmCycle) (place : ℕ) (schemas : List Schema) (previous rows after : Table) (ordinal : ℕ) → is_shown script.cycle place ≡ true → schemas ≡ film_schemas
+    → Adds film_schemas previous film_type (film script.seed script.cycle place) rows ordinal after → AddsRecords schemas previous (film_at script place) rows after
+film_added script place schemas previous rows after ordinal test model adds =
     subst (λ (b : Bool). AddsRecords schemas previous (map (λ at. (film_type, film script.seed script.cycle at)) (if b then place ∷ [] else [])) rows after) (sym test)
-    (ordinal, after, subst (λ (t : PlainTree). Adds schemas previous film_type t rows ordinal after) is adds, refl)
+    (ordinal, after, subst (λ (ss : List Schema). Adds ss previous film_type (film script.seed script.cycle place) rows ordinal after) (sym model) adds, refl)
 
 -- or it finds no row
-pub film_not_added : (script : FilmCycle) (place : ℕ) (schemas : List Schema) (previous rows : Table) (tree : PlainTree) → is_shown script.cycle place ≡ true → tree ≡ film script.seed script.cycle place
-    → ((ordinal : ℕ) (after : Table) → ¬ Adds schemas previous film_type tree rows ordinal after) → (after : Table) → ¬ AddsRecords schemas previous (film_at script place) rows after
-film_not_added script place schemas previous rows tree test is none after adds =
+pub film_not_added : (script : FilmCycle) (place : ℕ) (schemas : List Schema) (previous rows : Table) → is_shown script.cycle place ≡ true → schemas ≡ film_schemas
+    → ((ordinal : ℕ) (after : Table) → ¬ Adds film_schemas previous film_type (film script.seed script.cycle place) rows ordinal after) → (after : Table) → ¬ AddsRecords schemas previous (film_at script place) rows after
+film_not_added script place schemas previous rows test model none after adds =
     let one = subst (λ (b : Bool). AddsRecords schemas previous (map (λ at. (film_type, film script.seed script.cycle at)) (if b then place ∷ [] else [])) rows after) test adds in
-    none one.0 one.1 (subst (λ (t : PlainTree). Adds schemas previous film_type t rows one.0 one.1) (sym is) one.2)
+    none one.0 one.1 (subst (λ (ss : List Schema). Adds ss previous film_type (film script.seed script.cycle place) rows one.0 one.1) model one.2)
+
+-- a producer of the films' model takes films
+pub takes_films : (producer : Production) → producer.schemas ≡ film_schemas → producer.closed ≡ false → TablesAgree producer.previous producer.current → IsClosedTableOf producer.schemas producer.current → IsFilming producer
+takes_films producer model is_open agree closed = record { model = model; is_open = is_open; agree = agree; types = closed.fits.types ∙ ap (λ (ss : List Schema). length ss) model }

@@ -1,5 +1,6 @@
-//! The films of a cycle are made one by one, and added to the producer.
-ghost use Rattle.std.specs.Prelude.{◌≡◌, ◌≤◌, false};
+//! The films of a cycle are added to the producer one by one, row by row.
+ghost use Rattle.std.specs.Prelude.{◌≡◌, ◌≤◌, IfOk, false};
+ghost use Rattle.film_rows.specs.Known.{AreReady};
 ghost use Rattle.film_script.specs.Films.{film_schemas, films};
 ghost use Rattle.row_model.specs.Table.{Table};
 ghost use Rattle.write_engine.specs.Cycle.{AddsRecords};
@@ -14,7 +15,8 @@ ghost use Rattle.producer_orders.specs.Making.{AreRefused, AreTaken};
 
 use crate::asked::FilmCycle;
 use crate::cycle_end::CycleEnd;
-use film_script::{FILM_TYPE, film, is_shown, laws};
+use film_rows::FilmRows;
+use film_script::is_shown;
 use hol_answers::Refusal;
 use hol_orders::OrderStop;
 use ordinal_map::PutRowFault;
@@ -36,8 +38,9 @@ pub(crate) fn take_films(
     ensures kept { producer.new ≡ record producer.old { current = producer.new.current } }
 {
     let _agreeing = producer.current();
+    let mut rows = FilmRows::new(alloc)?;
     for place in 0..script.rows {
-        add_film(alloc, producer, script, place)?;
+        add_film(alloc, producer, &mut rows, script, place)?;
     }
     Ok(())
 }
@@ -46,24 +49,25 @@ pub(crate) fn take_films(
 fn add_film(
     alloc: Global,
     producer: &mut Producer,
+    rows: &mut FilmRows,
     script: FilmCycle,
     place: u32,
 ) -> Result<(), CycleEnd>
     requires model { producer.old.schemas ≡ film_schemas }
     requires open { producer.old.closed ≡ false }
+    requires ready { AreReady rows.old producer.old }
     requires script { IsFilmCycle script }
     requires place { place ≤ 1000000 }
     ensures tells { TellsEnd (λ _. AddsRecords producer.old.schemas producer.old.previous (film_at script place) producer.old.current producer.new.current)
         (λ why. (why ≡ refusal.TooLarge limit.Ordinals)
         × ((after : Table) → ¬ AddsRecords producer.old.schemas producer.old.previous (film_at script place) producer.old.current after)) IsMemory result }
     ensures kept { producer.new ≡ record producer.old { current = producer.new.current } }
+    ensures ready { IfOk result (λ _. AreReady rows.new producer.new) }
 {
     if !is_shown(script.cycle, place) {
         return Ok(());
     }
-    laws::films_fit();
-    let tree = film(alloc, script.seed, script.cycle, place)?;
-    match producer.add(FILM_TYPE, &tree) {
+    match rows.add(alloc, producer, script.seed, script.cycle, place) {
         Ok(_) => Ok(()),
         Err(PutRowFault::TooMany) => Err(CycleEnd::Refused(Refusal::TooLarge(Limit::Ordinals))),
         Err(PutRowFault::Memory) => Err(CycleEnd::Stopped(OrderStop::Memory)),

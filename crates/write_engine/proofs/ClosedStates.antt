@@ -22,6 +22,7 @@ use Rattle.row_model.specs.Table.{Table, RowMap, row_at, IsLive, IsLiveByName}
 use Rattle.ordinal_map.proofs.SlotRows.{get_inserted, get_beside}
 use Rattle.write_engine.specs.Cycle.{Adds, AddsFields, AddsAll, AddsPairs, AddsRecords, Next, PutsRow, no_rows, rows_in, with_row}
 use Rattle.record_trees.specs.FitsTree.{FitsLeaf, IsLeafOr}
+use Rattle.write_engine.specs.RowPuts.{FitsRow}
 use Rattle.write_engine.specs.Soundness.{IsClosedTableOf}
 use Rattle.record_trees.specs.Types.{object_fields, list_element, set_element, map_types, referred, shape_at}
 use Rattle.write_engine.proofs.Members.{all_members, all_entries}
@@ -48,28 +49,28 @@ at_set [] t ordinal rows inside = absurd (omega arith)
 at_set (r ∷ table) zero ordinal rows inside = refl
 at_set (r ∷ table) (suc t) ordinal rows inside = at_set table t ordinal rows (omega arith)
 
-at_rows : (table : Table) (t ordinal : ℕ) → t < length table → get (rows_in table t) ordinal ≡ row_at table t ordinal
+pub at_rows : (table : Table) (t ordinal : ℕ) → t < length table → get (rows_in table t) ordinal ≡ row_at table t ordinal
 at_rows [] t ordinal inside = absurd (omega arith)
 at_rows (r ∷ table) zero ordinal inside = refl
 at_rows (r ∷ table) (suc t) ordinal inside = at_rows table t ordinal (omega arith)
 
-beside_set : (table : Table) (t u ordinal : ℕ) (rows : RowMap) → (u ≡ t → ⊥) → row_at (slice_set table t rows) u ordinal ≡ row_at table u ordinal
+pub beside_set : (table : Table) (t u ordinal : ℕ) (rows : RowMap) → (u ≡ t → ⊥) → row_at (slice_set table t rows) u ordinal ≡ row_at table u ordinal
 beside_set [] t u ordinal rows apart = refl
 beside_set (r ∷ table) zero zero ordinal rows apart = absurd (apart refl)
 beside_set (r ∷ table) zero (suc u) ordinal rows apart = refl
 beside_set (r ∷ table) (suc t) zero ordinal rows apart = refl
 beside_set (r ∷ table) (suc t) (suc u) ordinal rows apart = beside_set table t u ordinal rows (λ e. apart (omega arith))
 
-length_set : (table : Table) (t : ℕ) (rows : RowMap) → length (slice_set table t rows) ≡ length table
+pub length_set : (table : Table) (t : ℕ) (rows : RowMap) → length (slice_set table t rows) ≡ length table
 length_set [] t rows = refl
 length_set (r ∷ table) zero rows = refl
 length_set (r ∷ table) (suc t) rows = ap suc (length_set table t rows)
 
 module _ (table : Table) (t ordinal : ℕ) (row : Row) (inside : t < length table) where
-  row_here : row_at (with_row table t ordinal row) t ordinal ≡ Some row
+  pub row_here : row_at (with_row table t ordinal row) t ordinal ≡ Some row
   row_here = at_set table t ordinal (insert (rows_in table t) ordinal row) inside ∙ get_inserted (rows_in table t) ordinal row
 
-  row_beside : (o : ℕ) → (o ≡ ordinal → ⊥) → row_at (with_row table t ordinal row) t o ≡ row_at table t o
+  pub row_beside : (o : ℕ) → (o ≡ ordinal → ⊥) → row_at (with_row table t ordinal row) t o ≡ row_at table t o
   row_beside o apart = at_set table t o (insert (rows_in table t) ordinal row) inside ∙ get_beside (rows_in table t) ordinal o row apart ∙ at_rows table t o inside
 
   -- a row after the put is the one that was put, or stood before
@@ -408,12 +409,20 @@ none_sound schemas = record {
 pub none_closed : (schemas : List Schema) → IsClosedTableOf schemas (no_rows (length schemas))
 none_closed schemas = of_sound schemas (no_rows (length schemas)) (none_sound schemas)
 
+to_sound : (schemas : List Schema) (table : Table) → IsClosedTableOf schemas table → IsSound schemas table
+to_sound schemas table closed = record {
+  types = closed.fits.types;
+  each = λ t o schema row here is. record { fits = closed.fits.rows t o schema row here is; range = closed.fits.ranges t o schema row here is; live = closed.closed t o schema row here is };
+}
+
 pub added_closed : (schemas : List Schema) (previous before after : Table) (t ordinal : ℕ) (tree : PlainTree) → Adds schemas previous t tree before ordinal after → IsClosedTableOf schemas before → IsClosedTableOf schemas after
 added_closed schemas previous before after t ordinal tree adds closed =
-    of_sound schemas after (adds_sound schemas previous tree t before after ordinal adds record {
-      types = closed.fits.types;
-      each = λ t o schema row here is. record { fits = closed.fits.rows t o schema row here is; range = closed.fits.ranges t o schema row here is; live = closed.closed t o schema row here is };
-    }).0.sound
+    of_sound schemas after (adds_sound schemas previous tree t before after ordinal adds (to_sound schemas before closed)).0.sound
+
+-- the table with a row more that may stand there
+pub row_closed : (schemas : List Schema) (previous before after : Table) (t ordinal : ℕ) (row : Row) → FitsRow schemas before t row → PutsRow previous t row before ordinal after → IsClosedTableOf schemas before → IsClosedTableOf schemas after
+row_closed schemas previous before after t ordinal row may puts closed =
+    of_sound schemas after (put_sound schemas previous before after t ordinal may.schema row may.type (to_sound schemas before closed) (record { fits = may.fits; range = may.range; live = may.live }) puts).0.sound
 
 pub next_closed : (schemas : List Schema) (previous next : Table) (records : List (ℕ × PlainTree)) → Next schemas previous records next → IsClosedTableOf schemas next
 next_closed schemas previous next records made = of_sound schemas next (records_sound schemas previous records (no_rows (length schemas)) next made (none_sound schemas))

@@ -11,6 +11,7 @@ pub mod Puts
 pub mod Producing
 pub mod RestoredTypes
 pub mod RisingLists
+pub mod RowPuts
 pub mod SameTables
 pub mod StateRows
 pub mod TypesKept

@@ -49,7 +49,7 @@ agree_set previous before t rows agree there u =
           ]
     ]
 
-puts_agree : (previous before after : Table) (t ordinal : ℕ) (row : Row) → PutsRow previous t row before ordinal after → TablesAgree previous before → TablesAgree previous after
+pub puts_agree : (previous before after : Table) (t ordinal : ℕ) (row : Row) → PutsRow previous t row before ordinal after → TablesAgree previous before → TablesAgree previous after
 puts_agree previous before after t ordinal row puts agree =
     subst (λ (table : Table). TablesAgree previous table) (sym puts.after_is)
     (agree_set previous before t (insert (rows_in before t) ordinal row) agree (agree_put (rows_in previous t) (rows_in before t) row ordinal (agree t) puts.put puts.low))

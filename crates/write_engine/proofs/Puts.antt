@@ -11,6 +11,7 @@ use Rattle.ordinal_map.specs.declared.fault.PutRowFault.{PutRowFault}
 use Rattle.ordinal_map.specs.declared.fault.PutRowFault.TheVariants.{TooMany, Memory}
 use Rattle.write_engine.specs.Agreement.{TablesAgree}
 use Rattle.write_engine.specs.Cycle.{PutsRow, rows_in}
+use Rattle.write_engine.specs.RowPuts.{TellsRowPut}
 use Rattle.write_engine.specs.Production.{previous_of, current_of}
 
 -- the states of a type among all
@@ -42,6 +43,9 @@ module _ (maps : List States) (t : ℕ) (row : Row) (after d : States) where
   same_previous result inside tells =
       map_set (λ s. s.previous) maps t after ∙ set_same (λ s. s.previous) maps t after d inside (kept_previous result tells)
 
+  same_current : t < length maps → after ≡ there → current_of (slice_set maps t after) ≡ current_of maps
+  same_current inside same = map_set (λ s. s.current) maps t after ∙ set_same (λ s. s.current) maps t after d inside (ap (λ s. s.current) same)
+
   pub puts_row : (result : Result ℕ PutRowFault) → t < length maps → TellsPut there row after result
       → IfOk result (λ ordinal. PutsRow (previous_of maps) t row (current_of maps) ordinal (current_of (slice_set maps t after)))
   puts_row (Err fault) inside tells = tt
@@ -66,3 +70,14 @@ module _ (maps : List States) (t : ℕ) (row : Row) (after d : States) where
       let same = put_once (rows_in (previous_of maps) t) (rows_in (current_of maps) t) row (2 ^ 22) ordinal (agree t) would puts.put in
       omega (arith, same, puts.low)
   puts_refused (Err Memory) inside agree tells is ordinal last puts = absurd cc
+
+  -- what the answer of the type tells of the rows of all
+  pub puts_told : (result : Result ℕ PutRowFault) → t < length maps → TellsPut there row after result → TellsRowPut (previous_of maps) t row (current_of maps) result (current_of (slice_set maps t after))
+  puts_told (Ok ordinal) inside tells = puts_row (Ok ordinal) inside tells
+  puts_told (Err TooMany) inside tells =
+      let of_previous = rows_at (λ s. s.previous) maps t d inside in
+      let of_current = rows_at (λ s. s.current) maps t d inside in (
+        subst (λ rows. IsPut rows (rows_in (current_of maps) t) row (2 ^ 22)) (sym of_previous) (subst (λ rows. IsPut there.previous rows row (2 ^ 22)) (sym of_current) tells.0),
+        same_current inside tells.1,
+      )
+  puts_told (Err Memory) inside tells = same_current inside tells

@@ -5,4 +5,5 @@ pub mod Leaf
 pub mod Production
 pub mod RestoredRows
 pub mod Restoring
+pub mod RowPuts
 pub mod Soundness

@@ -7,6 +7,7 @@ ghost use Rattle.row_model.specs.declared.row.Value.{Value as RowValue};
 ghost use Rattle.row_model.specs.Table.{Table};
 ghost use Rattle.write_engine.specs.Agreement.{TablesAgree};
 ghost use Rattle.write_engine.specs.Cycle.{PutsRow, Adds, AddsFields, AddsAll, AddsPairs};
+ghost use Rattle.write_engine.specs.RowPuts.{TellsRowPut};
 ghost use Rattle.record_trees.specs.FitsTree.{FitsTree, FitFields, FitAll, FitPairs};
 ghost use Rattle.record_trees.specs.Types.{referred};
 ghost use Rattle.write_engine.specs.Production.{previous_of, current_of};
@@ -61,10 +62,15 @@ pub(crate) fn add_tree(
     }
 }
 
-// Puts a row of a type.
-fn put_row(maps: &mut [OrdinalMap], type_index: u32, row: Row) -> Result<u32, PutRowFault>
+/// Puts a row of a type.
+pub(crate) fn put_row(
+    maps: &mut [OrdinalMap],
+    type_index: u32,
+    row: Row,
+) -> Result<u32, PutRowFault>
     requires known { type_index < length maps.old }
     requires agree { TablesAgree (previous_of maps.old) (current_of maps.old) }
+    ensures tells { TellsRowPut (previous_of maps.old) type_index row (current_of maps.old) result (current_of maps.new) }
     ensures put { IfOk result (λ ordinal. PutsRow (previous_of maps.old) type_index row (current_of maps.old) ordinal (current_of maps.new)) }
     ensures too_many { result ≡ Err PutRowFault.TooMany → (ordinal : ℕ) (after : Table) → ¬ PutsRow (previous_of maps.old) type_index row (current_of maps.old) ordinal after }
     ensures previous { previous_of maps.new ≡ previous_of maps.old }

@@ -8,7 +8,7 @@ use std::alloc::{AllocError, Global};
 use std::collections::BTreeMap;
 
 /// The ordinals of a set: each of the elements' once, rising.
-pub(crate) fn set_of(alloc: Global, elements: &[u32]) -> Result<Ordinals, AllocError>
+pub fn set_of(alloc: Global, elements: &[u32]) -> Result<Ordinals, AllocError>
     ensures { IfOk result (IsSetOf elements.now) }
 {
     let mut members = Vec::with_capacity(alloc, elements.len())?;

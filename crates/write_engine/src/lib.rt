@@ -11,6 +11,7 @@ mod restoring;
 mod states;
 mod views;
 
+pub use gather::set_of;
 pub use producer::{Closed, Producer};
 pub use restoring::RestoreFault;
 pub use views::{Current, Previous};

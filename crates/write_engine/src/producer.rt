@@ -1,24 +1,26 @@
 //! A producer: the previous state, and the cycle that makes the next one.
-ghost use Rattle.std.specs.Prelude.{◌≡◌, ◌↔◌, ℕ, Ok, Err, IfOk, IsTrue, OnErr, OnOk, true, false, length};
+ghost use Rattle.std.specs.Prelude.{◌≡◌, ◌↔◌, ◌<◌, ◌^◌, ℕ, Ok, Err, IfOk, IsTrue, OnErr, OnOk, true, false, length};
 ghost use Rattle.hol_varint.specs.Yields.{Yields};
 ghost use Rattle.row_model.specs.Table.{Table, IsClosed};
 ghost use Rattle.row_model.specs.Tree.{plain};
+ghost use Rattle.ordinal_map.specs.Assign.{IsFreePut, IsPut};
 ghost use Rattle.write_engine.specs.Agreement.{HoldsOnce, TablesAgree};
-ghost use Rattle.write_engine.specs.Cycle.{Adds, no_rows};
+ghost use Rattle.write_engine.specs.Cycle.{Adds, PutsRow, no_rows, rows_in, with_row};
 ghost use Rattle.write_engine.specs.CycleLimit.{TellsCycle};
 ghost use Rattle.record_trees.specs.FitsTree.{FitsTree};
 ghost use Rattle.write_engine.specs.Production.{AreChanged, IsProducing, IsStart, advanced_to, current_of, previous_of, without_rows};
 ghost use Rattle.write_engine.specs.Restoring.{HasLowOrdinals, IsFirstDuplicate, IsFreeRestore, TellsRestored, restored_of};
+ghost use Rattle.write_engine.specs.RowPuts.{FitsRow, TellsRowPut};
 ghost use Rattle.write_engine.specs.Soundness.{IsClosedTableOf};
 
-use crate::adding::add_tree;
+use crate::adding::{add_tree, put_row};
 use crate::limits::cycle_limit;
 use crate::restoring::{RestoreFault, restore_states};
 use crate::states::{advance_all, changed_types, make_states, undo_all};
 use crate::views::{Current, Previous};
 use hol_varint::Ordinals;
 use ordinal_map::{OrdinalMap, PutRowFault};
-use row_model::{Rows, Tree};
+use row_model::{Row, Rows, Tree};
 use schema_model::{Limit, Model};
 use std::alloc::{AllocError, Global};
 
@@ -98,6 +100,16 @@ fn add_or_undo(
             Err(fault)
         }
     }
+}
+
+// Puts a row of a type.
+fn put_one(maps: &mut Vec<OrdinalMap>, type_index: u32, row: Row) -> Result<u32, PutRowFault>
+    requires known { type_index < length maps.old.items }
+    requires agree { TablesAgree (previous_of maps.old.items) (current_of maps.old.items) }
+    ensures previous { previous_of maps.new.items ≡ previous_of maps.old.items }
+    ensures tells { TellsRowPut (previous_of maps.old.items) type_index row (current_of maps.old.items) result (current_of maps.new.items) }
+{
+    put_row(maps.as_mut_slice(), type_index, row)
 }
 
 impl Producer {
@@ -199,6 +211,22 @@ impl Producer {
         ensures undone { OnErr result (self.new.current ≡ no_rows (length self.old.schemas)) }
     {
         add_or_undo(self.alloc, &self.model, &mut self.maps, type_index, tree)
+    }
+
+    /// Puts one row of a type into the cycle as it is, beside the rows that it names, and gives its ordinal. A row that stands there already keeps
+    /// its ordinal, and nothing changes.
+    ///
+    /// `TooMany` comes where its ordinal would be 2^22. After a refusal the producer is as it was.
+    pub fn put_row(&mut self, type_index: u32, row: Row) -> Result<u32, PutRowFault>
+        requires fits { FitsRow self.old.schemas self.old.current type_index row }
+        requires open { self.old.closed ≡ false }
+        ensures tells { TellsRowPut self.old.previous type_index row self.old.current result self.new.current }
+        ensures put { (ordinal : ℕ) → Yields IsFreePut result (Ok ordinal) (PutsRow self.old.previous type_index row self.old.current ordinal (with_row self.old.current type_index ordinal row)) }
+        ensures too_many { Yields IsFreePut result (Err PutRowFault.TooMany) (IsPut (rows_in self.old.previous type_index) (rows_in self.old.current type_index) row (2 ^ 22)) }
+        ensures kept { self.new ≡ record self.old { current = self.new.current } }
+        ensures refused { OnErr result (self.new ≡ self.old) }
+    {
+        put_one(&mut self.maps, type_index, row)
     }
 
     /// Closes the cycle, tells which types it has changed, and finds the limit that it passes. After a refusal the cycle is open, with its rows.
