@@ -1,12 +1,12 @@
 -- What writing the line of one row of a table leaves of the sink.
-use Rattle.std.proofs.Common.{◌≡◌, ℕ, List, [], ◌∷◌, Option, Some, None, Result, Ok, Err, IfSome, refl, sym, ◌∙◌, subst, arith}
+use Rattle.std.proofs.Common.{◌≡◌, ◌<◌, ◌≤◌, ℕ, List, [], ◌∷◌, ◌++◌, length, take, Option, Some, None, Result, Ok, Err, IfSome, refl, sym, ◌∙◌, subst, arith, append-nil}
 use Rattle.std.specs.List.{slice_get}
 use Rattle.std.specs.Prelude.{IsErrAnd}
 use Rattle.std.specs.Io.KnownBytes.{Appends}
 use Rattle.schema_model.specs.declared.schema.Schema.{Schema}
 use Rattle.row_model.specs.Table.{Table, IsTableOf, row_at}
 use Rattle.hollow_top.specs.declared.stop.Stop.{Stop}
-use Rattle.hollow_top.specs.declared.stop.Stop.TheVariants.{Memory}
+use Rattle.hollow_top.specs.declared.stop.Stop.TheVariants.{Memory, Sink, Store as StoreFailed}
 use Rattle.hollow_top.specs.HeldLines.{Held, HoldsLines, LeavesText}
 use Rattle.hollow_top.specs.RowLines.{IsRowLine}
 use Rattle.hollow_top.proofs.Fronts.{one_line}
@@ -30,6 +30,16 @@ failure (Err e) stop other is was = let same : e ≡ other = cc in sym is ∙ sa
 pub failed : {T E : Type 0} (r : Result T E) (stop : E) (P : Result T E → Type 0) → IsErrAnd r (λ e. e ≡ stop) → P (Err stop) → P r
 failed (Ok x) stop P is holds = absurd is
 failed (Err e) stop P is holds = subst (λ s. P (Err s)) (sym is) holds
+
+-- a line that waits already, and nothing more is put
+pub line_waits : (line : List ℕ) (taken : Option (List ℕ)) (waiting : List ℕ) (after : Held) (r : Result Unit Stop) → LeavesText [] (taken, waiting ++ line) after r → LeavesText line (taken, waiting) after r
+line_waits line taken waiting after (Ok done) left =
+    subst (λ bytes. (gone : List ℕ) × (bytes ≡ gone ++ after.1) × Appends taken after.0 gone) (append-nil (waiting ++ line)) left
+line_waits line taken waiting after (Err Sink) left =
+    subst (λ bytes. (count : ℕ) × (count < length bytes) × Appends taken after.0 (take count bytes)) (append-nil (waiting ++ line)) left
+line_waits line taken waiting after (Err Memory) left =
+    subst (λ bytes. (count : ℕ) × (count ≤ length bytes) × Appends taken after.0 (take count bytes)) (append-nil (waiting ++ line)) left
+line_waits line taken waiting after (Err StoreFailed) left = left
 
 module _ (schemas : List Schema) (table : Table) (t ordinal : ℕ) (before after : Held) where
   -- the lines of the one row of a table that stands there

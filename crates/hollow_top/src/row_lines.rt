@@ -1,18 +1,17 @@
 //! The lines of the rows of a table.
-ghost use Rattle.std.specs.Prelude.{◌≡◌, ◌<◌, ◌≤◌, length, slice_get, IfOk, IfSome, IsErrOf};
+ghost use Rattle.std.specs.Prelude.{◌≡◌, ◌<◌, ◌≤◌, [], ◌∷◌, Some, length, slice_get, IfSome, IsErrOf};
 ghost use Rattle.std.specs.List.{zip};
 ghost use Rattle.hol_io.specs.Causes.{Rose};
-ghost use Rattle.schema_model.specs.Parts.{fields_of};
 ghost use Rattle.row_model.specs.Table.{IsTableOf, IsLive, row_at};
-ghost use Rattle.json_rows.specs.FieldOrder.{IsByteOrder};
+ghost use Rattle.json_rows.specs.LineForm.{IsLineForm};
 ghost use Rattle.hollow_top.specs.HeldLines.{HoldsLines, LeavesText};
-ghost use Rattle.hollow_top.specs.RowLines.{IsRowLine, LeavesLines, rows_of_type, rows_in_order};
+ghost use Rattle.hollow_top.specs.RowLines.{LeavesLines, rows_of_type, rows_in_order};
 
 use crate::stop::Stop;
 use hol_io::{Sink, write_all};
-use json_rows::{field_order, row_line};
+use json_rows::{LineForm, line_form, put_row_line};
 use row_model::Rows;
-use std::alloc::{AllocError, Global};
+use std::alloc::Global;
 
 /// Lines wait until they are so many bytes.
 const BATCH: usize = 0x8000;
@@ -49,48 +48,49 @@ fn show_type<R: Rows, O: Sink>(
     ensures sink_fault { IsErrOf result Stop.Sink → Rose (O.faults out.old) (O.faults out.new) }
     ensures later { O.faults out.old ≤ O.faults out.new }
 {
-    let order = field_order(alloc, rows.model().schema(type_index))?;
+    let form = line_form(alloc, rows.model().schema(type_index))?;
     for ordinal in 0..rows.bound(type_index) {
         if rows.is_live(type_index, ordinal) {
-            let line = line_of(alloc, rows, type_index, ordinal, order.as_slice())?;
-            put_line(line.as_slice(), pending, out)?;
+            put_line(alloc, rows, type_index, ordinal, &form, pending, out)?;
         }
     }
     Ok(())
 }
 
-// Puts a line behind those that wait, and writes all of them once they are many.
-fn put_line<O: Sink>(line: &[u8], pending: &mut Vec<u8>, out: &mut O) -> Result<(), Stop>
-    ensures lines { LeavesText line.now
-        (O.taken out.old, pending.old.items) (O.taken out.new, pending.new.items) result }
+// Puts the line of a row behind those that wait.
+fn put_line<R: Rows, O: Sink>(
+    alloc: Global,
+    rows: &R,
+    type_index: u32,
+    ordinal: u32,
+    form: &LineForm<'_>,
+    pending: &mut Vec<u8>,
+    out: &mut O,
+) -> Result<(), Stop>
+    requires fits { IsTableOf (R.schemas rows.now) (R.table rows.now) }
+    requires live { IsLive (R.table rows.now) type_index ordinal }
+    requires formed { IsLineForm form.now }
+    requires schema { slice_get (R.schemas rows.now) type_index ≡ Some form.now.schema.now }
+    ensures lines { IfSome (slice_get (R.schemas rows.now) type_index) (λ schema. IfSome (row_at (R.table rows.now) type_index ordinal)
+        (λ row. HoldsLines ((schema, (ordinal, row)) ∷ []) (O.taken out.old, pending.old.items) (O.taken out.new, pending.new.items) result)) }
     ensures sink_fault { IsErrOf result Stop.Sink → Rose (O.faults out.old) (O.faults out.new) }
     ensures later { O.faults out.old ≤ O.faults out.new }
 {
-    pending.extend_from_slice(line)?;
+    let row = rows.row(alloc, type_index, ordinal)?;
+    put_row_line(alloc, form, ordinal, &row, pending)?;
+    write_many(pending, out)
+}
+
+// Writes the lines that wait, once they are many.
+fn write_many<O: Sink>(pending: &mut Vec<u8>, out: &mut O) -> Result<(), Stop>
+    ensures lines { LeavesText [] (O.taken out.old, pending.old.items) (O.taken out.new, pending.new.items) result }
+    ensures sink_fault { IsErrOf result Stop.Sink → Rose (O.faults out.old) (O.faults out.new) }
+    ensures later { O.faults out.old ≤ O.faults out.new }
+{
     if pending.len() < BATCH {
         return Ok(());
     }
     write_all(out, pending.as_slice())?;
     pending.clear();
     Ok(())
-}
-
-// The line of a row of a type whose fields stand in this order.
-fn line_of<R: Rows>(
-    alloc: Global,
-    rows: &R,
-    type_index: u32,
-    ordinal: u32,
-    order: &[(String, usize)],
-) -> Result<Vec<u8>, AllocError>
-    requires known { type_index < length (R.schemas rows.now) }
-    requires fits { IsTableOf (R.schemas rows.now) (R.table rows.now) }
-    requires live { IsLive (R.table rows.now) type_index ordinal }
-    requires ordered { IfSome (slice_get (R.schemas rows.now) type_index)
-        (λ schema. IsByteOrder (fields_of schema) order.now) }
-    ensures { IfOk result (λ line. IfSome (slice_get (R.schemas rows.now) type_index) (λ schema. IfSome (row_at (R.table rows.now) type_index ordinal)
-        (λ row. IsRowLine (schema, (ordinal, row)) line.items))) }
-{
-    let row = rows.row(alloc, type_index, ordinal)?;
-    row_line(alloc, rows.model().schema(type_index), order, ordinal, &row)
 }

@@ -3,4 +3,7 @@ pub mod Records
 pub mod TextKinds
 pub mod Printed
 pub mod Orders
-pub mod Sent
+pub mod Leads
+pub mod Put
+pub mod PlainTexts
+pub mod Behind

@@ -11,13 +11,13 @@ use Rattle.schema_model.specs.declared.schema.Shape.{Shape}
 use Rattle.serde_json.specs.Data.{Data, string, object}
 use Rattle.json_rows.specs.StoredRow.{IsTextData, IsValueData, IsRecordData, IsRowData, members_of_fields}
 
-text_prints_once : (units : List ℕ) (a b : Data) → IsTextData units a → IsTextData units b → a ≡ b
+pub text_prints_once : (units : List ℕ) (a b : Data) → IsTextData units a → IsTextData units b → a ≡ b
 text_prints_once units a b (inl (s, of_s, a_is)) (inl (t, of_t, b_is)) = a_is ∙ ap string (text_once units s t of_s of_t) ∙ sym b_is
 text_prints_once units a b (inl (s, of_s, a_is)) (inr (bad, b_is)) = absurd (bad (s, of_s))
 text_prints_once units a b (inr (bad, a_is)) (inl (t, of_t, b_is)) = absurd (bad (t, of_t))
 text_prints_once units a b (inr (bad, a_is)) (inr (also, b_is)) = a_is ∙ sym b_is
 
-value_prints_once : (value : Value) (a b : Data) → IsValueData value a → IsValueData value b → a ≡ b
+pub value_prints_once : (value : Value) (a b : Data) → IsValueData value a → IsValueData value b → a ≡ b
 value_prints_once Value.Null a b h g = h ∙ sym g
 value_prints_once (Value.Int n) a b h g = h ∙ sym g
 value_prints_once (Value.Long n) a b h g = h ∙ sym g

@@ -77,7 +77,7 @@ text_has_none : (units : List ℕ) (printed : Data) → IsTextData units printed
 text_has_none units printed (inl text) = ap has_float text.2
 text_has_none units printed (inr none) = ap has_float none.1 ∙ numbers_have_none units
 
-value_has_none : (value : Value) (printed : Data) → IsValueData value printed → has_float printed ≡ false
+pub value_has_none : (value : Value) (printed : Data) → IsValueData value printed → has_float printed ≡ false
 value_has_none Value.Null printed is = ap has_float is
 value_has_none (Value.Int n) printed is = ap has_float is ∙ integer_has_none n
 value_has_none (Value.Long n) printed is = ap has_float is ∙ integer_has_none n

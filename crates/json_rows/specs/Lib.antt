@@ -1,3 +1,5 @@
 pub mod StoredRow
 pub mod FieldOrder
 pub mod RowLine
+pub mod LineForm
+pub mod PlainText

@@ -1,12 +1,14 @@
 //! Stored rows in JSON.
 #![tactic(auto)]
 
+mod form;
 pub mod laws;
 mod line;
 mod order;
+mod plain;
 mod stored;
-mod view;
+mod value;
 
-pub use line::row_line;
-pub use order::field_order;
+pub use form::{LineForm, line_form};
+pub use line::put_row_line;
 pub use stored::{leaf_value, row_value};

@@ -1,115 +1,147 @@
-//! The line of a stored row, written by serde's events with no tree of values.
-ghost use Rattle.std.specs.Prelude.{length, IfOk, OnOk};
-ghost use Rattle.serde_json.specs.Events.{SendsValue};
-ghost use Rattle.schema_model.specs.Parts.{fields_of};
+//! The line of a stored row, put behind what stands already, with no tree of values.
+ghost use Rattle.std.specs.Prelude.{ℕ, List, ◌≡◌, ◌++◌, ◌∷◌, [], decimal, length, take, OnOk, OnErr};
+ghost use Rattle.serde_json.specs.Written.{comma_if};
 ghost use Rattle.row_model.specs.Row.{FitsShape};
-ghost use Rattle.json_rows.specs.FieldOrder.{AreBelow, IsByteOrder};
-ghost use Rattle.json_rows.specs.RowLine.{IsLineOf, SendsAll, SendsRecord, SendsRow, values_of};
-ghost use Rattle.json_rows.specs.StoredRow.{IsValueData, IsTextData, numbers_data};
+ghost use Rattle.json_rows.specs.FieldOrder.{AreBelow};
+ghost use Rattle.json_rows.specs.LineForm.{IsLineForm};
+ghost use Rattle.json_rows.specs.RowLine.{IsLineOf, PutsItems, PutsPairs, PutsRecord, PutsRow, values_of};
 
-use crate::view::RowView;
-use hol_varint::{Units, text_of};
+use crate::form::LineForm;
+use crate::value::{put_unsigned, put_value};
 use row_model::{Row, Value};
-use schema_model::Schema;
-use serde::{Serialize, Serializer};
-use serde_json::Number;
 use std::alloc::{AllocError, Global};
 
-/// The line of a stored row: the JSON object of its ordinal, of the row as `row_value` prints it, and of the name of its
-/// type, without spaces, and a newline. The order is that of the type's fields, from `field_order`. It fails only for
-/// want of memory.
-pub fn row_line(
+/// Puts the line of a row behind what stands in `out`: the JSON object of its ordinal, of the row as `row_value` prints it, and
+/// of the name of its type, without spaces, and a newline. It fails only for want of memory, and then `out` stays as it
+/// was.
+pub fn put_row_line(
     alloc: Global,
-    schema: &Schema,
-    order: &[(String, usize)],
+    form: &LineForm<'_>,
     ordinal: u32,
     row: &Row,
-) -> Result<Vec<u8>, AllocError>
-    requires ordered { IsByteOrder (fields_of schema.now) order.now }
-    requires fits { FitsShape schema.now.shape row.now }
-    ensures { IfOk result (λ line. IsLineOf schema.now ordinal row.now line.items) }
+    out: &mut Vec<u8>,
+) -> Result<(), AllocError>
+    requires formed { IsLineForm form.now }
+    requires fits { FitsShape form.now.schema.now.shape row.now }
+    ensures put { OnOk result ((line : List ℕ) × IsLineOf form.now.schema.now ordinal row.now line × (out.new.items ≡ out.old.items ++ line)) }
+    ensures err { OnErr result (out.new.items ≡ out.old.items) }
 {
-    let view = RowView {
-        alloc,
-        schema,
-        order,
-        ordinal,
-        row,
-    };
-    let Ok(mut line) = serde_json::to_vec(alloc, &view) else {
-        return Err(AllocError);
-    };
-    line.push(b'\n')?;
-    Ok(line)
+    let before = out.len();
+    let put = put_parts(alloc, form, ordinal, row, out);
+    if put.is_err() {
+        out.truncate(before);
+    }
+    put
 }
 
-// A row: a record as an object, its members in the order that is given.
-pub(crate) fn send_row<S: Serializer>(
+// The parts of a line, of which some stand where memory is refused.
+fn put_parts(
     alloc: Global,
-    order: &[(String, usize)],
+    form: &LineForm<'_>,
+    ordinal: u32,
     row: &Row,
-    out: &mut S,
-) -> Result<(), S::Error>
-    requires { AreBelow (length (values_of row.now)) order.now }
-    ensures { OnOk result (SendsRow order.now row.now (S.written out.old) (S.written out.new)) }
+    out: &mut Vec<u8>,
+) -> Result<(), AllocError>
+    requires formed { IsLineForm form.now }
+    requires fits { FitsShape form.now.schema.now.shape row.now }
+    ensures put { OnOk result ((line : List ℕ) × IsLineOf form.now.schema.now ordinal row.now line × (out.new.items ≡ out.old.items ++ line)) }
+    ensures front { take (length out.old.items) out.new.items ≡ out.old.items }
+{
+    out.extend_from_slice(b"{\"ordinal\":")?;
+    put_unsigned(u64::from(ordinal), out)?;
+    out.extend_from_slice(b",\"row\":")?;
+    put_row(alloc, form.leads.as_slice(), row, out)?;
+    out.extend_from_slice(form.end.as_bytes())
+}
+
+// A row: a record as an object, with the text before each value.
+fn put_row(
+    alloc: Global,
+    leads: &[(String, usize)],
+    row: &Row,
+    out: &mut Vec<u8>,
+) -> Result<(), AllocError>
+    requires { AreBelow (length (values_of row.now)) leads.now }
+    ensures put { OnOk result (PutsRow leads.now row.now out.old.items out.new.items) }
+    ensures front { take (length out.old.items) out.new.items ≡ out.old.items }
 {
     match row {
-        Row::Object(values) => send_record(alloc, order, values.as_slice(), out),
-        Row::List(ordinals) => Serialize::serialize(&ordinals.as_slice(), out),
-        Row::Set(ordinals) => Serialize::serialize(&ordinals.as_slice(), out),
-        Row::Map(pairs) => Serialize::serialize(&pairs.as_slice(), out),
+        Row::Object(values) => put_record(alloc, leads, values.as_slice(), out),
+        Row::List(ordinals) => put_ordinals(ordinals.as_slice(), out),
+        Row::Set(ordinals) => put_ordinals(ordinals.as_slice(), out),
+        Row::Map(pairs) => put_pairs(pairs.as_slice(), out),
     }
 }
 
 // The object of a record.
-fn send_record<S: Serializer>(
+fn put_record(
     alloc: Global,
-    order: &[(String, usize)],
+    leads: &[(String, usize)],
     values: &[Value],
-    out: &mut S,
-) -> Result<(), S::Error>
-    requires { AreBelow (length values.now) order.now }
-    ensures { OnOk result (SendsRecord order.now values.now (S.written out.old) (S.written out.new)) }
+    out: &mut Vec<u8>,
+) -> Result<(), AllocError>
+    requires { AreBelow (length values.now) leads.now }
+    ensures put { OnOk result (PutsRecord leads.now values.now out.old.items out.new.items) }
+    ensures front { take (length out.old.items) out.new.items ≡ out.old.items }
 {
-    out.begin_map(Some(order.len()))?;
-    for member in order {
-        out.key(member.0.as_str())?;
-        send_value(alloc, &values[member.1], out)?;
+    out.push(b'{')?;
+    for lead in leads {
+        out.extend_from_slice(lead.0.as_bytes())?;
+        put_value(alloc, &values[lead.1], out)?;
     }
-    out.end_map()
+    out.push(b'}')?;
+    Ok(())
 }
 
-// The value of a field.
-fn send_value<S: Serializer>(alloc: Global, value: &Value, out: &mut S) -> Result<(), S::Error>
-    ensures { OnOk result (SendsAll (IsValueData value.now) (S.written out.old) (S.written out.new)) }
+// The array of the ordinals of a list or a set.
+fn put_ordinals(ordinals: &[u32], out: &mut Vec<u8>) -> Result<(), AllocError>
+    ensures put { OnOk result (PutsItems ordinals.now out.old.items out.new.items) }
+    ensures front { take (length out.old.items) out.new.items ≡ out.old.items }
 {
-    match value {
-        Value::Null => out.unit(),
-        Value::Int(number) => Number::from(*number).serialize(out),
-        Value::Long(number) => Number::from(*number).serialize(out),
-        Value::Bool(flag) => out.bool(*flag),
-        Value::Text(units) => send_text(alloc, units, out),
-        Value::Bytes(bytes) => match hex::encode(alloc, bytes.as_slice()) {
-            Ok(text) => out.str(text.as_str()),
-            Err(_) => Err(out.custom("memory")),
-        },
-        Value::Ref(ordinal) => out.u64(u64::from(*ordinal)),
+    out.push(b'[')?;
+    for (index, ordinal) in ordinals.iter().enumerate() {
+        put_comma(index > 0, out)?;
+        put_unsigned(u64::from(*ordinal), out)?;
     }
+    out.push(b']')?;
+    Ok(())
 }
 
-// A STRING: its text, or the array of its units where they are not well-formed UTF-16.
-fn send_text<S: Serializer>(alloc: Global, units: &Units, out: &mut S) -> Result<(), S::Error>
-    ensures { OnOk result (SendsAll (IsTextData units.now) (S.written out.old) (S.written out.new)) }
+// The array of the pairs of a map.
+fn put_pairs(pairs: &[(u32, u32)], out: &mut Vec<u8>) -> Result<(), AllocError>
+    ensures put { OnOk result (PutsPairs pairs.now out.old.items out.new.items) }
+    ensures front { take (length out.old.items) out.new.items ≡ out.old.items }
 {
-    match text_of(alloc, units) {
-        Ok(Some(text)) => out.str(text.as_str()),
-        Ok(None) => send_units(units.as_slice(), out),
-        Err(_) => Err(out.custom("memory")),
+    out.push(b'[')?;
+    for (index, pair) in pairs.iter().enumerate() {
+        put_comma(index > 0, out)?;
+        put_pair(*pair, out)?;
     }
+    out.push(b']')?;
+    Ok(())
 }
 
-fn send_units<S: Serializer>(units: &[u16], out: &mut S) -> Result<(), S::Error>
-    ensures { OnOk result (SendsValue (numbers_data units.now) (S.written out.old) (S.written out.new)) }
+// A comma, where something stands before.
+#[inline(always)]
+fn put_comma(later: bool, out: &mut Vec<u8>) -> Result<(), AllocError>
+    ensures put { OnOk result (out.new.items ≡ out.old.items ++ comma_if later) }
+    ensures err { OnErr result (out.new.items ≡ out.old.items) }
 {
-    Serialize::serialize(&units, out)
+    if later {
+        out.push(b',')?;
+    }
+    Ok(())
+}
+
+// A pair of a map.
+fn put_pair(pair: (u32, u32), out: &mut Vec<u8>) -> Result<(), AllocError>
+    ensures put { OnOk result (out.new.items ≡ out.old.items ++ 91 ∷ (decimal pair.0 ++ 44 ∷ (decimal pair.1 ++ 93 ∷ []))) }
+    ensures front { take (length out.old.items) out.new.items ≡ out.old.items }
+{
+    out.push(b'[')?;
+    put_unsigned(u64::from(pair.0), out)?;
+    out.push(b',')?;
+    put_unsigned(u64::from(pair.1), out)?;
+    out.push(b']')?;
+    Ok(())
 }

@@ -9,7 +9,10 @@ use std::collections::BTreeMap;
 
 /// The fields of a type in byte order of their names: each name, with the place of the field. Types of other kinds than
 /// OBJECT have none. It fails only for want of memory.
-pub fn field_order(alloc: Global, schema: &Schema) -> Result<Vec<(String, usize)>, AllocError>
+pub(crate) fn field_order(
+    alloc: Global,
+    schema: &Schema,
+) -> Result<Vec<(String, usize)>, AllocError>
     ensures { IfOk result (λ order. IsByteOrder (fields_of schema.now) order.items) }
 {
     match &schema.shape {

@@ -1,0 +1,11 @@
+use Rattle.std.proofs.Common.{◌≡◌, ◌++◌, length, take}
+use Rattle.serde_json.specs.Data.{number, unsigned}
+use Rattle.serde_json.specs.Written.{compact_text}
+use Rattle.json_rows.specs.StoredRow.{numbers_data}
+use Rattle.json_rows.proofs.Put.{items_from}
+use Rattle.json_rows.proofs.line.put_ordinals.Given as goal
+
+abbrev pub invariant-loop-index : goal.invariant-loop-index
+invariant-loop-index l =
+    (l.out.items ++ items_from (λ n. number (unsigned n)) l.ordinals l.index ≡ l.fn.out.items ++ compact_text (numbers_data l.ordinals))
+    × (take (length l.fn.out.items) l.out.items ≡ l.fn.out.items)
