@@ -47,21 +47,21 @@ module _ (machine : Machine) (chain : Chain) (kept : KeepsChain machine.store ch
       (chain, grows, both.0, both.1, (λ v s there. there))
 
   -- the model of the last state can be written
-  writable : (last : Published) → IsOver chain last → IsWritableModel last.model
+  pub writable : (last : Published) → IsOver chain last → IsWritableModel last.model
   writable last is_over = record { model = is_over.model; texts = is_over.texts }
 
-  puts_keep : (last : Published) (version : ℕ) (tag : ℤ) (trees : List (ℕ × PlainTree)) (rows : Table) (changed : List ℕ) (blobs : List Put) → IsOver chain last → IsVersion version → FitsSigned w64 tag
+  pub puts_keep : (last : Published) (version : ℕ) (tag : ℤ) (trees : List (ℕ × PlainTree)) (rows : Table) (changed : List ℕ) (blobs : List Put) → IsOver chain last → IsVersion version → FitsSigned w64 tag
       → MayFollow machine.store last.version version tag → Makes last trees rows changed → TellsTypes last.model last.rows rows None
       → AreBlobs last rows version tag blobs → All IsShort blobs → IsWritableModel last.model → KeepsChain (put_all machine.store (puts_of blobs version)) (insert chain version (state_behind last tag rows))
   puts_keep last version tag trees rows changed blobs is_over is_version fits may makes limits (inl (zero_before, (snapshot, written, is))) short can =
       let all = subst (All IsShort) is short in
       subst (λ (bs : List Put). KeepsChain (put_all machine.store (puts_of bs version)) (insert chain version (state_behind last tag rows))) (sym is)
-      (first_kept machine.store chain last version tag trees rows kept is_over can may is_version fits makes.state limits snapshot zero_before written (all 0 (Announced, []) (omega arith)))
+      (first_kept machine.store chain last version tag trees rows kept is_over can may is_version fits makes.state limits true snapshot zero_before written (all 0 (Announced, []) (omega arith)) refl)
   puts_keep last version tag trees rows changed blobs is_over is_version fits may makes limits (inr (nonzero, (delta, reverse, snapshot, forward, back, written, is))) short can =
       let all = subst (All IsShort) is short in
       subst (λ (bs : List Put). KeepsChain (put_all machine.store (puts_of bs version)) (insert chain version (state_behind last tag rows))) (sym is)
-      (later_kept machine.store chain last version tag trees rows kept is_over can may is_version fits makes.state limits delta reverse snapshot nonzero forward back written
-      (all 0 (Announced, []) (omega arith)) (all 1 (Announced, []) (omega arith)) (all 2 (Announced, []) (omega arith)))
+      (later_kept machine.store chain last version tag trees rows kept is_over can may is_version fits makes.state limits true delta reverse snapshot nonzero forward back written
+      (all 0 (Announced, []) (omega arith)) (all 1 (Announced, []) (omega arith)) (all 2 (Announced, []) (omega arith)) refl)
 
   -- a cycle's numbers are a version and a tag
   cycle_done : (producer : Option Published) → machine.producer ≡ producer → (asked : AskedCycle) (names : List (List ℕ)) (published : Bool) (next : Machine)
@@ -76,14 +76,14 @@ module _ (machine : Machine) (chain : Chain) (kept : KeepsChain machine.store ch
       let longer = insert chain version (state_behind last tag rows) in
       let can = writable last is_over in
       let held = puts_keep last version tag trees rows changed blobs is_over is_version fits may makes limits are short can in
-      let moved = over_longer machine.store chain last version tag trees rows kept is_over can may is_version fits makes.state limits in
+      let moved = over_longer machine.store chain last version tag trees rows kept is_over can may is_version fits makes.state limits true refl in
       let grows : AddsAsked chain last asked longer = (trees, gives, (rows, makes.state, refl)) in
       let both = subst (λ (m : Machine). KeepsChain m.store longer × IsProducerOf longer m.producer) (sym next_is) (held, moved) in (
         longer,
         subst (λ (p : Option Published). IsSomeAnd p (λ l. AddsAsked chain l asked longer)) (sym is) grows,
         both.0,
         both.1,
-        versions_stay machine.store chain last version tag trees rows kept is_over can may is_version fits makes.state limits,
+        versions_stay machine.store chain last version tag trees rows kept is_over can may is_version fits makes.state limits true,
       )
 
   pub cycle_keeps : (asked : AskedCycle) (answer : Reply) (next : Machine) → IsVersion asked.version → FitsSigned w64 asked.tag → CycleStep machine asked answer next

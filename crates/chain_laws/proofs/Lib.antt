@@ -48,6 +48,7 @@ mod RestoredChains
 mod SoundMachines
 mod StatLaws
 mod StepLaws
+mod StoppedChains
 mod StoreNames
 mod StoredRows
 mod TypedConsumers

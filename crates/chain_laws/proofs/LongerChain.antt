@@ -1,17 +1,17 @@
--- A chain with a published state more, in a store with its blobs.
+-- A chain with a state more, in a store with its blobs.
 use Rattle.std.proofs.Common.{◌≡◌, ◌<◌, ◌⊎◌, ℕ, List, Some, inl, inr, sym, ap, subst, ◌∙◌, arith}
-use Rattle.std.specs.Prelude.{IsTrue, is_some}
+use Rattle.std.specs.Prelude.{IsTrue, Option, is_some}
 use Rattle.std.specs.FinMap.{get, insert, nat_cmp-IsAntisymmetric}
 use Rattle.std.specs.Cmp.{nat_cmp_total}
 use Rattle.hol_io.specs.declared.name.BlobName.{BlobName}
 use Rattle.hol_io.specs.declared.name.BlobName.TheVariants.{Snapshot, Delta, Reverse, Announced}
 use Rattle.hol_io.specs.Name.{IsVersion}
 use Rattle.hol_io.specs.Store.{Store}
-use Rattle.chain_store.specs.Announced.{IsAnnounced}
+use Rattle.chain_store.specs.Announced.{Announces, IsAnnounced}
 use Rattle.chain_store.specs.Tags.{IsBlob, IsTagTaken}
 use Rattle.chain_store.specs.Versions.{last_version}
-use Rattle.written_laws.specs.Chain.{Chain, ChainState, HasVersion, IsSound, Follows, IsChain}
-use Rattle.written_laws.specs.HoldsChain.{IsOfChain, IsThere, HasBlobs}
+use Rattle.written_laws.specs.Chain.{Chain, ChainState, HasVersion, IsSound, Follows, IsChain, IsLastPublished}
+use Rattle.written_laws.specs.HoldsChain.{HoldsChain, IsOfChain, IsThere, HasBlobs}
 use Rattle.chain_laws.specs.Producers.{KeepsChain}
 use Rattle.chain_laws.proofs.Inserting.{inserted, beside, here_or_beside}
 use Rattle.chain_laws.proofs.StoreNames.{found, newest_below, one_announced, taken_stays}
@@ -29,12 +29,12 @@ earlier store chain kept version later v s there =
     ]
 
 module _ (store after : Store) (chain : Chain) (kept : KeepsChain store chain) (version : ℕ) (state : ChainState)
-    (later : last_version store < version) (is_version : IsVersion version) (sound : IsSound state) (published : IsTrue state.published)
+    (later : last_version store < version) (is_version : IsVersion version) (sound : IsSound state)
     (announced : IsAnnounced store state.parent) (unused : IsTagTaken store state.tag → ⊥) (follow : (state.parent ≡ 0) ⊎ Follows chain version state)
     (stays : (name : BlobName) (blob : List ℕ) → IsBlob name → get store name ≡ Some blob → get after name ≡ Some blob)
     (each : (name : BlobName) (blob : List ℕ) → get after name ≡ Some blob → IsOfChain (insert chain version state) name blob ⊎ (get store name ≡ Some blob))
     (whole : (v : ℕ) → (v ≡ version → ⊥) → IsThere after (Snapshot v) → IsThere store (Snapshot v))
-    (blobs : HasBlobs after version state) (says : IsAnnounced after version) (tagged : IsTagTaken after state.tag) where
+    (blobs : HasBlobs after version state) where
   abbrev longer : Chain
   longer = insert chain version state
 
@@ -138,24 +138,41 @@ module _ (store after : Store) (chain : Chain) (kept : KeepsChain store chain) (
     whole = λ is_published. there_stays (Snapshot v) tt (step.whole is_published);
   }
 
-  pub longer_kept : KeepsChain after longer
-  longer_kept = record {
-    holds = record {
-      sound = chain_longer;
-      each = λ name blob at. elim (each name blob at) [ inl new ↦ new | inr old ↦ of_stays name blob (kept.holds.each name blob old) ];
-      all = λ v s there. elim (new_or_old v s there) [ inl new ↦ on_new (HasBlobs after) v s new.0 new.1 blobs | inr old ↦ blobs_stay v s (before v s old) (kept.holds.all v s old) ];
-      announced = (
-        version,
-        record {
-          is = inr (state, new_here, published);
-          last = λ v s there is_published. elim (new_or_old v s there) [ inl new ↦ omega (arith, new.0) | inr old ↦ (let low = before v s old in omega (arith, low)) ];
-        },
-        says,
-      );
-    };
+  holds_longer : (last : ℕ) → IsLastPublished longer last → IsAnnounced after last → HoldsChain after longer
+  holds_longer last is_last says = record {
+    sound = chain_longer;
+    each = λ name blob at. elim (each name blob at) [ inl new ↦ new | inr old ↦ of_stays name blob (kept.holds.each name blob old) ];
+    all = λ v s there. elim (new_or_old v s there) [ inl new ↦ on_new (HasBlobs after) v s new.0 new.1 blobs | inr old ↦ blobs_stay v s (before v s old) (kept.holds.all v s old) ];
+    announced = (last, is_last, says);
+  }
+
+  -- The state is published, and its version announced.
+  pub longer_kept : IsTrue state.published → IsAnnounced after version → IsTagTaken after state.tag → KeepsChain after longer
+  longer_kept published says tagged = record {
+    holds = holds_longer version record {
+      is = inr (state, new_here, published);
+      last = λ v s there is_published. elim (new_or_old v s there) [ inl new ↦ omega (arith, new.0) | inr old ↦ (let low = before v s old in omega (arith, low)) ];
+    } says;
     tags = λ v s there.
         elim (new_or_old v s there) [
           | inl new ↦ subst (λ (x : ChainState). IsTagTaken after x.tag) (sym new.1) tagged
           | inr old ↦ taken_stays store after s.tag stays (kept.tags v s old)
         ];
   }
+
+  still_there : (last : ℕ) → (last ≡ 0) ⊎ ((s : ChainState) × HasVersion chain last s × IsTrue s.published) → (last ≡ 0) ⊎ ((s : ChainState) × HasVersion longer last s × IsTrue s.published)
+  still_there last (inl none) = inl none
+  still_there last (inr (s, there, is_published)) = inr (s, old_stays last s there, is_published)
+
+  -- The state is not published, and what is announced stays.
+  pub longer_held : (IsTrue state.published → ⊥) → get after Announced ≡ get store Announced → HoldsChain after longer
+  longer_held unpublished same =
+      let (last, is_last, says) = kept.holds.announced in
+      holds_longer last record {
+        is = still_there last is_last.is;
+        last = λ v s there is_published.
+            elim (new_or_old v s there) [
+              | inl new ↦ absurd (unpublished (subst (λ (x : ChainState). IsTrue x.published) new.1 is_published))
+              | inr old ↦ is_last.last v s old is_published
+            ];
+      } (subst (λ (content : Option (List ℕ)). Announces content last) (sym same) says)

@@ -27,25 +27,29 @@ use Rattle.chain_laws.proofs.CycleLaws.{cycle_keeps}
 -- ---- the cycles of the script
 
 -- a cycle is one of the first thousand
-abbrev IsNumber : ℕ → Type 0
+abbrev pub IsNumber : ℕ → Type 0
 IsNumber cycle = (1 ≤ cycle) × (cycle ≤ 1000)
 
-numbers : (start count : ℕ) → 1 ≤ start → start + count ≤ 1001 → All IsNumber (range_with_len start count)
+pub numbers : (start count : ℕ) → 1 ≤ start → start + count ≤ 1001 → All IsNumber (range_with_len start count)
 numbers start zero low high = All-nil IsNumber
 numbers start (suc count) low high =
     All-cons IsNumber start (range_with_len (start + 1) count) (low, omega (arith, high)) (numbers (start + 1) count (omega (arith, low)) (omega (arith, high)))
 
-front : (xs ys : List ℕ) → All IsNumber (xs ++ ys) → All IsNumber xs
+pub front : (xs ys : List ℕ) → All IsNumber (xs ++ ys) → All IsNumber xs
 front [] ys all = All-nil IsNumber
 front (x ∷ xs) ys all = All-cons IsNumber x xs (All-head IsNumber x (xs ++ ys) all) (front xs ys (All-tail IsNumber x (xs ++ ys) all))
 
+pub behind : (xs ys : List ℕ) → All IsNumber (xs ++ ys) → All IsNumber ys
+behind [] ys all = all
+behind (x ∷ xs) ys all = behind xs ys (All-tail IsNumber x (xs ++ ys) all)
+
 module _ (seed rows : ℕ) (small : seed ≤ 999999) where
   -- the chain grew by what these cycles published
-  abbrev KeepsCycles : Machine → List ℕ → Chain → Machine → Type 0
+  abbrev pub KeepsCycles : Machine → List ℕ → Chain → Machine → Type 0
   KeepsCycles machine cycles chain next =
       (after : Chain) × GrowsByCycles seed rows machine cycles chain next after × KeepsChain next.store after × IsProducerOf after next.producer
 
-  passes_keep : (cycles published : List ℕ) (machine next : Machine) (chain : Chain) → All IsNumber cycles → KeepsChain machine.store chain → IsProducerOf chain machine.producer
+  pub passes_keep : (cycles published : List ℕ) (machine next : Machine) (chain : Chain) → All IsNumber cycles → KeepsChain machine.store chain → IsProducerOf chain machine.producer
       → PassesCycles seed rows machine cycles published next → KeepsCycles machine cycles chain next
   passes_keep [] published machine next chain all kept over (none, same) =
       let both = subst (λ (m : Machine). KeepsChain m.store chain × IsProducerOf chain m.producer) (sym same) (kept, over) in
@@ -142,7 +146,7 @@ texts =
     All-cons (EachName IsUtf8) text_schema (tags_schema ∷ film_schema ∷ []) text_texts
     (All-cons (EachName IsUtf8) tags_schema (film_schema ∷ []) tags_texts (All-cons (EachName IsUtf8) film_schema [] film_texts (All-nil (EachName IsUtf8))))
 
-script_over : IsModel film_schemas → (chain : Chain) → IsOver chain (new_producer film_schemas)
+pub script_over : IsModel film_schemas → (chain : Chain) → IsOver chain (new_producer film_schemas)
 script_over model chain = record { model = model; texts = texts; stands = inl refl }
 
 -- ---- the command

@@ -1,6 +1,7 @@
--- A cycle that publishes: the store holds the chain with the state more, at which the producer is then.
-use Rattle.std.proofs.Common.{◌≡◌, ◌≢◌, ◌≤◌, ◌<◌, ◌^◌, ◌⊎◌, ℕ, ℤ, List, [], ◌∷◌, length, Some, None, inl, inr, refl, sym, ap, subst, ◌∙◌, arith}
-use Rattle.std.specs.Prelude.{FitsSigned, IsSome, is_some, true, Option}
+-- A cycle that publishes: the store holds the chain with the state more, at which the producer is then; and with the first puts alone, it holds it with
+-- that state not published.
+use Rattle.std.proofs.Common.{◌≡◌, ◌≢◌, ◌≤◌, ◌<◌, ◌^◌, ◌⊎◌, ℕ, zero, suc, ℤ, List, [], ◌∷◌, Bool, length, take, Some, None, inl, inr, refl, sym, ap, subst, ◌∙◌, arith}
+use Rattle.std.specs.Prelude.{FitsSigned, IsSome, IsTrue, is_some, true, Option}
 use Rattle.std.specs.Fmt.{decimal}
 use Rattle.std.specs.Int.{w64, cast_unsigned}
 use Rattle.std.specs.FinMap.{get, insert, nat_cmp-IsAntisymmetric}
@@ -23,7 +24,7 @@ use Rattle.hollow_machine.specs.Follow.{MayFollow}
 use Rattle.state_blobs.specs.Puts.{Put, put_all}
 use Rattle.state_blobs.specs.Published.{Published}
 use Rattle.written_laws.specs.Chain.{Chain, ChainState, HasVersion, Follows, IsSound}
-use Rattle.written_laws.specs.HoldsChain.{IsOfChain, IsSnapshotOfState, LeadsBetween, OfStep}
+use Rattle.written_laws.specs.HoldsChain.{HasBlobs, HoldsChain, IsOfChain, IsSnapshotOfState, IsThere, LeadsBetween, OfStep}
 use Rattle.written_laws.specs.Snapshot.{header_between}
 use Rattle.written_laws.specs.States.{AreStates, IsWritableModel}
 use Rattle.written_laws.proofs.DeltaRead.{delta_read}
@@ -32,10 +33,10 @@ use Rattle.written_laws.proofs.StatesBack.{states_back}
 use Rattle.chain_laws.specs.Producers.{IsOver, KeepsChain, state_behind}
 use Rattle.chain_laws.proofs.Inserting.{inserted, beside}
 use Rattle.chain_laws.proofs.LastState.{IsLast, last_is}
-use Rattle.chain_laws.proofs.LongerChain.{earlier, longer_kept}
+use Rattle.chain_laws.proofs.LongerChain.{earlier, longer_held, longer_kept}
 use Rattle.chain_laws.proofs.NewState.{states, state_after, same_rows, sound}
-use Rattle.chain_laws.proofs.Putting.{IsPutIn, put_or_before, untouched, put_there}
-use Rattle.chain_laws.proofs.StoreNames.{newest_below, taken}
+use Rattle.chain_laws.proofs.Putting.{IsPutIn, IsUntouched, front_in, front_untouched, put_or_before, untouched, put_there}
+use Rattle.chain_laws.proofs.StoreNames.{found, newest_below, taken}
 use Rattle.chain_laws.proofs.WrittenTags.{snapshot_tagged}
 
 abbrev kind_of : BlobName → ℕ
@@ -56,9 +57,9 @@ snapshot_reverse same = let no : 0 ≡ 2 = ap kind_of same in omega (arith, no)
 
 module _ (store : Store) (chain : Chain) (last : Published) (version : ℕ) (tag : ℤ) (trees : List (ℕ × PlainTree)) (rows : Table)
     (kept : KeepsChain store chain) (over : IsOver chain last) (writable : IsWritableModel last.model) (may : MayFollow store last.version version tag) (is_version : IsVersion version) (fits : FitsSigned w64 tag)
-    (made : Next last.model last.rows trees rows) (limits : TellsTypes last.model last.rows rows None) where
+    (made : Next last.model last.rows trees rows) (limits : TellsTypes last.model last.rows rows None) (published : Bool) where
   abbrev state : ChainState
-  state = state_behind last tag rows
+  state = record (state_behind last tag rows) { published = published }
 
   abbrev longer : Chain
   longer = insert chain version state
@@ -70,7 +71,18 @@ module _ (store : Store) (chain : Chain) (last : Published) (version : ℕ) (tag
   are = states last rows trees writable is_last.once is_last.state made limits
 
   is_sound : IsSound state
-  is_sound = sound last rows trees writable is_last.once is_last.state made limits tag fits (λ e. may.unused (inl e))
+  is_sound =
+      let behind = sound last rows trees writable is_last.once is_last.state made limits tag fits (λ e. may.unused (inl e)) in
+      record {
+        tag = behind.tag;
+        tagged = behind.tagged;
+        model = behind.model;
+        rows = behind.rows;
+        closed = behind.closed;
+        once = behind.once;
+        ordinals = behind.ordinals;
+        bytes = behind.bytes;
+      }
 
   new_here : HasVersion longer version state
   new_here = inserted nat_cmp_total nat_cmp-IsAntisymmetric chain version state
@@ -130,16 +142,33 @@ module _ (store : Store) (chain : Chain) (last : Published) (version : ℕ) (tag
     there : get first_store (Snapshot version) ≡ Some snapshot
     there = put_there (Snapshot version, snapshot) ((Announced, decimal version) ∷ []) store (not_announced (Snapshot version) tt, tt)
 
-    pub first_kept : KeepsChain first_store longer
-    first_kept =
-        longer_kept store first_store chain kept version state may.later is_version is_sound refl may.announced (λ t. may.unused (inr t)) follow
+    pub first_kept : IsTrue published → KeepsChain first_store longer
+    first_kept is_published =
+        longer_kept store first_store chain kept version state may.later is_version is_sound may.announced (λ t. may.unused (inr t)) follow
         (λ name blob of_blob at.
         untouched first_puts store name (apart name (Snapshot version) blob at (omega arith), (not_announced name of_blob, tt)) ∙ at)
         (λ name blob at. each_of name blob (put_or_before first_puts store name blob at))
         (λ v other is. subst IsSome (untouched first_puts store (Snapshot v) (λ e. other (ap newest e), (not_announced (Snapshot v) tt, tt))) is)
-        (inl (zero_before, ap is_some there))
+        (inl (zero_before, ap is_some there)) is_published
         (says first_store (put_there (Announced, decimal version) [] (insert store (Snapshot version) snapshot) tt))
         (taken first_store tag (Snapshot version) snapshot tt there (snapshot_tagged last.model last.rows rows last.tag tag snapshot small written))
+
+    -- the snapshot alone
+    abbrev begun_store : Store
+    begun_store = put_all store ((Snapshot version, snapshot) ∷ [])
+
+    begun_each : (name : BlobName) (blob : List ℕ) → IsPutIn ((Snapshot version, snapshot) ∷ []) name blob ⊎ (get store name ≡ Some blob) → IsOfChain longer name blob ⊎ (get store name ≡ Some blob)
+    begun_each name blob (inl put) = inl (first_each name blob (front_in 1 first_puts name blob put))
+    begun_each name blob (inr was) = inr was
+
+    pub first_held : (IsTrue published → ⊥) → HoldsChain begun_store longer
+    first_held unpublished =
+        longer_held store begun_store chain kept version state may.later is_version is_sound may.announced (λ t. may.unused (inr t)) follow
+        (λ name blob of_blob at. untouched ((Snapshot version, snapshot) ∷ []) store name (apart name (Snapshot version) blob at (omega arith), tt) ∙ at)
+        (λ name blob at. begun_each name blob (put_or_before ((Snapshot version, snapshot) ∷ []) store name blob at))
+        (λ v other is. subst IsSome (untouched ((Snapshot version, snapshot) ∷ []) store (Snapshot v) ((λ e. other (ap newest e)), tt)) is)
+        (inl (zero_before, ap is_some (put_there (Snapshot version, snapshot) [] store tt))) unpublished
+        (untouched ((Snapshot version, snapshot) ∷ []) store Announced ((λ e. not_announced (Snapshot version) tt (sym e)), tt))
 
   -- the state of the producer's last version, and the new one behind it
   of_step : last.version ≢ 0 → (P : ChainState → ChainState → Type 0) → ((parent : ℕ) → P (record { tag = last.tag; parent = parent; published = true; model = last.model; table = last.rows }) state)
@@ -203,35 +232,94 @@ module _ (store : Store) (chain : Chain) (last : Published) (version : ℕ) (tag
     there_snapshot : get later_store (Snapshot version) ≡ Some snapshot
     there_snapshot = put_there (Snapshot version, snapshot) ((Announced, decimal version) ∷ []) with_reverse (not_announced (Snapshot version) tt, tt)
 
-    pub later_kept : KeepsChain later_store longer
-    later_kept =
-        longer_kept store later_store chain kept version state may.later is_version is_sound refl may.announced (λ t. may.unused (inr t)) follow
-        (λ name blob of_blob at.
-        untouched later_puts store name (
-          apart name (Delta last.version version) blob at (omega arith),
-          (
-            apart name (Reverse version last.version) blob at (omega arith),
-            (apart name (Snapshot version) blob at (omega arith), (not_announced name of_blob, tt)),
-          ),
-        ) ∙ at)
+    -- no put is under the name of a blob that was there
+    blobs_apart : (name : BlobName) (blob : List ℕ) → IsBlob name → get store name ≡ Some blob → IsUntouched later_puts name
+    blobs_apart name blob of_blob at = (
+      apart name (Delta last.version version) blob at (omega arith),
+      (
+        apart name (Reverse version last.version) blob at (omega arith),
+        (apart name (Snapshot version) blob at (omega arith), (not_announced name of_blob, tt)),
+      ),
+    )
+
+    -- nor under that of another snapshot
+    snapshots_apart : (v : ℕ) → (v ≡ version → ⊥) → IsUntouched later_puts (Snapshot v)
+    snapshots_apart v other = (snapshot_delta, (snapshot_reverse, ((λ e. other (ap newest e)), (not_announced (Snapshot v) tt, tt))))
+
+    pub later_kept : IsTrue published → KeepsChain later_store longer
+    later_kept is_published =
+        longer_kept store later_store chain kept version state may.later is_version is_sound may.announced (λ t. may.unused (inr t)) follow
+        (λ name blob of_blob at. untouched later_puts store name (blobs_apart name blob of_blob at) ∙ at)
         (λ name blob at. later_each_of name blob (put_or_before later_puts store name blob at))
-        (λ v other is.
-        subst IsSome (untouched later_puts store (Snapshot v) (
-          snapshot_delta,
-          (
-            snapshot_reverse,
-            ((λ e. other (ap newest e)), (not_announced (Snapshot v) tt, tt)),
-          ),
-        )) is)
-        (inr record { forward = ap is_some there_delta; back = λ is. ap is_some there_reverse; whole = λ is. ap is_some there_snapshot })
+        (λ v other is. subst IsSome (untouched later_puts store (Snapshot v) (snapshots_apart v other)) is)
+        (inr record { forward = ap is_some there_delta; back = λ is. ap is_some there_reverse; whole = λ is. ap is_some there_snapshot }) is_published
         (says later_store (put_there (Announced, decimal version) [] (insert with_reverse (Snapshot version) snapshot) tt))
         (taken later_store tag (Snapshot version) snapshot tt there_snapshot (snapshot_tagged last.model last.rows rows last.tag tag snapshot small written))
 
-  pub over_longer : IsOver longer (record { model = last.model; rows = rows; tag = tag; version = version })
-  over_longer = record {
+    -- the store with the first puts
+    abbrev part_store : ℕ → Store
+    part_store count = put_all store (take count later_puts)
+
+    part_each : (count : ℕ) (name : BlobName) (blob : List ℕ) → IsPutIn (take count later_puts) name blob ⊎ (get store name ≡ Some blob) → IsOfChain longer name blob ⊎ (get store name ≡ Some blob)
+    part_each count name blob (inl put) = inl (later_each name blob (front_in count later_puts name blob put))
+    part_each count name blob (inr was) = inr was
+
+    part_held : (IsTrue published → ⊥) → (count : ℕ) → IsUntouched (take count later_puts) Announced → HasBlobs (part_store count) version state → HoldsChain (part_store count) longer
+    part_held unpublished count unannounced blobs =
+        longer_held store (part_store count) chain kept version state may.later is_version is_sound may.announced (λ t. may.unused (inr t)) follow
+        (λ name blob of_blob at. untouched (take count later_puts) store name (front_untouched count later_puts name (blobs_apart name blob of_blob at)) ∙ at)
+        (λ name blob at. part_each count name blob (put_or_before (take count later_puts) store name blob at))
+        (λ v other is. subst IsSome (untouched (take count later_puts) store (Snapshot v) (front_untouched count later_puts (Snapshot v) (snapshots_apart v other))) is)
+        blobs unpublished (untouched (take count later_puts) store Announced unannounced)
+
+    -- there is no snapshot of the new version yet
+    none_yet : IsThere store (Snapshot version) → ⊥
+    none_yet there =
+        let (blob, at) = found (get store (Snapshot version)) there in
+        let low = newest_below store (Snapshot version) blob at in
+        let later = may.later in
+        omega (arith, low, later)
+
+    abbrev announced_apart : (name : BlobName) → IsBlob name → Announced ≡ name → ⊥
+    announced_apart name of_blob same = not_announced name of_blob (sym same)
+
+    pub later_held : (IsTrue published → ⊥) → (count : ℕ) → 1 ≤ count → count < 4 → HoldsChain (part_store count) longer
+    later_held unpublished zero some few = absurd (omega (arith, some))
+    later_held unpublished (suc zero) some few =
+        part_held unpublished 1 (announced_apart (Delta last.version version) tt, tt) (
+        inr record {
+          forward = ap is_some (put_there (Delta last.version version, delta) [] store tt);
+          back = λ is. absurd (none_yet (subst IsSome (untouched ((Delta last.version version, delta) ∷ []) store (Snapshot version) (snapshot_delta, tt)) is));
+          whole = λ is. absurd (unpublished is);
+        })
+    later_held unpublished (suc (suc zero)) some few =
+        part_held unpublished 2 (announced_apart (Delta last.version version) tt, (announced_apart (Reverse version last.version) tt, tt)) (
+        inr record {
+          forward = ap is_some (put_there (Delta last.version version, delta) ((Reverse version last.version, reverse) ∷ []) store (delta_reverse, tt));
+          back = λ is. ap is_some (put_there (Reverse version last.version, reverse) [] with_delta tt);
+          whole = λ is. absurd (unpublished is);
+        })
+    later_held unpublished (suc (suc (suc zero))) some few =
+        part_held unpublished 3 (
+          announced_apart (Delta last.version version) tt,
+          (
+            announced_apart (Reverse version last.version) tt,
+            (announced_apart (Snapshot version) tt, tt),
+          ),
+        ) (
+        inr record {
+          forward = ap is_some (put_there (Delta last.version version, delta) ((Reverse version last.version, reverse) ∷ (Snapshot version, snapshot) ∷ []) store
+              (delta_reverse, ((λ e. snapshot_delta (sym e)), tt)));
+          back = λ is. ap is_some (put_there (Reverse version last.version, reverse) ((Snapshot version, snapshot) ∷ []) with_delta ((λ e. snapshot_reverse (sym e)), tt));
+          whole = λ is. absurd (unpublished is);
+        })
+    later_held unpublished (suc (suc (suc (suc count)))) some few = absurd (omega (arith, few))
+
+  pub over_longer : IsTrue published → IsOver longer (record { model = last.model; rows = rows; tag = tag; version = version })
+  over_longer is_published = record {
     model = over.model;
     texts = over.texts;
-    stands = inr record { parent = last.version; there = new_here; stored = (state_after last rows trees writable is_last.once is_last.state made limits).stored };
+    stands = inr record { parent = last.version; there = new_here ∙ ap (λ (b : Bool). Some (record (state_behind last tag rows) { published = b })) is_published; stored = (state_after last rows trees writable is_last.once is_last.state made limits).stored };
   }
 
   -- the states that were there are there

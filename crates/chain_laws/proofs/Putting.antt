@@ -1,5 +1,5 @@
 -- What a store has after some puts, one after another: what was put, or what was there before.
-use Rattle.std.proofs.Common.{◌≡◌, ◌⊎◌, ℕ, List, [], ◌∷◌, Some, inl, inr, refl, sym, ◌∙◌}
+use Rattle.std.proofs.Common.{◌≡◌, ◌⊎◌, ℕ, zero, suc, List, [], ◌∷◌, take, Some, inl, inr, refl, sym, ◌∙◌}
 use Rattle.std.specs.FinMap.{get, insert}
 use Rattle.hol_io.specs.declared.name.BlobName.{BlobName}
 use Rattle.hol_io.specs.Store.{Store}
@@ -37,3 +37,18 @@ untouched (put ∷ puts) store name apart = untouched puts (insert store put.0 p
 
 pub put_there : (put : Put) (puts : List Put) (store : Store) → IsUntouched puts put.0 → get (put_all store (put ∷ puts)) put.0 ≡ Some put.1
 put_there put puts store apart = untouched puts (insert store put.0 put.1) put.0 apart ∙ inserted name_cmp_total name_cmp-IsAntisymmetric store put.0 put.1
+
+-- ---- the first of some puts
+
+-- the first of some puts are among them
+pub front_in : (count : ℕ) (puts : List Put) (name : BlobName) (blob : List ℕ) → IsPutIn (take count puts) name blob → IsPutIn puts name blob
+front_in zero puts name blob is = absurd is
+front_in (suc count) [] name blob is = absurd is
+front_in (suc count) (put ∷ puts) name blob (inl here) = inl here
+front_in (suc count) (put ∷ puts) name blob (inr among) = inr (front_in count puts name blob among)
+
+-- what none of some puts touches, none of the first touches
+pub front_untouched : (count : ℕ) (puts : List Put) (name : BlobName) → IsUntouched puts name → IsUntouched (take count puts) name
+front_untouched zero puts name is = tt
+front_untouched (suc count) [] name is = tt
+front_untouched (suc count) (put ∷ puts) name is = (is.0, front_untouched count puts name is.1)

@@ -5,3 +5,4 @@ pub mod Growth
 pub mod Headline
 pub mod KeptIndexes
 pub mod Producers
+pub mod Stopped

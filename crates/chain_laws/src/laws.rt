@@ -1,9 +1,11 @@
 //! Laws of chains.
-ghost use Rattle.std.specs.Prelude.{◌≡◌, ◌≢◌, ◌≤◌, ◌↔◌, ℕ, ℤ, List, [], ◌∷◌, ◌++◌, Bool, Some, IfSome, Contains};
+ghost use Rattle.std.specs.Prelude.{◌≡◌, ◌≢◌, ◌≤◌, ◌↔◌, ℕ, ℤ, List, [], ◌∷◌, ◌++◌, Bool, Some, IfSome, Contains, FitsSigned};
+ghost use Rattle.std.specs.Int.{w64};
 ghost use Rattle.serde_json.specs.View.{view};
 ghost use Rattle.serde_json.specs.declared.value.Value.{Value};
 ghost use Rattle.schema_model.specs.declared.schema.name.Name.{Name};
 ghost use Rattle.hol_io.specs.declared.name.BlobName.TheVariants.{Snapshot};
+ghost use Rattle.hol_io.specs.Name.{IsVersion};
 ghost use Rattle.hol_io.specs.Store.{Store};
 ghost use Rattle.hol_orders.specs.declared.kind.Kind.TheVariants as Kind;
 ghost use Rattle.hol_orders.specs.Order.{kind_of};
@@ -18,10 +20,15 @@ ghost use Rattle.hol_answers.specs.declared.reply.Reply.TheVariants as reply;
 ghost use Rattle.read_engine.specs.Position.{Index, IsPosition, Position};
 ghost use Rattle.hollow_machine.specs.KeyPaths.{texts_of_array};
 ghost use Rattle.hollow_machine.specs.MakeCommand.{Makes};
+ghost use Rattle.hollow_machine.specs.Made.{StopsMake};
+ghost use Rattle.hollow_machine.specs.Records.{AskedCycle};
 ghost use Rattle.hollow_machine.specs.RestoreOrder.{IsLast, producer_at};
 ghost use Rattle.hollow_machine.specs.Script.{LineStep, Script};
 ghost use Rattle.hollow_machine.specs.State.{Machine, started, with_consumer, with_producer};
 ghost use Rattle.hollow_machine.specs.Step.{Step};
+ghost use Rattle.hollow_machine.specs.Left.{HasFirst};
+ghost use Rattle.hollow_machine.specs.Puts.{CyclePuts};
+ghost use Rattle.hollow_machine.specs.Stopped.{StopsAfter, StopsBetween, StopsWithin};
 ghost use Rattle.hollow_machine.specs.StepOrder.{step_name};
 ghost use Rattle.written_laws.specs.Chain.{Chain, ChainState, HasVersion};
 ghost use Rattle.written_laws.specs.HoldsChain.{HoldsChain, IsThere};
@@ -32,6 +39,8 @@ ghost use Rattle.chain_laws.specs.Growth.{GrowsAlong, GrowsBy, GrowsByMake};
 ghost use Rattle.chain_laws.specs.Headline.{AreTrueLines, StandsOn, IsOfState};
 ghost use Rattle.chain_laws.specs.KeptIndexes.{AsksFor};
 ghost use Rattle.chain_laws.specs.Producers.{HoldsBytes, IsProducerOf, KeepsChain};
+ghost use Rattle.chain_laws.specs.Stopped.{HoldsLonger, HoldsLongerByMake, MayAdd};
+ghost use Rattle.state_blobs.specs.Puts.{Put};
 
 /// A store of bytes that holds a chain keeps it: the tag of each state is that of a blob.
 pub fn chain_is_kept()
@@ -63,6 +72,33 @@ pub fn make_keeps_chain()
     ensures { (store : Store) (next : Machine) (seed rows cycles : ℕ) (answer : Reply) (chain : Chain)
         → seed ≤ 999999 → cycles ≤ 1000 → Makes store seed rows cycles answer next → KeepsChain store chain
         → (after : Chain) × GrowsByMake store seed rows cycles chain next after × KeepsChain next.store after × IsProducerOf after next.producer }
+{
+    film_script::laws::films_model();
+}
+
+/// Where the store keeps a chain it holds it, with a state more, after the first puts of a cycle that publishes: after all of them that state is published,
+/// and else it is not.
+pub fn first_puts_hold()
+    ensures { (machine : Machine) (asked : AskedCycle) (puts : List Put) (store : Store) (chain : Chain)
+        → IsVersion asked.version → FitsSigned w64 asked.tag → CyclePuts asked machine puts → HasFirst puts machine.store store
+        → KeepsChain machine.store chain → IsProducerOf chain machine.producer
+        → (after : Chain) × MayAdd machine asked chain after × HoldsChain store after }
+{}
+
+/// So a script that stops leaves the store with the chain that its answered lines made, and with at most one state more.
+pub fn stopped_script_keeps_chain()
+    ensures between { (first store : Store) (lines : List (List ℕ)) (text : List ℕ) (chain : Chain)
+        → KeepsChain first chain → StopsBetween first lines text store → HoldsLonger first chain lines store }
+    ensures within { (first store : Store) (lines : List (List ℕ)) (text : List ℕ) (chain : Chain)
+        → KeepsChain first chain → StopsWithin first lines text store → HoldsLonger first chain lines store }
+    ensures behind { (first store : Store) (lines : List (List ℕ)) (text : List ℕ) (chain : Chain)
+        → KeepsChain first chain → StopsAfter first lines text store → HoldsLonger first chain lines store }
+{}
+
+/// So does the command `make`.
+pub fn stopped_make_keeps_chain()
+    ensures { (first store : Store) (seed rows cycles : ℕ) (chain : Chain)
+        → seed ≤ 999999 → cycles ≤ 1000 → KeepsChain first chain → StopsMake first seed rows cycles store → HoldsLongerByMake first chain seed rows cycles store }
 {
     film_script::laws::films_model();
 }

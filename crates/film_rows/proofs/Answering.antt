@@ -1,5 +1,5 @@
 -- What the puts of a film's rows tell of the film.
-use Rattle.std.proofs.Common.{◌≡◌, ℕ, ◌+◌, ◌*◌, ◌%◌, ◌<◌, ◌≤◌, ◌^◌, List, [], ◌∷◌, Some, sym, ap, subst, ◌∙◌, arith}
+use Rattle.std.proofs.Common.{◌≡◌, ℕ, ◌*◌, ◌%◌, ◌<◌, ◌≤◌, List, [], ◌∷◌, Some, sym, ap, subst, ◌∙◌, arith}
 use Rattle.std.specs.Prelude.{codes, is_some, IfOk, Result, Ok, Err}
 use Rattle.row_model.specs.Table.{IsLive, Table, row_at}
 use Rattle.row_model.specs.declared.row.Row.{Row}

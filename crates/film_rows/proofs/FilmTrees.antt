@@ -1,5 +1,5 @@
 -- A film is added by puts of its rows: of its title, of its tags, and then of its own.
-use Rattle.std.proofs.Common.{◌≡◌, ℕ, zero, suc, ◌+◌, ◌*◌, ◌%◌, ◌<◌, ◌≤◌, ◌^◌, List, [], ◌∷◌, ◌++◌, Some, refl, sym, ap, subst, ◌∙◌, arith}
+use Rattle.std.proofs.Common.{◌≡◌, ℕ, zero, suc, ◌*◌, ◌%◌, ◌<◌, ◌≤◌, ◌^◌, List, [], ◌∷◌, ◌++◌, Some, refl, sym, ap, subst, ◌∙◌, arith}
 use Rattle.std.specs.Prelude.{codes, decimal, pos}
 use Rattle.std.proofs.lemmas.Int.{fits_signed_from_abs}
 use mir.Syntax.{w32}
@@ -11,13 +11,13 @@ use Rattle.hol_varint.specs.TextUnits.{AreUnits, text_units}
 use Rattle.hol_varint.proofs.Characters.{text_units-are}
 use Rattle.schema_model.specs.declared.schema.Field.{Field}
 use Rattle.schema_model.specs.declared.schema.FieldKind.TheVariants as kind
-use Rattle.row_model.specs.PlainTree.{no_trees, tree_then, leaf}
+use Rattle.row_model.specs.PlainTree.{no_trees, tree_then}
 use Rattle.row_model.specs.Row.{IsValueInRange}
 use Rattle.row_model.specs.Table.{Table}
 use Rattle.row_model.specs.declared.row.Row.{Row}
 use Rattle.row_model.specs.declared.row.Value.{Value}
 use Rattle.record_trees.specs.Types.{referred}
-use Rattle.write_engine.specs.Cycle.{Adds, AddsAll, AddsFields, IsSetOf, PutsRow}
+use Rattle.write_engine.specs.Cycle.{Adds, AddsAll, IsSetOf, PutsRow}
 use Rattle.film_script.specs.Films.{field_of, film, film_schemas, film_tags, film_type, film_year, numbered}
 use Rattle.film_rows.specs.Rows.{film_row, tags_type, text_row, text_type}
 

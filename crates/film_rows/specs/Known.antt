@@ -1,5 +1,5 @@
 -- What is known of the rows that films share, and what an answer tells of a record that is to be added.
-use Rattle.std.specs.Prelude.{ℕ, ◌≡◌, ◌+◌, ◌*◌, ◌%◌, List, [], ◌∷◌, Bool, false, Option, Some, None, Result, Ok, Err, codes, length, replicate, slice_get}
+use Rattle.std.specs.Prelude.{ℕ, ◌≡◌, ◌+◌, ◌*◌, ◌%◌, List, [], ◌∷◌, false, Option, Some, None, Result, Ok, Err, codes, length, replicate, slice_get}
 use Rattle.row_model.specs.PlainTree.{PlainTree}
 use Rattle.row_model.specs.Table.{Table, row_at}
 use Rattle.row_model.specs.declared.row.Row.{Row}

@@ -1,2 +1,3 @@
+pub mod LinePuts
 pub mod Refusals
 pub mod Scripts

@@ -1,7 +1,8 @@
 -- The end of the script: from what its parts tell to what the command answers.
-use Rattle.std.proofs.Common.{◌≡◌, inl, inr, ℕ, ℤ, pos, List, true, false, Option, Some, None, Result, Ok, Err, length, ◌⊎◌, refl, sym, ap, ◌∙◌, subst}
-use Rattle.std.specs.Prelude.{IfSome, IsErrAnd}
+use Rattle.std.proofs.Common.{◌≡◌, inl, inr, ℕ, ℤ, pos, List, [], ◌∷◌, true, false, Option, Some, None, Result, Ok, Err, length, ◌⊎◌, refl, sym, ap, ◌∙◌, subst}
+use Rattle.std.specs.Prelude.{IfSome, IsErrAnd, OnErr}
 use Rattle.std.specs.List.{range_with_len}
+use Rattle.std.proofs.lemmas.List.{append-nil}
 use Rattle.film_script.specs.Films.{film_schemas}
 use Rattle.hol_io.specs.Store.{Store}
 use Rattle.row_model.specs.Table.{Table}
@@ -21,8 +22,10 @@ use Rattle.hol_answers.specs.declared.reply.Reply.{Reply}
 use Rattle.hol_answers.specs.declared.reply.Reply.TheVariants.{Make, Refused}
 use Rattle.hollow_machine.specs.CheckOrder.{CheckReply}
 use Rattle.hollow_machine.specs.Kept.{IsResting}
-use Rattle.hollow_machine.specs.MakeCommand.{MakeReply, SumsUp, there_and_back}
-use Rattle.hollow_make.specs.Parts.{IsEnd, TellsCycles, TellsEnd, TellsMake, TellsScript, machine_at}
+use Rattle.hollow_machine.specs.Made.{LeavesCycles, StopsCycles}
+use Rattle.hollow_machine.specs.MakeCommand.{MakeReply, SumsUp, film_machine, there_and_back}
+use Rattle.hollow_machine.specs.State.{Machine}
+use Rattle.hollow_make.specs.Parts.{HaltsMake, HaltsScript, IsEnd, TellsCycles, TellsEnd, TellsMake, TellsScript, machine_at}
 
 -- The script's schemas break no rule.
 pub not_broken : (schemas : List Schema) (result : Result (List Schema) ModelFault) (rule : Rule) (type_index : ℕ) → result ≡ Err (Broken rule type_index) → schemas ≡ film_schemas
@@ -102,3 +105,56 @@ pub ends_stopped : (held : Option Store) (published : List ℕ) (rows : Table) (
 ends_stopped None published rows result Why stopped = tt
 ends_stopped (Some store) published rows (Ok reply) Why stopped = absurd stopped
 ends_stopped (Some store) published rows (Err stop) Why stopped = tt
+
+-- ---- where it stops
+
+-- Behind the cycles, of which none was refused, the store stays.
+pub script_halts : (seed rows cycles : ℕ) (held mid held' : Option Store) (first now : Production) (published : List ℕ) (refused : Option Reply) → refused ≡ None
+    → TellsCycles {E = OrderStop} seed rows cycles held first mid now published (Ok refused) → held' ≡ mid → HaltsScript seed rows cycles held first held'
+script_halts seed rows cycles None mid held' first now published refused none tells same = tt
+script_halts seed rows cycles (Some store) mid held' first now published refused none tells same =
+    let (next, told, passes) = subst (λ (r : Option Reply). TellsCycles {E = OrderStop} seed rows cycles (Some store) first mid now published (Ok r)) none tells in (
+      next,
+      same ∙ told,
+      record {
+        answered = range_with_len 1 cycles;
+        ahead = [];
+        cycles_are = sym (append-nil (range_with_len 1 cycles));
+        published = published;
+        next = machine_at next (Some now);
+        passes = passes;
+        left = refl;
+      },
+    )
+
+pub behind_cycles : (seed rows cycles : ℕ) (held mid held' : Option Store) (first now : Production) (published : List ℕ) (refused : Option Reply) (result : Result Reply OrderStop) → refused ≡ None
+    → TellsCycles {E = OrderStop} seed rows cycles held first mid now published (Ok refused) → held' ≡ mid → OnErr result (HaltsScript seed rows cycles held first held')
+behind_cycles seed rows cycles held mid held' first now published refused (Ok answer) none tells same = tt
+behind_cycles seed rows cycles held mid held' first now published refused (Err why) none tells same = script_halts seed rows cycles held mid held' first now published refused none tells same
+
+-- What the script leaves that stops with a new producer is what the command leaves.
+pub make_halts : (seed rows cycles : ℕ) (held held' : Option Store) (first : Production) → IsStart film_schemas first → HaltsScript seed rows cycles held first held' → HaltsMake seed rows cycles held held'
+make_halts seed rows cycles None held' first start halts = tt
+make_halts seed rows cycles (Some store) held' first start (next, told, stops) =
+    (next, told, subst (λ (p : Published). StopsCycles seed rows (record { store = store; producer = Some p; consumer = None }) (range_with_len 1 cycles) next) (start_is first start) stops)
+
+same_left : (seed rows : ℕ) (machine : Machine) (ahead : List ℕ) → LeavesCycles seed rows machine ahead machine.store
+same_left seed rows machine [] = refl
+same_left seed rows machine (cycle ∷ cycles) = inl refl
+
+-- The command stops before its first cycle.
+pub none_made : (seed rows cycles : ℕ) (held : Option Store) → HaltsMake seed rows cycles held held
+none_made seed rows cycles None = tt
+none_made seed rows cycles (Some store) = (
+  store,
+  refl,
+  record {
+    answered = [];
+    ahead = range_with_len 1 cycles;
+    cycles_are = refl;
+    published = [];
+    next = film_machine store;
+    passes = (refl, refl);
+    left = same_left seed rows (film_machine store) (range_with_len 1 cycles);
+  },
+)

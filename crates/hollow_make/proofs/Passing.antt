@@ -1,5 +1,5 @@
 -- The cycles of the script, one behind another.
-use Rattle.std.proofs.Common.{◌≡◌, ◌<◌, ◌≤◌, ◌+◌, ◌-◌, ◌++◌, ◌∙◌, inl, inr, ℕ, suc, List, [], ◌∷◌, Bool, true, false, Option, Some, None, Ok, length, get_or, arith, refl, sym, ap, subst, append_assoc, length-append}
+use Rattle.std.proofs.Common.{◌≡◌, ◌<◌, ◌≤◌, ◌+◌, ◌-◌, ◌++◌, ◌∙◌, inl, inr, ℕ, suc, List, [], ◌∷◌, Bool, true, false, Option, Some, None, Ok, Err, length, get_or, arith, refl, sym, ap, subst, append_assoc, length-append}
 use Rattle.std.specs.Prelude.{IfSome, if◌then◌else◌}
 use Rattle.std.specs.List.{range_with_len}
 use Rattle.std.proofs.Math.Seq.{get_or-append_seam}
@@ -15,9 +15,12 @@ use Rattle.hol_answers.specs.declared.reply.Reply.{Reply}
 use Rattle.hol_answers.specs.declared.reply.Reply.TheVariants.{Cycle, Refused}
 use Rattle.hollow_machine.specs.CycleOrder.{CycleStep}
 use Rattle.hollow_machine.specs.Kept.{IsResting, MovesProducer}
+use Rattle.hollow_machine.specs.Left.{HaltsProducer, HasPart, LeavesCycle}
+use Rattle.hollow_machine.specs.Made.{LeavesCycles}
 use Rattle.hollow_machine.specs.MakeCommand.{PassesCycles, film_cycle, published_by}
+use Rattle.hollow_machine.specs.Puts.{CyclePuts}
 use Rattle.hollow_machine.specs.State.{Machine}
-use Rattle.hollow_make.specs.Parts.{TellsCycles, machine_at, publishes}
+use Rattle.hollow_make.specs.Parts.{HaltsScript, TellsCycles, machine_at, publishes}
 use Rattle.hollow_make.specs.Walked.{AreBelow, ArePublished}
 
 -- a cycle behind others
@@ -192,3 +195,68 @@ run_refused seed rows cycles (Some store) mid held' first before after place pub
 -- versions below a cycle of the script are published
 pub are_published : (place cycles : ℕ) (published : List ℕ) → place ≤ cycles → cycles ≤ 1000 → AreBelow (place + 1) published → ArePublished published
 are_published place cycles published inside few are = below_later (place + 1) 1001 published (omega (arith, inside, few)) are
+
+-- ---- where the cycles stop
+
+-- the store behind some cycles
+same_left : (seed rows : ℕ) (machine : Machine) (ahead : List ℕ) → LeavesCycles seed rows machine ahead machine.store
+same_left seed rows machine [] = refl
+same_left seed rows machine (cycle ∷ cycles) = inl refl
+
+-- some first cycles and the others
+cycles_parted : (place cycles : ℕ) → place ≤ cycles → range_with_len 1 cycles ≡ range_with_len 1 place ++ range_with_len (1 + place) (cycles - place)
+cycles_parted place cycles inside =
+    let all : cycles ≡ place + (cycles - place) = omega (arith, inside) in ap (range_with_len 1) all ∙ range_join 1 place (cycles - place)
+
+-- The cycles stop behind those that were run.
+pub run_stops : (seed rows cycles : ℕ) (held held' : Option Store) (first now : Production) (place : ℕ) (published : List ℕ) → place ≤ cycles → HasRun seed rows held first place held' now published
+    → HaltsScript seed rows cycles held first held'
+run_stops seed rows cycles None held' first now place published inside run = tt
+run_stops seed rows cycles (Some store) held' first now place published inside run =
+    let (next, told, passes) = run.passes in (
+      next,
+      told,
+      record {
+        answered = range_with_len 1 place;
+        ahead = range_with_len (1 + place) (cycles - place);
+        cycles_are = cycles_parted place cycles inside;
+        published = published;
+        next = machine_at next (Some now);
+        passes = passes;
+        left = same_left seed rows (machine_at next (Some now)) (range_with_len (1 + place) (cycles - place));
+      },
+    )
+
+-- the first puts of the next cycle
+part_left : (seed rows : ℕ) (machine : Machine) (cycle : ℕ) (ahead : List ℕ) (store : Store) → HasPart (CyclePuts (film_cycle seed rows cycle) machine) machine.store store → LeavesCycles seed rows machine (cycle ∷ ahead) store
+part_left seed rows machine cycle ahead store (inl same) = inl same
+part_left seed rows machine cycle ahead store (inr (puts, are, first)) = inr (puts, are, first)
+
+-- what the cycle at a place leaves that stops
+abbrev HaltsBy : ℕ → ℕ → ℕ → Option Store → Production → Option Store → Production → OrderStop → Type 0
+HaltsBy seed rows cycle held before held' after why = HaltsProducer (LeavesCycle (film_cycle seed rows cycle)) held (Some before) held' (Some after) (Err why)
+
+-- The next cycle stops.
+pub run_halts : (seed rows cycles : ℕ) (held mid held' : Option Store) (first before after : Production) (place : ℕ) (published : List ℕ) (why : OrderStop) → place < cycles
+    → HasRun seed rows held first place mid before published → HaltsBy seed rows (place + 1) mid before held' after why → HaltsScript seed rows cycles held first held'
+run_halts seed rows cycles None mid held' first before after place published why inside run halts = tt
+run_halts seed rows cycles (Some store) mid held' first before after place published why inside run halts =
+    let (there, is, passes) = run.passes in
+    let machine = machine_at there (Some before) in
+    let (next, told, (now, part, next_is)) = subst (λ (h : Option Store). HaltsBy seed rows (place + 1) h before held' after why) is halts (record { producer = None; consumer = None }) in
+    let same : now ≡ next = sym (ap (λ (m : Machine). m.store) next_is) in
+    let rest = cycles - (place + 1) in
+    let all : cycles ≡ place + suc rest = omega (arith, inside) in
+    let one : 1 + place ≡ place + 1 = omega arith in (
+      next,
+      told,
+      record {
+        answered = range_with_len 1 place;
+        ahead = range_with_len (place + 1) (suc rest);
+        cycles_are = ap (range_with_len 1) all ∙ range_join 1 place (suc rest) ∙ ap (λ k. range_with_len 1 place ++ range_with_len k (suc rest)) one;
+        published = published;
+        next = machine;
+        passes = passes;
+        left = part_left seed rows machine (place + 1) (range_with_len (place + 1 + 1) rest) next (subst (HasPart (CyclePuts (film_cycle seed rows (place + 1)) machine) there) same part);
+      },
+    )

@@ -10,6 +10,7 @@ use Rattle.hol_answers.specs.declared.reply.Reply.TheVariants.{Cycle, Make, Refu
 use Rattle.hol_answers.specs.declared.refusal.Refusal.{Refusal}
 use Rattle.hollow_machine.specs.CheckOrder.{CheckReply}
 use Rattle.hollow_machine.specs.Kept.{machine_of}
+use Rattle.hollow_machine.specs.Made.{StopsCycles, StopsMake}
 use Rattle.hollow_machine.specs.MakeCommand.{MakeReply, Makes, PassesCycles, RefusesOneOf, SumsUp, there_and_back}
 use Rattle.hollow_machine.specs.State.{Machine}
 
@@ -53,3 +54,14 @@ IsEnd published rows store reply = CheckReply store (there_and_back published) r
 
 abbrev pub TellsEnd : {E : Type 0} → List ℕ → Table → Option Store → Result Reply E → Type 0
 TellsEnd published rows held result = IfSome held (λ store. IfOk result (IsEnd published rows store))
+
+-- ---- where it stops
+
+-- What cycles of a producer leave of the store where they stop, or what is behind them does.
+abbrev pub HaltsScript : ℕ → ℕ → ℕ → Option Store → Production → Option Store → Type 0
+HaltsScript seed rows cycles held producer held' = IfSome held (λ store. (next : Store) × (held' ≡ Some next)
+    × StopsCycles seed rows (machine_at store (Some producer)) (range_with_len 1 cycles) next)
+
+-- What the command leaves of it.
+abbrev pub HaltsMake : ℕ → ℕ → ℕ → Option Store → Option Store → Type 0
+HaltsMake seed rows cycles held held' = IfSome held (λ store. (next : Store) × (held' ≡ Some next) × StopsMake store seed rows cycles next)

@@ -3,7 +3,7 @@ ghost use Rattle.std.specs.Prelude.{◌≡◌, ◌≤◌, ◌<◌, ◌++◌, ◌
 ghost use Rattle.hol_io.specs.Causes.{Rose};
 ghost use Rattle.film_script.specs.Films.{film_schemas};
 ghost use Rattle.hollow_machine.specs.Kept.{IsResting};
-ghost use Rattle.hollow_make.specs.Parts.{TellsCycles, publishes};
+ghost use Rattle.hollow_make.specs.Parts.{HaltsScript, TellsCycles, publishes};
 ghost use Rattle.hollow_make.specs.Walked.{ArePublished};
 
 use crate::progress::Progress;
@@ -32,6 +32,7 @@ pub(crate) fn run_cycles<S: BlobStore, P: Progress>(
     requires resting { IsResting producer.old }
     requires none { published.old ≡ [] }
     ensures tells { TellsCycles seed rows cycles (S.seen store.old).held producer.old (S.seen store.new).held producer.new published.new result }
+    ensures halts { OnErr result (HaltsScript seed rows cycles (S.seen store.old).held producer.old (S.seen store.new).held) }
     ensures published { OnOk result (ArePublished published.new) }
     ensures resting { OnOk result (IsResting producer.new) }
     ensures store_fault { IsErrOf result OrderStop.Store → Rose (S.seen store.old).faults (S.seen store.new).faults }

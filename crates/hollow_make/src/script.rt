@@ -4,7 +4,7 @@ ghost use Rattle.hol_io.specs.Causes.{Rose};
 ghost use Rattle.film_script.specs.Films.{film_schemas};
 ghost use Rattle.hollow_machine.specs.Kept.{IsResting};
 ghost use Rattle.write_engine.specs.Production.{IsStart};
-ghost use Rattle.hollow_make.specs.Parts.{TellsEnd, TellsMake, TellsScript};
+ghost use Rattle.hollow_make.specs.Parts.{HaltsMake, HaltsScript, TellsEnd, TellsMake, TellsScript};
 ghost use Rattle.hollow_make.specs.Walked.{ArePublished};
 
 use crate::cycles::run_cycles;
@@ -20,8 +20,9 @@ use std::alloc::Global;
 use write_engine::Producer;
 
 /// Publishes the states of so many cycles, each of the films of so many that it shows, and then walks along the published states and back with a
-/// check. The answer is the summary, or the first refusal. What was put stays. The producer is then the one behind the last cycle, and after a stop
-/// the one before the call. The progress is told as it goes. `Store` comes only where the store's count of faults rose.
+/// check. The answer is the summary, or the first refusal. What was put stays: after a stop the store is the one behind some first cycles, or has
+/// besides the first puts of the next one. The producer is then the one behind the last cycle, and after a stop the one before the call. The
+/// progress is told as it goes. `Store` comes only where the store's count of faults rose.
 pub fn make<S: BlobStore, P: Progress>(
     alloc: Global,
     store: &mut S,
@@ -35,6 +36,7 @@ pub fn make<S: BlobStore, P: Progress>(
     requires rows { rows ≤ 500000 }
     requires cycles { cycles ≤ 1000 }
     ensures reply { TellsMake seed rows cycles (S.seen store.old).held (S.seen store.new).held producer.new result }
+    ensures halts { OnErr result (HaltsMake seed rows cycles (S.seen store.old).held (S.seen store.new).held) }
     ensures resting { OnOk result (IfSome producer.new IsResting) }
     ensures stopped { OnErr result (producer.new ≡ producer.old) }
     ensures store_fault { IsErrOf result OrderStop.Store → Rose (S.seen store.old).faults (S.seen store.new).faults }
@@ -82,6 +84,7 @@ fn run_script<S: BlobStore, P: Progress>(
     requires cycles { cycles ≤ 1000 }
     requires start { IsStart film_schemas producer.old }
     ensures reply { TellsScript seed rows cycles (S.seen store.old).held producer.old (S.seen store.new).held producer.new result }
+    ensures halts { OnErr result (HaltsScript seed rows cycles (S.seen store.old).held producer.old (S.seen store.new).held) }
     ensures resting { OnOk result (IsResting producer.new) }
     ensures store_fault { IsErrOf result OrderStop.Store → Rose (S.seen store.old).faults (S.seen store.new).faults }
     ensures later { (S.seen store.old).faults ≤ (S.seen store.new).faults }

@@ -14,6 +14,8 @@ mod consumers;
 #[cfg(test)]
 mod cycles;
 #[cfg(test)]
+mod failing;
+#[cfg(test)]
 mod firsts;
 #[cfg(test)]
 mod guide;

@@ -1,39 +1,56 @@
 -- What a line asks for, and that what waits is written before.
-use Rattle.std.proofs.Common.{◌≡◌, ◌<◌, ◌≤◌, inl, inr, List, ℕ, length, Option, Some, None, Ok, Err, refl, sym, ◌∙◌, subst}
-use Rattle.hol_io.specs.Lines.{Reading}
+use Rattle.std.proofs.Common.{◌≡◌, ◌<◌, ◌≤◌, ◌⊎◌, inl, inr, List, [], ◌∷◌, ◌++◌, ℕ, length, Bool, true, false, Option, Some, None, Ok, Err, refl, sym, ap, ◌∙◌, subst, append_assoc}
+use Rattle.hol_io.specs.Lines.{Reading, cut}
 use Rattle.hol_io.specs.Store.{Store}
 use Rattle.hol_io.specs.declared.lines.Turn as declared
-use Rattle.hol_io.specs.declared.lines.Turn.TheVariants.{Line, Long, End}
+use Rattle.hol_io.specs.declared.lines.Turn.TheVariants.{Line, Long, End, Over}
 use Rattle.hol_orders.specs.Order.{TellsOrder}
 use Rattle.hol_orders.specs.declared.order.Order.{Order}
 use Rattle.hol_orders.specs.declared.order.OrderFault.{OrderFault}
 use Rattle.hol_orders.specs.declared.order.OrderFault.TheVariants as order_fault
 use Rattle.hol_orders.specs.declared.order_stop.OrderStop.{OrderStop}
+use Rattle.hol_orders.specs.declared.order_stop.OrderStop.TheVariants as order_stop
 use Rattle.hol_answers.specs.declared.refusal.Refusal.{Refusal}
 use Rattle.hol_answers.specs.declared.refusal.Refusal.TheVariants.{BadOrder, LineTooLong}
 use Rattle.hol_answers.specs.declared.reply.Reply.{Reply}
 use Rattle.hol_answers.specs.declared.reply.Reply.TheVariants.{Refused}
 use Rattle.hollow_machine.specs.Script.{longest_line}
+use Rattle.hollow_machine.specs.State.{Machine}
 use Rattle.hollow_machine.specs.Step.{Step}
-use Rattle.hollow_script.specs.Asked.{AskedStep, Asks}
-use Rattle.hollow_script.specs.Kept.{MovesKept, machine_with}
-use Rattle.hollow_script.specs.Scripted.{AnswersNext, AsksNext, TurnsNext}
+use Rattle.hollow_machine.specs.Left.{HasPart, LeavesOrder}
+use Rattle.hollow_machine.specs.Stopped.{LeavesAhead}
+use Rattle.hollow_script.specs.Asked.{AskedPuts, AskedStep, Asks, LeavesAsked}
+use Rattle.hollow_script.specs.Kept.{HaltsKept, MovesKept, machine_with}
+use Rattle.hollow_script.specs.Scripted.{AnswersNext, AsksNext, HasGiven, TurnsNext, widened}
+use Rattle.hollow_script.proofs.Lining.{given_front}
 use Rattle.hollow_script.specs.declared.asked.Asked.{Asked}
 use Rattle.hollow_script.specs.declared.asked.Asked.TheVariants as asked
 use Rattle.hollow_script.specs.declared.keep.Keep.{Keep}
 use Rattle.hollow_script.specs.declared.script_stop.ScriptStop.{ScriptStop}
+use Rattle.hollow_script.specs.declared.script_stop.ScriptStop.TheVariants as stop
 
 -- a line that is an order asks for it
 pub asks_order : (line : List ℕ) (order : Order) → TellsOrder line (Ok order) → length line ≤ longest_line → Asks line (asked.Order order)
-asks_order line order tells short = λ machine reply next step. inr (short, inr (order, tells, step))
+asks_order line order tells short = record {
+  answers = λ machine reply next step. inr (short, inr (order, tells, step));
+  puts = λ machine some are. (short, (order, tells, are));
+}
 
 -- a line that is none asks for nothing
 pub asks_none : (line : List ℕ) (fault : OrderFault) → fault ≡ order_fault.BadOrder → TellsOrder line (Err fault) → length line ≤ longest_line → Asks line (asked.Refused BadOrder)
-asks_none line fault is tells short = λ machine reply next refuses. inr (short, inl (subst (λ f. TellsOrder line (Err f)) is tells, refuses))
+asks_none line fault is tells short = record {
+  answers = λ machine reply next refuses. inr (short, inl (subst (λ f. TellsOrder line (Err f)) is tells, refuses));
+  puts = λ machine some are. absurd are;
+}
 
 -- nor does one that is too long
 asks_long : (line : List ℕ) → longest_line < length line → Asks line (asked.Refused LineTooLong)
-asks_long line long = λ machine reply next refuses. inl (long, refuses)
+asks_long line long = record { answers = λ machine reply next refuses. inl (long, refuses); puts = λ machine some are. absurd are }
+
+neither : {A B C : Type 0} → A ⊎ (B ⊎ C) → (A → ⊥) → (B → ⊥) → (C → ⊥) → ⊥
+neither (inl a) not_a not_b not_c = not_a a
+neither (inr (inl b)) not_a not_b not_c = not_b b
+neither (inr (inr c)) not_a not_b not_c = not_c c
 
 module _ (bytes : List ℕ) (given : List (List ℕ)) (left : Option (List ℕ)) (reading : Reading) where
   -- the line that is lent is the next one
@@ -51,6 +68,21 @@ module _ (bytes : List ℕ) (given : List (List ℕ)) (left : Option (List ℕ))
   pub end_asks : (turn : declared.Turn) → turn ≡ End → TurnsNext bytes given left reading turn → AsksNext bytes given left reading (Ok None)
   end_asks turn is turns = subst (λ t. TurnsNext bytes given left reading t) is turns
 
+  pub over_asks : (turn : declared.Turn) → turn ≡ Over → TurnsNext bytes given left reading turn → AsksNext bytes given left reading (Err stop.TooLong)
+  over_asks turn is turns = subst (λ t. TurnsNext bytes given left reading t) is turns
+
+  -- where the reader stops, or memory is refused, nothing is known of the next line
+  pub none_asks : (why : ScriptStop) → (why ≡ stop.Memory) ⊎ ((why ≡ stop.Source) ⊎ (why ≡ stop.Sink)) → AsksNext bytes given left reading (Err why)
+  none_asks stop.Memory others = tt
+  none_asks stop.Source others = tt
+  none_asks stop.Sink others = tt
+  none_asks stop.Store others = tt
+  none_asks stop.TooLong others = absurd (neither others (λ e. cc) (λ e. cc) (λ e. cc))
+
+  pub order_none_asks : (why : OrderStop) → AsksNext bytes given left reading (Err (widened why))
+  order_none_asks order_stop.Memory = tt
+  order_none_asks order_stop.Store = tt
+
   -- as what a line asks for is answered, the line is
   pub asked_answers : (held held' : Option Store) (keep keep' : Keep) (now : Store) (found : Option Asked) (it : Asked) (reply : Reply) → found ≡ Some it → held ≡ Some now → AsksNext bytes given left reading (Ok found) →
       MovesKept {E = ScriptStop} (λ machine answer next. AskedStep machine it answer next) held keep held' keep' (Ok reply) →
@@ -58,7 +90,52 @@ module _ (bytes : List ℕ) (given : List (List ℕ)) (left : Option (List ℕ))
   asked_answers held held' keep keep' now found it reply is told asks moves =
       let (line, has, line_asks_it) = subst (λ f. AsksNext bytes given left reading (Ok f)) is asks in
       let (next, after, step) = subst (λ h. MovesKept {E = ScriptStop} (λ machine answer next. AskedStep machine it answer next) h keep held' keep' (Ok reply)) told moves in
-      (line, has, (next, after, line_asks_it (machine_with now keep) reply (machine_with next keep') step))
+      (line, has, (next, after, line_asks_it.answers (machine_with now keep) reply (machine_with next keep') step))
+
+  -- the first puts of what the next line asks for are those of the line
+  part_ahead : (machine : Machine) (line : List ℕ) (it : Asked) (lines : List (List ℕ)) (store : Store) → Asks line it → HasPart (AskedPuts it machine) machine.store store → LeavesAhead machine (line ∷ lines) store
+  part_ahead machine line it lines store asks (inl same) = inl same
+  part_ahead machine line it lines store asks (inr (puts, are, first)) = inr (puts, asks.puts machine puts are, first)
+
+  puts_ahead : (held held' : Option Store) (keep keep' : Keep) (now : Store) (found : Option Asked) (it : Asked) (why : ScriptStop) → found ≡ Some it → held ≡ Some now →
+      AsksNext bytes given left reading (Ok found) → HaltsKept {E = ScriptStop} (λ machine next. LeavesAsked it machine next) held keep held' keep' (Err why) →
+      (ahead : List (List ℕ)) × (next : Store) × (cut bytes ≡ given ++ ahead) × (held' ≡ Some next) × LeavesAhead (machine_with now keep) ahead next
+  puts_ahead held held' keep keep' now found it why is told asks halts =
+      let (line, has, line_asks_it) = subst (λ f. AsksNext bytes given left reading (Ok f)) is asks in
+      let (next, after, (store, part, next_is)) = subst (λ h. HaltsKept {E = ScriptStop} (λ machine next. LeavesAsked it machine next) h keep held' keep' (Err why)) told halts in
+      let front = given_front bytes left reading (given ++ line ∷ []) has in
+      let same : store ≡ next = sym (ap (λ (m : Machine). m.store) next_is) in (
+        line ∷ front.0,
+        next,
+        front.1 ∙ append_assoc given (line ∷ []) front.0,
+        after,
+        part_ahead (machine_with now keep) line it front.0 next line_asks_it (subst (HasPart (AskedPuts it (machine_with now keep)) now) same part),
+      )
+
+  same_ahead : (machine : Machine) (ahead : List (List ℕ)) → LeavesAhead machine ahead machine.store
+  same_ahead machine [] = refl
+  same_ahead machine (line ∷ lines) = inl refl
+
+  -- why the next line is not known is why it is not answered
+  pub asks_stop : (left' : Option (List ℕ)) (reading' : Reading) (held : Option Store) (keep : Keep) (now : Store) (why : ScriptStop) → HasGiven bytes left reading given → held ≡ Some now → (why ≡ stop.Store → ⊥) →
+      AsksNext bytes given left' reading' (Err why) → AnswersNext bytes given now left' reading' keep held keep (Err why)
+  asks_stop left' reading' held keep now stop.Source has told other asks = told
+  asks_stop left' reading' held keep now stop.Sink has told other asks = told
+  asks_stop left' reading' held keep now stop.TooLong has told other asks = (asks, told)
+  asks_stop left' reading' held keep now stop.Store has told other asks = absurd (other refl)
+  asks_stop left' reading' held keep now stop.Memory has told other asks =
+      let front = given_front bytes left reading given has in (front.0, now, front.1, told, same_ahead (machine_with now keep) front.0)
+
+  -- why what it asks for is not answered is why the line is not
+  pub asked_halts : (held held' : Option Store) (keep keep' : Keep) (now : Store) (found : Option Asked) (it : Asked) (why : ScriptStop) → found ≡ Some it → held ≡ Some now →
+      (why ≡ stop.Memory) ⊎ ((why ≡ stop.Store) ⊎ (why ≡ stop.Sink)) → (why ≡ stop.Sink → held' ≡ held) → AsksNext bytes given left reading (Ok found) →
+      HaltsKept {E = ScriptStop} (λ machine next. LeavesAsked it machine next) held keep held' keep' (Err why) →
+      AnswersNext bytes given now left reading keep held' keep' (Err why)
+  asked_halts held held' keep keep' now found it stop.Sink is told others unput asks halts = unput refl ∙ told
+  asked_halts held held' keep keep' now found it stop.Source is told others unput asks halts = absurd (neither others (λ e. cc) (λ e. cc) (λ e. cc))
+  asked_halts held held' keep keep' now found it stop.TooLong is told others unput asks halts = absurd (neither others (λ e. cc) (λ e. cc) (λ e. cc))
+  asked_halts held held' keep keep' now found it stop.Store is told others unput asks halts = puts_ahead held held' keep keep' now found it stop.Store is told asks halts
+  asked_halts held held' keep keep' now found it stop.Memory is told others unput asks halts = puts_ahead held held' keep keep' now found it stop.Memory is told asks halts
 
 -- as an order moves the machine, so does what asks for it
 pub order_moves : (held held' : Option Store) (keep keep' : Keep) (it : Asked) (order : Order) (reply : Reply) → it ≡ asked.Order order →
@@ -74,3 +151,25 @@ pub refused_moves : (held : Option Store) (keep : Keep) (it : Asked) (refusal : 
 refused_moves None keep it refusal is = tt
 refused_moves (Some store) keep it refusal is =
     (store, refl, subst (λ a. AskedStep (machine_with store keep) a (Refused refusal) (machine_with store keep)) (sym is) (refl, refl))
+
+-- what an order leaves that stops, what asks for it leaves
+pub order_halts : (held held' : Option Store) (keep keep' : Keep) (it : Asked) (order : Order) (why : OrderStop) (other : ScriptStop) → it ≡ asked.Order order →
+    HaltsKept {E = OrderStop} (λ machine next. LeavesOrder order machine next) held keep held' keep' (Err why) →
+    HaltsKept {E = ScriptStop} (λ machine next. LeavesAsked it machine next) held keep held' keep' (Err other)
+order_halts None held' keep keep' it order why other is halts = tt
+order_halts (Some store) held' keep keep' it order why other is halts =
+    (halts.0, halts.1, subst (λ a. LeavesAsked a (machine_with store keep) (machine_with halts.0 keep')) (sym is) halts.2)
+
+-- an order that was not begun leaves all
+pub none_halts : (held : Option Store) (keep : Keep) (it : Asked) (why : ScriptStop) → HaltsKept {E = ScriptStop} (λ machine next. LeavesAsked it machine next) held keep held keep (Err why)
+none_halts None keep it why = tt
+none_halts (Some store) keep it why = (store, refl, (store, inl refl, refl))
+
+-- an order that is not one that may put is none
+pub may_not : (P : Type 0) (test : Bool) → test ≡ false → (P → test ≡ true) → P → ⊥
+may_not P test not is p = let no : false ≡ true = sym not ∙ is p in absurd cc
+
+-- what puts nothing leaves the store, and where it may put nothing waits
+pub quiet_of : {P A B : Type 0} → (P → ⊥) ⊎ B → ((P → ⊥) → A) → A ⊎ B
+quiet_of (inl not) stays = inl (stays not)
+quiet_of (inr none) stays = inr none

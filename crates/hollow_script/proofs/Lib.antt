@@ -1,4 +1,5 @@
-mod Lining
+mod Halting
+pub mod Lining
 mod Ordering
 mod Asking
 mod Replying

@@ -1,7 +1,9 @@
 -- What a turn of the reader of lines gives of an input, and what its end says.
-use Rattle.std.proofs.Common.{append_assoc, ◌≡◌, ◌<◌, ◌≤◌, ℕ, List, [], ◌++◌, length, Option, Some, None, Result, Ok, refl, sym, ap, ◌∙◌, subst, arith, append-nil, length-append}
+use Rattle.std.proofs.Common.{append_assoc, ◌≡◌, ◌<◌, ◌≤◌, ◌==◌, ◌-◌, inl, inr, ℕ, suc, Bool, true, false, List, [], ◌∷◌, ◌++◌, length, take, drop, filter, if◌then◌else◌, Option, Some, None, Result, Ok, refl, sym, ap, ◌∙◌, subst, arith, append-nil, length-append}
+use Rattle.std.proofs.lemmas.Bool.{cases_lt}
 use Rattle.std.proofs.lemmas.Bool.Decides.{nat_tests}
-use Rattle.hol_io.specs.Lines.{Carries, Gives, Reading, IsAhead, cut, lines_within}
+use Rattle.std.proofs.lemmas.List.{take-append-drop}
+use Rattle.hol_io.specs.Lines.{Carries, Gives, Reading, IsAhead, cut, finished, has_bytes, lines_within, longer_first, pieces}
 use Rattle.hol_io.specs.Turn.{HasLimits, IsTurn, Tells}
 use Rattle.hol_io.specs.declared.lines.LineFault.{LineFault}
 use Rattle.hol_io.specs.declared.lines.Turn as declared
@@ -27,6 +29,104 @@ within_all : (budget : ℕ) (bytes : List ℕ) → length bytes ≤ budget → l
 unfolding lines_within
 within_all budget bytes few = grind (arith, nat_tests)
 
+-- with one they are those that end before it
+within_some : (budget : ℕ) (bytes : List ℕ) → budget < length bytes → lines_within budget bytes ≡ finished (take budget bytes)
+unfolding lines_within
+within_some budget bytes more = grind (arith, nat_tests)
+
+-- ---- the lines that end are the first lines
+
+-- there is a piece
+some_pieces : (bytes : List ℕ) → (first : List ℕ) × (rest : List (List ℕ)) × (pieces bytes ≡ first ∷ rest)
+some_pieces [] = ([], [], refl)
+some_pieces (byte ∷ bytes) = either (byte == 10) (some_pieces bytes)
+  where
+    either : (test : Bool) → ((first : List ℕ) × (rest : List (List ℕ)) × (pieces bytes ≡ first ∷ rest)) →
+        (first : List ℕ) × (rest : List (List ℕ)) × ((if test then [] ∷ pieces bytes else longer_first byte (pieces bytes)) ≡ first ∷ rest)
+    either true some = ([], pieces bytes, refl)
+    either false (first, rest, is) = (byte ∷ first, rest, ap (longer_first byte) is)
+
+-- all but the last of some pieces
+abbrev but_last : List (List ℕ) → List (List ℕ)
+but_last [] = []
+but_last (p ∷ []) = []
+but_last (p ∷ q ∷ ps) = p ∷ but_last (q ∷ ps)
+
+all_but_last : (p : List ℕ) (ps : List (List ℕ)) → 0 < length ps → take (length (p ∷ ps) - 1) (p ∷ ps) ≡ p ∷ take (length ps - 1) ps
+all_but_last p ps some =
+    let e : length (p ∷ ps) - 1 ≡ suc (length ps - 1) = omega arith in rw e
+
+taken_but_last : (ps : List (List ℕ)) → take (length ps - 1) ps ≡ but_last ps
+taken_but_last [] = refl
+taken_but_last (p ∷ []) = refl
+taken_but_last (p ∷ q ∷ ps) = all_but_last p (q ∷ ps) (omega arith) ∙ ap (λ qs. p ∷ qs) (taken_but_last (q ∷ ps))
+
+-- the pieces of some bytes, but for the last, are the first pieces of these with more behind them
+abbrev FrontOf : List (List ℕ) → List (List ℕ) → Type 0
+FrontOf front all = (rest : List (List ℕ)) × (all ≡ but_last front ++ rest)
+
+longer_front : (byte : ℕ) (first : List ℕ) (others all : List (List ℕ)) → FrontOf (first ∷ others) all → FrontOf (longer_first byte (first ∷ others)) (longer_first byte all)
+longer_front byte first [] all (rest, is) = (longer_first byte all, refl)
+longer_front byte first (second ∷ others) all (rest, is) = (rest, ap (longer_first byte) is)
+
+front_more : (byte : ℕ) (bytes more : List ℕ) → FrontOf (pieces bytes) (pieces (bytes ++ more)) → FrontOf (pieces (byte ∷ bytes)) (pieces (byte ∷ (bytes ++ more)))
+front_more byte bytes more is = either (byte == 10)
+  where
+    some : (first : List ℕ) × (others : List (List ℕ)) × (pieces bytes ≡ first ∷ others)
+    some = some_pieces bytes
+
+    front : FrontOf (some.0 ∷ some.1) (pieces (bytes ++ more))
+    front = subst (λ (ps : List (List ℕ)). FrontOf ps (pieces (bytes ++ more))) some.2 is
+
+    over : FrontOf ([] ∷ some.0 ∷ some.1) ([] ∷ pieces (bytes ++ more))
+    over = (front.0, ap (λ ps. [] ∷ ps) front.1)
+
+    either : (test : Bool) → FrontOf (if test then [] ∷ pieces bytes else longer_first byte (pieces bytes)) (if test then [] ∷ pieces (bytes ++ more) else longer_first byte (pieces (bytes ++ more)))
+    either true = subst (λ (ps : List (List ℕ)). FrontOf ([] ∷ ps) ([] ∷ pieces (bytes ++ more))) (sym some.2) over
+    either false =
+        subst (λ (ps : List (List ℕ)). FrontOf (longer_first byte ps) (longer_first byte (pieces (bytes ++ more)))) (sym some.2)
+        (longer_front byte some.0 some.1 (pieces (bytes ++ more)) front)
+
+front_pieces : (bytes more : List ℕ) → FrontOf (pieces bytes) (pieces (bytes ++ more))
+front_pieces [] more = (pieces more, refl)
+front_pieces (byte ∷ bytes) more = front_more byte bytes more (front_pieces bytes more)
+
+filter_front : (ps qs : List (List ℕ)) → filter has_bytes (ps ++ qs) ≡ filter has_bytes ps ++ filter has_bytes qs
+filter_front [] qs = refl
+filter_front ([] ∷ ps) qs = filter_front ps qs
+filter_front ((byte ∷ p) ∷ ps) qs = ap (λ t. (byte ∷ p) ∷ t) (filter_front ps qs)
+
+pub finished_front : (bytes more : List ℕ) → (rest : List (List ℕ)) × (cut (bytes ++ more) ≡ finished bytes ++ rest)
+unfolding cut finished
+finished_front bytes more =
+    let front = front_pieces bytes more in (
+      filter has_bytes front.0,
+      ap (filter has_bytes) front.1 ∙ filter_front (but_last (pieces bytes)) front.0 ∙ ap (λ ps. filter has_bytes ps ++ filter has_bytes front.0) (sym (taken_but_last (pieces bytes))),
+    )
+
+-- So are those that end within the bytes that an input may have.
+pub finished_within : (budget : ℕ) (bytes : List ℕ) → (rest : List (List ℕ)) × (cut bytes ≡ finished (take budget bytes) ++ rest)
+finished_within budget bytes =
+    subst (λ (bs : List ℕ). (rest : List (List ℕ)) × (cut bs ≡ finished (take budget bytes) ++ rest)) (take-append-drop budget bytes) (finished_front (take budget bytes) (drop budget bytes))
+
+-- the lines within a budget are the first lines
+within_front : (budget : ℕ) (bytes : List ℕ) → (rest : List (List ℕ)) × (cut bytes ≡ lines_within budget bytes ++ rest)
+within_front budget bytes =
+    elim (cases_lt budget (length bytes)) [
+      | inl more ↦
+          (let front = finished_within budget bytes in
+          (front.0, front.1 ∙ ap (λ ls. ls ++ front.0) (sym (within_some budget bytes more))))
+      | inr few ↦ ([], sym (within_all budget bytes few) ∙ sym (append-nil (lines_within budget bytes)))
+    ]
+
+-- The lines that were given are the first of the input.
+pub given_front : (bytes : List ℕ) (left : Option (List ℕ)) (reading : Reading) (lines : List (List ℕ)) → HasGiven bytes left reading lines → (ahead : List (List ℕ)) × (cut bytes ≡ lines ++ ahead)
+given_front bytes None reading lines has = absurd has
+given_front bytes (Some left) reading lines (moved, most) =
+    let front = within_front longest_input bytes in
+    let rest = lines_within moved.room' moved.bytes' in
+    (rest ++ front.0, front.1 ∙ ap (λ ls. ls ++ front.0) moved.gives.cut ∙ append_assoc lines rest front.0)
+
 -- the reader begins with all of the input ahead
 pub begins : (bytes : List ℕ) (reading : Reading) → reading.line_max ≡ longest_line → IsAhead reading bytes bytes longest_input → HasGiven bytes (Some bytes) reading []
 begins bytes reading most ahead = (record { bytes' = bytes; room' = longest_input; gives = gives_nothing bytes longest_input; ahead = ahead }, most)
@@ -36,6 +136,7 @@ module _ (bytes : List ℕ) (given : List (List ℕ)) (r r' : Reading) where
   turn_gives : (left left' : Option (List ℕ)) (result : Result declared.Turn LineFault) → HasGiven bytes left r given → HasLimits r r' → Tells r left r' left' result →
       (rest : List ℕ) × (room : ℕ) × (lines : List (List ℕ)) × HasGiven bytes left' r' (given ++ lines) × IsTurn r' rest room lines result
       × (lines_within longest_input bytes ≡ given ++ lines_within room rest) × (length rest ≤ room → length bytes ≤ longest_input)
+      × (room < length rest → longest_input < length bytes)
   turn_gives None left' result has limits tells = absurd has
   turn_gives (Some left) None result has limits tells = absurd tells
   turn_gives (Some left) (Some left') result (moved, most) limits tells =
@@ -46,7 +147,8 @@ module _ (bytes : List ℕ) (given : List (List ℕ)) (r r' : Reading) where
         (record { bytes' = turn.1.bytes'; room' = turn.1.room'; gives = gives_then moved.gives turn.1.gives; ahead = turn.1.ahead }, limits.0 ∙ most),
         turn.2,
         moved.gives.cut,
-        λ fits. omega (arith, fits, moved.gives.counted, ap length moved.gives.split, length-append moved.gives.given moved.bytes'),
+        (λ fits. omega (arith, fits, moved.gives.counted, ap length moved.gives.split, length-append moved.gives.given moved.bytes')),
+        (λ more. omega (arith, more, moved.gives.counted, ap length moved.gives.split, length-append moved.gives.given moved.bytes')),
       )
 
   -- the longest line is set once
@@ -85,4 +187,6 @@ module _ (bytes : List ℕ) (given : List (List ℕ)) (r r' : Reading) where
       let turn = turn_gives left left' (Ok End) has limits tells in
       let few = turn.6 turn.4.2 in
       (sym (within_all longest_input bytes few) ∙ turn.5 ∙ ap (λ ls. given ++ ls) turn.4.1 ∙ append-nil given, few)
-  turn_given left left' Over has limits tells = tt
+  turn_given left left' Over has limits tells =
+      let turn = turn_gives left left' (Ok Over) has limits tells in
+      sym (append-nil given) ∙ ap (λ ls. given ++ ls) (sym turn.4.1) ∙ sym turn.5 ∙ within_some longest_input bytes (turn.7 turn.4.2)

@@ -1,5 +1,5 @@
 -- What an order is answered, and what its line is.
-use Rattle.std.proofs.Common.{◌≡◌, List, ℕ, Option, Some, None, Result, Ok, Err, IfOk, refl, sym, subst}
+use Rattle.std.proofs.Common.{◌≡◌, List, ℕ, inl, Option, Some, None, Result, Ok, Err, IfOk, OnErr, refl, sym, ap, subst}
 use Rattle.std.specs.Prelude.{IfSome}
 use Rattle.serde_json.specs.View.{view}
 use Rattle.serde_json.specs.declared.value.Value.{Value}
@@ -14,15 +14,15 @@ use Rattle.hol_orders.specs.Parts.{asked_state}
 use Rattle.hollow_machine.specs.Records.{asked_cycle}
 use Rattle.hollow_machine.specs.CycleOrder.{CycleStep}
 use Rattle.hollow_machine.specs.Kept.{Kept, Moves, MovesConsumer, MovesProducer, kept_with_consumer, kept_with_producer, machine_of}
+use Rattle.hollow_machine.specs.Left.{Halts, HaltsProducer}
 use Rattle.hollow_machine.specs.ModelOrder.{ModelStep}
 use Rattle.hollow_machine.specs.RestoreOrder.{RestoreStep}
 use Rattle.hollow_machine.specs.CheckOrder.{CheckReply}
 use Rattle.hollow_machine.specs.State.{Machine}
 use Rattle.hollow_machine.specs.Step.{Step}
+use Rattle.hollow_machine.specs.Left.{LeavesCycle, LeavesOrder}
 use Rattle.hol_orders.specs.declared.order_stop.OrderStop.{OrderStop}
-use Rattle.hollow_script.specs.Kept.{MovesKept, kept_of}
 use Rattle.hollow_script.specs.Looking.{LooksAt}
-use Rattle.hollow_script.specs.declared.keep.Keep.{Keep}
 
 -- an order that moves the machine in a way that is that of its kind
 pub asked_moves : (held held' : Option Store) (kept kept' : Kept) (asked other : Order) (r : Result Reply OrderStop) → asked ≡ other →
@@ -88,3 +88,38 @@ checks None held' kept asked versions r is same answers = tt
 checks (Some store) held' kept asked versions (Err stop) is same answers = tt
 checks (Some store) held' kept asked versions (Ok reply) is same answers =
     (store, same, subst (λ o. Step (machine_of store kept) o reply (machine_of store kept)) (sym is) (answers, refl))
+
+-- ---- orders that stop
+
+-- nothing is left of an order but the machine as it was
+order_left : (asked : Order) (store : Store) (kept : Kept) → LeavesOrder asked (machine_of store kept) (machine_of store kept)
+order_left asked store kept = (store, inl refl, refl)
+
+-- an order that stops and leaves the store, the producer and the consumer
+pub stays_halts : (held held' : Option Store) (kept kept' : Kept) (asked : Order) (r : Result Reply OrderStop) → held' ≡ held → OnErr r (kept' ≡ kept) → Halts (LeavesOrder asked) held kept held' kept' r
+stays_halts None held' kept kept' asked r same still = tt
+stays_halts (Some store) held' kept kept' asked (Ok reply) same still = tt
+stays_halts (Some store) held' kept kept' asked (Err why) same still =
+    (store, same, subst (λ (k : Kept). LeavesOrder asked (machine_of store kept) (machine_of store k)) (sym still) (order_left asked store kept))
+
+-- one that leaves what it may move of it
+pub producer_halts : (held held' : Option Store) (kept : Kept) (producer : Option Production) (asked : Order) (r : Result Reply OrderStop) → held' ≡ held → OnErr r (producer ≡ kept.producer) →
+    Halts (LeavesOrder asked) held kept held' (kept_with_producer kept producer) r
+producer_halts held held' kept producer asked (Ok reply) same still = stays_halts held held' kept (kept_with_producer kept producer) asked (Ok reply) same tt
+producer_halts held held' kept producer asked (Err why) same still = stays_halts held held' kept (kept_with_producer kept producer) asked (Err why) same (ap (kept_with_producer kept) still)
+
+pub consumer_halts : (held held' : Option Store) (kept : Kept) (consumer : Option Position) (asked : Order) (r : Result Reply OrderStop) → held' ≡ held → OnErr r (consumer ≡ kept.consumer) →
+    Halts (LeavesOrder asked) held kept held' (kept_with_consumer kept consumer) r
+consumer_halts held held' kept consumer asked (Ok reply) same still = stays_halts held held' kept (kept_with_consumer kept consumer) asked (Ok reply) same tt
+consumer_halts held held' kept consumer asked (Err why) same still = stays_halts held held' kept (kept_with_consumer kept consumer) asked (Err why) same (ap (kept_with_consumer kept) still)
+
+-- what stays, stays where an order stops
+pub still_err : {A T E : Type 0} (a : A) (r : Result T E) → OnErr r (a ≡ a)
+still_err a (Ok x) = tt
+still_err a (Err e) = refl
+
+-- the order `cycle`
+pub cycle_halts : (held held' : Option Store) (kept : Kept) (producer : Option Production) (asked : Order) (r : Result Reply OrderStop) (next_state : NextState) → asked ≡ order.Cycle next_state →
+    HaltsProducer (LeavesCycle (asked_cycle (asked_state next_state))) held kept.producer held' producer r → Halts (LeavesOrder asked) held kept held' (kept_with_producer kept producer) r
+cycle_halts held held' kept producer asked r next_state is halts =
+    subst (λ (o : Order). Halts (LeavesOrder o) held kept held' (kept_with_producer kept producer) r) (sym is) (halts kept)

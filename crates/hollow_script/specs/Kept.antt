@@ -3,6 +3,7 @@ use Rattle.std.specs.Prelude.{◌≡◌, Option, None, Result}
 use Rattle.hol_io.specs.Store.{Store}
 use Rattle.hol_answers.specs.declared.reply.Reply.{Reply}
 use Rattle.hollow_machine.specs.Kept.{Kept, Moves, machine_of}
+use Rattle.hollow_machine.specs.Left.{Halts}
 use Rattle.hollow_machine.specs.State.{Machine}
 use Rattle.hollow_script.specs.declared.keep.Keep.{Keep}
 
@@ -22,3 +23,7 @@ machine_with store keep = machine_of store (kept_of keep)
 -- What the answer means, where the store tells what it holds: it moves the machine of what is kept by this relation.
 abbrev pub MovesKept : {E : Type 0} → (Machine → Reply → Machine → Type 0) → Option Store → Keep → Option Store → Keep → Result Reply E → Type 0
 MovesKept IsStep held keep held' keep' result = Moves IsStep held (kept_of keep) held' (kept_of keep') result
+
+-- What it means that no answer comes, where the store tells what it holds: the machine of what is kept is left so.
+abbrev pub HaltsKept : {E : Type 0} → (Machine → Machine → Type 0) → Option Store → Keep → Option Store → Keep → Result Reply E → Type 0
+HaltsKept IsLeft held keep held' keep' result = Halts IsLeft held (kept_of keep) held' (kept_of keep') result

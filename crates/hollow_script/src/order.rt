@@ -4,8 +4,9 @@ ghost use Rattle.hol_io.specs.Causes.{Rose};
 ghost use Rattle.hol_orders.specs.Order.{IsOrder};
 ghost use Rattle.hollow_machine.specs.Kept.{IsResting};
 ghost use Rattle.hollow_machine.specs.Step.{Step};
+ghost use Rattle.hollow_machine.specs.Left.{LeavesOrder};
 ghost use Rattle.hollow_script.specs.Asked.{MayPut};
-ghost use Rattle.hollow_script.specs.Kept.{MovesKept};
+ghost use Rattle.hollow_script.specs.Kept.{HaltsKept, MovesKept};
 ghost use Rattle.hollow_script.specs.Looking.{IsLook, LooksAt};
 
 use crate::keep::Keep;
@@ -25,7 +26,7 @@ pub fn may_put(order: &Order) -> bool
     matches!(order, Order::Cycle(_))
 }
 
-/// Answers an order.
+/// Answers an order. Where it stops all is as it was, but that the store may have the first puts of a cycle.
 pub fn answer<S: BlobStore>(
     alloc: Global,
     order: &Order,
@@ -36,6 +37,9 @@ pub fn answer<S: BlobStore>(
     requires resting { IfSome keep.old.producer IsResting }
     ensures step { MovesKept (λ machine reply next. Step machine order.now reply next)
         (S.seen store.old).held keep.old (S.seen store.new).held keep.new result }
+    ensures halts { HaltsKept (λ machine next. LeavesOrder order.now machine next)
+        (S.seen store.old).held keep.old (S.seen store.new).held keep.new result }
+    ensures quiet { (MayPut order.now → ⊥) → (S.seen store.new).held ≡ (S.seen store.old).held }
     ensures resting { IfSome keep.new.producer IsResting }
     ensures store_fault { IsErrOf result OrderStop.Store → Rose (S.seen store.old).faults (S.seen store.new).faults }
     ensures later { (S.seen store.old).faults ≤ (S.seen store.new).faults }

@@ -1,14 +1,15 @@
 //! The loop over the lines of a script.
 ghost use Rattle.std.specs.Prelude.{◌≡◌, ◌<◌, ◌≤◌, ◌⊎◌, ℕ, List, [], Bool, true, Option, None, IfOk, IfErr, IfSome, Some, Ok, IsErrOf};
 ghost use Rattle.std.specs.Io.KnownBytes.{IsAtEnd};
-ghost use Rattle.hol_io.specs.Causes.{HasCause, Rose};
+ghost use Rattle.hol_io.specs.Causes.{Rose};
 ghost use Rattle.hol_io.specs.Lines.{Takes};
 ghost use Rattle.hol_io.specs.Store.{Store};
 ghost use Rattle.hol_io.specs.Turn.{EndsInput, HasLimits, LendsLine};
 ghost use Rattle.hollow_machine.specs.Kept.{IsResting};
-ghost use Rattle.hollow_script.specs.Asked.{AskedMayPut, AskedStep, MayPut, MeetsOrder};
-ghost use Rattle.hollow_script.specs.Kept.{KeepsNothing, MovesKept};
-ghost use Rattle.hollow_script.specs.Scripted.{AllAnswered, AllWritten, AnswersNext, AsksNext, HasGiven, HasReplied, IsAnswered, PutsAnswer, RepliesNext, ServesNext, TakesPast, TurnsNext, WritesReplies};
+ghost use Rattle.hollow_script.specs.Asked.{AskedStep, LeavesAsked, MayPut, MeetsOrder};
+ghost use Rattle.hollow_script.specs.Kept.{HaltsKept, KeepsNothing, MovesKept};
+ghost use Rattle.hollow_script.specs.Scripted.{AllAnswered, AllWritten, AnswersNext, AsksNext, HasGiven, HasReplied, HasStopped, IsAnswered, RepliesNext, ServesNext, TakesPast, TurnsNext, WritesReplies, WritesWaiting};
+ghost use Rattle.hollow_script.specs.Stopping.{LeavesStopped};
 
 use crate::asked::{Asked, asked_by};
 use crate::keep::Keep;
@@ -16,7 +17,7 @@ use crate::order::{answer, may_put};
 use crate::script_stop::ScriptStop;
 use crate::waiting::{put_answer, write_waiting};
 use hol_answers::{MAX_LINE_BYTES, Refusal, Reply};
-use hol_io::{BlobStore, Lines, Sink, Source, Turn, WriteFailed, write_all};
+use hol_io::{BlobStore, Lines, Sink, Source, Turn};
 use hol_orders::Order;
 use std::alloc::Global;
 
@@ -25,7 +26,8 @@ const MAX_INPUT_BYTES: u64 = 0x1_0000_0000;
 
 /// Answers each line of the input over a store, and tells whether an answer is a refusal. Answers are written many at a
 /// time, but what waits is written before an order that may put begins, and before more of the input is read; and the last
-/// ones before it ends, unless the sink failed.
+/// ones before it ends, unless the sink failed. So where it stops, the sink has the answers to some first lines, and the store is
+/// the one behind them, or has besides the first puts of the next line (`LeavesStopped`).
 pub fn run_script<I: Source, O: Sink, S: BlobStore>(
     alloc: Global,
     input: &mut I,
@@ -36,6 +38,8 @@ pub fn run_script<I: Source, O: Sink, S: BlobStore>(
     requires { KeepsNothing keep.old }
     ensures written { IfSome (I.left input.old) (λ bytes. IfSome (S.seen store.old).held (λ first. IfOk result
         (AllWritten bytes first (S.seen store.new).held keep.new (O.taken out.old) (O.taken out.new)))) }
+    ensures stopped { IfSome (I.left input.old) (λ bytes. IfSome (S.seen store.old).held (λ first. IfErr result
+        (LeavesStopped bytes first (S.seen store.new).held (O.taken out.old) (O.taken out.new)))) }
     ensures replied { IfOk result (WritesReplies (O.taken out.old) (O.taken out.new)) }
     ensures ended { IfOk result (λ refused. IsAtEnd (I.left input.new)) }
     ensures source_fault { IsErrOf result ScriptStop.Source → Rose (I.faults input.old) (I.faults input.new) }
@@ -46,14 +50,16 @@ pub fn run_script<I: Source, O: Sink, S: BlobStore>(
     let mut waiting = Vec::new(alloc);
     match answer_lines(alloc, input, out, store, keep, &mut waiting) {
         Ok(refused) => {
-            write_all(out, waiting.as_slice())?;
+            write_waiting(&mut waiting, out)?;
             Ok(refused)
         }
-        Err(ScriptStop::Sink) => Err(ScriptStop::Sink),
-        Err(stop) => {
-            write_all(out, waiting.as_slice())?;
-            Err(stop)
-        }
+        Err(stop) => match stop {
+            ScriptStop::Sink => Err(ScriptStop::Sink),
+            _ => {
+                write_waiting(&mut waiting, out)?;
+                Err(stop)
+            }
+        },
     }
 }
 
@@ -70,6 +76,8 @@ fn answer_lines<I: Source, O: Sink, S: BlobStore>(
     requires none_waits { waiting.old.items ≡ [] }
     ensures answered { IfSome (I.left input.old) (λ bytes. IfSome (S.seen store.old).held (λ first. IfOk result
         (AllAnswered bytes first (S.seen store.new).held keep.new (O.taken out.old) (O.taken out.new) waiting.new.items))) }
+    ensures stops { IfSome (I.left input.old) (λ bytes. IfSome (S.seen store.old).held (λ first. IfErr result
+        (HasStopped bytes first (S.seen store.new).held (O.taken out.old) (O.taken out.new) waiting.new.items))) }
     ensures replied { IfOk result (HasReplied (O.taken out.old) (O.taken out.new) waiting.new.items) }
     ensures ended { IfOk result (λ refused. IsAtEnd (I.left input.new)) }
     ensures source_fault { IsErrOf result ScriptStop.Source → Rose (I.faults input.old) (I.faults input.new) }
@@ -141,7 +149,8 @@ fn next_reply<I: Source, O: Sink, S: BlobStore>(
     ensures answers { (bytes : List ℕ) (given : List (List ℕ)) (now : Store) → HasGiven bytes (I.left input.old) lines.old given
         → (S.seen store.old).held ≡ Some now
         → AnswersNext bytes given now (I.left input.new) lines.new keep.old (S.seen store.new).held keep.new result }
-    ensures put { IfOk result (λ reply. PutsAnswer [] (O.taken out.old) (O.taken out.new) waiting.old.items waiting.new.items) }
+    ensures quiet { ((S.seen store.new).held ≡ (S.seen store.old).held) ⊎ (waiting.new.items ≡ []) }
+    ensures put { WritesWaiting (O.taken out.old) (O.taken out.new) waiting.old.items waiting.new.items result }
     ensures resting { IfSome keep.new.producer IsResting }
     ensures takes { Takes (I.left input.old) (I.left input.new) lines.old.taken lines.new.taken }
     ensures limits { HasLimits lines.old lines.new }
@@ -171,7 +180,7 @@ fn next_asked<I: Source, O: Sink>(
     ensures asks { (bytes : List ℕ) (given : List (List ℕ)) → HasGiven bytes (I.left input.old) lines.old given
         → AsksNext bytes given (I.left input.new) lines.new result }
     ensures order { IfOk result (λ asked. IfSome asked MeetsOrder) }
-    ensures put { IfOk result (λ asked. PutsAnswer [] (O.taken out.old) (O.taken out.new) waiting.old.items waiting.new.items) }
+    ensures put { WritesWaiting (O.taken out.old) (O.taken out.new) waiting.old.items waiting.new.items result }
     ensures takes { Takes (I.left input.old) (I.left input.new) lines.old.taken lines.new.taken }
     ensures limits { HasLimits lines.old lines.new }
     ensures ended { IfOk result (λ asked. asked ≡ None → IsAtEnd (I.left input.new)) }
@@ -201,7 +210,7 @@ fn next_turn<I: Source, O: Sink>(
     ensures turns { (bytes : List ℕ) (given : List (List ℕ)) → HasGiven bytes (I.left input.old) lines.old given
         → IfOk result (TurnsNext bytes given (I.left input.new) lines.new) }
     ensures waits { (input.new ≡ input.old) ⊎ (waiting.new.items ≡ []) }
-    ensures put { IfOk result (λ turn. PutsAnswer [] (O.taken out.old) (O.taken out.new) waiting.old.items waiting.new.items) }
+    ensures put { WritesWaiting (O.taken out.old) (O.taken out.new) waiting.old.items waiting.new.items result }
     ensures line { IfOk result (λ turn. LendsLine lines.new (Ok turn)) }
     ensures ended { IfOk result (λ turn. EndsInput lines.new (I.left input.new) (Ok turn)) }
     ensures takes { Takes (I.left input.old) (I.left input.new) lines.old.taken lines.new.taken }
@@ -220,13 +229,16 @@ fn next_turn<I: Source, O: Sink>(
 }
 
 // Writes what waits where an order may put.
-fn make_way<O: Sink>(order: &Order, out: &mut O, waiting: &mut Vec<u8>) -> Result<(), WriteFailed>
-    ensures put { IfOk result (λ done. PutsAnswer [] (O.taken out.old) (O.taken out.new) waiting.old.items waiting.new.items) }
-    ensures none { IfOk result (λ done. MayPut order.now → waiting.new.items ≡ []) }
-    ensures cause { HasCause (O.faults out.old) (O.faults out.new) result }
+#[tactic(auto, using(crate::proofs::Replying::puts_none, crate::proofs::Asking::may_not))]
+fn make_way<O: Sink>(order: &Order, out: &mut O, waiting: &mut Vec<u8>) -> Result<(), ScriptStop>
+    ensures put { WritesWaiting (O.taken out.old) (O.taken out.new) waiting.old.items waiting.new.items result }
+    ensures none { IfOk result (λ done. (MayPut order.now → ⊥) ⊎ (waiting.new.items ≡ [])) }
+    ensures sink_fault { IsErrOf result ScriptStop.Sink → Rose (O.faults out.old) (O.faults out.new) }
+    ensures later { O.faults out.old ≤ O.faults out.new }
+    ensures others { IfErr result (λ stop. stop ≡ ScriptStop.Sink) }
 {
     if may_put(order) {
-        return write_waiting(waiting, out);
+        return Ok(write_waiting(waiting, out)?);
     }
     Ok(())
 }
@@ -244,8 +256,11 @@ fn answer_asked<O: Sink, S: BlobStore>(
     requires resting { IfSome keep.old.producer IsResting }
     ensures step { MovesKept (λ machine reply next. AskedStep machine asked reply next)
         (S.seen store.old).held keep.old (S.seen store.new).held keep.new result }
-    ensures none_waits { AskedMayPut asked → (store.new ≡ store.old) ⊎ (waiting.new.items ≡ []) }
-    ensures put { IfOk result (λ reply. PutsAnswer [] (O.taken out.old) (O.taken out.new) waiting.old.items waiting.new.items) }
+    ensures halts { HaltsKept (λ machine next. LeavesAsked asked machine next)
+        (S.seen store.old).held keep.old (S.seen store.new).held keep.new result }
+    ensures quiet { ((S.seen store.new).held ≡ (S.seen store.old).held) ⊎ (waiting.new.items ≡ []) }
+    ensures unput { IsErrOf result ScriptStop.Sink → (S.seen store.new).held ≡ (S.seen store.old).held }
+    ensures put { WritesWaiting (O.taken out.old) (O.taken out.new) waiting.old.items waiting.new.items result }
     ensures resting { IfSome keep.new.producer IsResting }
     ensures sink_fault { IsErrOf result ScriptStop.Sink → Rose (O.faults out.old) (O.faults out.new) }
     ensures later { O.faults out.old ≤ O.faults out.new }

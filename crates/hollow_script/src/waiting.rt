@@ -1,8 +1,9 @@
 //! Answers that wait to be written.
-ghost use Rattle.std.specs.Prelude.{◌≡◌, ◌≤◌, ◌⊎◌, [], IfErr, IfOk, IsErrOf};
+ghost use Rattle.std.specs.Prelude.{◌≡◌, ◌≤◌, ◌⊎◌, [], IfErr, IfOk, IsErrOf, OnErr, OnOk};
+ghost use Rattle.std.specs.Io.KnownBytes.{Appends};
 ghost use Rattle.hol_io.specs.Causes.{HasCause, Rose};
 ghost use Rattle.hol_answers.specs.Reply.{line_of};
-ghost use Rattle.hollow_script.specs.Scripted.{PutsAnswer};
+ghost use Rattle.hollow_script.specs.Scripted.{FailsWithin, PutsAnswer, PutsReply};
 
 use crate::script_stop::ScriptStop;
 use hol_answers::{Reply, put_reply};
@@ -12,10 +13,13 @@ use std::alloc::Global;
 /// Answers wait until they are so many bytes.
 const BATCH: usize = 0x8000;
 
-/// Writes what waits.
+/// Writes what waits. Where the sink fails it gained a front of it, and not all.
 pub fn write_waiting<O: Sink>(waiting: &mut Vec<u8>, out: &mut O) -> Result<(), WriteFailed>
     ensures put { IfOk result (λ done. PutsAnswer [] (O.taken out.old) (O.taken out.new) waiting.old.items waiting.new.items) }
     ensures none { IfOk result (λ done. waiting.new.items ≡ []) }
+    ensures gained { OnOk result (Appends (O.taken out.old) (O.taken out.new) waiting.old.items) }
+    ensures part { OnErr result (FailsWithin waiting.old.items (O.taken out.old) (O.taken out.new)) }
+    ensures kept { OnErr result (waiting.new.items ≡ waiting.old.items) }
     ensures cause { HasCause (O.faults out.old) (O.faults out.new) result }
 {
     write_all(out, waiting.as_slice())?;
@@ -23,14 +27,15 @@ pub fn write_waiting<O: Sink>(waiting: &mut Vec<u8>, out: &mut O) -> Result<(), 
     Ok(())
 }
 
-/// Puts an answer behind those that wait, and writes all of them once they are many.
+/// Puts an answer behind those that wait, and writes all of them once they are many. Where memory is refused all stays as it was.
+#[tactic(auto, using(crate::proofs::Replying::reply_waits))]
 pub fn put_answer<O: Sink>(
     alloc: Global,
     reply: Reply,
     waiting: &mut Vec<u8>,
     out: &mut O,
 ) -> Result<(), ScriptStop>
-    ensures put { IfOk result (λ done. PutsAnswer (line_of reply) (O.taken out.old) (O.taken out.new) waiting.old.items waiting.new.items) }
+    ensures put { PutsReply (line_of reply) (O.taken out.old) (O.taken out.new) waiting.old.items waiting.new.items result }
     ensures sink_fault { IsErrOf result ScriptStop.Sink → Rose (O.faults out.old) (O.faults out.new) }
     ensures later { O.faults out.old ≤ O.faults out.new }
     ensures others { IfErr result (λ stop. (stop ≡ ScriptStop.Memory) ⊎ (stop ≡ ScriptStop.Sink)) }

@@ -9,6 +9,7 @@ mod Walks
 mod Shown
 mod Verdicts
 mod Serving
+mod Stopped
 mod OneAnswer
 mod SomeAnswer
 mod TrueScripts

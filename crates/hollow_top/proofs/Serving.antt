@@ -1,5 +1,5 @@
 -- What a command leaves where it writes one line, or the lines of rows, and the store stays.
-use Rattle.std.proofs.Common.{◌≡◌, ℕ, List, Bool, true, false, Option, Some, None, Result, Ok, Err, IfOk, IfSome, IsErrOf, refl, sym, subst}
+use Rattle.std.proofs.Common.{◌≡◌, ℕ, List, Bool, true, false, Option, Some, None, Result, Ok, Err, IfOk, IfSome, IsErrOf, refl, sym, ap, ◌∙◌, subst}
 use Rattle.std.specs.Prelude.{IsSome}
 use mir.Val.{bool_byte}
 use Rattle.hol_io.specs.declared.name.BlobName.{BlobName}
@@ -21,9 +21,9 @@ use Rattle.hollow_top.specs.declared.words.Command.{Command}
 use Rattle.hollow_top.specs.declared.words.Command.TheVariants.{Run, Head, Show, Make}
 use Rattle.hollow_top.specs.Command.{IsLineOf, IsReading, Serves, Writes, WritesMade}
 use Rattle.hollow_top.specs.Head.{HeadReply}
-use Rattle.hollow_top.specs.Run.{AskScript, AskToRead, EndsMake, Finishes, WritesPart, status_of}
+use Rattle.hollow_top.specs.Run.{AskScript, AskToRead, EndsMake, Finishes, MakesPart, WritesPart, status_of}
 use Rattle.hollow_top.specs.Show.{Shows}
-use Rattle.hollow_top.specs.Stopping.{GainsPart, Leaves}
+use Rattle.hollow_top.specs.Stopping.{Leaves}
 use Rattle.hollow_top.specs.Words.{Asks}
 
 module _ (input : Option (List ℕ)) (held after_held : Option Store) (command : Command) (before after : Option (List ℕ)) where
@@ -71,13 +71,20 @@ finishes words input None after_held kept command before after refused status no
 finishes words input (Some store) after_held kept command before after refused status none asked is (text, next, writes, same, gained) =
     (text, refused, next, (command, asked, subst (λ machine. Writes input store command text refused machine) (λ i. machine_of next (record { producer = sym none.producer i; consumer = sym none.consumer i })) writes), same, gained, is)
 
+-- what only reads leaves the store
+reading_stays : (input : Option (List ℕ)) (store : Store) (command : Command) (text : List ℕ) (refused : Bool) (next : Machine) → IsReading command → Writes input store command text refused next → next.store ≡ store
+reading_stays input store (Head blob) text refused next reads writes = ap (λ (m : Machine). m.store) writes.1
+reading_stays input store (Show version) text refused next reads writes = ap (λ (m : Machine). m.store) writes.1
+reading_stays input store _ text refused next reads writes = absurd reads
+
 pub part_written : (words : List (List ℕ)) (input : Option (List ℕ)) (held after_held : Option Store) (command : Command) (before after : Option (List ℕ)) (stop : Stop) → stop ≡ Sink →
-    Asks words command → ServesHeld input held after_held command before after (Err stop) →
-    IfSome held (λ store. WritesPart words input store before after)
-part_written words input None after_held command before after stop is asked served = tt
-part_written words input (Some store) after_held command before after stop is asked served =
+    Asks words command → IsReading command → after_held ≡ held → ServesHeld input held after_held command before after (Err stop) →
+    IfSome held (λ store. WritesPart words input store after_held before after)
+part_written words input None after_held command before after stop is asked reads same served = tt
+part_written words input (Some store) after_held command before after stop is asked reads same served =
     let (text, refused, count, writes, part, gained) = subst (λ e. Serves input store command after_held before after (Err e)) is served in
-    (text, refused, count, (writes.0, (command, asked, writes.1)), part, gained)
+    let stays = same ∙ ap Some (sym (reading_stays input store command text refused writes.0 reads writes.1)) in
+    (text, refused, count, (writes.0, (command, asked, writes.1), stays), part, gained)
 
 -- words that ask for a script, or for a chain to be made, do not ask to read
 pub script_reads : (words : List (List ℕ)) → AskScript words → AskToRead words → ⊥
@@ -127,12 +134,12 @@ made_line seed rows cycles (Some first) after_held kept reply before after (Ok r
 -- so is a part of it, where the sink fails
 pub made_part : (seed rows cycles : ℕ) (held after_held : Option Store) (kept : Keep) (reply : Reply) (before after : Option (List ℕ)) (r : Result Bool Stop) →
     TellsMake {E = OrderStop} seed rows cycles held after_held kept.producer (Ok reply) → Leaves (IsLineOf (λ answer. answer ≡ reply)) before after r → IsErrOf r Sink →
-    IfSome held (λ first. GainsPart (λ text refused. (next : Machine) × WritesMade seed rows cycles first text refused next) before after)
+    IfSome held (λ first. MakesPart seed rows cycles first after_held before after)
 made_part seed rows cycles None after_held kept reply before after r tells left failed = tt
 made_part seed rows cycles (Some first) after_held kept reply before after r (next, told, makes) left failed =
     let (text, refused, count, (answer, answer_is, text_is, verdict), part, gained) = subst (Leaves (IsLineOf (λ answer. answer ≡ reply)) before after) failed left in
     let made = subst (λ (a : Reply). Makes first seed rows cycles a (machine_at next kept.producer)) (sym answer_is) makes in
-    (text, refused, count, (machine_at next kept.producer, (answer, made, text_is, verdict)), part, gained)
+    (text, refused, count, (machine_at next kept.producer, (answer, made, text_is, verdict), told), part, gained)
 
 -- it ends with the status of its line
 pub ends_make : (seed rows cycles : ℕ) (held after_held : Option Store) (kept : Keep) (before after : Option (List ℕ)) (refused : Bool) (status : ℕ) → status ≡ status_of refused →
@@ -149,9 +156,9 @@ make_finishes words input None after_held kept command seed rows cycles before a
 make_finishes words input (Some first) after_held kept command seed rows cycles before after status asked is (text, refused, next, writes, told, gained, status_is) =
     (text, refused, next, (Make seed rows cycles, subst (Asks words) is asked, writes), told, gained, status_is)
 
-pub make_part : (words : List (List ℕ)) (input : Option (List ℕ)) (held : Option Store) (command : Command) (seed rows cycles : ℕ) (before after : Option (List ℕ)) →
-    Asks words command → command ≡ Make seed rows cycles → IfSome held (λ first. GainsPart (λ text refused. (next : Machine) × WritesMade seed rows cycles first text refused next) before after) →
-    IfSome held (λ first. WritesPart words input first before after)
-make_part words input None command seed rows cycles before after asked is left = tt
-make_part words input (Some first) command seed rows cycles before after asked is (text, refused, count, (next, writes), part, gained) =
-    (text, refused, count, (next, (Make seed rows cycles, subst (Asks words) is asked, writes)), part, gained)
+pub make_part : (words : List (List ℕ)) (input : Option (List ℕ)) (held after_held : Option Store) (command : Command) (seed rows cycles : ℕ) (before after : Option (List ℕ)) →
+    Asks words command → command ≡ Make seed rows cycles → IfSome held (λ first. MakesPart seed rows cycles first after_held before after) →
+    IfSome held (λ first. WritesPart words input first after_held before after)
+make_part words input None after_held command seed rows cycles before after asked is left = tt
+make_part words input (Some first) after_held command seed rows cycles before after asked is (text, refused, count, (next, writes, told), part, gained) =
+    (text, refused, count, (next, (Make seed rows cycles, subst (Asks words) is asked, writes), told), part, gained)

@@ -2,9 +2,11 @@
 use Rattle.std.specs.Prelude.{◌≡◌, ℕ, List, Option, Some, Bool, if◌then◌else◌, Result, Ok, Err}
 use Rattle.std.specs.Io.KnownBytes.{Appends}
 use Rattle.hol_io.specs.Store.{Store}
+use Rattle.hollow_machine.specs.Made.{StopsMake}
 use Rattle.hollow_machine.specs.State.{Machine}
 use Rattle.hollow_script.specs.Kept.{machine_with}
 use Rattle.hollow_script.specs.Scripted.{TakesPast}
+use Rattle.hollow_script.specs.Stopping.{LeavesStopped}
 use Rattle.hollow_script.specs.declared.keep.Keep.{Keep}
 use Rattle.hollow_script.specs.declared.script_stop.ScriptStop.{ScriptStop}
 use Rattle.hollow_script.specs.declared.script_stop.ScriptStop.TheVariants.{Memory, Source, Sink, Store as StoreFailed, TooLong}
@@ -55,10 +57,23 @@ Finishes words input store held kept before after status =
     (text : List ℕ) × (refused : Bool) × (next : Store) × WordsWrite words input store text refused (machine_with next kept)
     × (held ≡ Some next) × Appends before after text × (status ≡ status_of refused)
 
--- The sink gained a part of the text that the words write, from its front on, and not all of it.
-abbrev pub WritesPart : List (List ℕ) → Option (List ℕ) → Store → Option (List ℕ) → Option (List ℕ) → Type 0
-WritesPart words input store before after =
-    GainsPart (λ text refused. (next : Machine) × WordsWrite words input store text refused next) before after
+-- The sink gained a part of the text that the words write, from its front on, and not all of it; and the store is the one that they leave.
+abbrev pub WritesPart : List (List ℕ) → Option (List ℕ) → Store → Option Store → Option (List ℕ) → Option (List ℕ) → Type 0
+WritesPart words input store held before after =
+    GainsPart (λ text refused. (next : Machine) × WordsWrite words input store text refused next × (held ≡ Some next.store)) before after
+
+-- A part of the line of `make` over a store, and what it leaves of the store.
+abbrev pub MakesPart : ℕ → ℕ → ℕ → Store → Option Store → Option (List ℕ) → Option (List ℕ) → Type 0
+MakesPart seed rows cycles first held before after =
+    GainsPart (λ text refused. (next : Machine) × WritesMade seed rows cycles first text refused next × (held ≡ Some next.store)) before after
+
+-- Where the status is that of a script that stopped, the script left this of the sink and of the store.
+abbrev pub StopsScript : List ℕ → Store → Option Store → Option (List ℕ) → Option (List ℕ) → ℕ → Type 0
+StopsScript bytes first held before after status = (why : ScriptStop) → status ≡ script_status (Err why) → LeavesStopped bytes first held before after why
+
+-- The store is the one behind some first cycles of `make`, or has besides the first puts of the next one.
+abbrev pub StopsMade : ℕ → ℕ → ℕ → Store → Option Store → Type 0
+StopsMade seed rows cycles first held = (next : Store) × (held ≡ Some next) × StopsMake first seed rows cycles next
 
 -- What `make` leaves where it ends: its line, the store and the producer that is kept, and the status.
 abbrev pub EndsMake : ℕ → ℕ → ℕ → Store → Option Store → Keep → Option (List ℕ) → Option (List ℕ) → ℕ → Type 0

@@ -1,5 +1,5 @@
 //! The top call: from the words of a command line to a status.
-ghost use Rattle.std.specs.Prelude.{◌≡◌, ◌≢◌, ◌<◌, ◌≤◌, ◌⊎◌, ◌↔◌, ℕ, List, Bool, Option, None, map, string_bytes, IfOk, IfSome, Some, IsSome, OnSome, IsErrOf};
+ghost use Rattle.std.specs.Prelude.{◌≡◌, ◌≢◌, ◌<◌, ◌≤◌, ◌⊎◌, ◌↔◌, ℕ, List, Bool, Option, None, map, string_bytes, IfErr, IfOk, IfSome, Some, IsSome, OnErr, OnSome, IsErrOf};
 ghost use Rattle.std.specs.Io.KnownBytes.{IsAtEnd};
 ghost use Rattle.hol_io.specs.Causes.{Rose};
 ghost use Rattle.std.specs.Io.KnownBytes.{Appends};
@@ -10,10 +10,10 @@ ghost use Rattle.hollow_script.specs.Scripted.{AllWritten, TakesPast};
 ghost use Rattle.written_laws.specs.Chain.{Chain};
 ghost use Rattle.written_laws.specs.HoldsChain.{HoldsChain};
 ghost use Rattle.hollow_top.specs.Command.{IsReading, Serves, WritesMade};
-ghost use Rattle.hollow_top.specs.Headline.{AnswersTruly, MakesChain};
-ghost use Rattle.hollow_top.specs.Run.{AsksNothing, AskScript, AskToRead, EndsMake, Finishes, RunsPast, WritesPart, status_of};
+ghost use Rattle.hollow_top.specs.Headline.{AnswersTruly, LeavesChain, LeavesMadeChain, MakesChain};
+ghost use Rattle.hollow_top.specs.Run.{AsksNothing, AskScript, AskToRead, EndsMake, Finishes, MakesPart, RunsPast, StopsMade, StopsScript, WritesPart, status_of};
 ghost use Rattle.hollow_top.specs.Show.{Shows};
-ghost use Rattle.hollow_top.specs.Stopping.{GainsFront, GainsPart, GainsRefusal, GainsRefusalLine, IsVerdict, Leaves};
+ghost use Rattle.hollow_top.specs.Stopping.{GainsFront, GainsRefusal, GainsRefusalLine, IsVerdict, Leaves};
 ghost use Rattle.hollow_top.specs.Words.{Asks};
 
 use crate::answer::write_reply;
@@ -43,6 +43,11 @@ use std::alloc::Global;
 /// `run` answers each line of the input, and what it keeps are the producer and the consumer behind the last of them. `head` and `show` read
 /// the store alone, and put nothing. `make` publishes a chain, checks it and keeps its producer; it reads no input, and it alone tells
 /// its progress. The condition is that nothing is kept.
+///
+/// Where `run` stops, by 3 to 7, the answers to some first lines are written, and the store is the one behind them; by 5 and 6 it may
+/// have besides the first puts of the next line. By 4 the sink has besides a part of the next answer, and the store is the one behind
+/// that line. Where `make` stops, the store is the one behind some first cycles, or has besides the first puts of the next one. A store that
+/// held a chain holds it then, with the states more that were published, and at most one more, which is there in part.
 pub fn run<I: Source, O: Sink, S: BlobStore, P: Progress>(
     alloc: Global,
     words: &[String],
@@ -81,7 +86,14 @@ pub fn run<I: Source, O: Sink, S: BlobStore, P: Progress>(
         (S.seen store.new).held keep.new (O.taken out.old) (O.taken out.new) result) }
     ensures ended { result < 2 → AskScript (map string_bytes words.now) → IsAtEnd (I.left input.new) }
     ensures part { result ≡ 4 → ¬ AskScript (map string_bytes words.now) → IfSome (S.seen store.old).held
-        (λ held. WritesPart (map string_bytes words.now) (I.left input.old) held (O.taken out.old) (O.taken out.new)) }
+        (λ held. WritesPart (map string_bytes words.now) (I.left input.old) held (S.seen store.new).held (O.taken out.old) (O.taken out.new)) }
+
+    // What is written, and what the store then holds, where `run` and `make` stop.
+    ensures script_stopped { AskScript (map string_bytes words.now) → IfSome (I.left input.old) (λ bytes. IfSome (S.seen store.old).held (λ first.
+        StopsScript bytes first (S.seen store.new).held (O.taken out.old) (O.taken out.new) result)) }
+    ensures make_stopped { 2 < result → (seed rows cycles : ℕ) → Asks (map string_bytes words.now) (Command.Make seed rows cycles)
+        → IfSome (S.seen store.old).held (λ first. StopsMade seed rows cycles first (S.seen store.new).held) }
+    ensures make_silent { 4 < result → (seed rows cycles : ℕ) → Asks (map string_bytes words.now) (Command.Make seed rows cycles) → out.new ≡ out.old }
 
     // The headline: over a store that held a chain, each line is answered as is true of the chain, and the consumer stands at a state of it.
     ensures headline { result < 2 → AskScript (map string_bytes words.now) → IfSome (I.left input.old) (λ bytes. IfSome (S.seen store.old).held (λ first.
@@ -92,6 +104,12 @@ pub fn run<I: Source, O: Sink, S: BlobStore, P: Progress>(
     ensures made { result < 2 → (seed rows cycles : ℕ) → Asks (map string_bytes words.now) (Command.Make seed rows cycles)
         → IfSome (S.seen store.old).held (λ first. (chain : Chain) → HoldsChain first chain
         → MakesChain seed rows cycles first chain (S.seen store.new).held keep.new) }
+
+    // And where they stop, a store that held a chain holds it, with the states more that were published, and at most one more.
+    ensures chain { 2 < result → AskScript (map string_bytes words.now) → IfSome (I.left input.old) (λ bytes. IfSome (S.seen store.old).held (λ first.
+        (chain : Chain) → HoldsChain first chain → LeavesChain bytes first chain (S.seen store.new).held)) }
+    ensures made_chain { 2 < result → (seed rows cycles : ℕ) → Asks (map string_bytes words.now) (Command.Make seed rows cycles)
+        → IfSome (S.seen store.old).held (λ first. (chain : Chain) → HoldsChain first chain → LeavesMadeChain seed rows cycles first chain (S.seen store.new).held) }
 
     // What words for `head`, `show` and `make`, and words for nothing, leave as it was.
     ensures input { ¬ AskScript (map string_bytes words.now) → input.new ≡ input.old }
@@ -139,6 +157,10 @@ fn serve_script<I: Source, O: Sink, S: BlobStore>(
     ensures verdict { result < 2 → OnSome (O.taken out.old)
         ((result ≡ 1) ↔ GainsRefusalLine (O.taken out.old) (O.taken out.new)) }
     ensures ended { result < 2 → IsAtEnd (I.left input.new) }
+    ensures stopped { IfSome (I.left input.old) (λ bytes. IfSome (S.seen store.old).held (λ first.
+        StopsScript bytes first (S.seen store.new).held (O.taken out.old) (O.taken out.new) result)) }
+    ensures chain { 2 < result → IfSome (I.left input.old) (λ bytes. IfSome (S.seen store.old).held (λ first.
+        (chain : Chain) → HoldsChain first chain → LeavesChain bytes first chain (S.seen store.new).held)) }
     ensures status { (result ≤ 7) × (result ≢ 2) }
     ensures source_fault { result ≡ 3 → Rose (I.faults input.old) (I.faults input.new) }
     ensures sink_fault { result ≡ 4 → Rose (O.faults out.old) (O.faults out.new) }
@@ -146,6 +168,8 @@ fn serve_script<I: Source, O: Sink, S: BlobStore>(
     ensures past { result ≡ 7 → TakesPast (I.left input.old) (I.left input.new) }
 {
     chain_laws::laws::true_script();
+    chain_laws::laws::chain_is_kept();
+    chain_laws::laws::stopped_script_keeps_chain();
     hol_answers::laws::refusals_apart();
     store.told_bytes();
     match run_script(alloc, input, out, store, keep) {
@@ -178,14 +202,19 @@ fn serve_make<O: Sink, S: BlobStore, P: Progress>(
     ensures chain { result < 2 → IfSome (S.seen store.old).held (λ first. (chain : Chain) → HoldsChain first chain
         → MakesChain seed rows cycles first chain (S.seen store.new).held keep.new) }
     ensures verdict { result < 2 → OnSome (O.taken out.old) ((result ≡ 1) ↔ GainsRefusal (O.taken out.old) (O.taken out.new)) }
-    ensures part { result ≡ 4 → IfSome (S.seen store.old).held (λ first. GainsPart
-        (λ text refused. (next : Machine) × WritesMade seed rows cycles first text refused next) (O.taken out.old) (O.taken out.new)) }
+    ensures part { result ≡ 4 → IfSome (S.seen store.old).held
+        (λ first. MakesPart seed rows cycles first (S.seen store.new).held (O.taken out.old) (O.taken out.new)) }
+    ensures stopped { 2 < result → IfSome (S.seen store.old).held (λ first. StopsMade seed rows cycles first (S.seen store.new).held) }
+    ensures silent { 4 < result → out.new ≡ out.old }
+    ensures left_chain { 2 < result → IfSome (S.seen store.old).held (λ first. (chain : Chain) → HoldsChain first chain
+        → LeavesMadeChain seed rows cycles first chain (S.seen store.new).held) }
     ensures status { (result ≤ 6) × (result ≢ 2) × (result ≢ 3) }
     ensures sink_fault { result ≡ 4 → Rose (O.faults out.old) (O.faults out.new) }
     ensures store_fault { result ≡ 5 → Rose (S.seen store.old).faults (S.seen store.new).faults }
 {
     chain_laws::laws::chain_is_kept();
     chain_laws::laws::make_keeps_chain();
+    chain_laws::laws::stopped_make_keeps_chain();
     store.told_bytes();
     match make_line(alloc, seed, rows, cycles, out, store, keep, progress) {
         Ok(is_refusal) => u8::from(is_refusal),
@@ -215,8 +244,10 @@ fn make_line<O: Sink, S: BlobStore, P: Progress>(
         × Appends (O.taken out.old) (O.taken out.new) text)) }
     ensures consumer { keep.new.consumer ≡ None }
     ensures verdict { Leaves IsVerdict (O.taken out.old) (O.taken out.new) result }
-    ensures part { IsErrOf result Stop.Sink → IfSome (S.seen store.old).held (λ first. GainsPart
-        (λ text refused. (next : Machine) × WritesMade seed rows cycles first text refused next) (O.taken out.old) (O.taken out.new)) }
+    ensures part { IsErrOf result Stop.Sink → IfSome (S.seen store.old).held
+        (λ first. MakesPart seed rows cycles first (S.seen store.new).held (O.taken out.old) (O.taken out.new)) }
+    ensures stopped { OnErr result (IfSome (S.seen store.old).held (λ first. StopsMade seed rows cycles first (S.seen store.new).held)) }
+    ensures silent { IfErr result (λ stop. (stop ≡ Stop.Sink → ⊥) → out.new ≡ out.old) }
     ensures sink_fault { IsErrOf result Stop.Sink → Rose (O.faults out.old) (O.faults out.new) }
     ensures store_fault { IsErrOf result Stop.Store → Rose (S.seen store.old).faults (S.seen store.new).faults }
 {

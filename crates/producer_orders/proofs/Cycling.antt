@@ -1,7 +1,9 @@
 -- A cycle from its parts: what each part tells is what the order answers, or is refused for.
-use Rattle.std.proofs.Common.{◌≡◌, ◌≢◌, ℕ, ℤ, List, [], Bool, true, false, Option, Some, None, Result, Ok, Err, refl, sym, ap, subst}
-use Rattle.std.specs.Prelude.{IsTrue, ◌↔◌}
+use Rattle.std.proofs.Common.{◌≡◌, ◌≢◌, ◌∙◌, ◌≤◌, ℕ, zero, suc, ℤ, List, [], length, take, Bool, true, false, Option, Some, None, Result, Ok, Err, inl, inr, refl, sym, ap, subst, arith}
+use Rattle.std.specs.Prelude.{IsTrue, OnErr, ◌↔◌}
 use Rattle.std.specs.Option.{option_map}
+use Rattle.std.proofs.lemmas.Bool.{cases_lt}
+use Rattle.std.proofs.lemmas.List.{take_all}
 use Rattle.hol_io.specs.Store.{Store}
 use Rattle.schema_model.specs.declared.limit.Limit.TheVariants as limit
 use Rattle.row_model.specs.PlainTree.{PlainTree}
@@ -16,19 +18,22 @@ use Rattle.hol_answers.specs.declared.reply.Reply.TheVariants as reply
 use Rattle.hollow_machine.specs.CycleOrder.{AreNamed, CycleRefusal, CycleStep, Makes, Publishes, RefusesAfter}
 use Rattle.hollow_machine.specs.Follow.{MayFollow, MayNotFollow}
 use Rattle.hollow_machine.specs.Kept.{MovesProducer, kept_with_producer, machine_of}
-use Rattle.state_blobs.specs.Published.{published_of, Published}
+use Rattle.hollow_machine.specs.Left.{HaltsProducer, HasPart, LeavesCycle}
+use Rattle.hollow_machine.specs.Puts.{ArePutsOf, PutsAfter}
 use Rattle.hollow_machine.specs.Records.{AskedCycle, GivesTrees}
-use Rattle.state_blobs.specs.Puts.{AreBlobs, put_all, puts_of}
 use Rattle.hollow_machine.specs.State.{Machine}
+use Rattle.state_blobs.specs.Published.{published_of, Published}
+use Rattle.state_blobs.specs.Puts.{AreBlobs, Put, put_all, puts_of}
+use Rattle.hol_orders.specs.declared.order_stop.OrderStop.{OrderStop}
 use Rattle.blob_writing.specs.declared.fault.WriteFault.{WriteFault}
 use Rattle.blob_writing.specs.declared.fault.WriteFault.TheVariants as write
 use Rattle.blob_writing.specs.Limits.{MeansLarge}
 use Rattle.state_blobs.specs.declared.write.Blobs.{Blobs}
 use Rattle.producer_orders.specs.declared.cycle_end.CycleEnd.{CycleEnd}
 use Rattle.producer_orders.specs.declared.cycle_end.CycleEnd.TheVariants as cycle_end
-use Rattle.producer_orders.specs.Ends.{IsAnyStop, IsMemory, TellsEnd, end_of}
-use Rattle.state_blobs.specs.Blobs.{AreNotShort, puts_in}
-use Rattle.producer_orders.specs.Making.{AreRefused, Ends, EndsPublished, Follows, IsEnded, IsMade, IsTooLarge, IsWithin, Steps, machine_with}
+use Rattle.producer_orders.specs.Ends.{IsMemory, TellsEnd, end_of}
+use Rattle.state_blobs.specs.Blobs.{AreNotShort, IsPartlyPut, puts_in}
+use Rattle.producer_orders.specs.Making.{AreRefused, Ends, EndsPublished, Follows, IsEnded, IsMade, IsTooLarge, IsWithin, Steps, StopsPart, machine_with}
 
 -- what is too large is refused, where the state would be published
 too_large : (store : Store) (last : Published) (asked : AskedCycle) (trees : List (ℕ × PlainTree)) (rows : Table) (changed : List ℕ) (why : Refusal) →
@@ -48,16 +53,28 @@ ended store last asked trees rows changed held now (reply.Cycle names published 
     (next, is, λ machine. (same, (follows, (trees, gives, (rows, changed, makes, named, leaves machine)))))
 ended store last asked trees rows changed held now _ follows gives makes told = absurd told
 
+-- what some puts leave that stop in their course, others leave that they are
+stops_in : (ArePuts AreOthers : List Put → Type 0) (store : Store) (held : Option Store) → ((puts : List Put) → ArePuts puts → AreOthers puts) → StopsPart ArePuts store held → StopsPart AreOthers store held
+stops_in ArePuts AreOthers store held are (next, told, inl same) = (next, told, inl same)
+stops_in ArePuts AreOthers store held are (next, told, inr (puts, is, first)) = (next, told, inr (puts, are puts is, first))
+
+-- nothing is put
+stops_before : (ArePuts : List Put → Type 0) (store : Store) (held held' : Option Store) → held' ≡ held → held ≡ Some store → StopsPart ArePuts store held'
+stops_before ArePuts store held held' same told = (store, same ∙ told, inl refl)
+
 -- how the last part ends is how the cycle ends
 ends_so : (store : Store) (last : Published) (asked : AskedCycle) (trees : List (ℕ × PlainTree)) (rows : Table) (changed : List ℕ) (held : Option Store) (now : Published) (result : Result Reply CycleEnd) →
     MayFollow store last.version asked.version asked.tag → GivesTrees last.model asked.add trees → Makes last trees rows changed →
-    TellsEnd (IsEnded store last rows changed asked.version asked.tag held now) (λ why. (held ≡ Some store) × Publishes last changed × IsTooLarge last rows asked.version asked.tag why) IsAnyStop result →
+    TellsEnd (IsEnded store last rows changed asked.version asked.tag held now) (λ why. (held ≡ Some store) × Publishes last changed × IsTooLarge last rows asked.version asked.tag why)
+    (λ stop. StopsPart (λ puts. Publishes last changed × ArePutsOf last rows asked.version asked.tag puts) store held) result →
     TellsEnd (λ answer. (next : Store) × (held ≡ Some next) × ((machine : Machine) → CycleStep (machine_with machine store last) asked answer (machine_with machine next now)))
-    (λ why. (held ≡ Some store) × RefusesAfter store last asked why) IsAnyStop result
+    (λ why. (held ≡ Some store) × RefusesAfter store last asked why) (λ stop. StopsPart (PutsAfter store last asked) store held) result
 ends_so store last asked trees rows changed held now (Ok answer) follows gives makes told = ended store last asked trees rows changed held now answer follows gives makes told
 ends_so store last asked trees rows changed held now (Err (cycle_end.Refused why)) follows gives makes told =
     (told.0, too_large store last asked trees rows changed why follows gives makes told.1 told.2)
-ends_so store last asked trees rows changed held now (Err (cycle_end.Stopped stop)) follows gives makes told = tt
+ends_so store last asked trees rows changed held now (Err (cycle_end.Stopped stop)) follows gives makes told =
+    stops_in (λ puts. Publishes last changed × ArePutsOf last rows asked.version asked.tag puts) (PutsAfter store last asked) store held
+    (λ puts are. (follows, (trees, rows, changed, gives, makes, are.0, are.1))) told
 
 -- A closed cycle of a state that may follow ends so.
 pub ends : (asked : AskedCycle) (held between held' : Option Store) (last mid now : Published) (made : Production) (closed : Closed) (result : Result Reply CycleEnd) →
@@ -83,7 +100,7 @@ pub records_end : (asked : AskedCycle) (held held' : Option Store) (last now : P
     held' ≡ held → Follows held last.version asked.version asked.tag (Ok tt) → TellsEnd {T = Closed} made (AreRefused last asked.add) IsMemory (Err end) → Steps asked held last held' now (Err end)
 records_end asked None held' last now made end same follows told = tt
 records_end asked (Some store) held' last now made (cycle_end.Refused why) same follows told = (same, refused_after store last asked why follows told)
-records_end asked (Some store) held' last now made (cycle_end.Stopped stop) same follows told = tt
+records_end asked (Some store) held' last now made (cycle_end.Stopped stop) same follows told = stops_before (PutsAfter store last asked) store (Some store) held' same refl
 
 -- why a state may not follow is what the cycle is refused for
 may_not : (store : Store) (last : Published) (asked : AskedCycle) (why : Refusal) → MayNotFollow store last.version asked.version asked.tag why → RefusesAfter store last asked why
@@ -97,7 +114,7 @@ pub follow_ends : (asked : AskedCycle) (held held' : Option Store) (last now : P
     held' ≡ held → Follows held last.version asked.version asked.tag (Err end) → Steps asked held last held' now (Err end)
 follow_ends asked None held' last now end same told = tt
 follow_ends asked (Some store) held' last now (cycle_end.Refused why) same told = (same, may_not store last asked why told)
-follow_ends asked (Some store) held' last now (cycle_end.Stopped stop) same told = tt
+follow_ends asked (Some store) held' last now (cycle_end.Stopped stop) same told = stops_before (PutsAfter store last asked) store (Some store) held' same refl
 
 -- what is refused after the state of a producer is refused of the machine
 after_producer : (machine : Machine) (store : Store) (last : Published) (asked : AskedCycle) (why : Refusal) → RefusesAfter store last asked why →
@@ -140,7 +157,7 @@ pub no_blobs : (held : Option Store) (last now : Published) (rows : Table) (vers
     TellsEnd {T = Blobs} (IsWithin last rows version tag) (IsTooLarge last rows version tag) IsMemory (Err end) → EndsPublished held last rows version tag held now (Err end)
 no_blobs None last now rows version tag end told = tt
 no_blobs (Some store) last now rows version tag (cycle_end.Refused why) told = (refl, told)
-no_blobs (Some store) last now rows version tag (cycle_end.Stopped stop) told = tt
+no_blobs (Some store) last now rows version tag (cycle_end.Stopped stop) told = stops_before (ArePutsOf last rows version tag) store (Some store) (Some store) refl refl
 
 -- A state whose blobs are put is published.
 pub is_published : (held held' : Option Store) (old new : Production) (version : ℕ) (tag : ℤ) (blobs : Blobs) → IsWithin (published_of old) old.current version tag blobs →
@@ -148,6 +165,43 @@ pub is_published : (held held' : Option Store) (old new : Production) (version :
     EndsPublished held (published_of old) old.current version tag held' (published_of new) (Ok tt)
 is_published None held' old new version tag blobs within put is = tt
 is_published (Some store) held' old new version tag blobs within put is = (within.0, (puts_in blobs, within.1, within.2, put, ap published_of is))
+
+-- a front of some puts is one of so many, and no more than there are
+front_of : (puts : List Put) (count : ℕ) → (some : ℕ) × (some ≤ length puts) × (take count puts ≡ take some puts)
+front_of puts count =
+    elim (cases_lt count (length puts)) [
+      | inl within ↦ (count, omega (arith, within), refl)
+      | inr past ↦ (length puts, omega arith, take_all count puts past ∙ sym (take_all (length puts) puts (omega arith)))
+    ]
+
+-- the first puts, or none
+first_puts : (ArePuts : List Put → Type 0) (puts : List Put) → ArePuts puts → (store now : Store) (count : ℕ) → count ≤ length puts → now ≡ put_all store (take count puts) → HasPart ArePuts store now
+first_puts ArePuts puts are store now zero within is = inl is
+first_puts ArePuts puts are store now (suc count) within is = inr (puts, are, record { count = suc count; some = omega arith; within = within; put = is })
+
+-- A put that is refused ends a cycle with those before it.
+pub put_in_part : (held held' : Option Store) (last now : Published) (rows : Table) (version : ℕ) (tag : ℤ) (blobs : Blobs) (stop : OrderStop) → IsWithin last rows version tag blobs →
+    IsPartlyPut (puts_of (puts_in blobs) version) held held' → EndsPublished held last rows version tag held' now (Err (cycle_end.Stopped stop))
+put_in_part None held' last now rows version tag blobs stop within part = tt
+put_in_part (Some store) held' last now rows version tag blobs stop within (count, is) =
+    let puts = puts_of (puts_in blobs) version in
+    let are : ArePutsOf last rows version tag puts = (within.0, (puts_in blobs, within.1, within.2, refl)) in
+    let front = front_of puts count in
+    (put_all store (take count puts), is, first_puts (ArePutsOf last rows version tag) puts are store (put_all store (take count puts)) front.0 front.1 (ap (put_all store) front.2))
+
+-- What a cycle leaves that stops, where all of it that is not put is dropped.
+pub halts : (asked : AskedCycle) (held held' : Option Store) (old mid new : Production) (stop : OrderStop) → new ≡ without_rows mid → published_of mid ≡ published_of old →
+    Steps asked held (published_of old) held' (published_of mid) (Err (cycle_end.Stopped stop)) →
+    HaltsProducer (LeavesCycle asked) held (Some old) held' (Some new) (Err stop)
+halts asked None held' old mid new stop is kept steps = λ beside. tt
+halts asked (Some store) held' old mid new stop is kept (next, told, part) =
+    λ beside. (next, told, (next, part, ap (λ (p : Published). machine_with (machine_of store (kept_with_producer beside (Some old))) next p) (ap published_of is ∙ kept)))
+
+-- What a producer has published, where it stays if a cycle stops, is what there was of one.
+pub undone : {E : Type 0} (result : Result Reply E) (producer : Option Production) (old new : Production) → producer ≡ Some old → OnErr result (published_of new ≡ published_of old) →
+    OnErr result (option_map published_of (Some new) ≡ option_map published_of producer)
+undone (Ok answer) producer old new is same = tt
+undone (Err stop) producer old new is same = ap Some same ∙ ap (option_map published_of) (sym is)
 
 not_true : (b : Bool) → b ≡ false → IsTrue b → ⊥
 not_true true is holds = cc
@@ -176,4 +230,12 @@ pub not_published : (held held' : Option Store) (last now : Published) (rows : T
     EndsPublished held last rows version tag held' now (Err end) → Ends held last rows changed version tag held' now (Err end)
 not_published None held' last now rows changed version tag end publishes told = tt
 not_published (Some store) held' last now rows changed version tag (cycle_end.Refused why) publishes told = (told.0, publishes, told.1)
-not_published (Some store) held' last now rows changed version tag (cycle_end.Stopped stop) publishes told = tt
+not_published (Some store) held' last now rows changed version tag (cycle_end.Stopped stop) publishes told =
+    stops_in (ArePutsOf last rows version tag) (λ puts. Publishes last changed × ArePutsOf last rows version tag puts) store held' (λ puts are. (publishes, are)) told
+
+-- A closed cycle stops before anything of it is put.
+pub stops_unpublished : (held : Option Store) (last now : Published) (rows : Table) (changed : List ℕ) (version : ℕ) (tag : ℤ) (stop : OrderStop) →
+    Ends held last rows changed version tag held now (Err (cycle_end.Stopped stop))
+stops_unpublished None last now rows changed version tag stop = tt
+stops_unpublished (Some store) last now rows changed version tag stop =
+    stops_before (λ puts. Publishes last changed × ArePutsOf last rows version tag puts) store (Some store) (Some store) refl refl

@@ -14,9 +14,11 @@ use Rattle.hol_answers.specs.declared.reply.Reply.{Reply}
 use Rattle.hol_answers.specs.declared.reply.Reply.TheVariants.{Cycle}
 use Rattle.hollow_machine.specs.CycleOrder.{AreNamed, CycleStep, Leaves, Makes, Publishes, RefusesAfter}
 use Rattle.hollow_machine.specs.Follow.{MayFollow, MayNotFollow}
-use Rattle.state_blobs.specs.Puts.{AreBlobs, IsShort, Put, puts_of, put_all}
+use Rattle.hollow_machine.specs.Left.{HasPart}
+use Rattle.hollow_machine.specs.Puts.{ArePutsOf, PutsAfter}
 use Rattle.hollow_machine.specs.Records.{Adding, AskedCycle, GivesNoTrees, GivesTrees}
 use Rattle.hollow_machine.specs.State.{Machine, with_producer, with_store}
+use Rattle.state_blobs.specs.Puts.{AreBlobs, IsShort, Put, puts_of, put_all}
 use Rattle.state_blobs.specs.Published.{Published}
 use Rattle.state_blobs.specs.Blobs.{puts_in}
 use Rattle.producer_orders.specs.Ends.{IsAnyStop, TellsEnd}
@@ -74,12 +76,17 @@ abbrev pub IsWithin : Published → Table → ℕ → ℤ → Blobs → Type 0
 IsWithin last rows version tag blobs =
     TellsTypes last.model last.rows rows None × AreBlobs last rows version tag (puts_in blobs) × All IsShort (puts_in blobs)
 
+-- The store is as it was, or has the first of such puts.
+abbrev pub StopsPart : (List Put → Type 0) → Store → Option Store → Type 0
+StopsPart ArePuts store held = (next : Store) × (held ≡ Some next) × HasPart ArePuts store next
+
 -- What a cycle of a producer answers or is refused for, over what the store tells, and what it leaves, whatever else the machine has.
 abbrev pub Steps : AskedCycle → Option Store → Published → Option Store → Published → Result Reply CycleEnd → Type 0
 Steps asked held last held' now result = IfSome held (λ store. TellsEnd
     (λ reply. (next : Store) × (held' ≡ Some next)
     × ((machine : Machine) → CycleStep (machine_with machine store last) asked reply (machine_with machine next now)))
-    (λ refusal. (held' ≡ Some store) × RefusesAfter store last asked refusal) IsAnyStop result)
+    (λ refusal. (held' ≡ Some store) × RefusesAfter store last asked refusal)
+    (λ stop. StopsPart (PutsAfter store last asked) store held') result)
 
 -- What the check says of a state that is to follow the last one.
 abbrev pub Follows : Option Store → ℕ → ℕ → ℤ → Result ⊤ CycleEnd → Type 0
@@ -90,10 +97,12 @@ Follows held last version tag result =
 abbrev pub Ends : Option Store → Published → Table → List ℕ → ℕ → ℤ → Option Store → Published → Result Reply CycleEnd → Type 0
 Ends held last rows changed version tag held' now result = IfSome held (λ store. TellsEnd
     (IsEnded store last rows changed version tag held' now)
-    (λ refusal. (held' ≡ Some store) × Publishes last changed × IsTooLarge last rows version tag refusal) IsAnyStop result)
+    (λ refusal. (held' ≡ Some store) × Publishes last changed × IsTooLarge last rows version tag refusal)
+    (λ stop. StopsPart (λ puts. Publishes last changed × ArePutsOf last rows version tag puts) store held') result)
 
 -- How a closed cycle that is to be published ends.
 abbrev pub EndsPublished : Option Store → Published → Table → ℕ → ℤ → Option Store → Published → Result ⊤ CycleEnd → Type 0
 EndsPublished held last rows version tag held' now result = IfSome held (λ store. TellsEnd
     (λ _. IsPublished store last rows version tag held' now)
-    (λ refusal. (held' ≡ Some store) × IsTooLarge last rows version tag refusal) IsAnyStop result)
+    (λ refusal. (held' ≡ Some store) × IsTooLarge last rows version tag refusal)
+    (λ stop. StopsPart (ArePutsOf last rows version tag) store held') result)

@@ -1,5 +1,6 @@
 //! The order `cycle`, and the cycles of the script of `make`.
 ghost use Rattle.std.specs.Prelude.{◌≡◌, ◌≤◌, ◌<◌, ◌↔◌, All, IfSome, IsTrue, OnErr, Some, None, true, length};
+ghost use Rattle.std.specs.Option.{option_map};
 ghost use Rattle.std.specs.Result.{IsErrOf};
 ghost use Rattle.hol_io.specs.Causes.{Rose};
 ghost use Rattle.film_script.specs.Films.{film_schemas};
@@ -10,6 +11,7 @@ ghost use Rattle.hollow_machine.specs.CycleOrder.{CycleStep};
 ghost use Rattle.hollow_machine.specs.Kept.{IsResting, MovesProducer};
 ghost use Rattle.hollow_machine.specs.MakeCommand.{film_cycle};
 ghost use Rattle.hollow_machine.specs.Records.{asked_cycle};
+ghost use Rattle.hollow_machine.specs.Left.{HaltsProducer, LeavesCycle};
 ghost use Rattle.state_blobs.specs.Published.{published_of};
 ghost use Rattle.producer_orders.specs.Asked.{Suit, asked_of};
 ghost use Rattle.producer_orders.specs.Ends.{HasEndCause, IsMemory, TellsEnd};
@@ -28,7 +30,8 @@ use std::alloc::Global;
 use write_engine::{Closed, Producer};
 
 /// Publishes the next state of the producer, where a type changes by its records or it is the first state. A
-/// refusal leaves the store and the producer as they were. `Store` comes only where the store's count of faults rose.
+/// refusal leaves the store and the producer as they were. A stop leaves the producer as it was too, and the store with the
+/// first of the puts. `Store` comes only where the store's count of faults rose.
 pub fn cycle<S: BlobStore>(
     alloc: Global,
     store: &mut S,
@@ -39,6 +42,8 @@ pub fn cycle<S: BlobStore>(
     requires resting { IfSome producer.old IsResting }
     ensures step { MovesProducer (λ machine reply after. CycleStep machine (asked_cycle (asked_state next.now)) reply after)
         (S.seen store.old).held producer.old (S.seen store.new).held producer.new result }
+    ensures halts { HaltsProducer (LeavesCycle (asked_cycle (asked_state next.now))) (S.seen store.old).held producer.old (S.seen store.new).held producer.new result }
+    ensures undone { OnErr result (option_map published_of producer.new ≡ option_map published_of producer.old) }
     ensures resting { IfSome producer.new IsResting }
     ensures store_fault { IsErrOf result OrderStop.Store → Rose (S.seen store.old).faults (S.seen store.new).faults }
     ensures later { (S.seen store.old).faults ≤ (S.seen store.new).faults }
@@ -60,6 +65,8 @@ fn spelled_cycle<S: BlobStore>(
     requires resting { IsResting producer.old }
     ensures step { MovesProducer (λ machine reply after. CycleStep machine (asked_cycle (asked_state next.now)) reply after)
         (S.seen store.old).held (Some producer.old) (S.seen store.new).held (Some producer.new) result }
+    ensures halts { HaltsProducer (LeavesCycle (asked_cycle (asked_state next.now))) (S.seen store.old).held (Some producer.old) (S.seen store.new).held (Some producer.new) result }
+    ensures undone { OnErr result (published_of producer.new ≡ published_of producer.old) }
     ensures resting { IsResting producer.new }
     ensures store_fault { IsErrOf result OrderStop.Store → Rose (S.seen store.old).faults (S.seen store.new).faults }
     ensures later { (S.seen store.old).faults ≤ (S.seen store.new).faults }
@@ -69,7 +76,8 @@ fn spelled_cycle<S: BlobStore>(
 }
 
 /// Publishes the next state of a producer of the script's model: the films of a cycle, under its number and its tag. A refusal leaves the store and
-/// the producer as they were. `Store` comes only where the store's count of faults rose.
+/// the producer as they were. A stop leaves the producer as it was too, and the store with the first of the puts. `Store` comes only where
+/// the store's count of faults rose.
 pub fn film_cycle<S: BlobStore>(
     alloc: Global,
     store: &mut S,
@@ -85,6 +93,8 @@ pub fn film_cycle<S: BlobStore>(
     requires resting { IsResting producer.old }
     ensures step { MovesProducer (λ machine reply after. CycleStep machine (film_cycle seed rows cycle) reply after)
         (S.seen store.old).held (Some producer.old) (S.seen store.new).held (Some producer.new) result }
+    ensures halts { HaltsProducer (LeavesCycle (film_cycle seed rows cycle)) (S.seen store.old).held (Some producer.old) (S.seen store.new).held (Some producer.new) result }
+    ensures undone { OnErr result (published_of producer.new ≡ published_of producer.old) }
     ensures model { producer.new.schemas ≡ film_schemas }
     ensures resting { IsResting producer.new }
     ensures store_fault { IsErrOf result OrderStop.Store → Rose (S.seen store.old).faults (S.seen store.new).faults }
@@ -108,6 +118,8 @@ fn cycle_of<S: BlobStore>(
     requires resting { IsResting producer.old }
     ensures step { MovesProducer (λ machine reply after. CycleStep machine (asked_of version tag records.now) reply after)
         (S.seen store.old).held (Some producer.old) (S.seen store.new).held (Some producer.new) result }
+    ensures halts { HaltsProducer (LeavesCycle (asked_of version tag records.now)) (S.seen store.old).held (Some producer.old) (S.seen store.new).held (Some producer.new) result }
+    ensures undone { OnErr result (published_of producer.new ≡ published_of producer.old) }
     ensures model { producer.new.schemas ≡ producer.old.schemas }
     ensures resting { IsResting producer.new }
     ensures store_fault { IsErrOf result OrderStop.Store → Rose (S.seen store.old).faults (S.seen store.new).faults }

@@ -1,5 +1,5 @@
 //! The order `model`.
-ghost use Rattle.std.specs.Prelude.{◌≡◌, ℕ, List, IfOk, IfErr, IfSome};
+ghost use Rattle.std.specs.Prelude.{◌≡◌, ℕ, List, IfOk, IfErr, IfSome, OnErr};
 ghost use Rattle.serde_json.specs.View.{view};
 ghost use Rattle.hol_io.specs.Store.{Store};
 ghost use Rattle.json_values.specs.SchemaJson.{AreSchemas};
@@ -27,6 +27,7 @@ pub fn model(
     ensures step { (store : Store) (kept : Kept) → IfOk result
         (λ reply. ModelStep (machine_of store (kept_with_producer kept producer.old)) (view value.now) reply (machine_of store (kept_with_producer kept producer.new))) }
     ensures resting { IfSome producer.new IsResting }
+    ensures stopped { OnErr result (producer.new ≡ producer.old) }
     ensures stop { IfErr result (λ stop. stop ≡ OrderStop.Memory) }
 {
     if producer.is_some() {

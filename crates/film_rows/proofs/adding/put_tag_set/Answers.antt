@@ -4,7 +4,7 @@ use Rattle.std.proofs.lemmas.Result.{err_from_is_err_and}
 use Rattle.row_model.specs.Table.{Table}
 use Rattle.write_engine.specs.RowPuts.{TellsRowPut}
 use Rattle.film_rows.specs.Rows.{text_row, text_type}
-use Rattle.film_rows.proofs.Answering.{PutTags, first_stops, first_there, if_grown, if_there, is_live, late_grown, same_previous, second_stops, second_there, tags_tell}
+use Rattle.film_rows.proofs.Answering.{PutTags, first_there, if_grown, if_there, is_live, late_grown, same_previous, second_stops, second_there, tags_tell}
 use Rattle.film_rows.proofs.Fitting.{tags_fits}
 use Rattle.film_rows.proofs.Knowing.{grown_by}
 use Rattle.film_rows.proofs.adding.put_tag_set.Goals as goal

@@ -1,5 +1,7 @@
-use Rattle.std.proofs.Common.{◌≡◌, ◌∙◌, arith, sym}
-use Rattle.hollow_make.proofs.Passing.{are_published, run_end, run_refused, run_start, run_step}
+use Rattle.std.proofs.Common.{◌≡◌, ◌∙◌, ◌+◌, ◌++◌, ◌∷◌, [], if◌then◌else◌, arith, refl, sym}
+use Rattle.hollow_make.specs.Parts.{publishes}
+use Rattle.hollow_make.proofs.Passing.{are_published, run_end, run_halts, run_refused, run_start, run_step, run_stops}
+use Rattle.std.proofs.lemmas.Result.{err_from_is_err_and}
 use Rattle.hollow_make.proofs.cycles.run_cycles.Goals as goal
 
 pub loop-place-init : goal.loop-place-init
@@ -35,3 +37,21 @@ returns-clause-tells g c =
 pub returns-clause-published : goal.returns-clause-published
 returns-clause-published g c =
     are_published c.loop-place.place c.args.cycles c.loop-place.published (omega (arith, c.loop-place.auto.place-end)) c.requires.cycles c.loop-place.invariant.run.below
+
+pub returns-in_err-reply-clause-halts : goal.returns-in_err-reply-clause-halts
+returns-in_err-reply-clause-halts g c =
+    let p = err_from_is_err_and c.from_residual.result c.from_residual.ensures.1 in
+    rw p.1 (run_halts c.args.seed c.args.rows c.args.cycles (g.S.BlobStore.seen c.args.store.now).held (g.S.BlobStore.seen c.loop-place.store).held (g.S.BlobStore.seen c.film_cycle.new.store).held
+    c.args.producer.now c.loop-place.producer c.film_cycle.new.producer c.loop-place.place c.loop-place.published c.in_err-reply.field-0.0 c.loop-place-test.true c.loop-place.invariant.run c.in_err-reply.ensures.halts)
+
+pub returns-in_err-note-clause-halts : goal.returns-in_err-note-clause-halts
+returns-in_err-note-clause-halts g c =
+    let p = err_from_is_err_and c.from_residual-in_err-note.result c.from_residual-in_err-note.ensures.1 in
+    let place = c.loop-place.place in
+    let versions = c.loop-place.published ++ (if publishes c.in_ok-reply.reply then (place + 1) ∷ [] else []) in
+    let held = (g.S.BlobStore.seen c.args.store.now).held in
+    let held' = (g.S.BlobStore.seen c.film_cycle.new.store).held in
+    let run = run_step c.args.seed c.args.rows held (g.S.BlobStore.seen c.loop-place.store).held held'
+    c.args.producer.now c.loop-place.producer c.film_cycle.new.producer place c.loop-place.published versions c.in_ok-reply.reply c.loop-place.invariant.run
+    c.in_ok-reply.ensures.step (sym c.is_refusal.ensures ∙ c.if-is_refusal.false) c.in_ok-reply.ensures.model c.in_ok-reply.ensures.resting refl in
+    rw p.1 (run_stops c.args.seed c.args.rows c.args.cycles held held' c.args.producer.now c.film_cycle.new.producer (place + 1) versions (omega (arith, c.loop-place-test.true)) run)

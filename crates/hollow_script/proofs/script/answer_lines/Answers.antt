@@ -1,6 +1,10 @@
 use Rattle.std.proofs.Common.{IfSome, ◌∙◌, sym, subst, arith, rules}
 use Rattle.hollow_machine.specs.Kept.{IsResting}
-use Rattle.hollow_script.proofs.Answering.{handed_on, reader_starts, starts_answered, takes_none, takes_past, takes_then, told_next}
+use Rattle.hollow_script.proofs.Answering.{handed_on, reader_starts, starts_answered, stops_at_start, takes_none, takes_past, takes_then, told_both, told_next}
+use Rattle.std.proofs.lemmas.Result.{err_from_is_err_and}
+use Rattle.hollow_script.proofs.Halting.{stays_stopped}
+use Rattle.hollow_script.specs.Scripted.{HasStopped, IsAnswered}
+use Rattle.hollow_script.specs.declared.script_stop.ScriptStop.TheVariants as stop
 use Rattle.hollow_script.proofs.Replying.{end_replied, next_replied, none_replied}
 use Rattle.hollow_script.specs.declared.script_stop.ScriptStop.TheVariants.{TooLong}
 use Rattle.hollow_script.proofs.script.answer_lines.Goals as goal
@@ -51,3 +55,30 @@ pub returns-in_default-clause-replied : goal.returns-in_default-clause-replied
 returns-in_default-clause-replied g c =
     end_replied (g.O.Sink.taken c.args.out.now) (g.O.Sink.taken c.serve_next.new.out) c.serve_next.new.waiting.items c.loop-turn.refused c.in_ok-also.field-0 (search rules)
     (c.in_ok-also.ensures.replied (g.O.Sink.taken c.args.out.now) c.loop-turn.refused c.loop-turn.invariant.replied)
+
+-- ---- where it stops
+
+pub returns-in_err-lines-clause-stops : goal.returns-in_err-lines-clause-stops
+returns-in_err-lines-clause-stops g c =
+    let p = err_from_is_err_and c.from_residual.result c.from_residual.ensures.1 in
+    rw (p.1, p.2) (stops_at_start (g.I.Source.left c.args.input.now) (g.S.BlobStore.seen c.args.store.now).held (g.O.Sink.taken c.args.out.now) c.args.waiting.now.items c.requires.none_waits)
+
+pub returns-in_err-also-clause-stops : goal.returns-in_err-also-clause-stops
+returns-in_err-also-clause-stops g c =
+    let p = err_from_is_err_and c.from_residual-in_err-also.result c.from_residual-in_err-also.ensures.1 in
+    let before = g.O.Sink.taken c.args.out.now in
+    let held' = (g.S.BlobStore.seen c.serve_next.new.store).held in
+    rw (p.1, p.2) (told_both (g.I.Source.left c.args.input.now) (g.S.BlobStore.seen c.args.store.now).held
+    (λ bytes first. IsAnswered bytes first (g.I.Source.left c.loop-turn.input) (g.S.BlobStore.seen c.loop-turn.store).held c.loop-turn.lines c.loop-turn.keep before (g.O.Sink.taken c.loop-turn.out) c.loop-turn.waiting.items c.loop-turn.refused)
+    (λ bytes first. HasStopped bytes first held' before (g.O.Sink.taken c.serve_next.new.out) c.serve_next.new.waiting.items c.in_err-also.field-0.0) c.loop-turn.invariant.answered
+    (λ bytes first is. c.in_err-also.ensures.served bytes first before c.loop-turn.refused is))
+
+pub returns-clause-stops : goal.returns-clause-stops
+returns-clause-stops g c =
+    let before = g.O.Sink.taken c.args.out.now in
+    let held = (g.S.BlobStore.seen c.loop-turn.store).held in
+    let after = g.O.Sink.taken c.loop-turn.out in
+    told_both (g.I.Source.left c.args.input.now) (g.S.BlobStore.seen c.args.store.now).held
+    (λ bytes first. IsAnswered bytes first (g.I.Source.left c.loop-turn.input) held c.loop-turn.lines c.loop-turn.keep before after c.loop-turn.waiting.items c.loop-turn.refused)
+    (λ bytes first. HasStopped bytes first held before after c.loop-turn.waiting.items stop.Memory) c.loop-turn.invariant.answered
+    (λ bytes first is. stays_stopped bytes first (g.I.Source.left c.loop-turn.input) held c.loop-turn.lines c.loop-turn.keep before after c.loop-turn.waiting.items c.loop-turn.refused is)

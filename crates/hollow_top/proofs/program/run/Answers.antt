@@ -1,4 +1,9 @@
-use Rattle.std.proofs.Common.{map, string_bytes, rules}
+use Rattle.std.proofs.Common.{IfSome, map, string_bytes, rules}
+use Rattle.written_laws.specs.Chain.{Chain}
+use Rattle.written_laws.specs.HoldsChain.{HoldsChain}
+use Rattle.hollow_top.specs.Headline.{LeavesMadeChain}
+use Rattle.hollow_top.specs.Run.{StopsMade}
+use Rattle.hollow_top.proofs.Stopped.{made_numbers}
 use Rattle.hollow_top.proofs.Serving.{asks_script, cast_status, finishes, make_finishes, make_part, part_written, script_finishes}
 use Rattle.hollow_top.proofs.TrueScripts.{one_made}
 use Rattle.hollow_top.proofs.Verdicts.{status_tells}
@@ -17,7 +22,7 @@ returns-in-Ok-clause-answered g c = λ ended enough.
 pub returns-in-Err-Sink-clause-part : goal.returns-in-Err-Sink-clause-part
 returns-in-Err-Sink-clause-part g c = λ ended single.
     part_written (map string_bytes c.args.words.now) (g.I.Source.left c.args.input.now) (g.S.BlobStore.seen c.args.store.now).held (g.S.BlobStore.seen c.serve.new.store).held
-    c.in-Some.command (g.O.Sink.taken c.args.out.now) (g.O.Sink.taken c.serve.new.out) _ (search rules) c.in-Some.ensures.0 (c.in-Err-Sink.ensures.served (g.I.Source.left c.args.input.now))
+    c.in-Some.command (g.O.Sink.taken c.args.out.now) (g.O.Sink.taken c.serve.new.out) _ (search rules) c.in-Some.ensures.0 (search rules) c.serve.ensures.held (c.in-Err-Sink.ensures.served (g.I.Source.left c.args.input.now))
 
 pub returns-in-Run-clause-answered : goal.returns-in-Run-clause-answered
 returns-in-Run-clause-answered g c = λ ended tells.
@@ -33,10 +38,24 @@ returns-in-Make-clause-answered g c = λ ended enough.
 
 pub returns-in-Make-clause-part : goal.returns-in-Make-clause-part
 returns-in-Make-clause-part g c = λ failed single.
-    make_part (map string_bytes c.args.words.now) (g.I.Source.left c.args.input.now) (g.S.BlobStore.seen c.args.store.now).held c.in-Some.command c.in-Make.seed c.in-Make.rows c.in-Make.cycles
+    make_part (map string_bytes c.args.words.now) (g.I.Source.left c.args.input.now) (g.S.BlobStore.seen c.args.store.now).held (g.S.BlobStore.seen c.serve_make.new.store).held c.in-Some.command c.in-Make.seed c.in-Make.rows c.in-Make.cycles
     (g.O.Sink.taken c.args.out.now) (g.O.Sink.taken c.serve_make.new.out) c.in-Some.ensures.0 c.in-Make.is (c.serve_make.ensures.part failed)
 
 pub returns-in-Make-clause-made : goal.returns-in-Make-clause-made
 returns-in-Make-clause-made g c = λ ended seed rows cycles asked.
     one_made (map string_bytes c.args.words.now) c.in-Some.command c.in-Make.seed c.in-Make.rows c.in-Make.cycles seed rows cycles (g.S.BlobStore.seen c.args.store.now).held
     (g.S.BlobStore.seen c.serve_make.new.store).held c.serve_make.new.keep c.in-Some.ensures.1 c.in-Make.is asked (c.serve_make.ensures.chain ended)
+
+-- ---- where `make` stops
+
+pub returns-in-Make-clause-make_stopped : goal.returns-in-Make-clause-make_stopped
+returns-in-Make-clause-make_stopped g c = λ past seed rows cycles asked.
+    made_numbers (map string_bytes c.args.words.now) c.in-Some.command c.in-Make.seed c.in-Make.rows c.in-Make.cycles seed rows cycles
+    (λ s r n. IfSome (g.S.BlobStore.seen c.args.store.now).held (λ first. StopsMade s r n first (g.S.BlobStore.seen c.serve_make.new.store).held))
+    c.in-Some.ensures.1 c.in-Make.is asked (c.serve_make.ensures.stopped past)
+
+pub returns-in-Make-clause-made_chain : goal.returns-in-Make-clause-made_chain
+returns-in-Make-clause-made_chain g c = λ past seed rows cycles asked.
+    made_numbers (map string_bytes c.args.words.now) c.in-Some.command c.in-Make.seed c.in-Make.rows c.in-Make.cycles seed rows cycles
+    (λ s r n. IfSome (g.S.BlobStore.seen c.args.store.now).held (λ first. (chain : Chain) → HoldsChain first chain → LeavesMadeChain s r n first chain (g.S.BlobStore.seen c.serve_make.new.store).held))
+    c.in-Some.ensures.1 c.in-Make.is asked (c.serve_make.ensures.left_chain past)

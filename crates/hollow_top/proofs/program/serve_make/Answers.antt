@@ -1,4 +1,5 @@
 use Rattle.hollow_top.proofs.Serving.{cast_status, ends_make}
+use Rattle.hollow_top.proofs.Stopped.{leaves_made_chain}
 use Rattle.hollow_top.proofs.TrueScripts.{makes_chain}
 use Rattle.hollow_top.proofs.Verdicts.{status_tells}
 use Rattle.hollow_top.proofs.program.serve_make.Goals as goal
@@ -17,3 +18,18 @@ returns-in-Ok-clause-chain g c = λ ended.
     makes_chain c.chain_is_kept.ensures c.make_keeps_chain.ensures c.args.seed c.args.rows c.args.cycles (g.S.BlobStore.seen c.args.store.now).held
     (g.S.BlobStore.seen c.make_line.new.store).held c.make_line.new.keep (g.O.Sink.taken c.args.out.now) (g.O.Sink.taken c.make_line.new.out) c.from.result
     c.requires.seed c.requires.cycles c.in-Ok.ensures.consumer c.told_bytes.ensures (returns-in-Ok-clause-ends g c ended)
+
+pub returns-in-Err-Sink-clause-left_chain : goal.returns-in-Err-Sink-clause-left_chain
+returns-in-Err-Sink-clause-left_chain g c = λ past.
+    leaves_made_chain c.stopped_make_keeps_chain.ensures c.chain_is_kept.ensures c.args.seed c.args.rows c.args.cycles (g.S.BlobStore.seen c.args.store.now).held (g.S.BlobStore.seen c.make_line.new.store).held
+    c.requires.seed c.requires.cycles c.told_bytes.ensures c.in-Err-Sink.ensures.stopped
+
+pub returns-in-Err-Store-clause-left_chain : goal.returns-in-Err-Store-clause-left_chain
+returns-in-Err-Store-clause-left_chain g c = λ past.
+    leaves_made_chain c.stopped_make_keeps_chain.ensures c.chain_is_kept.ensures c.args.seed c.args.rows c.args.cycles (g.S.BlobStore.seen c.args.store.now).held (g.S.BlobStore.seen c.make_line.new.store).held
+    c.requires.seed c.requires.cycles c.told_bytes.ensures c.in-Err-Store.ensures.stopped
+
+pub returns-in-Err-Memory-clause-left_chain : goal.returns-in-Err-Memory-clause-left_chain
+returns-in-Err-Memory-clause-left_chain g c = λ past.
+    leaves_made_chain c.stopped_make_keeps_chain.ensures c.chain_is_kept.ensures c.args.seed c.args.rows c.args.cycles (g.S.BlobStore.seen c.args.store.now).held (g.S.BlobStore.seen c.make_line.new.store).held
+    c.requires.seed c.requires.cycles c.told_bytes.ensures c.in-Err-Memory.ensures.stopped

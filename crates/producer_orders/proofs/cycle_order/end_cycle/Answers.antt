@@ -4,10 +4,17 @@ use Rattle.schema_model.specs.declared.schema.Schema.{Schema}
 use Rattle.hollow_machine.specs.CycleOrder.{AreNamed, Publishes}
 use Rattle.state_blobs.specs.Published.{published_of}
 use Rattle.producer_orders.specs.Making.{EndsPublished}
+use Rattle.hol_orders.specs.declared.order_stop.OrderStop.TheVariants as stop
 use Rattle.state_blobs.proofs.Tags.{at_tag}
-use Rattle.producer_orders.proofs.Cycling.{changes, not_published, published, unpublished}
+use Rattle.producer_orders.proofs.Cycling.{changes, not_published, published, stops_unpublished, unpublished}
 use Rattle.producer_orders.proofs.cycle_order.end_cycle.Goals as goal
 use Rattle.producer_orders.proofs.cycle_order.end_cycle.Goals.{else-not-closed-via-then-not-closed+else-is_empty, else-not-closed-via-else-not-closed}
+
+pub returns-in_err-changed-clause-ends : goal.returns-in_err-changed-clause-ends
+returns-in_err-changed-clause-ends g c =
+    let p = err_from_is_err_and c.from_residual.result c.from_residual.ensures.1 in
+    let old = c.args.producer.now in
+    rw (p.1, p.2) (stops_unpublished (g.S.BlobStore.seen c.args.store.now).held (published_of old) (published_of old) old.current c.args.closed.now.changed c.args.version c.args.tag stop.Memory)
 
 pub returns-then-is_empty-clause-ends : goal.returns-then-is_empty-clause-ends
 returns-then-is_empty-clause-ends g c =

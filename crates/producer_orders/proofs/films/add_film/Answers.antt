@@ -17,5 +17,5 @@ pub returns-in-Err-TooMany-clause-tells : goal.returns-in-Err-TooMany-clause-tel
 returns-in-Err-TooMany-clause-tells c =
     let old = c.args.producer.now in (
       refl,
-      film_not_added c.args.script c.args.place old.schemas old.previous old.current (sym c.is_shown.ensures ∙ c.if-not-is_shown.false) c.requires.model c.in-Err-TooMany.ensures.tells,
+      film_not_added c.args.script c.args.place old.schemas old.previous old.current (sym c.is_shown.ensures ∙ c.if-not-is_shown.false) c.requires.model (rw c.in-Err-TooMany.field-0-is at c.in-Err-TooMany.ensures.tells),
     )

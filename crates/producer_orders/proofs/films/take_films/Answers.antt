@@ -13,7 +13,7 @@ loop-place-init c =
 pub returns-in_err-add_film-clause-tells : goal.returns-in_err-add_film-clause-tells
 returns-in_err-add_film-clause-tells c =
     let old = c.args.producer.now in
-    let p = err_from_is_err_and c.from_residual.result c.from_residual.ensures.1 in
+    let p = err_from_is_err_and c.from_residual-in_err-add_film.result c.from_residual-in_err-add_film.ensures.1 in
     rw (p.1, p.2)
     (films_stop c.args.script c.loop-place.place old c.loop-place.producer c.add_film.new.producer c.in_err-add_film.field-0.0 c.loop-place-test.true
     (holds_once old.previous old.current c.current-agreeing.ensures.agree) c.loop-place.invariant.0 c.in_err-add_film.ensures.tells)

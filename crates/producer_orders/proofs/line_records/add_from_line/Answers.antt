@@ -1,7 +1,6 @@
 use Rattle.std.proofs.Common.{◌∙◌, ◌≡◌, List, Option, Some, ap, subst}
 use Rattle.std.specs.Prelude.{slice_get}
 use Rattle.json.specs.Token.{Token}
-use Rattle.serde_json.specs.Find.{get}
 use Rattle.record_stream.specs.CycleLine.{TellsRecords, added_by}
 use Rattle.schema_model.specs.declared.schema.Schema.{Schema}
 use Rattle.hollow_machine.specs.Records.{values_under}

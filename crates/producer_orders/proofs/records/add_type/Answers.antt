@@ -1,4 +1,4 @@
-use Rattle.std.proofs.Common.{◌∙◌, List, ap, map, subst, sym}
+use Rattle.std.proofs.Common.{◌∙◌, List, ap, map, sym}
 use Rattle.std.specs.Prelude.{slice_get}
 use Rattle.serde_json.specs.View.{view}
 use Rattle.schema_model.specs.declared.schema.Schema.{Schema}

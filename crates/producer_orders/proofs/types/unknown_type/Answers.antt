@@ -1,7 +1,6 @@
-use Rattle.std.proofs.Common.{subst, ap, ◌∙◌, sym}
+use Rattle.std.proofs.Common.{ap, ◌∙◌}
 use Rattle.serde_json.specs.View.{view}
 use Rattle.hol_orders.specs.Parts.{added}
-use Rattle.hol_orders.specs.Shapes.{AreRecords}
 use Rattle.producer_orders.proofs.KnownTypes.{are_bare, unknown_named}
 use Rattle.producer_orders.proofs.types.unknown_type.Goals as goal
 
