@@ -44,7 +44,8 @@ fn again_told(alloc: Global) -> Result<String, AllocError> {
 /// The same with the first of the two words, and two zeros behind it.
 fn copied_told(alloc: Global) -> Result<String, AllocError> {
     let mut twin = stepped(alloc)?;
-    twin.copy_next(1, 3)?;
+    let kept = twin.current().len().min(1);
+    twin.copy_next(kept, 3)?;
     both(alloc, &twin)
 }
 
