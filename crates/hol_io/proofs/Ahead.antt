@@ -4,7 +4,7 @@ use Rattle.std.proofs.lemmas.List.{take_at, drop_at, append-nil, take-append-dro
 use Rattle.std.proofs.lemmas.List.Elements.{All-append, All-nil}
 use Rattle.std.proofs.lemmas.Bool.{cases_lt}
 use Rattle.std.proofs.Math.Seq.{take-add}
-use Rattle.hol_io.specs.Lines.{lines_within, finished, IsOnePiece, IsFront, Reading, IsAhead, Gives, Moves}
+use Rattle.hol_io.specs.Lines.{lines_within, finished, AreWhole, IsOnePiece, IsFront, Reading, IsAhead, Gives, Moves}
 use Rattle.hol_io.proofs.Cutting.{lines_of, cut_first, cut_one, finished_first, finished_none, within_all, within_some}
 
 -- Nothing was given.
@@ -31,9 +31,25 @@ long_front false most front more none (inl is) = absurd cc
 long_front false most front more none (inr long) = omega (arith, length-append front more)
 long_front true most front more long why = omega (arith, length-append front more)
 
+-- Whole lines, one after another.
+pub whole_then : (ls ms : List (List ℕ)) (bytes bytes' bytes'' : List ℕ) → AreWhole ls bytes bytes' → AreWhole ms bytes' bytes'' → AreWhole (ls ++ ms) bytes bytes''
+whole_then ls ms bytes bytes' bytes'' (one, split, first) (two, then_split, second) = (
+  one ++ two,
+  split ∙ ap (λ t. one ++ t) then_split ∙ sym (append_assoc one two bytes''),
+  λ rest. ap finished (append_assoc one two rest) ∙ first (two ++ rest) ∙ ap (λ t. ls ++ t) (second rest) ∙ sym (append_assoc ls ms (finished rest)),
+)
+
+-- A piece that ends at a byte 0A is whole.
+pub whole_piece : (piece rest : List ℕ) → IsOnePiece piece → AreWhole (lines_of piece) (piece ++ 10 ∷ rest) rest
+whole_piece piece rest one = (
+  piece ++ 10 ∷ [],
+  sym (append_assoc piece (10 ∷ []) rest),
+  λ more. ap finished (append_assoc piece (10 ∷ []) more) ∙ finished_first piece more one,
+)
+
 -- Reading puts bytes behind those that were taken, up to the budget.
-pub reads_ahead : (r r' : Reading) (left left' took bytes : List ℕ) (room : ℕ) → r.taken ≤ r.budget → r'.long ≡ r.long → r'.line_max ≡ r.line_max → r'.budget ≡ r.budget → r'.taken ≡ r.taken + length took → r'.pending ≡ r.pending ++ take (r.budget - r.taken) took → left ≡ took ++ left' → IsAhead r left bytes room → IsAhead r' left' bytes room
-reads_ahead r r' left left' took bytes room below long most budget taken pending is ahead =
+pub reads_ahead : (r r' : Reading) (left left' took bytes : List ℕ) (room : ℕ) → r.taken ≤ r.budget → r'.long ≡ r.long → r'.line_max ≡ r.line_max → r'.budget ≡ r.budget → r'.taken ≡ r.taken + length took → r'.pending ≡ r.pending ++ take (r.budget - r.taken) took → r'.ended ≡ r.ended → left ≡ took ++ left' → IsAhead r left bytes room → IsAhead r' left' bytes room
+reads_ahead r r' left left' took bytes room below long most budget taken pending ended is ahead =
     let n = r.budget - r.taken in
     let none : ahead.past ≡ [] = nil_from_length ahead.past (omega (arith, ahead.past_count)) in record {
       front = ahead.front;
@@ -44,6 +60,7 @@ reads_ahead r r' left left' took bytes room below long most budget taken pending
       long = rw (long, most) ahead.long;
       past_count = omega (arith, length-drop n took);
       within = omega (arith, ahead.within, ap length pending, length-append r.pending (take n took), length-take n took);
+      none = λ e. ahead.none (sym ended ∙ e);
     }
 
 -- A list that is taken through.
@@ -89,11 +106,11 @@ gives_last piece room one = record {
 
 -- Nothing moved.
 pub moves_not : (r : Reading) (left bytes : List ℕ) (room : ℕ) → IsAhead r left bytes room → Moves [] bytes room r left
-moves_not r left bytes room ahead = record { bytes' = bytes; room' = room; gives = gives_nothing bytes room; ahead = ahead }
+moves_not r left bytes room ahead = record { bytes' = bytes; room' = room; gives = gives_nothing bytes room; ahead = ahead; whole = λ still. ([], refl, (λ rest. refl)) }
 
 -- A front of a line that is too long is passed over.
-pub passes_ahead : (r r' : Reading) → IsOnePiece r.pending → (r.long ≡ true) ⊎ (r.line_max < length r.pending) → r'.long ≡ true → r'.pending ≡ [] → r'.taken ≡ r.taken → r'.line_max ≡ r.line_max → r'.budget ≡ r.budget → (left bytes : List ℕ) (room : ℕ) → IsAhead r left bytes room → IsAhead r' left bytes room
-passes_ahead r r' one why long pending taken most budget left bytes room ahead = record {
+pub passes_ahead : (r r' : Reading) → IsOnePiece r.pending → (r.long ≡ true) ⊎ (r.line_max < length r.pending) → r'.long ≡ true → r'.pending ≡ [] → r'.taken ≡ r.taken → r'.line_max ≡ r.line_max → r'.budget ≡ r.budget → r'.ended ≡ r.ended → (left bytes : List ℕ) (room : ℕ) → IsAhead r left bytes room → IsAhead r' left bytes room
+passes_ahead r r' one why long pending taken most budget ended left bytes room ahead = record {
   front = ahead.front ++ r.pending;
   past = ahead.past;
   all = ahead.all ∙ sym (append_assoc ahead.front r.pending (ahead.past ++ left)) ∙ ap (λ t. (ahead.front ++ r.pending) ++ (t ++ (ahead.past ++ left))) (sym pending);
@@ -101,6 +118,7 @@ passes_ahead r r' one why long pending taken most budget left bytes room ahead =
   long = rw (long, most) (long_front r.long r.line_max ahead.front r.pending ahead.long why);
   past_count = omega (arith, ahead.past_count);
   within = omega (arith, ahead.within, ap length pending, length-append ahead.front r.pending);
+  none = λ e. ahead.none (sym ended ∙ e);
 }
 
 -- With a byte past the budget and no byte 0A among those before it, no line is left.

@@ -1,7 +1,7 @@
 -- What one call of the reader of lines tells.
 use Rattle.std.specs.Prelude.{◌≡◌, ℕ, ◌+◌, ◌-◌, ◌<◌, ◌≤◌, ◌⊎◌, true, false, List, [], ◌∷◌, length, take, slice_index, IsSome, Option, None, Some, Result, Ok, Err}
 use Rattle.std.specs.Io.KnownBytes.{IsAtEnd}
-use Rattle.hol_io.specs.Lines.{Reading, IsAhead, Moves, lines_within, IsOnePiece}
+use Rattle.hol_io.specs.Lines.{Reading, IsAhead, Moves, StaysEnded, lines_within, IsOnePiece}
 use Rattle.hol_io.specs.declared.lines.Piece.{Piece}
 use Rattle.hol_io.specs.declared.lines.Piece.TheVariants.{Ended, Last, PastBudget}
 use Rattle.hol_io.specs.declared.lines.LineFault.{LineFault}
@@ -23,7 +23,8 @@ abbrev pub Tells : Reading → Option (List ℕ) → Reading → Option (List �
 Tells reading None reading' left' result = Unit {0}
 Tells reading (Some left) reading' None result = ⊥
 Tells reading (Some left) reading' (Some left') result =
-    (bytes : List ℕ) (room : ℕ) → IsAhead reading left bytes room → (lines : List (List ℕ)) × Moves lines bytes room reading' left' × IsTurn reading' bytes room lines result
+    StaysEnded reading reading'
+    × ((bytes : List ℕ) (room : ℕ) → IsAhead reading left bytes room → (lines : List (List ℕ)) × Moves lines bytes room reading' left' × IsTurn reading' bytes room lines result)
 
 -- Whether the piece whose bytes behind the front are these is no line, a line that is lent, or one that is too long.
 abbrev pub IsPieceTurn : Reading → Reading → List ℕ → Option declared.Turn → Type 0
@@ -63,3 +64,7 @@ EndsInput reading' left (Ok Over) = reading'.budget < reading'.taken
 EndsInput reading' left (Ok Line) = Unit {0}
 EndsInput reading' left (Ok Long) = Unit {0}
 EndsInput reading' left (Err fault) = Unit {0}
+
+-- Where the source has given its end, it has nothing left, and no byte past the budget was taken.
+abbrev pub IsEnded : Reading → Option (List ℕ) → Type 0
+IsEnded reading left = reading.ended ≡ true → IsAtEnd left × (reading.taken ≤ reading.budget)

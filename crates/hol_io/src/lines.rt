@@ -1,8 +1,8 @@
 //! The lines of an input, one after another.
 ghost use Rattle.std.specs.Prelude.{◌≡◌, ◌≢◌, ℕ, ◌+◌, ◌<◌, ◌≤◌, List, Option, Ok, false, Some, None, length, take, drop, slice_index, IfOk, IfSome, OnErr, IsSome, MatchOption};
 ghost use Rattle.std.specs.Io.KnownBytes.{IsAtEnd};
-ghost use Rattle.hol_io.specs.Lines.{starts, IsOnePiece, IsAhead, Carries, Takes};
-ghost use Rattle.hol_io.specs.Turn.{Tells, IsPieceTurn, IsPiece, LendsLine, EndsInput, HasLimits, bytes_to_go};
+ghost use Rattle.hol_io.specs.Lines.{starts, IsOnePiece, IsAhead, IsOpen, Carries, Takes};
+ghost use Rattle.hol_io.specs.Turn.{Tells, IsEnded, IsPieceTurn, IsPiece, LendsLine, EndsInput, HasLimits, bytes_to_go};
 ghost use Rattle.hol_io.specs.Window.{HasReadCause};
 
 use crate::source::{ReadFailed, Source};
@@ -78,6 +78,8 @@ pub struct Lines {
     taken: u64,
     // Whether one more was taken.
     over: bool,
+    // Whether the source gave its end. Nothing is read behind it.
+    ended: bool,
 }
 
 impl Model for Lines {
@@ -93,6 +95,7 @@ impl Model for Lines {
       taken = l.taken + (if l.over then 1 else 0);
       line_max = l.line_max;
       budget = l.budget;
+      ended = l.ended;
     } };
 
     ghost invariant = { λ l. (l.taken ≤ l.budget) × (l.over ≡ true → l.taken ≡ l.budget) };
@@ -114,6 +117,7 @@ impl Lines {
             budget,
             taken: 0,
             over: false,
+            ended: false,
         })
     }
 
@@ -133,6 +137,7 @@ impl Lines {
         ensures long { self.new.long ≡ false }
         ensures taken { self.new.taken ≡ self.old.taken }
         ensures limits { HasLimits self.old self.new }
+        ensures ended { self.new.ended ≡ self.old.ended }
     {
         let turn = if self.long || count > self.line_max {
             Some(Turn::Long)
@@ -157,6 +162,7 @@ impl Lines {
         ensures line { self.new.line ≡ self.old.line }
         ensures taken { self.new.taken ≡ self.old.taken }
         ensures limits { HasLimits self.old self.new }
+        ensures ended { self.new.ended ≡ self.old.ended }
     {
         let count = self.window.pending().len();
         if self.long || count > self.line_max {
@@ -179,6 +185,7 @@ impl Lines {
         ensures front { take (length self.old.pending) self.new.pending ≡ self.old.pending }
         ensures line { self.new.line ≡ None }
         ensures limits { HasLimits self.old self.new }
+        ensures stays { self.new.ended ≡ self.old.ended }
     {
         self.lends = false;
         let allowed = self.budget - self.taken;
@@ -205,6 +212,8 @@ impl Lines {
         ensures line { self.old.line ≡ None → self.new.line ≡ None }
         ensures limits { HasLimits self.old self.new }
         ensures bound { self.new.taken ≤ self.new.budget + 1 }
+        ensures stays { self.new.ended ≡ self.old.ended }
+        ensures fails { OnErr result (IsOnePiece self.new.pending × (self.new.taken ≤ self.new.budget)) }
     {
         let mut searched = 0;
         loop {
@@ -222,10 +231,11 @@ impl Lines {
         }
     }
 
-    // The same, where no line is lent.
+    // The same, where no line is lent, and the source has not given its end.
     #[tactic(auto, using(crate::proofs::Told::ends))]
     fn next_turn<I: Source>(&mut self, input: &mut I) -> Result<Turn, LineFault>
-        requires { self.old.line ≡ None }
+        requires line { self.old.line ≡ None }
+        requires not_ended { self.old.ended ≡ false }
         ensures cause { HasReadCause (I.faults input.old) (I.faults input.new) result }
         ensures tells { Tells self.old (I.left input.old) self.new (I.left input.new) result }
         ensures takes { Takes (I.left input.old) (I.left input.new) self.old.taken self.new.taken }
@@ -233,6 +243,8 @@ impl Lines {
         ensures ended { EndsInput self.new (I.left input.new) result }
         ensures limits { HasLimits self.old self.new }
         ensures bound { self.new.taken ≤ self.new.budget + 1 }
+        ensures at_end { IsEnded self.new (I.left input.new) }
+        ensures fails { OnErr result (IsOpen self.new) }
     {
         loop {
             match self.next_piece(input)? {
@@ -243,7 +255,9 @@ impl Lines {
                 }
                 Piece::Last => {
                     let count = self.window.pending().len();
-                    return Ok(self.end_piece(count, 0).unwrap_or(Turn::End));
+                    let turn = self.end_piece(count, 0).unwrap_or(Turn::End);
+                    self.ended = true;
+                    return Ok(turn);
                 }
                 Piece::PastBudget => return Ok(Turn::Over),
             }
@@ -260,6 +274,7 @@ impl Lines {
         ensures ended { (left : Option (List ℕ)) → IfSome result (λ turn. EndsInput self.new left (Ok turn)) }
         ensures taken { self.new.taken ≡ self.old.taken }
         ensures limits { HasLimits self.old self.new }
+        ensures stays { self.new.ended ≡ self.old.ended }
     {
         self.lends = false;
         self.held_turn()
@@ -275,6 +290,7 @@ impl Lines {
         ensures ended { (left : Option (List ℕ)) → IfSome result (λ turn. EndsInput self.new left (Ok turn)) }
         ensures taken { self.new.taken ≡ self.old.taken }
         ensures limits { HasLimits self.old self.new }
+        ensures stays { self.new.ended ≡ self.old.ended }
     {
         while let Some(count) = self.next_end() {
             if let Some(turn) = self.end_piece(count, 1) {
@@ -303,17 +319,23 @@ impl Lines {
     /// budget was taken and no line that ends before it is left.
     ///
     /// `Read` comes only where the source's count of faults rose. After a fault the lines that were not
-    /// given are still ahead, and a later call goes on with them.
+    /// given are still ahead, and a later call goes on with them: none of them ends in the bytes that were taken. Behind
+    /// its end the source is not read again.
     pub fn next<I: Source>(&mut self, input: &mut I) -> Result<Turn, LineFault>
+        requires { IsEnded self.old (I.left input.old) }
         ensures cause { HasReadCause (I.faults input.old) (I.faults input.new) result }
         ensures tells { Tells self.old (I.left input.old) self.new (I.left input.new) result }
         ensures takes { Takes (I.left input.old) (I.left input.new) self.old.taken self.new.taken }
         ensures line { LendsLine self.new result }
         ensures ended { EndsInput self.new (I.left input.new) result }
         ensures limits { HasLimits self.old self.new }
-        ensures bound { self.new.taken ≤ self.new.budget + 1 }
+        ensures at_end { IsEnded self.new (I.left input.new) }
+        ensures fails { OnErr result (IsOpen self.new) }
     {
         self.lends = false;
+        if self.ended {
+            return Ok(Turn::End);
+        }
         self.next_turn(input)
     }
 }

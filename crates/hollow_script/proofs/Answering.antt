@@ -5,6 +5,7 @@ use Rattle.std.specs.Io.KnownBytes.{Appends}
 use Rattle.std.proofs.KnownBytes.{Appends-nil, Appends-trans, Consumes-nil, Consumes-trans}
 use Rattle.hol_io.specs.Lines.{IsAhead, Reading, Takes, cut, starts}
 use Rattle.hol_io.specs.Store.{Store}
+use Rattle.hol_io.specs.Turn.{IsEnded}
 use Rattle.hol_answers.specs.declared.reply.Reply.{Reply}
 use Rattle.hol_answers.specs.Reply.{is_refusal, line_of}
 use Rattle.hollow_machine.specs.Kept.{machine_of}
@@ -33,8 +34,14 @@ pub takes_past : (a b : Option (List ℕ)) (n budget : ℕ) → Takes a b 0 n �
 takes_past a b n budget takes is over = (takes.took, takes.consumes, omega (arith, takes.counted, is, over))
 
 -- the reader of lines at its start
-pub reader_starts : (reading : Reading) (most budget : ℕ) → reading ≡ starts most budget → (reading.line_max ≡ most) × (reading.taken ≡ 0) × (reading.budget ≡ budget)
-reader_starts reading most budget is = (ap (λ (r : Reading). r.line_max) is, ap (λ (r : Reading). r.taken) is, ap (λ (r : Reading). r.budget) is)
+pub reader_starts : (reading : Reading) (most budget : ℕ) → reading ≡ starts most budget →
+    (reading.line_max ≡ most) × (reading.taken ≡ 0) × (reading.budget ≡ budget) × ((left : Option (List ℕ)) → IsEnded reading left)
+reader_starts reading most budget is = (
+  ap (λ (r : Reading). r.line_max) is,
+  ap (λ (r : Reading). r.taken) is,
+  ap (λ (r : Reading). r.budget) is,
+  λ left e. absurd (let both : true ≡ false = sym e ∙ ap (λ (r : Reading). r.ended) is in cc),
+)
 
 -- the stop of a call that a caller hands on
 pub handed_on : {T U : Type 0} (r : Result T ScriptStop) (stop other : ScriptStop) → IsErrAnd r (λ e. e ≡ stop) → r ≡ Err other → IsErrOf {T = U} {E = ScriptStop} (Err stop) other
@@ -221,7 +228,7 @@ starts_answered (Some bytes) (Some first) reading kept before waiting none nothi
 
 -- a run that stops before its first line
 pub stops_at_start : (left : Option (List ℕ)) (held : Option Store) (before : Option (List ℕ)) (waiting : List ℕ) → waiting ≡ [] →
-    IfSome left (λ bytes. IfSome held (λ first. HasStopped bytes first held before before waiting stop.Memory))
+    IfSome left (λ bytes. IfSome held (λ first. HasStopped bytes first left held before before waiting stop.Memory))
 stops_at_start None held before waiting nothing = tt
 stops_at_start (Some bytes) None before waiting nothing = tt
 stops_at_start (Some bytes) (Some first) before waiting nothing = ([], cut bytes, false, started first, first, refl, none_has first before waiting (started first) refl nothing, refl, inl refl)

@@ -1,5 +1,6 @@
 -- What a line asks for, and that what waits is written before.
 use Rattle.std.proofs.Common.{◌≡◌, ◌<◌, ◌≤◌, ◌⊎◌, inl, inr, List, [], ◌∷◌, ◌++◌, ℕ, length, Bool, true, false, Option, Some, None, Ok, Err, refl, sym, ap, ◌∙◌, subst, append_assoc}
+use Rattle.std.specs.Prelude.{IsErrOf}
 use Rattle.hol_io.specs.Lines.{Reading, cut}
 use Rattle.hol_io.specs.Store.{Store}
 use Rattle.hol_io.specs.declared.lines.Turn as declared
@@ -21,7 +22,7 @@ use Rattle.hollow_machine.specs.Left.{HasPart, LeavesOrder}
 use Rattle.hollow_machine.specs.Stopped.{LeavesAhead}
 use Rattle.hollow_script.specs.Asked.{AskedPuts, AskedStep, Asks, LeavesAsked}
 use Rattle.hollow_script.specs.Kept.{HaltsKept, MovesKept, machine_with}
-use Rattle.hollow_script.specs.Scripted.{AnswersNext, AsksNext, HasGiven, TurnsNext, widened}
+use Rattle.hollow_script.specs.Scripted.{AnswersNext, AreTaken, AsksNext, HasGiven, TurnsNext, widened}
 use Rattle.hollow_script.proofs.Lining.{given_front}
 use Rattle.hollow_script.specs.declared.asked.Asked.{Asked}
 use Rattle.hollow_script.specs.declared.asked.Asked.TheVariants as asked
@@ -71,13 +72,14 @@ module _ (bytes : List ℕ) (given : List (List ℕ)) (left : Option (List ℕ))
   pub over_asks : (turn : declared.Turn) → turn ≡ Over → TurnsNext bytes given left reading turn → AsksNext bytes given left reading (Err stop.TooLong)
   over_asks turn is turns = subst (λ t. TurnsNext bytes given left reading t) is turns
 
-  -- where the reader stops, or memory is refused, nothing is known of the next line
-  pub none_asks : (why : ScriptStop) → (why ≡ stop.Memory) ⊎ ((why ≡ stop.Source) ⊎ (why ≡ stop.Sink)) → AsksNext bytes given left reading (Err why)
-  none_asks stop.Memory others = tt
-  none_asks stop.Source others = tt
-  none_asks stop.Sink others = tt
-  none_asks stop.Store others = tt
-  none_asks stop.TooLong others = absurd (neither others (λ e. cc) (λ e. cc) (λ e. cc))
+  -- where the reader stops, or memory is refused, nothing is known of the next line, but that none ends in what was taken where the source failed
+  pub none_asks : (why : ScriptStop) → (why ≡ stop.Memory) ⊎ ((why ≡ stop.Source) ⊎ (why ≡ stop.Sink)) →
+      (IsErrOf {T = declared.Turn} {E = ScriptStop} (Err why) stop.Source → AreTaken bytes left given) → AsksNext bytes given left reading (Err why)
+  none_asks stop.Memory others taken = tt
+  none_asks stop.Source others taken = taken refl
+  none_asks stop.Sink others taken = tt
+  none_asks stop.Store others taken = tt
+  none_asks stop.TooLong others taken = absurd (neither others (λ e. cc) (λ e. cc) (λ e. cc))
 
   pub order_none_asks : (why : OrderStop) → AsksNext bytes given left reading (Err (widened why))
   order_none_asks order_stop.Memory = tt
@@ -119,7 +121,7 @@ module _ (bytes : List ℕ) (given : List (List ℕ)) (left : Option (List ℕ))
   -- why the next line is not known is why it is not answered
   pub asks_stop : (left' : Option (List ℕ)) (reading' : Reading) (held : Option Store) (keep : Keep) (now : Store) (why : ScriptStop) → HasGiven bytes left reading given → held ≡ Some now → (why ≡ stop.Store → ⊥) →
       AsksNext bytes given left' reading' (Err why) → AnswersNext bytes given now left' reading' keep held keep (Err why)
-  asks_stop left' reading' held keep now stop.Source has told other asks = told
+  asks_stop left' reading' held keep now stop.Source has told other asks = (asks, told)
   asks_stop left' reading' held keep now stop.Sink has told other asks = told
   asks_stop left' reading' held keep now stop.TooLong has told other asks = (asks, told)
   asks_stop left' reading' held keep now stop.Store has told other asks = absurd (other refl)

@@ -23,7 +23,7 @@ use Rattle.hollow_script.specs.declared.keep.Keep.{Keep}
 use Rattle.hollow_script.specs.declared.script_stop.ScriptStop.{ScriptStop}
 use Rattle.hollow_script.specs.declared.script_stop.ScriptStop.TheVariants as stop
 use Rattle.hollow_script.proofs.Answering.{answered_on, more_answered, some_store, unwritten, whole_script}
-use Rattle.hollow_script.proofs.Lining.{finished_within, given_front}
+use Rattle.hollow_script.proofs.Lining.{finished_within, given_front, taken_front}
 
 -- ---- before the next line is answered
 
@@ -34,17 +34,17 @@ module _ (bytes : List ℕ) (first : Store) (left left' : Option (List ℕ)) (he
 
   -- the store has the first puts of the next line, and then no answer waits
   stops_ahead : (ahead : List (List ℕ)) (next : Store) → cut bytes ≡ is.lines ++ ahead → held' ≡ Some next → LeavesAhead (machine_with is.store kept) ahead next → (held' ≡ held) ⊎ (waiting' ≡ []) →
-      HasAnswered first is.lines before after waiting' refused (machine_with is.store kept) → HasStopped bytes first held' before after waiting' stop.Memory
+      HasAnswered first is.lines before after waiting' refused (machine_with is.store kept) → HasStopped bytes first left' held' before after waiting' stop.Memory
   stops_ahead ahead next cut_is told leaves (inl same) has =
       (is.lines, ahead, refused, machine_with is.store kept, next, cut_is, has, told, inl (some_store next is.store (sym told ∙ same ∙ is.told)))
   stops_ahead ahead next cut_is told leaves (inr none) has = (is.lines, ahead, refused, machine_with is.store kept, next, cut_is, has, told, inr (none, leaves))
 
   pub reply_stops : (why : ScriptStop) → Answers (Err why) → (held' ≡ held) ⊎ (waiting' ≡ []) → StopsWaiting mid after waiting waiting' why →
-      HasStopped bytes first held' before after waiting' why
+      HasStopped bytes first left' held' before after waiting' why
   reply_stops stop.Source answers quiet puts =
-      let front = given_front bytes left r is.lines is.given in
+      let (taken, told) = answers is.lines is.store is.given is.told in
       let has = answered_on first is.lines before mid after waiting waiting' refused (machine_with is.store kept) is.answered puts in
-      (is.lines, front.0, front.1, (refused, machine_with is.store kept, has, answers is.lines is.store is.given is.told))
+      (taken.0, taken.1, subst (λ (ls : List (List ℕ)). StandsBehind first ls held' before after waiting') taken.2 (refused, machine_with is.store kept, has, told))
   reply_stops stop.Sink answers quiet (same, fails) =
       let front = given_front bytes left r is.lines is.given in
       let has = subst (λ (w : List ℕ). HasAnswered first is.lines before mid w refused (machine_with is.store kept)) (sym same) is.answered in
@@ -68,7 +68,7 @@ module _ (bytes : List ℕ) (first : Store) (left left' : Option (List ℕ)) (he
   all_ahead machine line lines next (inr (puts, are, put, all)) = inr (puts, are, put)
 
   pub put_stops : (why : ScriptStop) (reply : Reply) (found : Option Reply) → found ≡ Some reply → Answers (Ok found) → (held' ≡ held) ⊎ (waiting ≡ []) →
-      StopsReply (line_of reply) mid after waiting waiting' why → HasStopped bytes first held' before after waiting' why
+      StopsReply (line_of reply) mid after waiting waiting' why → HasStopped bytes first left' held' before after waiting' why
   put_stops stop.Source reply found some answers quiet puts = absurd puts
   put_stops stop.TooLong reply found some answers quiet puts = absurd puts
   put_stops stop.Store reply found some answers quiet puts = absurd puts
@@ -95,7 +95,7 @@ module _ (bytes : List ℕ) (first : Store) (left left' : Option (List ℕ)) (he
 
 -- a run that stops between two lines
 pub stays_stopped : (bytes : List ℕ) (first : Store) (left : Option (List ℕ)) (held : Option Store) (r : Reading) (kept : Keep) (before after : Option (List ℕ)) (waiting : List ℕ) (refused : Bool) → IsAnswered bytes first left held r kept before after waiting refused →
-    HasStopped bytes first held before after waiting stop.Memory
+    HasStopped bytes first left held before after waiting stop.Memory
 stays_stopped bytes first left held r kept before after waiting refused is =
     let front = given_front bytes left r is.lines is.given in (is.lines, front.0, refused, machine_with is.store kept, is.store, front.1, is.answered, is.told, inl refl)
 
@@ -176,9 +176,9 @@ waits_within machine last (line ∷ lines) waiting refused count (reply, between
           })
     ]
 
-module _ (bytes : List ℕ) (first : Store) (held : Option Store) (before mid after : Option (List ℕ)) (waiting : List ℕ) where
+module _ (bytes : List ℕ) (first : Store) (left : Option (List ℕ)) (held : Option Store) (before mid after : Option (List ℕ)) (waiting : List ℕ) where
   -- the sink failed within the answers that wait
-  fails_within : (lines ahead : List (List ℕ)) → cut bytes ≡ lines ++ ahead → StandsBehind first lines held before mid waiting → FailsWithin waiting mid after → LeavesStopped bytes first held before after stop.Sink
+  fails_within : (lines ahead : List (List ℕ)) → cut bytes ≡ lines ++ ahead → StandsBehind first lines held before mid waiting → FailsWithin waiting mid after → LeavesStopped bytes first left held before after stop.Sink
   fails_within lines ahead cut_is (refused, machine, is, told) (count, inside, gained) =
       let within = waits_within is.middle machine is.pending waiting is.also count is.waits inside in
       let text = is.gone ++ take count waiting in
@@ -203,7 +203,7 @@ module _ (bytes : List ℕ) (first : Store) (held : Option Store) (before mid af
       (text, machine.store, so, told, Appends-trans before mid after is.gone (take count waiting) is.gained gained)
 
   -- the sink fails behind all lines
-  pub all_failed : (kept : Keep) (refused : Bool) → AllAnswered bytes first held kept before mid waiting refused → FailsWithin waiting mid after → LeavesStopped bytes first held before after stop.Sink
+  pub all_failed : (kept : Keep) (refused : Bool) → AllAnswered bytes first held kept before mid waiting refused → FailsWithin waiting mid after → LeavesStopped bytes first left held before after stop.Sink
   all_failed kept refused is fails =
       fails_within (cut bytes) [] (sym (append-nil (cut bytes))) (refused, machine_with is.store kept, is.answered, is.told) fails
 
@@ -211,9 +211,11 @@ module _ (bytes : List ℕ) (first : Store) (held : Option Store) (before mid af
   none_fails none (count, inside, gained) = omega (arith, inside, ap length none)
 
   -- the sink fails behind another stop
-  pub fails_behind : (why : ScriptStop) → (why ≡ stop.Sink → ⊥) → HasStopped bytes first held before mid waiting why → FailsWithin waiting mid after → LeavesStopped bytes first held before after stop.Sink
+  pub fails_behind : (why : ScriptStop) → (why ≡ stop.Sink → ⊥) → HasStopped bytes first left held before mid waiting why → FailsWithin waiting mid after → LeavesStopped bytes first left held before after stop.Sink
   fails_behind stop.Sink other is fails = absurd (other refl)
-  fails_behind stop.Source other (lines, ahead, cut_is, stands) fails = fails_within lines ahead cut_is stands fails
+  fails_behind stop.Source other (took, consumes, stands) fails =
+      let front = taken_front bytes left took consumes in
+      fails_within (finished took) front.0 front.1 stands fails
   fails_behind stop.TooLong other stands fails =
       let front = finished_within longest_input bytes in
       fails_within (finished (take longest_input bytes)) front.0 front.1 stands fails
@@ -264,10 +266,10 @@ module _ (bytes : List ℕ) (first : Store) (held : Option Store) (before mid af
   left_ahead machine ahead store (inr (none, leaves)) = leaves
 
   -- what waits is written behind a stop
-  pub written_behind : (why : ScriptStop) → (why ≡ stop.Sink → ⊥) → HasStopped bytes first held before mid waiting why → Appends mid after waiting → LeavesStopped bytes first held before after why
+  pub written_behind : (why : ScriptStop) → (why ≡ stop.Sink → ⊥) → HasStopped bytes first left held before mid waiting why → Appends mid after waiting → LeavesStopped bytes first left held before after why
   written_behind stop.Sink other is gained = absurd (other refl)
-  written_behind stop.Source other (lines, ahead, cut_is, stands) gained =
-      let (text, store, so, told, all) = behind lines stands gained in (text, store, (lines, ahead, cut_is, so), told, all)
+  written_behind stop.Source other (took, consumes, stands) gained =
+      let (text, store, so, told, all) = behind (finished took) stands gained in (text, store, (took, consumes, so), told, all)
   written_behind stop.TooLong other stands gained = behind (finished (take longest_input bytes)) stands gained
   written_behind stop.Store other (lines, ahead, refused, machine, store, cut_is, is, told, leaves) gained =
       between lines ahead refused machine store cut_is is told (left_ahead machine ahead store leaves) gained
@@ -275,6 +277,6 @@ module _ (bytes : List ℕ) (first : Store) (held : Option Store) (before mid af
       between lines ahead refused machine store cut_is is told (left_ahead machine ahead store leaves) gained
 
 -- The sink failed before.
-pub failed_before : (bytes : List ℕ) (first : Store) (held : Option Store) (before after : Option (List ℕ)) (waiting : List ℕ) → HasStopped bytes first held before after waiting stop.Sink →
-    LeavesStopped bytes first held before after stop.Sink
-failed_before bytes first held before after waiting (mid, (lines, ahead, cut_is, stands), fails) = fails_within bytes first held before mid after waiting lines ahead cut_is stands fails
+pub failed_before : (bytes : List ℕ) (first : Store) (left : Option (List ℕ)) (held : Option Store) (before after : Option (List ℕ)) (waiting : List ℕ) → HasStopped bytes first left held before after waiting stop.Sink →
+    LeavesStopped bytes first left held before after stop.Sink
+failed_before bytes first left held before after waiting (mid, (lines, ahead, cut_is, stands), fails) = fails_within bytes first left held before mid after waiting lines ahead cut_is stands fails

@@ -1,28 +1,23 @@
--- What a turn of the reader of lines gives of an input, and what its end says.
-use Rattle.std.proofs.Common.{append_assoc, ◌≡◌, ◌<◌, ◌≤◌, ◌==◌, ◌-◌, inl, inr, ℕ, suc, Bool, true, false, List, [], ◌∷◌, ◌++◌, length, take, drop, filter, if◌then◌else◌, Option, Some, None, Result, Ok, refl, sym, ap, ◌∙◌, subst, arith, append-nil, length-append}
+-- What a turn of the reader of lines gives of an input, and what its end and its failure say.
+use Rattle.std.proofs.Common.{append_assoc, ◌≡◌, ◌≢◌, ◌<◌, ◌≤◌, ◌==◌, ◌-◌, inl, inr, ℕ, suc, Bool, true, false, List, [], ◌∷◌, ◌++◌, length, take, drop, filter, if◌then◌else◌, Option, Some, None, Result, Ok, Err, refl, sym, ap, ◌∙◌, subst, arith, append-nil, length-append}
 use Rattle.std.proofs.lemmas.Bool.{cases_lt}
 use Rattle.std.proofs.lemmas.Bool.Decides.{nat_tests}
-use Rattle.std.proofs.lemmas.List.{take-append-drop}
-use Rattle.hol_io.specs.Lines.{Carries, Gives, Reading, IsAhead, cut, finished, has_bytes, lines_within, longer_first, pieces}
+use Rattle.std.proofs.lemmas.List.{nil_from_length, take-append-drop}
+use Rattle.std.proofs.lemmas.List.Elements.{All-append}
+use Rattle.std.specs.Io.KnownBytes.{Consumes}
+use Rattle.hol_io.proofs.Cutting.{finished_none}
+use Rattle.hol_io.proofs.Told.{moves_then}
+use Rattle.hol_io.specs.Lines.{Carries, Gives, IsOpen, Moves, Reading, IsAhead, cut, finished, has_bytes, lines_within, longer_first, pieces}
 use Rattle.hol_io.specs.Turn.{HasLimits, IsTurn, Tells}
 use Rattle.hol_io.specs.declared.lines.LineFault.{LineFault}
 use Rattle.hol_io.specs.declared.lines.Turn as declared
 use Rattle.hol_io.specs.declared.lines.Turn.TheVariants.{Line, Long, End, Over}
 use Rattle.hollow_machine.specs.Script.{longest_line}
-use Rattle.hollow_script.specs.Scripted.{HasGiven, TurnsNext, longest_input}
+use Rattle.hollow_script.specs.Scripted.{AreTaken, HasGiven, TurnsNext, longest_input}
 
 -- nothing was given
 gives_nothing : (bytes : List ℕ) (room : ℕ) → Gives [] bytes room bytes room
 gives_nothing bytes room = record { given = []; split = refl; counted = omega arith; cut = refl }
-
--- one after another
-gives_then : {ls ms : List (List ℕ)} {bytes bytes' bytes'' : List ℕ} {room room' room'' : ℕ} → Gives ls bytes room bytes' room' → Gives ms bytes' room' bytes'' room'' → Gives (ls ++ ms) bytes room bytes'' room''
-gives_then {ls} {ms} {bytes''} {room''} first second = record {
-  given = first.given ++ second.given;
-  split = first.split ∙ ap (λ t. first.given ++ t) second.split ∙ sym (append_assoc first.given second.given bytes'');
-  counted = omega (arith, first.counted, second.counted, length-append first.given second.given);
-  cut = first.cut ∙ ap (λ t. ls ++ t) second.cut ∙ sym (append_assoc ls ms (lines_within room'' bytes''));
-}
 
 -- with no byte past the budget the lines are those of the whole input
 within_all : (budget : ℕ) (bytes : List ℕ) → length bytes ≤ budget → lines_within budget bytes ≡ cut bytes
@@ -129,7 +124,29 @@ given_front bytes (Some left) reading lines (moved, most) =
 
 -- the reader begins with all of the input ahead
 pub begins : (bytes : List ℕ) (reading : Reading) → reading.line_max ≡ longest_line → IsAhead reading bytes bytes longest_input → HasGiven bytes (Some bytes) reading []
-begins bytes reading most ahead = (record { bytes' = bytes; room' = longest_input; gives = gives_nothing bytes longest_input; ahead = ahead }, most)
+begins bytes reading most ahead =
+    (record { bytes' = bytes; room' = longest_input; gives = gives_nothing bytes longest_input; ahead = ahead; whole = λ still. ([], refl, (λ rest. refl)) }, most)
+
+-- The lines that end in what was taken are the first of the input.
+pub taken_front : (bytes : List ℕ) (left : Option (List ℕ)) (took : List ℕ) → Consumes (Some bytes) left took → (ahead : List (List ℕ)) × (cut bytes ≡ finished took ++ ahead)
+taken_front bytes None took consumes = absurd consumes
+taken_front bytes (Some rest) took consumes = let front = finished_front took rest in (front.0, ap cut consumes ∙ front.1)
+
+-- where the source failed before its end, the lines that were given are those that end in what was taken
+given_taken : (bytes : List ℕ) (left : Option (List ℕ)) (reading : Reading) (lines : List (List ℕ)) → HasGiven bytes left reading lines → IsOpen reading → AreTaken bytes left lines
+given_taken bytes None reading lines has is_open = absurd has
+given_taken bytes (Some left) reading lines (moved, most) is_open =
+    let (front, split, whole) = moved.whole is_open.open_still in
+    let ahead = moved.ahead in
+    let rest = ahead.front ++ reading.pending in
+    let none : ahead.past ≡ [] = nil_from_length ahead.past (omega (arith, ahead.past_count, is_open.within)) in
+    let behind : moved.bytes' ≡ rest ++ left =
+    ahead.all ∙ ap (λ t. ahead.front ++ (reading.pending ++ (t ++ left))) none ∙ sym (append_assoc ahead.front reading.pending left) in
+    let one = All-append (λ b. b ≢ 10) ahead.front reading.pending ahead.one_piece is_open.one_piece in (
+      front ++ rest,
+      split ∙ ap (λ t. front ++ t) behind ∙ sym (append_assoc front rest left),
+      sym (whole rest ∙ ap (λ ls. lines ++ ls) (finished_none rest one) ∙ append-nil lines),
+    )
 
 module _ (bytes : List ℕ) (given : List (List ℕ)) (r r' : Reading) where
   -- the lines of a turn, behind those that were given
@@ -140,16 +157,23 @@ module _ (bytes : List ℕ) (given : List (List ℕ)) (r r' : Reading) where
   turn_gives None left' result has limits tells = absurd has
   turn_gives (Some left) None result has limits tells = absurd tells
   turn_gives (Some left) (Some left') result (moved, most) limits tells =
-      let turn = tells moved.bytes' moved.room' moved.ahead in (
+      let turn = tells.1 moved.bytes' moved.room' moved.ahead in (
         moved.bytes',
         moved.room',
         turn.0,
-        (record { bytes' = turn.1.bytes'; room' = turn.1.room'; gives = gives_then moved.gives turn.1.gives; ahead = turn.1.ahead }, limits.0 ∙ most),
+        (moves_then tells.0 moved turn.1, limits.0 ∙ most),
         turn.2,
         moved.gives.cut,
         (λ fits. omega (arith, fits, moved.gives.counted, ap length moved.gives.split, length-append moved.gives.given moved.bytes')),
         (λ more. omega (arith, more, moved.gives.counted, ap length moved.gives.split, length-append moved.gives.given moved.bytes')),
       )
+
+  -- where the source fails all lines that end in what was taken were given
+  pub fault_taken : (left left' : Option (List ℕ)) (fault : LineFault) → HasGiven bytes left r given → HasLimits r r' → Tells r left r' left' (Err fault) → IsOpen r' → AreTaken bytes left' given
+  fault_taken left left' fault has limits tells is_open =
+      let turn = turn_gives left left' (Err fault) has limits tells in
+      let lines_are : given ++ turn.2 ≡ given = ap (λ ls. given ++ ls) turn.4 ∙ append-nil given in
+      given_taken bytes left' r' given (subst (HasGiven bytes left' r') lines_are turn.3) is_open
 
   -- the longest line is set once
   still_most : (left : Option (List ℕ)) → HasGiven bytes left r given → HasLimits r r' → r'.line_max ≡ longest_line
@@ -161,15 +185,8 @@ module _ (bytes : List ℕ) (given : List (List ℕ)) (r r' : Reading) where
   carried None left' has limits carries = absurd has
   carried (Some left) None has limits carries = absurd carries
   carried (Some left) (Some left') (moved, most) limits carries =
-      let more = carries moved.bytes' moved.room' moved.ahead in (
-        record {
-          bytes' = more.bytes';
-          room' = more.room';
-          gives = subst (λ ls. Gives ls bytes longest_input more.bytes' more.room') (append-nil given) (gives_then moved.gives more.gives);
-          ahead = more.ahead;
-        },
-        limits.0 ∙ most,
-      )
+      let more = carries.1 moved.bytes' moved.room' moved.ahead in
+      (subst (λ ls. Moves ls bytes longest_input r' left') (append-nil given) (moves_then carries.0 moved more), limits.0 ∙ most)
 
   -- a turn gives a line, or it is the end
   pub turn_given : (left left' : Option (List ℕ)) (turn : declared.Turn) → HasGiven bytes left r given → HasLimits r r' → Tells r left r' left' (Ok turn) → TurnsNext bytes given left' r' turn

@@ -39,6 +39,10 @@ HasGiven bytes (Some left) reading lines = Moves lines bytes longest_input readi
 abbrev pub AreFinished : List ℕ → List (List ℕ) → Type 0
 AreFinished bytes lines = lines ≡ finished (take longest_input bytes)
 
+-- These are the lines that end within the bytes of the input that were taken, where the source has the others left.
+abbrev pub AreTaken : List ℕ → Option (List ℕ) → List (List ℕ) → Type 0
+AreTaken bytes left' lines = (took : List ℕ) × Consumes (Some bytes) left' took × (lines ≡ finished took)
+
 -- The lines that a turn gives behind these, or that there are no others.
 abbrev pub TurnsNext : List ℕ → List (List ℕ) → Option (List ℕ) → Reading → declared.Turn → Type 0
 TurnsNext bytes lines left' reading' Line =
@@ -47,11 +51,12 @@ TurnsNext bytes lines left' reading' Long = (line : List ℕ) × HasGiven bytes 
 TurnsNext bytes lines left' reading' End = (cut bytes ≡ lines) × (length bytes ≤ longest_input)
 TurnsNext bytes lines left' reading' Over = AreFinished bytes lines
 
--- What the next line asks for, or that there is none.
+-- What the next line asks for, or that there is none. Where the source fails, all lines that end in what was taken are given.
 abbrev pub AsksNext : List ℕ → List (List ℕ) → Option (List ℕ) → Reading → Result (Option Asked) ScriptStop → Type 0
 AsksNext bytes lines left' reading' (Ok (Some asked)) = (line : List ℕ) × HasGiven bytes left' reading' (lines ++ line ∷ []) × Asks line asked
 AsksNext bytes lines left' reading' (Ok None) = (cut bytes ≡ lines) × (length bytes ≤ longest_input)
 AsksNext bytes lines left' reading' (Err TooLong) = AreFinished bytes lines
+AsksNext bytes lines left' reading' (Err Source) = AreTaken bytes left' lines
 AsksNext bytes lines left' reading' (Err stop) = Unit {0}
 
 -- What the next line is answered over a store, where these lines were given before: an answer that moves the machine, or
@@ -62,7 +67,7 @@ AnswersNext bytes lines store left' reading' kept held' kept' (Ok (Some reply)) 
     × ((next : Store) × (held' ≡ Some next) × LineStep (machine_with store kept) line reply (machine_with next kept'))
 AnswersNext bytes lines store left' reading' kept held' kept' (Ok None) =
     (cut bytes ≡ lines) × (length bytes ≤ longest_input) × (held' ≡ Some store) × (kept' ≡ kept)
-AnswersNext bytes lines store left' reading' kept held' kept' (Err Source) = held' ≡ Some store
+AnswersNext bytes lines store left' reading' kept held' kept' (Err Source) = AreTaken bytes left' lines × (held' ≡ Some store)
 AnswersNext bytes lines store left' reading' kept held' kept' (Err Sink) = held' ≡ Some store
 AnswersNext bytes lines store left' reading' kept held' kept' (Err TooLong) = AreFinished bytes lines × (held' ≡ Some store)
 AnswersNext bytes lines store left' reading' kept held' kept' (Err stop) =
@@ -161,13 +166,14 @@ StopsAhead bytes first held before after waiting =
     × HasAnswered first answered before after waiting refused machine × (held ≡ Some store)
     × ((store ≡ machine.store) ⊎ ((waiting ≡ []) × LeavesAhead machine ahead store))
 
--- What is left where serving the lines of an input stops; what still waits is not yet written.
-abbrev pub HasStopped : List ℕ → Store → Option Store → Option (List ℕ) → Option (List ℕ) → List ℕ → ScriptStop → Type 0
-HasStopped bytes first held before after waiting Source = StandsBetween bytes first held before after waiting
-HasStopped bytes first held before after waiting Sink = (mid : Option (List ℕ)) × StandsBetween bytes first held before mid waiting × FailsWithin waiting mid after
-HasStopped bytes first held before after waiting StoreFailed = StopsAhead bytes first held before after waiting
-HasStopped bytes first held before after waiting Memory = StopsAhead bytes first held before after waiting
-HasStopped bytes first held before after waiting TooLong = StandsBehind first (finished (take longest_input bytes)) held before after waiting
+-- What is left where serving the lines of an input stops, of which the source has so much left; what still waits is not yet written.
+abbrev pub HasStopped : List ℕ → Store → Option (List ℕ) → Option Store → Option (List ℕ) → Option (List ℕ) → List ℕ → ScriptStop → Type 0
+HasStopped bytes first left' held before after waiting Source =
+    (took : List ℕ) × Consumes (Some bytes) left' took × StandsBehind first (finished took) held before after waiting
+HasStopped bytes first left' held before after waiting Sink = (mid : Option (List ℕ)) × StandsBetween bytes first held before mid waiting × FailsWithin waiting mid after
+HasStopped bytes first left' held before after waiting StoreFailed = StopsAhead bytes first held before after waiting
+HasStopped bytes first left' held before after waiting Memory = StopsAhead bytes first held before after waiting
+HasStopped bytes first left' held before after waiting TooLong = StandsBehind first (finished (take longest_input bytes)) held before after waiting
 
 -- What serving the next line leaves, where the lines before it are answered: it is answered too, or all lines are; or it stops.
 abbrev pub ServesNext : List ℕ → Store → Option (List ℕ) → Option Store → Reading → Keep → Option (List ℕ) → Option (List ℕ) → List ℕ → Bool → Result (Option Bool) ScriptStop → Type 0
@@ -175,7 +181,7 @@ ServesNext bytes first left held reading kept before after waiting refused (Ok (
     IsAnswered bytes first left held reading kept before after waiting (if refused then true else also)
 ServesNext bytes first left held reading kept before after waiting refused (Ok None) =
     AllAnswered bytes first held kept before after waiting refused
-ServesNext bytes first left held reading kept before after waiting refused (Err stop) = HasStopped bytes first held before after waiting stop
+ServesNext bytes first left held reading kept before after waiting refused (Err stop) = HasStopped bytes first left held before after waiting stop
 
 -- The lines of some answers were gained by the sink but for the last ones, which wait; and whether one of them is a refusal.
 pub record HasReplied (before after : Option (List ℕ)) (waiting : List ℕ) (refused : Bool) : Type 0 where

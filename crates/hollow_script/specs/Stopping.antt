@@ -1,6 +1,6 @@
 -- What a run of a script leaves of its sink and of its store where it stops before its end.
-use Rattle.std.specs.Prelude.{◌≡◌, ◌++◌, ℕ, List, Option, Some, take}
-use Rattle.std.specs.Io.KnownBytes.{Appends}
+use Rattle.std.specs.Prelude.{◌≡◌, ℕ, List, Option, Some, take}
+use Rattle.std.specs.Io.KnownBytes.{Appends, Consumes}
 use Rattle.hol_io.specs.Lines.{cut, finished}
 use Rattle.hol_io.specs.Store.{Store}
 use Rattle.hollow_machine.specs.Stopped.{StopsAfter, StopsBetween, StopsWithin}
@@ -8,20 +8,20 @@ use Rattle.hollow_script.specs.declared.script_stop.ScriptStop.{ScriptStop}
 use Rattle.hollow_script.specs.declared.script_stop.ScriptStop.TheVariants.{Memory, Sink, Source, Store as StoreFailed, TooLong}
 use Rattle.hollow_script.specs.Scripted.{longest_input}
 
--- The text that a script has written where it stops, and the store, over the bytes of an input.
+-- The text that a script has written where it stops, and the store, over the bytes of an input of which the source has so much left.
 --
--- - The source failed: the answers to some first lines, and the store behind them.
+-- - The source failed: the answers to the lines that end in what was taken of the input, and the store behind them.
 -- - The sink failed: the answers to the lines before one of the input, and a front of that one's, but not all of it; the store behind this one.
 -- - The store failed, or memory was refused: the answers to some first lines; the store behind them, or this with the first puts of the next line.
 -- - The input is too long: the answers to the lines that end within the bytes that an input may have, and the store behind them.
-abbrev pub StopsSo : List ℕ → Store → ScriptStop → List ℕ → Store → Type 0
-StopsSo bytes first Source text store = (answered ahead : List (List ℕ)) × (cut bytes ≡ answered ++ ahead) × StopsAfter first answered text store
-StopsSo bytes first Sink text store = StopsWithin first (cut bytes) text store
-StopsSo bytes first StoreFailed text store = StopsBetween first (cut bytes) text store
-StopsSo bytes first Memory text store = StopsBetween first (cut bytes) text store
-StopsSo bytes first TooLong text store = StopsAfter first (finished (take longest_input bytes)) text store
+abbrev pub StopsSo : List ℕ → Store → Option (List ℕ) → ScriptStop → List ℕ → Store → Type 0
+StopsSo bytes first left' Source text store = (took : List ℕ) × Consumes (Some bytes) left' took × StopsAfter first (finished took) text store
+StopsSo bytes first left' Sink text store = StopsWithin first (cut bytes) text store
+StopsSo bytes first left' StoreFailed text store = StopsBetween first (cut bytes) text store
+StopsSo bytes first left' Memory text store = StopsBetween first (cut bytes) text store
+StopsSo bytes first left' TooLong text store = StopsAfter first (finished (take longest_input bytes)) text store
 
 -- The sink gained such a text, and the store is such a one.
-abbrev pub LeavesStopped : List ℕ → Store → Option Store → Option (List ℕ) → Option (List ℕ) → ScriptStop → Type 0
-LeavesStopped bytes first held before after stop =
-    (text : List ℕ) × (store : Store) × StopsSo bytes first stop text store × (held ≡ Some store) × Appends before after text
+abbrev pub LeavesStopped : List ℕ → Store → Option (List ℕ) → Option Store → Option (List ℕ) → Option (List ℕ) → ScriptStop → Type 0
+LeavesStopped bytes first left' held before after stop =
+    (text : List ℕ) × (store : Store) × StopsSo bytes first left' stop text store × (held ≡ Some store) × Appends before after text

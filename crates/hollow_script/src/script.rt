@@ -4,11 +4,11 @@ ghost use Rattle.std.specs.Io.KnownBytes.{IsAtEnd};
 ghost use Rattle.hol_io.specs.Causes.{Rose};
 ghost use Rattle.hol_io.specs.Lines.{Takes};
 ghost use Rattle.hol_io.specs.Store.{Store};
-ghost use Rattle.hol_io.specs.Turn.{EndsInput, HasLimits, LendsLine};
+ghost use Rattle.hol_io.specs.Turn.{EndsInput, HasLimits, IsEnded, LendsLine};
 ghost use Rattle.hollow_machine.specs.Kept.{IsResting};
 ghost use Rattle.hollow_script.specs.Asked.{AskedStep, LeavesAsked, MayPut, MeetsOrder};
 ghost use Rattle.hollow_script.specs.Kept.{HaltsKept, KeepsNothing, MovesKept};
-ghost use Rattle.hollow_script.specs.Scripted.{AllAnswered, AllWritten, AnswersNext, AsksNext, HasGiven, HasReplied, HasStopped, IsAnswered, RepliesNext, ServesNext, TakesPast, TurnsNext, WritesReplies, WritesWaiting};
+ghost use Rattle.hollow_script.specs.Scripted.{AllAnswered, AllWritten, AnswersNext, AreTaken, AsksNext, HasGiven, HasReplied, HasStopped, IsAnswered, RepliesNext, ServesNext, TakesPast, TurnsNext, WritesReplies, WritesWaiting};
 ghost use Rattle.hollow_script.specs.Stopping.{LeavesStopped};
 
 use crate::asked::{Asked, asked_by};
@@ -27,7 +27,8 @@ const MAX_INPUT_BYTES: u64 = 0x1_0000_0000;
 /// Answers each line of the input over a store, and tells whether an answer is a refusal. Answers are written many at a
 /// time, but what waits is written before an order that may put begins, and before more of the input is read; and the last
 /// ones before it ends, unless the sink failed. So where it stops, the sink has the answers to some first lines, and the store is
-/// the one behind them, or has besides the first puts of the next line (`LeavesStopped`).
+/// the one behind them, or has besides the first puts of the next line (`LeavesStopped`). Where the source fails, the lines are
+/// all that end in what was taken of the input.
 pub fn run_script<I: Source, O: Sink, S: BlobStore>(
     alloc: Global,
     input: &mut I,
@@ -39,7 +40,7 @@ pub fn run_script<I: Source, O: Sink, S: BlobStore>(
     ensures written { IfSome (I.left input.old) (λ bytes. IfSome (S.seen store.old).held (λ first. IfOk result
         (AllWritten bytes first (S.seen store.new).held keep.new (O.taken out.old) (O.taken out.new)))) }
     ensures stopped { IfSome (I.left input.old) (λ bytes. IfSome (S.seen store.old).held (λ first. IfErr result
-        (LeavesStopped bytes first (S.seen store.new).held (O.taken out.old) (O.taken out.new)))) }
+        (LeavesStopped bytes first (I.left input.new) (S.seen store.new).held (O.taken out.old) (O.taken out.new)))) }
     ensures replied { IfOk result (WritesReplies (O.taken out.old) (O.taken out.new)) }
     ensures ended { IfOk result (λ refused. IsAtEnd (I.left input.new)) }
     ensures source_fault { IsErrOf result ScriptStop.Source → Rose (I.faults input.old) (I.faults input.new) }
@@ -77,7 +78,7 @@ fn answer_lines<I: Source, O: Sink, S: BlobStore>(
     ensures answered { IfSome (I.left input.old) (λ bytes. IfSome (S.seen store.old).held (λ first. IfOk result
         (AllAnswered bytes first (S.seen store.new).held keep.new (O.taken out.old) (O.taken out.new) waiting.new.items))) }
     ensures stops { IfSome (I.left input.old) (λ bytes. IfSome (S.seen store.old).held (λ first. IfErr result
-        (HasStopped bytes first (S.seen store.new).held (O.taken out.old) (O.taken out.new) waiting.new.items))) }
+        (HasStopped bytes first (I.left input.new) (S.seen store.new).held (O.taken out.old) (O.taken out.new) waiting.new.items))) }
     ensures replied { IfOk result (HasReplied (O.taken out.old) (O.taken out.new) waiting.new.items) }
     ensures ended { IfOk result (λ refused. IsAtEnd (I.left input.new)) }
     ensures source_fault { IsErrOf result ScriptStop.Source → Rose (I.faults input.old) (I.faults input.new) }
@@ -110,6 +111,7 @@ fn serve_next<I: Source, O: Sink, S: BlobStore>(
     waiting: &mut Vec<u8>,
 ) -> Result<Option<bool>, ScriptStop>
     requires resting { IfSome keep.old.producer IsResting }
+    requires at_end { IsEnded lines.old (I.left input.old) }
     ensures served { (bytes : List ℕ) (first : Store) (before : Option (List ℕ)) (refused : Bool)
         → IsAnswered bytes first (I.left input.old) (S.seen store.old).held lines.old keep.old before (O.taken out.old) waiting.old.items refused
         → ServesNext bytes first (I.left input.new) (S.seen store.new).held lines.new keep.new before (O.taken out.new) waiting.new.items refused result }
@@ -118,6 +120,7 @@ fn serve_next<I: Source, O: Sink, S: BlobStore>(
     ensures resting { IfSome keep.new.producer IsResting }
     ensures takes { Takes (I.left input.old) (I.left input.new) lines.old.taken lines.new.taken }
     ensures limits { HasLimits lines.old lines.new }
+    ensures at_end { IsEnded lines.new (I.left input.new) }
     ensures ended { IfOk result (λ also. also ≡ None → IsAtEnd (I.left input.new)) }
     ensures past { IsErrOf result ScriptStop.TooLong → lines.new.budget < lines.new.taken }
     ensures source_fault { IsErrOf result ScriptStop.Source → Rose (I.faults input.old) (I.faults input.new) }
@@ -146,6 +149,7 @@ fn next_reply<I: Source, O: Sink, S: BlobStore>(
     waiting: &mut Vec<u8>,
 ) -> Result<Option<Reply>, ScriptStop>
     requires resting { IfSome keep.old.producer IsResting }
+    requires at_end { IsEnded lines.old (I.left input.old) }
     ensures answers { (bytes : List ℕ) (given : List (List ℕ)) (now : Store) → HasGiven bytes (I.left input.old) lines.old given
         → (S.seen store.old).held ≡ Some now
         → AnswersNext bytes given now (I.left input.new) lines.new keep.old (S.seen store.new).held keep.new result }
@@ -154,6 +158,7 @@ fn next_reply<I: Source, O: Sink, S: BlobStore>(
     ensures resting { IfSome keep.new.producer IsResting }
     ensures takes { Takes (I.left input.old) (I.left input.new) lines.old.taken lines.new.taken }
     ensures limits { HasLimits lines.old lines.new }
+    ensures at_end { IsEnded lines.new (I.left input.new) }
     ensures ended { IfOk result (λ reply. reply ≡ None → IsAtEnd (I.left input.new)) }
     ensures past { IsErrOf result ScriptStop.TooLong → lines.new.budget < lines.new.taken }
     ensures source_fault { IsErrOf result ScriptStop.Source → Rose (I.faults input.old) (I.faults input.new) }
@@ -177,12 +182,14 @@ fn next_asked<I: Source, O: Sink>(
     out: &mut O,
     waiting: &mut Vec<u8>,
 ) -> Result<Option<Asked>, ScriptStop>
+    requires at_end { IsEnded lines.old (I.left input.old) }
     ensures asks { (bytes : List ℕ) (given : List (List ℕ)) → HasGiven bytes (I.left input.old) lines.old given
         → AsksNext bytes given (I.left input.new) lines.new result }
     ensures order { IfOk result (λ asked. IfSome asked MeetsOrder) }
     ensures put { WritesWaiting (O.taken out.old) (O.taken out.new) waiting.old.items waiting.new.items result }
     ensures takes { Takes (I.left input.old) (I.left input.new) lines.old.taken lines.new.taken }
     ensures limits { HasLimits lines.old lines.new }
+    ensures at_end { IsEnded lines.new (I.left input.new) }
     ensures ended { IfOk result (λ asked. asked ≡ None → IsAtEnd (I.left input.new)) }
     ensures past { IsErrOf result ScriptStop.TooLong → lines.new.budget < lines.new.taken }
     ensures source_fault { IsErrOf result ScriptStop.Source → Rose (I.faults input.old) (I.faults input.new) }
@@ -207,14 +214,18 @@ fn next_turn<I: Source, O: Sink>(
     out: &mut O,
     waiting: &mut Vec<u8>,
 ) -> Result<Turn, ScriptStop>
+    requires at_end { IsEnded lines.old (I.left input.old) }
     ensures turns { (bytes : List ℕ) (given : List (List ℕ)) → HasGiven bytes (I.left input.old) lines.old given
         → IfOk result (TurnsNext bytes given (I.left input.new) lines.new) }
+    ensures taken { (bytes : List ℕ) (given : List (List ℕ)) → HasGiven bytes (I.left input.old) lines.old given
+        → IsErrOf result ScriptStop.Source → AreTaken bytes (I.left input.new) given }
     ensures waits { (input.new ≡ input.old) ⊎ (waiting.new.items ≡ []) }
     ensures put { WritesWaiting (O.taken out.old) (O.taken out.new) waiting.old.items waiting.new.items result }
     ensures line { IfOk result (λ turn. LendsLine lines.new (Ok turn)) }
     ensures ended { IfOk result (λ turn. EndsInput lines.new (I.left input.new) (Ok turn)) }
     ensures takes { Takes (I.left input.old) (I.left input.new) lines.old.taken lines.new.taken }
     ensures limits { HasLimits lines.old lines.new }
+    ensures at_end { IsEnded lines.new (I.left input.new) }
     ensures source_fault { IsErrOf result ScriptStop.Source → Rose (I.faults input.old) (I.faults input.new) }
     ensures source_later { I.faults input.old ≤ I.faults input.new }
     ensures sink_fault { IsErrOf result ScriptStop.Sink → Rose (O.faults out.old) (O.faults out.new) }

@@ -45,8 +45,8 @@ use std::alloc::Global;
 /// its progress. The condition is that nothing is kept.
 ///
 /// Where `run` stops, by 3 to 7, the answers to some first lines are written, and the store is the one behind them; by 5 and 6 it may
-/// have besides the first puts of the next line. By 4 the sink has besides a part of the next answer, and the store is the one behind
-/// that line. Where `make` stops, the store is the one behind some first cycles, or has besides the first puts of the next one. A store that
+/// have besides the first puts of the next line. By 3 these are all lines that end in what was taken of the input. By 4 the sink has
+/// besides a part of the next answer, and the store is the one behind that line. Where `make` stops, the store is the one behind some first cycles, or has besides the first puts of the next one. A store that
 /// held a chain holds it then, with the states more that were published, and at most one more, which is there in part.
 pub fn run<I: Source, O: Sink, S: BlobStore, P: Progress>(
     alloc: Global,
@@ -90,7 +90,7 @@ pub fn run<I: Source, O: Sink, S: BlobStore, P: Progress>(
 
     // What is written, and what the store then holds, where `run` and `make` stop.
     ensures script_stopped { AskScript (map string_bytes words.now) → IfSome (I.left input.old) (λ bytes. IfSome (S.seen store.old).held (λ first.
-        StopsScript bytes first (S.seen store.new).held (O.taken out.old) (O.taken out.new) result)) }
+        StopsScript bytes first (I.left input.new) (S.seen store.new).held (O.taken out.old) (O.taken out.new) result)) }
     ensures make_stopped { 2 < result → (seed rows cycles : ℕ) → Asks (map string_bytes words.now) (Command.Make seed rows cycles)
         → IfSome (S.seen store.old).held (λ first. StopsMade seed rows cycles first (S.seen store.new).held) }
     ensures make_silent { 4 < result → (seed rows cycles : ℕ) → Asks (map string_bytes words.now) (Command.Make seed rows cycles) → out.new ≡ out.old }
@@ -158,7 +158,7 @@ fn serve_script<I: Source, O: Sink, S: BlobStore>(
         ((result ≡ 1) ↔ GainsRefusalLine (O.taken out.old) (O.taken out.new)) }
     ensures ended { result < 2 → IsAtEnd (I.left input.new) }
     ensures stopped { IfSome (I.left input.old) (λ bytes. IfSome (S.seen store.old).held (λ first.
-        StopsScript bytes first (S.seen store.new).held (O.taken out.old) (O.taken out.new) result)) }
+        StopsScript bytes first (I.left input.new) (S.seen store.new).held (O.taken out.old) (O.taken out.new) result)) }
     ensures chain { 2 < result → IfSome (I.left input.old) (λ bytes. IfSome (S.seen store.old).held (λ first.
         (chain : Chain) → HoldsChain first chain → LeavesChain bytes first chain (S.seen store.new).held)) }
     ensures status { (result ≤ 7) × (result ≢ 2) }

@@ -1,5 +1,6 @@
 //! The outside in memory: inputs that are cut in lines, sources, sinks and stores, of which some fail, and steps that are counted.
 ghost use Rattle.std.specs.Prelude.{◌≡◌, ◌<◌};
+ghost use Rattle.hol_io.specs.Turn.{IsEnded};
 
 use crate::case::{Subject, pass};
 use crate::stores::step_told;
@@ -45,11 +46,13 @@ fn lines_told(
 }
 
 /// What the turns give, up to the end of the input or the budget.
-fn turns_told(
+fn turns_told<I: Source>(
     alloc: Global,
     lines: &mut Lines,
-    source: &mut MemSource,
-) -> Result<String, AllocError> {
+    source: &mut I,
+) -> Result<String, AllocError>
+    requires { IsEnded lines.old (I.left source.old) }
+{
     let mut told = String::new(alloc);
     for _ in 0..20 {
         let turn = turn_told(alloc, lines, source)?;
@@ -63,11 +66,14 @@ fn turns_told(
 
 /// A line and `;`, `+` for a line that is too long, `!` for a failed read, and `.` or `>` at the end of the input or past the
 /// budget.
-fn turn_told(
+fn turn_told<I: Source>(
     alloc: Global,
     lines: &mut Lines,
-    source: &mut MemSource,
-) -> Result<String, AllocError> {
+    source: &mut I,
+) -> Result<String, AllocError>
+    requires { IsEnded lines.old (I.left source.old) }
+    ensures { IsEnded lines.new (I.left source.new) }
+{
     match lines.next(source) {
         Ok(Turn::Line) => line_told(alloc, lines.line()),
         Ok(Turn::Long) => String::from_str(alloc, "+"),

@@ -22,6 +22,7 @@ loop-turn-init g c =
       store_later = omega arith;
       takes = takes_none (g.I.Source.left c.args.input.now) _ at_start.1;
       budget = at_start.2;
+      at_end = at_start.3 (g.I.Source.left c.args.input.now);
     }
 
 pub returns-in_err-also-clause-past : goal.returns-in_err-also-clause-past
@@ -49,6 +50,7 @@ loop-turn-preserved g c = record {
   takes = takes_then (g.I.Source.left c.args.input.now) (g.I.Source.left c.loop-turn.input) (g.I.Source.left c.serve_next.new.input) 0 c.loop-turn.lines.taken c.serve_next.new.lines.taken
       c.loop-turn.invariant.takes c.in_ok-also.ensures.takes;
   budget = c.in_ok-also.ensures.limits.1 ∙ c.loop-turn.invariant.budget;
+  at_end = c.in_ok-also.ensures.at_end;
 }
 
 pub returns-in_default-clause-replied : goal.returns-in_default-clause-replied
@@ -70,7 +72,7 @@ returns-in_err-also-clause-stops g c =
     let held' = (g.S.BlobStore.seen c.serve_next.new.store).held in
     rw (p.1, p.2) (told_both (g.I.Source.left c.args.input.now) (g.S.BlobStore.seen c.args.store.now).held
     (λ bytes first. IsAnswered bytes first (g.I.Source.left c.loop-turn.input) (g.S.BlobStore.seen c.loop-turn.store).held c.loop-turn.lines c.loop-turn.keep before (g.O.Sink.taken c.loop-turn.out) c.loop-turn.waiting.items c.loop-turn.refused)
-    (λ bytes first. HasStopped bytes first held' before (g.O.Sink.taken c.serve_next.new.out) c.serve_next.new.waiting.items c.in_err-also.field-0.0) c.loop-turn.invariant.answered
+    (λ bytes first. HasStopped bytes first (g.I.Source.left c.serve_next.new.input) held' before (g.O.Sink.taken c.serve_next.new.out) c.serve_next.new.waiting.items c.in_err-also.field-0.0) c.loop-turn.invariant.answered
     (λ bytes first is. c.in_err-also.ensures.served bytes first before c.loop-turn.refused is))
 
 pub returns-clause-stops : goal.returns-clause-stops
@@ -80,5 +82,5 @@ returns-clause-stops g c =
     let after = g.O.Sink.taken c.loop-turn.out in
     told_both (g.I.Source.left c.args.input.now) (g.S.BlobStore.seen c.args.store.now).held
     (λ bytes first. IsAnswered bytes first (g.I.Source.left c.loop-turn.input) held c.loop-turn.lines c.loop-turn.keep before after c.loop-turn.waiting.items c.loop-turn.refused)
-    (λ bytes first. HasStopped bytes first held before after c.loop-turn.waiting.items stop.Memory) c.loop-turn.invariant.answered
+    (λ bytes first. HasStopped bytes first (g.I.Source.left c.loop-turn.input) held before after c.loop-turn.waiting.items stop.Memory) c.loop-turn.invariant.answered
     (λ bytes first is. stays_stopped bytes first (g.I.Source.left c.loop-turn.input) held c.loop-turn.lines c.loop-turn.keep before after c.loop-turn.waiting.items c.loop-turn.refused is)

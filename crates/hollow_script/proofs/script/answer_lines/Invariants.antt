@@ -1,5 +1,6 @@
 use Rattle.std.proofs.Common.{◌≡◌, ◌≤◌, IfSome}
 use Rattle.hol_io.specs.Lines.{Takes}
+use Rattle.hol_io.specs.Turn.{IsEnded}
 use Rattle.hollow_machine.specs.Kept.{IsResting}
 use Rattle.hollow_script.specs.Scripted.{HasReplied, IsAnswered, longest_input}
 use Rattle.hollow_script.proofs.script.answer_lines.Given as goal
@@ -16,4 +17,5 @@ invariant-loop-turn g l = record {
   store_later : (g.S.BlobStore.seen l.initial.store).faults ≤ (g.S.BlobStore.seen l.store).faults;
   takes : Takes (g.I.Source.left l.initial.input) (g.I.Source.left l.input) 0 l.lines.taken;
   budget : l.lines.budget ≡ longest_input;
+  at_end : IsEnded l.lines (g.I.Source.left l.input);
 }

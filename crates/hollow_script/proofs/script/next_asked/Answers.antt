@@ -19,7 +19,8 @@ returns-in-End-clause-asks g c = λ bytes given has.
 pub returns-in_err-next_turn-clause-asks : goal.returns-in_err-next_turn-clause-asks
 returns-in_err-next_turn-clause-asks g c = λ bytes given has.
     (let p = err_from_is_err_and c.from_residual.result c.from_residual.ensures.1 in
-    rw (p.1, p.2) (none_asks bytes given (g.I.Source.left c.next_turn.new.input) c.next_turn.new.lines c.in_err-next_turn.field-0.0 c.in_err-next_turn.ensures.others))
+    rw (p.1, p.2) (none_asks bytes given (g.I.Source.left c.next_turn.new.input) c.next_turn.new.lines c.in_err-next_turn.field-0.0 c.in_err-next_turn.ensures.others
+    (c.in_err-next_turn.ensures.taken bytes given has)))
 
 pub returns-in_err-next_turn-clause-put : goal.returns-in_err-next_turn-clause-put
 returns-in_err-next_turn-clause-put g c =

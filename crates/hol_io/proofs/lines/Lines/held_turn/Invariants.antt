@@ -10,6 +10,7 @@ invariant-loop-count l = record {
   line : l.self.line ≡ None;
   taken : l.self.taken ≡ l.initial.self.taken;
   limits : HasLimits l.initial.self l.self;
+  stays : l.self.ended ≡ l.initial.self.ended;
 }
 
 abbrev pub decreases-loop-count : goal.decreases-loop-count

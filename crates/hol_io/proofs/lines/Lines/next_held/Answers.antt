@@ -12,5 +12,6 @@ returns-clause-tells c = λ left.
       taken = ap (λ v. v.taken) same;
       line_max = ap (λ v. v.line_max) same;
       budget = ap (λ v. v.budget) same;
+      ended = ap (λ v. v.ended) same;
     })
     (c.held_turn.ensures.tells left))

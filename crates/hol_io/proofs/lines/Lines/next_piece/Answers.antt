@@ -29,6 +29,7 @@ loop-count-preserved g c =
       to_go = omega (arith, inv.to_go, read.to_go, pass.shorter, pass.taken, pass.limits.1);
       line = λ none. read.line;
       limits = (read.limits.0 ∙ pass.limits.0 ∙ inv.limits.0, read.limits.1 ∙ pass.limits.1 ∙ inv.limits.1);
+      stays = read.stays ∙ pass.ended ∙ inv.stays;
       takes = takes_then _ _ _ _ _ _ inv.takes (subst (λ n. Takes (g.I.Source.left c.loop-count.input) (g.I.Source.left c.read_on.new.input) n c.read_on.new.self.taken) pass.taken read.takes);
     }
 

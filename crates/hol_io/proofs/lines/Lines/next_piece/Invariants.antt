@@ -13,6 +13,7 @@ invariant-loop-count g l = record {
   to_go : bytes_to_go l.self ≤ bytes_to_go l.initial.self;
   line : l.initial.self.line ≡ None → l.self.line ≡ None;
   limits : HasLimits l.initial.self l.self;
+  stays : l.self.ended ≡ l.initial.self.ended;
   takes : Takes (g.I.Source.left l.initial.input) (g.I.Source.left l.input) l.initial.self.taken l.self.taken;
 }
 

@@ -15,4 +15,4 @@ returns-then-self-clause-carries c =
       | then-self-via-else-self+then-count-self w ↦ inr (omega (arith, w.if-count-self.true, ap length c.pending-count.ensures, ap length pending, most))
     ])
     refl (c.let_go.ensures.pending ∙ drop_all (length c.pending-count.result.now) c.self.inside.window.pending (omega (arith, ap length c.pending-count.ensures)))
-    (ap (λ v. v.taken) c.self.view_is) most (ap (λ v. v.budget) c.self.view_is)
+    (ap (λ v. v.taken) c.self.view_is) most (ap (λ v. v.budget) c.self.view_is) (ap (λ v. v.ended) c.self.view_is)

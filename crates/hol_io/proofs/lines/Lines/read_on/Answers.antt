@@ -14,6 +14,7 @@ returns-in_err-count-clause-carries g c =
       taken = ap (λ v. v.taken) same;
       line_max = ap (λ v. v.line_max) same;
       budget = ap (λ v. v.budget) same;
+      ended = ap (λ v. v.ended) same;
     }
 
 pub returns-then-count-allowed-clause-carries : goal.returns-then-count-allowed-clause-carries
@@ -31,7 +32,7 @@ returns-then-count-allowed-clause-carries g c =
     let part : length mid - 1 ≡ length old.pending + (old.budget - old.taken) =
     omega (arith, ap length reads.4, length-append old.pending reads.0, reads.1, count, budget, same_taken) in
     read_carries old _ (g.I.Source.left c.args.input.now) (g.I.Source.left c.read.new.input) c.in_ok-count.count mid reads c.requires.below
-    (ap (λ v. v.long) same) (ap (λ v. v.line_max) same) budget (omega (arith, same_taken, count, budget, c.requires.below)) (c.let_go_last.ensures.pending ∙ ap (λ k. take k mid) part)
+    (ap (λ v. v.long) same) (ap (λ v. v.line_max) same) budget (omega (arith, same_taken, count, budget, c.requires.below)) (c.let_go_last.ensures.pending ∙ ap (λ k. take k mid) part) (ap (λ v. v.ended) same)
 
 pub returns-else-count-allowed-clause-carries : goal.returns-else-count-allowed-clause-carries
 returns-else-count-allowed-clause-carries g c =
@@ -47,4 +48,4 @@ returns-else-count-allowed-clause-carries g c =
     let part : length mid ≤ length old.pending + (old.budget - old.taken) =
     omega (arith, ap length reads.4, length-append old.pending reads.0, reads.1, c.if-count-allowed.false, budget, same_taken) in
     read_carries old _ (g.I.Source.left c.args.input.now) (g.I.Source.left c.read.new.input) c.in_ok-count.count mid reads c.requires.below
-    (ap (λ v. v.long) same) (ap (λ v. v.line_max) same) budget (omega (arith, taken)) (sym (take_all (length old.pending + (old.budget - old.taken)) mid part))
+    (ap (λ v. v.long) same) (ap (λ v. v.line_max) same) budget (omega (arith, taken)) (sym (take_all (length old.pending + (old.budget - old.taken)) mid part)) (ap (λ v. v.ended) same)
