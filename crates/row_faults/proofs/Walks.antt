@@ -1,22 +1,15 @@
 -- The walks over lists of ordinals, and over those of a set.
-use Rattle.std.proofs.Common.{inl, inr, true, nat_cmp, Option, None, Result, Ok, Err, false, ◌≡◌, ℕ, ◌+◌, ◌<◌, ◌≤◌, List, [], ◌∷◌, Some, subst, ap, sym, ◌∙◌, refl, arith, zero, suc, get_or, length}
+use Rattle.std.proofs.Common.{inl, inr, true, nat_cmp, Option, None, Result, Ok, Err, false, ◌≡◌, ℕ, ◌+◌, ◌-◌, ◌^◌, ◌<◌, ◌≤◌, List, [], ◌∷◌, Some, subst, ap, sym, ◌∙◌, refl, arith, zero, suc, get_or, length}
 use Rattle.std.specs.Prelude.{Contains, is_err, MatchOption, slice_get}
 use Rattle.std.proofs.lemmas.Bool.{cases_eq, cases_lt}
 use Rattle.std.proofs.lemmas.Option.{slice_get-get_or, slice_get_within}
 use Rattle.std.specs.List.Sorted.{IsBinarySearchResult, IsStrictlyIncreasing}
 use Rattle.std.proofs.lemmas.List.Sorted.{searched}
 use Rattle.std.proofs.lemmas.Map.Keys.{below_from_sorted, sorted_from_strictly_increasing}
-use Rattle.ordinal_set.specs.Ordinals.{TellsNext, bound_of}
+use Rattle.ordinal_set.specs.Ordinals.{AreOrdinals, TellsNext}
 use Rattle.row_faults.specs.First.{FirstFails, NoneFails}
 use Rattle.row_faults.specs.Ordinals.{HasNoPlace, HoldsNowhere, IsLeast, IsNotAbove, StaysOutside}
 use Rattle.row_faults.proofs.OnceFirst.{some_once}
-
--- A member is below the bound.
-pub member_below : (set : List ℕ) (o : ℕ) → Contains set o → o < bound_of set
-unfolding bound_of
-member_below [] o at = absurd (omega (arith, at.1))
-member_below (m ∷ rest) o (zero, inside, is) = omega (arith, is)
-member_below (m ∷ rest) o (suc k, inside, is) = (let low = member_below rest o (k, omega (arith, inside), is) in omega (arith, low))
 
 -- The numbers before an index have passed a test, and the last of them is below a bound by one.
 pub record Walked (Test : ℕ → ℕ → Type 0) (numbers : List ℕ) (index from : ℕ) : Type 0 where
@@ -93,8 +86,8 @@ stays_first live removed places from ordinal none least stays = record {
 pub stays_nowhere : (live removed : List ℕ) (places from : ℕ) → NoneBefore live removed places from → HoldsNowhere (HasNoPlace live from) → HoldsNowhere (StaysOutside live removed places)
 stays_nowhere live removed places from none nowhere number outside = nowhere number (outside.0, none.before number outside)
 
-pub no_member : (set : List ℕ) (bound o : ℕ) → bound ≡ bound_of set → bound ≤ o → Contains set o → ⊥
-no_member set bound o is above at = omega (arith, is, above, member_below set o at)
+pub no_member : (set : List ℕ) (o : ℕ) → AreOrdinals set → 2 ^ 32 - 1 < o → Contains set o → ⊥
+no_member set o are above (k, inside, is) = (let low = are.small k o inside in omega (arith, low, above, is))
 
 -- Numbers that rise are at a later index no lower.
 rising_far : (numbers : List ℕ) → IsStrictlyIncreasing numbers → (i j : ℕ) → i ≤ j → j < length numbers → get_or numbers i 0 ≤ get_or numbers j 0

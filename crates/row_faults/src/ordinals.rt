@@ -13,19 +13,21 @@ ghost use Rattle.row_faults.specs.Ordinals.{FailsAdded, FailsRemoved, HasNoPlace
 use ordinal_set::OrdinalSet;
 use type_rows::{PatchSection, place_count};
 
-#[tactic(auto, using(crate::proofs::Walks::no_member))]
 /// Whether a set has a number, which may be past the greatest ordinal.
+#[tactic(auto, using(crate::proofs::Walks::no_member))]
 fn has(live: &OrdinalSet, number: u64) -> bool
     ensures { IsTrue result ↔ Contains live.now number }
 {
-    if number >= u64::from(live.bound()) {
+    if number > u64::from(u32::MAX) {
+        // Each ordinal of a set is below its bound, which has 32 bits.
+        let _bound = live.bound();
         return false;
     }
     live.contains(number as u32)
 }
 
-#[tactic(auto, using(crate::proofs::Walks::begun, crate::proofs::Walks::walked_on, crate::proofs::Walks::low_number, crate::proofs::Walks::high_number, crate::proofs::Walks::found_first, crate::proofs::Walks::found_none))]
 /// The first removed ordinal that is not above the one before it, or is not live.
+#[tactic(auto, using(crate::proofs::Walks::begun, crate::proofs::Walks::walked_on, crate::proofs::Walks::low_number, crate::proofs::Walks::high_number, crate::proofs::Walks::found_first, crate::proofs::Walks::found_none))]
 pub fn first_bad_removed(live: &OrdinalSet, removed: &[u64]) -> Option<u64>
     ensures { MatchOption result (NoneFails (FailsRemoved live.now removed.now) removed.now) (FirstFails (FailsRemoved live.now removed.now) removed.now) }
 {
@@ -39,8 +41,8 @@ pub fn first_bad_removed(live: &OrdinalSet, removed: &[u64]) -> Option<u64>
     None
 }
 
-#[tactic(auto, using(crate::proofs::Walks::begun, crate::proofs::Walks::walked_on, crate::proofs::Walks::low_number, crate::proofs::Walks::high_number, crate::proofs::Walks::found_first, crate::proofs::Walks::found_none))]
 /// The first added ordinal that is not above the one before it, has none of so many places, or is live.
+#[tactic(auto, using(crate::proofs::Walks::begun, crate::proofs::Walks::walked_on, crate::proofs::Walks::low_number, crate::proofs::Walks::high_number, crate::proofs::Walks::found_first, crate::proofs::Walks::found_none))]
 pub fn first_bad_added(live: &OrdinalSet, places: u64, added: &[u64]) -> Option<u64>
     ensures { MatchOption result (NoneFails (FailsAdded live.now places added.now) added.now) (FirstFails (FailsAdded live.now places added.now) added.now) }
 {
@@ -54,8 +56,8 @@ pub fn first_bad_added(live: &OrdinalSet, places: u64, added: &[u64]) -> Option<
     None
 }
 
-#[tactic(auto, using(crate::proofs::Walks::next_without_place))]
 /// The least live ordinal that has none of so many places.
+#[tactic(auto, using(crate::proofs::Walks::next_without_place))]
 pub fn first_without_place(live: &OrdinalSet, places: u32) -> Option<u32>
     ensures least { MatchOption result (HoldsNowhere (HasNoPlace live.now places)) (IsLeast (HasNoPlace live.now places)) }
     ensures small { IfSome result (λ ordinal. ordinal < 2 ^ 32 - 1) }
@@ -63,8 +65,8 @@ pub fn first_without_place(live: &OrdinalSet, places: u32) -> Option<u32>
     live.next_from(places)
 }
 
-#[tactic(auto, using(crate::proofs::Walks::none_before, crate::proofs::Walks::removed_passed, crate::proofs::Walks::stays_first, crate::proofs::Walks::stays_nowhere))]
 /// The least live ordinal that is not removed and has none of so many places. The removed ones rise.
+#[tactic(auto, using(crate::proofs::Walks::none_before, crate::proofs::Walks::removed_passed, crate::proofs::Walks::stays_first, crate::proofs::Walks::stays_nowhere))]
 pub fn first_staying_outside(live: &OrdinalSet, removed: &[u64], places: u32) -> Option<u64>
     requires { IsStrictlyIncreasing removed.now }
     ensures { MatchOption result (HoldsNowhere (StaysOutside live.now removed.now places)) (IsLeast (StaysOutside live.now removed.now places)) }

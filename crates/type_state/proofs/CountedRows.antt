@@ -1,12 +1,12 @@
 -- Differences that are counted one after another.
 use Rattle.std.proofs.Common.{◌≡◌, ℕ, zero, suc, ◌+◌, ◌<◌, ◌≤◌, inl, inr, List, [], ◌∷◌, length, get_or, take, Option, None, Some, refl, ap, sym, subst, ◌∙◌, arith}
-use Rattle.std.specs.Prelude.{is_some, IsSome}
+use Rattle.std.specs.Prelude.{is_some, All, IsSome, slice_index}
 use Rattle.std.specs.Ordering.{nat_cmp}
 use Rattle.std.specs.FinMap.{find, get, values}
 use Rattle.std.specs.List.Sorted.{IsStrictlySortedBy}
 use Rattle.std.specs.Map.{keys_of}
 use Rattle.std.proofs.lemmas.Bool.{cases_eq, cases_lt}
-use Rattle.std.proofs.lemmas.List.{get_or-take, length-take, take_all}
+use Rattle.std.proofs.lemmas.List.{get_or_past, get_or-take, length-take, take_all}
 use Rattle.schema_model.specs.declared.schema.Shape.{Shape}
 use Rattle.row_model.specs.declared.row.Row.{Row}
 use Rattle.row_model.specs.Table.{RowMap}
@@ -15,9 +15,25 @@ use Rattle.type_rows.specs.Differing.{Difference, differ_at}
 use Rattle.type_rows.specs.Totals.{AreLess, AreMore, AreTotals}
 use Rattle.type_rows.proofs.Rising.{from_sorted}
 use Rattle.type_state.specs.Differences.{differing}
-use Rattle.type_state.specs.Counted.{AgreeAt, AreFitting, FitsSomewhere, IsCounted}
+use Rattle.type_state.specs.Counted.{AgreeAt, AreFitting, AreNothing, FitsSomewhere, IsCounted}
 use Rattle.type_state.proofs.Lookups.{found, found_at, keys_rise, skipped}
 use Rattle.type_state.proofs.RowSums.{differing_more, get_apart, totals_differ}
+
+-- Zeros are 0 everywhere.
+all_zero : (xs : List ℕ) → All (λ x. x ≡ 0) xs → (k : ℕ) → slice_index xs k ≡ 0
+all_zero xs zeros k = elim (cases_lt k (length xs)) [
+  | inl inside ↦ zeros k 0 inside
+  | inr past ↦ get_or_past xs k 0 past
+]
+
+-- Of nothing nothing is taken off, whatever stood there.
+pub nothing_less : (totals : Totals) (stood : Option Row) → AreNothing totals → AreLess totals stood totals
+nothing_less totals stood nothing = record {
+  ends = λ field. (let zero = all_zero totals.ends.offsets.items nothing.0 field in omega (arith, zero));
+  items = omega (arith, nothing.1);
+  bytes = omega (arith, nothing.2);
+  long = refl;
+}
 
 -- The differences below an index are counted, and what comes by them fits.
 pub record Counting (shape : Shape) (widths : List ℕ) (rows : RowMap) (ds : List Difference) (initial now : Totals) (index : ℕ) : Type 0 where

@@ -1,5 +1,5 @@
 -- How what rows add up to changes where rows come in place of others, and which of them are told to fit.
-use Rattle.std.specs.Prelude.{◌≡◌, ℕ, ◌+◌, ◌-◌, ◌*◌, ◌≤◌, List, Some, IsSome, length, slice_index}
+use Rattle.std.specs.Prelude.{◌≡◌, ℕ, ◌+◌, ◌-◌, ◌*◌, ◌≤◌, List, Some, IsSome, All, length, slice_index}
 use Rattle.std.specs.FinMap.{find, get, values}
 use Rattle.std.specs.Ordering.{nat_cmp}
 use Rattle.bit_array.specs.Element.{words_of}
@@ -29,6 +29,10 @@ AgreeAt rows others differences = (ordinal : ℕ) → IsSome (find nat_cmp ordin
 -- The differences are counted: the totals of rows that have the same as these under their ordinals become those of the differing rows.
 pub record IsCounted (rows : RowMap) (differences : List Difference) (before after : Totals) : Type 0 where
   pub counted : (others : RowMap) → AreTotals (values others) before → AgreeAt others rows differences → AreTotals (values (differing others differences)) after
+
+-- The totals are those of rows that add up to nothing.
+abbrev pub AreNothing : Totals → Type 0
+AreNothing totals = All (λ (ends : ℕ). ends ≡ 0) totals.ends.offsets.items × (totals.ends.items ≡ 0) × (totals.bytes ≡ 0)
 
 -- Each part of a row fits its width, where the row ends at some offsets and behind some items.
 pub record FitsSomewhere (shape : Shape) (widths : List ℕ) (row : Row) : Type 0 where

@@ -9,7 +9,7 @@ ghost use Rattle.schema_model.specs.Parts.{shape_fields};
 ghost use Rattle.type_rows.specs.Ends.{AreOfKind, IsOfKind};
 ghost use Rattle.type_rows.specs.Layout.{width_count};
 ghost use Rattle.type_rows.specs.Totals.{AreLess, AreMore, HasParts};
-ghost use Rattle.type_state.specs.Counted.{FitsSomewhere, IsComing, IsCounted};
+ghost use Rattle.type_state.specs.Counted.{AreNothing, FitsSomewhere, IsComing, IsCounted};
 
 use crate::current::Current;
 use crate::differences::Difference;
@@ -18,7 +18,15 @@ use schema_model::Shape;
 use std::alloc::{AllocError, Global};
 use type_rows::Totals;
 
-/// Takes off the row under an ordinal, if there is one.
+/// Whether rows add up to nothing: they have no items and no variable bytes.
+fn are_nothing(totals: &Totals) -> bool
+    ensures { IsTrue result → AreNothing totals.now }
+{
+    totals.bytes == 0 && totals.ends.items == 0 && totals.ends.offsets.iter().all(|end| *end == 0)
+}
+
+/// Takes off the row under an ordinal, if there is one. Of nothing nothing is taken off, and no row is made.
+#[tactic(auto, using(crate::proofs::CountedRows::nothing_less))]
 fn take_under(
     alloc: Global,
     totals: &mut Totals,
@@ -28,6 +36,9 @@ fn take_under(
     requires { (row : StoredRow) → get rows.now.rows ordinal ≡ Some row → HasParts (length totals.old.ends.offsets.items) row }
     ensures { OnOk result (AreLess totals.old (get rows.now.rows ordinal) totals.new) }
 {
+    if are_nothing(totals) {
+        return Ok(());
+    }
     if let Some(row) = rows.find(alloc, ordinal)? {
         totals.take_off(&row);
     }

@@ -43,8 +43,8 @@ pub(crate) fn half_of_section(
     })
 }
 
-#[tactic(auto, using(crate::proofs::Fitting::words_fit))]
 /// Lays out the rows of a section in the next half of two, in the words that it takes. Where memory is refused the next half has no words.
+#[tactic(auto, using(crate::proofs::Fitting::words_fit))]
 pub(crate) fn lay_section_next(
     alloc: Global,
     schema: &Schema,

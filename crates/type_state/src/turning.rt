@@ -42,9 +42,9 @@ pub(crate) fn lay_moved_next(
     lay_other_next(alloc, schema, current, next, twin)
 }
 
-#[tactic(auto, using(crate::proofs::Fitting::moved_fit))]
 /// The same where the current words may be copied: the next half begins with those that its records fill, and no word is cleared before that is
 /// copied over.
+#[tactic(auto, using(crate::proofs::Fitting::moved_fit))]
 fn lay_copied_next(
     schema: &Schema,
     current: &HalfShape,
@@ -73,8 +73,8 @@ fn lay_copied_next(
     Ok(())
 }
 
-#[tactic(auto, using(crate::proofs::Fitting::moved_fit))]
 /// The same of all others, in words of zeros.
+#[tactic(auto, using(crate::proofs::Fitting::moved_fit))]
 fn lay_other_next(
     alloc: Global,
     schema: &Schema,

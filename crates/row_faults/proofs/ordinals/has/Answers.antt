@@ -4,4 +4,4 @@ use Rattle.row_faults.proofs.ordinals.has.Goals as goal
 
 pub returns-then-number-from : goal.returns-then-number-from
 returns-then-number-from c =
-    (λ e. absurd cc, λ at. absurd (no_member c.args.live.now c.bound.result c.args.number c.bound.ensures.bound (omega (arith, c.if-number-from.true, c.from.ensures)) at))
+    (λ e. absurd cc, λ at. absurd (no_member c.args.live.now c.args.number c.bound-bound.ensures.ordinals (omega (arith, c.if-number-from.true, c.from.ensures)) at))
