@@ -5,8 +5,8 @@ ghost use Rattle.row_model.specs.Table.{IsClosed};
 ghost use Rattle.key_index.specs.Indexed.{AreKeysOf, AreUnder, CountsKeys, CountsLive, Follows, IsIndexBy};
 
 use crate::key_rows::KeyRows;
-use crate::read::read_key;
 use crate::reserved::Reserved;
+use crate::simple_key::{key_column, read_slot};
 use column_rows::ColumnRows;
 use hol_io::Steps;
 use hol_varint::Ordinals;
@@ -63,10 +63,11 @@ impl KeyIndex {
         let bound = rows.bound(type_index);
         let mut kept = KeyRows::new(alloc);
         kept.reserve(bound)?;
+        let column = key_column(rows, &paths, type_index);
         for ordinal in 0..bound {
             if rows.is_live(type_index, ordinal) {
-                let key = read_key(alloc, rows, &paths, type_index, ordinal, steps)?;
-                kept.put(ordinal, key);
+                let slot = read_slot(alloc, rows, &column, &paths, type_index, ordinal, steps)?;
+                kept.place(ordinal, slot);
             }
         }
         Ok(KeyIndex {

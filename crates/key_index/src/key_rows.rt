@@ -74,8 +74,8 @@ impl KeyRows {
         make_room(&mut self.slots, room)
     }
 
-    // Writes the slot of an ordinal, and links it by its key. It takes no memory.
-    fn place(&mut self, ordinal: u32, slot: Slot)
+    /// Writes the slot of an ordinal, and links it by its key. It takes no memory.
+    pub(crate) fn place(&mut self, ordinal: u32, slot: Slot)
         requires { ordinal < self.old.room }
         ensures { self.new ≡ record self.old { keys = placed self.old.keys ordinal (row_key slot) } }
     {

@@ -7,6 +7,7 @@ mod key_rows;
 pub mod laws;
 mod read;
 mod reserved;
+mod simple_key;
 mod slot;
 
 pub use index::KeyIndex;

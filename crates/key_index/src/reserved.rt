@@ -5,7 +5,7 @@ ghost use Rattle.row_model.specs.Table.{IsClosed, IsLive};
 ghost use Rattle.key_index.specs.Slots.{added_row, next_of, with_added, without};
 
 use crate::key_rows::KeyRows;
-use crate::read::read_key;
+use crate::simple_key::{key_column, read_key_by};
 use column_rows::ColumnRows;
 use hol_io::Steps;
 use hol_varint::{Duplicate, List, Ordinals};
@@ -49,8 +49,9 @@ fn read_added<R: ColumnRows, L: Ledger>(
     ensures bounded { (steps.old ≤ steps.new) × (steps.new ≤ steps.old + length added.now) }
 {
     let mut rows = AddedRows::with_capacity(alloc, added.len())?;
+    let column = key_column(next, paths, type_index);
     for ordinal in added {
-        let key = read_key(alloc, next, paths, type_index, *ordinal, steps)?;
+        let key = read_key_by(alloc, next, &column, paths, type_index, *ordinal, steps)?;
         rows.push(AddedRow {
             ordinal: *ordinal,
             key,

@@ -24,6 +24,7 @@ pub(crate) enum Slot {
 impl Slot {
     ghost use Rattle.std.specs.Prelude.{◌≡◌, Some, length};
     ghost use Rattle.std.specs.Option.{option_copied};
+    ghost use Rattle.key_index.specs.SimpleKey.{key_of_value};
     ghost use Rattle.key_index.specs.Slots.{key_in, row_key};
 
     /// The slot of a row with its key, if it has one.
@@ -34,6 +35,16 @@ impl Slot {
             Some(values) if values.len() == 1 => Slot::of_one(values),
             Some(values) => Slot::More(values),
             None => Slot::Keyless,
+        }
+    }
+
+    /// The slot of a row whose key is this value, and which has none where it is null.
+    pub(crate) fn of_value(value: Value) -> Slot
+        ensures { row_key result ≡ Some (key_of_value value) }
+    {
+        match value {
+            Value::Null => Slot::Keyless,
+            value => Slot::One(value),
         }
     }
 
