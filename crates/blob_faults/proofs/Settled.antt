@@ -64,12 +64,6 @@ settles_standing form blob at bytes inside no_pass no_fail = elim (form.decided.
   | inr stuck ↦ no_fail (fault.Bad stuck.0 stuck.1) (stuck.0, stuck.1, stuck.2, refl)
 ]
 
--- the tag that a blob starts from
-pub settles_starts : (origin current : ℤ) → Settles (starts origin current)
-unfolding starts
-settles_starts origin current =
-    settles_test (origin ≡ current) (origin ≢ current) (λ same apart. apart same) (fault.OtherOrigin origin current) tt (λ no_same no_other. no_other no_same)
-
 -- the numbers of ordinals and items of a type
 pub settles_counts : (max : Option ℕ) (total : ℕ) → Settles (counts max total)
 unfolding counts
