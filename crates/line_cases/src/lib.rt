@@ -4,4 +4,6 @@
 #[cfg(test)]
 mod plain_cycles;
 #[cfg(test)]
+mod plain_records;
+#[cfg(test)]
 mod replies;

@@ -17,11 +17,12 @@ use Rattle.serde_json.proofs.Views.{get_member-put, get_member-put_other}
 use Rattle.schema_model.specs.declared.schema.Field.{Field}
 use Rattle.schema_model.specs.Parts.{field_names}
 use Rattle.json_rows.specs.StoredRow.{members_of_fields}
+use Rattle.record_json.specs.NamesApart.{AreNamesApart}
 use Rattle.record_json.specs.ReadTree.{are_fields, is_field}
 
 -- ---- each member is a field
 
-is_own : (fields : List Field) (field : Field) → Contains fields field → is_field fields field.name ≡ true
+pub is_own : (fields : List Field) (field : Field) → Contains fields field → is_field fields field.name ≡ true
 is_own fields field (k, inside, at) = list_any-from_Any (λ other. bytes_eq other.name field.name) fields (k, field, inside, at, (bytes_eq-Decides field.name field.name).1 refl)
 
 names_known : (fields : List Field) → All (λ name. is_field fields name ≡ true) (field_names fields)
@@ -36,7 +37,7 @@ placed_known fields Equal key other d e others known rest deeper = rest
 placed_known fields Greater key other d e others known rest deeper =
     and_from (is_field fields other) (are_fields fields (put key d others)) (and_parts (is_field fields other) (are_fields fields others) rest).0 deeper
 
-put_known : (fields : List Field) (key : List ℕ) (d : Data) (others : Members) → is_field fields key ≡ true → are_fields fields others ≡ true → are_fields fields (put key d others) ≡ true
+pub put_known : (fields : List Field) (key : List ℕ) (d : Data) (others : Members) → is_field fields key ≡ true → are_fields fields others ≡ true → are_fields fields (put key d others) ≡ true
 put_known fields key d no_members known rest = and_from (is_field fields key) true known refl
 put_known fields key d (member other e others) known rest =
     placed_known fields (slice_cmp nat_cmp key other) key other d e others known rest
@@ -54,11 +55,6 @@ pub members_known_all : (fields : List Field) (parts : List Data) → are_fields
 members_known_all fields parts = all_known fields (field_names fields) parts no_members (names_known fields) refl
 
 -- ---- each field has its part
-
--- no name stands twice
-abbrev pub AreNamesApart : List (List ℕ) → Type 0
-AreNamesApart [] = Unit {0}
-AreNamesApart (name ∷ names) = All (λ other. name ≡ other → ⊥) names × AreNamesApart names
 
 left_alone : (name : List ℕ) (names : List (List ℕ)) (parts : List Data) (so_far : Members) → All (λ other. name ≡ other → ⊥) names
     → get_member name (fold (λ members part. put part.0 part.1 members) so_far (zip names parts)) ≡ get_member name so_far

@@ -28,9 +28,10 @@ use Rattle.record_trees.proofs.Deciding.{keys_apart_or_not}
 use Rattle.json_values.specs.ReadValue.{before, read_each}
 use Rattle.json_rows.specs.StoredRow.{members_of_fields}
 use Rattle.record_json.specs.InRange.{ArePairsInRange, AreTreesInRange, IsTreeInRange}
+use Rattle.record_json.specs.NamesApart.{AreNamesApart}
 use Rattle.record_json.specs.PrintTree.{PrintsAt, PrintsField, PrintsFields, PrintsPair, PrintsShape, PrintsTyped, PrintsWithin}
 use Rattle.record_json.specs.ReadTree.{are_fields, key_then, made, read_at, read_field, read_fields, read_map, read_members, read_pair, read_present, read_reference, read_shape, read_typed, read_within}
-use Rattle.record_json.proofs.FieldsBack.{AreNamesApart, each_found, members_known_all}
+use Rattle.record_json.proofs.FieldsBack.{each_found, members_known_all}
 use Rattle.record_json.proofs.PrintingFronts.{length_zipped}
 use Rattle.record_json.proofs.TreeParts.{keys_apart}
 use Rattle.record_json.proofs.ValuesBack.{value_back}
@@ -189,7 +190,7 @@ names_apart (field ∷ fields) once = (
   names_apart fields (λ i j f g first second same. let e = once (suc i) (suc j) f g first second same in omega (arith, e)),
 )
 
-model_apart : (schemas : List Schema) (t : ℕ) (schema : Schema) → IsModel schemas → slice_get schemas t ≡ Some schema → (key : Option (List Name)) (fields : List Field) → schema.shape ≡ Shape.Object key fields → AreNamesApart (field_names fields)
+pub model_apart : (schemas : List Schema) (t : ℕ) (schema : Schema) → IsModel schemas → slice_get schemas t ≡ Some schema → (key : Option (List Name)) (fields : List Field) → schema.shape ≡ Shape.Object key fields → AreNamesApart (field_names fields)
 model_apart schemas t schema model found key fields is =
     let own : fields_of schema ≡ fields = ap (λ (s : Shape). shape_fields s) is in
     subst (λ fs. AreNamesApart (field_names fs)) own

@@ -1,5 +1,6 @@
 pub mod InRange
 pub mod KeysApart
+pub mod NamesApart
 pub mod PrintTree
 pub mod Printing
 pub mod ReadTree

@@ -11,4 +11,5 @@ mod trees;
 
 pub use print_fault::PrintFault;
 pub use printed::tree_value;
+pub use tree_values::value_tree;
 pub use trees::tree_from;

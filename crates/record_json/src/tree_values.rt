@@ -14,7 +14,7 @@ use serde_json::{Map, Value};
 use std::alloc::Global;
 
 /// The value of a field of a kind without a reference, as a tree.
-pub(crate) fn value_tree(alloc: Global, kind: &FieldKind, value: &Value) -> Result<Tree, ValueFault>
+pub fn value_tree(alloc: Global, kind: &FieldKind, value: &Value) -> Result<Tree, ValueFault>
     requires plain { IsPlain kind.now }
     ensures { TellsAs plain (made leaf (read_value kind.now (view value.now))) result }
 {

@@ -1,10 +1,11 @@
-mod Converted
+pub mod Ahead
+pub mod Converted
 mod Enough
-mod Listed
+pub mod Listed
 mod Named
 mod Opened
 mod Passed
-mod Records
+pub mod Records
 mod Sought
 mod Typing
 mod Whole

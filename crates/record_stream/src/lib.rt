@@ -11,4 +11,5 @@ mod record;
 mod value;
 
 pub use cycle_line::{CycleLine, CycleParts, split_cycle};
-pub use record::next_record;
+pub use number::parse_number;
+pub use record::{RECORD_DEPTH, next_record, pass_records};

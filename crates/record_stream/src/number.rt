@@ -8,7 +8,7 @@ use serde_json::Number;
 
 /// The number that the text of a token writes, or `None` exactly where it is out of range.
 #[inline(always)]
-pub(crate) fn parse_number(text: &str) -> Option<Number>
+pub fn parse_number(text: &str) -> Option<Number>
     ensures { option_map number_view result ≡ number_of text.now }
 {
     let bytes = text.as_bytes();

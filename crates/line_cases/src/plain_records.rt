@@ -1,0 +1,59 @@
+//! Which records are read as trees straight from their tokens.
+use json::Scratch;
+use json_values::schemas_from;
+use record_stream::split_cycle;
+use record_tokens::{NextTree, next_tree};
+use schema_model::{Model, model_of};
+use serde_json::Value;
+use std::alloc::Global;
+
+/// Films with the set of their tags.
+const FILMS: &str =
+    r#"[{"kind":"OBJECT","name":"Film","fields":[{"name":"id","type":"INT"},{"name":"title","type":"STRING"},{"name":"tags","type":"REFERENCE","to":"Tags"}]},{"kind":"SET","name":"Tags","element":"Tag"},{"kind":"OBJECT","name":"Tag","fields":[{"name":"value","type":"STRING"}]}]"#;
+
+/// Cycles whose first film has the plain form.
+const PLAIN: [&str; 3] = [
+    r#"{"cycle":{"version":1,"tag":7,"add":{"Film":[{"id":1,"title":"a","tags":[{"value":"\u00e9"},{"value":null}]}]}}}"#,
+    r#"{"cycle":{"version":1,"tag":7,"add":{"Film":[{"title":"a"}, 3]}}}"#,
+    r#"{"cycle":{"version":1,"tag":7,"add":{"Tag":[{}],"Film":[{"tags":[]}]}}}"#,
+];
+
+/// Cycles whose first film has another form, or is none.
+const OTHER: [&str; 6] = [
+    r#"{"cycle":{"version":1,"tag":7,"add":{"Film":[{"title":[97,55296]}]}}}"#,
+    r#"{"cycle":{"version":1,"tag":7,"add":{"Film":[{"title":"a","id":1}]}}}"#,
+    r#"{"cycle":{"version":1,"tag":7,"add":{"Film":[{"id":1,"id":1}]}}}"#,
+    r#"{"cycle":{"version":1,"tag":7,"add":{"Film":[{"id":2147483648}]}}}"#,
+    r#"{"cycle":{"version":1,"tag":7,"add":{"Film":[{"year":1}]}}}"#,
+    r#"{"cycle":{"version":1,"tag":7,"add":{"Film":[null]}}}"#,
+];
+
+/// The model of the films.
+fn films(alloc: Global) -> Option<Model> {
+    let schemas = schemas_from(alloc, &Value::from_str(alloc, FILMS).ok()?).ok()?;
+    model_of(alloc, schemas).ok()
+}
+
+/// Whether the first film of a cycle is read straight from its tokens.
+fn is_taken(alloc: Global, line: &str) -> Option<bool> {
+    let model = films(alloc)?;
+    let cycle = split_cycle(alloc, line).ok()??;
+    let mut scratch = Scratch::new(alloc);
+    let mut reader = cycle.add.records(&mut scratch, "Film").ok()??;
+    let film = model.index_of("Film")?;
+    if film >= model.len() {
+        return None;
+    }
+    let found = next_tree(alloc, &model, film, &mut reader).ok()?;
+    Some(matches!(found, NextTree::Record(_)))
+}
+
+#[test]
+fn plain_records(rt: HostRuntime) {
+    for line in PLAIN {
+        assert!(rt; is_taken(rt.alloc(), line) == Some(true));
+    }
+    for line in OTHER {
+        assert!(rt; is_taken(rt.alloc(), line) == Some(false));
+    }
+}

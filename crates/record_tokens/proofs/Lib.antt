@@ -1,0 +1,4 @@
+mod FieldsTaken
+mod ItemsTaken
+mod Taking
+mod Told
