@@ -1,5 +1,5 @@
 -- A record more is read, and added behind others.
-use Rattle.std.proofs.Common.{◌≡◌, ℕ, ◌+◌, ◌≤◌, List, [], ◌∷◌, ◌++◌, take, drop, Bool, true, false, Some, Result, Ok, Err, inl, refl, sym, ap, ◌∙◌, subst, append_assoc}
+use Rattle.std.proofs.Common.{◌≡◌, ℕ, ◌+◌, ◌≤◌, List, [], ◌∷◌, ◌++◌, take, drop, Bool, true, false, Some, Result, Ok, Err, inl, refl, sym, ap, ◌∙◌, subst, append_assoc, append-nil}
 use Rattle.std.specs.Prelude.{IsOk, ◌<◌, length, slice_get}
 use Rattle.std.specs.Result.{is_ok}
 use Rattle.std.proofs.lemmas.List.Elements.{All-cons, All-nil}
@@ -137,11 +137,15 @@ holds_once previous current agree = record {
   low = λ t ordinal live. (agree t).low ordinal (inl live);
 }
 
--- So many records of a type were added behind others.
-pub record HasAdded (t : ℕ) (values : List Data) (before now : Production) (full_before full : Bool) (place : ℕ) : Type 0 where
+-- The records of a type before a place were added, behind those before another place and behind others.
+pub record HasAdded (t : ℕ) (values : List Data) (before now : Production) (full_before full : Bool) (from place : ℕ) : Type 0 where
   pub kept : now ≡ record before { current = now.current }
-  pub added : (done : List Entry) → AreAdded before.schemas before.previous done before.current full_before
+  pub added : (done : List Entry) → AreAdded before.schemas before.previous (done ++ take from (entries_at t values)) before.current full_before
       → AreAdded before.schemas before.previous (done ++ take place (entries_at t values)) now.current full
+
+-- others, with none of the records of a type behind them
+pub none_behind : (schemas : List Schema) (previous rows : Table) (full : Bool) (done recorded : List Entry) → AreAdded schemas previous done rows full → AreAdded schemas previous (done ++ take 0 recorded) rows full
+none_behind schemas previous rows full done recorded had = subst (λ (es : List Entry). AreAdded schemas previous es rows full) (sym (append-nil done)) had
 
 -- The records of so many types were added.
 pub record HasAddedTypes (add : Data) (before now : Production) (full : Bool) (t : ℕ) : Type 0 where
@@ -149,7 +153,7 @@ pub record HasAddedTypes (add : Data) (before now : Production) (full : Bool) (t
   pub added : AreAdded before.schemas before.previous (front_entries before.schemas add t) now.current full
 
 -- what is told over a producer is told over the one that it came from
-told_before : (before now : Production) (done : List Entry) (rows rows' : Table) (all : List Entry) (full : Bool) (result : Result Bool RecordFault) → now ≡ record before { current = now.current }
+pub told_before : (before now : Production) (done : List Entry) (rows rows' : Table) (all : List Entry) (full : Bool) (result : Result Bool RecordFault) → now ≡ record before { current = now.current }
     → (AreAdded now.schemas now.previous done rows full → TellsAdded now.schemas now.previous all rows' result)
     → AreAdded before.schemas before.previous done rows full → TellsAdded before.schemas before.previous all rows' result
 told_before before now done rows rows' all full result kept tells =
@@ -158,11 +162,11 @@ told_before before now done rows rows' all full result kept tells =
 pub kept_both : (before now after : Production) → now ≡ record before { current = now.current } → after ≡ record now { current = after.current } → after ≡ record before { current = after.current }
 kept_both before now after kept also = also ∙ ap (λ (p : Production). record p { current = after.current }) kept
 
-pub values_step : (t : ℕ) (values : List Data) (before now after : Production) (full_before full full' : Bool) (place : ℕ) (value : Data) → slice_get values place ≡ Some value
-    → HasAdded t values before now full_before full place → after ≡ record now { current = after.current }
+pub values_step : (t : ℕ) (values : List Data) (before now after : Production) (full_before full full' : Bool) (from place : ℕ) (value : Data) → slice_get values place ≡ Some value
+    → HasAdded t values before now full_before full from place → after ≡ record now { current = after.current }
     → ((done : List Entry) → AreAdded now.schemas now.previous done now.current full → TellsAdded now.schemas now.previous (done ++ entry_at t place value ∷ []) after.current (Ok full'))
-    → HasAdded t values before after full_before full' (place + 1)
-values_step t values before now after full_before full full' place value at so_far kept tells = record {
+    → HasAdded t values before after full_before full' from (place + 1)
+values_step t values before now after full_before full full' from place value at so_far kept tells = record {
   kept = kept_both before now after so_far.kept kept;
   added = λ done had.
       (let some = take place (entries_at t values) in
@@ -170,20 +174,22 @@ values_step t values before now after full_before full full' place value at so_f
       subst (λ es. AreAdded before.schemas before.previous es after.current full') (append_assoc done some (entry_at t place value ∷ []) ∙ ap (λ es. done ++ es) (sym (values_more t values place value at))) one);
 }
 
-pub values_stop : (t : ℕ) (values : List Data) (before now after : Production) (full_before full : Bool) (place : ℕ) (value : Data) (refused : RecordFault) → slice_get values place ≡ Some value
-    → HasAdded t values before now full_before full place
+pub values_stop : (t : ℕ) (values : List Data) (before now after : Production) (full_before full : Bool) (from place : ℕ) (value : Data) (refused : RecordFault) → slice_get values place ≡ Some value
+    → HasAdded t values before now full_before full from place
     → ((done : List Entry) → AreAdded now.schemas now.previous done now.current full → TellsAdded now.schemas now.previous (done ++ entry_at t place value ∷ []) after.current (Err refused))
-    → (done : List Entry) → AreAdded before.schemas before.previous done before.current full_before → TellsAdded before.schemas before.previous (done ++ entries_at t values) after.current (Err refused)
-values_stop t values before now after full_before full place value refused at so_far tells done had =
+    → (done : List Entry) → AreAdded before.schemas before.previous (done ++ take from (entries_at t values)) before.current full_before
+    → TellsAdded before.schemas before.previous (done ++ entries_at t values) after.current (Err refused)
+values_stop t values before now after full_before full from place value refused at so_far tells done had =
     let some = take place (entries_at t values) in
     let one = told_before before now (done ++ some) now.current after.current ((done ++ some) ++ entry_at t place value ∷ []) full (Err refused) so_far.kept (tells (done ++ some)) (so_far.added done had) in
     fault_more before.schemas before.previous after.current after.current ((done ++ some) ++ entry_at t place value ∷ []) (drop (place + 1) (entries_at t values)) (done ++ entries_at t values) refused
     (ap (λ es. es ++ drop (place + 1) (entries_at t values)) (append_assoc done some (entry_at t place value ∷ []) ∙ ap (λ es. done ++ es) (sym (values_more t values place value at)))
     ∙ append_assoc done (take (place + 1) (entries_at t values)) (drop (place + 1) (entries_at t values)) ∙ ap (λ es. done ++ es) (values_rest t values (place + 1))) one
 
-pub values_end : (t : ℕ) (values : List Data) (before now : Production) (full_before full : Bool) (place : ℕ) → length values ≤ place → HasAdded t values before now full_before full place
-    → (done : List Entry) → AreAdded before.schemas before.previous done before.current full_before → TellsAdded before.schemas before.previous (done ++ entries_at t values) now.current (Ok full)
-values_end t values before now full_before full place past so_far done had =
+pub values_end : (t : ℕ) (values : List Data) (before now : Production) (full_before full : Bool) (from place : ℕ) → length values ≤ place → HasAdded t values before now full_before full from place
+    → (done : List Entry) → AreAdded before.schemas before.previous (done ++ take from (entries_at t values)) before.current full_before
+    → TellsAdded before.schemas before.previous (done ++ entries_at t values) now.current (Ok full)
+values_end t values before now full_before full from place past so_far done had =
     subst (λ es. AreAdded before.schemas before.previous (done ++ es) now.current full) (values_all t values place past) (so_far.added done had)
 
 pub types_step : (add : Data) (before now after : Production) (full full' : Bool) (t : ℕ) (schema : Schema) (values : List Data) → slice_get now.schemas t ≡ Some schema → values ≡ values_under add schema.name

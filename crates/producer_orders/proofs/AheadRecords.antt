@@ -1,5 +1,5 @@
 -- The records that are read from a line one by one, and added behind others.
-use Rattle.std.proofs.Common.{◌≡◌, ◌∙◌, ℕ, zero, suc, ◌+◌, ◌≤◌, List, [], ◌∷◌, ◌++◌, length, drop, Bool, Option, Some, None, Result, Ok, Err, refl, sym, ap, subst, arith, add-one, append-nil}
+use Rattle.std.proofs.Common.{◌≡◌, ◌∙◌, ℕ, ◌+◌, ◌≤◌, List, [], ◌∷◌, ◌++◌, length, take, drop, Bool, Option, Some, None, Result, Ok, Err, refl, sym, ap, subst, arith, append-nil, length-drop}
 use Rattle.std.specs.Prelude.{slice_get}
 use Rattle.std.specs.Option.{option_and_then, option_map_or}
 use Rattle.json.specs.Token.{Token}
@@ -7,80 +7,125 @@ use Rattle.serde_json.specs.Data.{Data, array}
 use Rattle.serde_json.specs.Find.{as_array, get}
 use Rattle.serde_json.specs.View.{items_of, view}
 use Rattle.serde_json.specs.declared.value.Value.{Value}
+use Rattle.record_stream.specs.CycleLine.{TellsRecords}
 use Rattle.record_stream.specs.Records.{AreAhead, TellsRecord}
+use Rattle.record_stream.proofs.Ahead.{at_front, past_end}
 use Rattle.schema_model.specs.declared.schema.Schema.{Schema}
 use Rattle.row_model.specs.Table.{Table}
+use Rattle.row_model.specs.Tree.{plain}
+use Rattle.row_model.specs.declared.tree.Tree.{Tree}
+use Rattle.record_json.specs.ReadTree.{read_tree}
+use Rattle.record_tokens.specs.Next.{TellsTree}
+use Rattle.record_tokens.specs.declared.next.NextTree.TheVariants.{Record}
 use Rattle.write_engine.specs.Production.{Production}
 use Rattle.hollow_machine.specs.Records.{Entry, entries_at, listed, values_under}
-use Rattle.producer_orders.specs.Parts.{AreAdded, TellsAdded}
+use Rattle.producer_orders.specs.Parts.{AreAdded, IsReadAs, TellsAdded}
 use Rattle.producer_orders.specs.declared.record_fault.RecordFault.{RecordFault}
-use Rattle.producer_orders.proofs.AddingRecords.{HasAdded, kept_both, values_end, values_step, values_stop}
+use Rattle.producer_orders.proofs.AddingRecords.{HasAdded, kept_both, same_reads, values_end, values_step, values_stop}
 use Rattle.producer_orders.proofs.KnownTypes.{listed_items}
-use Rattle.producer_orders.proofs.Placed.{entry_at}
+use Rattle.producer_orders.proofs.Placed.{entry_at, values_all}
 
--- So many records were added of those that were ahead at the start, and the others are ahead.
-pub record AreBeingAdded (t : ℕ) (start now : List Token) (before after : Production) (full_before full : Bool) (place : ℕ) : Type 0 where
+-- The records before a place were added, behind those before the place from which on they were ahead at the start, and the others are ahead.
+pub record AreBeingAdded (t : ℕ) (start now : List Token) (before after : Production) (full_before full : Bool) (from place : ℕ) : Type 0 where
   pub kept : after ≡ record before { current = after.current }
-  pub others : (records : List Data) (rest : List Token) → AreAhead start records rest → AreAhead now (drop place records) rest × HasAdded t records before after full_before full place
+  pub others : (records : List Data) (rest : List Token) → AreAhead start (drop from records) rest → AreAhead now (drop place records) rest × HasAdded t records before after full_before full from place
 
-at_front : {A : Type 0} (xs ys : List A) (i : ℕ) (x : A) → drop i xs ≡ x ∷ ys → (slice_get xs i ≡ Some x) × (drop (i + 1) xs ≡ ys)
-at_front xs ys zero x e = (ap (λ l. slice_get l 0) e, ap (drop 1) e)
-at_front [] ys (suc i) x e = absurd cc
-at_front (z ∷ zs) ys (suc i) x e = let more = at_front zs ys i x e in (more.0, rw add-one (rw add-one at more.1))
-
-past_end : {A : Type 0} (xs : List A) (i : ℕ) → drop i xs ≡ [] → length xs ≤ i
-past_end xs zero e = let none = ap length e in omega arith
-past_end [] (suc i) e = omega arith
-past_end (x ∷ xs) (suc i) e = let more = past_end xs i e in omega arith
-
-pub ahead_first : (t : ℕ) (start : List Token) (before : Production) (full : Bool) → AreBeingAdded t start start before before full full 0
-ahead_first t start before full = record {
+pub ahead_first : (t : ℕ) (start : List Token) (before : Production) (full : Bool) (from : ℕ) → AreBeingAdded t start start before before full full from from
+ahead_first t start before full from = record {
   kept = refl;
-  others = λ records rest ahead. (ahead, record { kept = refl; added = λ done had. subst (λ (es : List Entry). AreAdded before.schemas before.previous es before.current full) (sym (append-nil done)) had });
+  others = λ records rest ahead. (ahead, record { kept = refl; added = λ done had. had });
 }
+
+-- What an answer tells of the first one of the records that are ahead, which was to be added; the others are ahead then.
+abbrev pub TellsNext : ℕ → List Token → List Token → Production → Production → Bool → ℕ → Result Bool RecordFault → Type 0
+TellsNext t now new after later full place result = (records : List Data) (rest : List Token) → AreAhead now records rest
+    → (first : Data) × (others : List Data) × (records ≡ first ∷ others) × AreAhead new others rest
+    × ((done : List Entry) → AreAdded after.schemas after.previous done after.current full → TellsAdded after.schemas after.previous (done ++ entry_at t place first ∷ []) later.current result)
 
 -- the next record is that at the place
-next_at : (t : ℕ) (start now new : List Token) (before after : Production) (full_before full : Bool) (place : ℕ) (value : Value) → AreBeingAdded t start now before after full_before full place
-    → ((records : List Data) (rest : List Token) → AreAhead now records rest → TellsRecord records rest (Some value) new) → (records : List Data) (rest : List Token) → AreAhead start records rest
-    → (slice_get records place ≡ Some (view value)) × AreAhead new (drop (place + 1) records) rest
-next_at t start now new before after full_before full place value so_far told records rest ahead =
+next_at : (t : ℕ) (start now new : List Token) (before after later : Production) (full_before full : Bool) (from place : ℕ) (result : Result Bool RecordFault) → AreBeingAdded t start now before after full_before full from place
+    → TellsNext t now new after later full place result → (records : List Data) (rest : List Token) → AreAhead start (drop from records) rest
+    → (first : Data) × (slice_get records place ≡ Some first) × (place + 1 ≤ length records) × AreAhead new (drop (place + 1) records) rest
+    × ((done : List Entry) → AreAdded after.schemas after.previous done after.current full → TellsAdded after.schemas after.previous (done ++ entry_at t place first ∷ []) later.current result)
+next_at t start now new before after later full_before full from place result so_far told records rest ahead =
     let next = told (drop place records) rest (so_far.others records rest ahead).0 in
-    let at = at_front records next.0 place (view value) next.1 in
-    (at.0, subst (λ (rs : List Data). AreAhead new rs rest) (sym at.1) next.2)
+    let at = at_front records next.1 place next.0 next.2 in
+    let long = ap length next.2 in (
+      next.0,
+      at.0,
+      omega (arith, long, length-drop place records),
+      subst (λ (rs : List Data). AreAhead new rs rest) (sym at.1) next.3,
+      next.4,
+    )
 
-pub ahead_step : (t : ℕ) (start now new : List Token) (before after later : Production) (full_before full full' : Bool) (place : ℕ) (value : Value) → AreBeingAdded t start now before after full_before full place
-    → ((records : List Data) (rest : List Token) → AreAhead now records rest → TellsRecord records rest (Some value) new) → later ≡ record after { current = later.current }
-    → ((done : List Entry) → AreAdded after.schemas after.previous done after.current full → TellsAdded after.schemas after.previous (done ++ entry_at t place (view value) ∷ []) later.current (Ok full'))
-    → AreBeingAdded t start new before later full_before full' (place + 1)
-ahead_step t start now new before after later full_before full full' place value so_far told kept tells = record {
+pub ahead_step : (t : ℕ) (start now new : List Token) (before after later : Production) (full_before full full' : Bool) (from place : ℕ) → AreBeingAdded t start now before after full_before full from place
+    → TellsNext t now new after later full place (Ok full') → later ≡ record after { current = later.current } → AreBeingAdded t start new before later full_before full' from (place + 1)
+ahead_step t start now new before after later full_before full full' from place so_far told kept = record {
   kept = kept_both before after later so_far.kept kept;
   others = λ records rest ahead.
-      (let next = next_at t start now new before after full_before full place value so_far told records rest ahead in
-      (next.1, values_step t records before after later full_before full full' place (view value) next.0 (so_far.others records rest ahead).1 kept tells));
+      (let next = next_at t start now new before after later full_before full from place (Ok full') so_far told records rest ahead in
+      (next.3, values_step t records before after later full_before full full' from place next.0 next.1 (so_far.others records rest ahead).1 kept next.4));
 }
 
-pub ahead_stop : (t : ℕ) (start now new : List Token) (before after later : Production) (full_before full : Bool) (place : ℕ) (value : Value) (refused : RecordFault) → AreBeingAdded t start now before after full_before full place
-    → ((records : List Data) (rest : List Token) → AreAhead now records rest → TellsRecord records rest (Some value) new)
-    → ((done : List Entry) → AreAdded after.schemas after.previous done after.current full → TellsAdded after.schemas after.previous (done ++ entry_at t place (view value) ∷ []) later.current (Err refused))
-    → (records : List Data) (rest : List Token) (done : List Entry) → AreAhead start records rest → AreAdded before.schemas before.previous done before.current full_before
+pub ahead_stop : (t : ℕ) (start now new : List Token) (before after later : Production) (full_before full : Bool) (from place : ℕ) (refused : RecordFault) → AreBeingAdded t start now before after full_before full from place
+    → TellsNext t now new after later full place (Err refused)
+    → (records : List Data) (rest : List Token) (done : List Entry) → AreAhead start (drop from records) rest → AreAdded before.schemas before.previous (done ++ take from (entries_at t records)) before.current full_before
     → TellsAdded before.schemas before.previous (done ++ entries_at t records) later.current (Err refused)
-ahead_stop t start now new before after later full_before full place value refused so_far told tells records rest done ahead had =
-    let next = next_at t start now new before after full_before full place value so_far told records rest ahead in
-    values_stop t records before after later full_before full place (view value) refused next.0 (so_far.others records rest ahead).1 tells done had
+ahead_stop t start now new before after later full_before full from place refused so_far told records rest done ahead had =
+    let next = next_at t start now new before after later full_before full from place (Err refused) so_far told records rest ahead in
+    values_stop t records before after later full_before full from place next.0 refused next.1 (so_far.others records rest ahead).1 next.4 done had
 
-pub ahead_end : (t : ℕ) (start now new : List Token) (before after : Production) (full_before full : Bool) (place : ℕ) → AreBeingAdded t start now before after full_before full place
+pub ahead_end : (t : ℕ) (start now new : List Token) (before after : Production) (full_before full : Bool) (from place : ℕ) → AreBeingAdded t start now before after full_before full from place
     → ((records : List Data) (rest : List Token) → AreAhead now records rest → TellsRecord records rest None new)
-    → (records : List Data) (rest : List Token) (done : List Entry) → AreAhead start records rest → AreAdded before.schemas before.previous done before.current full_before
+    → (records : List Data) (rest : List Token) (done : List Entry) → AreAhead start (drop from records) rest → AreAdded before.schemas before.previous (done ++ take from (entries_at t records)) before.current full_before
     → TellsAdded before.schemas before.previous (done ++ entries_at t records) after.current (Ok full)
-ahead_end t start now new before after full_before full place so_far told records rest done ahead had =
+ahead_end t start now new before after full_before full from place so_far told records rest done ahead had =
     let others = so_far.others records rest ahead in
     let none = told (drop place records) rest others.0 in
-    values_end t records before after full_before full place (past_end records place none.0) others.1 done had
+    values_end t records before after full_before full from place (past_end records place none.0) others.1 done had
 
 -- some records are ahead as long as records are added
-pub still_ahead : (t : ℕ) (start now : List Token) (before after : Production) (full_before full : Bool) (place : ℕ) → AreBeingAdded t start now before after full_before full place
-    → (records : List Data) × (rest : List Token) × AreAhead start records rest → (records : List Data) × (rest : List Token) × AreAhead now records rest
-still_ahead t start now before after full_before full place so_far (records, rest, ahead) = (drop place records, rest, (so_far.others records rest ahead).0)
+pub still_ahead : (t : ℕ) (start now : List Token) (before after : Production) (full_before full : Bool) (from place : ℕ) → AreBeingAdded t start now before after full_before full from place
+    → (records : List Data) × (rest : List Token) × AreAhead start (drop from records) rest → (records : List Data) × (rest : List Token) × AreAhead now records rest
+still_ahead t start now before after full_before full from place so_far (records, rest, ahead) = (drop place records, rest, (so_far.others records rest ahead).0)
+
+-- ---- the next record, as a value or as a tree
+
+pub next_value : (t : ℕ) (now new : List Token) (after later : Production) (full : Bool) (place : ℕ) (result : Result Bool RecordFault) (value : Value)
+    → ((records : List Data) (rest : List Token) → AreAhead now records rest → TellsRecord records rest (Some value) new)
+    → ((done : List Entry) → AreAdded after.schemas after.previous done after.current full → TellsAdded after.schemas after.previous (done ++ entry_at t place (view value) ∷ []) later.current result)
+    → TellsNext t now new after later full place result
+next_value t now new after later full place result value told tells = λ records rest ahead.
+    (let next = told records rest ahead in
+    (view value, next.0, next.1, next.2, tells))
+
+-- what is read by the same schemas
+read_by : (schemas schemas' : List Schema) (t : ℕ) (value : Data) (tree : Tree) → schemas ≡ schemas' → read_tree schemas t value ≡ Ok (plain tree) → IsReadAs schemas' t value (plain tree)
+read_by schemas schemas' t value tree same read = record { gives = same_reads schemas schemas' t value (Ok (plain tree)) same read }
+
+pub next_tree : (schemas : List Schema) (t : ℕ) (now new : List Token) (after later : Production) (full : Bool) (place : ℕ) (result : Result Bool RecordFault) (tree : Tree) → schemas ≡ after.schemas
+    → ((records : List Data) (rest : List Token) → AreAhead now records rest → TellsTree schemas t records rest (Record tree) new)
+    → ((place : ℕ) (value : Data) (done : List Entry) → IsReadAs after.schemas t value (plain tree) → AreAdded after.schemas after.previous done after.current full
+    → TellsAdded after.schemas after.previous (done ++ entry_at t place value ∷ []) later.current result)
+    → TellsNext t now new after later full place result
+next_tree schemas t now new after later full place result tree same told tells = λ records rest ahead.
+    (let next = told records rest ahead in
+    (next.0, next.1, next.2, next.4, λ done had. tells place next.0 done (read_by schemas after.schemas t next.0 tree same next.3) had))
+
+-- a record that is ahead gives the tree
+pub tree_ahead : (schemas schemas' : List Schema) (t : ℕ) (now new : List Token) (tree : Tree) → schemas ≡ schemas' → (records : List Data) × (rest : List Token) × AreAhead now records rest
+    → ((records : List Data) (rest : List Token) → AreAhead now records rest → TellsTree schemas t records rest (Record tree) new) → (value : Data) × IsReadAs schemas' t value (plain tree)
+tree_ahead schemas schemas' t now new tree same (records, rest, ahead) told =
+    let next = told records rest ahead in
+    (next.0, read_by schemas schemas' t next.0 tree same next.3)
+
+-- The place up to which records were added is one of those that were ahead at the start, or that behind the last one.
+abbrev pub AreThere : List Token → ℕ → Type 0
+AreThere start place = (records : List Data) (rest : List Token) → AreAhead start records rest → place ≤ length records
+
+pub there_more : (t : ℕ) (start now new : List Token) (before after later : Production) (full_before full : Bool) (place : ℕ) (result : Result Bool RecordFault) → AreBeingAdded t start now before after full_before full 0 place
+    → TellsNext t now new after later full place result → AreThere start (place + 1)
+there_more t start now new before after later full_before full place result so_far told = λ records rest ahead. (next_at t start now new before after later full_before full 0 place result so_far told records rest ahead).2
 
 -- ---- the records under the name of a type
 
@@ -94,6 +139,15 @@ values_none add name none = ap (λ (o : Option Data). option_map_or listed (opti
 pub same_name : (found schema : Schema) (o : Option Schema) (name : List ℕ) → o ≡ Some found → o ≡ Some schema → name ≡ found.name → name ≡ schema.name
 same_name found schema o name at also named = named ∙ ap (λ (x : Option Schema). option_map_or (λ (s : Schema). s.name) x name) (sym at ∙ also)
 
+-- what was found under the name of the schema at an index is ahead, as the records of that type
+pub ahead_under : (found_in schemas : List Schema) (t : ℕ) (found schema : Schema) (add : Data) (name : List ℕ) (o : Option (List Token)) (tokens : List Token) → found_in ≡ schemas → slice_get found_in t ≡ Some found → name ≡ found.name
+    → o ≡ Some tokens → TellsRecords name add o → slice_get schemas t ≡ Some schema → (rest : List Token) × AreAhead tokens (values_under add schema.name) rest
+ahead_under found_in schemas t found schema add name o tokens same at named is told also =
+    let both = ap (λ (ss : List Schema). slice_get ss t) same ∙ also in
+    let called = same_name found schema (slice_get found_in t) name at both named in
+    let there = subst (λ (x : Option (List Token)). TellsRecords name add x) is told in
+    (there.1, subst (λ (rs : List Data). AreAhead tokens rs there.1) (values_ahead add name there.0 there.2 ∙ ap (values_under add) called) there.3)
+
 -- what is told of the records that are a type's
 pub tells_under : (schemas : List Schema) (previous rows : Table) (t : ℕ) (values under : List Data) (result : Result Bool RecordFault) (done : List Entry) → values ≡ under
     → TellsAdded schemas previous (done ++ entries_at t values) rows result → TellsAdded schemas previous (done ++ entries_at t under) rows result
@@ -103,3 +157,9 @@ pub tells_none : (schemas : List Schema) (previous rows : Table) (t : ℕ) (unde
     → TellsAdded schemas previous (done ++ entries_at t under) rows (Ok full)
 tells_none schemas previous rows t under full done none had =
     subst (λ (vs : List Data). AreAdded schemas previous (done ++ entries_at t vs) rows full) none (subst (λ (es : List Entry). AreAdded schemas previous es rows full) (sym (append-nil done)) had)
+
+pub tells_behind_none : (schemas : List Schema) (previous rows : Table) (t : ℕ) (under : List Data) (full : Bool) (from : ℕ) (done : List Entry) → [] ≡ under → AreAdded schemas previous (done ++ take from (entries_at t under)) rows full
+    → TellsAdded schemas previous (done ++ entries_at t under) rows (Ok full)
+tells_behind_none schemas previous rows t under full from done none had =
+    let long = ap length none in
+    subst (λ (es : List Entry). AreAdded schemas previous (done ++ es) rows full) (values_all t under from (omega (arith, long))) had

@@ -1,5 +1,5 @@
 //! The records of a cycle that are read from its line one by one, and added to the producer.
-ghost use Rattle.std.specs.Prelude.{◌≡◌, ◌<◌, ◌++◌, List, Some, false, length, slice_get};
+ghost use Rattle.std.specs.Prelude.{◌≡◌, ◌<◌, ◌≤◌, ◌++◌, IfOk, List, Some, drop, false, length, slice_get, take};
 ghost use Rattle.json.specs.Token.{Token};
 ghost use Rattle.serde_json.specs.Data.{Data};
 ghost use Rattle.record_stream.specs.CycleLine.{added_by};
@@ -8,16 +8,27 @@ ghost use Rattle.schema_model.specs.declared.schema.Schema.{Schema};
 ghost use Rattle.schema_model.specs.Model.{IsModel};
 ghost use Rattle.write_engine.specs.Agreement.{HoldsOnce};
 ghost use Rattle.hollow_machine.specs.Records.{Entry, entries_at, values_under};
-ghost use Rattle.producer_orders.specs.Parts.{AreAdded, TellsAdded};
+ghost use Rattle.producer_orders.specs.Parts.{AreAdded, IsThere, TellsAdded, TellsPlain};
 
 use crate::record_fault::RecordFault;
-use crate::records::add_value;
+use crate::records::{add_tree, add_value};
 use json::{Reader, Scratch};
-use record_stream::{CycleLine, next_record};
+use record_stream::{CycleLine, next_record, pass_records};
+use record_tokens::{NextTree, next_tree};
 use std::alloc::Global;
 use write_engine::Producer;
 
-/// Adds the records of a type in a line behind others, and tells whether they all are too many.
+/// How far the records of a type were added as trees straight from their tokens, and whether these are too many.
+#[derive(Clone, Copy)]
+pub(crate) enum Plain {
+    /// All of them.
+    All(bool),
+    /// Those before a place. The one at it is not told to have the plain form, or to give a tree.
+    Front(u64, bool),
+}
+
+/// Adds the records of a type in a line behind others, and tells whether they all are too many. They are added as trees straight from their tokens,
+/// and as values of their own from the first one on of which that cannot be done.
 pub(crate) fn add_from_line(
     alloc: Global,
     producer: &mut Producer,
@@ -37,32 +48,102 @@ pub(crate) fn add_from_line(
     let mut scratch = Scratch::new(alloc);
     let name = producer.model().schema(type_index).name.text();
     match line.records(&mut scratch, name) {
-        Ok(Some(mut reader)) => add_ahead(alloc, producer, type_index, &mut reader, full),
+        Ok(Some(mut reader)) => match add_plain(alloc, producer, type_index, &mut reader, full)? {
+            Plain::All(full) => Ok(full),
+            Plain::Front(place, full) => {
+                add_behind(alloc, producer, type_index, line, place, full)
+            }
+        },
         Ok(None) => Ok(full),
         Err(_) => Err(RecordFault::Memory),
     }
 }
 
-// Adds the records that are ahead behind others, and tells whether they all are too many.
-fn add_ahead(
+// Adds the records that are ahead behind others as trees, up to the first one that is not told to be one.
+fn add_plain(
     alloc: Global,
     producer: &mut Producer,
     type_index: u32,
     reader: &mut Reader<'_>,
     full_before: bool,
-) -> Result<bool, RecordFault>
+) -> Result<Plain, RecordFault>
     requires ahead { (records : List Data) × (rest : List Token) × AreAhead reader.old records rest }
     requires type_in { type_index < length producer.old.schemas }
     requires model { IsModel producer.old.schemas }
     requires open { producer.old.closed ≡ false }
     requires once { HoldsOnce producer.old.previous }
+    ensures there { IfOk result (λ plain. (records : List Data) (rest : List Token) → AreAhead reader.old records rest → IsThere records plain) }
     ensures tells { (records : List Data) (rest : List Token) (done : List Entry) → AreAhead reader.old records rest
         → AreAdded producer.old.schemas producer.old.previous done producer.old.current full_before
-        → TellsAdded producer.old.schemas producer.old.previous (done ++ entries_at type_index records) producer.new.current result }
+        → TellsPlain producer.old.schemas producer.old.previous done (entries_at type_index records) producer.new.current result }
     ensures kept { producer.new ≡ record producer.old { current = producer.new.current } }
 {
     let mut full = full_before;
     for place in 0..u64::MAX {
+        let tree = match next_tree(alloc, producer.model(), type_index, reader) {
+            Ok(NextTree::Record(tree)) => tree,
+            Ok(NextTree::End) => return Ok(Plain::All(full)),
+            Ok(NextTree::Other) => return Ok(Plain::Front(place, full)),
+            Err(_) => return Err(RecordFault::Memory),
+        };
+        full = add_tree(producer, type_index, &tree, full)?;
+    }
+    // A line has fewer records than that.
+    Err(RecordFault::Memory)
+}
+
+// Adds the records of a type in a line from a place on behind those before it, and tells whether they all are too many.
+fn add_behind(
+    alloc: Global,
+    producer: &mut Producer,
+    type_index: u32,
+    line: &CycleLine,
+    from: u64,
+    full: bool,
+) -> Result<bool, RecordFault>
+    requires there { (schema : Schema) → slice_get producer.old.schemas type_index ≡ Some schema → from ≤ length (values_under (added_by line.now) schema.name) }
+    requires type_in { type_index < length producer.old.schemas }
+    requires model { IsModel producer.old.schemas }
+    requires open { producer.old.closed ≡ false }
+    requires once { HoldsOnce producer.old.previous }
+    ensures tells { (schema : Schema) (done : List Entry) → slice_get producer.old.schemas type_index ≡ Some schema
+        → AreAdded producer.old.schemas producer.old.previous (done ++ take from (entries_at type_index (values_under (added_by line.now) schema.name))) producer.old.current full
+        → TellsAdded producer.old.schemas producer.old.previous (done ++ entries_at type_index (values_under (added_by line.now) schema.name)) producer.new.current result }
+    ensures kept { producer.new ≡ record producer.old { current = producer.new.current } }
+{
+    let mut scratch = Scratch::new(alloc);
+    let name = producer.model().schema(type_index).name.text();
+    match line.records(&mut scratch, name) {
+        Ok(Some(mut reader)) => {
+            pass_records(&mut reader, from);
+            add_ahead(alloc, producer, type_index, &mut reader, from, full)
+        }
+        Ok(None) => Ok(full),
+        Err(_) => Err(RecordFault::Memory),
+    }
+}
+
+// Adds the records that are ahead, those from a place on, behind those before it, and tells whether they all are too many.
+fn add_ahead(
+    alloc: Global,
+    producer: &mut Producer,
+    type_index: u32,
+    reader: &mut Reader<'_>,
+    from: u64,
+    full_before: bool,
+) -> Result<bool, RecordFault>
+    requires ahead { (records : List Data) × (rest : List Token) × AreAhead reader.old (drop from records) rest }
+    requires type_in { type_index < length producer.old.schemas }
+    requires model { IsModel producer.old.schemas }
+    requires open { producer.old.closed ≡ false }
+    requires once { HoldsOnce producer.old.previous }
+    ensures tells { (records : List Data) (rest : List Token) (done : List Entry) → AreAhead reader.old (drop from records) rest
+        → AreAdded producer.old.schemas producer.old.previous (done ++ take from (entries_at type_index records)) producer.old.current full_before
+        → TellsAdded producer.old.schemas producer.old.previous (done ++ entries_at type_index records) producer.new.current result }
+    ensures kept { producer.new ≡ record producer.old { current = producer.new.current } }
+{
+    let mut full = full_before;
+    for place in from..u64::MAX {
         let value = match next_record(alloc, reader) {
             Ok(Some(value)) => value,
             Ok(None) => return Ok(full),

@@ -1,13 +1,15 @@
 //! The records of a cycle are read, and added to the producer.
-ghost use Rattle.std.specs.Prelude.{◌≡◌, ◌<◌, ◌++◌, ◌∷◌, [], List, Some, false, length, map, slice_get};
+ghost use Rattle.std.specs.Prelude.{◌≡◌, ◌<◌, ◌++◌, ◌∷◌, [], ℕ, List, Some, false, length, map, slice_get};
+ghost use Rattle.serde_json.specs.Data.{Data};
 ghost use Rattle.serde_json.specs.View.{view};
+ghost use Rattle.row_model.specs.Tree.{plain};
 ghost use Rattle.schema_model.specs.declared.schema.Schema.{Schema};
 ghost use Rattle.schema_model.specs.Model.{IsModel};
 ghost use Rattle.write_engine.specs.Agreement.{HoldsOnce};
 ghost use Rattle.hol_orders.specs.Parts.{added};
 ghost use Rattle.hollow_machine.specs.Kept.{IsResting};
 ghost use Rattle.hollow_machine.specs.Records.{Entry, entries, entries_at, values_under};
-ghost use Rattle.producer_orders.specs.Parts.{AreAdded, TellsAdded, TellsRecords};
+ghost use Rattle.producer_orders.specs.Parts.{AreAdded, IsReadAs, TellsAdded, TellsRecords};
 
 use crate::line_records::add_from_line;
 use crate::record_fault::RecordFault;
@@ -15,6 +17,7 @@ use hol_orders::Added;
 use json_values::ValueFault;
 use ordinal_map::PutRowFault;
 use record_json::{laws, tree_from};
+use row_model::Tree;
 use schema_model::Model;
 use serde_json::Value;
 use std::alloc::Global;
@@ -131,7 +134,6 @@ pub(crate) fn add_value(
         → TellsAdded producer.old.schemas producer.old.previous (done ++ record { type_index = type_index; place = place; value = view value.now } ∷ []) producer.new.current result }
     ensures kept { producer.new ≡ record producer.old { current = producer.new.current } }
 {
-    laws::read_tree_fits();
     let tree = match tree_from(alloc, producer.model(), type_index, value) {
         Ok(tree) => tree,
         Err(ValueFault::Field(reason)) => {
@@ -143,10 +145,30 @@ pub(crate) fn add_value(
         }
         Err(ValueFault::Memory) => return Err(RecordFault::Memory),
     };
+    add_tree(producer, type_index, &tree, full)
+}
+
+/// Adds the tree that a record gives behind others, but where these are too many already; tells whether they all are too many.
+pub(crate) fn add_tree(
+    producer: &mut Producer,
+    type_index: u32,
+    tree: &Tree,
+    full: bool,
+) -> Result<bool, RecordFault>
+    requires given { (value : Data) × IsReadAs producer.old.schemas type_index value (plain tree.now) }
+    requires model { IsModel producer.old.schemas }
+    requires open { producer.old.closed ≡ false }
+    requires once { HoldsOnce producer.old.previous }
+    ensures tells { (place : ℕ) (value : Data) (done : List Entry) → IsReadAs producer.old.schemas type_index value (plain tree.now)
+        → AreAdded producer.old.schemas producer.old.previous done producer.old.current full
+        → TellsAdded producer.old.schemas producer.old.previous (done ++ record { type_index = type_index; place = place; value = value } ∷ []) producer.new.current result }
+    ensures kept { producer.new ≡ record producer.old { current = producer.new.current } }
+{
     if full {
         return Ok(true);
     }
-    match producer.add(type_index, &tree) {
+    laws::read_tree_fits();
+    match producer.add(type_index, tree) {
         Ok(_) => Ok(false),
         Err(PutRowFault::TooMany) => Ok(true),
         Err(PutRowFault::Memory) => Err(RecordFault::Memory),

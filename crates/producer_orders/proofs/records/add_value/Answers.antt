@@ -1,7 +1,7 @@
-use Rattle.std.proofs.Common.{Ok, Err, ap}
+use Rattle.std.proofs.Common.{Ok, Err}
 use Rattle.serde_json.specs.View.{view}
 use Rattle.row_model.specs.Tree.{plain}
-use Rattle.producer_orders.proofs.AddingRecords.{bad_reads, same_reads, value_added, value_bad, value_passed, value_too_many}
+use Rattle.producer_orders.proofs.AddingRecords.{bad_reads, same_reads, value_bad}
 use Rattle.producer_orders.proofs.records.add_value.Goals as goal
 
 pub returns-in-Err-Field-clause-tells : goal.returns-in-Err-Field-clause-tells
@@ -12,31 +12,12 @@ returns-in-Err-Field-clause-tells c =
     value_bad old.schemas old.previous old.current old.current c.args.type_index c.args.place value c.args.full c.in-Err-Field.reason c.requires.type_in
     (same_reads c.model.result.now old.schemas c.args.type_index value (Err c.in-Err-Field.reason) c.model.ensures told)
 
-pub returns-then-full-clause-tells : goal.returns-then-full-clause-tells
-returns-then-full-clause-tells c =
-    let old = c.args.producer.now in
+pub add_tree-requires-clause-given : goal.add_tree-requires-clause-given
+add_tree-requires-clause-given c =
     let value = view c.args.value.now in
-    value_passed old.schemas old.previous old.current old.current c.args.type_index c.args.place value c.args.full (plain c.in-Ok.tree) c.if-full.true
-    (same_reads c.model.result.now old.schemas c.args.type_index value (Ok (plain c.in-Ok.tree)) c.model.ensures c.in-Ok.ensures)
+    (value, record { gives = same_reads c.model.result.now c.args.producer.now.schemas c.args.type_index value (Ok (plain c.in-Ok.tree)) c.model.ensures c.in-Ok.ensures })
 
-pub returns-in-Ok-add-clause-tells : goal.returns-in-Ok-add-clause-tells
-returns-in-Ok-add-clause-tells c =
-    let old = c.args.producer.now in
-    let value = view c.args.value.now in
-    value_added old.schemas old.previous old.current c.add.new.self.current c.args.type_index c.args.place c.in-Ok-add.field-0 value c.args.full (plain c.in-Ok.tree) c.if-full.false
-    (same_reads c.model.result.now old.schemas c.args.type_index value (Ok (plain c.in-Ok.tree)) c.model.ensures c.in-Ok.ensures) c.in-Ok-add.ensures.added
-
-pub returns-in-Err-TooMany-clause-tells : goal.returns-in-Err-TooMany-clause-tells
-returns-in-Err-TooMany-clause-tells c =
-    let old = c.args.producer.now in
-    let value = view c.args.value.now in
-    value_too_many old.schemas old.previous old.current c.add.new.self.current c.args.type_index c.args.place value c.args.full (plain c.in-Ok.tree) c.requires.once c.if-full.false
-    (same_reads c.model.result.now old.schemas c.args.type_index value (Ok (plain c.in-Ok.tree)) c.model.ensures c.in-Ok.ensures)
-    (c.in-Err-TooMany.ensures.too_many (ap Err c.in-Err-TooMany.field-0-is))
-
-pub add-requires-clause-fits : goal.add-requires-clause-fits
-add-requires-clause-fits c =
-    let old = c.args.producer.now in
-    let value = view c.args.value.now in
-    c.read_tree_fits.ensures old.schemas c.args.type_index value (plain c.in-Ok.tree) c.requires.model
-    (same_reads c.model.result.now old.schemas c.args.type_index value (Ok (plain c.in-Ok.tree)) c.model.ensures c.in-Ok.ensures)
+pub returns-clause-tells : goal.returns-clause-tells
+returns-clause-tells c = λ done had.
+    (let value = view c.args.value.now in
+    c.add_tree.ensures.tells c.args.place value done (record { gives = same_reads c.model.result.now c.args.producer.now.schemas c.args.type_index value (Ok (plain c.in-Ok.tree)) c.model.ensures c.in-Ok.ensures }) had)

@@ -1,0 +1,5 @@
+use Rattle.producer_orders.proofs.AheadRecords.{AreBeingAdded, AreThere}
+use Rattle.producer_orders.proofs.line_records.add_plain.Given as goal
+
+abbrev pub invariant-loop-place : goal.invariant-loop-place
+invariant-loop-place l = AreBeingAdded l.type_index l.initial.reader l.reader l.initial.producer l.producer l.full_before l.full 0 l.place × AreThere l.initial.reader l.place
