@@ -1,18 +1,19 @@
 -- The characters of a text, its UTF-16 units, and back.
 use Rattle.std.proofs.Common.{◌≡◌, inl, inr, ℕ, ◌+◌, ◌-◌, ◌*◌, ◌/◌, ◌%◌, ◌^◌, ◌<◌, true, false, not, List, [], ◌∷◌, ◌++◌, map, Some, Result, Ok, Err, is_err, is_some, refl, sym, ◌∙◌, ap, subst, arith}
-use Rattle.std.specs.Prelude.{IfOk, IfSome, IsSomeAnd, IsNone, ◌↔◌}
+use Rattle.std.specs.Prelude.{All, IfOk, IfSome, IsSomeAnd, IsNone, ◌↔◌}
 use Rattle.std.specs.Option.{unwrap_or}
 use Rattle.std.specs.Result.{result_ok}
 use Rattle.std.specs.List.{flat_map, list_any}
 use Rattle.std.specs.Char.Escape.{encode_utf16}
 use Rattle.std.specs.Char.Utf16.{utf16_chars, utf16_lossy_chars, has_unpaired_surrogate}
-use Rattle.std.specs.Str.{IsUtf8, chars, all_scalars, encode_utf8_all}
+use Rattle.std.specs.Str.{IsAscii, IsUtf8, chars, all_scalars, encode_utf8_all}
 use Rattle.std.specs.String.{string_bytes, IsUtf16Of}
 use Rattle.std.specs.declared.string.String.{String}
 use Rattle.hol_varint.proofs.OneUnit.{one_unit, two_units, lone_unit_char_low, lone_unit_char_high, IsPair}
 use Rattle.std.proofs.lemmas.Bool.{cases_lt, and_parts, false≢true}
-use Rattle.std.proofs.lemmas.List.Elements.{All-nil, All-cons, All-append}
-use Rattle.std.proofs.lemmas.Str.{utf16_chars-nil, utf16_chars_lone, utf16_chars_pair, chars_from_encodes, encodes-chars, scalars-chars, IsUtf8-string_bytes}
+use Rattle.std.proofs.lemmas.List.Elements.{All-nil, All-cons, All-append, All-head, All-tail, All-weaker}
+use Rattle.std.proofs.lemmas.Str.Ascii.{All-from_ascii}
+use Rattle.std.proofs.lemmas.Str.{chars-IsAscii, utf16_chars-nil, utf16_chars_lone, utf16_chars_pair, chars_from_encodes, encodes-chars, scalars-chars, IsUtf8-string_bytes}
 use lib.Utf8.{scalar, scalar_cases}
 use Rattle.hol_varint.specs.TextUnits.{AreUnits, text_units, IsTextOf, AreWellFormed}
 
@@ -101,3 +102,16 @@ module _ {Z E : Type 0} (units : List ℕ) where
   pub text_found : (r : Result (String Z) E) → IfOk r (λ s. IsUtf16Of units (string_bytes s)) → is_err r ≡ has_unpaired_surrogate units → (text : List ℕ) → IsTextOf units text → IsSomeAnd (result_ok r) (λ found. string_bytes found ≡ text)
   text_found (Ok s) of unpaired text is = text_once units (string_bytes s) text (text_from units (string_bytes s) (IsUtf8-string_bytes s) of) is
   text_found (Err e) of unpaired text is = absurd (false≢true (sym (unpaired ∙ text_paired units text is)))
+
+-- a text of ASCII has its bytes as its units
+plain_units : (bytes : List ℕ) → All (λ b. b < 128) bytes → flat_map encode_utf16 bytes ≡ bytes
+plain_units [] all = refl
+plain_units (b ∷ bytes) all =
+    let small = All-head (λ c. c < 128) b bytes all in
+    ap (λ us. us ++ flat_map encode_utf16 bytes) (one_unit b (omega (arith, small))) ∙ ap (λ us. b ∷ us) (plain_units bytes (All-tail (λ c. c < 128) b bytes all))
+
+pub ascii_units : (text : List ℕ) → IsAscii text → text_units text ≡ text
+ascii_units text is = ap (flat_map encode_utf16) (chars-IsAscii text is) ∙ plain_units text (All-from_ascii text is)
+
+pub ascii_are : (text : List ℕ) → IsAscii text → AreUnits text
+ascii_are text is = All-weaker (λ b. b < 128) (λ b. b < 2 ^ 16) (λ b small. omega (arith, small)) text (All-from_ascii text is)

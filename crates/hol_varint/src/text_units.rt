@@ -1,5 +1,5 @@
 //! The UTF-16 units of texts, and the bytes of a STRING: a number of variable length for each unit.
-ghost use Rattle.std.specs.Prelude.{◌≡◌, ℕ, List, ◌<◌, ◌≤◌, ◌↔◌, ◌++◌, ◌-◌, ◌^◌, length, min, take, drop, IfOk, IfSome, IsSomeAnd, IsNone, OnOk, OnErr};
+ghost use Rattle.std.specs.Prelude.{◌≡◌, ℕ, List, ◌<◌, ◌≤◌, ◌↔◌, ◌++◌, ◌-◌, ◌^◌, length, min, take, drop, IsAscii, IfOk, IfSome, IsSomeAnd, IsNone, OnOk, OnErr};
 ghost use Rattle.std.specs.Char.Escape.{encode_utf16};
 ghost use Rattle.std.specs.String.{string_bytes};
 ghost use Rattle.hol_varint.specs.TextUnits.{AreUnits, AreUnitsIn, IsBadText, IsFreeUnits, IsTextOf, AreWellFormed, TellsUnits, TellsUnitAt, units_bytes, text_units};
@@ -32,10 +32,24 @@ fn push_units(out: &mut Vec<u8>, units: &[u16]) -> Result<(), AllocError>
     ensures kept { take (length out.old.items) out.new.items ≡ out.old.items }
     ensures are { AreUnits units.now }
 {
+    out.reserve(units.len())?;
     for unit in units {
-        put_vint(out, u32::from(*unit))?;
+        push_unit(out, *unit)?;
     }
     Ok(())
+}
+
+// Adds a unit at the end; one of ASCII in the room that is there.
+#[tactic(auto, using(crate::proofs::VarWriting::one_group))]
+fn push_unit(out: &mut Vec<u8>, unit: u16) -> Result<(), AllocError>
+    ensures ok { OnOk result (out.new.items ≡ out.old.items ++ varint_bytes unit) }
+    ensures err { OnErr result (out.new.items ≡ out.old.items) }
+{
+    if unit < 0x80 && out.len() < out.capacity() {
+        out.push_reserved(unit as u8);
+        return Ok(());
+    }
+    put_vint(out, u32::from(unit))
 }
 
 /// How many bytes these units take in a STRING; the greatest number where they are more.
@@ -114,11 +128,38 @@ pub fn units_of(alloc: Global, text: &str) -> Result<Units, AllocError>
     ensures ok { IfOk result (λ units. units ≡ text_units text.now) }
     ensures are { IfOk result AreUnits }
 {
+    let units = if text.is_ascii() {
+        ascii_units(alloc, text)?
+    } else {
+        character_units(alloc, text)?
+    };
+    Ok(Units::from_vec(units))
+}
+
+// The same of a text of ASCII, whose units are its bytes.
+fn ascii_units(alloc: Global, text: &str) -> Result<Vec<u16>, AllocError>
+    requires { IsAscii text.now }
+    ensures ok { IfOk result (λ units. units.items ≡ text_units text.now) }
+    ensures are { IfOk result (λ units. AreUnits units.items) }
+{
+    let bytes = text.as_bytes();
+    let mut units = Vec::with_capacity(alloc, bytes.len())?;
+    for byte in bytes {
+        units.push_reserved(u16::from(*byte));
+    }
+    Ok(units)
+}
+
+// The same of any text, character by character.
+fn character_units(alloc: Global, text: &str) -> Result<Vec<u16>, AllocError>
+    ensures ok { IfOk result (λ units. units.items ≡ text_units text.now) }
+    ensures are { IfOk result (λ units. AreUnits units.items) }
+{
     let mut units = Vec::with_capacity(alloc, text.len())?;
     for character in text.chars() {
         push_character(&mut units, character)?;
     }
-    Ok(Units::from_vec(units))
+    Ok(units)
 }
 
 // Adds the one or two units of a character.
