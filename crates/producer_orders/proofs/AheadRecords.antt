@@ -1,5 +1,5 @@
 -- The records that are read from a line one by one, and added behind others.
-use Rattle.std.proofs.Common.{◌≡◌, ◌∙◌, ℕ, ◌+◌, ◌≤◌, List, [], ◌∷◌, ◌++◌, length, take, drop, Bool, Option, Some, None, Result, Ok, Err, refl, sym, ap, subst, arith, append-nil, length-drop}
+use Rattle.std.proofs.Common.{◌≡◌, ◌∙◌, ℕ, ◌+◌, ◌≤◌, List, [], ◌∷◌, ◌++◌, length, take, drop, Bool, Option, Some, None, Result, Ok, Err, refl, sym, ap, subst, arith, length-drop}
 use Rattle.std.specs.Prelude.{slice_get}
 use Rattle.std.specs.Option.{option_and_then, option_map_or}
 use Rattle.json.specs.Token.{Token}
@@ -12,18 +12,17 @@ use Rattle.record_stream.specs.Records.{AreAhead, TellsRecord}
 use Rattle.record_stream.proofs.Ahead.{at_front, past_end}
 use Rattle.schema_model.specs.declared.schema.Schema.{Schema}
 use Rattle.row_model.specs.Table.{Table}
-use Rattle.row_model.specs.Tree.{plain}
-use Rattle.row_model.specs.declared.tree.Tree.{Tree}
-use Rattle.record_json.specs.ReadTree.{read_tree}
-use Rattle.record_tokens.specs.Next.{TellsTree}
-use Rattle.record_tokens.specs.declared.next.NextTree.TheVariants.{Record}
+use Rattle.row_model.specs.PlainTree.{PlainTree}
+use Rattle.record_tokens.specs.Next.{IsReadAs, IsRecordOf, TellsTree}
+use Rattle.record_tokens.specs.declared.next.NextTree.TheVariants as next
+use Rattle.record_tokens.specs.declared.next.Record.{Record}
 use Rattle.write_engine.specs.Production.{Production}
 use Rattle.hollow_machine.specs.Records.{Entry, entries_at, listed, values_under}
-use Rattle.producer_orders.specs.Parts.{AreAdded, IsReadAs, TellsAdded}
+use Rattle.producer_orders.specs.Parts.{AreAdded, TellsAdded}
 use Rattle.producer_orders.specs.declared.record_fault.RecordFault.{RecordFault}
-use Rattle.producer_orders.proofs.AddingRecords.{HasAdded, kept_both, same_reads, values_end, values_step, values_stop}
+use Rattle.producer_orders.proofs.AddingRecords.{HasAdded, kept_both, values_end, values_step, values_stop}
 use Rattle.producer_orders.proofs.KnownTypes.{listed_items}
-use Rattle.producer_orders.proofs.Placed.{entry_at, values_all}
+use Rattle.producer_orders.proofs.Placed.{entry_at}
 
 -- The records before a place were added, behind those before the place from which on they were ahead at the start, and the others are ahead.
 pub record AreBeingAdded (t : ℕ) (start now : List Token) (before after : Production) (full_before full : Bool) (from place : ℕ) : Type 0 where
@@ -100,24 +99,26 @@ next_value t now new after later full place result value told tells = λ records
     (view value, next.0, next.1, next.2, tells))
 
 -- what is read by the same schemas
-read_by : (schemas schemas' : List Schema) (t : ℕ) (value : Data) (tree : Tree) → schemas ≡ schemas' → read_tree schemas t value ≡ Ok (plain tree) → IsReadAs schemas' t value (plain tree)
-read_by schemas schemas' t value tree same read = record { gives = same_reads schemas schemas' t value (Ok (plain tree)) same read }
+read_by : (schemas schemas' : List Schema) (t : ℕ) (value : Data) (tree : PlainTree) → schemas ≡ schemas' → IsReadAs schemas t value tree → IsReadAs schemas' t value tree
+read_by schemas schemas' t value tree same read = subst (λ (ss : List Schema). IsReadAs ss t value tree) same read
 
-pub next_tree : (schemas : List Schema) (t : ℕ) (now new : List Token) (after later : Production) (full : Bool) (place : ℕ) (result : Result Bool RecordFault) (tree : Tree) → schemas ≡ after.schemas
-    → ((records : List Data) (rest : List Token) → AreAhead now records rest → TellsTree schemas t records rest (Record tree) new)
-    → ((place : ℕ) (value : Data) (done : List Entry) → IsReadAs after.schemas t value (plain tree) → AreAdded after.schemas after.previous done after.current full
+pub next_read : (schemas : List Schema) (t : ℕ) (now new : List Token) (after later : Production) (full : Bool) (place : ℕ) (result : Result Bool RecordFault) (found : Record) → schemas ≡ after.schemas
+    → ((records : List Data) (rest : List Token) → AreAhead now records rest → TellsTree schemas t records rest (next.Record found) new)
+    → ((place : ℕ) (value : Data) (tree : PlainTree) (done : List Entry) → IsReadAs after.schemas t value tree → IsRecordOf tree found → AreAdded after.schemas after.previous done after.current full
     → TellsAdded after.schemas after.previous (done ++ entry_at t place value ∷ []) later.current result)
     → TellsNext t now new after later full place result
-next_tree schemas t now new after later full place result tree same told tells = λ records rest ahead.
+next_read schemas t now new after later full place result found same told tells = λ records rest ahead.
     (let next = told records rest ahead in
-    (next.0, next.1, next.2, next.4, λ done had. tells place next.0 done (read_by schemas after.schemas t next.0 tree same next.3) had))
+    let there = next.1 in
+    (there.first, there.others, there.split, there.ahead, λ done had. tells place there.first next.0 done (read_by schemas after.schemas t there.first next.0 same there.is) next.2 had))
 
--- a record that is ahead gives the tree
-pub tree_ahead : (schemas schemas' : List Schema) (t : ℕ) (now new : List Token) (tree : Tree) → schemas ≡ schemas' → (records : List Data) × (rest : List Token) × AreAhead now records rest
-    → ((records : List Data) (rest : List Token) → AreAhead now records rest → TellsTree schemas t records rest (Record tree) new) → (value : Data) × IsReadAs schemas' t value (plain tree)
-tree_ahead schemas schemas' t now new tree same (records, rest, ahead) told =
+-- a record that is ahead gives a tree of which this is the record
+pub read_ahead : (schemas schemas' : List Schema) (t : ℕ) (now new : List Token) (found : Record) → schemas ≡ schemas' → (records : List Data) × (rest : List Token) × AreAhead now records rest
+    → ((records : List Data) (rest : List Token) → AreAhead now records rest → TellsTree schemas t records rest (next.Record found) new)
+    → (value : Data) × (tree : PlainTree) × IsReadAs schemas' t value tree × IsRecordOf tree found
+read_ahead schemas schemas' t now new found same (records, rest, ahead) told =
     let next = told records rest ahead in
-    (next.0, read_by schemas schemas' t next.0 tree same next.3)
+    (next.1.first, next.0, read_by schemas schemas' t next.1.first next.0 same next.1.is, next.2)
 
 -- The place up to which records were added is one of those that were ahead at the start, or that behind the last one.
 abbrev pub AreThere : List Token → ℕ → Type 0
@@ -129,14 +130,11 @@ there_more t start now new before after later full_before full place result so_f
 
 -- ---- the records under the name of a type
 
-pub values_ahead : (add : Data) (name : List ℕ) (records : List Data) → get name add ≡ Some (array (items_of records)) → records ≡ values_under add name
+values_ahead : (add : Data) (name : List ℕ) (records : List Data) → get name add ≡ Some (array (items_of records)) → records ≡ values_under add name
 values_ahead add name records found = sym (listed_items records) ∙ ap (λ (o : Option Data). option_map_or listed (option_and_then as_array o) []) (sym found)
 
-pub values_none : (add : Data) (name : List ℕ) → get name add ≡ None → [] ≡ values_under add name
-values_none add name none = ap (λ (o : Option Data). option_map_or listed (option_and_then as_array o) []) (sym none)
-
 -- the schema at the index of a type has the name that was looked for
-pub same_name : (found schema : Schema) (o : Option Schema) (name : List ℕ) → o ≡ Some found → o ≡ Some schema → name ≡ found.name → name ≡ schema.name
+same_name : (found schema : Schema) (o : Option Schema) (name : List ℕ) → o ≡ Some found → o ≡ Some schema → name ≡ found.name → name ≡ schema.name
 same_name found schema o name at also named = named ∙ ap (λ (x : Option Schema). option_map_or (λ (s : Schema). s.name) x name) (sym at ∙ also)
 
 -- what was found under the name of the schema at an index is ahead, as the records of that type
@@ -152,14 +150,3 @@ ahead_under found_in schemas t found schema add name o tokens same at named is t
 pub tells_under : (schemas : List Schema) (previous rows : Table) (t : ℕ) (values under : List Data) (result : Result Bool RecordFault) (done : List Entry) → values ≡ under
     → TellsAdded schemas previous (done ++ entries_at t values) rows result → TellsAdded schemas previous (done ++ entries_at t under) rows result
 tells_under schemas previous rows t values under result done same told = subst (λ (vs : List Data). TellsAdded schemas previous (done ++ entries_at t vs) rows result) same told
-
-pub tells_none : (schemas : List Schema) (previous rows : Table) (t : ℕ) (under : List Data) (full : Bool) (done : List Entry) → [] ≡ under → AreAdded schemas previous done rows full
-    → TellsAdded schemas previous (done ++ entries_at t under) rows (Ok full)
-tells_none schemas previous rows t under full done none had =
-    subst (λ (vs : List Data). AreAdded schemas previous (done ++ entries_at t vs) rows full) none (subst (λ (es : List Entry). AreAdded schemas previous es rows full) (sym (append-nil done)) had)
-
-pub tells_behind_none : (schemas : List Schema) (previous rows : Table) (t : ℕ) (under : List Data) (full : Bool) (from : ℕ) (done : List Entry) → [] ≡ under → AreAdded schemas previous (done ++ take from (entries_at t under)) rows full
-    → TellsAdded schemas previous (done ++ entries_at t under) rows (Ok full)
-tells_behind_none schemas previous rows t under full from done none had =
-    let long = ap length none in
-    subst (λ (es : List Entry). AreAdded schemas previous (done ++ es) rows full) (values_all t under from (omega (arith, long))) had

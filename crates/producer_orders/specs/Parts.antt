@@ -1,11 +1,10 @@
 -- What the parts of the order `cycle` tell that come before anything is written.
-use Rattle.std.specs.Prelude.{◌≡◌, ◌<◌, ◌≤◌, ◌++◌, ℕ, ℤ, List, length, take, Bool, true, false, Option, Some, None, Result, Ok, Err, ⊤}
+use Rattle.std.specs.Prelude.{◌<◌, ◌≤◌, ◌++◌, ℕ, ℤ, List, length, take, Bool, true, false, Option, Some, None, Result, Ok, Err, ⊤}
 use Rattle.serde_json.specs.Data.{Data}
 use Rattle.hol_io.specs.Store.{Store}
 use Rattle.schema_model.specs.declared.schema.Schema.{Schema}
 use Rattle.row_model.specs.PlainTree.{PlainTree}
 use Rattle.row_model.specs.Table.{Table}
-use Rattle.record_json.specs.ReadTree.{read_tree}
 use Rattle.write_engine.specs.Cycle.{Next}
 use Rattle.hol_answers.specs.declared.refusal.Refusal.{Refusal}
 use Rattle.hollow_machine.specs.Follow.{MayFollow, MayNotFollow}
@@ -24,10 +23,6 @@ TellsFollow store last version tag (Some refusal) = MayNotFollow store last vers
 abbrev pub TellsUnknown : List Schema → Data → Option (List ℕ) → Type 0
 TellsUnknown schemas add None = AreTypes schemas add
 TellsUnknown schemas add (Some name) = IsFirstUnknown schemas add name
-
--- The JSON gives this tree of the type.
-pub record IsReadAs (schemas : List Schema) (type_index : ℕ) (value : Data) (tree : PlainTree) : Type 0 where
-  pub gives : read_tree schemas type_index value ≡ Ok tree
 
 -- The records give trees, and these give the rows; or, where too many are said to be, no rows.
 abbrev pub AreAdded : List Schema → Table → List Entry → Table → Bool → Type 0

@@ -11,7 +11,7 @@ ghost use Rattle.hollow_machine.specs.Records.{Entry, entries_at, values_under};
 ghost use Rattle.producer_orders.specs.Parts.{AreAdded, IsThere, TellsAdded, TellsPlain};
 
 use crate::record_fault::RecordFault;
-use crate::records::{add_tree, add_value};
+use crate::records::{add_record, add_value};
 use json::{Reader, Scratch};
 use record_stream::{CycleLine, next_record, pass_records};
 use record_tokens::{NextTree, next_tree};
@@ -23,7 +23,7 @@ use write_engine::Producer;
 pub(crate) enum Plain {
     /// All of them.
     All(bool),
-    /// Those before a place. The one at it is not told to have the plain form, or to give a tree.
+    /// Those before a place. Of the one at it nothing is told.
     Front(u64, bool),
 }
 
@@ -80,13 +80,13 @@ fn add_plain(
 {
     let mut full = full_before;
     for place in 0..u64::MAX {
-        let tree = match next_tree(alloc, producer.model(), type_index, reader) {
-            Ok(NextTree::Record(tree)) => tree,
+        let record = match next_tree(alloc, producer.model(), type_index, reader) {
+            Ok(NextTree::Record(record)) => record,
             Ok(NextTree::End) => return Ok(Plain::All(full)),
             Ok(NextTree::Other) => return Ok(Plain::Front(place, full)),
             Err(_) => return Err(RecordFault::Memory),
         };
-        full = add_tree(producer, type_index, &tree, full)?;
+        full = add_record(producer, type_index, record, full)?;
     }
     // A line has fewer records than that.
     Err(RecordFault::Memory)

@@ -2,6 +2,7 @@
 ghost use Rattle.std.specs.Prelude.{◌≡◌, ◌<◌, ◌++◌, ◌∷◌, [], ℕ, List, Some, false, length, map, slice_get};
 ghost use Rattle.serde_json.specs.Data.{Data};
 ghost use Rattle.serde_json.specs.View.{view};
+ghost use Rattle.row_model.specs.PlainTree.{PlainTree};
 ghost use Rattle.row_model.specs.Tree.{plain};
 ghost use Rattle.schema_model.specs.declared.schema.Schema.{Schema};
 ghost use Rattle.schema_model.specs.Model.{IsModel};
@@ -9,7 +10,9 @@ ghost use Rattle.write_engine.specs.Agreement.{HoldsOnce};
 ghost use Rattle.hol_orders.specs.Parts.{added};
 ghost use Rattle.hollow_machine.specs.Kept.{IsResting};
 ghost use Rattle.hollow_machine.specs.Records.{Entry, entries, entries_at, values_under};
-ghost use Rattle.producer_orders.specs.Parts.{AreAdded, IsReadAs, TellsAdded, TellsRecords};
+ghost use Rattle.record_trees.specs.Rows.{IsRowOf};
+ghost use Rattle.record_tokens.specs.Next.{IsReadAs, IsRecordOf};
+ghost use Rattle.producer_orders.specs.Parts.{AreAdded, TellsAdded, TellsRecords};
 
 use crate::line_records::add_from_line;
 use crate::record_fault::RecordFault;
@@ -17,7 +20,8 @@ use hol_orders::Added;
 use json_values::ValueFault;
 use ordinal_map::PutRowFault;
 use record_json::{laws, tree_from};
-use row_model::Tree;
+use record_tokens::Record;
+use row_model::{Row, Tree};
 use schema_model::Model;
 use serde_json::Value;
 use std::alloc::Global;
@@ -148,8 +152,57 @@ pub(crate) fn add_value(
     add_tree(producer, type_index, &tree, full)
 }
 
-/// Adds the tree that a record gives behind others, but where these are too many already; tells whether they all are too many.
-pub(crate) fn add_tree(
+/// Adds a record that was read from its tokens behind others, but where these are too many already; tells whether they all are too many.
+pub(crate) fn add_record(
+    producer: &mut Producer,
+    type_index: u32,
+    found: Record,
+    full: bool,
+) -> Result<bool, RecordFault>
+    requires given { (value : Data) × (tree : PlainTree) × IsReadAs producer.old.schemas type_index value tree × IsRecordOf tree found }
+    requires model { IsModel producer.old.schemas }
+    requires open { producer.old.closed ≡ false }
+    requires once { HoldsOnce producer.old.previous }
+    ensures tells { (place : ℕ) (value : Data) (tree : PlainTree) (done : List Entry) → IsReadAs producer.old.schemas type_index value tree → IsRecordOf tree found
+        → AreAdded producer.old.schemas producer.old.previous done producer.old.current full
+        → TellsAdded producer.old.schemas producer.old.previous (done ++ record { type_index = type_index; place = place; value = value } ∷ []) producer.new.current result }
+    ensures kept { producer.new ≡ record producer.old { current = producer.new.current } }
+{
+    match found {
+        Record::Row(row) => add_row(producer, type_index, row, full),
+        Record::Tree(tree) => add_tree(producer, type_index, &tree, full),
+    }
+}
+
+// The same of a record that refers to no others, as its row.
+fn add_row(
+    producer: &mut Producer,
+    type_index: u32,
+    row: Row,
+    full: bool,
+) -> Result<bool, RecordFault>
+    requires given { (value : Data) × (tree : PlainTree) × IsReadAs producer.old.schemas type_index value tree × IsRowOf tree row }
+    requires model { IsModel producer.old.schemas }
+    requires open { producer.old.closed ≡ false }
+    requires once { HoldsOnce producer.old.previous }
+    ensures tells { (place : ℕ) (value : Data) (tree : PlainTree) (done : List Entry) → IsReadAs producer.old.schemas type_index value tree → IsRowOf tree row
+        → AreAdded producer.old.schemas producer.old.previous done producer.old.current full
+        → TellsAdded producer.old.schemas producer.old.previous (done ++ record { type_index = type_index; place = place; value = value } ∷ []) producer.new.current result }
+    ensures kept { producer.new ≡ record producer.old { current = producer.new.current } }
+{
+    if full {
+        return Ok(true);
+    }
+    laws::read_tree_fits();
+    match producer.add_row(type_index, row) {
+        Ok(_) => Ok(false),
+        Err(PutRowFault::TooMany) => Ok(true),
+        Err(PutRowFault::Memory) => Err(RecordFault::Memory),
+    }
+}
+
+// Adds the tree that a record gives behind others, but where these are too many already; tells whether they all are too many.
+fn add_tree(
     producer: &mut Producer,
     type_index: u32,
     tree: &Tree,

@@ -1,4 +1,5 @@
 mod FieldsTaken
 mod ItemsTaken
+mod RowsTaken
 mod Taking
 mod Told

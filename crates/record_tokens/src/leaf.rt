@@ -44,8 +44,8 @@ fn value_leaf(alloc: Global, kind: &FieldKind, value: &Value) -> Result<Tree, Un
     }
 }
 
-// The value that a token is by itself.
-fn value_of(alloc: Global, token: Token<'_>) -> Result<Value, Unread>
+/// The value that a token is by itself.
+pub(crate) fn value_of(alloc: Global, token: Token<'_>) -> Result<Value, Unread>
     ensures { IfOk result (λ value. scalar (token_of token.entry) ≡ Some (view value)) }
 {
     match token {

@@ -3,7 +3,8 @@
 
 mod leaf;
 mod next;
+mod row;
 mod tree;
 mod unread;
 
-pub use next::{NextTree, next_tree};
+pub use next::{NextTree, Record, next_tree};

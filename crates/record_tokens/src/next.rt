@@ -1,23 +1,34 @@
 //! The records of an array, one after another, as trees.
-ghost use Rattle.std.specs.Prelude.{◌<◌, List, IfOk, length};
+ghost use Rattle.std.specs.Prelude.{◌<◌, ◌∷◌, List, IfOk, length};
+ghost use Rattle.json.specs.Reads.{token_of};
 ghost use Rattle.json.specs.Token.{Token as SpecToken};
 ghost use Rattle.serde_json.specs.Data.{Data};
 ghost use Rattle.record_stream.specs.Records.{AreAhead};
-ghost use Rattle.record_tokens.specs.Next.{TellsTree};
+ghost use Rattle.record_tokens.specs.Next.{TakesRecord, TellsTree};
 
+use crate::row::values_ahead;
 use crate::tree::tree_behind;
 use crate::unread::Unread;
-use json::Reader;
+use json::{Reader, Token};
 use record_stream::RECORD_DEPTH;
-use row_model::Tree;
-use schema_model::Model;
+use row_model::{Row, Tree, is_plain_type};
+use schema_model::{Model, Shape};
 use std::alloc::{AllocError, Global};
+
+/// A record that was read from its tokens.
+#[derive(Drop)]
+pub enum Record {
+    /// One that refers to no others: the row that it is.
+    Row(Row),
+    /// One with all that it refers to.
+    Tree(Tree),
+}
 
 /// What stands next in the array of the records of a type.
 #[derive(Drop)]
 pub enum NextTree {
     /// A record.
-    Record(Tree),
+    Record(Record),
     /// The bracket that closes the array, which is passed.
     End,
     /// It is not told: the next record has not the plain form, or gives no tree. The reader is not to be used any more.
@@ -41,9 +52,33 @@ pub fn next_tree(
     let Some(token) = reader.next() else {
         return Ok(NextTree::Other);
     };
-    match tree_behind(alloc, model, 32, type_index, token, reader, RECORD_DEPTH) {
-        Ok(tree) => Ok(NextTree::Record(tree)),
+    match read_behind(alloc, model, type_index, token, reader) {
+        Ok(record) => Ok(NextTree::Record(record)),
         Err(Unread::Other) => Ok(NextTree::Other),
         Err(Unread::Memory) => Err(AllocError),
+    }
+}
+
+// The record whose first token was read.
+fn read_behind(
+    alloc: Global,
+    model: &Model,
+    type_index: u32,
+    token: Token<'_>,
+    reader: &mut Reader<'_>,
+) -> Result<Record, Unread>
+    requires { type_index < length model.now }
+    ensures { IfOk result (λ found. TakesRecord model.now type_index (token_of token.entry ∷ reader.old) found reader.new) }
+{
+    let shape = &model.schema(type_index).shape;
+    match (shape, token) {
+        (Shape::Object(_, fields), Token::BeginObject) if is_plain_type(shape) => {
+            let values = values_ahead(alloc, fields.as_slice(), reader, RECORD_DEPTH - 1)?;
+            Ok(Record::Row(Row::Object(values)))
+        }
+        (_, token) => {
+            let tree = tree_behind(alloc, model, 32, type_index, token, reader, RECORD_DEPTH)?;
+            Ok(Record::Tree(tree))
+        }
     }
 }

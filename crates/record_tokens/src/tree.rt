@@ -96,8 +96,8 @@ fn fields_ahead(
     Ok(parts)
 }
 
-// The place of the first field of this name, from a place on.
-fn place_from(fields: &[Field], from: usize, name: &str) -> Option<usize>
+/// The place of the first field of this name, from a place on.
+pub(crate) fn place_from(fields: &[Field], from: usize, name: &str) -> Option<usize>
     ensures from { IfSome result (λ place. from ≤ place) }
     ensures within { IfSome result (λ place. place < length fields.now) }
     ensures named { IfSome result (λ place. IsSomeAnd (slice_get fields.now place) (λ field. field.name ≡ name.now)) }

@@ -1,2 +1,3 @@
 pub mod FitsTree
+pub mod Rows
 pub mod Types

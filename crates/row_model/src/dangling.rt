@@ -62,8 +62,8 @@ fn is_plain(kind: &FieldKind) -> bool
     !matches!(kind, FieldKind::Reference(_))
 }
 
-// Whether the rows of a type of this shape name no others: they are records without a REFERENCE.
-fn is_plain_type(shape: &Shape) -> bool
+/// Whether the rows of a type of this shape name no others: they are records without a REFERENCE.
+pub fn is_plain_type(shape: &Shape) -> bool
     ensures { IsTrue result ↔ IsPlainType shape.now }
 {
     match shape {

@@ -14,7 +14,7 @@ mod row_walk;
 mod rows;
 mod tree;
 
-pub use dangling::{Dangling, dangling_in, first_dangling, is_closed_at};
+pub use dangling::{Dangling, dangling_in, first_dangling, is_closed_at, is_plain_type};
 pub use lent::{LentRow, row_of_place};
 pub use lists::{Areas, Pairs, Places, Values, Widths, Words};
 pub use packed::{Packed, PlaceFault};

@@ -7,6 +7,7 @@ pub mod NextStates
 pub mod NoRoom
 pub mod OneState
 pub mod Parts
+pub mod PlainRows
 pub mod Puts
 pub mod Producing
 pub mod RestoredTypes

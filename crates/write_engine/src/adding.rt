@@ -94,7 +94,7 @@ fn add_fields(
     ensures too_many { result ≡ Err PutRowFault.TooMany → (values : List RowValue) (after : Table) → ¬ AddsFields model.now (previous_of maps.old) fields.now (trees_of_list (map plain parts.now)) (current_of maps.old) values after }
     ensures previous { previous_of maps.new ≡ previous_of maps.old }
 {
-    let mut values = Values::new(alloc);
+    let mut values = Values::with_capacity(alloc, parts.len())?;
     for (place, part) in parts.iter().enumerate() {
         let value = match leaf_value(alloc, part)? {
             Some(value) => value,
@@ -124,7 +124,7 @@ fn add_all(
     ensures too_many { result ≡ Err PutRowFault.TooMany → (ordinals : List ℕ) (after : Table) → ¬ AddsAll model.now (previous_of maps.old) type_index (trees_of_list (map plain parts.now)) (current_of maps.old) ordinals after }
     ensures previous { previous_of maps.new ≡ previous_of maps.old }
 {
-    let mut ordinals = Ordinals::new(alloc);
+    let mut ordinals = Ordinals::with_capacity(alloc, parts.len())?;
     for part in parts {
         ordinals.push(add_tree(alloc, model, maps, type_index, part)?)?;
     }
@@ -148,7 +148,7 @@ fn add_pairs(
     ensures too_many { result ≡ Err PutRowFault.TooMany → (pairs : List (ℕ × ℕ)) (after : Table) → ¬ AddsPairs model.now (previous_of maps.old) (key_type, value_type) (pairs_of_list (map plain_pair parts.now)) (current_of maps.old) pairs after }
     ensures previous { previous_of maps.new ≡ previous_of maps.old }
 {
-    let mut pairs = Pairs::new(alloc);
+    let mut pairs = Pairs::with_capacity(alloc, parts.len())?;
     for part in parts {
         let key = add_tree(alloc, model, maps, key_type, &part.0)?;
         let value = add_tree(alloc, model, maps, value_type, &part.1)?;

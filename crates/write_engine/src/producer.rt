@@ -2,12 +2,14 @@
 ghost use Rattle.std.specs.Prelude.{◌≡◌, ◌↔◌, ◌<◌, ◌^◌, ℕ, Ok, Err, IfOk, IsTrue, OnErr, OnOk, true, false, length};
 ghost use Rattle.hol_varint.specs.Yields.{Yields};
 ghost use Rattle.row_model.specs.Table.{Table, IsClosed};
+ghost use Rattle.row_model.specs.PlainTree.{PlainTree};
 ghost use Rattle.row_model.specs.Tree.{plain};
 ghost use Rattle.ordinal_map.specs.Assign.{IsFreePut, IsPut};
 ghost use Rattle.write_engine.specs.Agreement.{HoldsOnce, TablesAgree};
 ghost use Rattle.write_engine.specs.Cycle.{Adds, PutsRow, no_rows, rows_in, with_row};
 ghost use Rattle.write_engine.specs.CycleLimit.{TellsCycle};
 ghost use Rattle.record_trees.specs.FitsTree.{FitsTree};
+ghost use Rattle.record_trees.specs.Rows.{IsRowOf};
 ghost use Rattle.write_engine.specs.Production.{AreChanged, IsProducing, IsStart, advanced_to, current_of, previous_of, without_rows};
 ghost use Rattle.write_engine.specs.Restoring.{HasLowOrdinals, IsFirstDuplicate, IsFreeRestore, TellsRestored, restored_of};
 ghost use Rattle.write_engine.specs.RowPuts.{FitsRow, TellsRowPut};
@@ -112,6 +114,25 @@ fn put_one(maps: &mut Vec<OrdinalMap>, type_index: u32, row: Row) -> Result<u32,
     put_row(maps.as_mut_slice(), type_index, row)
 }
 
+// Puts the row of a record that refers to no others.
+fn put_plain(
+    model: &Model,
+    maps: &mut Vec<OrdinalMap>,
+    type_index: u32,
+    row: Row,
+) -> Result<u32, PutRowFault>
+    requires producing { IsProducing model.now maps.old.items }
+    requires fits { (tree : PlainTree) × FitsTree model.now type_index tree × IsRowOf tree row }
+    ensures producing { IsProducing model.now maps.new.items }
+    ensures previous { previous_of maps.new.items ≡ previous_of maps.old.items }
+    ensures added { (tree : PlainTree) → FitsTree model.now type_index tree → IsRowOf tree row
+        → IfOk result (λ ordinal. Adds model.now (previous_of maps.old.items) type_index tree (current_of maps.old.items) ordinal (current_of maps.new.items)) }
+    ensures too_many { (tree : PlainTree) → IsRowOf tree row → result ≡ Err PutRowFault.TooMany
+        → (ordinal : ℕ) (after : Table) → ¬ Adds model.now (previous_of maps.old.items) type_index tree (current_of maps.old.items) ordinal after }
+{
+    put_one(maps, type_index, row)
+}
+
 impl Producer {
     /// A producer at version 0, whose previous state has no rows.
     pub fn new(alloc: Global, model: Model) -> Result<Producer, AllocError>
@@ -211,6 +232,21 @@ impl Producer {
         ensures undone { OnErr result (self.new.current ≡ no_rows (length self.old.schemas)) }
     {
         add_or_undo(self.alloc, &self.model, &mut self.maps, type_index, tree)
+    }
+
+    /// Adds a record that refers to no others, as the row that it is, and gives its ordinal.
+    ///
+    /// `TooMany` comes where it would get the ordinal 2^22.
+    pub fn add_row(&mut self, type_index: u32, row: Row) -> Result<u32, PutRowFault>
+        requires fits { (tree : PlainTree) × FitsTree self.old.schemas type_index tree × IsRowOf tree row }
+        requires open { self.old.closed ≡ false }
+        ensures added { (tree : PlainTree) → FitsTree self.old.schemas type_index tree → IsRowOf tree row
+            → IfOk result (λ ordinal. Adds self.old.schemas self.old.previous type_index tree self.old.current ordinal self.new.current) }
+        ensures too_many { (tree : PlainTree) → IsRowOf tree row → result ≡ Err PutRowFault.TooMany
+            → (ordinal : ℕ) (after : Table) → ¬ Adds self.old.schemas self.old.previous type_index tree self.old.current ordinal after }
+        ensures kept { self.new ≡ record self.old { current = self.new.current } }
+    {
+        put_plain(&self.model, &mut self.maps, type_index, row)
     }
 
     /// Puts one row of a type into the cycle as it is, beside the rows that it names, and gives its ordinal. A row that stands there already keeps

@@ -36,9 +36,9 @@ add_behind-requires-clause-there c = λ schema at.
     (let old = c.args.producer.now in
     let add = added_by c.args.line.now in
     let values = values_under add schema.name in
-    let at_first : slice_get old.schemas c.args.type_index ≡ Some schema = sym (ap (λ (p : Production). slice_get p.schemas c.args.type_index) c.add_plain.ensures.kept) ∙ at in
+    let at_old : slice_get old.schemas c.args.type_index ≡ Some schema = sym (ap (λ (p : Production). slice_get p.schemas c.args.type_index) c.add_plain.ensures.kept) ∙ at in
     let ahead = ahead_under c.model.result.now old.schemas c.args.type_index c.schema.result.now schema add c.text-name.result.now c.in-Ok-Some.field-0 c.in-Ok-Some.reader c.model.ensures c.schema.ensures.value c.text-name.ensures
-    c.in-Ok-Some.field-0-is c.in-Ok-Some.ensures at_first in
+    c.in-Ok-Some.field-0-is c.in-Ok-Some.ensures at_old in
     subst (λ (plain : Plain). IsThere values plain) c.in-Front.is (c.in_ok-full-in-Ok-Some.ensures.there values ahead.0 ahead.1))
 
 pub add_behind-requires-clause-model : goal.add_behind-requires-clause-model
@@ -53,6 +53,6 @@ returns-in-Ok-Some-clause-tells c = λ schema done at had.
     let ahead = ahead_under c.model.result.now old.schemas c.args.type_index c.schema.result.now schema add c.text-name.result.now c.in-Ok-Some.field-0 c.in-Ok-Some.reader c.model.ensures c.schema.ensures.value c.text-name.ensures
     c.in-Ok-Some.field-0-is c.in-Ok-Some.ensures at in
     let told = subst (λ (plain : Plain). TellsPlain old.schemas old.previous done recorded front.current (Ok plain)) c.in-Front.is (c.in_ok-full-in-Ok-Some.ensures.tells (values_under add schema.name) ahead.0 done ahead.1 had) in
-    let at_front : slice_get front.schemas c.args.type_index ≡ Some schema = ap (λ (p : Production). slice_get p.schemas c.args.type_index) c.add_plain.ensures.kept ∙ at in
+    let at_now : slice_get front.schemas c.args.type_index ≡ Some schema = ap (λ (p : Production). slice_get p.schemas c.args.type_index) c.add_plain.ensures.kept ∙ at in
     told_before old front (done ++ take c.in-Front.place recorded) front.current c.add_behind.new.producer.current (done ++ recorded) c.in-Front.full c.add_behind.result c.add_plain.ensures.kept
-    (c.add_behind.ensures.tells schema done at_front) told)
+    (c.add_behind.ensures.tells schema done at_now) told)

@@ -1,10 +1,7 @@
-use Rattle.std.proofs.Common.{◌≡◌, ◌∙◌, ◌∷◌, refl, sym, arith}
+use Rattle.std.proofs.Common.{◌≡◌, ◌∙◌, ◌∷◌, None, sym, subst, arith}
 use Rattle.json.specs.Reads.{token_of}
-use Rattle.row_model.specs.Tree.{plain}
-use Rattle.record_json.specs.ReadTree.{read_tree}
-use Rattle.record_stream.specs.Records.{record_depth}
 use Rattle.record_stream.proofs.Records.{ended}
-use Rattle.record_tokens.proofs.Taking.{same_taken}
+use Rattle.record_tokens.specs.Next.{TakesRecord}
 use Rattle.record_tokens.proofs.Told.{record_told}
 use Rattle.record_tokens.proofs.next.next_tree.Goals as goal
 
@@ -17,5 +14,5 @@ returns-in-Ok c =
     let t = c.args.type_index in
     let going = c.if-take_end_array.ensures in
     let first : c.take_end_array.new.self ≡ token_of c.in-Some.token ∷ c.next.new.self = grind arith in
-    record_told schemas t c.args.reader.now c.tree_behind.new.reader c.in-Ok.tree going.0
-    (same_taken (read_tree schemas t) record_depth c.args.reader.now (token_of c.in-Some.token ∷ c.next.new.self) c.tree_behind.new.reader (plain c.in-Ok.tree) (plain c.in-Ok.tree) (sym going.1 ∙ first) refl c.in-Ok.ensures)
+    record_told schemas t c.args.reader.now c.read_behind.new.reader c.in-Ok.record going.0
+    (subst (λ ts. TakesRecord schemas t ts c.in-Ok.record c.read_behind.new.reader) (sym (sym going.1 ∙ first)) c.in-Ok.ensures)

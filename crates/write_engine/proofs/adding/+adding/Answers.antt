@@ -141,14 +141,14 @@ add_fields-loop-place-preserved t c =
     let previous = previous_of c.args.maps.now in
     let x = plain c.index-parts-place.result in
     let before = current_of c.loop-place.maps in
-    let middle = current_of c.match-branch-2.maps in
-    let value = c.match-branch-2.value in
+    let middle = current_of c.match-branch-3.maps in
+    let value = c.match-branch-3.value in
     let here = image_at plain c.args.parts.now c.loop-place.place c.index-parts-place.result c.loop-place-test.true c.index-parts-place.is in
     let next = field_fits model _ _ c.loop-place.invariant.previous 0 (map plain c.args.parts.now) c.loop-place.place x here c.args.fields.now c.loop-place.invariant.fits in
     let field = next.0 in
     let kept = kept_field model previous (map plain c.args.parts.now) c.loop-place.place x here c.args.fields.now field next.1 (current_of c.args.maps.now) before c.loop-place.invariant.agree middle c.loop-place.values c.push.new.self value
     c.in_ok-push.ensures.ok c.loop-place.invariant.left c.loop-place.invariant.so_far in
-    elim c.match-branch-2.branch [
+    elim c.match-branch-3.branch [
       | add_fields-in-Some w ↦
           let now = kept
           (as_leaf model previous field x _ before middle value (subst (TellsLeaf x) (w.in-Some.is ∙ ap Some (sym w.value-is)) c.in_ok-value.ensures) next.2.0 (ap current_of w.maps-is)) in
@@ -207,12 +207,12 @@ add_tree-returns-in_ok-members-in-Map-Map-clause-added t c =
 pub add_all-returns-in_err-add_tree-clause-too_many : goal.add_all-returns-in_err-add_tree-clause-too_many
 add_all-returns-in_err-add_tree-clause-too_many t c = λ is ordinals after adds.
     all_refused c.args.model.now _ _ c.loop-part.invariant.previous _ c.loop-part.invariant.agree (map plain c.args.parts.now) c.loop-part.part-index (plain c.part-item.result)
-    (image_at plain c.args.parts.now c.loop-part.part-index c.part-item.result c.loop-part-test.true c.part-item.is) c.args.type_index (c.loop-part.invariant.left (ordinals, after, adds)) (c.in_err-add_tree.ensures.too_many (passed_on _ c.from_residual.result is c.from_residual.ensures.1))
+    (image_at plain c.args.parts.now c.loop-part.part-index c.part-item.result c.loop-part-test.true c.part-item.is) c.args.type_index (c.loop-part.invariant.left (ordinals, after, adds)) (c.in_err-add_tree.ensures.too_many (passed_on _ c.from_residual-in_err-add_tree.result is c.from_residual-in_err-add_tree.ensures.1))
 
 pub add_pairs-returns-in_err-key-clause-too_many : goal.add_pairs-returns-in_err-key-clause-too_many
 add_pairs-returns-in_err-key-clause-too_many t c = λ is pairs after adds.
     key_refused c.args.model.now _ _ c.loop-part.invariant.previous _ c.loop-part.invariant.agree (c.args.key_type, c.args.value_type) (map plain_pair c.args.parts.now) c.loop-part.part-index (plain_pair c.part-item.result)
-    (image_at plain_pair c.args.parts.now c.loop-part.part-index c.part-item.result c.loop-part-test.true c.part-item.is) (c.loop-part.invariant.left (pairs, after, adds)) (c.in_err-key.ensures.too_many (passed_on _ c.from_residual.result is c.from_residual.ensures.1))
+    (image_at plain_pair c.args.parts.now c.loop-part.part-index c.part-item.result c.loop-part-test.true c.part-item.is) (c.loop-part.invariant.left (pairs, after, adds)) (c.in_err-key.ensures.too_many (passed_on _ c.from_residual-in_err-key.result is c.from_residual-in_err-key.ensures.1))
 
 pub add_pairs-returns-in_err-value-clause-too_many : goal.add_pairs-returns-in_err-value-clause-too_many
 add_pairs-returns-in_err-value-clause-too_many t c = λ is pairs after adds.

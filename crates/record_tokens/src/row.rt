@@ -1,0 +1,96 @@
+//! Records of types without references, each as its row from its tokens.
+ghost use Rattle.std.specs.Prelude.{◌≡◌, ◌++◌, ◌-◌, All, IfOk, List, OnOk, Result, Some, Ok, length, replicate};
+ghost use Rattle.json.specs.Reads.{token_of};
+ghost use Rattle.serde_json.specs.Data.{Data};
+ghost use Rattle.schema_model.specs.Parts.{field_names};
+ghost use Rattle.schema_model.specs.declared.reason.Reason.{Reason};
+ghost use Rattle.schema_model.specs.declared.schema.name.Name.{Name as SpecName};
+ghost use Rattle.row_model.specs.Dangling.{IsPlain};
+ghost use Rattle.row_model.specs.PlainTree.{PlainTree, object, trees_of_list};
+ghost use Rattle.row_model.specs.Row.{IsValueInRange, stored_value};
+ghost use Rattle.row_model.specs.declared.row.Value.{Value as RowValue};
+ghost use Rattle.json_values.specs.ReadValue.{read_value};
+ghost use Rattle.record_json.specs.NamesApart.{AreNamesApart};
+ghost use Rattle.record_json.specs.ReadTree.{read_members};
+ghost use Rattle.record_trees.specs.Rows.{AreStoredOf};
+ghost use Rattle.record_tokens.specs.Taken.{TakesMembers, scalar};
+
+use crate::leaf::value_of;
+use crate::tree::place_from;
+use crate::unread::Unread;
+use hol_varint::units_of;
+use json::{Reader, Token};
+use json_values::{ValueFault, value_from};
+use row_model::{Value, Values};
+use schema_model::{Field, FieldKind};
+use std::alloc::{AllocError, Global};
+
+/// The values of a record as a blob holds them, whose members stand in the order of its fields; where one is missing its field is null.
+pub(crate) fn values_ahead(
+    alloc: Global,
+    fields: &[Field],
+    reader: &mut Reader<'_>,
+    nest: usize,
+) -> Result<Values, Unread>
+    requires names { AreNamesApart (field_names fields.now) }
+    requires plain { All (λ field. IsPlain field.kind) fields.now }
+    ensures { IfOk result (λ values. (trees : List PlainTree) × AreStoredOf trees values
+        × ((follow : SpecName → Data → Result PlainTree Reason) → TakesMembers (read_members follow fields.now) nest reader.old (object (trees_of_list trees)) reader.new)) }
+{
+    let mut values = Values::with_capacity(alloc, fields.len())?;
+    'members: while let Some(name) = reader.next_key()? {
+        let Some(place) = place_from(fields, values.len(), name) else {
+            return Err(Unread::Other);
+        };
+        fill_values(&mut values, place)?;
+        let token = reader.next().ok_or(Unread::Other)?;
+        values.push(stored_leaf(alloc, &fields[place].kind, token)?)?;
+    }
+    fill_values(&mut values, fields.len())?;
+    Ok(values)
+}
+
+// Adds nulls at the end, until there are so many values.
+fn fill_values(values: &mut Values, count: usize) -> Result<(), AllocError>
+    ensures { OnOk result (values.new ≡ values.old ++ replicate (count - length values.old) RowValue.Null) }
+{
+    'filling: while values.len() < count {
+        values.push(Value::Null)?;
+    }
+    Ok(())
+}
+
+// The value of a field of a kind without a reference, from its token, as a blob holds it.
+fn stored_leaf(alloc: Global, kind: &FieldKind, token: Token<'_>) -> Result<Value, Unread>
+    requires plain { IsPlain kind.now }
+    ensures { IfOk result (λ value. (json : Data) × (found : RowValue) × (scalar (token_of token.entry) ≡ Some json) × (read_value kind.now json ≡ Ok found)
+        × IsValueInRange found × (value ≡ stored_value found)) }
+{
+    Ok(stored(leaf_value(alloc, kind, token)?))
+}
+
+// The same, as it is read. A text goes into it at once.
+fn leaf_value(alloc: Global, kind: &FieldKind, token: Token<'_>) -> Result<Value, Unread>
+    requires plain { IsPlain kind.now }
+    ensures read { IfOk result (λ value. (json : Data) × (scalar (token_of token.entry) ≡ Some json) × (read_value kind.now json ≡ Ok value)) }
+    ensures range { IfOk result IsValueInRange }
+{
+    if let (FieldKind::Text, Token::String(text)) = (kind, token) {
+        return Ok(Value::Text(units_of(alloc, text)?));
+    }
+    match value_from(alloc, kind, &value_of(alloc, token)?) {
+        Ok(value) => Ok(value),
+        Err(ValueFault::Field(_)) => Err(Unread::Other),
+        Err(ValueFault::Memory) => Err(Unread::Memory),
+    }
+}
+
+// A value as a blob holds it: the least INT and LONG are null.
+fn stored(value: Value) -> Value
+    ensures { result ≡ stored_value value }
+{
+    match value {
+        Value::Int(i32::MIN) | Value::Long(i64::MIN) => Value::Null,
+        value => value,
+    }
+}
