@@ -5,10 +5,10 @@ use Rattle.serde_json.specs.Data.{Data, boolean, string}
 use Rattle.serde_json.specs.View.{view}
 use Rattle.hol_io.specs.Name.{IsVersion}
 use Rattle.json_values.specs.SchemaJson.{AreSchemas}
-use Rattle.hol_orders.specs.declared.json.KeyValues.{KeyValues}
+use Rattle.hol_orders.specs.declared.json_parts.KeyValues.{KeyValues}
 use Rattle.hol_orders.specs.declared.order.NextState.{NextState}
-use Rattle.hol_orders.specs.declared.json.Paths.{Paths}
-use Rattle.hol_orders.specs.declared.json.SchemaList.{SchemaList}
+use Rattle.hol_orders.specs.declared.json_parts.Paths.{Paths}
+use Rattle.hol_orders.specs.declared.json_parts.SchemaList.{SchemaList}
 use Rattle.hol_orders.specs.declared.kind.Kind.{Kind}
 use Rattle.hol_orders.specs.declared.order.Order.{Order}
 use Rattle.hol_orders.specs.declared.order.Order.TheVariants.{Model, Cycle, Step, Index, Get, Find, Row, Has, At, Stat}

@@ -5,7 +5,7 @@ use Rattle.serde_json.specs.Data.{Data}
 use Rattle.serde_json.specs.View.{view}
 use Rattle.serde_json.specs.declared.value.Value.{Value}
 use Rattle.hol_orders.specs.declared.order.NextState.{NextState}
-use Rattle.hol_orders.specs.declared.json.Records.{Records}
+use Rattle.hol_orders.specs.declared.json_parts.Records.{Records}
 use Rattle.hol_orders.specs.declared.order.OrderFault.{OrderFault}
 use Rattle.hol_orders.specs.declared.order.OrderFault.TheVariants.{BadOrder, Memory}
 use Rattle.hol_orders.specs.Kind.{IsNextState}

@@ -9,7 +9,7 @@ ghost use Rattle.hol_orders.specs.Order.{Orders};
 ghost use Rattle.hol_orders.specs.Parts.{whole};
 
 use crate::added::Added;
-use crate::json::FromJson;
+use crate::json_parts::FromJson;
 use crate::order::{NextState, Order};
 use record_stream::{CycleParts, split_cycle};
 use simdutf8::basic::from_utf8;

@@ -3,7 +3,8 @@
 
 mod added;
 mod cycle_in_line;
-mod json;
+mod find_in_line;
+mod json_parts;
 mod kind;
 pub mod laws;
 mod order;
@@ -12,5 +13,5 @@ mod shapes;
 
 pub use added::Added;
 pub use kind::Kind;
-pub use order::{NextState, Order, OrderFault, Versions, order_of};
+pub use order::{NextState, Order, OrderFault, OrderReader, Versions, order_of};
 pub use order_stop::OrderStop;

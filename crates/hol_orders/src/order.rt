@@ -5,10 +5,12 @@ ghost use Rattle.hol_orders.specs.Order.{Orders, TellsOrder, IsFreeOrder, order_
 
 use crate::added::Added;
 use crate::cycle_in_line::cycle_in_line;
-use crate::json::only_member;
+use crate::find_in_line::find_in_line;
+use crate::json_parts::only_member;
 use crate::kind::Kind;
 use crate::shapes::order_with;
 use hol_varint::List;
+use json::Scratch;
 use schema_model::Name;
 use serde_json::Value;
 use std::alloc::{AllocError, AllocFailed, Global};
@@ -134,23 +136,56 @@ impl<T: Drop> From<AllocFailed<T>> for OrderFault {
     }
 }
 
-/// The order that a line is, without the newline. `BadOrder` comes exactly where the line is not one JSON value in UTF-8,
-/// nested at most 127 deep, or has the shape of no order. Of a member that is given twice the last one counts.
-#[tactic(auto, using(crate::proofs::Told::found_told, crate::proofs::Told::bad_told))]
+/// Reads orders from lines, one after another. What it takes for one line it keeps for the next.
+#[derive(Drop)]
+pub struct OrderReader {
+    scratch: Scratch,
+}
+
+impl OrderReader {
+    ghost use Rattle.std.specs.Prelude.{◌≡◌, ◌⊎◌, Ok, Err, IsErrAnd};
+    ghost use Rattle.hol_varint.specs.Yields.{Yields};
+    ghost use Rattle.hol_orders.specs.Order.{Orders, TellsOrder, IsFreeOrder, order_data};
+
+    /// A reader that has read nothing. It takes no memory.
+    pub fn new(alloc: Global) -> OrderReader {
+        OrderReader {
+            scratch: Scratch::new(alloc),
+        }
+    }
+
+    /// The order that a line is, without the newline. `BadOrder` comes exactly where the line is not one JSON value in UTF-8,
+    /// nested at most 127 deep, or has the shape of no order. Of a member that is given twice the last one counts.
+    #[tactic(auto, using(crate::proofs::Told::found_told, crate::proofs::Told::bad_told))]
+    pub fn order(&mut self, alloc: Global, line: &[u8]) -> Result<Order, OrderFault>
+        ensures tells { TellsOrder line.now result }
+        ensures found { (order : Order) → Orders line.now order
+            → ((same : Order) × (result ≡ Ok same) × (order_data same ≡ order_data order)) ⊎ IsErrAnd result IsFreeOrder }
+        ensures bad { Yields IsFreeOrder result (Err OrderFault.BadOrder) ((order : Order) → ¬ Orders line.now order) }
+    {
+        read_order(alloc, &mut self.scratch, line)
+    }
+}
+
+/// The same of a line by itself.
 pub fn order_of(alloc: Global, line: &[u8]) -> Result<Order, OrderFault>
     ensures tells { TellsOrder line.now result }
     ensures found { (order : Order) → Orders line.now order
         → ((same : Order) × (result ≡ Ok same) × (order_data same ≡ order_data order)) ⊎ IsErrAnd result IsFreeOrder }
     ensures bad { Yields IsFreeOrder result (Err OrderFault.BadOrder) ((order : Order) → ¬ Orders line.now order) }
 {
-    read_order(alloc, line)
+    OrderReader::new(alloc).order(alloc, line)
 }
 
-// The same: a cycle in its plain form stays in its line, and any other line is read whole.
-fn read_order(alloc: Global, line: &[u8]) -> Result<Order, OrderFault>
+// The order of a line: a cycle in its plain form stays in its line, a look-up in its plain form is taken from the tokens of its line, and any other
+// line is read whole.
+fn read_order(alloc: Global, scratch: &mut Scratch, line: &[u8]) -> Result<Order, OrderFault>
     ensures { TellsOrder line.now result }
 {
-    match cycle_in_line(alloc, line)? {
+    if let Some(order) = cycle_in_line(alloc, line)? {
+        return Ok(order);
+    }
+    match find_in_line(alloc, scratch, line)? {
         Some(order) => Ok(order),
         None => order_in_json(alloc, line),
     }

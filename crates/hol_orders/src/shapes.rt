@@ -3,7 +3,7 @@ ghost use Rattle.serde_json.specs.View.{view};
 ghost use Rattle.hol_orders.specs.Order.{IsOfKind, content_of};
 ghost use Rattle.hol_orders.specs.Shapes.{Finds};
 
-use crate::json::{FromJson, KeyValues, Paths, SchemaList, is_true};
+use crate::json_parts::{FromJson, KeyValues, Paths, SchemaList, is_true};
 use crate::kind::Kind;
 use crate::order::{Order, OrderFault};
 use serde_json::Value;

@@ -4,7 +4,7 @@ ghost use Rattle.hollow_machine.specs.Script.{longest_line};
 ghost use Rattle.hollow_script.specs.Asked.{Asks, MeetsOrder};
 
 use hol_answers::Refusal;
-use hol_orders::{Order, OrderFault, OrderStop, order_of};
+use hol_orders::{Order, OrderFault, OrderReader, OrderStop};
 use std::alloc::Global;
 
 /// What a line asks for.
@@ -18,12 +18,12 @@ pub enum Asked {
 
 /// What a line asks for, which is told where it is not too long: `BadOrder` exactly where it is no order.
 #[tactic(auto, using(crate::proofs::Asking::asks_order, crate::proofs::Asking::asks_none))]
-pub fn asked_by(alloc: Global, line: &[u8]) -> Result<Asked, OrderStop>
+pub fn asked_by(alloc: Global, orders: &mut OrderReader, line: &[u8]) -> Result<Asked, OrderStop>
     ensures asks { length line.now ≤ longest_line → IfOk result (Asks line.now) }
     ensures order { IfOk result MeetsOrder }
     ensures no_store { IsErrOf result OrderStop.Store → ⊥ }
 {
-    match order_of(alloc, line) {
+    match orders.order(alloc, line) {
         Ok(order) => Ok(Asked::Order(order)),
         Err(OrderFault::BadOrder) => Ok(Asked::Refused(Refusal::BadOrder)),
         Err(OrderFault::Memory) => Err(OrderStop::Memory),

@@ -18,7 +18,7 @@ use crate::script_stop::ScriptStop;
 use crate::waiting::{put_answer, write_waiting};
 use hol_answers::{MAX_LINE_BYTES, Refusal, Reply};
 use hol_io::{BlobStore, Lines, Sink, Source, Turn};
-use hol_orders::Order;
+use hol_orders::{Order, OrderReader};
 use std::alloc::Global;
 
 /// How many bytes an input has at most.
@@ -88,9 +88,20 @@ fn answer_lines<I: Source, O: Sink, S: BlobStore>(
     ensures past { IsErrOf result ScriptStop.TooLong → TakesPast (I.left input.old) (I.left input.new) }
 {
     let mut lines = Lines::new(alloc, MAX_LINE_BYTES as usize, MAX_INPUT_BYTES)?;
+    let mut orders = OrderReader::new(alloc);
     let mut refused = false;
     for _turn in 0..u64::MAX {
-        let Some(also) = serve_next(alloc, &mut lines, input, out, store, keep, waiting)? else {
+        let Some(also) = serve_next(
+            alloc,
+            &mut lines,
+            &mut orders,
+            input,
+            out,
+            store,
+            keep,
+            waiting,
+        )?
+        else {
             return Ok(refused);
         };
         refused |= also;
@@ -104,6 +115,7 @@ fn answer_lines<I: Source, O: Sink, S: BlobStore>(
 fn serve_next<I: Source, O: Sink, S: BlobStore>(
     alloc: Global,
     lines: &mut Lines,
+    orders: &mut OrderReader,
     input: &mut I,
     out: &mut O,
     store: &mut S,
@@ -130,7 +142,7 @@ fn serve_next<I: Source, O: Sink, S: BlobStore>(
     ensures store_fault { IsErrOf result ScriptStop.Store → Rose (S.seen store.old).faults (S.seen store.new).faults }
     ensures store_later { (S.seen store.old).faults ≤ (S.seen store.new).faults }
 {
-    let Some(reply) = next_reply(alloc, lines, input, out, store, keep, waiting)? else {
+    let Some(reply) = next_reply(alloc, lines, orders, input, out, store, keep, waiting)? else {
         return Ok(None);
     };
     let refused = reply.is_refusal();
@@ -142,6 +154,7 @@ fn serve_next<I: Source, O: Sink, S: BlobStore>(
 fn next_reply<I: Source, O: Sink, S: BlobStore>(
     alloc: Global,
     lines: &mut Lines,
+    orders: &mut OrderReader,
     input: &mut I,
     out: &mut O,
     store: &mut S,
@@ -168,7 +181,7 @@ fn next_reply<I: Source, O: Sink, S: BlobStore>(
     ensures store_fault { IsErrOf result ScriptStop.Store → Rose (S.seen store.old).faults (S.seen store.new).faults }
     ensures store_later { (S.seen store.old).faults ≤ (S.seen store.new).faults }
 {
-    let Some(asked) = next_asked(alloc, lines, input, out, waiting)? else {
+    let Some(asked) = next_asked(alloc, lines, orders, input, out, waiting)? else {
         return Ok(None);
     };
     Ok(Some(answer_asked(alloc, asked, out, store, keep, waiting)?))
@@ -178,6 +191,7 @@ fn next_reply<I: Source, O: Sink, S: BlobStore>(
 fn next_asked<I: Source, O: Sink>(
     alloc: Global,
     lines: &mut Lines,
+    orders: &mut OrderReader,
     input: &mut I,
     out: &mut O,
     waiting: &mut Vec<u8>,
@@ -199,7 +213,7 @@ fn next_asked<I: Source, O: Sink>(
     ensures no_store { IsErrOf result ScriptStop.Store → ⊥ }
 {
     match next_turn(lines, input, out, waiting)? {
-        Turn::Line => Ok(Some(asked_by(alloc, lines.line())?)),
+        Turn::Line => Ok(Some(asked_by(alloc, orders, lines.line())?)),
         Turn::Long => Ok(Some(Asked::Refused(Refusal::LineTooLong))),
         Turn::End => Ok(None),
         Turn::Over => Err(ScriptStop::TooLong),

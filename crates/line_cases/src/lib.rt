@@ -4,6 +4,8 @@
 #[cfg(test)]
 mod plain_cycles;
 #[cfg(test)]
+mod plain_finds;
+#[cfg(test)]
 mod plain_records;
 #[cfg(test)]
 mod replies;

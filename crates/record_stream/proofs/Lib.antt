@@ -1,6 +1,7 @@
 pub mod Ahead
 pub mod Converted
 mod Enough
+mod Finding
 pub mod Listed
 mod Named
 mod Opened

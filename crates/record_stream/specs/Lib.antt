@@ -1,3 +1,4 @@
 pub mod CycleLine
+pub mod FindLine
 pub mod Passing
 pub mod Records

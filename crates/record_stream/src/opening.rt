@@ -1,6 +1,6 @@
 //! The start of a cycle's line, up to its records.
 ghost use Rattle.std.specs.Prelude.{◌≡◌, ◌∷◌, [], List, Some, IfOk, OnOk, IsTrue};
-ghost use Rattle.json.specs.Token.{Token as SpecToken, begin_array, begin_object, end_object, key};
+ghost use Rattle.json.specs.Token.{Token as SpecToken, begin_array, begin_object, end_array, end_object, key};
 ghost use Rattle.json.specs.Json.{Json, skip_value, value};
 ghost use Rattle.serde_json.specs.Data.{Data};
 ghost use Rattle.serde_json.specs.View.{view};
@@ -74,13 +74,22 @@ pub(crate) fn is_line_closed(reader: &mut Reader<'_>) -> bool
     is_object_closed(reader) && is_object_closed(reader) && reader.next().is_none()
 }
 
-fn is_object_closed(reader: &mut Reader<'_>) -> bool
+/// Whether the next token is the brace that closes an object.
+pub(crate) fn is_object_closed(reader: &mut Reader<'_>) -> bool
     ensures { IsTrue result → reader.old ≡ end_object ∷ reader.new }
 {
     matches!(reader.next(), Some(Token::EndObject))
 }
 
-fn take_object(reader: &mut Reader<'_>) -> Result<(), Invalid>
+/// Whether the next token is the bracket that closes an array.
+pub(crate) fn is_array_closed(reader: &mut Reader<'_>) -> bool
+    ensures { IsTrue result → reader.old ≡ end_array ∷ reader.new }
+{
+    matches!(reader.next(), Some(Token::EndArray))
+}
+
+/// Passes the brace that opens an object.
+pub(crate) fn take_object(reader: &mut Reader<'_>) -> Result<(), Invalid>
     ensures { OnOk result (reader.old ≡ begin_object ∷ reader.new) }
 {
     match reader.next() {
@@ -89,7 +98,8 @@ fn take_object(reader: &mut Reader<'_>) -> Result<(), Invalid>
     }
 }
 
-fn take_key(reader: &mut Reader<'_>, name: &str) -> Result<(), Invalid>
+/// Passes the name of a member.
+pub(crate) fn take_key(reader: &mut Reader<'_>, name: &str) -> Result<(), Invalid>
     ensures { OnOk result (reader.old ≡ key name.now ∷ reader.new) }
 {
     match reader.next() {

@@ -1,0 +1,10 @@
+use Rattle.std.proofs.Common.{is_some, rules, tests}
+use Rattle.std.proofs.lemmas.Iterator.{YieldsList-from_slice}
+use Rattle.std.proofs.lemmas.Iterator.Search.{all_from_yields_List}
+use Rattle.serde_json.specs.Find.{as_str}
+use Rattle.serde_json.specs.View.{view}
+use Rattle.hol_orders.proofs.Lists.{texts}
+use Rattle.hol_orders.proofs.json_parts.are_texts.Goals as goal
+
+pub returns : goal.returns
+returns c = texts c.args.items.now _ (all_from_yields_List (λ v. is_some (as_str (view v))) _ _ _ c.all.ensures.ran (YieldsList-from_slice c.args.items.now cc) (λ x b q k. search (rules, tests)))
