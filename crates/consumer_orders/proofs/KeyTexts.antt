@@ -6,7 +6,7 @@ use Rattle.serde_json.specs.declared.value.Value.{Value}
 use Rattle.hollow_machine.specs.KeyPaths.{text_in, texts_in}
 
 -- the texts of one value more
-texts_push : (before : List Value) (last : Value) → texts_in (items_view (before ++ last ∷ [])) ≡ texts_in (items_view before) ++ text_in (view last)
+pub texts_push : (before : List Value) (last : Value) → texts_in (items_view (before ++ last ∷ [])) ≡ texts_in (items_view before) ++ text_in (view last)
 texts_push [] last = append-nil (text_in (view last))
 texts_push (first ∷ rest) last =
     ap (λ texts. text_in (view first) ++ texts) (texts_push rest last) ∙ sym (append_assoc (text_in (view first)) (texts_in (items_view rest)) (text_in (view last)))

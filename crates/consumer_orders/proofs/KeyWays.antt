@@ -60,7 +60,7 @@ one_resolved : (schemas : List Schema) (t : ℕ) (text : List ℕ) (path : Path)
 one_resolved schemas t text path paths resolves rest zero other inside = (text, resolves)
 one_resolved schemas t text path paths resolves rest (suc place) other inside = rest place other (omega (arith, inside))
 
-all_resolved : (schemas : List Schema) (t : ℕ) (texts : List (List ℕ)) (paths : List Path) → AllResolve schemas t texts paths → All (IsResolved schemas t) paths
+pub all_resolved : (schemas : List Schema) (t : ℕ) (texts : List (List ℕ)) (paths : List Path) → AllResolve schemas t texts paths → All (IsResolved schemas t) paths
 all_resolved schemas t texts [] zip = λ place path inside. absurd (omega (arith, inside))
 all_resolved schemas t [] (path ∷ paths) zip = absurd zip
 all_resolved schemas t (text ∷ texts) (path ∷ paths) zip = one_resolved schemas t text path paths zip.0 (all_resolved schemas t texts paths zip.1)

@@ -6,6 +6,7 @@ mod KeyWays
 mod LiveLists
 pub mod Loading
 mod LookingUp
+mod Naming
 mod PastRows
 mod ShownRows
 pub mod Stepping

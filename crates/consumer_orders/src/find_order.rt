@@ -4,7 +4,7 @@ ghost use Rattle.serde_json.specs.View.{view};
 ghost use Rattle.hollow_machine.specs.KeyOrders.{FindReply};
 ghost use Rattle.hollow_machine.specs.KeyPaths.{texts_of_array};
 
-use crate::key_paths::texts_of;
+use crate::key_paths::items_of;
 use crate::look_up::{Found, look_up};
 use crate::type_order::{Asked, type_of};
 use hol_answers::Reply;
@@ -30,8 +30,7 @@ pub fn find(
         Asked::At(type_index) => type_index,
         Asked::Refused(refusal) => return Ok(Reply::Refused(refusal)),
     };
-    let texts = texts_of(alloc, paths)?;
-    match look_up(alloc, consumer, name, type_index, &texts, values)? {
+    match look_up(alloc, consumer, name, type_index, items_of(paths), values)? {
         Found::Ordinals(ordinals) => Ok(Reply::Find(ordinals)),
         Found::Refused(refusal) => Ok(Reply::Refused(refusal)),
     }

@@ -14,7 +14,7 @@ use hol_orders::OrderStop;
 use read_engine::Consumer;
 use record_json::{PrintFault, tree_value};
 use row_model::Rows;
-use schema_model::{Limit, MAX_NODES, Name, Names};
+use schema_model::{Limit, MAX_NODES, Name};
 use serde_json::Value;
 use std::alloc::Global;
 
@@ -47,8 +47,7 @@ fn get_at(
     ensures reply { IfOk result (λ reply. IsSomeAnd consumer.now (λ now. ShowsFound name.now (view values.now) now type_index reply)) }
     ensures stop { IfErr result (λ stop. stop ≡ OrderStop.Memory) }
 {
-    let primary = Names::new(alloc);
-    match look_up(alloc, consumer, name, type_index, &primary, values)? {
+    match look_up(alloc, consumer, name, type_index, &[], values)? {
         Found::Ordinals(ordinals) => match ordinals.as_slice() {
             [] => Ok(Reply::Refused(Refusal::NoMatch)),
             [ordinal] => show_found(alloc, &consumer.now(), type_index, *ordinal),

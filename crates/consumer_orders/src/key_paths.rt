@@ -19,18 +19,25 @@ pub(crate) enum KeyPaths {
     Refused(Refusal),
 }
 
+/// The items of an array; any other value has none.
+pub(crate) fn items_of(value: &Value) -> &[Value]
+    ensures { texts_in (items_view result.now) ≡ texts_of_array (view value.now) }
+{
+    match value {
+        Value::Array(items) => items.as_slice(),
+        _ => &[],
+    }
+}
+
 /// The texts of key paths, which are an array of texts.
 pub(crate) fn texts_of(alloc: Global, paths: &Value) -> Result<Names, AllocError>
     ensures { IfOk result (λ texts. texts ≡ texts_of_array (view paths.now)) }
 {
-    match paths {
-        Value::Array(paths) => copy_texts(alloc, paths.as_slice()),
-        _ => Ok(Names::new(alloc)),
-    }
+    copy_texts(alloc, items_of(paths))
 }
 
-// Those of some values that are texts.
-fn copy_texts(alloc: Global, values: &[Value]) -> Result<Names, AllocError>
+/// Those of some values that are texts.
+pub(crate) fn copy_texts(alloc: Global, values: &[Value]) -> Result<Names, AllocError>
     ensures { IfOk result (λ texts. texts ≡ texts_in (items_view values.now)) }
 {
     let mut texts = Names::new(alloc);

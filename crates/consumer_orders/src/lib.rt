@@ -10,6 +10,7 @@ mod key_paths;
 mod live_order;
 mod load_order;
 mod look_up;
+mod named_index;
 mod past_order;
 mod row_order;
 mod stat_order;

@@ -1,5 +1,5 @@
 //! The indexes that a consumer keeps over the rows of its state.
-ghost use Rattle.std.specs.Prelude.{◌≡◌, ◌<◌, ◌^◌, ◌↔◌, All, Contains, Err, IfOk, IsSome, IsSomeAnd, IsTrue, MatchOption, OnErr, OnOk, Some, length, map, slice_get};
+ghost use Rattle.std.specs.Prelude.{◌≡◌, ◌<◌, ◌^◌, ◌↔◌, All, Contains, Err, IfOk, IsSome, IsSomeAnd, IsTrue, MatchOption, OnErr, OnOk, None, Some, length, map, slice_get};
 ghost use Rattle.row_model.specs.Key.{AreMatches, IsResolved};
 ghost use Rattle.key_index.specs.Indexed.{CountsLive};
 ghost use Rattle.read_engine.specs.Indexes.{AddsIndex, CountsAdded, CountsKeyed, HasNoRoom, index_by};
@@ -56,6 +56,16 @@ impl Consumer {
             (λ number. slice_get position.indexes number ≡ Some (index_by type_index paths.now))) }
     {
         place_of(self.indexes.as_slice(), type_index, paths)
+    }
+
+    /// The type and the paths of an index, or none where none is kept under the number.
+    pub fn index_at(&self, index: u32) -> Option<(u32, &Paths)>
+        requires { IsSome self.now }
+        ensures { IsSomeAnd self.now (λ position. MatchOption result (slice_get position.indexes index ≡ None)
+            (λ found. slice_get position.indexes index ≡ Some (index_by found.0 found.1.now))) }
+    {
+        let kept = self.indexes.as_slice().get(index as usize)?;
+        Some((kept.type_index(), kept.paths()))
     }
 
     /// How many rows have a key of an index: no null stands on one of its paths.

@@ -65,6 +65,7 @@ fn find_ahead(alloc: Global, reader: &mut Reader<'_>) -> Result<FindParts, ReadF
 }
 
 // Takes a text.
+#[inline(always)]
 fn take_text(alloc: Global, reader: &mut Reader<'_>) -> Result<String, ReadFault>
     ensures { IfOk result (λ text. reader.old ≡ string_token (string_bytes text) ∷ reader.new) }
 {
@@ -75,6 +76,7 @@ fn take_text(alloc: Global, reader: &mut Reader<'_>) -> Result<String, ReadFault
 }
 
 // Whether the array, the object around it and the line end.
+#[inline(always)]
 fn is_find_closed(reader: &mut Reader<'_>) -> bool
     ensures { IsTrue result → reader.old ≡ end_array ∷ end_object ∷ [] }
 {

@@ -75,6 +75,7 @@ pub(crate) fn is_line_closed(reader: &mut Reader<'_>) -> bool
 }
 
 /// Whether the next token is the brace that closes an object.
+#[inline(always)]
 pub(crate) fn is_object_closed(reader: &mut Reader<'_>) -> bool
     ensures { IsTrue result → reader.old ≡ end_object ∷ reader.new }
 {
@@ -82,6 +83,7 @@ pub(crate) fn is_object_closed(reader: &mut Reader<'_>) -> bool
 }
 
 /// Whether the next token is the bracket that closes an array.
+#[inline(always)]
 pub(crate) fn is_array_closed(reader: &mut Reader<'_>) -> bool
     ensures { IsTrue result → reader.old ≡ end_array ∷ reader.new }
 {
@@ -89,6 +91,7 @@ pub(crate) fn is_array_closed(reader: &mut Reader<'_>) -> bool
 }
 
 /// Passes the brace that opens an object.
+#[inline(always)]
 pub(crate) fn take_object(reader: &mut Reader<'_>) -> Result<(), Invalid>
     ensures { OnOk result (reader.old ≡ begin_object ∷ reader.new) }
 {
@@ -99,6 +102,7 @@ pub(crate) fn take_object(reader: &mut Reader<'_>) -> Result<(), Invalid>
 }
 
 /// Passes the name of a member.
+#[inline(always)]
 pub(crate) fn take_key(reader: &mut Reader<'_>, name: &str) -> Result<(), Invalid>
     ensures { OnOk result (reader.old ≡ key name.now ∷ reader.new) }
 {
@@ -109,6 +113,7 @@ pub(crate) fn take_key(reader: &mut Reader<'_>, name: &str) -> Result<(), Invali
 }
 
 /// Passes the bracket that opens an array.
+#[inline(always)]
 pub(crate) fn take_array(reader: &mut Reader<'_>) -> Result<(), Invalid>
     ensures { OnOk result (reader.old ≡ begin_array ∷ reader.new) }
 {

@@ -1,11 +1,13 @@
 -- The ways that paths lead: how one goes on, and that there is no other.
-use Rattle.std.proofs.Common.{◌≡◌, ℕ, zero, suc, ◌+◌, ◌-◌, ◌<◌, ◌≤◌, ◌∙◌, sym, ap, subst, refl, List, [], ◌∷◌, ◌++◌, Option, Some, None, length, slice_get, take, get_or, arith, inl, inr, eqb, cond, not, Bool, append_assoc, Result, Ok, Err}
-use Rattle.std.specs.Prelude.{IsErrAnd}
+use Rattle.std.proofs.Common.{◌≡◌, ℕ, zero, suc, ◌+◌, ◌-◌, ◌<◌, ◌≤◌, ◌∙◌, sym, ap, subst, refl, List, [], ◌∷◌, ◌++◌, Option, Some, None, length, slice_get, take, drop, get_or, arith, inl, inr, eqb, cond, not, Bool, true, false, ◌↔◌, append_assoc, Result, Ok, Err}
+use Rattle.std.specs.Prelude.{IsErrAnd, IsTrue}
 use Rattle.std.specs.List.{filter_map, Contains, cons_option, position_or_len, onto_first, before_first, after_first, count_by}
+use Rattle.std.proofs.lemmas.Slice.Eq.{bytes_eq-Decides}
+use Rattle.std.specs.Str.{bytes_eq}
 use Rattle.std.proofs.lemmas.List.Splits.{slice_split-cons_no, slice_split_first, length-slice_split}
 use Rattle.std.specs.Option.{option_map, MatchOption, IfSome}
 use Rattle.std.proofs.lemmas.Bool.{cases_order, cases_lt, cases_Bool}
-use Rattle.std.proofs.lemmas.List.{get_or-take, length-take, length-map}
+use Rattle.std.proofs.lemmas.List.{get_or-take, length-take, length-map, take_all}
 use Rattle.std.proofs.lemmas.List.Elements.{Contains-get_or}
 use Rattle.std.proofs.lemmas.Option.{slice_get_within, get_or_from_slice_get, slice_get-map, slice_get-get_or, MatchOption-at_none, MatchOption-at_some}
 use Rattle.schema_model.specs.Model.{HasChain, type_graph, named_indexes, IsKept, StandsEarlier}
@@ -316,3 +318,100 @@ pub path_exit : (schemas : List Schema) (t : ℕ) (text : List ℕ) (r : Result 
 path_exit schemas t text (Ok p) fault is told = absurd is
 path_exit schemas t text (Err BadPath) fault is told = λ path resolves. (let none = subst (λ e. TellsFields (Leads schemas t (path_names text)) (Err e)) (sym is) told in none path.fields resolves.1)
 path_exit schemas t text (Err Memory) fault is told = tt
+
+-- ---- whether these fields are a way
+
+-- no fields follow a field that refers to no type
+pub no_way_from : (schemas : List Schema) (kind : FieldKind) (fields : List ℕ) → 1 ≤ length fields → ((u : ℕ) → RefersTo schemas kind u → ⊥) → IsTrue false ↔ GoesOn schemas kind fields
+no_way_from schemas kind [] some none = absurd (omega arith)
+no_way_from schemas kind (i ∷ more) some none = ((λ e. absurd cc), (λ way. absurd (none way.0 way.2)))
+
+pub no_fields : (schemas : List Schema) (t : ℕ) (names : List (List ℕ)) → Leads schemas t names [] → ⊥
+no_fields schemas t [] leads = leads
+no_fields schemas t (name ∷ []) leads = leads
+no_fields schemas t (name ∷ next ∷ names) leads = leads
+
+-- no fields are no way
+pub none_lead : (schemas : List Schema) (t : ℕ) (names : List (List ℕ)) (fields : List ℕ) → length fields < 1 → IsTrue false ↔ Leads schemas t names fields
+none_lead schemas t names [] few = ((λ e. absurd cc), (λ leads. absurd (no_fields schemas t names leads)))
+none_lead schemas t names (i ∷ more) few = absurd (omega (arith, few))
+
+-- the first field, and those behind it
+pub first_and_more : (fields : List ℕ) → 1 ≤ length fields → fields ≡ get_or fields 0 0 ∷ take (length fields - 1) (drop 1 fields)
+first_and_more [] some = absurd (omega arith)
+first_and_more (i ∷ more) some = ap (λ (rest : List ℕ). i ∷ rest) (sym (take_all (length (i ∷ more) - 1) more (omega arith)))
+
+pub lead_field : (schemas : List Schema) (t i : ℕ) (name : List ℕ) (names : List (List ℕ)) (more : List ℕ) → Leads schemas t (name ∷ names) (i ∷ more) → (field : Field) × HasField schemas t i field × (field.name ≡ name)
+lead_field schemas t i name [] more (field, has, same, way) = (field, has, same)
+lead_field schemas t i name (next ∷ names) more (field, u, has, same, refers, way) = (field, has, same)
+
+field_at : (schemas : List Schema) (t i : ℕ) (f g : Field) → HasField schemas t i f → HasField schemas t i g → f ≡ g
+field_at schemas t i f g (s, at, own) (r, there, again) =
+    let e : Some f ≡ Some g = sym own ∙ ap (λ x. slice_get (fields_of x) i) (same_schema schemas t s r at there) ∙ again in cc
+
+-- the type has the field that was looked up
+pub has_field : (schemas : List Schema) (t i : ℕ) (s : Schema) (own : List Field) (field : Field) → slice_get schemas t ≡ Some s → own ≡ fields_of s → i < length own → field ≡ get_or own i field → HasField schemas t i field
+has_field schemas t i s own field at same inside is = (s, at, ap (λ fs. slice_get fs i) (sym same) ∙ slice_get-get_or own i field inside ∙ ap Some (sym is))
+
+-- where the type has no field at the place, it is no way
+pub no_place : (schemas : List Schema) (t i : ℕ) (s : Schema) (own : List Field) (name : List ℕ) (names : List (List ℕ)) (more : List ℕ) → slice_get schemas t ≡ Some s → own ≡ fields_of s → length own ≤ i
+    → IsTrue false ↔ Leads schemas t (name ∷ names) (i ∷ more)
+no_place schemas t i s own name names more at same past = (
+  (λ e. absurd cc),
+  (λ leads.
+      let (field, (r, there, has), named) = lead_field schemas t i name names more leads in
+      let inside = slice_get_within (fields_of r) i field has in
+      let long : length own ≡ length (fields_of r) = ap length same ∙ ap (λ x. length (fields_of x)) (same_schema schemas t s r at there) in
+      absurd (omega (arith, inside, long, past))),
+)
+
+-- where the field has another name, it is no way
+pub other_name : (schemas : List Schema) (t i : ℕ) (field : Field) (name : List ℕ) (names : List (List ℕ)) (more : List ℕ) → HasField schemas t i field → (field.name ≡ name → ⊥)
+    → IsTrue false ↔ Leads schemas t (name ∷ names) (i ∷ more)
+other_name schemas t i field name names more has other = (
+  (λ e. absurd cc),
+  (λ leads.
+      let (found, again, same) = lead_field schemas t i name names more leads in
+      absurd (other (ap (λ (f : Field). f.name) (field_at schemas t i field found has again) ∙ same))),
+)
+
+-- the last name
+pub last_leads : (schemas : List Schema) (t i : ℕ) (field : Field) (name : List ℕ) (more : List ℕ) (r : Bool) → HasField schemas t i field → field.name ≡ name → IsTrue r ↔ GoesOn schemas field.kind more
+    → IsTrue r ↔ Leads schemas t (name ∷ []) (i ∷ more)
+last_leads schemas t i field name more r has same goes = (
+  (λ yes. (field, has, same, goes.0 yes)),
+  (λ leads.
+      goes.1 (subst (λ (f : Field). GoesOn schemas f.kind more) (field_at schemas t i leads.0 field leads.1 has) leads.3)),
+)
+
+-- a name before others
+pub next_leads : (schemas : List Schema) (t i u : ℕ) (field : Field) (name next : List ℕ) (names : List (List ℕ)) (more : List ℕ) (r : Bool) → HasField schemas t i field → field.name ≡ name
+    → RefersTo schemas field.kind u → IsTrue r ↔ Leads schemas u (next ∷ names) more → IsTrue r ↔ Leads schemas t (name ∷ next ∷ names) (i ∷ more)
+next_leads schemas t i u field name next names more r has same refers goes = (
+  (λ yes. (field, u, has, same, refers, goes.0 yes)),
+  (λ leads.
+      let (other, v, again, named, to, way) = leads in
+      let types = one_referred schemas field.kind v u (subst (λ (f : Field). RefersTo schemas f.kind v) (field_at schemas t i other field again has) to) refers in
+      goes.1 (subst (λ w. Leads schemas w (next ∷ names) more) types way)),
+)
+
+-- a name before others, whose field refers to no type
+pub none_leads : (schemas : List Schema) (t i : ℕ) (field : Field) (name next : List ℕ) (names : List (List ℕ)) (more : List ℕ) → HasField schemas t i field
+    → ((u : ℕ) → RefersTo schemas field.kind u → ⊥) → IsTrue false ↔ Leads schemas t (name ∷ next ∷ names) (i ∷ more)
+none_leads schemas t i field name next names more has none = (
+  (λ e. absurd cc),
+  (λ leads.
+      let (other, v, again, named, to, way) = leads in
+      absurd (none v (subst (λ (f : Field). RefersTo schemas f.kind v) (field_at schemas t i other field again has) to))),
+)
+
+not_false : (x : Bool) → false ≡ not x → x ≡ true
+not_false true e = refl
+not_false false e = cc
+
+-- what a test of names tells
+pub name_differs : (field : Field) (text name : List ℕ) → text ≡ field.name → true ≡ not (bytes_eq text name) → field.name ≡ name → ⊥
+name_differs field text name is differs same = let bad : true ≡ false = differs ∙ ap not ((bytes_eq-Decides text name).1 (is ∙ same)) in absurd cc
+
+pub name_agrees : (field : Field) (text name : List ℕ) → text ≡ field.name → false ≡ not (bytes_eq text name) → field.name ≡ name
+name_agrees field text name is agrees = sym is ∙ (bytes_eq-Decides text name).0 (not_false (bytes_eq text name) agrees)

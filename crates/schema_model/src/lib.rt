@@ -16,7 +16,7 @@ pub use lists::{Fields, NamePairs, Names, Paths, Schemas};
 pub use model::faults::{ModelFault, PathFault};
 pub use model::path::Path;
 pub use model::rule::Rule;
-pub use model::{Model, first_too_deep, model_of, resolve};
+pub use model::{Model, first_too_deep, model_of, resolve, resolves_to};
 pub use reason::Reason;
 pub use schema::name::Name;
 pub use schema::put::put_schema;

@@ -1,5 +1,5 @@
 //! Models: schemas that keep the rules, and the paths in them.
-ghost use Rattle.std.specs.Prelude.{◌≡◌, ◌<◌, ◌≤◌, ◌↔◌, ℕ, [], length, Some, None, Ok, Err, IfOk, MatchResult, slice_get, Contains};
+ghost use Rattle.std.specs.Prelude.{◌≡◌, ◌<◌, ◌≤◌, ◌↔◌, ℕ, [], length, Some, None, Ok, Err, IfOk, IsTrue, MatchResult, slice_get, Contains};
 ghost use Rattle.hol_varint.specs.Yields.{Yields};
 ghost use Rattle.schema_model.specs.Checked.{Indexes};
 ghost use Rattle.schema_model.specs.Faults.{IsFreeModel, IsFreePath, TellsFault, TellsModel, TellsPath};
@@ -24,7 +24,7 @@ use crate::model::chains::{check_cycles, check_depth};
 use crate::model::keys::check_keys;
 use crate::model::lengths::check_lengths;
 use crate::model::name_index::{NameIndex, find_name, index_types};
-use crate::model::path_walk::way_of;
+use crate::model::path_walk::{leads, way_of};
 use crate::model::rules::{check_names, check_sizes};
 use crate::model::type_graph::check_named_types;
 use crate::{ModelFault, Path, PathFault, Schema, Schemas};
@@ -164,4 +164,13 @@ pub fn resolve(alloc: Global, model: &Model, type_index: u32, text: &str) -> Res
 {
     let fields = way_of(alloc, &model.schemas, &model.index, type_index, text)?;
     Ok(Path { type_index, fields })
+}
+
+/// Whether a text resolves to a path, which `resolve` would answer then. It takes no memory.
+pub fn resolves_to(model: &Model, text: &str, path: &Path) -> bool
+    requires { path.now.type_index < length model.now }
+    ensures { IsTrue result ↔ Resolves model.now path.now.type_index text.now path.now }
+{
+    let fields = path.fields.as_slice();
+    leads(&model.schemas, &model.index, path.type_index, text, fields)
 }

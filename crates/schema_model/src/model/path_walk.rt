@@ -1,5 +1,5 @@
 //! The fields that a path goes through.
-ghost use Rattle.std.specs.Prelude.{◌≡◌, ◌<◌, ◌≤◌, ◌∷◌, [], ℕ, List, length, IfSome, MatchOption};
+ghost use Rattle.std.specs.Prelude.{◌≡◌, ◌<◌, ◌≤◌, ◌∷◌, [], ℕ, List, length, IfSome, IsTrue, ◌↔◌, MatchOption};
 ghost use Rattle.schema_model.specs.Checked.{CanBeWalked, Indexes, TellsField, TellsFields, TellsReferred, TellsWay};
 ghost use Rattle.schema_model.specs.Model.{HasChain, type_graph};
 ghost use Rattle.schema_model.specs.Parts.{type_names};
@@ -116,4 +116,53 @@ pub(crate) fn way_of(
     let mut fields = Ordinals::new(alloc);
     follow_names(schemas, index, type_index, text, &mut fields)?;
     Ok(fields)
+}
+
+/// Whether a path goes on from a field of this kind through just these fields, each the only one of its type, to a value.
+fn goes_on(schemas: &Schemas, index: &NameIndex, kind: &FieldKind, fields: &[u32]) -> bool
+    requires indexed { Indexes (type_names schemas.now) index.now }
+    ensures { IsTrue result ↔ GoesOn schemas.now kind.now fields.now }
+{
+    let [place, more @ ..] = fields else {
+        return !matches!(kind, FieldKind::Reference(_));
+    };
+    let Some(next) = referred(schemas, index, kind) else {
+        return false;
+    };
+    match schemas.get(next as usize).shape.fields() {
+        [only] if *place == 0 => goes_on(schemas, index, &only.kind, more),
+        _ => false,
+    }
+}
+
+/// Whether the names of a path lead from a type through just these fields to a value. It takes no memory.
+pub(crate) fn leads(
+    schemas: &Schemas,
+    index: &NameIndex,
+    type_index: u32,
+    text: &str,
+    fields: &[u32],
+) -> bool
+    requires inside { type_index < length schemas.now }
+    requires indexed { Indexes (type_names schemas.now) index.now }
+    ensures { IsTrue result ↔ Leads schemas.now type_index (path_names text.now) fields.now }
+{
+    let [place, more @ ..] = fields else {
+        return false;
+    };
+    let (name, rest) = first_name(text);
+    let own = schemas.get(type_index as usize).shape.fields();
+    let Some(field) = own.get(*place as usize) else {
+        return false;
+    };
+    if field.name.text() != name {
+        return false;
+    }
+    let Some(rest) = rest else {
+        return goes_on(schemas, index, &field.kind, more);
+    };
+    match referred(schemas, index, &field.kind) {
+        Some(next) => leads(schemas, index, next, rest, more),
+        None => false,
+    }
 }
