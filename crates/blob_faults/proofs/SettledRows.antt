@@ -21,7 +21,7 @@ use Rattle.list_codec.specs.ListPlace.{HasElements, element_width, elements_at, 
 use Rattle.type_rows.specs.declared.fault.RowFault.{RowFault}
 use Rattle.type_rows.specs.declared.section.Section.{Section}
 use Rattle.type_rows.specs.Holds.{HoldsRow, HoldsRows}
-use Rattle.type_rows.specs.Layout.{fixed_words, places_of}
+use Rattle.type_rows.specs.Layout.{counted_words, places_of, record_bits}
 use Rattle.type_rows.specs.Loads.{Loads, layout_of}
 use Rattle.type_rows.specs.WellFormed.{IsWidth}
 use Rattle.type_rows.specs.WordsHeld.{bytes_held}
@@ -185,7 +185,7 @@ module _ (shape : Shape) (section : Section) (none : (why : RowFault) → why �
       let rows = found.0 in
       all_held shape section.widths (entries rows) (λ ordinal first. none (RowFault.At Reason.BadWidth ordinal) (λ same. absurd cc) (rows, found.1, first)) (λ parts.
       let held : LeadsHeld shape (layout_of section) (load_tests shape section) rows = record { leads = found.1; held = parts } in
-      elim (cases_lt (number_of_limit Words) (fixed_words shape (layout_of section) (values rows))) [
+      elim (cases_lt (number_of_limit Words) (counted_words shape (record_bits shape section.widths) (layout_of section) (values rows))) [
         | inl many ↦ none (RowFault.Limit Words) (λ same. absurd cc) (rows, held, many)
         | inr few ↦ elim (cases_lt (number_of_limit Bytes) (bytes_held (values rows))) [
           | inl heavy ↦ none (RowFault.Limit Bytes) (λ same. absurd cc) (rows, held, (λ many. omega (arith, many, few)), heavy)

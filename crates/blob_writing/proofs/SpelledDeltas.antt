@@ -69,11 +69,11 @@ spells_added (Shape.Map key value) max places rows h = spells_runs (Shape.Map ke
 
 -- the section of a changed type
 spells_section : (shape : Shape) (max : Option ℕ) (removed added : List ℕ) (rows : PackedRows) → IsMax max → AreGaps removed → AreGaps added → AreCarried shape max (length added) rows →
-    Spells (patch_section shape) (patch_with max removed added rows) (max_bytes max ++ (ordinals_bytes removed added ++ packed_bytes shape rows))
+    Spells (patch_section shape) (patch_with shape max removed added rows) (max_bytes max ++ (ordinals_bytes removed added ++ packed_bytes shape rows))
 unfolding patch_section
 spells_section shape max removed added rows small gone come carried = spells_same
     (spells_then _ (spells_max max small) (spells_then _ (spells_ordinals removed gone) (spells_then _ (spells_ordinals added come)
-    (spells_last (λ (found : PackedRows). patch_with max removed added found) (spells_added shape max (length added) rows carried)))))
+    (spells_last (λ (found : PackedRows). patch_with shape max removed added found) (spells_added shape max (length added) rows carried)))))
     (ap (λ (xs : List ℕ). max_bytes max ++ xs) (sym (append_assoc (area_bytes (gap_bytes removed)) (area_bytes (gap_bytes added)) (packed_bytes shape rows))))
 
 -- a changed type

@@ -70,7 +70,7 @@ header_of origin destination changes = record { origin = origin; destination = d
 
 -- what is read of a changed type that stands at this offset
 abbrev pub part_of : TypeChange → ℕ → DeltaPart
-part_of change at = record { at = at; schema = change.schema; section = patch_with change.max change.removed change.added change.rows }
+part_of change at = record { at = at; schema = change.schema; section = patch_with change.schema.shape change.max change.removed change.added change.rows }
 
 -- what is read of all of them: the first stands behind the header and the number of types
 abbrev pub parts_of : ℤ → ℤ → List TypeChange → List DeltaPart

@@ -10,7 +10,7 @@ use Rattle.record_views.specs.declared.elements.Elements.{Elements}
 use Rattle.record_views.specs.declared.buckets.Buckets.{Buckets}
 use Rattle.record_views.specs.Buckets.{run_of}
 use Rattle.record_views.specs.Elements.{elements_of}
-use Rattle.record_views.proofs.Lists.{elements_long}
+use Rattle.record_views.proofs.ListElements.{elements_long}
 use Rattle.record_views.proofs.TakenBuckets.{taken_from}
 use Rattle.column_rows.specs.declared.items.PackedItems.{PackedItems}
 use Rattle.column_rows.specs.Closed.{IsBucketLive, IsPairLive, ListNamesLive, NamesLiveThere, RunNamesLive}

@@ -26,7 +26,7 @@ use Rattle.record_views.specs.Buckets.{run_of}
 use Rattle.record_views.specs.Bytes.{bytes_of}
 use Rattle.record_views.specs.Columns.{Shows, part_of}
 use Rattle.record_views.specs.Elements.{elements_of}
-use Rattle.record_views.proofs.Lists.{elements_long}
+use Rattle.record_views.proofs.ListElements.{elements_long}
 use Rattle.column_rows.specs.declared.items.PackedItems.{PackedItems}
 use Rattle.column_rows.specs.Columns.{IsColumnOf}
 use Rattle.column_rows.specs.Items.{AreListsOf, AreRunsOf, IsOfPairs, SpellsListAt, SpellsPairsAt}

@@ -84,10 +84,10 @@ runs_placed shape max places rows other long narrow needed lent enough few none 
   short = omega arith;
 }
 
--- packed rows at the places of the added ordinals are those of a well-formed patch
-pub placed_well : (shape : Shape) (max : Option ℕ) (places : ℕ) (removed added : List ℕ) (rows : PackedRows) → places ≡ length added → ArePlaced shape max places rows
-    → IsWellFormedPatch shape (patch_with max removed added rows)
-placed_well shape max places removed added rows many placed = record {
+-- packed rows at the places of the added ordinals are those of a well-formed patch, however many bits of a record it counts
+pub placed_well : (shape : Shape) (max : Option ℕ) (places own : ℕ) (removed added : List ℕ) (rows : PackedRows) → places ≡ length added → ArePlaced shape max places rows
+    → IsWellFormedPatch shape record (patch_with shape max removed added rows) { own = own }
+placed_well shape max places own removed added rows many placed = record {
   wide = placed.wide;
   filled = placed.filled;
   enough = subst (λ n. words_for shape n rows.widths ≤ length rows.packed.first) many placed.enough;

@@ -9,16 +9,19 @@ use Rattle.blob_sections.specs.declared.section.PackedRows.{PackedRows}
 use Rattle.blob_sections.specs.Head.{type_head}
 use Rattle.blob_sections.specs.Section.{max_ordinal}
 use Rattle.type_rows.specs.declared.patch.PatchSection.{PatchSection}
+use Rattle.type_rows.specs.Layout.{own_bits}
 use Rattle.type_rows.specs.Patches.{IsWellFormedPatch}
 use Rattle.delta_blob.specs.declared.part.DeltaPart.{DeltaPart}
 use Rattle.delta_blob.specs.Added.{added_rows}
 use Rattle.delta_blob.specs.Ordinals.{ordinals}
 
--- The section of a max ordinal, of removed and added ordinals, and of the packed rows of the added ones.
-abbrev pub patch_with : Option ℕ → List ℕ → List ℕ → PackedRows → PatchSection
-patch_with max removed added rows = record {
+-- The section of a type of this shape, of a max ordinal, of removed and added ordinals, and of the packed rows of the added ones; all fields of an
+-- OBJECT count.
+abbrev pub patch_with : Shape → Option ℕ → List ℕ → List ℕ → PackedRows → PatchSection
+patch_with shape max removed added rows = record {
   max = max;
   widths = rows.widths;
+  own = own_bits shape rows.widths;
   total = rows.total;
   first = rows.packed.first;
   second = rows.packed.second;
@@ -34,7 +37,7 @@ patch_section shape = do
   removed ← ordinals
   added ← ordinals
   rows ← added_rows shape max (length added)
-  nothing (patch_with max removed added rows)
+  nothing (patch_with shape max removed added rows)
 
 -- A type: its head and its section.
 unfoldable pub patch_part : Form DeltaPart

@@ -12,12 +12,13 @@ use Rattle.blob_frame.specs.declared.header.Header.{Header}
 use Rattle.delta_blob.specs.declared.part.DeltaPart.{DeltaPart}
 use Rattle.delta_blob.specs.Parts.{delta}
 
--- What a delta changes of a type: the index of the type in the model, the schema that the delta has of it, the layout of its new rows, the
--- ordinals that it removes, and those that it adds with the row of each.
+-- What a delta changes of a type: the index of the type in the model, the schema that the delta has of it, the layout of its new rows, how many bits
+-- of the record of an OBJECT the limit on words counts, the ordinals that it removes, and those that it adds with the row of each.
 pub record TypePatch : Type 0 where
   pub type_index : ℕ
   pub schema : Schema
   pub layout : Layout
+  pub own : ℕ
   pub removed : List ℕ
   pub added : List ℕ
   pub rows : List Row
@@ -33,6 +34,7 @@ pub record PartIs (schemas : List Schema) (part : DeltaPart) (patch : TypePatch)
   pub means : Means schemas part.schema patch.type_index
   pub schema : patch.schema ≡ part.schema
   pub layout : patch.layout ≡ patch_layout part.section
+  pub own : patch.own ≡ part.section.own
   pub removed : patch.removed ≡ part.section.removed
   pub added : patch.added ≡ part.section.added
   pub spelled : AddsRows part.schema.shape part.section patch.rows

@@ -13,7 +13,7 @@ use Rattle.delta_blob.specs.Patch.{TypePatch}
 -- The limits on the ordinals of a type, and on the words and bytes of its rows at the patch's layout, are kept.
 pub record IsTypeWithin (table : Table) (type_index : ℕ) (patch : TypePatch) : Type 0 where
   pub ordinals : places_of patch.layout.max ≤ number_of_limit Ordinals
-  pub kept : KeepsLimits patch.schema.shape patch.layout (rows_in table type_index)
+  pub kept : KeepsLimits patch.schema.shape patch.own patch.layout (rows_in table type_index)
 
 -- They are kept in each type that the patch names.
 abbrev pub Within : Table → List TypePatch → Type 0

@@ -15,7 +15,7 @@ use hol_varint::List;
 use row_model::Packed;
 use schema_model::{Schema, Shape};
 use std::alloc::Global;
-use type_rows::PatchSection;
+use type_rows::{PatchSection, own_bits};
 
 /// A type as it stands in a delta.
 #[derive(Debug, Drop)]
@@ -55,9 +55,11 @@ fn section<S: BlobStore>(
         second,
         areas,
     } = packed;
+    let own = own_bits(shape, widths.as_slice());
     Ok(PatchSection {
         max,
         widths,
+        own,
         total,
         first,
         second,

@@ -1,4 +1,3 @@
 pub mod Copies
 pub mod RecordBits
 pub mod RecordPuts
-pub mod WideNumbers

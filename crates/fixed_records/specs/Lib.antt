@@ -1,3 +1,2 @@
 pub mod Element
 pub mod Fixed
-pub mod Wide

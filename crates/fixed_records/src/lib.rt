@@ -6,9 +6,7 @@ mod kinds;
 pub mod laws;
 mod number;
 mod put;
-mod wide;
 
 pub use copy::{copy_records, copy_rest, whole_words};
 pub use kinds::is_fixed;
 pub use put::{clear_record, put_record};
-pub use wide::first_wide;

@@ -13,7 +13,7 @@ pub const NOT_WRITTEN: u8 = 4;
 /// The status of a store that failed.
 pub const NOT_KEPT: u8 = 5;
 
-/// The status of a want of memory.
+/// The status of a run that is out of memory.
 pub const NO_MEMORY: u8 = 6;
 
 /// The status of an input that is too long.

@@ -25,7 +25,7 @@ fn main(rt: HostRuntime) -> ExitCode {
         USAGE => {
             let _shown = eprintln!(rt; "{}", UsageFault);
         }
-        NO_MEMORY => say(&rt, "want of memory", None::<&str>),
+        NO_MEMORY => say(&rt, "out of memory", None::<&str>),
         TOO_LONG => say(&rt, "more than 2^32 bytes of input", None::<&str>),
         _ => {}
     }

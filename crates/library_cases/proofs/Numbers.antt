@@ -1,15 +1,15 @@
 -- Records of one INT fit the types that take them.
 use Rattle.std.proofs.Common.{◌≡◌, ℕ, ℤ, List, [], ◌∷◌, Option, Some, None, true, refl, sym, subst}
 use Rattle.std.specs.Prelude.{slice_get, option_map, option_and_then, IsSomeAnd}
-use Rattle.schema_model.specs.declared.schema.Field.{Field}
-use Rattle.schema_model.specs.declared.schema.Schema.{Schema}
-use Rattle.row_model.specs.declared.row.Value.{Value}
-use Rattle.row_model.specs.PlainTree.{leaf, no_trees, tree_then}
-use Rattle.record_trees.specs.FitsTree.{FitFields, FitsLeaf, FitsTree}
-use Rattle.write_engine.specs.CycleLimit.{TellsCycle}
-use Rattle.write_engine.specs.Production.{Production}
+use Rattle.hollow.specs.schema_model.declared.schema.Field.{Field}
+use Rattle.hollow.specs.schema_model.declared.schema.Schema.{Schema}
+use Rattle.hollow.specs.row_model.declared.row.Value.{Value}
+use Rattle.hollow.specs.row_model.PlainTree.{leaf, no_trees, tree_then}
+use Rattle.hollow.specs.record_trees.FitsTree.{FitFields, FitsLeaf, FitsTree}
+use Rattle.hollow.specs.write_engine.CycleLimit.{TellsCycle}
+use Rattle.hollow.specs.write_engine.Production.{Production}
 use Rattle.library_cases.specs.Numbers.{AreNumbers, IsOneInt, TakesNumbers, number_tree}
-use Rattle.record_trees.specs.Types.{object_fields}
+use Rattle.hollow.specs.record_trees.Types.{object_fields}
 
 pub number_fits : (schemas : List Schema) (value : ℤ) → AreNumbers schemas → FitsTree schemas 0 (number_tree value)
 number_fits schemas value takes = of_first (slice_get schemas 0) takes

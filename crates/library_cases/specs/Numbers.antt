@@ -1,11 +1,11 @@
 -- Records of one INT, and the types that take them.
 use Rattle.std.specs.Prelude.{List, [], ◌∷◌, ◌≡◌, ℤ, slice_get, IsSomeAnd}
-use Rattle.schema_model.specs.declared.schema.Field.{Field}
-use Rattle.schema_model.specs.declared.schema.FieldKind.{FieldKind}
-use Rattle.schema_model.specs.declared.schema.Schema.{Schema}
-use Rattle.row_model.specs.declared.row.Value.{Value}
-use Rattle.row_model.specs.PlainTree.{PlainTree, leaf, object, no_trees, tree_then}
-use Rattle.record_trees.specs.Types.{object_fields}
+use Rattle.hollow.specs.schema_model.declared.schema.Field.{Field}
+use Rattle.hollow.specs.schema_model.declared.schema.FieldKind.{FieldKind}
+use Rattle.hollow.specs.schema_model.declared.schema.Schema.{Schema}
+use Rattle.hollow.specs.row_model.declared.row.Value.{Value}
+use Rattle.hollow.specs.row_model.PlainTree.{PlainTree, leaf, object, no_trees, tree_then}
+use Rattle.hollow.specs.record_trees.Types.{object_fields}
 
 -- a record of one number
 abbrev pub number_tree : ℤ → PlainTree

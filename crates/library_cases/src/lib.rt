@@ -1,4 +1,4 @@
-//! The crates as a library, as the guide shows them, run over a store in memory. Nothing stands on this crate.
+//! The crates as a library, by the crate hollow alone, as README and the guide show them, run over a store in memory. Nothing stands on this crate.
 #![tactic(auto)]
 
 #[cfg(test)]

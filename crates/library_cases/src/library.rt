@@ -1,23 +1,18 @@
-//! The crates as a library, as the guide shows them: a producer publishes two states into a store in memory, and a consumer follows them.
+//! The crates as a library, as README and the guide show them: a producer publishes two states into a store in memory, and a consumer follows them.
 ghost use Rattle.std.specs.Prelude.{◌≡◌, ◌↔◌, ◌<◌, IfOk, IsSome, IsTrue, OnOk, false, true};
-ghost use Rattle.row_model.specs.Tree.{plain};
-ghost use Rattle.write_engine.specs.CycleLimit.{TellsCycle, TellsTypes};
+ghost use Rattle.hollow.specs.row_model.Tree.{plain};
+ghost use Rattle.hollow.specs.write_engine.CycleLimit.{TellsCycle, TellsTypes};
 ghost use Rattle.library_cases.specs.Numbers.{AreNumbers, TakesNumbers, number_tree};
 
-use hol_io::{BlobName, Steps};
-use hol_memory::MemStore;
-use ordinal_map::PutRowFault;
-use read_engine::Consumer;
-use row_model::{Row, Rows, Tree, Trees, Value};
-use schema_model::{
-    Field, FieldKind, Fields, Model, ModelFault, Name, Schema, Schemas, Shape, model_of,
+use hollow::{
+    BlobName, Closed, Consumer, Field, FieldKind, Fields, MemStore, Model, ModelFault, Name,
+    Producer, PutRowFault, Row, Rows, Schema, Schemas, Shape, Steps, Tree, Trees, Value, model_of,
+    publish, write_blobs,
 };
-use state_blobs::{publish, write_blobs};
 use std::alloc::{AllocError, Global};
 use std::marker::Brand;
 use std::sync::ledger::{Blank, Ledger};
 use std::test::Fail;
-use write_engine::{Closed, Producer};
 
 // An OBJECT type of one INT.
 fn number_type(alloc: Global) -> Result<Schema, AllocError>

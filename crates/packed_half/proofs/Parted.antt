@@ -1,23 +1,27 @@
 -- Lemmas on the zeros of a half, cut into those of its places, its items and its bytes, and on what is laid out in each.
-use Rattle.std.proofs.Common.{◌≡◌, ℕ, zero, suc, ◌+◌, ◌*◌, ◌^◌, ◌<◌, ◌≤◌, List, [], ◌∷◌, ◌++◌, length, take, drop, Option, Result, Ok, Err, refl, ap, ◌∙◌, arith}
-use Rattle.std.specs.Prelude.{OnOk, map, replicate, slice_get, sum_by}
+use Rattle.std.proofs.Common.{mul-le-mul, None, Some, ◌≡◌, ℕ, zero, suc, ◌+◌, ◌*◌, ◌^◌, ◌<◌, ◌≤◌, List, [], ◌∷◌, ◌++◌, length, take, drop, Option, Result, Ok, Err, refl, ap, ◌∙◌, arith}
+use Rattle.std.specs.Prelude.{OnOk, map, replicate, slice_get, sum, sum_by}
 use Rattle.std.specs.Option.{option_map_or}
 use Rattle.std.specs.List.{range_with_len}
 use Rattle.std.specs.FinMap.{values}
 use Rattle.std.proofs.lemmas.List.{length-append, length-replicate}
 use Rattle.std.proofs.lemmas.List.Sums.{sum_by-cons, sum_by-le-sum_by}
 use Rattle.schema_model.specs.declared.schema.Field.{Field}
+use Rattle.schema_model.specs.declared.schema.FieldKind.{FieldKind}
 use Rattle.schema_model.specs.declared.schema.Shape.{Shape}
 use Rattle.schema_model.specs.Parts.{shape_fields}
 use Rattle.row_model.specs.declared.row.Row.{Row}
 use Rattle.row_model.specs.declared.row.Value.{Value}
 use Rattle.row_model.specs.Table.{RowMap}
 use Rattle.bit_array.specs.Element.{words_of}
-use Rattle.type_rows.specs.Layout.{item_bits}
+use Rattle.object_codec.proofs.FieldWidths.{fields_small}
+use Rattle.type_rows.specs.Holds.{KeepsLimits}
+use Rattle.type_rows.specs.Layout.{item_bits, item_count, places_counted, places_of}
+use Rattle.type_rows.specs.WellFormed.{AreWidths, IsWidth}
 use Rattle.type_rows.specs.WordsHeld.{value_bytes, row_bytes, part_bytes, field_bytes, bytes_held}
 use Rattle.packed_half.specs.declared.half.HalfShape.{HalfShape}
-use Rattle.packed_half.specs.Half.{place_words, item_words, words_for_bytes, byte_words, words_for, areas_in}
-use Rattle.packed_half.specs.LaidOut.{IsLaidOut}
+use Rattle.packed_half.specs.Half.{layout_in, place_words, item_words, words_for_bytes, byte_words, words_for, areas_in}
+use Rattle.packed_half.specs.LaidOut.{IsLaidOut, lengths_of}
 use Rattle.packed_half.specs.Laying.{CanLay, ArePlaced, HasRuns}
 use Rattle.packed_half.proofs.PartsJoined.{laid_out}
 
@@ -80,12 +84,29 @@ words_le rows from zero few = omega arith
 words_le rows from (suc count) few =
     omega (arith, field_le from rows, words_le rows (from + 1) count few, sum_by-cons words_for_bytes (field_bytes from rows) (map (λ field. field_bytes field rows) (range_with_len (from + 1) count)))
 
-pub words_few : (shape : Shape) (half : HalfShape) (rows : RowMap) → CanLay shape half rows → words_for shape half < 2 ^ 58
-words_few shape half rows can =
-    let bytes = words_le (values rows) 0 (length (shape_fields shape)) can.within.bytes in
-    let lengths = ap byte_words can.lengths in
-    let items = ap (λ (n : ℕ). words_of (n * item_bits shape half.widths)) can.total in
-    omega (arith, can.within.words, can.many, bytes, lengths, items)
+is_narrow : (max : Option ℕ) (kind : FieldKind) (width : ℕ) → IsWidth max kind width → width ≤ 64
+is_narrow None kind width is = is
+is_narrow (Some max) kind width is = is.0
+
+-- so are those of the places, whether the limit counts all bits of a record or not
+places_few : (shape : Shape) (own : ℕ) (half : HalfShape) → AreWidths shape half.max half.widths → length (shape_fields shape) ≤ 1024 → places_of half.max ≤ 2 ^ 22
+    → places_counted shape own (layout_in half) ≤ 2 ^ 22 → place_words shape half ≤ 2 ^ 33
+places_few (Shape.Object key fields) own half wide many few counted =
+    let small : sum half.widths ≤ 65536 = fields_small (λ (field : Field) width. IsWidth half.max field.kind width) (λ (field : Field) width is. is_narrow half.max field.kind width is) fields half.widths many wide in
+    let product : places_of half.max * sum half.widths ≤ 2 ^ 22 * 65536 = mul-le-mul few small in omega (arith, product)
+places_few (Shape.List element) own half wide many few counted = omega (arith, counted)
+places_few (Shape.Set element) own half wide many few counted = omega (arith, counted)
+places_few (Shape.Map key value) own half wide many few counted = omega (arith, counted)
+
+-- A half of rows that keep the limits has few words.
+pub words_few : (shape : Shape) (own : ℕ) (half : HalfShape) (rows : RowMap) → AreWidths shape half.max half.widths → length (shape_fields shape) ≤ 1024 → places_of half.max ≤ 2 ^ 22 → half.total ≡ item_count (values rows)
+    → half.lengths ≡ lengths_of shape (values rows) → KeepsLimits shape own (layout_in half) rows → words_for shape half < 2 ^ 58
+words_few shape own half rows wide many few total are kept =
+    let bytes = words_le (values rows) 0 (length (shape_fields shape)) kept.bytes in
+    let lengths = ap byte_words are in
+    let items = ap (λ (n : ℕ). words_of (n * item_bits shape half.widths)) total in
+    let places = places_few shape own half wide many few (omega (arith, kept.words)) in
+    omega (arith, kept.words, many, bytes, lengths, items, places)
 
 -- ---- what is laid out in each part is laid out in all
 
@@ -96,7 +117,7 @@ whole shape half rows first second bytes first' second' bytes' can parts same se
     let second_long : length second' ≡ item_words shape half = second_same ∙ ap (λ (ws : List ℕ). length ws) parts.second_zeros ∙ length-replicate (item_words shape half) 0 in
     let all : length (first' ++ (second' ++ bytes')) ≡ words_for shape half =
     omega (arith, length-append first' (second' ++ bytes'), length-append second' bytes', long, second_long, bytes_same, parts.bytes_long) in
-    laid_out shape half rows (first' ++ (second' ++ bytes')) first' second' bytes' can refl long second_long all (let few = words_few shape half rows can in omega (arith, all, few)) placed
+    laid_out shape half rows (first' ++ (second' ++ bytes')) first' second' bytes' can refl long second_long all (omega (arith, all, can.room)) placed
 
 -- a fact of an answer that is Ok gives another
 pub on_ok : {U E : Type 0} (result : Result U E) (P Q : Type 0) → (P → Q) → OnOk result P → OnOk result Q

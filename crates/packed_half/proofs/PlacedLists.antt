@@ -103,15 +103,14 @@ module _ (element : List ℕ) (half : HalfShape) (rows : RowMap) (can : CanLay (
   -- ---- the places one after the other
 
   zeros_few : (first second : List ℕ) → first ≡ replicate (words_of (places_of half.max * pointer_width half.widths)) 0 → second ≡ replicate (words_of (half.total * element_width half.widths)) 0
-      → length first + length second ≤ 2 ^ 22
+      → length first + length second < 2 ^ 58
   zeros_few first second zeros second_zeros =
       let bits = list_bits element half.widths can.wide.0 in
       let long = ap (λ (ws : List ℕ). length ws) zeros ∙ length-replicate (words_of (places_of half.max * pointer_width half.widths)) 0 in
       let second_long = ap (λ (ws : List ℕ). length ws) second_zeros ∙ length-replicate (words_of (half.total * element_width half.widths)) 0 in
       let here = ap (λ (n : ℕ). words_of (places_of half.max * n)) bits.0 in
-      let there = ap (λ (n : ℕ). words_of (item_count (values rows) * n)) bits.1 in
-      let same = ap (λ (n : ℕ). words_of (n * element_width half.widths)) can.total in
-      omega (arith, can.within.words, long, second_long, here, there, same)
+      let there = ap (λ (n : ℕ). words_of (half.total * n)) bits.1 in
+      omega (arith, can.room, long, second_long, here, there)
 
   pub lists_begun : (first second : List ℕ) → first ≡ replicate (words_of (places_of half.max * pointer_width half.widths)) 0 → second ≡ replicate (words_of (half.total * element_width half.widths)) 0
       → PackedSoFar half.widths (places_in rows (places_of half.max)) first second 0 0

@@ -145,13 +145,12 @@ module _ (shape : Shape) (half : HalfShape) (rows : RowMap) (runs : HasRuns shap
 
   -- the words are so many
   run_words : (first second : List ℕ) → first ≡ replicate (words_of (places_of half.max * place_width half.widths)) 0 → second ≡ replicate (words_of (half.total * bucket_width half.widths)) 0
-      → (length first ≡ words_of (places_of half.max * place_width half.widths)) × (length second ≡ words_of (half.total * bucket_width half.widths)) × (length second ≤ 2 ^ 22)
+      → (length first ≡ words_of (places_of half.max * place_width half.widths)) × (length second ≡ words_of (half.total * bucket_width half.widths)) × (length second < 2 ^ 58)
   run_words first second zeros second_zeros =
       let long = ap (λ (ws : List ℕ). length ws) zeros ∙ length-replicate (words_of (places_of half.max * place_width half.widths)) 0 in
       let second_long = ap (λ (ws : List ℕ). length ws) second_zeros ∙ length-replicate (words_of (half.total * bucket_width half.widths)) 0 in
-      let there = ap (λ (n : ℕ). words_of (item_count (values rows) * n)) widths_are.item in
-      let same = ap (λ (n : ℕ). words_of (n * bucket_width half.widths)) can.total in
-      (long, second_long, omega (arith, can.within.words, second_long, there, same))
+      let there = ap (λ (n : ℕ). words_of (half.total * n)) widths_are.item in
+      (long, second_long, omega (arith, can.room, second_long, there))
 
   -- a place can be written
   pub run_ready : (widths first0 second0 first second : List ℕ) (place end : ℕ) (row : Option Row) → widths ≡ half.widths → first0 ≡ replicate (words_of (places_of half.max * place_width half.widths)) 0

@@ -4,7 +4,7 @@ use Rattle.std.specs.List.{range_with_len}
 use Rattle.std.specs.FinMap.{get, keys, values}
 use Rattle.bit_array.specs.Element.{number_of}
 use Rattle.list_codec.specs.ListPlace.{end_at, element_width, pointer_width, SpellsList}
-use Rattle.schema_model.specs.declared.limit.Limit.TheVariants.{Ordinals}
+use Rattle.schema_model.specs.declared.limit.Limit.TheVariants.{Bytes, Ordinals}
 use Rattle.schema_model.specs.declared.schema.Shape.{Shape}
 use Rattle.schema_model.specs.Limit.{number_of_limit}
 use Rattle.schema_model.specs.Parts.{shape_fields}
@@ -12,13 +12,14 @@ use Rattle.row_model.specs.Row.{FitsShape, stored_row}
 use Rattle.row_model.specs.Table.{RowMap}
 use Rattle.row_model.specs.declared.row.Row.{Row}
 use Rattle.type_rows.specs.Ends.{AreOfKind}
-use Rattle.type_rows.specs.Holds.{Holds, KeepsLimits}
+use Rattle.type_rows.specs.Holds.{Holds}
 use Rattle.type_rows.specs.Layout.{places_of, item_count}
 use Rattle.type_rows.specs.declared.section.Section.{Section}
 use Rattle.type_rows.specs.Loads.{Spells}
 use Rattle.type_rows.specs.WellFormed.{AreWidths}
+use Rattle.type_rows.specs.WordsHeld.{bytes_held}
 use Rattle.packed_half.specs.declared.half.HalfShape.{HalfShape}
-use Rattle.packed_half.specs.Half.{layout_in}
+use Rattle.packed_half.specs.Half.{layout_in, words_for}
 use Rattle.packed_half.specs.LaidOut.{lengths_of, IsTight}
 
 -- The rows of the places up to a number: place k is that of ordinal k, and has none where no row is live there.
@@ -30,7 +31,8 @@ abbrev pub EachRowOf : RowMap → (Row → Type 0) → Type 0
 EachRowOf rows P = (ordinal : ℕ) (row : Row) → get rows ordinal ≡ Some row → P row
 
 -- The rows can be laid out in the half: their ordinals are its live ones, its layout holds them, and its total and its lengths are theirs. Each row
--- fits the type, and a blob can hold it: it has no least INT and no least LONG. The limits are kept.
+-- fits the type, and a blob can hold it: it has no least INT and no least LONG. The limit on bytes is kept, and the words can be counted; the limit
+-- on words may be passed, by fields that it does not count.
 pub record CanLay (shape : Shape) (half : HalfShape) (rows : RowMap) : Type 0 where
   pub live : keys rows ≡ half.live
   pub held : Holds shape (layout_in half) rows
@@ -42,7 +44,8 @@ pub record CanLay (shape : Shape) (half : HalfShape) (rows : RowMap) : Type 0 wh
   pub stored : EachRowOf rows (λ row. stored_row row ≡ row)
   pub many : length (shape_fields shape) ≤ 1024
   pub few : places_of half.max ≤ number_of_limit Ordinals
-  pub within : KeepsLimits shape (layout_in half) rows
+  pub bytes : bytes_held (values rows) ≤ number_of_limit Bytes
+  pub room : words_for shape half < 2 ^ 58
 
 -- A half as a section with these parts.
 abbrev pub parts_in : HalfShape → List ℕ → List ℕ → List (List ℕ) → Section

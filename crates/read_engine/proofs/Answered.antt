@@ -17,7 +17,7 @@ use Rattle.row_model.specs.Table.{IsLive, Table}
 use Rattle.type_state.specs.State.{State}
 use Rattle.type_state.specs.Views.{table_of}
 use Rattle.key_index.specs.Indexed.{AreKeysOf, AreUnder, CountsKeys, Indexed, IsIndexBy}
-use Rattle.state_moves.specs.Past.{PastPart}
+use Rattle.row_model.specs.Before.{PastPart}
 use Rattle.read_engine.specs.Indexes.{AddsIndex, CountsKeyed, index_by}
 use Rattle.read_engine.specs.Kept.{IsKept, index_kept}
 use Rattle.read_engine.specs.Position.{Index, IsIndexOf, Position, rows_now}

@@ -10,7 +10,7 @@ use Rattle.row_model.specs.Key.{IsResolved}
 use Rattle.row_model.specs.Table.{IsClosed, Table}
 use Rattle.type_state.specs.State.{State}
 use Rattle.key_index.specs.Indexed.{CountsLive, Indexed, IsIndexBy}
-use Rattle.state_moves.specs.Past.{PastPart}
+use Rattle.row_model.specs.Before.{PastPart}
 use Rattle.read_engine.specs.Indexes.{AddsIndex, index_by}
 use Rattle.read_engine.specs.Kept.{IsKept, index_kept}
 use Rattle.read_engine.specs.Position.{Index, IsPosition, Position, rows_now}

@@ -17,7 +17,7 @@ use Rattle.blob_frame.specs.declared.fault.BlobFault.{BlobFault}
 use Rattle.blob_faults.specs.Judge.{Blames}
 use Rattle.state_moves.specs.Judged.{IsFreeMove, state_moved}
 use Rattle.state_moves.specs.Moving.{StaysCurrent}
-use Rattle.state_moves.specs.Past.{PastPart, table_before}
+use Rattle.row_model.specs.Before.{PastPart, table_before}
 use Rattle.read_engine.specs.Indexes.{CountsStep}
 use Rattle.read_engine.specs.Kept.{IsKept, count_came, index_kept}
 use Rattle.read_engine.specs.Position.{IsOfType, IsPosition, Position, rows_now}

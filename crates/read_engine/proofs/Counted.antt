@@ -10,7 +10,7 @@ use Rattle.std.proofs.lemmas.List.Sums.{sum_by-cons}
 use Rattle.std.proofs.lemmas.Option.{slice_get-get_or}
 use Rattle.row_model.specs.Table.{RowMap, Table, IsLive}
 use Rattle.key_index.specs.Indexed.{Indexed}
-use Rattle.state_moves.specs.Past.{FitsPast, PastPart, no_part, table_before}
+use Rattle.row_model.specs.Before.{FitsPast, PastPart, no_part, table_before}
 use Rattle.read_engine.specs.Indexes.{AreNew, CountsNew}
 use Rattle.read_engine.specs.Kept.{count_came, index_kept}
 use Rattle.read_engine.specs.Position.{Position, rows_now}

@@ -14,7 +14,7 @@ use Rattle.schema_model.specs.declared.schema.Schema.{Schema}
 use Rattle.row_model.specs.Key.{IsResolved, key_of}
 use Rattle.row_model.specs.Table.{IsClosed, IsLive, IsTableOf, RowMap, Table, row_at}
 use Rattle.key_index.specs.Indexed.{AreKeysOf, HaveOneRow, Indexed, KeyMap}
-use Rattle.state_moves.specs.Past.{FitsPast, PastPart, no_part, table_before}
+use Rattle.row_model.specs.Before.{FitsPast, PastPart, no_part, table_before}
 use Rattle.read_engine.specs.Kept.{FollowsPart, IsKept, IsReserved, index_kept, moved_on, settled}
 use Rattle.read_engine.specs.Position.{IsIndexOf}
 use Rattle.state_moves.proofs.Came.{came_at, gone_at, one_row, part_is}

@@ -9,7 +9,7 @@ use Rattle.row_model.specs.Table.{RowMap}
 use Rattle.type_state.specs.State.{State}
 use Rattle.type_state.specs.Views.{table_of}
 use Rattle.key_index.specs.Indexed.{Indexed}
-use Rattle.state_moves.specs.Past.{FitsPast, PastPart, rows_before}
+use Rattle.row_model.specs.Before.{FitsPast, PastPart, rows_before}
 use Rattle.read_engine.specs.Gone.{AreGone}
 use Rattle.read_engine.specs.Position.{Position, rows_now}
 use Rattle.state_moves.specs.Halves.{current_halves}

@@ -14,7 +14,7 @@ use Rattle.snapshot_blob.specs.declared.body.Body.{Body}
 use Rattle.snapshot_blob.specs.declared.loaded.Loaded.{Loaded}
 use Rattle.snapshot_blob.specs.Body.{IsWholeBody}
 use Rattle.snapshot_blob.specs.Snapshot.{TellsSnapshot}
-use Rattle.state_moves.specs.Past.{FitsPast, PastPart, no_part, table_before}
+use Rattle.row_model.specs.Before.{FitsPast, PastPart, no_part, table_before}
 use Rattle.read_engine.specs.Kept.{IsKept}
 use Rattle.read_engine.specs.Position.{IsIndexOf, IsPosition, Position}
 use Rattle.state_moves.specs.Halves.{current_halves}

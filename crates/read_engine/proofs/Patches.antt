@@ -28,7 +28,7 @@ use Rattle.delta_blob.specs.Moved.{EachNamed, IsUnnamed, Moved, MovesType}
 use Rattle.delta_blob.specs.Patch.{Means, PartIs, TypePatch, schemas_in}
 use Rattle.delta_blob.specs.Reads.{AreOfModel, IsOfModel}
 use Rattle.delta_blob.specs.Within.{IsTypeWithin, Within}
-use Rattle.state_moves.specs.Past.{PastPart, no_part}
+use Rattle.row_model.specs.Before.{PastPart, no_part}
 use Rattle.state_moves.specs.Moving.{AreMoved, MovesState, TypeIs, coming_half, coming_halves}
 use Rattle.state_moves.specs.Halves.{current_halves}
 use Rattle.read_engine.specs.Taking.{layout_at}
@@ -140,17 +140,18 @@ module _ (schemas : List Schema) (mid : List State) (flags : List Bool) (past : 
       let schema : state.schema ≡ d.schema = by.schema in
       let moves : MovesState n.section state by.part = by.moves in
       let rows = moves.moved.added in
-      let patch : TypePatch = record { type_index = n.type_index; schema = state.schema; layout = patch_layout n.section; removed = n.section.removed; added = n.section.added; rows = rows } in
+      let patch : TypePatch = record { type_index = n.type_index; schema = state.schema; layout = patch_layout n.section; own = n.section.own; removed = n.section.removed; added = n.section.added; rows = rows } in
       let was : rows_in old n.type_index ≡ state.current.rows = rows_at old n.type_index state.current.rows (current_at mid n.type_index state there) in
       let half : coming_half state flag ≡ state.other = comes_named state flag by.is_named in
       let is_new : rows_in new n.type_index ≡ state.other.rows = rows_at new n.type_index (coming_half state flag).rows (coming_at mid flags n.type_index state flag there flagged) ∙ ap (λ (h : Half). h.rows) half in
-      let within : KeepsLimits state.schema.shape (patch_layout n.section) (rows_in new n.type_index) = subst (KeepsLimits state.schema.shape (patch_layout n.section)) (sym is_new) moves.moved.within in (
+      let within : KeepsLimits state.schema.shape n.section.own (patch_layout n.section) (rows_in new n.type_index) = subst (KeepsLimits state.schema.shape n.section.own (patch_layout n.section)) (sym is_new) moves.moved.within in (
         patch,
         record {
           is = record {
             means = is.means;
             schema = schema;
             layout = ap patch_layout is.section;
+            own = ap (λ s. s.own) is.section;
             removed = ap (λ s. s.removed) is.section;
             added = ap (λ s. s.added) is.section;
             spelled = subst (λ (s : Schema). AddsRows s.shape d.section rows) schema (subst (λ s. AddsRows state.schema.shape s rows) is.section moves.moved.adds);

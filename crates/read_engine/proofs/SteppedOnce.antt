@@ -42,11 +42,12 @@ part_once schemas apart part p q one other =
     let index = one_type schemas apart p.type_index q.type_index part.schema part.schema one.means other.means refl in
     let schema = one.schema ∙ sym other.schema in
     let layout = one.layout ∙ sym other.layout in
+    let own = one.own ∙ sym other.own in
     let removed = one.removed ∙ sym other.removed in
     let added = one.added ∙ sym other.added in
     let long = one.spelled.each ∙ sym other.spelled.each in
     let rows = same_rows p.rows q.rows long (λ k x y at_x at_y. (one_row part.schema.shape (places_in part.section)).once k x y (one.spelled.spelled k x at_x) (other.spelled.spelled k y at_y)) in
-    λ i. record { type_index = index i; schema = schema i; layout = layout i; removed = removed i; added = added i; rows = rows i }
+    λ i. record { type_index = index i; schema = schema i; layout = layout i; own = own i; removed = removed i; added = added i; rows = rows i }
 
 -- ---- each type
 

@@ -10,7 +10,7 @@ use Rattle.type_state.specs.State.{Half, State}
 use Rattle.type_state.specs.Views.{table_of}
 use Rattle.delta_blob.specs.declared.patch.PatchPart.{PatchPart}
 use Rattle.key_index.specs.Indexed.{Indexed}
-use Rattle.state_moves.specs.Past.{FitsPast, PastPart, table_before}
+use Rattle.row_model.specs.Before.{FitsPast, PastPart, table_before}
 use Rattle.read_engine.specs.Indexes.{CountsNew, CountsStep}
 use Rattle.state_moves.specs.Moving.{MovesParts, StaysCurrent, coming_halves}
 use Rattle.read_engine.specs.Taken.{CountsTaken, IsTaken, ReadsSome, TakesParts}

@@ -157,6 +157,9 @@ module _ (blob : List ℕ) (n : ℕ) (head : Header) (named : List PatchPart) (f
     removed : p.removed ≡ part.section.removed
     removed = is.removed ∙ ap (λ (s : PatchSection). s.removed) (sym is_part.section)
 
+    own : p.own ≡ part.section.own
+    own = is.own ∙ ap (λ (s : PatchSection). s.own) (sym is_part.section)
+
     added : p.added ≡ part.section.added
     added = is.added ∙ ap (λ (s : PatchSection). s.added) (sym is_part.section)
 
@@ -175,7 +178,7 @@ module _ (blob : List ℕ) (n : ℕ) (head : Header) (named : List PatchPart) (f
     holds : Holds p.schema.shape p.layout new
     holds = at_named steps.patch (HoldsTable steps.fits.moved) k t p steps.fits.held there at
 
-    within : KeepsLimits p.schema.shape p.layout (rows_in (rows_now to) t)
+    within : KeepsLimits p.schema.shape p.own p.layout (rows_in (rows_now to) t)
     within = (at_named steps.patch (IsTypeWithin (rows_now to)) k t p steps.within there at).kept
 
     -- the part moves the rows of its type
@@ -187,7 +190,8 @@ module _ (blob : List ℕ) (n : ℕ) (head : Header) (named : List PatchPart) (f
           (subst (λ (os : List ℕ). FitsOrdinals old p.layout os part.section.added) removed (subst (λ (os : List ℕ). FitsOrdinals old p.layout p.removed os) added fit));
       moves = subst (λ (os : List ℕ). MovesRows old new os part.section.added p.rows) removed (subst (λ (os : List ℕ). MovesRows old new p.removed os p.rows) added moves_here);
       held = subst (λ (l : Layout). Holds p.schema.shape l new) layout holds;
-      within = subst (λ (l : Layout). KeepsLimits p.schema.shape l new) layout (subst (KeepsLimits p.schema.shape p.layout) same_rows within);
+      within = subst (λ (n : ℕ). KeepsLimits p.schema.shape n (patch_layout part.section) new) own
+          (subst (λ (l : Layout). KeepsLimits p.schema.shape p.own l new) layout (subst (KeepsLimits p.schema.shape p.own p.layout) same_rows within));
     }
 
   -- so does each part

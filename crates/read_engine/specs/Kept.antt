@@ -4,7 +4,7 @@ use Rattle.std.specs.Option.{option_map_or}
 use Rattle.schema_model.specs.declared.schema.Schema.{Schema}
 use Rattle.row_model.specs.Table.{Table}
 use Rattle.key_index.specs.Indexed.{AreKeysOf, Follows, Indexed}
-use Rattle.state_moves.specs.Past.{PastPart}
+use Rattle.row_model.specs.Before.{PastPart}
 use Rattle.read_engine.specs.Position.{Index, IsIndexOf}
 
 -- which index it is

@@ -7,7 +7,7 @@ use Rattle.type_state.specs.State.{State}
 use Rattle.type_state.specs.Views.{table_of}
 use Rattle.key_index.specs.Indexed.{Indexed}
 use Rattle.state_moves.specs.Halves.{current_halves}
-use Rattle.state_moves.specs.Past.{FitsPast, PastPart, table_before}
+use Rattle.row_model.specs.Before.{FitsPast, PastPart, table_before}
 use Rattle.read_engine.specs.Kept.{IsKept, index_kept}
 use Rattle.read_engine.specs.Position.{Position, IsPosition}
 

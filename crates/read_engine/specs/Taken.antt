@@ -9,7 +9,7 @@ use Rattle.key_index.specs.Indexed.{Indexed}
 use Rattle.state_moves.specs.Halves.{current_halves}
 use Rattle.state_moves.specs.Judged.{IsFreeMove, state_moved}
 use Rattle.state_moves.specs.Moving.{MovesParts, coming_halves}
-use Rattle.state_moves.specs.Past.{PastPart}
+use Rattle.row_model.specs.Before.{PastPart}
 use Rattle.read_engine.specs.Indexes.{CountsAtMost}
 use Rattle.read_engine.specs.Kept.{count_came}
 use Rattle.read_engine.specs.Position.{Position, rows_now}

@@ -27,7 +27,7 @@ use blob_frame::BlobFault;
 use hol_io::{BlobName, BlobStore, Steps};
 use hol_varint::Ordinals;
 use schema_model::Model;
-use state_moves::{Before, Now, PastParts};
+use state_moves::{Before, Now, PastParts, before_of, now_of};
 use std::alloc::Global;
 use std::sync::ledger::Ledger;
 use type_state::{TypeState, TypeStates};
@@ -168,7 +168,7 @@ impl Consumer {
         ensures table { IsSomeAnd self.now (λ position. rows_now position ≡ result.table) }
         ensures position { IsSomeAnd self.now IsPosition }
     {
-        Now::new(self.types(), self.states())
+        now_of(self.types(), self.states())
     }
 
     /// The rows before its last step; after a load those of its state.
@@ -180,7 +180,7 @@ impl Consumer {
     {
         let states = self.states.as_slice();
         let past = self.past.as_slice();
-        Before::new(&self.model, states, past)
+        before_of(&self.model, states, past)
     }
 
     /// The ordinals of a type that left in its last step, rising.

@@ -8,7 +8,7 @@ ghost use Rattle.state_moves.specs.Moving.{AreComing, coming_halves};
 use hol_io::Steps;
 use key_index::KeyIndex;
 use schema_model::Model;
-use state_moves::{Coming, PastPart, part_at};
+use state_moves::{Coming, PastPart, coming_of, part_at};
 use std::alloc::AllocError;
 use std::sync::ledger::Ledger;
 use type_state::TypeState;
@@ -31,7 +31,7 @@ pub(crate) fn reserve_all<L: Ledger>(
     ensures bounded { (steps.old ≤ steps.new) × (steps.new ≤ steps.old + sum_by (λ kept. count_came past.now kept.type_index) indexes.old) }
     ensures refused { OnErr result (indexes.new ≡ map settled indexes.old) }
 {
-    let rows = Coming::new(model, states, named);
+    let rows = coming_of(model, states, named);
     match reserve_each(indexes, &rows, past, steps) {
         Ok(()) => Ok(()),
         Err(error) => {

@@ -8,7 +8,7 @@ ghost use Rattle.type_state.specs.State.{IsLaidOut};
 ghost use Rattle.type_state.specs.Views.{next_halves};
 ghost use Rattle.snapshot_blob.specs.Body.{IsWholeBody};
 ghost use Rattle.snapshot_blob.specs.Snapshot.{IsSnapshotFault};
-ghost use Rattle.state_moves.specs.Past.{no_part};
+ghost use Rattle.row_model.specs.Before.{no_part};
 ghost use Rattle.state_moves.specs.Halves.{current_halves};
 ghost use Rattle.read_engine.specs.Taking.{TellsLoaded, loaded_position};
 

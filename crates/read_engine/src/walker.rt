@@ -3,7 +3,7 @@ ghost use Rattle.std.specs.Prelude.{◌≡◌, ◌≢◌, ◌≤◌, ◌<◌, Er
 ghost use Rattle.hol_io.specs.Causes.{Rose};
 ghost use Rattle.chain_check.specs.Walk.{name_of_step};
 ghost use Rattle.read_engine.specs.Taking.{IsStepName};
-ghost use Rattle.read_engine.specs.Walking.{WalksStep};
+ghost use Rattle.read_engine.specs.Walking.{WalksStep, schemas_at, table_at};
 
 use crate::Consumer;
 use blob_frame::BlobFault;
@@ -13,9 +13,7 @@ use hol_io::{BlobName, BlobStore, Steps};
 use record_views::Column;
 use row_model::{LentRow, Row, Rows};
 use schema_model::Model;
-use state_moves::{
-    bound_in, column_in, has_same_rows_in, is_live_in, lend_in, lists_in, row_in, runs_in,
-};
+use state_moves::{Now, has_same_rows_in, now_of};
 use std::alloc::{AllocError, Global};
 use std::marker::Brand;
 use std::sync::ledger::{Blank, Ledger};
@@ -47,6 +45,14 @@ impl Walker {
             consumer: Consumer::new(alloc),
         }
     }
+
+    // Its rows.
+    fn rows(&self) -> Now<'_>
+        ensures schemas { result.schemas ≡ schemas_at self.now }
+        ensures table { result.table ≡ table_at self.now }
+    {
+        now_of(self.consumer.types(), self.consumer.states())
+    }
 }
 
 impl Rows for Walker {
@@ -61,15 +67,15 @@ impl Rows for Walker {
     }
 
     fn bound(&self, type_index: u32) -> u32 {
-        bound_in(self.consumer.states(), type_index)
+        self.rows().bound(type_index)
     }
 
     fn is_live(&self, type_index: u32, ordinal: u32) -> bool {
-        is_live_in(self.consumer.states(), type_index, ordinal)
+        self.rows().is_live(type_index, ordinal)
     }
 
     fn row(&self, alloc: Global, type_index: u32, ordinal: u32) -> Result<Row, AllocError> {
-        row_in(alloc, self.consumer.states(), type_index, ordinal)
+        self.rows().row(alloc, type_index, ordinal)
     }
 
     fn lend(
@@ -78,21 +84,21 @@ impl Rows for Walker {
         type_index: u32,
         ordinal: u32,
     ) -> Result<LentRow<'_>, AllocError> {
-        lend_in(alloc, self.consumer.states(), type_index, ordinal)
+        self.rows().lent(alloc, type_index, ordinal)
     }
 }
 
 impl ColumnRows for Walker {
     fn column(&self, type_index: u32, field: u32) -> Option<Column<'_>> {
-        column_in(self.consumer.states(), type_index, field)
+        self.rows().column_lent(type_index, field)
     }
 
     fn lists(&self, type_index: u32) -> Option<PackedItems<'_>> {
-        lists_in(self.consumer.states(), type_index)
+        self.rows().lists_lent(type_index)
     }
 
     fn runs(&self, type_index: u32) -> Option<PackedItems<'_>> {
-        runs_in(self.consumer.states(), type_index)
+        self.rows().runs_lent(type_index)
     }
 }
 

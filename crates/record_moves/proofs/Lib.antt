@@ -2,5 +2,4 @@ pub mod Taken
 pub mod Copied
 pub mod Sources
 pub mod StoredRows
-pub mod Fitting
 pub mod CopiedLists

@@ -18,7 +18,7 @@ use Rattle.record_moves.specs.Parts.{HasRoomFor, IsRunTaken, widened}
 
 -- ---- the number that the element of a value without bytes holds
 
-pub zigzag_forth : (number : ℕ) → zigzag (unzigzag number) ≡ number
+zigzag_forth : (number : ℕ) → zigzag (unzigzag number) ≡ number
 zigzag_forth number = search rules
 
 -- a number below the greatest zigzag number is not that of the least one

@@ -2,13 +2,11 @@
 #![tactic(auto)]
 
 mod cell;
-mod held;
 mod list;
 mod part;
 mod record;
 mod source;
 
-pub use held::holds_record;
 pub use list::copy_list;
 pub use record::{RecordPlace, copy_record};
-pub use source::{PackedRecords, SectionRecords, WordRecords};
+pub use source::{PackedRecords, WordRecords};

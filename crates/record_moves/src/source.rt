@@ -1,8 +1,7 @@
-//! The records that are copied from: their words, and the bytes of each field, which stand in bytes or in words.
+//! The records that are copied from: their words, and the bytes of each field, which stand in words.
 ghost use Rattle.std.specs.Prelude.{map};
 ghost use Rattle.record_views.specs.Bytes.{bytes_of};
 
-use hol_varint::Octets;
 use record_views::PackedBytes;
 use std::alloc::AllocError;
 
@@ -26,41 +25,6 @@ pub trait PackedRecords {
         requires rises { start ≤ end }
         requires inside { end ≤ length (area_of (area_bytes self.now) field) }
         ensures { OnOk result (out.new.items ≡ out.old.items ++ take (end - start) (drop start (area_of (area_bytes self.now) field))) };
-}
-
-/// The records of a section of a blob, whose bytes stand in bytes.
-#[derive(Clone, Copy)]
-pub struct SectionRecords<'a> {
-    /// The words of the records.
-    pub first: &'a [u64],
-    /// The bytes of each field.
-    pub areas: &'a [Octets],
-}
-
-impl PackedRecords for SectionRecords<'_> {
-    ghost first_words = { λ records. records.first.now };
-
-    ghost area_bytes = { λ records. records.areas.now };
-
-    #[inline(always)]
-    fn first(&self) -> &[u64] {
-        self.first
-    }
-
-    #[inline(always)]
-    fn put_run(
-        &self,
-        field: u32,
-        start: u64,
-        end: u64,
-        out: &mut Vec<u8>,
-    ) -> Result<(), AllocError> {
-        if start == end {
-            return Ok(());
-        }
-        let area = self.areas[field as usize].as_slice();
-        out.extend_from_slice(&area[start as usize..end as usize])
-    }
 }
 
 /// Records all of whose parts stand in words: the bytes of each field eight in a word.

@@ -1,11 +1,8 @@
 -- Lemmas on the rows that runs of buckets spell.
 use Rattle.std.proofs.Common.{◌≡◌, ℕ, ◌≤◌, List, length, arith, refl, sym, subst, ◌∙◌}
 use Rattle.std.specs.Int.{IsPowerOfTwo}
-use Rattle.schema_model.specs.declared.schema.Shape.{Shape}
-use Rattle.row_model.specs.declared.row.Row.{Row}
-use Rattle.bucket_codec.specs.Run.{Bucket, taken_of, keys_of, SpellsRun}
-use Rattle.bucket_codec.specs.BucketPlace.{SpellsPairs, SpellsBucketRow}
-use Rattle.record_views.specs.Buckets.{FindsEach, IsBucketShape}
+use Rattle.bucket_codec.specs.Run.{Bucket, taken_of, SpellsRun}
+use Rattle.record_views.specs.Buckets.{FindsEach}
 use Rattle.record_views.proofs.FoundKeys.{counted_spelled, room_spelled, finds_spelled}
 
 -- why a run spells no set or map of so many pairs: there are more or fewer of them
@@ -23,10 +20,3 @@ no_power run size count long not pairs spelled sized = not (subst (λ n. IsPower
 -- a key is not found where it stands
 pub not_found : (run : List Bucket) (count : ℕ) → (FindsEach run → ⊥) → (pairs : List (ℕ × ℕ)) → SpellsRun run pairs → count ≡ length pairs → ⊥
 not_found run count not pairs spelled sized = not (finds_spelled run pairs spelled)
-
--- the row of pairs
-pub row_of : (shape : Shape) (widths : List ℕ) (total : ℕ) (first second : List ℕ) (place : ℕ) (pairs : List (ℕ × ℕ)) → IsBucketShape shape → SpellsPairs widths total first second place pairs
-    → (row : Row) × SpellsBucketRow shape widths total first second place row
-row_of (Shape.Set element) widths total first second place pairs kind spelled = (Row.Set (keys_of pairs), (pairs, refl, spelled))
-row_of (Shape.Map key value) widths total first second place pairs kind spelled = (Row.Map pairs, (pairs, refl, spelled))
-row_of _ widths total first second place pairs kind spelled = absurd kind

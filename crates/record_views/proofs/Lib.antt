@@ -3,7 +3,7 @@ pub mod BytesInWords
 pub mod Faults
 pub mod FoundKeys
 pub mod KeysOnce
-pub mod Lists
+pub mod ListElements
 pub mod PlainTexts
 pub mod RunsInWords
 pub mod Shown
@@ -11,3 +11,4 @@ pub mod Soundness
 pub mod Starts
 pub mod TakenBuckets
 pub mod Texts
+pub mod UnitReaches

@@ -11,7 +11,7 @@ use Rattle.row_model.specs.declared.row.Value.{Value}
 use Rattle.object_codec.specs.Part.{FieldPart, span_of, end_of, SpellsValue}
 use Rattle.record_views.specs.declared.part.Part.{Part}
 use Rattle.record_views.specs.Parts.{GivesPart, GivesRun}
-use Rattle.record_views.specs.Sound.{ArePlain}
+use Rattle.record_views.specs.Sound.{ArePlain, IsToldByParts}
 use Rattle.record_views.proofs.Faults.{other_given}
 
 -- plain bytes are their own units
@@ -42,11 +42,11 @@ text_plain part (Part.Run start end) plain told =
     (Value.Text (span_of part), (told.0, told.1, plain_units (span_of part) (plain_run part.area part.start (end_of part - part.start) plain)))
 text_plain part _ plain told = absurd told
 
--- each part of a field whose bytes are plain has a value
-pub plain_given : (kind : FieldKind) (part : FieldPart) (given : Part) → ArePlain part.area → GivesPart kind part given → (value : Value) × SpellsValue kind part value
-plain_given FieldKind.Text part given plain told = text_plain part given plain told
-plain_given FieldKind.Bytes part given plain told = other_given FieldKind.Bytes part given (λ is start end run. cc) told
-plain_given FieldKind.Int part given plain told = other_given FieldKind.Int part given (λ is start end run. cc) told
-plain_given FieldKind.Long part given plain told = other_given FieldKind.Long part given (λ is start end run. cc) told
-plain_given FieldKind.Boolean part given plain told = other_given FieldKind.Boolean part given (λ is start end run. cc) told
-plain_given (FieldKind.Reference name) part given plain told = other_given (FieldKind.Reference name) part given (λ is start end run. cc) told
+-- each part of a field that is told by its parts has a value
+pub told_given : (kind : FieldKind) (part : FieldPart) (given : Part) → IsToldByParts kind part.area → GivesPart kind part given → (value : Value) × SpellsValue kind part value
+told_given FieldKind.Text part given plain told = text_plain part given plain told
+told_given FieldKind.Bytes part given plain told = other_given FieldKind.Bytes part given (λ is start end run. cc) told
+told_given FieldKind.Int part given plain told = other_given FieldKind.Int part given (λ is start end run. cc) told
+told_given FieldKind.Long part given plain told = other_given FieldKind.Long part given (λ is start end run. cc) told
+told_given FieldKind.Boolean part given plain told = other_given FieldKind.Boolean part given (λ is start end run. cc) told
+told_given (FieldKind.Reference name) part given plain told = other_given (FieldKind.Reference name) part given (λ is start end run. cc) told

@@ -14,30 +14,6 @@ use crate::tested::Tested;
 use bit_array::element;
 use schema_model::Reason;
 
-/// Why the parts of a SET or MAP type spell no row at a place; none where they spell one. It takes no memory.
-///
-/// It goes the way from the home of each key to where the key stands. In a run that another than the format's writer made, and that is nearly
-/// full, each way can be half the run, and the time grows with the square of the run's length: `test_place` has a limit for it.
-pub fn bucket_fault(
-    widths: &[u32],
-    total: u64,
-    first: &[u64],
-    second: &[u64],
-    place: u64,
-) -> Option<Reason>
-    requires three { 3 ≤ length widths.now }
-    requires holds { HoldsPointers widths.now first.now place }
-    requires few { 64 * length second.now < 2 ^ 64 }
-    ensures tells { MatchOption result ((pairs : List (ℕ × ℕ)) × SpellsPairs widths.now total first.now second.now place pairs) (FailsBucketRow widths.now total first.now second.now place) }
-    ensures row { result ≡ None → (shape : Shape) → IsBucketShape shape → (row : Row) × SpellsBucketRow shape widths.now total first.now second.now place row }
-{
-    match test_place(widths, total, first, second, place, u64::MAX) {
-        Tested::Spells => None,
-        Tested::Fails(reason) => Some(reason),
-        Tested::Far => unreachable!(),
-    }
-}
-
 /// Whether the parts of a SET or MAP type spell a row at a place, and else why not; `Far` where the keys of the run stand more than `most`
 /// steps behind their homes, all together. It takes no memory.
 ///

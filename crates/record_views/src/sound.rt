@@ -1,85 +1,85 @@
 //! Whether the places of some ordinals all spell records, tried field by field.
-ghost use Rattle.std.specs.Prelude.{ℕ, List, ◌≡◌, ◌+◌, ◌*◌, ◌^◌, ◌<◌, ◌≤◌, length, slice_index, IsTrue, MatchOption};
+ghost use Rattle.std.specs.Prelude.{ℕ, List, ◌≡◌, ◌↔◌, ◌+◌, ◌*◌, ◌^◌, ◌<◌, ◌≤◌, length, slice_index, IfErr, IfOk, IsTrue, MatchBool, MatchOption, OnOk};
+ghost use Rattle.schema_model.specs.declared.schema.FieldKind.TheVariants.{Text};
 ghost use Rattle.row_model.specs.declared.row.Value.{Value};
 ghost use Rattle.object_codec.specs.Cell.{IsWithin};
-ghost use Rattle.object_codec.specs.Part.{FieldPart, SpellsValue};
+ghost use Rattle.object_codec.specs.Part.{FieldPart, SpellsValue, FailsValue};
 ghost use Rattle.object_codec.specs.ObjectPlace.{part_at, IsKindWidth, HoldsPlace, SpellsObject};
-ghost use Rattle.record_views.specs.Sound.{ArePlain, IsFirstFault, SpellSome};
+ghost use Rattle.record_views.specs.Sound.{ArePlain, HavePlain, IsToldByParts, TellsColumn, IsFirstFault, SpellSome, parts_in};
+ghost use Rattle.record_views.specs.Texts.{AreReaches};
 
-use crate::fault::{fault_at, field_fault};
-use crate::part::read_part;
+use crate::part::{Part, read_part};
+use crate::spans::Spans;
 use bit_array::total_width;
 use hol_varint::Octets;
 use schema_model::{Field, FieldKind, Reason};
+use std::alloc::{AllocError, Global};
 
-/// The first of these places that spells no record, and why; none where each spells one. It takes no memory.
+/// The first of these places that spells no record, and why; none where each spells one.
 ///
-/// Field by field it tells that all are well, which is quick; only where one is not are the places tried one by one.
+/// It goes field by field over the places before the fault that it knows. It takes memory only where spans of a STRING's bytes overlap, that are
+/// not all below 128: a number for each 64 of the bytes; where all bytes are below 128 it cannot fail.
 pub fn first_fault(
+    alloc: Global,
     fields: &[Field],
     widths: &[u32],
     first: &[u64],
     areas: &[Octets],
     places: &[u32],
-) -> Option<(u32, Reason)>
+) -> Result<Option<(u32, Reason)>, AllocError>
     requires { (k : ℕ) → k < length places.now → HoldsPlace fields.now widths.now first.now areas.now (slice_index places.now k) }
-    ensures { MatchOption result (SpellSome fields.now widths.now first.now areas.now places.now (length places.now)) (IsFirstFault fields.now widths.now first.now areas.now places.now) }
+    ensures tells { IfOk result (λ found. MatchOption found (SpellSome fields.now widths.now first.now areas.now places.now (length places.now)) (IsFirstFault fields.now widths.now first.now areas.now places.now)) }
+    ensures plain { HavePlain areas.now → IfErr result (λ error. ⊥) }
 {
     if places.is_empty() {
-        return None;
+        return Ok(None);
     }
-    if all_sound(fields, widths, first, areas, places) {
-        return None;
-    }
-    first_by_place(fields, widths, first, areas, places)
+    first_by_field(alloc, fields, widths, first, areas, places)
 }
 
-/// The same, place by place.
-fn first_by_place(
+/// The same of some places.
+fn first_by_field(
+    alloc: Global,
     fields: &[Field],
     widths: &[u32],
     first: &[u64],
     areas: &[Octets],
     places: &[u32],
-) -> Option<(u32, Reason)>
-    requires { (k : ℕ) → k < length places.now → HoldsPlace fields.now widths.now first.now areas.now (slice_index places.now k) }
-    ensures { MatchOption result (SpellSome fields.now widths.now first.now areas.now places.now (length places.now)) (IsFirstFault fields.now widths.now first.now areas.now places.now) }
-{
-    for place in places {
-        if let Some(reason) = fault_at(fields, widths, first, areas, u64::from(*place)) {
-            return Some((*place, reason));
-        }
-    }
-    None
-}
-
-/// Whether each of these places spells a record, field by field.
-fn all_sound(
-    fields: &[Field],
-    widths: &[u32],
-    first: &[u64],
-    areas: &[Octets],
-    places: &[u32],
-) -> bool
+) -> Result<Option<(u32, Reason)>, AllocError>
     requires some { 0 < length places.now }
     requires holds { (k : ℕ) → k < length places.now → HoldsPlace fields.now widths.now first.now areas.now (slice_index places.now k) }
-    ensures { IsTrue result → SpellSome fields.now widths.now first.now areas.now places.now (length places.now) }
+    ensures tells { IfOk result (λ found. MatchOption found (SpellSome fields.now widths.now first.now areas.now places.now (length places.now)) (IsFirstFault fields.now widths.now first.now areas.now places.now)) }
+    ensures plain { HavePlain areas.now → IfErr result (λ error. ⊥) }
 {
     let size = total_width(widths) as u64;
     let mut before = 0;
+    let mut left = places.len();
+    let mut found = None;
     for (index, field) in fields.iter().enumerate() {
         let width = widths[index];
         let area = areas[index].as_slice();
-        if !is_sound(&field.kind, first, before, width, size, area, places) {
-            return false;
+        let some = &places[..left];
+        if let Some((at, reason)) = first_in_field(
+            alloc,
+            &field.kind,
+            first,
+            before,
+            width,
+            size,
+            area,
+            some,
+        )? {
+            left = at;
+            found = Some((places[at], reason));
         }
         before += u64::from(width);
     }
-    true
+    Ok(found)
 }
 
-/// Whether a field has a value at each of these places.
-fn is_sound(
+/// The first of these places at which a field has no value, by its index, and why.
+fn first_in_field(
+    alloc: Global,
     kind: &FieldKind,
     first: &[u64],
     before: u64,
@@ -87,24 +87,19 @@ fn is_sound(
     size: u64,
     area: &[u8],
     places: &[u32],
-) -> bool
+) -> Result<Option<(usize, Reason)>, AllocError>
     requires wide { IsKindWidth kind.now width }
     requires within { (k : ℕ) → k < length places.now → IsWithin first.now size (slice_index places.now k) before width }
-    ensures { IsTrue result → (k : ℕ) → k < length places.now → (value : Value) × SpellsValue kind.now (part_at first.now size (slice_index places.now k) before width area.now) value }
+    ensures tells { IfOk result (TellsColumn kind.now (parts_in first.now size before width area.now) places.now) }
+    ensures plain { ArePlain area.now → IfErr result (λ error. ⊥) }
 {
     if is_free(kind, width) {
-        return true;
+        return Ok(None);
     }
-    if is_plain(area) {
-        return has_parts(kind, first, before, width, size, area, places);
+    if is_decoded(kind, area) {
+        return first_bad_text(alloc, first, before, width, size, area, places);
     }
-    for place in places {
-        let at = u64::from(*place) * size + before;
-        if let Some(_) = field_fault(kind, first, at, width, size, area) {
-            return false;
-        }
-    }
-    true
+    Ok(first_bad_part(kind, first, before, width, size, area, places))
 }
 
 /// Whether each element of this width has a value in a field of this kind.
@@ -119,9 +114,20 @@ fn is_free(kind: &FieldKind, width: u32) -> bool
     }
 }
 
+/// Whether the bytes of a field are to be decoded: those of a STRING, where they are not all below 128.
+fn is_decoded(kind: &FieldKind, area: &[u8]) -> bool
+    ensures told { MatchBool result (kind.now ≡ Text) (IsToldByParts kind.now area.now) }
+    ensures plain { ArePlain area.now → IsTrue result → ⊥ }
+{
+    match kind {
+        FieldKind::Text => !is_plain(area),
+        _ => false,
+    }
+}
+
 /// Whether each byte is below 128: then each is a unit by itself, and any run of them the bytes of a STRING.
 fn is_plain(bytes: &[u8]) -> bool
-    ensures { IsTrue result → ArePlain bytes.now }
+    ensures { IsTrue result ↔ ArePlain bytes.now }
 {
     let mut greatest: u8 = 0;
     for byte in bytes {
@@ -130,8 +136,8 @@ fn is_plain(bytes: &[u8]) -> bool
     greatest < 0x80
 }
 
-/// Whether a field, whose bytes are all below 128, has a value at each of these places.
-fn has_parts(
+/// The first of these places at which a field has no value whose bytes are not decoded, by its index, and why.
+fn first_bad_part(
     kind: &FieldKind,
     first: &[u64],
     before: u64,
@@ -139,17 +145,71 @@ fn has_parts(
     size: u64,
     area: &[u8],
     places: &[u32],
-) -> bool
-    requires plain { ArePlain area.now }
+) -> Option<(usize, Reason)>
+    requires told { IsToldByParts kind.now area.now }
     requires wide { IsKindWidth kind.now width }
     requires within { (k : ℕ) → k < length places.now → IsWithin first.now size (slice_index places.now k) before width }
-    ensures { IsTrue result → (k : ℕ) → k < length places.now → (value : Value) × SpellsValue kind.now (part_at first.now size (slice_index places.now k) before width area.now) value }
+    ensures { TellsColumn kind.now (parts_in first.now size before width area.now) places.now result }
 {
-    for place in places {
+    for (index, place) in places.iter().enumerate() {
         let at = u64::from(*place) * size + before;
-        let Ok(_) = read_part(first, kind, at, width, size, area.len() as u64) else {
-            return false;
-        };
+        if let Err(reason) = read_part(first, kind, at, width, size, area.len() as u64) {
+            return Some((index, reason));
+        }
     }
-    true
+    None
+}
+
+/// The first of these places at which a STRING has no value, by its index, and why.
+fn first_bad_text(
+    alloc: Global,
+    first: &[u64],
+    before: u64,
+    width: u32,
+    size: u64,
+    area: &[u8],
+    places: &[u32],
+) -> Result<Option<(usize, Reason)>, AllocError>
+    requires wide { 1 ≤ width }
+    requires within { (k : ℕ) → k < length places.now → IsWithin first.now size (slice_index places.now k) before width }
+    ensures { IfOk result (TellsColumn Text (parts_in first.now size before width area.now) places.now) }
+{
+    let mut spans = Spans::new(alloc);
+    for (index, place) in places.iter().enumerate() {
+        let at = u64::from(*place) * size + before;
+        if let Some(reason) = text_fault(alloc, &mut spans, first, at, width, size, area)? {
+            return Ok(Some((index, reason)));
+        }
+    }
+    Ok(None)
+}
+
+/// Why a STRING has no value whose element begins at a bit of the words; none where it has one.
+fn text_fault(
+    alloc: Global,
+    spans: &mut Spans,
+    first: &[u64],
+    at: u64,
+    width: u32,
+    size: u64,
+    area: &[u8],
+) -> Result<Option<Reason>, AllocError>
+    requires narrow { width ≤ 64 }
+    requires wide { 1 ≤ width }
+    requires inside { at + width ≤ 64 * length first.now }
+    requires reaches { AreReaches area.now spans.old.reaches.items }
+    ensures tells { IfOk result (λ found. (place before : ℕ) → at ≡ place * size + before → before + width ≤ size → MatchOption found ((value : Value) × SpellsValue Text (part_at first.now size place before width area.now) value) (FailsValue Text (part_at first.now size place before width area.now))) }
+    ensures reaches { OnOk result (AreReaches area.now spans.new.reaches.items) }
+{
+    let part = match read_part(first, &FieldKind::Text, at, width, size, area.len() as u64) {
+        Ok(part) => part,
+        Err(reason) => return Ok(Some(reason)),
+    };
+    let Part::Run(start, end) = part else {
+        return Ok(None);
+    };
+    if spans.are_units(alloc, area, start as usize, end as usize)? {
+        return Ok(None);
+    }
+    Ok(Some(Reason::BadText))
 }

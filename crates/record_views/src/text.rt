@@ -8,7 +8,7 @@ use hol_varint::get_vint;
 const UNIT_LIMIT: u32 = 0x1_0000;
 
 /// Whether all the bytes are those of a STRING: one number below 2^16 after another. It takes no memory.
-pub fn are_units(bytes: &[u8]) -> bool
+pub(crate) fn are_units(bytes: &[u8]) -> bool
     ensures { TellsAreUnits bytes.now result }
 {
     let mut place = 0;
@@ -22,7 +22,7 @@ pub fn are_units(bytes: &[u8]) -> bool
 }
 
 /// Where the unit ends that begins at a place.
-fn behind_unit(bytes: &[u8], place: usize) -> Option<usize>
+pub(crate) fn behind_unit(bytes: &[u8], place: usize) -> Option<usize>
     requires { place < length bytes.now }
     ensures { TellsBehindUnit bytes.now place result }
 {

@@ -8,8 +8,9 @@ use Rattle.schema_model.specs.declared.limit.Limit.TheVariants.{Bytes, Words}
 use Rattle.schema_model.specs.Limit.{number_of_limit}
 use Rattle.type_rows.specs.declared.section.Section.{Section}
 use Rattle.type_rows.specs.declared.fault.RowFault.{RowFault}
-use Rattle.type_rows.specs.Layout.{fixed_words, item_bits, places_of, words_needed}
+use Rattle.type_rows.specs.Layout.{counted_words, item_bits, places_of, record_bits, words_needed}
 use Rattle.type_rows.specs.Loads.{layout_of}
+use Rattle.type_rows.proofs.CountedWords.{all_words}
 use Rattle.row_faults.specs.LoadFault.{FailsLoad, load_tests}
 use Rattle.row_faults.specs.Tests.{LeadsHeld}
 use Rattle.row_faults.specs.declared.sums.Sums.{Sums}
@@ -20,8 +21,8 @@ abbrev pub words_by : Shape → Section → ℕ → ℕ
 words_by shape section items = words_needed shape (layout_of section) + words_of (items * item_bits shape section.widths)
 
 module _ (shape : Shape) (section : Section) (sums : Sums) (bytes words : ℕ) (laid : IsLaidOut shape section sums bytes) (is : words ≡ words_by shape section sums.items) where
-  words_are : words ≡ fixed_words shape (layout_of section) (values laid.0)
-  words_are = is ∙ ap (words_by shape section) laid.2.counted
+  words_are : words ≡ counted_words shape (record_bits shape section.widths) (layout_of section) (values laid.0)
+  words_are = is ∙ ap (words_by shape section) laid.2.counted ∙ sym (all_words shape (layout_of section) (values laid.0))
 
   held : LeadsHeld shape (layout_of section) (load_tests shape section) laid.0
   held = record { leads = laid.1; held = laid.2.held }

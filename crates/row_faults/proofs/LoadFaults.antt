@@ -9,7 +9,7 @@ use Rattle.row_model.specs.declared.row.Row.{Row}
 use Rattle.row_model.specs.Table.{RowMap}
 use Rattle.type_rows.specs.declared.section.Section.{Section}
 use Rattle.type_rows.specs.declared.fault.RowFault.{RowFault}
-use Rattle.type_rows.specs.Layout.{places_of}
+use Rattle.type_rows.specs.Layout.{places_of, record_bits}
 use Rattle.type_rows.specs.Loads.{IsSpelledIn, Loads, SectionIs, layout_of}
 use Rattle.type_rows.proofs.SectionRows as sections
 use Rattle.row_faults.specs.Ordinals.{HasNoPlace, HoldsNowhere, IsLeast}
@@ -52,9 +52,9 @@ apart shape section = record {
 }
 
 pub load_fault_once : (shape : Shape) (section : Section) (a b : RowFault) → a ≢ RowFault.Memory → b ≢ RowFault.Memory → FailsLoad shape section a → FailsLoad shape section b → a ≡ b
-load_fault_once shape section = fault_once shape (layout_of section) (load_tests shape section) (apart shape section)
+load_fault_once shape section = fault_once shape (record_bits shape section.widths) (layout_of section) (load_tests shape section) (apart shape section)
 
 pub load_or_fault : (shape : Shape) (section : Section) (rows : RowMap) (fault : RowFault) → fault ≢ RowFault.Memory → Loads shape section rows → FailsLoad shape section fault → ⊥
 load_or_fault shape section rows fault told loads =
-    fault_or_rows shape (layout_of section) (load_tests shape section) (apart shape section) fault rows told
+    fault_or_rows shape (record_bits shape section.widths) (layout_of section) (load_tests shape section) (apart shape section) fault rows told
     record { leads = loads.is; held = loads.held.parts } (λ pass. omega (arith, pass, loads.within.words)) (λ pass. omega (arith, pass, loads.within.bytes))

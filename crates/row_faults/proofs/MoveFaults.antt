@@ -72,7 +72,7 @@ apart shape patch old = record {
 }
 
 pub move_fault_once : (shape : Shape) (patch : PatchSection) (old : RowMap) (a b : RowFault) → a ≢ RowFault.Memory → b ≢ RowFault.Memory → FailsMove shape patch old a → FailsMove shape patch old b → a ≡ b
-move_fault_once shape patch old = fault_once shape (patch_layout patch) (move_tests shape patch old) (apart shape patch old)
+move_fault_once shape patch old = fault_once shape patch.own (patch_layout patch) (move_tests shape patch old) (apart shape patch old)
 
 -- Numbers that rise are each above the one before.
 rising_above : (numbers : List ℕ) (index number : ℕ) → IsStrictlyIncreasing numbers → slice_get numbers index ≡ Some number → IsNotAbove numbers index number → ⊥
@@ -124,5 +124,5 @@ module _ (shape : Shape) (patch : PatchSection) (old new : RowMap) (moved : IsMo
 
 pub moved_or_fault : (shape : Shape) (patch : PatchSection) (old new : RowMap) (fault : RowFault) → fault ≢ RowFault.Memory → IsMovedBy shape patch old new → FailsMove shape patch old fault → ⊥
 moved_or_fault shape patch old new fault told moved =
-    fault_or_rows shape (patch_layout patch) (move_tests shape patch old) (apart shape patch old) fault new told
+    fault_or_rows shape patch.own (patch_layout patch) (move_tests shape patch old) (apart shape patch old) fault new told
     record { leads = leads shape patch old new moved; held = moved.held.parts } (λ pass. omega (arith, pass, moved.within.words)) (λ pass. omega (arith, pass, moved.within.bytes))

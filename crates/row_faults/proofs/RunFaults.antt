@@ -1,10 +1,10 @@
 -- What the tests of lists, sets and maps tell of the place of a section.
-use Rattle.std.proofs.Common.{◌≡◌, ℕ, ◌^◌, ◌<◌, ◌≤◌, List, Result, Ok, Err, refl, ap, sym, ◌∙◌, subst, arith}
+use Rattle.std.proofs.Common.{◌≡◌, ℕ, ◌^◌, ◌<◌, ◌≤◌, List, refl, ap, ◌∙◌, subst, arith}
 use Rattle.schema_model.specs.declared.schema.name.Name.{Name}
 use Rattle.schema_model.specs.declared.schema.Shape.{Shape}
 use Rattle.schema_model.specs.declared.reason.Reason.{Reason}
 use Rattle.row_model.specs.declared.row.Row.{Row}
-use Rattle.row_model.specs.declared.packed.PlaceFault.{PlaceFault}
+use Rattle.list_codec.specs.ListPlace as lists
 use Rattle.bucket_codec.specs.BucketPlace as buckets
 use Rattle.bucket_codec.specs.Run.{keys_of}
 use Rattle.bucket_codec.proofs.PlaceRows.{pairs_within}
@@ -12,7 +12,6 @@ use Rattle.record_views.specs.Buckets.{IsBucketShape}
 use Rattle.type_rows.specs.declared.section.Section.{Section}
 use Rattle.type_rows.specs.WellFormed.{IsReadable}
 use Rattle.row_faults.specs.Places.{Fails, SpellsSome}
-use Rattle.row_faults.specs.RunItems.{TellsListTest, TellsPlaceTest}
 
 -- What holds of the parts that were lent holds of those of the section.
 pub of_parts : (P : List ℕ → List ℕ → List ℕ → Type 0) (section : Section) (widths first second : List ℕ) → widths ≡ section.widths → first ≡ section.first → second ≡ section.second
@@ -20,13 +19,14 @@ pub of_parts : (P : List ℕ → List ℕ → List ℕ → Type 0) (section : Se
 of_parts P section widths first second one two three h =
     subst (λ w. P w section.first section.second) one (subst (λ f. P widths f section.second) two (subst (P widths first) three h))
 
-at_list : (element : Name) (section : Section) (place : ℕ) (result : Result (Unit {0}) PlaceFault) → TellsListTest section place result → TellsPlaceTest (Shape.List element) section place result
-at_list element section place (Ok done) told = (Row.List told.0, told.1)
-at_list element section place (Err (PlaceFault.Bad reason)) told = told
-at_list element section place (Err PlaceFault.Memory) told = tt
+-- What a place of a list spells, or why it spells none.
+pub list_spells : (shape : Shape) (section : Section) (place : ℕ) → lists.IsList shape → (ordinals : List ℕ) × lists.SpellsList section.widths section.total section.first section.second place ordinals → SpellsSome shape section place
+list_spells (Shape.List element) section place kind told = (Row.List told.0, told.1)
+list_spells _ section place kind told = absurd kind
 
-pub list_tells : (shape : Shape) (element : Name) (section : Section) (place : ℕ) (result : Result (Unit {0}) PlaceFault) → shape ≡ Shape.List element → TellsListTest section place result → TellsPlaceTest shape section place result
-list_tells shape element section place result is told = subst (λ s. TellsPlaceTest s section place result) (sym is) (at_list element section place result told)
+pub list_fails : (shape : Shape) (section : Section) (place : ℕ) (reason : Reason) → lists.IsList shape → lists.FailsListRow section.widths section.total section.first section.second place reason → Fails shape section place reason
+list_fails (Shape.List element) section place reason kind told = told
+list_fails _ section place reason kind told = absurd kind
 
 -- Pairs that a place of a set or map spells are those of a row.
 abbrev pub SpellsSomePairs : ℕ → ℕ → List ℕ → List ℕ → List ℕ → Type 0

@@ -5,7 +5,7 @@ use Rattle.std.proofs.Math.Nat.{mul-le-mul_right}
 use Rattle.schema_model.specs.declared.schema.name.Name.{Name}
 use Rattle.schema_model.specs.declared.schema.Shape.{Shape}
 use Rattle.bit_array.specs.Element.{words_of}
-use Rattle.list_codec.specs.ListPlace.{HoldsListPlace}
+use Rattle.list_codec.specs.ListPlace.{HoldsListPlace, IsList}
 use Rattle.bucket_codec.specs.BucketPlace.{HoldsPointers}
 use Rattle.record_views.specs.Buckets.{IsBucketShape}
 use Rattle.type_rows.specs.declared.section.Section.{Section}
@@ -65,3 +65,12 @@ pub holds_buckets : (shape : Shape) (section : Section) (place : ℕ) → IsBuck
 holds_buckets (Shape.Set element) section place kind readable inside = holds_set element section place readable inside
 holds_buckets (Shape.Map key value) section place kind readable inside = holds_map key value section place readable inside
 holds_buckets _ section place kind readable inside = absurd kind
+
+-- Those of a list.
+pub holds_some_list : (shape : Shape) (section : Section) (place : ℕ) → IsList shape → IsReadable shape section → place < places_of section.max → HoldsListPlace section.widths section.first place
+holds_some_list (Shape.List element) section place kind readable inside = holds_list element section place readable inside
+holds_some_list _ section place kind readable inside = absurd kind
+
+pub list_widths : (shape : Shape) (section : Section) → IsList shape → IsReadable shape section → (length section.widths ≡ 2) × (slice_index section.widths 1 ≤ 64)
+list_widths (Shape.List element) section kind readable = (readable.well.wide.0, readable.well.wide.1 1 0 (omega (arith, readable.well.wide.0)))
+list_widths _ section kind readable = absurd kind

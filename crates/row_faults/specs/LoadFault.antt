@@ -2,7 +2,7 @@
 use Rattle.schema_model.specs.declared.schema.Shape.{Shape}
 use Rattle.type_rows.specs.declared.section.Section.{Section}
 use Rattle.type_rows.specs.declared.fault.RowFault.{RowFault}
-use Rattle.type_rows.specs.Layout.{places_of}
+use Rattle.type_rows.specs.Layout.{places_of, record_bits}
 use Rattle.type_rows.specs.Loads.{SectionIs, layout_of}
 use Rattle.row_faults.specs.Ordinals.{HasNoPlace, HoldsNowhere, IsLeast}
 use Rattle.row_faults.specs.Places.{FirstPlaceFails}
@@ -18,4 +18,4 @@ load_tests shape section = record {
 }
 
 abbrev pub FailsLoad : Shape → Section → RowFault → Type 0
-FailsLoad shape section = FailsFirst shape (layout_of section) (load_tests shape section)
+FailsLoad shape section = FailsFirst shape (record_bits shape section.widths) (layout_of section) (load_tests shape section)

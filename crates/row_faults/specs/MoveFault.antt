@@ -53,4 +53,4 @@ move_tests shape patch old = record {
 }
 
 abbrev pub FailsMove : Shape → PatchSection → RowMap → RowFault → Type 0
-FailsMove shape patch old = FailsFirst shape (patch_layout patch) (move_tests shape patch old)
+FailsMove shape patch old = FailsFirst shape patch.own (patch_layout patch) (move_tests shape patch old)

@@ -1,5 +1,5 @@
 -- Lists, sets and maps where they stand: how many items they have, and what the test of a place tells.
-use Rattle.std.specs.Prelude.{◌-◌, ℕ, List, Result, Ok, Err}
+use Rattle.std.specs.Prelude.{◌<◌, ◌-◌, ℕ, slice_index, Result, Ok, Err}
 use Rattle.schema_model.specs.declared.schema.Shape.{Shape}
 use Rattle.row_model.specs.declared.packed.PlaceFault.{PlaceFault}
 use Rattle.list_codec.specs.ListPlace as lists
@@ -15,26 +15,20 @@ items_at (Shape.List element) section place = lists.end_at section.widths sectio
 items_at (Shape.Set element) section place = bucket_count (buckets.size_at section.widths section.first place)
 items_at (Shape.Map key value) section place = bucket_count (buckets.size_at section.widths section.first place)
 
--- How many items stand at a place: elements of a list, buckets of a set or map.
-abbrev pub standing_at : Shape → Section → ℕ → ℕ
-standing_at (Shape.Object key fields) section place = 0
-standing_at (Shape.List element) section place = lists.end_at section.widths section.first place - lists.start_at section.widths section.first place
-standing_at (Shape.Set element) section place = buckets.end_at section.widths section.first place - buckets.start_at section.widths section.first place
-standing_at (Shape.Map key value) section place = buckets.end_at section.widths section.first place - buckets.start_at section.widths section.first place
+-- The test of the places may end with want of memory: it walks runs of buckets, or elements of more than 32 bits.
+abbrev pub MayLackMemory : Shape → Section → Type 0
+MayLackMemory (Shape.Object key fields) section = ⊥
+MayLackMemory (Shape.List element) section = 32 < slice_index section.widths 1
+MayLackMemory (Shape.Set element) section = Unit {0}
+MayLackMemory (Shape.Map key value) section = Unit {0}
 
 -- The rows of the type are runs of items.
 abbrev pub HasRuns : Shape → Type 0
 HasRuns (Shape.Object key fields) = ⊥
 HasRuns _ = Unit {0}
 
--- What each answer to the test of a place tells.
+-- What each answer to the test of a place of a SET or MAP tells.
 abbrev pub TellsPlaceTest : Shape → Section → ℕ → Result (Unit {0}) PlaceFault → Type 0
 TellsPlaceTest shape section place (Ok done) = SpellsSome shape section place
 TellsPlaceTest shape section place (Err (PlaceFault.Bad reason)) = Fails shape section place reason
 TellsPlaceTest shape section place (Err PlaceFault.Memory) = Unit {0}
-
--- The same of a place of a LIST.
-abbrev pub TellsListTest : Section → ℕ → Result (Unit {0}) PlaceFault → Type 0
-TellsListTest section place (Ok done) = (ordinals : List ℕ) × lists.SpellsList section.widths section.total section.first section.second place ordinals
-TellsListTest section place (Err (PlaceFault.Bad reason)) = lists.FailsListRow section.widths section.total section.first section.second place reason
-TellsListTest section place (Err PlaceFault.Memory) = Unit {0}

@@ -8,7 +8,7 @@ use Rattle.schema_model.specs.declared.limit.Limit.TheVariants.{Words, Bytes}
 use Rattle.schema_model.specs.Limit.{number_of_limit}
 use Rattle.row_model.specs.Table.{RowMap}
 use Rattle.type_rows.specs.declared.fault.RowFault.{RowFault}
-use Rattle.type_rows.specs.Layout.{Layout, fixed_words}
+use Rattle.type_rows.specs.Layout.{Layout, counted_words}
 use Rattle.type_rows.specs.Holds.{HoldsRows}
 use Rattle.type_rows.specs.WordsHeld.{bytes_held}
 use Rattle.row_faults.specs.Widths.{FirstUnheld}
@@ -24,9 +24,9 @@ pub record Tests : Type 1 where
   -- it leads to these rows, whether the widths hold them or not
   pub Leads : RowMap → Type 0
 
--- The fixed words of rows at a layout pass their limit.
-abbrev pub PassWords : Shape → Layout → RowMap → Type 0
-PassWords shape layout rows = number_of_limit Words < fixed_words shape layout (values rows)
+-- The words of rows at a layout pass their limit; of the record of an OBJECT so many bits are counted.
+abbrev pub PassWords : Shape → ℕ → Layout → RowMap → Type 0
+PassWords shape own layout rows = number_of_limit Words < counted_words shape own layout (values rows)
 
 -- The variable bytes of rows pass their limit.
 abbrev pub PassBytes : RowMap → Type 0
@@ -44,13 +44,13 @@ FailsAt shape layout tests Reason.BadWidth ordinal = (rows : RowMap) × tests.Le
 FailsAt shape layout tests reason ordinal = tests.Ordered × tests.BadPlace reason ordinal
 
 -- The first fault is that the rows pass a limit.
-abbrev pub FailsLimit : Shape → Layout → Tests → Limit → Type 0
-FailsLimit shape layout tests Words = (rows : RowMap) × LeadsHeld shape layout tests rows × PassWords shape layout rows
-FailsLimit shape layout tests Bytes = (rows : RowMap) × LeadsHeld shape layout tests rows × (PassWords shape layout rows → ⊥) × PassBytes rows
-FailsLimit shape layout tests _ = ⊥
+abbrev pub FailsLimit : Shape → ℕ → Layout → Tests → Limit → Type 0
+FailsLimit shape own layout tests Words = (rows : RowMap) × LeadsHeld shape layout tests rows × PassWords shape own layout rows
+FailsLimit shape own layout tests Bytes = (rows : RowMap) × LeadsHeld shape layout tests rows × (PassWords shape own layout rows → ⊥) × PassBytes rows
+FailsLimit shape own layout tests _ = ⊥
 
 -- The first fault; want of memory may come in place of any answer.
-abbrev pub FailsFirst : Shape → Layout → Tests → RowFault → Type 0
-FailsFirst shape layout tests (RowFault.At reason ordinal) = FailsAt shape layout tests reason ordinal
-FailsFirst shape layout tests (RowFault.Limit limit) = FailsLimit shape layout tests limit
-FailsFirst shape layout tests RowFault.Memory = Unit {0}
+abbrev pub FailsFirst : Shape → ℕ → Layout → Tests → RowFault → Type 0
+FailsFirst shape own layout tests (RowFault.At reason ordinal) = FailsAt shape layout tests reason ordinal
+FailsFirst shape own layout tests (RowFault.Limit limit) = FailsLimit shape own layout tests limit
+FailsFirst shape own layout tests RowFault.Memory = Unit {0}

@@ -8,9 +8,6 @@ mod runs;
 mod sums;
 mod test;
 
-pub use ordinals::{
-    first_bad_added, first_bad_ordinal, first_bad_removed, first_staying_outside,
-    first_without_place,
-};
+pub use ordinals::first_bad_ordinal;
 pub use sums::Sums;
 pub use test::test_section;

@@ -28,7 +28,7 @@ fn has(live: &OrdinalSet, number: u64) -> bool
 
 /// The first removed ordinal that is not above the one before it, or is not live.
 #[tactic(auto, using(crate::proofs::Walks::begun, crate::proofs::Walks::walked_on, crate::proofs::Walks::low_number, crate::proofs::Walks::high_number, crate::proofs::Walks::found_first, crate::proofs::Walks::found_none))]
-pub fn first_bad_removed(live: &OrdinalSet, removed: &[u64]) -> Option<u64>
+fn first_bad_removed(live: &OrdinalSet, removed: &[u64]) -> Option<u64>
     ensures { MatchOption result (NoneFails (FailsRemoved live.now removed.now) removed.now) (FirstFails (FailsRemoved live.now removed.now) removed.now) }
 {
     let mut from: u128 = 0;
@@ -43,7 +43,7 @@ pub fn first_bad_removed(live: &OrdinalSet, removed: &[u64]) -> Option<u64>
 
 /// The first added ordinal that is not above the one before it, has none of so many places, or is live.
 #[tactic(auto, using(crate::proofs::Walks::begun, crate::proofs::Walks::walked_on, crate::proofs::Walks::low_number, crate::proofs::Walks::high_number, crate::proofs::Walks::found_first, crate::proofs::Walks::found_none))]
-pub fn first_bad_added(live: &OrdinalSet, places: u64, added: &[u64]) -> Option<u64>
+fn first_bad_added(live: &OrdinalSet, places: u64, added: &[u64]) -> Option<u64>
     ensures { MatchOption result (NoneFails (FailsAdded live.now places added.now) added.now) (FirstFails (FailsAdded live.now places added.now) added.now) }
 {
     let mut from: u128 = 0;
@@ -58,7 +58,7 @@ pub fn first_bad_added(live: &OrdinalSet, places: u64, added: &[u64]) -> Option<
 
 /// The least live ordinal that has none of so many places.
 #[tactic(auto, using(crate::proofs::Walks::next_without_place))]
-pub fn first_without_place(live: &OrdinalSet, places: u32) -> Option<u32>
+pub(crate) fn first_without_place(live: &OrdinalSet, places: u32) -> Option<u32>
     ensures least { MatchOption result (HoldsNowhere (HasNoPlace live.now places)) (IsLeast (HasNoPlace live.now places)) }
     ensures small { IfSome result (λ ordinal. ordinal < 2 ^ 32 - 1) }
 {
@@ -67,7 +67,7 @@ pub fn first_without_place(live: &OrdinalSet, places: u32) -> Option<u32>
 
 /// The least live ordinal that is not removed and has none of so many places. The removed ones rise.
 #[tactic(auto, using(crate::proofs::Walks::none_before, crate::proofs::Walks::removed_passed, crate::proofs::Walks::stays_first, crate::proofs::Walks::stays_nowhere))]
-pub fn first_staying_outside(live: &OrdinalSet, removed: &[u64], places: u32) -> Option<u64>
+fn first_staying_outside(live: &OrdinalSet, removed: &[u64], places: u32) -> Option<u64>
     requires { IsStrictlyIncreasing removed.now }
     ensures { MatchOption result (HoldsNowhere (StaysOutside live.now removed.now places)) (IsLeast (StaysOutside live.now removed.now places)) }
 {

@@ -28,8 +28,14 @@ use schema_model::{Field, FieldKind, Reason, Shape};
 use std::alloc::{AllocError, Global};
 use type_rows::{RowFault, Section};
 
-/// Tests the places of the live ordinals of an OBJECT: the fault is that of the first that spells no record.
-fn test_records(shape: &Shape, section: &Section, live: &[u32]) -> Result<(), RowFault>
+/// Tests the places of the live ordinals of an OBJECT: the fault is that of the first that spells no record. It takes memory only where spans of
+/// a STRING's bytes overlap.
+fn test_records(
+    alloc: Global,
+    shape: &Shape,
+    section: &Section,
+    live: &[u32],
+) -> Result<(), RowFault>
     requires object { IsObject shape.now }
     requires readable { IsReadable shape.now section.now }
     requires placed { HoldsNowhere (HasNoPlace section.now.live (places_of section.now.max)) }
@@ -40,7 +46,8 @@ fn test_records(shape: &Shape, section: &Section, live: &[u32]) -> Result<(), Ro
     let widths = section.widths.as_slice();
     let first = section.first.as_slice();
     let areas = section.areas.as_slice();
-    match first_fault(shape.fields(), widths, first, areas, live) {
+    let found = first_fault(alloc, shape.fields(), widths, first, areas, live)?;
+    match found {
         None => Ok(()),
         Some((place, reason)) => Err(RowFault::At(reason, u64::from(place))),
     }
@@ -263,7 +270,7 @@ pub(crate) fn lay_out(
     ensures tells { MatchResult result (λ laid. IsLaidOut shape.now section.now laid.0 laid.1) (FailsLoad shape.now section.now) }
     ensures long { IfOk result (λ laid. length laid.0.lengths ≡ length (shape_fields shape.now)) }
 {
-    test_records(shape, section, live)?;
+    test_records(alloc, shape, section, live)?;
     let lengths = column_lengths(alloc, shape, section, live)?;
     if hold_ends(
         shape.fields(),

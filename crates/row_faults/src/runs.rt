@@ -1,10 +1,11 @@
 //! Lists, sets and maps, tested where they stand.
-ghost use Rattle.std.specs.Prelude.{◌≡◌, ◌+◌, ◌-◌, ◌*◌, ◌^◌, ◌<◌, ◌≤◌, ℕ, [], IfOk, MatchOption, MatchResult, length};
+ghost use Rattle.std.specs.Prelude.{◌≡◌, ◌+◌, ◌-◌, ◌*◌, ◌^◌, ◌<◌, ◌≤◌, ℕ, [], Err, IfOk, MatchOption, MatchResult, length, slice_index};
+ghost use Rattle.type_rows.specs.declared.fault.RowFault.{RowFault};
 ghost use Rattle.std.specs.FinMap.{values};
 ghost use Rattle.std.specs.List.Sorted.{IsStrictlyIncreasing};
 ghost use Rattle.schema_model.specs.Parts.{shape_fields};
 ghost use Rattle.row_model.specs.Table.{RowMap};
-ghost use Rattle.list_codec.specs.ListPlace.{HoldsListPlace, start_at, end_at};
+ghost use Rattle.list_codec.specs.ListPlace.{HoldsListPlace, IsList, start_at, end_at};
 ghost use Rattle.bucket_codec.specs.BucketPlace.{HoldsPointers, place_width, size_at};
 ghost use Rattle.record_views.specs.Buckets.{IsBucketShape};
 ghost use Rattle.type_rows.specs.Layout.{places_of};
@@ -13,13 +14,13 @@ ghost use Rattle.type_rows.specs.WellFormed.{IsReadable};
 ghost use Rattle.row_faults.specs.LoadFault.{FailsLoad};
 ghost use Rattle.row_faults.specs.Ordinals.{HasNoPlace, HoldsNowhere};
 ghost use Rattle.row_faults.specs.Places.{SpellsSome};
-ghost use Rattle.row_faults.specs.RunItems.{HasRuns, TellsListTest, TellsPlaceTest, items_at, standing_at};
+ghost use Rattle.row_faults.specs.RunItems.{HasRuns, MayLackMemory, TellsPlaceTest, items_at};
 ghost use Rattle.row_faults.specs.Sums.{AreLaid, IsLaidOut, IsOfRows};
 
 use crate::Sums;
 use bit_array::{element, element_at};
 use bucket_codec::{buckets_for, run_length};
-use record_views::{Tested, list_fault, test_place};
+use record_views::{Lists, Tested, test_place};
 use row_model::{PlaceFault, Words};
 use schema_model::{Reason, Schema, Shape};
 use std::alloc::Global;
@@ -40,22 +41,6 @@ fn list_length(widths: &[u32], first: &[u64], place: u64) -> u64
         return end;
     }
     end.saturating_sub(element_at(first, place - 1, width))
-}
-
-/// How many elements or buckets stand at a place.
-fn standing(shape: &Shape, section: &Section, place: u64) -> u64
-    requires readable { IsReadable shape.now section.now }
-    requires place { place < places_of section.now.max }
-    ensures { result ≡ standing_at shape.now section.now place }
-{
-    let widths = section.widths.as_slice();
-    let first = section.first.as_slice();
-    match shape {
-        Shape::Object(_, _) => 0,
-        Shape::List(_) => list_length(widths, first, place),
-        Shape::Set(_) => run_length(widths, first, place),
-        Shape::Map(_, _) => run_length(widths, first, place),
-    }
 }
 
 /// Whether the place of a SET or MAP spells a row, and else why not. It takes memory only for a run whose keys stand far behind their homes, as
@@ -107,36 +92,62 @@ fn read_buckets(
     }
 }
 
-/// Whether the place of a LIST spells a row, and else why not.
-fn test_list(section: &Section, place: u64) -> Result<(), PlaceFault>
-    requires { HoldsListPlace section.now.widths section.now.first place }
-    ensures { TellsListTest section.now place result }
+/// Tests the places of the live ordinals of a LIST by rising ordinal: the fault is that of the first that spells no row. It takes memory only where
+/// lists share elements of more than 32 bits.
+fn test_lists(alloc: Global, shape: &Shape, section: &Section, live: &[u32]) -> Result<(), RowFault>
+    requires list { IsList shape.now }
+    requires readable { IsReadable shape.now section.now }
+    requires placed { HoldsNowhere (HasNoPlace section.now.live (places_of section.now.max)) }
+    requires live { live.now ≡ section.now.live }
+    requires rising { IsStrictlyIncreasing live.now }
+    ensures tells { MatchResult result (λ _. IsOfRows shape.now section.now) (FailsLoad shape.now section.now) }
+    ensures memory { result ≡ Err RowFault.Memory → 32 < slice_index section.now.widths 1 }
 {
     let widths = section.widths.as_slice();
     let first = section.first.as_slice();
-    let second = section.second.as_slice();
-    match list_fault(widths, section.total, first, second, place) {
-        None => Ok(()),
-        Some(reason) => Err(PlaceFault::Bad(reason)),
+    let mut lists = Lists::new(alloc, section.second.as_slice(), widths[1]);
+    for ordinal in live {
+        let place = u64::from(*ordinal);
+        if let Some(reason) = lists.fault(alloc, widths, section.total, first, place)? {
+            return Err(RowFault::At(reason, place));
+        }
     }
+    Ok(())
 }
-
-/// Whether the place of a LIST, SET or MAP spells a row, and else why not.
-fn test_run(alloc: Global, schema: &Schema, section: &Section, place: u64) -> Result<(), PlaceFault>
-    requires runs { HasRuns schema.now.shape }
-    requires readable { IsReadable schema.now.shape section.now }
-    requires place { place < places_of section.now.max }
-    ensures { TellsPlaceTest schema.now.shape section.now place result }
-{
-    match &schema.shape {
-        Shape::List(_) => test_list(section, place),
-        _ => test_buckets(alloc, schema, section, place),
-    }
-}
-
-/// Tests the places of the live ordinals of a LIST, SET or MAP by rising ordinal.
+/// Tests the places of the live ordinals of a SET or MAP by rising ordinal.
 ///
-/// The fault is that of the first place that spells no row. `Memory` comes where more than `MOST_ITEMS` elements or buckets would be walked.
+/// The fault is that of the first place that spells no row. `Memory` comes where more than `MOST_ITEMS` buckets would be walked.
+fn test_sets(
+    alloc: Global,
+    schema: &Schema,
+    section: &Section,
+    live: &[u32],
+) -> Result<(), RowFault>
+    requires buckets { IsBucketShape schema.now.shape }
+    requires readable { IsReadable schema.now.shape section.now }
+    requires placed { HoldsNowhere (HasNoPlace section.now.live (places_of section.now.max)) }
+    requires live { live.now ≡ section.now.live }
+    requires rising { IsStrictlyIncreasing live.now }
+    ensures { MatchResult result (λ _. IsOfRows schema.now.shape section.now) (FailsLoad schema.now.shape section.now) }
+{
+    let mut walked: u64 = 0;
+    for ordinal in live {
+        let place = u64::from(*ordinal);
+        match test_buckets(alloc, schema, section, place) {
+            Ok(()) => {}
+            Err(PlaceFault::Bad(reason)) => return Err(RowFault::At(reason, place)),
+            Err(PlaceFault::Memory) => return Err(RowFault::Memory),
+        }
+        let buckets = run_length(section.widths.as_slice(), section.first.as_slice(), place);
+        walked = walked.saturating_add(buckets);
+        if walked > MOST_ITEMS {
+            return Err(RowFault::Memory);
+        }
+    }
+    Ok(())
+}
+
+/// Tests the places of the live ordinals of a LIST, SET or MAP by rising ordinal: the fault is that of the first that spells no row.
 pub(crate) fn test_runs(
     alloc: Global,
     schema: &Schema,
@@ -148,22 +159,13 @@ pub(crate) fn test_runs(
     requires placed { HoldsNowhere (HasNoPlace section.now.live (places_of section.now.max)) }
     requires live { live.now ≡ section.now.live }
     requires rising { IsStrictlyIncreasing live.now }
-    ensures { MatchResult result (λ _. IsOfRows schema.now.shape section.now) (FailsLoad schema.now.shape section.now) }
+    ensures tells { MatchResult result (λ _. IsOfRows schema.now.shape section.now) (FailsLoad schema.now.shape section.now) }
+    ensures memory { result ≡ Err RowFault.Memory → MayLackMemory schema.now.shape section.now }
 {
-    let mut walked: u64 = 0;
-    for ordinal in live {
-        let place = u64::from(*ordinal);
-        match test_run(alloc, schema, section, place) {
-            Ok(()) => {}
-            Err(PlaceFault::Bad(reason)) => return Err(RowFault::At(reason, place)),
-            Err(PlaceFault::Memory) => return Err(RowFault::Memory),
-        }
-        walked = walked.saturating_add(standing(&schema.shape, section, place));
-        if walked > MOST_ITEMS {
-            return Err(RowFault::Memory);
-        }
+    match &schema.shape {
+        Shape::List(_) => test_lists(alloc, &schema.shape, section, live),
+        _ => test_sets(alloc, schema, section, live),
     }
-    Ok(())
 }
 
 /// The width of a place of a SET or MAP: of a pointer and a size.
@@ -222,7 +224,8 @@ pub(crate) fn lay_out_runs(shape: &Shape, section: &Section, live: &[u32]) -> Re
     requires readable { IsReadable shape.now section.now }
     requires leads { IsOfRows shape.now section.now }
     requires live { live.now ≡ section.now.live }
-    ensures { MatchResult result (λ items. (rows : RowMap) → SectionIs shape.now section.now rows → AreLaid shape.now section.now.widths (values rows) items [] 0) (FailsLoad shape.now section.now) }
+    ensures tells { MatchResult result (λ items. (rows : RowMap) → SectionIs shape.now section.now rows → AreLaid shape.now section.now.widths (values rows) items [] 0) (FailsLoad shape.now section.now) }
+    ensures never { result ≡ Err RowFault.Memory → ⊥ }
 {
     let width = section.widths.as_slice()[0];
     let mut items: u64 = 0;
@@ -250,6 +253,7 @@ pub(crate) fn lay_out(
     requires rising { IsStrictlyIncreasing live.now }
     ensures tells { MatchResult result (λ laid. IsLaidOut schema.now.shape section.now laid.0 laid.1) (FailsLoad schema.now.shape section.now) }
     ensures long { IfOk result (λ laid. length laid.0.lengths ≡ length (shape_fields schema.now.shape)) }
+    ensures memory { result ≡ Err RowFault.Memory → MayLackMemory schema.now.shape section.now }
 {
     test_runs(alloc, schema, section, live)?;
     let items = lay_out_runs(&schema.shape, section, live)?;

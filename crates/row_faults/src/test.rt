@@ -1,24 +1,27 @@
 //! The test of a section of a snapshot: its first fault, or what its rows add up to. No row is made.
-ghost use Rattle.std.specs.Prelude.{◌≡◌, IfOk, MatchResult, length};
+ghost use Rattle.std.specs.Prelude.{◌≡◌, ◌<◌, Err, IfOk, MatchResult, length};
 ghost use Rattle.std.specs.List.Sorted.{IsStrictlyIncreasing};
 ghost use Rattle.schema_model.specs.Parts.{shape_fields};
-ghost use Rattle.type_rows.specs.Layout.{places_of};
+ghost use Rattle.type_rows.specs.declared.fault.RowFault.{RowFault};
+ghost use Rattle.type_rows.specs.Layout.{item_bits, places_of};
 ghost use Rattle.type_rows.specs.WellFormed.{IsReadable};
 ghost use Rattle.row_faults.specs.LoadFault.{FailsLoad};
 ghost use Rattle.row_faults.specs.Ordinals.{HasNoPlace, HoldsNowhere};
 ghost use Rattle.row_faults.specs.Sums.{IsLaidOut, TellsTest};
 
-use crate::{Sums, first_without_place, records, runs};
+use crate::ordinals::first_without_place;
+use crate::{Sums, records, runs};
 use schema_model::{Limit, MAX_BYTES, MAX_WORDS, Reason, Schema, Shape};
 use std::alloc::Global;
-use type_rows::{RowFault, Section, fixed_words, place_count};
+use type_rows::{MOST_ITEMS, RowFault, Section, fixed_words, place_count};
 
 /// What the rows of a section add up to, or its first fault: of its ordinals, its places, its widths, the limit on words and the limit on
 /// bytes, tried one after the other. No row is made: it takes memory for the list of the live ordinals and a number a field.
 ///
 /// `At` names an ordinal: `BadOrdinals` the least that has no place, `BadPointers`, `BadText`, `BadValue` and `BadBuckets` the first whose place
 /// spells no row, `BadWidth` the first whose row the widths cannot hold when the live rows are laid out with no place between them. `Limit`
-/// names the limit on words or bytes that the rows pass. `Memory` comes also where more than `MOST_ITEMS` elements or buckets would be walked.
+/// names the limit on words or bytes that the rows pass. `Memory` comes also where more than `MOST_ITEMS` buckets would be walked, and
+/// where the section has no other fault and its rows more than `MOST_ITEMS` elements of no bits.
 pub fn test_section(alloc: Global, schema: &Schema, section: &Section) -> Result<Sums, RowFault>
     requires { IsReadable schema.now.shape section.now }
     ensures tells { TellsTest schema.now.shape section.now result }
@@ -64,10 +67,13 @@ fn lay_out(
 }
 
 /// The sums of rows that are laid out, where they keep the limits on words and bytes.
+///
+/// `Memory` comes where there are more than `MOST_ITEMS` items, which is within the limits only if they have no bits.
 fn within_limits(shape: &Shape, section: &Section, sums: Sums, bytes: u64) -> Result<Sums, RowFault>
     requires { IsLaidOut shape.now section.now sums bytes }
     ensures tells { TellsTest shape.now section.now result }
     ensures same { IfOk result (λ same. same ≡ sums) }
+    ensures memory { result ≡ Err RowFault.Memory → (item_bits shape.now section.now.widths ≡ 0) × (MOST_ITEMS < sums.items) }
 {
     let widths = section.widths.as_slice();
     let words = fixed_words(shape, section.max, widths, sums.items);
@@ -76,6 +82,9 @@ fn within_limits(shape: &Shape, section: &Section, sums: Sums, bytes: u64) -> Re
     }
     if bytes > MAX_BYTES {
         return Err(RowFault::Limit(Limit::Bytes));
+    }
+    if sums.items > MOST_ITEMS {
+        return Err(RowFault::Memory);
     }
     Ok(sums)
 }

@@ -3,9 +3,12 @@ pub mod Dangling
 pub mod Key
 pub mod Lent
 pub mod PlainTree
+pub mod Reach
 pub mod Row
+pub mod Seen
 pub mod Table
 pub mod Tree
 pub mod Unfold
-pub mod RowKey
+pub mod View
 pub mod BothStates
+pub mod Before

@@ -26,6 +26,7 @@ use Rattle.type_rows.specs.Layout.{places_of, place_bits, items_of_row, item_cou
 use Rattle.type_rows.specs.Loads.{Spells, SectionIs, Loads, layout_of}
 use Rattle.type_rows.specs.WellFormed.{AreWidths, IsReadable}
 use Rattle.type_rows.specs.WordsHeld.{part_bytes, field_bytes, bytes_held}
+use Rattle.type_rows.proofs.CountedWords.{all_words}
 use Rattle.row_packing.specs.declared.chosen.Chosen.{Chosen}
 use Rattle.row_packing.specs.Chosen.{IsGreatestOrdinal, IsLiveInEither, chosen_widths, chosen_total, IsRowOf, KeepsCounts}
 use Rattle.row_packing.specs.Packs.{PacksPlaces}
@@ -266,7 +267,7 @@ module _ (shape : Shape) (new : Table) (type_index : ℕ) (chosen : Chosen) (sec
       record {
         is = section_is shape new type_index chosen section can written;
         held = section_holds;
-        within = record { words = few; bytes = subst (λ (rows : List Row). bytes_held rows ≤ 2 ^ 25) (values_all (rows_in new type_index)) can.suits.keeps.new_bytes };
+        within = record { words = (let same = all_words shape (layout_of section) (values (rows_in new type_index)) in omega (arith, same, few)); bytes = subst (λ (rows : List Row). bytes_held rows ≤ 2 ^ 25) (values_all (rows_in new type_index)) can.suits.keeps.new_bytes };
       }
 
   pub section_holds_before : Holds shape (layout_of section) (rows_in can.suits.old type_index)

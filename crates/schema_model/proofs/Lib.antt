@@ -1,5 +1,7 @@
 pub mod FirstBroken
 pub mod Fronts
+pub mod Growing
+pub mod Growths
 pub mod Images
 pub mod Indexing
 pub mod JavaSizes
@@ -11,4 +13,5 @@ pub mod RuleTests
 pub mod SameLists
 pub mod Spellable
 pub mod Spellings
+pub mod Walking
 pub mod Ways

@@ -264,7 +264,7 @@ same_only schemas u f g (s, at, own) (r, there, again) =
     let lists : f ∷ [] ≡ g ∷ [] = sym own ∙ ap fields_of (same_schema schemas u s r at there) ∙ again in cc
 
 -- a field goes on in one way
-goes_once : (schemas : List Schema) (kind : FieldKind) (p q : List ℕ) → GoesOn schemas kind p → GoesOn schemas kind q → p ≡ q
+pub goes_once : (schemas : List Schema) (kind : FieldKind) (p q : List ℕ) → GoesOn schemas kind p → GoesOn schemas kind q → p ≡ q
 goes_once schemas kind [] [] a b = refl
 goes_once schemas kind [] (j ∷ q) a (v, g, (name, refers, index), has, zeroth, way) = let e : None ≡ Some name = sym a ∙ refers in cc
 goes_once schemas kind (i ∷ p) [] (u, f, (name, refers, index), has, zeroth, way) b = let e : None ≡ Some name = sym b ∙ refers in cc

@@ -9,6 +9,9 @@ use Rattle.hol_varint.specs.TextUnits.{text_units}
 use Rattle.schema_model.specs.Parts.{name_index, type_names}
 use Rattle.schema_model.specs.Model.{BreaksAt, IsKept}
 use Rattle.schema_model.specs.declared.schema.Schema.{Schema}
+use Rattle.schema_model.specs.declared.schema.Shape.{Shape}
+use Rattle.schema_model.specs.declared.model.walk_path.WalkPart.{WalkPart}
+use Rattle.schema_model.specs.WalkPath.{part_name}
 use Rattle.schema_model.specs.declared.model.rule.Rule.{Rule}
 use Rattle.schema_model.specs.declared.model.rule.Rule.TheVariants.{TooMany, DuplicateName, TooDeep}
 use Rattle.schema_model.specs.Path.{RefersTo}
@@ -68,9 +71,9 @@ TellsReferred schemas kind (Some u) = RefersTo schemas kind u
 TellsReferred schemas kind None = (u : ℕ) → ¬ RefersTo schemas kind u
 
 -- The fields of a way were added, or there is no such way.
-abbrev pub TellsWay : {T : Type 0} → (List ℕ → Type 0) → List ℕ → List ℕ → Result T PathFault → Type 0
-TellsWay way old new (Ok x) = (more : List ℕ) × (new ≡ old ++ more) × way more
-TellsWay way old new (Err Bad) = (more : List ℕ) → ¬ way more
+abbrev pub TellsWay : {I T : Type 0} → (List I → Type 0) → List I → List I → Result T PathFault → Type 0
+TellsWay {I} way old new (Ok x) = (more : List I) × (new ≡ old ++ more) × way more
+TellsWay {I} way old new (Err Bad) = (more : List I) → ¬ way more
 TellsWay way old new (Err Want) = Unit {0}
 
 -- These fields are a way, or there is none.
@@ -78,6 +81,17 @@ abbrev pub TellsFields : (List ℕ → Type 0) → Result (List ℕ) PathFault �
 TellsFields way (Ok fields) = way fields
 TellsFields way (Err Bad) = (fields : List ℕ) → ¬ way fields
 TellsFields way (Err Want) = Unit {0}
+
+-- These parts are a walk, or there is none.
+abbrev pub TellsParts : (List WalkPart → Type 0) → Result (List WalkPart) PathFault → Type 0
+TellsParts walk (Ok parts) = walk parts
+TellsParts walk (Err Bad) = (parts : List WalkPart) → ¬ walk parts
+TellsParts walk (Err Want) = Unit {0}
+
+-- The part of a name, if a type of this shape has one.
+abbrev pub TellsPart : Shape → List ℕ → Option WalkPart → Type 0
+TellsPart shape name (Some part) = part_name shape part ≡ Some name
+TellsPart shape name None = (part : WalkPart) → part_name shape part ≡ Some name → ⊥
 
 -- Whether a name or a path has too many bytes of Java UTF.
 abbrev pub is_long_text : List ℕ → Bool

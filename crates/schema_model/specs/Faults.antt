@@ -2,9 +2,11 @@
 use Rattle.std.specs.Prelude.{◌≡◌, ℕ, List, Result, Ok, Err}
 use Rattle.schema_model.specs.Model.{IsModel, IsFirstBroken}
 use Rattle.schema_model.specs.Path.{Resolves}
+use Rattle.schema_model.specs.WalkPath.{WalkResolves}
 use Rattle.schema_model.specs.declared.model.faults.PathFault.{PathFault}
 use Rattle.schema_model.specs.declared.model.faults.PathFault.TheVariants.{BadPath, Memory as Want}
 use Rattle.schema_model.specs.declared.model.path.Path.{Path}
+use Rattle.schema_model.specs.declared.model.walk_path.WalkPath.{WalkPath}
 use Rattle.schema_model.specs.declared.schema.Schema.{Schema}
 use Rattle.schema_model.specs.declared.model.faults.ModelFault.{ModelFault}
 use Rattle.schema_model.specs.declared.model.faults.ModelFault.TheVariants.{Broken, Memory}
@@ -34,3 +36,9 @@ abbrev pub TellsPath : List Schema → ℕ → List ℕ → Result Path PathFaul
 TellsPath schemas t text (Ok path) = Resolves schemas t text path
 TellsPath schemas t text (Err BadPath) = (path : Path) → ¬ Resolves schemas t text path
 TellsPath schemas t text (Err Want) = Unit {0}
+
+-- What each answer tells of a walk path's text.
+abbrev pub TellsWalk : List Schema → ℕ → List ℕ → Result WalkPath PathFault → Type 0
+TellsWalk schemas t text (Ok path) = WalkResolves schemas t text path
+TellsWalk schemas t text (Err BadPath) = (path : WalkPath) → ¬ WalkResolves schemas t text path
+TellsWalk schemas t text (Err Want) = Unit {0}

@@ -1,5 +1,6 @@
 pub mod Checked
 pub mod Faults
+pub mod Growth
 pub mod Limit
 pub mod Model
 pub mod Parts
@@ -7,3 +8,4 @@ pub mod Path
 pub mod Reason
 pub mod Rule
 pub mod Schema
+pub mod WalkPath

@@ -1,5 +1,5 @@
 -- The parts of a schema that rules and paths speak of: its fields, the types that it names, its key paths, and all its texts.
-use Rattle.std.specs.Prelude.{ℕ, List, [], ◌∷◌, ◌++◌, Option, Some, None, map}
+use Rattle.std.specs.Prelude.{◌≢◌, ℕ, AllPairs, List, [], ◌∷◌, ◌++◌, Option, Some, None, map}
 use Rattle.std.specs.List.{filter_map, flat_map, position_from}
 use Rattle.std.specs.Option.{option_to_list, unwrap_or}
 use Rattle.std.specs.Str.{bytes_eq}
@@ -19,6 +19,10 @@ shape_fields (Map key value) = []
 
 abbrev pub fields_of : Schema → List Field
 fields_of schema = shape_fields schema.shape
+
+-- No two of these fields have one name.
+abbrev pub AreApart : List Field → Type 0
+AreApart fields = AllPairs (λ field other. field.name ≢ other.name) fields
 
 -- the names of the fields
 abbrev pub field_names : List Field → List (List ℕ)

@@ -9,15 +9,18 @@ mod reason;
 mod schema;
 
 pub use limit::{
-    Limit, MAX_BLOB_BYTES, MAX_BYTES, MAX_DEPTH, MAX_FIELDS, MAX_INDEXES, MAX_ITEMS,
-    MAX_NAME_BYTES, MAX_NODES, MAX_ORDINALS, MAX_TYPES, MAX_WORDS,
+    Limit, MAX_BLOB_BYTES, MAX_BYTES, MAX_DEPTH, MAX_ENTRIES, MAX_FIELDS, MAX_INDEXES, MAX_ITEMS,
+    MAX_NAME_BYTES, MAX_NODES, MAX_ORDINALS, MAX_TYPES, MAX_WALKS, MAX_WORDS,
 };
-pub use lists::{Fields, NamePairs, Names, Paths, Schemas};
+pub use lists::{Fields, NamePairs, Names, Paths, Schemas, WalkParts};
 pub use model::faults::{ModelFault, PathFault};
+pub use model::growth::grows;
 pub use model::path::Path;
 pub use model::rule::Rule;
-pub use model::{Model, first_too_deep, model_of, resolve, resolves_to};
+pub use model::walk_path::{WalkPart, WalkPath};
+pub use model::{Model, first_too_deep, model_of, resolve, resolve_walk, resolves_to};
 pub use reason::Reason;
+pub use schema::agree::agree;
 pub use schema::name::Name;
 pub use schema::put::put_schema;
 pub use schema::same::same_schema;

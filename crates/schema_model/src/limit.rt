@@ -21,6 +21,12 @@ pub const MAX_NODES: u64 = 0x10_0000;
 /// How many indexes a consumer keeps at most.
 pub const MAX_INDEXES: u64 = 16;
 
+/// How many walk indexes a consumer keeps at most.
+pub const MAX_WALKS: u64 = 16;
+
+/// How many entries a walk index has at most: pairs of a row and a value that it reaches.
+pub const MAX_ENTRIES: u64 = 0x40_0000;
+
 /// How many types a model has at most.
 pub const MAX_TYPES: u32 = 512;
 
@@ -50,6 +56,10 @@ pub enum Limit {
     Nodes,
     /// The indexes that a consumer keeps.
     Indexes,
+    /// The walk indexes that a consumer keeps.
+    Walks,
+    /// The entries of a walk index.
+    Entries,
 }
 
 impl Limit {
@@ -68,6 +78,8 @@ impl Limit {
             Limit::Bytes => "bytes",
             Limit::Nodes => "nodes",
             Limit::Indexes => "indexes",
+            Limit::Walks => "walks",
+            Limit::Entries => "entries",
         }
     }
 
@@ -83,6 +95,8 @@ impl Limit {
             Limit::Bytes => MAX_BYTES,
             Limit::Nodes => MAX_NODES,
             Limit::Indexes => MAX_INDEXES,
+            Limit::Walks => MAX_WALKS,
+            Limit::Entries => MAX_ENTRIES,
         }
     }
 }

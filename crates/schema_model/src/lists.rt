@@ -1,5 +1,5 @@
 //! The lists of the model's parts: aliases of the one list type.
-use crate::{Field, Name, Path, Schema};
+use crate::{Field, Name, Path, Schema, WalkPart};
 use hol_varint::List;
 
 /// Names, or the key paths of a type, in their order.
@@ -16,3 +16,6 @@ pub type Schemas = List<Schema>;
 
 /// Resolved paths, in the order in which they were asked for.
 pub type Paths = List<Path>;
+
+/// The parts of a walk path, in the order in which it goes through them.
+pub type WalkParts = List<WalkPart>;

@@ -2,15 +2,18 @@
 ghost use Rattle.std.specs.Prelude.{◌≡◌, ◌<◌, ◌≤◌, ◌↔◌, ℕ, [], length, Some, None, Ok, Err, IfOk, IsTrue, MatchResult, slice_get, Contains};
 ghost use Rattle.hol_varint.specs.Yields.{Yields};
 ghost use Rattle.schema_model.specs.Checked.{Indexes};
-ghost use Rattle.schema_model.specs.Faults.{IsFreeModel, IsFreePath, TellsFault, TellsModel, TellsPath};
+ghost use Rattle.schema_model.specs.Faults.{IsFreeModel, IsFreePath, TellsFault, TellsModel, TellsPath, TellsWalk};
 ghost use Rattle.schema_model.specs.Model.{BreaksAt, IsFirstBreaking, IsFirstBroken, IsKept, IsModel};
 ghost use Rattle.schema_model.specs.Parts.{index_of_type, type_names};
 ghost use Rattle.schema_model.specs.Path.{Resolves};
+ghost use Rattle.schema_model.specs.WalkPath.{WalkResolves};
 ghost use Rattle.schema_model.specs.declared.model.path.Path.{Path};
+ghost use Rattle.schema_model.specs.declared.model.walk_path.WalkPath.{WalkPath};
 ghost use Rattle.schema_model.specs.declared.model.rule.Rule.{Rule};
 
 pub(crate) mod chains;
 pub(crate) mod faults;
+pub(crate) mod growth;
 pub(crate) mod keys;
 pub(crate) mod lengths;
 pub(crate) mod name_index;
@@ -19,6 +22,8 @@ pub(crate) mod path_walk;
 pub(crate) mod rule;
 pub(crate) mod rules;
 pub(crate) mod type_graph;
+pub(crate) mod walk_path;
+pub(crate) mod walk_steps;
 
 use crate::model::chains::{check_cycles, check_depth};
 use crate::model::keys::check_keys;
@@ -27,7 +32,8 @@ use crate::model::name_index::{NameIndex, find_name, index_types};
 use crate::model::path_walk::{leads, way_of};
 use crate::model::rules::{check_names, check_sizes};
 use crate::model::type_graph::check_named_types;
-use crate::{ModelFault, Path, PathFault, Schema, Schemas};
+use crate::model::walk_steps::parts_of;
+use crate::{ModelFault, Path, PathFault, Schema, Schemas, WalkPath};
 use hol_varint::Duplicate;
 use std::alloc::{AllocError, Global};
 use std::collections::BTreeMap;
@@ -173,4 +179,21 @@ pub fn resolves_to(model: &Model, text: &str, path: &Path) -> bool
 {
     let fields = path.fields.as_slice();
     leads(&model.schemas, &model.index, path.type_index, text, fields)
+}
+
+/// The walk path that a text names from a type of any kind: it is cut at each '.' into the names of parts, each a field of an OBJECT, `element` in a LIST or a
+/// SET, `key` or `value` in a MAP, and goes on through types of one field. `BadPath` comes where it leads to no value.
+pub fn resolve_walk(
+    alloc: Global,
+    model: &Model,
+    type_index: u32,
+    text: &str,
+) -> Result<WalkPath, PathFault>
+    requires { type_index < length model.now }
+    ensures tells { TellsWalk model.now type_index text.now result }
+    ensures found { (path : WalkPath) → Yields IsFreePath result (Ok path) (WalkResolves model.now type_index text.now path) }
+    ensures unresolved { Yields IsFreePath result (Err PathFault.BadPath) ((path : WalkPath) → ¬ WalkResolves model.now type_index text.now path) }
+{
+    let parts = parts_of(alloc, &model.schemas, &model.index, type_index, text)?;
+    Ok(WalkPath { type_index, parts })
 }

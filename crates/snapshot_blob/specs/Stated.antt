@@ -9,7 +9,7 @@ use Rattle.schema_model.specs.declared.model.rule.Rule.TheVariants.{TooMany, Lon
 use Rattle.schema_model.specs.Model.{IsKept, IsModel}
 use Rattle.row_model.specs.Table.{RowMap, IsClosed}
 use Rattle.type_state.specs.State.{Half, State, IsLaidOut, empty_half}
-use Rattle.type_rows.specs.Layout.{places_of}
+use Rattle.type_rows.specs.Layout.{places_of, record_bits}
 use Rattle.type_rows.specs.Loads.{SectionIs, Loads, layout_of}
 use Rattle.type_rows.specs.Holds.{Holds, KeepsLimits}
 use Rattle.type_state.specs.Views.{table_of}
@@ -44,7 +44,7 @@ pub record KeepsCounts (part : TypePart) : Type 0 where
 -- These limits are kept, and those on its words and bytes.
 pub record KeepsTypeLimits (part : TypePart) (half : Half) : Type 0 where
   pub counts : KeepsCounts part
-  pub kept : KeepsLimits part.schema.shape (layout_of part.section) half.rows
+  pub kept : KeepsLimits part.schema.shape (record_bits part.schema.shape part.section.widths) (layout_of part.section) half.rows
 
 -- The parts are those of this state, and no limit of a type is passed.
 abbrev pub AreAccepted : List TypePart → List Schema → List Half → Type 0

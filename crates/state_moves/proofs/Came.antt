@@ -10,7 +10,7 @@ use Rattle.std.proofs.lemmas.Map.Keys.{sorted_from_strictly_increasing}
 use Rattle.std.proofs.lemmas.Option.{slice_get-get_or, slice_get_within}
 use Rattle.row_model.specs.declared.row.Row.{Row}
 use Rattle.row_model.specs.Table.{RowMap, Table, IsLive, row_at}
-use Rattle.state_moves.specs.Past.{FitsPast, PastPart, is_new, left_rows, no_part, rows_before, table_before}
+use Rattle.row_model.specs.Before.{FitsPast, PastPart, is_new, left_rows, no_part, rows_before, table_before}
 use Rattle.state_moves.proofs.Changed.{any_place}
 use Rattle.state_moves.proofs.PastRows.{any_at, before_kept, before_new, found, left_live, live_before, live_kept, place_of}
 use Rattle.state_moves.proofs.Tables.{before_at, fits_at, none_off, past_length, row_of}

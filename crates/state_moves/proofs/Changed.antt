@@ -21,7 +21,7 @@ use Rattle.type_rows.specs.Patches.{IsMovedBy, IsWellFormedPatch, MovesRows}
 use Rattle.type_state.specs.State.{Half, State}
 use Rattle.type_state.specs.Views.{table_of}
 use Rattle.delta_blob.specs.declared.patch.PatchPart.{PatchPart}
-use Rattle.state_moves.specs.Past.{FitsPast, PastPart, is_new, left_rows, no_part, rows_before, table_before}
+use Rattle.row_model.specs.Before.{FitsPast, PastPart, is_new, left_rows, no_part, rows_before, table_before}
 use Rattle.state_moves.specs.Moving.{AreComing, AreMoved, IsComingLaid, MovesState, TypeIs, coming_half, coming_halves}
 use Rattle.state_moves.specs.Halves.{current_halves}
 use Rattle.state_moves.proofs.Comings.{coming_at}

@@ -1,31 +1,15 @@
 -- Types that are looked at where their rows stand packed, by their tables.
 use Rattle.std.proofs.Common.{◌≡◌, ℕ, List, [], Option, Some, None, refl, sym, ap, ◌∙◌, subst}
-use Rattle.std.specs.Prelude.{IfSome, IsSome, slice_get, zip}
+use Rattle.std.specs.Prelude.{IfSome, IsSome, zip}
 use Rattle.std.specs.FinMap.{find, get}
 use Rattle.std.specs.Ordering.{nat_cmp}
 use Rattle.record_views.specs.declared.column.Column.{Column}
 use Rattle.row_model.specs.declared.row.Row.{Row}
-use Rattle.row_model.specs.Table.{RowMap, Table}
+use Rattle.row_model.specs.Table.{RowMap}
 use Rattle.column_rows.specs.declared.items.PackedItems.{PackedItems}
-use Rattle.column_rows.specs.Columns.{IsColumnOf}
-use Rattle.column_rows.specs.Items.{AreListsOf, AreRunsOf}
-use Rattle.type_state.specs.Columns.{AreListsIn, AreRunsIn, IsColumnIn}
-use Rattle.state_moves.specs.Past.{PastPart, left_rows, rows_before}
+use Rattle.type_views.specs.OneType.{AreListsIn, AreRunsIn, IsColumnIn}
+use Rattle.row_model.specs.Before.{PastPart, left_rows, rows_before}
 use Rattle.state_moves.proofs.PastRows.{live_kept}
-use Rattle.state_moves.proofs.Tables.{row_of}
-
-module _ (table : Table) (t : ℕ) (rows : RowMap) (is : slice_get table t ≡ Some rows) where
-  pub column_at : (field : ℕ) (found : Option Column) → IfSome found (IsColumnIn rows field) → IfSome found (IsColumnOf table t field)
-  column_at field None shown = shown
-  column_at field (Some column) shown = λ ordinal row at. shown ordinal row (sym (row_of table t ordinal rows is) ∙ at)
-
-  pub lists_at : (found : Option PackedItems) → IfSome found (AreListsIn rows) → IfSome found (AreListsOf table t)
-  lists_at None shown = shown
-  lists_at (Some items) shown = λ ordinal row at. shown ordinal row (sym (row_of table t ordinal rows is) ∙ at)
-
-  pub runs_at : (found : Option PackedItems) → IfSome found (AreRunsIn rows) → IfSome found (AreRunsOf table t)
-  runs_at None shown = shown
-  runs_at (Some items) shown = λ ordinal row at. shown ordinal row (sym (row_of table t ordinal rows is) ∙ at)
 
 -- where no row left, a row before is one now
 module _ (now : RowMap) (part : PastPart) (none_left : part.gone ≡ []) where

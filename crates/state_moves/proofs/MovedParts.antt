@@ -6,7 +6,8 @@ use Rattle.schema_model.specs.declared.schema.Schema.{Schema}
 use Rattle.row_model.specs.Table.{IsClosed, IsTableOf}
 use Rattle.type_rows.specs.Patches.{IsReadablePatch}
 use Rattle.type_state.specs.State.{Half, State}
-use Rattle.type_state.specs.Views.{Content, table_of}
+use Rattle.type_state.specs.Views.{table_of}
+use Rattle.type_views.specs.Content.{Content}
 use Rattle.delta_blob.specs.declared.patch.PatchPart.{PatchPart}
 use Rattle.delta_blob.specs.Reads.{IsWholePart}
 use Rattle.blob_frame.specs.declared.fault.BlobFault.{BlobFault}
@@ -15,7 +16,7 @@ use Rattle.blob_faults.specs.Rows.{closed}
 use Rattle.state_moves.specs.Halves.{current_halves}
 use Rattle.state_moves.specs.Judged.{IsFreeMove, offsets_among, part_moves, state_moved}
 use Rattle.state_moves.specs.Moving.{AreComing, AreMoved, ComesOf, IsReadableIn, MovesParts, StaysCurrent, coming_halves, parts_move}
-use Rattle.state_moves.specs.Past.{FitsPast, PastPart, table_before}
+use Rattle.row_model.specs.Before.{FitsPast, PastPart, table_before}
 use Rattle.state_moves.proofs.Judging.{part_blamed, row_blamed, state_passes}
 use Rattle.state_moves.proofs.Changed.{FitsLaw, RangesLaw, all_before, all_changed, all_fit, are_coming, state_there}
 

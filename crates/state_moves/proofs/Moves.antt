@@ -24,7 +24,7 @@ use Rattle.blob_faults.specs.Rows.{moves}
 use Rattle.blob_faults.proofs.EachOf.{each_long, fails_next, passes_next}
 use Rattle.state_moves.specs.Halves.{current_halves}
 use Rattle.state_moves.specs.Judged.{IsFreeMove, part_moves}
-use Rattle.state_moves.specs.Past.{PastPart, no_part, rows_of_places}
+use Rattle.row_model.specs.Before.{PastPart, no_part, rows_of_places}
 use Rattle.state_moves.specs.Moving.{AreMoved, ComesOf, IsReadableIn, MovesState, StaysCurrent, TypeIs, coming_halves, parts_move}
 use Rattle.state_moves.proofs.Judging.{coming_none, coming_set, moved_next, moved_none}
 use Rattle.state_moves.proofs.PastRows.{current_bound}

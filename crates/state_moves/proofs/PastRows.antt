@@ -21,8 +21,8 @@ use Rattle.row_model.specs.Table.{RowMap}
 use Rattle.row_model.proofs.RowEntries.{skips, finds}
 use Rattle.type_state.specs.State.{State}
 use Rattle.type_state.proofs.NextStates.{bound_of_state}
-use Rattle.state_moves.specs.Past.{FitsPast, PastPart, is_new, left_rows, rows_before, rows_of_places, with_rows}
-use Rattle.state_moves.specs.Halves.{IsRowsBound}
+use Rattle.row_model.specs.Before.{FitsPast, PastPart, is_new, left_rows, rows_before, rows_of_places, with_rows}
+use Rattle.type_views.specs.OneType.{IsRowsBound}
 
 -- ---- numbers that rise
 

@@ -1,21 +1,18 @@
 -- Tables by type: those of the current rows and of the rows before.
-use Rattle.std.proofs.Common.{◌≡◌, ◌<◌, ◌⊎◌, inl, inr, ℕ, zero, suc, List, [], ◌∷◌, length, Bool, false, Option, Some, None, Result, refl, sym, ap, ◌∙◌, subst, arith}
-use Rattle.std.specs.Prelude.{IsSome, IsTrue, IfOk, ◌↔◌, map, slice_get}
+use Rattle.std.proofs.Common.{◌≡◌, ◌<◌, ◌⊎◌, inl, inr, ℕ, zero, suc, List, [], ◌∷◌, length, Option, Some, None, refl, sym, ap, ◌∙◌, subst, arith}
+use Rattle.std.specs.Prelude.{IsSome, map, slice_get}
 use Rattle.std.specs.List.{AllZip}
-use Rattle.std.specs.declared.alloc.AllocError.{AllocError}
 use Rattle.std.specs.FinMap.{get}
 use Rattle.std.specs.Option.{option_and_then, option_map}
 use Rattle.std.proofs.lemmas.Bool.{false≢true}
 use Rattle.std.proofs.lemmas.Option.{slice_get-map, slice_get_within}
 use Rattle.schema_model.specs.declared.schema.Schema.{Schema}
 use Rattle.row_model.specs.declared.row.Row.{Row}
-use Rattle.row_model.specs.declared.lent.LentRow.{LentRow}
-use Rattle.row_model.specs.Lent.{lent_row}
-use Rattle.row_model.specs.Table.{RowMap, Table, row_at, IsLive, IsBound}
+use Rattle.row_model.specs.Table.{RowMap, Table, row_at, IsLive}
 use Rattle.type_state.specs.State.{Half, State}
 use Rattle.type_state.specs.Views.{table_of}
-use Rattle.state_moves.specs.Past.{FitsPast, PastPart, rows_before, table_before}
-use Rattle.state_moves.specs.Halves.{IsRowsBound, current_halves}
+use Rattle.row_model.specs.Before.{FitsPast, PastPart, rows_before, table_before}
+use Rattle.state_moves.specs.Halves.{current_halves}
 
 module _ (table : Table) (t : ℕ) where
   pub row_of : (o : ℕ) (rows : RowMap) → slice_get table t ≡ Some rows → row_at table t o ≡ get rows o
@@ -24,35 +21,8 @@ module _ (table : Table) (t : ℕ) where
   pub no_row : (o : ℕ) → slice_get table t ≡ None → row_at table t o ≡ None
   no_row o none = ap (option_and_then (λ (rows : RowMap). get rows o)) none
 
-  pub bound_at : (bound : ℕ) (rows : RowMap) → slice_get table t ≡ Some rows → IsRowsBound rows bound → IsBound table t bound
-  bound_at bound rows is h = record {
-    above = λ o live. h.above o (subst IsSome (row_of o rows is) live);
-    least = elim h.least [
-      | inl none ↦ inl none
-      | inr (o, same, live) ↦ inr (o, same, subst IsSome (sym (row_of o rows is)) live)
-    ];
-  }
-
-  pub bound_off : slice_get table t ≡ None → IsBound table t 0
-  bound_off none = record { above = λ o live. absurd (false≢true (subst IsSome (no_row o none) live)); least = inl refl }
-
-  pub live_at : (o : ℕ) (rows : RowMap) (live : Bool) → slice_get table t ≡ Some rows → (IsTrue live ↔ IsSome (get rows o)) → (IsTrue live ↔ IsLive table t o)
-  live_at o rows live is are = (λ p. subst IsSome (sym (row_of o rows is)) (are.0 p), λ p. are.1 (subst IsSome (row_of o rows is) p))
-
-  pub live_off : (o : ℕ) → slice_get table t ≡ None → (IsTrue false ↔ IsLive table t o)
-  live_off o none = (λ p. absurd (false≢true p), λ live. absurd (false≢true (subst IsSome (no_row o none) live)))
-
-  pub some_at : (o : ℕ) (rows : RowMap) → slice_get table t ≡ Some rows → IsLive table t o → IsSome (get rows o)
-  some_at o rows is live = subst IsSome (row_of o rows is) live
-
   pub none_off : (o : ℕ) → slice_get table t ≡ None → IsLive table t o → ⊥
   none_off o none live = false≢true (subst IsSome (no_row o none) live)
-
-  pub copy_at : (o : ℕ) (rows : RowMap) (answer : Result Row AllocError) → slice_get table t ≡ Some rows → IfOk answer (λ row. get rows o ≡ Some row) → IfOk answer (λ row. row_at table t o ≡ Some row)
-  copy_at o rows answer is copied = subst (λ (found : Option Row). IfOk answer (λ row. found ≡ Some row)) (sym (row_of o rows is)) copied
-
-  pub lent_at : (o : ℕ) (rows : RowMap) (answer : Result LentRow AllocError) → slice_get table t ≡ Some rows → IfOk answer (λ lent. get rows o ≡ Some (lent_row lent)) → IfOk answer (λ lent. row_at table t o ≡ Some (lent_row lent))
-  lent_at o rows answer is lent = subst (λ (found : Option Row). IfOk answer (λ lent. found ≡ Some (lent_row lent))) (sym (row_of o rows is)) lent
 
 -- a row is there, or none
 pub live_or_none : (table : Table) (t o : ℕ) → IsLive table t o ⊎ (row_at table t o ≡ None)

@@ -4,7 +4,7 @@ use Rattle.std.specs.List.{AllZip}
 use Rattle.std.specs.Cmp.{nat_cmp_total}
 use Rattle.std.specs.FinMap.{nat_cmp-IsAntisymmetric, same_map}
 use Rattle.row_model.specs.Table.{RowMap, Table}
-use Rattle.state_moves.specs.Past.{FitsPast, no_part, rows_before, table_before}
+use Rattle.row_model.specs.Before.{FitsPast, no_part, rows_before, table_before}
 use Rattle.state_moves.proofs.PastRows.{get_before}
 
 pub same_before : (rows : RowMap) → rows_before rows no_part ≡ rows

@@ -6,7 +6,7 @@ use Rattle.schema_model.specs.declared.schema.Shape.{Shape}
 use Rattle.row_model.specs.Dangling.{IsClosedAt}
 use Rattle.schema_model.specs.Parts.{index_of_type, shape_names}
 use Rattle.row_model.specs.Table.{Table}
-use Rattle.state_moves.specs.Past.{PastPart}
+use Rattle.row_model.specs.Before.{PastPart}
 
 -- Each row of the type names live ordinals alone.
 abbrev pub IsTypeClosed : List Schema → Table → ℕ → Type 0

@@ -2,4 +2,3 @@ pub mod Closing
 pub mod Halves
 pub mod Judged
 pub mod Moving
-pub mod Past

@@ -13,7 +13,7 @@ use Rattle.delta_blob.specs.declared.patch.PatchPart.{PatchPart}
 use Rattle.blob_faults.specs.Judge.{Judge, each_of}
 use Rattle.state_moves.specs.Halves.{current_halves}
 use Rattle.state_moves.specs.Judged.{moved_table, part_moves}
-use Rattle.state_moves.specs.Past.{FitsPast, PastPart, no_part, table_before}
+use Rattle.row_model.specs.Before.{FitsPast, PastPart, no_part, table_before}
 
 -- the half that comes: the next one of a type that the step names, else the current one
 abbrev pub coming_half : State → Bool → Half

@@ -1,168 +1,167 @@
-//! The rows of a state before its last step.
-ghost use Rattle.std.specs.Prelude.{◌≡◌, ◌↔◌, Some, IfOk, IsTrue};
+//! The rows of a state before its last step: those that left, where they are kept, and else the current ones that did not come.
+ghost use Rattle.std.specs.Prelude.{◌≡◌, ◌<◌, ℕ, IsSome};
+ghost use Rattle.std.specs.FinMap.{get};
 ghost use Rattle.std.specs.List.{AllZip};
-ghost use Rattle.row_model.specs.Lent.{lent_row};
-ghost use Rattle.row_model.specs.Table.{IsBound, IsLive, IsTableOf, row_at};
+ghost use Rattle.row_model.specs.Table.{IsTableOf};
 ghost use Rattle.type_state.specs.Views.{table_of};
 ghost use Rattle.state_moves.specs.Halves.{current_halves};
-ghost use Rattle.state_moves.specs.Past.{FitsPast, table_before};
+ghost use Rattle.row_model.specs.Before.{FitsPast, rows_before, table_before};
 
-use crate::columns::{column_before, lists_before, runs_before};
 use crate::now::state_at;
-use crate::past::{PastPart, bound_before, lend_before, part_at, row_before, was_live};
-use column_rows::{ColumnRows, PackedItems};
+use crate::past::{PastPart, part_at};
+use column_rows::PackedItems;
+use hol_varint::Duplicate;
 use record_views::Column;
-use row_model::{LentRow, Row, Rows};
+use row_model::{LentRow, Row};
 use schema_model::Model;
 use std::alloc::{AllocError, Global};
 use type_state::TypeState;
+use type_views::{OneType, RowsByType, StateRows, TypeColumns, TypeRows};
 
 /// The rows before the last step of the types of a model.
+pub type Before<'a> = StateRows<'a, TypesBefore<'a>>;
+
+/// The rows that the types of a model had before the step that changed this of each.
+pub fn before_of<'a>(model: &'a Model, states: &'a [TypeState], past: &'a [PastPart]) -> Before<'a>
+    requires fits { AllZip FitsPast (table_of (current_halves states.now)) past.now }
+    requires rows { IsTableOf model.now (table_before (table_of (current_halves states.now)) past.now) }
+    ensures schemas { result.schemas ≡ model.now }
+    ensures table { result.table ≡ table_before (table_of (current_halves states.now)) past.now }
+{
+    StateRows::new(model, TypesBefore { states, past })
+}
+
+/// The rows of each type before the last step.
 #[derive(Drop)]
-pub struct Before<'a> {
-    model: &'a Model,
+pub struct TypesBefore<'a> {
     states: &'a [TypeState],
     past: &'a [PastPart],
 }
 
-impl<'a> std::marker::Model for Before<'a> {
-    ghost use Rattle.type_state.specs.Views.{Content, content_code, table_of};
+impl<'a> std::marker::Model for TypesBefore<'a> {
+    ghost use Rattle.std.specs.List.{AllZip};
+    ghost use Rattle.row_model.specs.Table.{Table};
+    ghost use Rattle.type_state.specs.Views.{table_of};
+    ghost use Rattle.type_views.specs.Content.{table_code};
     ghost use Rattle.state_moves.specs.Halves.{current_halves};
-    ghost use Rattle.state_moves.specs.Past.{HasBefore, table_before};
+    ghost use Rattle.row_model.specs.Before.{FitsPast, table_before};
 
-    ghost Value = { Content };
+    ghost Value = { Table };
 
-    ghost coded = { content_code };
+    ghost coded = { table_code };
 
-    ghost view = { λ r. record { schemas = r.model.now; table = table_before (table_of (current_halves r.states.now)) r.past.now } };
+    ghost view = { λ t. table_before (table_of (current_halves t.states.now)) t.past.now };
 
-    ghost invariant = { λ r. HasBefore r.model.now (table_of (current_halves r.states.now)) r.past.now };
+    ghost invariant = { λ t. AllZip FitsPast (table_of (current_halves t.states.now)) t.past.now };
 }
 
-impl<'a> Before<'a> {
-    /// The rows that these states had before the step that changed this of each.
-    pub fn new(model: &'a Model, states: &'a [TypeState], past: &'a [PastPart]) -> Before<'a>
-        requires fits { AllZip FitsPast (table_of (current_halves states.now)) past.now }
-        requires rows { IsTableOf model.now (table_before (table_of (current_halves states.now)) past.now) }
-        ensures schemas { result.schemas ≡ model.now }
-        ensures table { result.table ≡ table_before (table_of (current_halves states.now)) past.now }
+impl<'a> RowsByType for TypesBefore<'a> {
+    type Of = RowsBefore<'a>;
+
+    ghost table = { λ types. types };
+
+    fn of_type(&self, type_index: u32) -> Option<RowsBefore<'a>> {
+        match state_at(self.states, type_index) {
+            Some(state) => Some(RowsBefore {
+                state,
+                part: part_at(self.past, type_index),
+            }),
+            None => None,
+        }
+    }
+}
+
+/// The rows of a type before the last step.
+#[derive(Drop)]
+pub struct RowsBefore<'a> {
+    state: &'a TypeState,
+    part: &'a PastPart,
+}
+
+impl<'a> std::marker::Model for RowsBefore<'a> {
+    ghost use Rattle.row_model.specs.Table.{RowMap};
+    ghost use Rattle.type_views.specs.Content.{rows_code};
+    ghost use Rattle.row_model.specs.Before.{FitsPast, rows_before};
+
+    ghost Value = { RowMap };
+
+    ghost coded = { rows_code };
+
+    ghost view = { λ r. rows_before r.state.now.current.rows r.part.now };
+
+    ghost invariant = { λ r. FitsPast r.state.now.current.rows r.part.now };
+}
+
+impl<'a> RowsBefore<'a> {
+    // A number above each ordinal that was live before the step.
+    fn first_bound(&self) -> u32
+        ensures { (ordinal : ℕ) → IsSome (get self.now ordinal) → ordinal < result }
     {
-        Before {
-            model,
-            states,
-            past,
+        let bound = self.state.bound();
+        match self.part.gone().as_slice().last() {
+            Some(last) => bound.max(*last + 1),
+            None => bound,
         }
     }
 }
 
-impl<'a> Rows for Before<'a> {
-    ghost schemas = { λ rows. rows.schemas };
-
-    ghost table = { λ rows. rows.table };
-
-    fn model(&self) -> &Model {
-        self.model
-    }
-
-    fn bound(&self, type_index: u32) -> u32 {
-        bound_of_past(self.states, self.past, type_index)
-    }
-
-    fn is_live(&self, type_index: u32, ordinal: u32) -> bool {
-        was_live_in(self.states, self.past, type_index, ordinal)
-    }
-
-    fn row(&self, alloc: Global, type_index: u32, ordinal: u32) -> Result<Row, AllocError> {
-        row_of_past(alloc, self.states, self.past, type_index, ordinal)
-    }
-
-    fn lend(
-        &self,
-        alloc: Global,
-        type_index: u32,
-        ordinal: u32,
-    ) -> Result<LentRow<'_>, AllocError> {
-        lend_of_past(alloc, self.states, self.past, type_index, ordinal)
-    }
+impl<'a> OneType for RowsBefore<'a> {
+    ghost rows = { λ rows. rows };
 }
 
-impl<'a> ColumnRows for Before<'a> {
-    fn column(&self, type_index: u32, field: u32) -> Option<Column<'_>> {
-        match state_at(self.states, type_index) {
-            Some(state) => column_before(state, part_at(self.past, type_index), field),
-            None => None,
+impl<'a> TypeRows<'a> for RowsBefore<'a> {
+    fn bound(&self) -> u32 {
+        let mut bound = self.first_bound();
+        while bound > 0 {
+            if self.is_live(bound - 1) {
+                return bound;
+            }
+            bound -= 1;
+        }
+        0
+    }
+
+    fn is_live(&self, ordinal: u32) -> bool {
+        match self.part.left_row(ordinal) {
+            Some(_) => true,
+            None => !self.part.is_new(ordinal) && self.state.is_live(ordinal),
         }
     }
 
-    fn lists(&self, type_index: u32) -> Option<PackedItems<'_>> {
-        match state_at(self.states, type_index) {
-            Some(state) => lists_before(state, part_at(self.past, type_index)),
-            None => None,
+    fn row(&self, alloc: Global, ordinal: u32) -> Result<Row, AllocError> {
+        match self.part.left_row(ordinal) {
+            Some(row) => row.copy(alloc),
+            None => self.state.row(alloc, ordinal),
         }
     }
 
-    fn runs(&self, type_index: u32) -> Option<PackedItems<'_>> {
-        match state_at(self.states, type_index) {
-            Some(state) => runs_before(state, part_at(self.past, type_index)),
-            None => None,
+    fn lend(&self, alloc: Global, ordinal: u32) -> Result<LentRow<'a>, AllocError> {
+        match self.part.left_row(ordinal) {
+            Some(row) => Ok(LentRow::Kept(row)),
+            None => self.state.lend(alloc, ordinal),
         }
     }
 }
 
-// One past the greatest ordinal of a type that was live before the last step, 0 for none.
-fn bound_of_past(states: &[TypeState], past: &[PastPart], type_index: u32) -> u32
-    requires { AllZip FitsPast (table_of (current_halves states.now)) past.now }
-    ensures { IsBound (table_before (table_of (current_halves states.now)) past.now) type_index result }
-{
-    match state_at(states, type_index) {
-        Some(state) => bound_before(state, part_at(past, type_index)),
-        None => 0,
+impl<'a> TypeColumns<'a> for RowsBefore<'a> {
+    fn column(&self, field: u32) -> Option<Column<'a>> {
+        if !self.part.gone().is_empty() {
+            return None;
+        }
+        self.state.column(field)
     }
-}
 
-// Whether a type had a row under the ordinal before the last step.
-fn was_live_in(states: &[TypeState], past: &[PastPart], type_index: u32, ordinal: u32) -> bool
-    requires { AllZip FitsPast (table_of (current_halves states.now)) past.now }
-    ensures { IsTrue result ↔ IsLive (table_before (table_of (current_halves states.now)) past.now) type_index ordinal }
-{
-    match state_at(states, type_index) {
-        Some(state) => was_live(state, part_at(past, type_index), ordinal),
-        None => false,
+    fn lists(&self) -> Option<PackedItems<'a>> {
+        if !self.part.gone().is_empty() {
+            return None;
+        }
+        self.state.lists()
     }
-}
 
-// A copy of the row that a type had under an ordinal that was live before the last step.
-fn row_of_past(
-    alloc: Global,
-    states: &[TypeState],
-    past: &[PastPart],
-    type_index: u32,
-    ordinal: u32,
-) -> Result<Row, AllocError>
-    requires fits { AllZip FitsPast (table_of (current_halves states.now)) past.now }
-    requires live { IsLive (table_before (table_of (current_halves states.now)) past.now) type_index ordinal }
-    ensures { IfOk result (λ row. row_at (table_before (table_of (current_halves states.now)) past.now) type_index ordinal ≡ Some row) }
-{
-    match state_at(states, type_index) {
-        Some(state) => row_before(alloc, state, part_at(past, type_index), ordinal),
-        None => unreachable!(),
-    }
-}
-
-// The row that a type had under an ordinal that was live before the last step, where it stands.
-fn lend_of_past<'a>(
-    alloc: Global,
-    states: &'a [TypeState],
-    past: &'a [PastPart],
-    type_index: u32,
-    ordinal: u32,
-) -> Result<LentRow<'a>, AllocError>
-    requires fits { AllZip FitsPast (table_of (current_halves states.now)) past.now }
-    requires live { IsLive (table_before (table_of (current_halves states.now)) past.now) type_index ordinal }
-    ensures { IfOk result (λ lent. row_at (table_before (table_of (current_halves states.now)) past.now) type_index ordinal ≡ Some (lent_row lent)) }
-{
-    match state_at(states, type_index) {
-        Some(state) => lend_before(alloc, state, part_at(past, type_index), ordinal),
-        None => unreachable!(),
+    fn runs(&self) -> Option<PackedItems<'a>> {
+        if !self.part.gone().is_empty() {
+            return None;
+        }
+        self.state.runs()
     }
 }

@@ -10,7 +10,7 @@ ghost use Rattle.blob_faults.specs.Judge.{Blames};
 ghost use Rattle.blob_faults.specs.Rows.{closed};
 ghost use Rattle.state_moves.specs.Closing.{HasKept, IsTypeClosed, KeepsNamed, NamesKept};
 ghost use Rattle.state_moves.specs.Judged.{IsFreeMove, offset_among, offsets_among};
-ghost use Rattle.state_moves.specs.Past.{FitsPast, table_before};
+ghost use Rattle.row_model.specs.Before.{FitsPast, table_before};
 
 use crate::coming::Coming;
 use crate::past::{PastPart, part_at};

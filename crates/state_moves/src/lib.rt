@@ -4,7 +4,6 @@
 
 mod before;
 mod closing;
-mod columns;
 mod coming;
 mod moved;
 mod moving;
@@ -13,11 +12,10 @@ mod now;
 mod past;
 mod turning;
 
-pub use before::Before;
-pub use columns::{column_in, lists_in, runs_in};
-pub use coming::Coming;
+pub use before::{Before, RowsBefore, TypesBefore, before_of};
+pub use coming::{Coming, ComingRows, ComingTypes, coming_of};
 pub use moved::{Moved, NamedTypes};
 pub use next_state::move_state;
-pub use now::{Now, bound_in, has_same_rows_in, is_live_in, lend_in, row_in};
+pub use now::{CurrentRows, CurrentTypes, Now, has_same_rows_in, now_of};
 pub use past::{PastPart, PastParts, no_past, part_at};
 pub use turning::{flip_all, flip_named};

@@ -6,7 +6,7 @@ ghost use Rattle.blob_faults.specs.Judge.{Blames};
 ghost use Rattle.blob_faults.specs.Rows.{moves};
 ghost use Rattle.state_moves.specs.Judged.{IsFreeMove};
 ghost use Rattle.state_moves.specs.Moving.{AreMoved, ComesOf, IsReadableIn, KeepsPatch, MovesState, StaysCurrent, parts_move};
-ghost use Rattle.state_moves.specs.Past.{no_part};
+ghost use Rattle.row_model.specs.Before.{no_part};
 
 use crate::moved::{Moved, NamedTypes, none_named};
 use crate::past::{PastPart, PastParts, no_past};

@@ -9,7 +9,7 @@ ghost use Rattle.state_moves.specs.Judged.{IsFreeMove, state_moved};
 ghost use Rattle.state_moves.specs.Moving.{MovesParts, StaysCurrent, coming_halves};
 
 use crate::closing::check_closed;
-use crate::coming::Coming;
+use crate::coming::coming_of;
 use crate::moved::Moved;
 use crate::moving::move_types;
 use blob_frame::BlobFault;
@@ -44,7 +44,7 @@ pub fn move_state(
     let moved = move_types(alloc, model.len(), states, parts)?;
     check_closed(
         alloc,
-        &Coming::new(model, states, moved.named.as_slice()),
+        &coming_of(model, states, moved.named.as_slice()),
         moved.past.as_slice(),
         parts,
         size,

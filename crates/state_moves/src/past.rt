@@ -1,16 +1,13 @@
 //! What is kept of a type from the last step, so that the rows before it can still be looked up.
-ghost use Rattle.std.specs.Prelude.{◌≡◌, ◌↔◌, ◌<◌, ℕ, All, Some, None, IfOk, IsSome, IsSomeAnd, IsTrue, MatchOption, length, replicate, slice_get};
+ghost use Rattle.std.specs.Prelude.{◌≡◌, ◌<◌, All, Some, None, IfOk, IsSome, IsSomeAnd, MatchOption, length, replicate, slice_get};
 ghost use Rattle.std.specs.List.Sorted.{IsStrictlyIncreasing};
-ghost use Rattle.std.specs.FinMap.{find, get};
+ghost use Rattle.std.specs.FinMap.{find};
 ghost use Rattle.std.specs.Ordering.{nat_cmp};
-ghost use Rattle.row_model.specs.Lent.{lent_row};
-ghost use Rattle.state_moves.specs.Past.{FitsPast, is_new, left_rows, no_part, rows_before, rows_of_places};
-ghost use Rattle.state_moves.specs.Halves.{IsRowsBound};
+ghost use Rattle.row_model.specs.Before.{is_new, left_rows, no_part, rows_of_places};
 
-use hol_varint::{Duplicate, List, Ordinals};
-use row_model::{LentRow, Places, Row};
+use hol_varint::{List, Ordinals};
+use row_model::{Places, Row};
 use std::alloc::{AllocError, Global};
-use type_state::TypeState;
 
 /// What the last step changed of a type.
 #[derive(Drop)]
@@ -25,7 +22,7 @@ pub struct PastPart {
 
 impl std::marker::Model for PastPart {
     ghost use Rattle.std.specs.Prelude.{All, IsSome};
-    ghost use Rattle.state_moves.specs.Past.{PastPart, past_code, rows_of_places};
+    ghost use Rattle.row_model.specs.Before.{PastPart, past_code, rows_of_places};
 
     ghost Value = { PastPart };
 
@@ -82,7 +79,7 @@ impl PastPart {
     }
 
     /// Whether the ordinal came.
-    fn is_new(&self, ordinal: u32) -> bool
+    pub(crate) fn is_new(&self, ordinal: u32) -> bool
         requires { IsStrictlyIncreasing self.now.came }
         ensures { result ≡ is_new self.now ordinal }
     {
@@ -90,7 +87,7 @@ impl PastPart {
     }
 
     /// The row that an ordinal had that left.
-    fn left_row(&self, ordinal: u32) -> Option<&Row>
+    pub(crate) fn left_row(&self, ordinal: u32) -> Option<&Row>
         requires rising { IsStrictlyIncreasing self.now.gone }
         requires rows { length self.now.rows ≡ length self.now.gone }
         ensures { MatchOption result (find nat_cmp ordinal (left_rows self.now) ≡ None) (λ row. find nat_cmp ordinal (left_rows self.now) ≡ Some row.now) }
@@ -112,78 +109,6 @@ pub fn no_past(alloc: Global, count: u32) -> Result<PastParts, AllocError>
         past.push(PastPart::none(alloc))?;
     }
     Ok(past)
-}
-
-/// Whether the type had a row under the ordinal before the step.
-pub(crate) fn was_live(state: &TypeState, part: &PastPart, ordinal: u32) -> bool
-    requires { FitsPast state.now.current.rows part.now }
-    ensures { IsTrue result ↔ IsSome (get (rows_before state.entry.now.current.rows part.now) ordinal) }
-{
-    match part.left_row(ordinal) {
-        Some(_) => true,
-        None => !part.is_new(ordinal) && state.is_live(ordinal),
-    }
-}
-
-/// A copy of the row that the type had under an ordinal that was live before the step.
-pub(crate) fn row_before(
-    alloc: Global,
-    state: &TypeState,
-    part: &PastPart,
-    ordinal: u32,
-) -> Result<Row, AllocError>
-    requires fits { FitsPast state.now.current.rows part.now }
-    requires live { IsSome (get (rows_before state.now.current.rows part.now) ordinal) }
-    ensures { IfOk result (λ row. get (rows_before state.entry.now.current.rows part.now) ordinal ≡ Some row) }
-{
-    match part.left_row(ordinal) {
-        Some(row) => row.copy(alloc),
-        None => state.row(alloc, ordinal),
-    }
-}
-
-/// The row that the type had under an ordinal that was live before the step, where it stands.
-pub(crate) fn lend_before<'a>(
-    alloc: Global,
-    state: &'a TypeState,
-    part: &'a PastPart,
-    ordinal: u32,
-) -> Result<LentRow<'a>, AllocError>
-    requires fits { FitsPast state.now.current.rows part.now }
-    requires live { IsSome (get (rows_before state.now.current.rows part.now) ordinal) }
-    ensures { IfOk result (λ lent. get (rows_before state.entry.now.current.rows part.now) ordinal ≡ Some (lent_row lent)) }
-{
-    match part.left_row(ordinal) {
-        Some(row) => Ok(LentRow::Kept(row)),
-        None => state.lend(alloc, ordinal),
-    }
-}
-
-/// One past the greatest ordinal that was live before the step, 0 for none.
-pub(crate) fn bound_before(state: &TypeState, part: &PastPart) -> u32
-    requires { FitsPast state.now.current.rows part.now }
-    ensures { IsRowsBound (rows_before state.entry.now.current.rows part.now) result }
-{
-    let mut bound = first_bound(state, part);
-    while bound > 0 {
-        if was_live(state, part, bound - 1) {
-            return bound;
-        }
-        bound -= 1;
-    }
-    0
-}
-
-// A number above each ordinal that was live before the step.
-fn first_bound(state: &TypeState, part: &PastPart) -> u32
-    requires { FitsPast state.now.current.rows part.now }
-    ensures { (ordinal : ℕ) → IsSome (get (rows_before state.entry.now.current.rows part.now) ordinal) → ordinal < result }
-{
-    let bound = state.bound();
-    match part.gone().as_slice().last() {
-        Some(last) => bound.max(*last + 1),
-        None => bound,
-    }
 }
 
 /// What the last step changed of the type at an index.

@@ -1,3 +1,4 @@
+pub mod CountedWords
 pub mod Entries
 pub mod Loading
 pub mod MovedRows

@@ -12,7 +12,7 @@ use Rattle.row_model.specs.declared.row.Value.{Value}
 use Rattle.row_model.specs.declared.row.Row.{Row}
 use Rattle.list_codec.specs.ListPlace.{pointer_width, element_width}
 use Rattle.bucket_codec.specs.BucketPlace.{size_width, key_width, value_width}
-use Rattle.type_rows.specs.Layout.{Layout, places_of, item_count, fixed_words}
+use Rattle.type_rows.specs.Layout.{Layout, places_of, item_count, counted_words}
 use Rattle.type_rows.specs.WordsHeld.{field_bytes, bytes_held}
 
 -- A number is below all ones, which is null.
@@ -78,7 +78,7 @@ pub record Holds (shape : Shape) (layout : Layout) (rows : RowMap) : Type 0 wher
   pub parts : HoldsRows shape layout.widths [] (values rows)
   pub places : All (λ ordinal. ordinal < places_of layout.max) (keys rows)
 
--- The limits on the fixed words and the variable bytes of a type in one state.
-pub record KeepsLimits (shape : Shape) (layout : Layout) (rows : RowMap) : Type 0 where
-  pub words : fixed_words shape layout (values rows) ≤ number_of_limit Words
+-- The limits on the words and the variable bytes of a type in one state; of the record of an OBJECT so many bits are counted.
+pub record KeepsLimits (shape : Shape) (own : ℕ) (layout : Layout) (rows : RowMap) : Type 0 where
+  pub words : counted_words shape own layout (values rows) ≤ number_of_limit Words
   pub bytes : bytes_held (values rows) ≤ number_of_limit Bytes

@@ -1,5 +1,5 @@
 -- The layout of a type in a blob: the max ordinal, which is the greatest that has a place, and the widths of the parts of its rows in bits.
-use Rattle.std.specs.Prelude.{ℕ, ◌+◌, ◌*◌, List, ◌∷◌, Option, None, Some, length, sum, sum_by}
+use Rattle.std.specs.Prelude.{ℕ, ◌+◌, ◌-◌, ◌*◌, ◌^◌, min, List, ◌∷◌, Option, None, Some, length, sum, sum_by}
 use Rattle.bit_array.specs.Element.{words_of}
 use Rattle.schema_model.specs.declared.schema.Shape.{Shape}
 use Rattle.row_model.specs.declared.row.Row.{Row}
@@ -57,3 +57,26 @@ item_count rows = sum_by items_of_row rows
 -- The fixed words of a type in one state, which the limit on words counts: those of its places, and besides those of the items of its rows.
 abbrev pub fixed_words : Shape → Layout → List Row → ℕ
 fixed_words shape layout rows = words_needed shape layout + words_of (item_count rows * item_bits shape layout.widths)
+
+-- How many bits the record of an OBJECT takes, all its fields together; the other kinds have none.
+abbrev pub record_bits : Shape → List ℕ → ℕ
+record_bits (Shape.Object key fields) widths = sum widths
+record_bits _ widths = 0
+
+-- The same as a number of 32 bits, which no type of 1,024 fields passes.
+abbrev pub own_bits : Shape → List ℕ → ℕ
+own_bits shape widths = min (record_bits shape widths) (2 ^ 32 - 1)
+
+-- How many bits the limit on words counts for a place: those of the fields of an OBJECT that count, `own` together, and all bits else.
+abbrev pub counted_bits : Shape → ℕ → List ℕ → ℕ
+counted_bits (Shape.Object key fields) own widths = own
+counted_bits shape own widths = place_bits shape widths
+
+-- The words that the limit on words counts for the places.
+abbrev pub places_counted : Shape → ℕ → Layout → ℕ
+places_counted shape own layout = words_of (places_of layout.max * counted_bits shape own layout.widths)
+
+-- The words of a type in one state that the limit on words counts: those of its places, and besides those of the items of its rows. They are the
+-- fixed words where all fields count.
+abbrev pub counted_words : Shape → ℕ → Layout → List Row → ℕ
+counted_words shape own layout rows = places_counted shape own layout + words_of (item_count rows * item_bits shape layout.widths)

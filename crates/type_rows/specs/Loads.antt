@@ -14,7 +14,7 @@ use Rattle.list_codec.specs.ListPlace.{SpellsListRow}
 use Rattle.bucket_codec.specs.BucketPlace.{SpellsBucketRow}
 use Rattle.type_rows.specs.declared.section.Section.{Section}
 use Rattle.type_rows.specs.declared.fault.RowFault.{RowFault}
-use Rattle.type_rows.specs.Layout.{Layout, places_of}
+use Rattle.type_rows.specs.Layout.{Layout, places_of, record_bits}
 use Rattle.type_rows.specs.WordsHeld.{bytes_held}
 use Rattle.type_rows.specs.Holds.{Holds, HoldsRows, KeepsLimits}
 
@@ -48,7 +48,7 @@ pub record SectionIs (shape : Shape) (section : Section) (rows : RowMap) : Type 
 pub record Loads (shape : Shape) (section : Section) (rows : RowMap) : Type 0 where
   pub is : SectionIs shape section rows
   pub held : Holds shape (layout_of section) rows
-  pub within : KeepsLimits shape (layout_of section) rows
+  pub within : KeepsLimits shape (record_bits shape section.widths) (layout_of section) rows
 
 -- Want of memory may come in place of any answer.
 abbrev pub IsFreeRow : RowFault → Type 0

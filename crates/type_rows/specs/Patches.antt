@@ -75,7 +75,7 @@ pub record IsMovedBy (shape : Shape) (patch : PatchSection) (old new : RowMap) :
   pub ordinals : FitsOrdinals old (patch_layout patch) patch.removed patch.added
   pub moves : MovesRows old new patch.removed patch.added added
   pub held : Holds shape (patch_layout patch) new
-  pub within : KeepsLimits shape (patch_layout patch) new
+  pub within : KeepsLimits shape patch.own (patch_layout patch) new
 
 -- What a refusal tells of the patch.
 abbrev pub RefusesMove : Shape → PatchSection → RowMap → RowFault → Type 0

@@ -21,4 +21,4 @@ pub use outline::Outline;
 pub use patch::PatchSection;
 pub use section::Section;
 pub use totals::Totals;
-pub use words::{fixed_words, place_count, words_needed};
+pub use words::{counted_words, fixed_words, own_bits, place_count, words_needed};

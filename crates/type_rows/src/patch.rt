@@ -18,6 +18,9 @@ pub struct PatchSection {
     pub max: Option<u32>,
     /// The widths of the parts of a row, in bits, in the blob's order.
     pub widths: Widths,
+    /// How many bits of the record of an OBJECT the limit on words counts: the widths of the fields together that the schema of the type has. For
+    /// the other kinds it is 0 and not used.
+    pub own: u32,
     /// The number of elements or buckets; 0 for an OBJECT.
     pub total: u64,
     /// The words of the records of an OBJECT, else those of the pointers.

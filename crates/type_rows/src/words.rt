@@ -1,7 +1,7 @@
 //! How many places and words the layout of a type has.
 ghost use Rattle.std.specs.Prelude.{◌≡◌, ◌+◌, ◌*◌, ◌^◌, ◌<◌, ◌≤◌};
 ghost use Rattle.bit_array.specs.Element.{words_of};
-ghost use Rattle.type_rows.specs.Layout.{places_of, place_bits, item_bits, words_needed};
+ghost use Rattle.type_rows.specs.Layout.{places_of, place_bits, item_bits, words_needed, own_bits, counted_bits, places_counted};
 
 use bit_array::total_width;
 use schema_model::Shape;
@@ -27,6 +27,27 @@ fn place_bits(shape: &Shape, widths: &[u32]) -> u128
         (Shape::List(_), [pointer, ..]) => u128::from(*pointer),
         (Shape::Set(_), [pointer, size, ..]) => u128::from(*pointer) + u128::from(*size),
         (Shape::Map(_, _), [pointer, size, ..]) => u128::from(*pointer) + u128::from(*size),
+        _ => 0,
+    }
+}
+
+/// How many bits the limit on words counts for a place of a type of this shape: so many of the record of an OBJECT.
+fn counted_bits(shape: &Shape, own: u32, widths: &[u32]) -> u128
+    ensures is { result ≡ counted_bits shape.now own widths.now }
+    ensures small { result < 2 ^ 96 }
+{
+    match shape {
+        Shape::Object(_, _) => u128::from(own),
+        _ => place_bits(shape, widths),
+    }
+}
+
+/// How many bits the record of an OBJECT takes; 0 for the other kinds.
+pub fn own_bits(shape: &Shape, widths: &[u32]) -> u32
+    ensures { result ≡ own_bits shape.now widths.now }
+{
+    match shape {
+        Shape::Object(_, _) => total_width(widths).min(u128::from(u32::MAX)) as u32,
         _ => 0,
     }
 }
@@ -64,5 +85,14 @@ pub fn fixed_words(shape: &Shape, max: Option<u32>, widths: &[u32], items: u64) 
     ensures { result ≡ words_needed shape.now (record { max = max; widths = widths.now }) + words_of (items * item_bits shape.now widths.now) }
 {
     let of_places = words_of(u128::from(place_count(max)) * place_bits(shape, widths));
+    of_places + words_of(u128::from(items) * item_bits(shape, widths))
+}
+
+/// How many words the limit on words counts for a type of this shape, whose rows have so many elements or buckets, where it counts so many bits of the
+/// record of an OBJECT.
+pub fn counted_words(shape: &Shape, own: u32, max: Option<u32>, widths: &[u32], items: u64) -> u128
+    ensures { result ≡ places_counted shape.now own (record { max = max; widths = widths.now }) + words_of (items * item_bits shape.now widths.now) }
+{
+    let of_places = words_of(u128::from(place_count(max)) * counted_bits(shape, own, widths));
     of_places + words_of(u128::from(items) * item_bits(shape, widths))
 }

@@ -88,7 +88,7 @@ ends_are shape rows offsets long are =
 pub few_bytes : (shape : Shape) (half : HalfShape) (words : List ℕ) → IsHalf shape half words → sum half.lengths ≤ number_of_limit Bytes
 few_bytes shape half words (inl bare) = let none = ap (λ xs. sum xs) bare.lengths in omega (arith, none)
 few_bytes shape half words (inr p) =
-    let is = bytes_are shape half words (half_rows shape half words) p.can.kinds p.laid in omega (arith, is, p.can.within.bytes)
+    let is = bytes_are shape half words (half_rows shape half words) p.can.kinds p.laid in omega (arith, is, p.can.bytes)
 
 pub half_totals : (shape : Shape) (half : HalfShape) (words : List ℕ) (totals : Totals) → IsHalf shape half words → totals.ends.offsets.items ≡ half.lengths → totals.ends.items ≡ half.total → totals.bytes ≡ sum half.lengths → AreTotals (values (half_rows shape half words)) totals
 half_totals shape half words totals (inl bare) ends items bytes =

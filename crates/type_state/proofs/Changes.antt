@@ -16,7 +16,7 @@ use Rattle.type_rows.specs.declared.totals.Totals.{Totals}
 use Rattle.type_rows.specs.Differing.{Difference}
 use Rattle.type_rows.specs.Ends.{IsOfKind, AreOfKind}
 use Rattle.type_rows.specs.Holds.{FitsRow, HoldsRows}
-use Rattle.type_rows.specs.Layout.{Layout, item_bits, items_of_row, words_needed}
+use Rattle.type_rows.specs.Layout.{Layout, item_bits, items_of_row, places_counted}
 use Rattle.type_rows.specs.WordsHeld.{part_bytes, row_bytes}
 use Rattle.type_rows.specs.Totals.{AreTotals, HasParts}
 use Rattle.type_rows.proofs.Entries.{entries_rise}
@@ -101,8 +101,8 @@ back measure rows o last sum after at is again =
     omega (arith, most, here, is, again)
 
 -- The totals are the same.
-pub totals_again : (shape : Shape) (layout : Layout) (rows : RowMap) (o : ℕ) (last : Row) (sums after : Totals) → get rows o ≡ Some last → AreTotals (values rows) sums → HoldsLast shape layout last sums after → AreTotals (values rows) after
-totals_again shape layout rows o last sums after at are h = record {
+pub totals_again : (shape : Shape) (own : ℕ) (layout : Layout) (rows : RowMap) (o : ℕ) (last : Row) (sums after : Totals) → get rows o ≡ Some last → AreTotals (values rows) sums → HoldsLast shape own layout last sums after → AreTotals (values rows) after
+totals_again shape own layout rows o last sums after at are h = record {
   ends = λ f. back (part_bytes f) rows o last _ _ at (are.ends f) (h.ends f);
   items = back items_of_row rows o last _ _ at are.items h.items;
   bytes = back row_bytes rows o last _ _ at are.bytes h.bytes;
@@ -110,7 +110,7 @@ totals_again shape layout rows o last sums after at are h = record {
 
 -- ---- each row fits
 
-module _ (shape : Shape) (before : List ℕ) (layout : Layout) (old : RowMap) (ds : Differences) (apart : AreApart ds) (held : HoldsRows shape before [] (values old)) (wider : IsNoNarrower before layout.widths) (come : ComeFitting shape layout.widths ds) where
+module _ (shape : Shape) (own : ℕ) (before : List ℕ) (layout : Layout) (old : RowMap) (ds : Differences) (apart : AreApart ds) (held : HoldsRows shape before [] (values old)) (wider : IsNoNarrower before layout.widths) (come : ComeFitting shape layout.widths ds) where
   fits_there : (widths : List ℕ) (ends : ℕ → ℕ) (items : ℕ) (row last : Row) → IsNoNarrower widths layout.widths → IsOfKind shape last → FitsRow shape layout.widths ends items last → FitsSomewhere shape widths row → FitsRow shape layout.widths ends items row
   fits_there widths ends items row last le kind fits was = fits_beside shape widths layout.widths was.ends ends was.items items row last kind le was.fits fits
 
@@ -133,14 +133,14 @@ module _ (shape : Shape) (before : List ℕ) (layout : Layout) (old : RowMap) (d
       each_fits ends items last kind fits e.0 e.1 (get-entries (rows_with old ds) e.0 ∙ found_at 0 es e.0 k d (entries_rise (rows_with old ds)) inside refl)
 
   -- The layout holds the new rows.
-  pub held_by_last : (o : ℕ) (last : Row) (sums after : Totals) → get (rows_with old ds) o ≡ Some last → IsOfKind shape last → AreTotals (values (rows_with old ds)) sums → HoldsLast shape layout last sums after → IsHeld shape layout (rows_with old ds)
+  pub held_by_last : (o : ℕ) (last : Row) (sums after : Totals) → get (rows_with old ds) o ≡ Some last → IsOfKind shape last → AreTotals (values (rows_with old ds)) sums → HoldsLast shape own layout last sums after → IsHeld shape own layout (rows_with old ds)
   held_by_last o last sums after at kind are h =
-      let totals = totals_again shape layout (rows_with old ds) o last sums after at are h in
+      let totals = totals_again shape own layout (rows_with old ds) o last sums after at are h in
       record {
         parts = all_held shape layout.widths (λ f. slice_index after.ends.offsets.items f) after.ends.items [] (entries (rows_with old ds)) (all_fit (λ f. slice_index after.ends.offsets.items f) after.ends.items last kind h.fits)
             (λ f. let is = totals.ends f in omega (arith, is)) (let is = totals.items in omega (arith, is));
         within = record {
-          words = subst (λ n. words_needed shape layout + words_of (n * item_bits shape layout.widths) ≤ number_of_limit Words) totals.items h.words;
+          words = subst (λ n. places_counted shape own layout + words_of (n * item_bits shape layout.widths) ≤ number_of_limit Words) totals.items h.words;
           bytes = subst (λ n. n ≤ number_of_limit Bytes) totals.bytes h.few;
         };
       }

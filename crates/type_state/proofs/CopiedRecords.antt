@@ -19,7 +19,7 @@ use Rattle.packed_half.specs.declared.half.HalfShape.{HalfShape}
 use Rattle.packed_half.specs.Half.{areas_in, item_words, place_words, words_for, words_for_bytes}
 use Rattle.packed_half.specs.LaidOut.{IsLaidOut, IsTight}
 use Rattle.packed_half.specs.Laying.{ArePlaced, CanLay, parts_in}
-use Rattle.packed_half.proofs.Parted.{IsCut, whole, words_few}
+use Rattle.packed_half.proofs.Parted.{IsCut, whole}
 use Rattle.packed_half.proofs.RowPlaces.{entry_of, key_of, key_there, placed_in}
 use Rattle.spelled_rows.specs.Rows.{rows_in}
 use Rattle.type_rows.specs.declared.section.Section.{Section}
@@ -136,7 +136,7 @@ object_words key fields section half first widths places readable few zeros =
 pub has_words : (shape : Shape) (section : Section) (half : HalfShape) (first : List ℕ) → StandAlike shape section half → IsReadable shape section → ((rows : RowMap) × Loads shape section rows × CanLay shape half rows)
     → first ≡ replicate (place_words shape half) 0 → HasWords section first
 has_words (Shape.Object key fields) section half first alike readable loads zeros =
-    object_words key fields section half first (ap (λ (l : Layout). l.widths) alike.layout) (ap (λ (l : Layout). places_of l.max) alike.layout) readable (words_few (Shape.Object key fields) half loads.0 loads.2) zeros
+    object_words key fields section half first (ap (λ (l : Layout). l.widths) alike.layout) (ap (λ (l : Layout). places_of l.max) alike.layout) readable loads.2.room zeros
 has_words (Shape.List element) section half first alike readable loads zeros = absurd alike.object
 has_words (Shape.Set element) section half first alike readable loads zeros = absurd alike.object
 has_words (Shape.Map key value) section half first alike readable loads zeros = absurd alike.object

@@ -8,10 +8,9 @@ use Rattle.type_rows.specs.Loads.{Loads}
 use Rattle.packed_half.specs.declared.half.HalfShape.{HalfShape}
 use Rattle.packed_half.specs.Half.{words_for}
 use Rattle.packed_half.specs.Laying.{CanLay}
-use Rattle.packed_half.proofs.Parted.{words_few}
 
 pub words_fit : (shape : Shape) (section : Section) (half : HalfShape) → ((rows : RowMap) × Loads shape section rows × CanLay shape half rows) → words_for shape half < 2 ^ 64
-words_fit shape section half laid = (let few = words_few shape half laid.0 laid.2 in omega (arith, few))
+words_fit shape section half laid = omega (arith, laid.2.room)
 
 -- Words that are written over others of the same number are these.
 pub refilled : (given others : List ℕ) → length given ≡ length others → take (length others) (given ++ drop (length given) others) ≡ given
@@ -19,4 +18,4 @@ refilled given others same =
     ap (λ (n : ℕ). take n (given ++ drop (length given) others)) (sym same) ∙ take_at given (drop (length given) others) (length given) refl
 
 pub moved_fit : (shape : Shape) (half : HalfShape) (rows : RowMap) → CanLay shape half rows → words_for shape half < 2 ^ 64
-moved_fit shape half rows can = (let few = words_few shape half rows can in omega (arith, few))
+moved_fit shape half rows can = omega (arith, can.room)

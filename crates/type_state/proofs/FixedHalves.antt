@@ -23,7 +23,7 @@ use Rattle.packed_half.specs.declared.half.HalfShape.{HalfShape}
 use Rattle.packed_half.specs.Half.{areas_in, behind_items, item_words, place_words, section_in, words_for, words_for_bytes}
 use Rattle.packed_half.specs.LaidOut.{IsLaidOut, IsTight, lengths_of}
 use Rattle.packed_half.specs.Laying.{ArePlaced, CanLay, parts_in, places_in}
-use Rattle.packed_half.proofs.Parted.{IsCut, cut_zeros, whole, words_few}
+use Rattle.packed_half.proofs.Parted.{IsCut, cut_zeros, whole}
 use Rattle.packed_half.proofs.PlacedRecords.{can_pack}
 use Rattle.type_rows.specs.Layout.{places_of}
 use Rattle.type_rows.specs.Loads.{Spells}
@@ -102,7 +102,7 @@ field_widths (Some max) fields widths some h = h
 
 object_places : (shape : Shape) (half : HalfShape) (rows : RowMap) (first : List ℕ) → IsObject shape → AreFixed (shape_fields shape) → CanLay shape half rows → length first ≡ place_words shape half → HasPlaces shape half.widths first (places_of half.max)
 object_places (Shape.Object key fields) half rows first object fixed can long =
-    let few = words_few (Shape.Object key fields) half rows can in
+    let few = can.room in
     let words : place_words (Shape.Object key fields) half ≡ (places_of half.max * sum half.widths + 63) / 64 = refl in
     record {
       object = tt;
@@ -176,7 +176,7 @@ few_copied shape before after words object p same =
     let here = places_of after.max in
     let size_before : sum before.widths ≡ size = ap (λ (w : List ℕ). sum w) (sym same) in
     let bits : there * sum before.widths ≡ there * size = ap (λ n. there * n) size_before in
-    let few = words_few shape before (half_rows shape before words) p.can in
+    let few = p.can.room in
     let words_before = place_words_of shape before object in
     let words_after = place_words_of shape after object in
     let below : min there here ≤ there = omega arith in

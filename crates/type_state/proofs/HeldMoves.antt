@@ -1,5 +1,5 @@
 -- Which rows a patch moves others to, by whether its layout holds them within the limits.
-use Rattle.std.proofs.Common.{◌≡◌, get_or, sym, subst}
+use Rattle.std.proofs.Common.{◌≡◌, ℕ, get_or, sym, subst}
 use Rattle.std.specs.Prelude.{IsSome}
 use Rattle.std.specs.FinMap.{entries, keys, get-entries}
 use Rattle.schema_model.specs.declared.schema.Shape.{Shape}
@@ -20,9 +20,9 @@ use Rattle.type_state.specs.Moving.{IsHeld, IsMoved}
 use Rattle.type_state.proofs.Lookups.{key_live}
 
 -- Rows that are moved and that the layout holds within the limits.
-pub moved_by : (shape : Shape) (patch : PatchSection) (old new : RowMap) (layout : Layout) → layout ≡ patch_layout patch → IsMoved shape patch old new → IsHeld shape layout new → IsMovedBy shape patch old new
-moved_by shape patch old new layout same m held_in =
-    let held = subst (λ l. IsHeld shape l new) same held_in in
+pub moved_by : (shape : Shape) (patch : PatchSection) (old new : RowMap) (own : ℕ) (layout : Layout) → own ≡ patch.own → layout ≡ patch_layout patch → IsMoved shape patch old new → IsHeld shape own layout new → IsMovedBy shape patch old new
+moved_by shape patch old new own layout counts same m held_in =
+    let held = subst (λ n. IsHeld shape n (patch_layout patch) new) counts (subst (λ l. IsHeld shape own l new) same held_in) in
     record {
       added = m.added;
       adds = m.adds;
@@ -33,10 +33,11 @@ moved_by shape patch old new layout same m held_in =
     }
 
 -- The first fault of the new rows, of their widths and the limits, is that of the patch.
-pub fails_held : (shape : Shape) (patch : PatchSection) (old new : RowMap) (layout : Layout) (fault : RowFault) → layout ≡ patch_layout patch → LeadsTo shape patch old new → FailsHeld shape layout new fault → FailsMove shape patch old fault
-fails_held shape patch old new layout fault same leads f = at_layout fault (subst (λ l. FailsHeld shape l new fault) same f)
+pub fails_held : (shape : Shape) (patch : PatchSection) (old new : RowMap) (own : ℕ) (layout : Layout) (fault : RowFault) → own ≡ patch.own → layout ≡ patch_layout patch → LeadsTo shape patch old new → FailsHeld shape own layout new fault → FailsMove shape patch old fault
+fails_held shape patch old new own layout fault counts same leads f =
+    at_layout fault (subst (λ n. FailsHeld shape n (patch_layout patch) new fault) counts (subst (λ l. FailsHeld shape own l new fault) same f))
   where
-    at_layout : (fault : RowFault) → FailsHeld shape (patch_layout patch) new fault → FailsMove shape patch old fault
+    at_layout : (fault : RowFault) → FailsHeld shape patch.own (patch_layout patch) new fault → FailsMove shape patch old fault
     at_layout (RowFault.At Reason.BadWidth o) f = (new, leads, f)
     at_layout (RowFault.At _ o) f = absurd f
     at_layout (RowFault.Limit Words) f = (new, record { leads = leads; held = f.0 }, f.1)

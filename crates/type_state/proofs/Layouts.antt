@@ -173,13 +173,13 @@ first_slot : (shape : Shape) (widths : List ℕ) (rows : RowMap) (o : ℕ) (slot
 first_slot shape widths rows o None ends bytes l is bad = absurd (bad tt)
 first_slot shape widths rows o (Some row) ends bytes l is bad = first_misfit shape widths rows o row ends.offsets.items ends.items bytes l (sym is) bad
 
-pub fails_slot : (shape : Shape) (layout : Layout) (rows : RowMap) (o : ℕ) (slot : Option Row) (ends : Ends) (bytes : ℕ) (fault : RowFault) → Laid shape layout.widths rows o ends.offsets.items ends.items bytes → slot ≡ get rows o
-    → FailsSlot shape layout.widths o slot ends fault → FailsHeld shape layout rows fault
-fails_slot shape layout rows o slot ends bytes (RowFault.At Reason.BadWidth at) l is f =
+pub fails_slot : (shape : Shape) (own : ℕ) (layout : Layout) (rows : RowMap) (o : ℕ) (slot : Option Row) (ends : Ends) (bytes : ℕ) (fault : RowFault) → Laid shape layout.widths rows o ends.offsets.items ends.items bytes → slot ≡ get rows o
+    → FailsSlot shape layout.widths o slot ends fault → FailsHeld shape own layout rows fault
+fails_slot shape own layout rows o slot ends bytes (RowFault.At Reason.BadWidth at) l is f =
     subst (λ n. FirstUnheld shape layout.widths (keys rows) (values rows) n) (sym f.0) (first_slot shape layout.widths rows o slot ends bytes l is f.1)
-fails_slot shape layout rows o slot ends bytes (RowFault.At _ at) l is f = absurd f
-fails_slot shape layout rows o slot ends bytes (RowFault.Limit limit) l is f = absurd f
-fails_slot shape layout rows o slot ends bytes RowFault.Memory l is f = tt
+fails_slot shape own layout rows o slot ends bytes (RowFault.At _ at) l is f = absurd f
+fails_slot shape own layout rows o slot ends bytes (RowFault.Limit limit) l is f = absurd f
+fails_slot shape own layout rows o slot ends bytes RowFault.Memory l is f = absurd f
 
 -- All rows are laid out.
 pub all_laid : (shape : Shape) (widths : List ℕ) (rows : RowMap) (o : ℕ) (ends : List ℕ) (items bytes : ℕ) → Laid shape widths rows o ends items bytes → bound_of (keys rows) ≤ o → AreLaidOut shape widths (values_of (entries rows)) ends items bytes

@@ -8,6 +8,7 @@ use Rattle.row_model.specs.Table.{RowMap}
 use Rattle.packed_half.specs.declared.half.HalfShape.{HalfShape}
 use Rattle.packed_half.specs.Half.{layout_in}
 use Rattle.packed_half.specs.Laying.{CanLay, EachRowOf}
+use Rattle.packed_half.proofs.Parted.{words_few}
 use Rattle.type_rows.specs.declared.patch.PatchSection.{PatchSection}
 use Rattle.type_rows.specs.declared.totals.Totals.{Totals}
 use Rattle.type_rows.specs.Ends.{AreOfKind}
@@ -39,5 +40,8 @@ can_lay shape patch half totals old new h layout live total lengths are long m k
   stored = moved_stored shape patch old new h m stored;
   many = h.many;
   few = (let same = ap (λ (l : Layout). places_of l.max) layout in omega (arith, same, h.few));
-  within = subst (λ (l : Layout). KeepsLimits shape l new) (sym layout) m.within;
+  bytes = m.within.bytes;
+  room = words_few shape patch.own half new (subst (λ (l : Layout). AreWidths shape l.max l.widths) (sym layout) h.well.wide) h.many
+      (let same = ap (λ (l : Layout). places_of l.max) layout in omega (arith, same, h.few)) (total ∙ are.items) (lengths ∙ ends_are shape (values new) totals.ends.offsets.items long are.ends)
+      (subst (λ (l : Layout). KeepsLimits shape patch.own l new) (sym layout) m.within);
 }

@@ -11,6 +11,7 @@ use Rattle.packed_half.specs.declared.half.HalfShape.{HalfShape}
 use Rattle.packed_half.specs.Half.{layout_in}
 use Rattle.packed_half.specs.LaidOut.{IsLaidOut, lengths_of}
 use Rattle.packed_half.specs.Laying.{CanLay, EachRowOf}
+use Rattle.packed_half.proofs.Parted.{words_few}
 use Rattle.packed_half.proofs.RowPlaces.{entry_of}
 use Rattle.row_faults.specs.LoadFault.{FailsLoad}
 use Rattle.row_faults.specs.Sums.{AreSums}
@@ -21,7 +22,7 @@ use Rattle.spelled_rows.proofs.LiveRows.{rows_are}
 use Rattle.type_rows.specs.declared.section.Section.{Section}
 use Rattle.type_rows.specs.declared.fault.RowFault.{RowFault}
 use Rattle.type_rows.specs.Holds.{Holds, KeepsLimits}
-use Rattle.type_rows.specs.Layout.{Layout, places_of}
+use Rattle.type_rows.specs.Layout.{Layout, places_of, record_bits}
 use Rattle.type_rows.specs.Loads.{IsSpelledIn, Loads, RefusesLoad, SectionIs, layout_of}
 use Rattle.type_rows.specs.WellFormed.{AreWidths, IsReadable}
 use Rattle.type_rows.specs.WordsHeld.{field_bytes}
@@ -61,7 +62,10 @@ can_lay shape section half sums rows h l layout live total lengths are long = re
   stored = section_stored shape section rows h l.is;
   many = h.many;
   few = (let same = ap (λ (layout : Layout). places_of layout.max) layout in omega (arith, same, h.few));
-  within = subst (λ (layout : Layout). KeepsLimits shape layout rows) (sym layout) l.within;
+  bytes = l.within.bytes;
+  room = words_few shape (record_bits shape section.widths) half rows (subst (λ (layout : Layout). AreWidths shape layout.max layout.widths) (sym layout) h.well.wide) h.many
+      (let same = ap (λ (layout : Layout). places_of layout.max) layout in omega (arith, same, h.few)) (total ∙ are.items) (lengths ∙ lengths_are shape rows sums.lengths long are.lengths)
+      (subst (λ (layout : Layout). KeepsLimits shape (record_bits shape section.widths) layout rows) (sym layout) l.within);
 }
 
 -- ---- a section that is refused

@@ -11,7 +11,7 @@ use Rattle.row_model.specs.Table.{RowMap}
 use Rattle.type_rows.specs.declared.totals.Totals.{Totals}
 use Rattle.type_rows.specs.Ends.{IsOfKind}
 use Rattle.type_rows.specs.Holds.{FitsRow}
-use Rattle.type_rows.specs.Layout.{Layout, item_bits, items_of_row, words_needed}
+use Rattle.type_rows.specs.Layout.{Layout, item_bits, items_of_row, places_counted}
 use Rattle.type_rows.specs.Differing.{Difference}
 use Rattle.type_rows.specs.Totals.{AreTotals}
 use Rattle.type_rows.specs.WordsHeld.{part_bytes, row_bytes}
@@ -54,11 +54,11 @@ pub record ComeFitting (shape : Shape) (widths : List ℕ) (differences : Differ
   pub added : AreFitting shape widths differences.added.items
 
 -- The last row, which is taken off and laid out again, fits, and the totals keep the limits.
-pub record HoldsLast (shape : Shape) (layout : Layout) (last : Row) (before after : Totals) : Type 0 where
+pub record HoldsLast (shape : Shape) (own : ℕ) (layout : Layout) (last : Row) (before after : Totals) : Type 0 where
   pub ends : (field : ℕ) → slice_index after.ends.offsets.items field ≡ slice_index before.ends.offsets.items field - part_bytes field last + part_bytes field last
   pub items : after.ends.items ≡ before.ends.items - items_of_row last + items_of_row last
   pub bytes : after.bytes ≡ before.bytes - row_bytes last + row_bytes last
   pub long : length after.ends.offsets.items ≡ length before.ends.offsets.items
   pub fits : FitsRow shape layout.widths (λ field. slice_index after.ends.offsets.items field) after.ends.items last
-  pub words : words_needed shape layout + words_of (after.ends.items * item_bits shape layout.widths) ≤ number_of_limit Words
+  pub words : places_counted shape own layout + words_of (after.ends.items * item_bits shape layout.widths) ≤ number_of_limit Words
   pub few : after.bytes ≤ number_of_limit Bytes

@@ -34,13 +34,12 @@ FailsAdds shape patch _ = ⊥
 -- What stands under the ordinal does not fit behind rows that end there.
 abbrev pub FailsSlot : Shape → List ℕ → ℕ → Option Row → Ends → RowFault → Type 0
 FailsSlot shape widths ordinal slot ends (RowFault.At Reason.BadWidth at) = (at ≡ ordinal) × (FitsSlot shape widths slot ends → ⊥)
-FailsSlot shape widths ordinal slot ends RowFault.Memory = Unit {0}
 FailsSlot shape widths ordinal slot ends _ = ⊥
 
 -- The ordinal is the first of a row that the layout does not hold; or it holds all, and they pass the limit on words, or that on bytes alone.
-abbrev pub FailsHeld : Shape → Layout → RowMap → RowFault → Type 0
-FailsHeld shape layout rows (RowFault.At Reason.BadWidth ordinal) = FirstUnheld shape layout.widths (keys rows) (values rows) ordinal
-FailsHeld shape layout rows (RowFault.Limit Words) = HoldsRows shape layout.widths [] (values rows) × PassWords shape layout rows
-FailsHeld shape layout rows (RowFault.Limit Bytes) = HoldsRows shape layout.widths [] (values rows) × (PassWords shape layout rows → ⊥) × PassBytes rows
-FailsHeld shape layout rows RowFault.Memory = Unit {0}
-FailsHeld shape layout rows _ = ⊥
+abbrev pub FailsHeld : Shape → ℕ → Layout → RowMap → RowFault → Type 0
+FailsHeld shape own layout rows (RowFault.At Reason.BadWidth ordinal) = FirstUnheld shape layout.widths (keys rows) (values rows) ordinal
+FailsHeld shape own layout rows (RowFault.Limit Words) = HoldsRows shape layout.widths [] (values rows) × PassWords shape own layout rows
+FailsHeld shape own layout rows (RowFault.Limit Bytes) = HoldsRows shape layout.widths [] (values rows) × (PassWords shape own layout rows → ⊥) × PassBytes rows
+FailsHeld shape own layout rows RowFault.Memory = Unit {0}
+FailsHeld shape own layout rows _ = ⊥

@@ -75,7 +75,7 @@ pub record LaysSlot (shape : Shape) (widths : List ℕ) (slot : Option Row) (bef
   pub long : length after.offsets.items ≡ length before.offsets.items
   pub own : bytes ≡ min (option_map_or row_bytes slot 0) (2 ^ 64 - 1)
 
--- The layout fits its rows, laid out one behind the other, and they keep the limits.
-pub record IsHeld (shape : Shape) (layout : Layout) (rows : RowMap) : Type 0 where
+-- The layout fits its rows, laid out one behind the other, and they keep the limits; of the record of an OBJECT so many bits are counted.
+pub record IsHeld (shape : Shape) (own : ℕ) (layout : Layout) (rows : RowMap) : Type 0 where
   pub parts : HoldsRows shape layout.widths [] (values rows)
-  pub within : KeepsLimits shape layout rows
+  pub within : KeepsLimits shape own layout rows

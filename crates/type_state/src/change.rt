@@ -17,7 +17,7 @@ use crate::planning::Plan;
 use row_model::Row;
 use schema_model::{MAX_WORDS, Schema, Shape};
 use std::alloc::{AllocError, Global};
-use type_rows::{MOST_ITEMS, Outline, Totals, fixed_words};
+use type_rows::{MOST_ITEMS, Outline, Totals, counted_words};
 
 /// Whether there are as many widths as before, and none is narrower.
 fn are_no_narrower(before: &[u32], widths: &[u32]) -> bool
@@ -75,12 +75,12 @@ fn count_change(
 }
 
 /// Lays out the last row again, behind all the others, and tells whether each part of it fits its width there and the limits are kept.
-fn holds_last(totals: &mut Totals, shape: &Shape, outline: &Outline, last: &Row) -> bool
+fn holds_last(totals: &mut Totals, shape: &Shape, own: u32, outline: &Outline, last: &Row) -> bool
     requires widths { length outline.now.widths ≡ width_count shape.now }
     requires narrow { (part : ℕ) → slice_index outline.now.widths part ≤ 64 }
     requires long { length totals.old.ends.offsets.items ≡ length (shape_fields shape.now) }
     requires kind { IsOfKind shape.now last.now }
-    ensures { IsTrue result → HoldsLast shape.now (layout_at outline.now) last.now totals.old totals.new }
+    ensures { IsTrue result → HoldsLast shape.now own (layout_at outline.now) last.now totals.old totals.new }
 {
     let widths = outline.widths.as_slice();
     totals.take_off(last);
@@ -88,7 +88,8 @@ fn holds_last(totals: &mut Totals, shape: &Shape, outline: &Outline, last: &Row)
         return false;
     }
     let items = totals.ends.items;
-    items <= MOST_ITEMS && fixed_words(shape, outline.max, widths, items) <= u128::from(MAX_WORDS)
+    let words = counted_words(shape, own, outline.max, widths, items);
+    items <= MOST_ITEMS && words <= u128::from(MAX_WORDS)
 }
 
 /// What the rows that others are moved to add up to, where no width is narrower than before and it is told by the rows that come and the last one
@@ -107,7 +108,7 @@ pub(crate) fn totals_by_change(
     requires kinds { AreOfKind schema.now.shape (rows_with rows.now.rows next.now.differences) }
     requires apart { AreApart next.now.differences }
     requires held { HoldsRows schema.now.shape rows.now.widths [] (values rows.now.rows) }
-    ensures held { IfOk result (λ told. IfSome told (λ sums. IsHeld schema.now.shape (layout_at next.now.outline) (rows_with rows.now.rows next.now.differences))) }
+    ensures held { IfOk result (λ told. IfSome told (λ sums. IsHeld schema.now.shape next.now.own (layout_at next.now.outline) (rows_with rows.now.rows next.now.differences))) }
     ensures totals { IfOk result (λ told. IfSome told (AreTotals (values (rows_with rows.now.rows next.now.differences)))) }
     ensures long { IfOk result (λ told. IfSome told (λ sums. length sums.ends.offsets.items ≡ length (shape_fields schema.now.shape))) }
 {
@@ -122,7 +123,9 @@ pub(crate) fn totals_by_change(
         return Ok(None);
     }
     match next.differences.find(alloc, rows, next.outline.bound - 1)? {
-        Some(last) if holds_last(&mut sums, &schema.shape, &next.outline, &last) => Ok(Some(sums)),
+        Some(last) if holds_last(&mut sums, &schema.shape, next.own, &next.outline, &last) => Ok(
+            Some(sums),
+        ),
         _ => Ok(None),
     }
 }

@@ -19,7 +19,7 @@ use crate::planning::Plan;
 use row_model::Row;
 use schema_model::{Limit, MAX_BYTES, MAX_WORDS, Reason, Schema, Shape};
 use std::alloc::Global;
-use type_rows::{Ends, MOST_ITEMS, RowFault, Totals, fixed_words, row_len};
+use type_rows::{Ends, MOST_ITEMS, RowFault, Totals, counted_words, row_len};
 
 /// Lays out what stands under an ordinal, if a row does, and tests that each part of it fits its width; gives its bytes. The fault names the ordinal.
 fn lay_slot(
@@ -41,9 +41,6 @@ fn lay_slot(
     if !ends.add(shape, widths, row) {
         return Err(RowFault::At(Reason::BadWidth, u64::from(ordinal)));
     }
-    if ends.items > MOST_ITEMS {
-        return Err(RowFault::Memory);
-    }
     Ok(row_len(row))
 }
 
@@ -64,7 +61,7 @@ fn lay_out(
     requires zero { (f : ℕ) → slice_index ends.old.offsets.items f ≡ 0 }
     requires long { length ends.old.offsets.items ≡ length (shape_fields schema.now.shape) }
     requires none { ends.old.items ≡ 0 }
-    ensures { MatchResult result (AreLaidOut schema.now.shape next.now.outline.widths (values (rows_with rows.now.rows next.now.differences)) ends.new.offsets.items ends.new.items) (FailsHeld schema.now.shape (layout_at next.now.outline) (rows_with rows.now.rows next.now.differences)) }
+    ensures { MatchResult result (AreLaidOut schema.now.shape next.now.outline.widths (values (rows_with rows.now.rows next.now.differences)) ends.new.offsets.items ends.new.items) (FailsHeld schema.now.shape next.now.own (layout_at next.now.outline) (rows_with rows.now.rows next.now.differences)) }
 {
     let mut bytes: u64 = 0;
     for ordinal in 0..next.outline.bound {
@@ -82,7 +79,7 @@ fn lay_out(
 }
 
 /// Tests that the layout of a half holds its rows, laid out one behind the other, and that they keep the limit on words, then that on bytes;
-/// gives what they add up to.
+/// gives what they add up to. `Memory` comes also where they do, and have more than `MOST_ITEMS` elements, which then have no bits.
 fn test_all(
     alloc: Global,
     schema: &Schema,
@@ -94,14 +91,15 @@ fn test_all(
     requires kinds { AreOfKind schema.now.shape (rows_with rows.now.rows next.now.differences) }
     requires apart { AreApart next.now.differences }
     requires bound { next.now.outline.bound ≡ bound_of (keys (rows_with rows.now.rows next.now.differences)) }
-    ensures tells { MatchResult result (λ _. IsHeld schema.now.shape (layout_at next.now.outline) (rows_with rows.now.rows next.now.differences)) (FailsHeld schema.now.shape (layout_at next.now.outline) (rows_with rows.now.rows next.now.differences)) }
+    ensures tells { MatchResult result (λ _. IsHeld schema.now.shape next.now.own (layout_at next.now.outline) (rows_with rows.now.rows next.now.differences)) (FailsHeld schema.now.shape next.now.own (layout_at next.now.outline) (rows_with rows.now.rows next.now.differences)) }
     ensures totals { IfOk result (AreTotals (values (rows_with rows.now.rows next.now.differences))) }
     ensures long { IfOk result (λ sums. length sums.ends.offsets.items ≡ length (shape_fields schema.now.shape)) }
 {
     let mut ends = Ends::new(alloc, &schema.shape)?;
     let bytes = lay_out(alloc, schema, next, rows, &mut ends)?;
-    let words = fixed_words(
+    let words = counted_words(
         &schema.shape,
+        next.own,
         next.outline.max,
         next.outline.widths.as_slice(),
         ends.items,
@@ -111,6 +109,9 @@ fn test_all(
     }
     if bytes > MAX_BYTES {
         return Err(RowFault::Limit(Limit::Bytes));
+    }
+    if ends.items > MOST_ITEMS {
+        return Err(RowFault::Memory);
     }
     Ok(Totals { ends, bytes })
 }
@@ -129,7 +130,7 @@ pub(crate) fn test_held(
     requires apart { AreApart next.now.differences }
     requires bound { next.now.outline.bound ≡ bound_of (keys (rows_with rows.now.rows next.now.differences)) }
     requires held { HoldsRows schema.now.shape rows.now.widths [] (values rows.now.rows) }
-    ensures tells { MatchResult result (λ _. IsHeld schema.now.shape (layout_at next.now.outline) (rows_with rows.now.rows next.now.differences)) (FailsHeld schema.now.shape (layout_at next.now.outline) (rows_with rows.now.rows next.now.differences)) }
+    ensures tells { MatchResult result (λ _. IsHeld schema.now.shape next.now.own (layout_at next.now.outline) (rows_with rows.now.rows next.now.differences)) (FailsHeld schema.now.shape next.now.own (layout_at next.now.outline) (rows_with rows.now.rows next.now.differences)) }
     ensures totals { IfOk result (AreTotals (values (rows_with rows.now.rows next.now.differences))) }
     ensures long { IfOk result (λ sums. length sums.ends.offsets.items ≡ length (shape_fields schema.now.shape)) }
 {

@@ -59,6 +59,20 @@ fn half_at(outline: Outline, ends: Ends, live: OrdinalSet) -> HalfShape
     }
 }
 
+/// The numbers of bytes of the fields of a half. The pattern names each field: nothing else is kept of a half.
+fn lengths_of(half: &HalfShape) -> &[u64]
+    ensures { result.now ≡ half.now.lengths }
+{
+    let HalfShape {
+        max: _,
+        widths: _,
+        total: _,
+        lengths,
+        live: _,
+    } = half;
+    lengths.as_slice()
+}
+
 /// The half of a plan, whose rows add up to these totals.
 fn half_of(alloc: Global, rows: &Current<'_>, counted: CountedPlan) -> Result<Move, AllocError>
     requires { AreBelow (2 ^ 32 - 1) counted.plan.differences.added.items }
@@ -72,6 +86,7 @@ fn half_of(alloc: Global, rows: &Current<'_>, counted: CountedPlan) -> Result<Mo
     let CountedPlan { plan, totals } = counted;
     let Plan {
         outline,
+        own: _,
         differences,
     } = plan;
     let Totals { ends, bytes: _ } = totals;
@@ -120,7 +135,7 @@ pub(crate) fn lay_moved<'a>(
     requires zeros { words.old ≡ replicate (words_for schema.now.shape next.now.half) 0 }
     ensures { OnOk result (IsLaidOut schema.now.shape next.now.half words.new (rows_with (half_rows schema.now.shape current.entry.half.now current.entry.words.now) next.now.differences)) }
 {
-    let areas = bytes_of_fields(alloc, current.bytes(), current.half.lengths.as_slice())?;
+    let areas = bytes_of_fields(alloc, current.bytes(), lengths_of(current.half))?;
     let records = KeptRecords::new(&current, areas.as_slice());
     if can_copy_runs(&schema.shape, current.half, &next.half) {
         return lay_by_runs(alloc, schema, records, next, words);

@@ -26,6 +26,8 @@ use type_rows::{Outline, PatchSection, RowFault, Totals};
 #[derive(Debug, Drop)]
 pub(crate) struct Plan {
     pub(crate) outline: Outline,
+    /// How many bits of the record of an OBJECT the limit on words counts.
+    pub(crate) own: u32,
     pub(crate) differences: Differences,
 }
 
@@ -109,6 +111,7 @@ fn differing(
     requires { IsReadablePatch schema.now.shape patch.now }
     ensures tells { MatchResult result (λ next. IsMoved schema.now.shape patch.now rows.now.rows (rows_with rows.now.rows next.differences)) (FailsMove schema.now.shape patch.now rows.now.rows) }
     ensures layout { IfOk result (λ next. layout_at next.outline ≡ patch_layout patch.now) }
+    ensures own { IfOk result (λ next. next.own ≡ patch.now.own) }
     ensures bound { IfOk result (λ next. next.outline.bound ≡ bound_of (keys (rows_with rows.now.rows next.differences))) }
     ensures apart { IfOk result (λ next. AreApart next.differences) }
     ensures known { IfOk result (λ next. IsDifferent schema.now.shape patch.now rows.now.rows next.differences) }
@@ -122,6 +125,7 @@ fn differing(
     };
     Ok(Plan {
         outline,
+        own: patch.own,
         differences,
     })
 }

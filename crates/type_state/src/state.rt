@@ -197,10 +197,19 @@ impl TypeState {
     }
 
     /// How many words the current rows take where they stand: at the layout of the blob that last named the type, with nothing between them.
+    ///
+    /// The pattern names each field: nothing else is kept of a type.
     pub fn words_held(&self) -> u64
         ensures { result ≡ words_held self.entry.now.schema.shape self.entry.now.current }
     {
-        self.twin.current().len() as u64
+        let TypeState {
+            alloc: _,
+            schema: _,
+            twin,
+            now: _,
+            other: _,
+        } = self;
+        twin.current().len() as u64
     }
 
     /// How many bytes of STRING and BYTES fields the current rows have.
@@ -417,40 +426,5 @@ impl TypeState {
             words: self.twin.other(),
         };
         runs_in(half)
-    }
-}
-
-#[cfg(test)]
-mod tests {
-    use super::TypeState;
-    use packed_half::HalfShape;
-    use schema_model::{Fields, Name, Schema, Shape};
-    use std::test::Fail;
-
-    // Nothing else is kept of a type and of a half: a further field would have to be named here.
-    #[test]
-    fn keeps_nothing_else(rt: HostRuntime) -> Result<(), Fail> {
-        let name = Name::from_text(rt.alloc(), "A")?;
-        let shape = Shape::Object(None, Fields::new(rt.alloc()));
-        let state = TypeState::new(rt.alloc(), Schema { name, shape });
-        assert_eq!(rt; state.words_held(), 0);
-        assert_eq!(rt; state.bytes_held(), 0);
-        let TypeState {
-            alloc: _,
-            schema: _,
-            twin: _,
-            now,
-            other: _,
-        } = state;
-        let HalfShape {
-            max,
-            widths,
-            total,
-            lengths,
-            live,
-        } = now;
-        assert!(rt; max.is_none() && widths.is_empty() && total == 0);
-        assert!(rt; lengths.is_empty() && live.bound() == 0);
-        Ok(())
     }
 }

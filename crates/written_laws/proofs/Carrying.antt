@@ -1,6 +1,7 @@
 -- Lemmas on what is carried of a type of two states: it suits them, and its numbers and parts fit the bytes of a blob.
 use Rattle.std.proofs.Common.{◌≡◌, ◌≤◌, ◌<◌, ◌^◌, ℕ, List, length, get_or, Option, Some, None, ap, ◌∙◌, sym, subst, inl, inr, arith}
 use Rattle.std.specs.Prelude.{All, slice_get}
+use Rattle.std.specs.FinMap.{values}
 use Rattle.std.specs.Str.{IsUtf8}
 use Rattle.std.proofs.lemmas.Bool.{cases_lt}
 use Rattle.std.proofs.lemmas.Option.{slice_get-get_or}
@@ -18,7 +19,7 @@ use Rattle.schema_model.proofs.Spellable.{model_is_spellable}
 use Rattle.row_model.specs.BothStates.{rows_in, rows_of_both}
 use Rattle.object_codec.specs.Widths.{live_rows}
 use Rattle.type_rows.specs.Holds.{KeepsLimits}
-use Rattle.type_rows.specs.Layout.{places_of, fixed_words}
+use Rattle.type_rows.specs.Layout.{places_of, counted_words, fixed_words}
 use Rattle.type_rows.specs.WordsHeld.{bytes_held}
 use Rattle.row_packing.specs.declared.chosen.Chosen.{Chosen}
 use Rattle.row_packing.specs.Chosen.{shape_at, chosen_widths, chosen_total, IsChosen, IsRowOf, KeepsCounts}
@@ -109,15 +110,18 @@ module _ (schemas : List Schema) (old new : Table) (are : AreStates schemas old 
       }
 
   -- the fixed words and the bytes of the new state keep their limits
-  pub limits_kept : (chosen : Chosen) → IsChosen (shape_at schemas index) old new index chosen
-      → KeepsLimits schema.shape (record { max = chosen.max; widths = chosen.widths }) (rows_in new index)
-  limits_kept chosen is =
+  pub limits_kept : (chosen : Chosen) → IsChosen (shape_at schemas index) old new index chosen → (own : ℕ)
+      → ((rows : List Row) → counted_words schema.shape own (record { max = chosen.max; widths = chosen.widths }) rows ≤ fixed_words schema.shape (record { max = chosen.max; widths = chosen.widths }) rows)
+      → KeepsLimits schema.shape own (record { max = chosen.max; widths = chosen.widths }) (rows_in new index)
+  limits_kept chosen is own counted =
       let both = rows_of_both old new index in
       let kept = (are.words index known chosen.max is.max).1 in
       let by_shape = subst (λ (shape : Shape). fixed_words shape (record { max = chosen.max; widths = chosen_widths shape both }) (live_rows new index) ≤ 2 ^ 22) shape_here kept in
       let widths = sym (is.widths ∙ ap (λ (shape : Shape). chosen_widths shape both) shape_here) in
       let by_widths = subst (λ (ws : List ℕ). fixed_words schema.shape (record { max = chosen.max; widths = ws }) (live_rows new index) ≤ 2 ^ 22) widths by_shape in
       record {
-        words = subst (λ (rows : List Row). fixed_words schema.shape (record { max = chosen.max; widths = chosen.widths }) rows ≤ 2 ^ 22) (values_all (rows_in new index)) by_widths;
+        words =
+            let few = subst (λ (rows : List Row). fixed_words schema.shape (record { max = chosen.max; widths = chosen.widths }) rows ≤ 2 ^ 22) (values_all (rows_in new index)) by_widths in
+            omega (arith, few, counted (values (rows_in new index)));
         bytes = subst (λ (rows : List Row). bytes_held rows ≤ 2 ^ 25) (values_all (rows_in new index)) (are.together.keeps index known).new_bytes;
       }

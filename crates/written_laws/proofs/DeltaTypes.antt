@@ -12,9 +12,10 @@ use Rattle.row_model.specs.Table.{Table, IsLive, row_at}
 use Rattle.row_model.specs.BothStates.{rows_in, rows_of_both}
 use Rattle.row_model.proofs.RowsFrom.{get_in}
 use Rattle.type_rows.specs.Holds.{Holds}
-use Rattle.type_rows.specs.Layout.{place_bits, places_of}
+use Rattle.type_rows.specs.Layout.{own_bits, place_bits, places_of}
 use Rattle.type_rows.specs.Patches.{places_in}
 use Rattle.type_rows.specs.WellFormed.{AreWidths}
+use Rattle.type_rows.proofs.CountedWords.{own_words}
 use Rattle.row_packing.specs.declared.chosen.Chosen.{Chosen}
 use Rattle.row_packing.specs.Chosen.{shape_at, chosen_total, chosen_widths}
 use Rattle.row_packing.specs.Packs.{PacksPlaces}
@@ -59,6 +60,7 @@ patch_of new entry = record {
   type_index = entry.0;
   schema = entry.1.schema;
   layout = record { max = entry.1.max; widths = entry.1.rows.widths };
+  own = own_bits entry.1.schema.shape entry.1.rows.widths;
   removed = entry.1.removed;
   added = entry.1.added;
   rows = rows_under new entry.0 entry.1.added;
@@ -145,6 +147,7 @@ module _ (schemas : List Schema) (old new : Table) (are : AreStates schemas old 
     means = its_type;
     schema = refl;
     layout = refl;
+    own = refl;
     removed = refl;
     added = refl;
     spelled = record {
@@ -186,7 +189,7 @@ module _ (schemas : List Schema) (old new : Table) (are : AreStates schemas old 
       (chosen_holds old new entry.0 shape entry.1.max both stored is.chosen.max)
 
   pub new_within : IsTypeWithin new entry.0 (patch_of new entry)
-  new_within = record { ordinals = few_places; kept = limits_kept schemas old new are entry.0 entry.1.schema is.schema chosen is.chosen }
+  new_within = record { ordinals = few_places; kept = limits_kept schemas old new are entry.0 entry.1.schema is.schema chosen is.chosen (own_bits shape chosen.widths) (own_words shape (record { max = chosen.max; widths = chosen.widths })) }
 
   pub few_items : entry.1.rows.total ≤ 2 ^ 25
   few_items = let few = both.keeps.items in omega (arith, total, few)

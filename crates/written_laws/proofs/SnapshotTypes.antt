@@ -1,5 +1,5 @@
 -- Lemmas on a type of a snapshot that is written: it is read as its part, which is that of the rows of the new state.
-use Rattle.std.proofs.Common.{◌≡◌, ℕ, List, ◌++◌, Option, refl, ap, ◌∙◌, subst}
+use Rattle.std.proofs.Common.{◌≡◌, ℕ, List, ◌++◌, Option, refl, ap, ◌∙◌, subst, arith}
 use Rattle.std.specs.Str.{IsUtf8}
 use Rattle.std.specs.FinMap.{keys}
 use Rattle.ordinal_set.specs.Population.{IsPopulation}
@@ -9,9 +9,10 @@ use Rattle.schema_model.specs.Schema.{EachName, IsSpellable}
 use Rattle.row_model.specs.Table.{Table}
 use Rattle.row_model.specs.BothStates.{rows_in, rows_of_both}
 use Rattle.type_rows.specs.declared.section.Section.{Section}
-use Rattle.type_rows.specs.Layout.{places_of}
+use Rattle.type_rows.specs.Layout.{places_of, record_bits}
 use Rattle.type_state.specs.State.{Half}
 use Rattle.type_rows.specs.WellFormed.{IsReadable}
+use Rattle.type_rows.proofs.CountedWords.{all_words}
 use Rattle.row_packing.specs.declared.chosen.Chosen.{Chosen}
 use Rattle.row_packing.specs.Chosen.{shape_at, chosen_total}
 use Rattle.row_packing.specs.Packs.{PacksPlaces}
@@ -108,5 +109,6 @@ module _ (schemas : List Schema) (old new : Table) (are : AreStates schemas old 
   pub type_keeps : (at : ℕ) → KeepsTypeLimits (part_of new entry at) (half_of new entry)
   type_keeps at = record {
     counts = record { ordinals = readable.few; items = readable.items };
-    kept = limits_kept schemas old new are entry.0 entry.1.schema is.schema chosen is.chosen;
+    kept = limits_kept schemas old new are entry.0 entry.1.schema is.schema chosen is.chosen (record_bits entry.1.schema.shape chosen.widths)
+        (λ rows. (let same = all_words entry.1.schema.shape (record { max = chosen.max; widths = chosen.widths }) rows in omega (arith, same)));
   }

@@ -11,7 +11,7 @@ use hol_varint::Ordinals;
 use std::alloc::Global;
 
 /// The first name of a path, and the text behind the '.' that ends it.
-fn first_name(text: &str) -> (&str, Option<&str>)
+pub(crate) fn first_name(text: &str) -> (&str, Option<&str>)
     ensures names { MatchOption result.1 (path_names text.now ≡ result.0.now ∷ []) (λ rest. path_names text.now ≡ result.0.now ∷ path_names rest.now) }
     ensures shorter { IfSome result.1 (λ rest. length rest.now < length text.now) }
 {
@@ -22,7 +22,7 @@ fn first_name(text: &str) -> (&str, Option<&str>)
 }
 
 /// The place of the field of this name.
-fn field_of(fields: &[Field], name: &str) -> Option<u32>
+pub(crate) fn field_of(fields: &[Field], name: &str) -> Option<u32>
     requires { length fields.now ≤ 1024 }
     ensures { TellsField fields.now name.now result }
 {
@@ -35,7 +35,7 @@ fn field_of(fields: &[Field], name: &str) -> Option<u32>
 }
 
 /// The type that a field of this kind refers to.
-fn referred(schemas: &Schemas, index: &NameIndex, kind: &FieldKind) -> Option<u32>
+pub(crate) fn referred(schemas: &Schemas, index: &NameIndex, kind: &FieldKind) -> Option<u32>
     requires indexed { Indexes (type_names schemas.now) index.now }
     ensures { TellsReferred schemas.now kind.now result }
 {
@@ -47,7 +47,7 @@ fn referred(schemas: &Schemas, index: &NameIndex, kind: &FieldKind) -> Option<u3
 
 /// Goes on from a field of this kind, through types of one field, to a value, and adds the places of these fields. `depth` is more
 /// than the references in any chain from the referred type.
-fn follow_only_fields(
+pub(crate) fn follow_only_fields(
     schemas: &Schemas,
     index: &NameIndex,
     kind: &FieldKind,

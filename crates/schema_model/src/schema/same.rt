@@ -10,15 +10,15 @@ pub fn same_schema(schema: &Schema, other: &Schema) -> bool
     same_name(&schema.name, &other.name) && same_shape(&schema.shape, &other.shape)
 }
 
-// Whether two names are the same.
-fn same_name(name: &Name, other: &Name) -> bool
+/// Whether two names are the same.
+pub(crate) fn same_name(name: &Name, other: &Name) -> bool
     ensures { IsTrue result ↔ (name.now ≡ other.now) }
 {
     name.text() == other.text()
 }
 
-// Whether two shapes are the same.
-fn same_shape(shape: &Shape, other: &Shape) -> bool
+/// Whether two shapes are the same.
+pub(crate) fn same_shape(shape: &Shape, other: &Shape) -> bool
     ensures { IsTrue result ↔ (shape.now ≡ other.now) }
 {
     match (shape, other) {
@@ -34,8 +34,8 @@ fn same_shape(shape: &Shape, other: &Shape) -> bool
     }
 }
 
-// Whether two primary keys are the same.
-fn same_key(key: &Option<Names>, other: &Option<Names>) -> bool
+/// Whether two primary keys are the same.
+pub(crate) fn same_key(key: &Option<Names>, other: &Option<Names>) -> bool
     ensures { IsTrue result ↔ (key.now ≡ other.now) }
 {
     match (key, other) {
@@ -60,8 +60,8 @@ fn same_names(names: &[Name], others: &[Name]) -> bool
     true
 }
 
-// Whether they are as many fields, and the same one by one.
-fn same_fields(fields: &[Field], others: &[Field]) -> bool
+/// Whether they are as many fields, and the same one by one.
+pub(crate) fn same_fields(fields: &[Field], others: &[Field]) -> bool
     ensures { IsTrue result ↔ (fields.now ≡ others.now) }
 {
     if fields.len() != others.len() {
@@ -82,8 +82,8 @@ fn same_field(field: &Field, other: &Field) -> bool
     same_name(&field.name, &other.name) && same_kind(&field.kind, &other.kind)
 }
 
-// Whether two fields hold the same.
-fn same_kind(kind: &FieldKind, other: &FieldKind) -> bool
+/// Whether two fields hold the same.
+pub(crate) fn same_kind(kind: &FieldKind, other: &FieldKind) -> bool
     ensures { IsTrue result ↔ (kind.now ≡ other.now) }
 {
     match (kind, other) {

@@ -27,7 +27,7 @@ unfolding patch_section
 returns-clause-reads g c =
     let rows = reads_as_many c.args.shape.now c.in_ok-max.max c.len.ensures c.in_ok-rows.ensures.reads in
     reads_then _ c.in_ok-max.ensures.reads (reads_then _ c.in_ok-removed.ensures.reads (reads_then _ c.in_ok-added.ensures.reads
-    (reads_then _ rows (reads_value rows.over refl))))
+    (reads_then _ rows (reads_value rows.over (rw (c.own_bits-own.ensures, c.as_slice.ensures) refl)))))
 
 pub returns-clause-whole : goal.returns-clause-whole
-returns-clause-whole g c = placed_well c.args.shape.now c.in_ok-max.max c.len.result c.in_ok-removed.removed c.in_ok-added.added _ c.len.ensures c.in_ok-rows.ensures.whole
+returns-clause-whole g c = placed_well c.args.shape.now c.in_ok-max.max c.len.result c.own_bits-own.result c.in_ok-removed.removed c.in_ok-added.added _ c.len.ensures c.in_ok-rows.ensures.whole

@@ -8,7 +8,7 @@ use Rattle.state_moves.specs.Halves.{current_halves}
 use Rattle.blob_faults.specs.Judge.{Blames}
 use Rattle.state_moves.specs.Judged.{IsFreeMove, state_moved}
 use Rattle.state_moves.specs.Moving.{AreComing, IsComingLaid, coming_halves}
-use Rattle.state_moves.specs.Past.{PastPart}
+use Rattle.row_model.specs.Before.{PastPart}
 use Rattle.read_engine.specs.Kept.{FollowsPart, IsKept, count_came, index_kept}
 use Rattle.read_engine.proofs.Follow.{all_moved, all_reserved, all_settled, same_indexes}
 use Rattle.read_engine.proofs.Taken.{all_ready, err_exit, on_err}

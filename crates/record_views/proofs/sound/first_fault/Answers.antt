@@ -2,6 +2,6 @@ use Rattle.std.proofs.Common.{◌≡◌, length, arith}
 use Rattle.std.proofs.lemmas.Grind.{common_steps}
 use Rattle.record_views.proofs.sound.first_fault.Goals as goal
 
-pub returns-then-is_empty : goal.returns-then-is_empty
-returns-then-is_empty c = λ k inside.
+pub returns-then-is_empty-clause-tells : goal.returns-then-is_empty-clause-tells
+returns-then-is_empty-clause-tells c = λ k inside.
     absurd (let none : length c.args.places.now ≡ 0 = grind (arith, common_steps) in omega arith)

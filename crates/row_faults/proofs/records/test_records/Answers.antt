@@ -2,6 +2,7 @@ use Rattle.std.proofs.Common.{length, subst, sym}
 use Rattle.std.specs.Prelude.{slice_index}
 use Rattle.object_codec.specs.ObjectPlace.{HoldsPlace}
 use Rattle.record_views.specs.Sound.{IsFirstFault, SpellSome}
+use Rattle.record_views.proofs.Soundness.{was_none, was_some}
 use Rattle.type_rows.specs.declared.fault.RowFault.{RowFault}
 use Rattle.row_faults.specs.LoadFault.{FailsLoad}
 use Rattle.row_faults.proofs.RecordFaults.{holds_listed, of_records, record_failed, records_tested, to_records}
@@ -15,15 +16,21 @@ first_fault-requires c = λ k inside.
 
 pub returns-in-None : goal.returns-in-None
 returns-in-None c =
+    let told =
+    was_none (SpellSome c.fields.result.now c.as_slice-widths.result.now c.as_slice-first.result.now c.as_slice-areas.result.now c.args.live.now (length c.args.live.now))
+    (IsFirstFault c.fields.result.now c.as_slice-widths.result.now c.as_slice-first.result.now c.as_slice-areas.result.now c.args.live.now) c.in_ok-found.found c.in-None.is c.in_ok-found.ensures.tells in
     records_tested c.args.shape.now c.args.section.now c.args.live.now c.requires.object c.requires.live c.requires.rising c.requires.placed
     (of_records (λ fields widths first areas. SpellSome fields widths first areas c.args.live.now (length c.args.live.now)) c.args.shape.now c.args.section.now
     c.fields.result.now c.as_slice-widths.result.now c.as_slice-first.result.now c.as_slice-areas.result.now c.fields.ensures c.as_slice-widths.ensures c.as_slice-first.ensures c.as_slice-areas.ensures
-    c.in-None.ensures)
+    told)
 
 pub returns-in-Some : goal.returns-in-Some
 returns-in-Some c =
+    let told =
+    was_some (SpellSome c.fields.result.now c.as_slice-widths.result.now c.as_slice-first.result.now c.as_slice-areas.result.now c.args.live.now (length c.args.live.now))
+    (IsFirstFault c.fields.result.now c.as_slice-widths.result.now c.as_slice-first.result.now c.as_slice-areas.result.now c.args.live.now) c.in_ok-found.found (c.in-Some.place, c.in-Some.reason) c.in-Some.is c.in_ok-found.ensures.tells in
     subst (λ place. FailsLoad c.args.shape.now c.args.section.now (RowFault.At c.in-Some.reason place)) (sym c.from.ensures)
     (record_failed c.args.shape.now c.args.section.now c.args.live.now c.in-Some.place c.in-Some.reason c.requires.object c.requires.live c.requires.placed
     (of_records (λ fields widths first areas. IsFirstFault fields widths first areas c.args.live.now (c.in-Some.place, c.in-Some.reason)) c.args.shape.now c.args.section.now
     c.fields.result.now c.as_slice-widths.result.now c.as_slice-first.result.now c.as_slice-areas.result.now c.fields.ensures c.as_slice-widths.ensures c.as_slice-first.ensures c.as_slice-areas.ensures
-    c.in-Some.ensures))
+    told))

@@ -8,8 +8,8 @@ items_of-requires-clause-spelled c =
     listed_spells c.args.shape.now c.args.section.now c.args.live.now c.loop-ordinal.ordinal-index c.from-place.result c.requires.live c.requires.leads
     (read_there c.args.live.now c.loop-ordinal.ordinal-index c.from-place.result (omega (arith, c.loop-ordinal-test.true)) c.from-place.ensures)
 
-pub returns-in-None : goal.returns-in-None
-returns-in-None c =
+pub returns-in-None-clause-tells : goal.returns-in-None-clause-tells
+returns-in-None-clause-tells c =
     let shape = c.args.shape.now in
     let section = c.args.section.now in
     let place = c.from-place.result in

@@ -5,7 +5,7 @@ use Rattle.std.specs.FinMap.{get}
 use Rattle.std.proofs.lemmas.List.Elements.{All-map}
 use Rattle.row_model.specs.declared.row.Row.{Row}
 use Rattle.state_moves.specs.Moving.{KeepsPatch}
-use Rattle.state_moves.specs.Past.{rows_of_places}
+use Rattle.row_model.specs.Before.{rows_of_places}
 use Rattle.state_moves.proofs.Moves.{rows_beside, small_live}
 use Rattle.state_moves.proofs.moving.kept_part.Goals as goal
 

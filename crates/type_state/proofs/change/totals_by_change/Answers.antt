@@ -10,10 +10,10 @@ returns-in-Some-clause-held c =
     let told : IsNoNarrower c.widths.result.now c.as_slice.result.now = c.are_no_narrower.ensures (search rules) in
     let wider : IsNoNarrower c.args.rows.now.widths c.args.next.now.outline.widths =
     subst (λ (widths : List ℕ). IsNoNarrower widths c.args.next.now.outline.widths) c.widths.ensures (subst (λ (widths : List ℕ). IsNoNarrower c.widths.result.now widths) c.as_slice.ensures told) in
-    held_by_last c.args.schema.now.shape c.args.rows.now.widths (layout_at c.args.next.now.outline) c.args.rows.now.rows c.args.next.now.differences c.requires.apart c.requires.held wider (search rules)
+    held_by_last c.args.schema.now.shape c.args.next.now.own c.args.rows.now.widths (layout_at c.args.next.now.outline) c.args.rows.now.rows c.args.next.now.differences c.requires.apart c.requires.held wider (search rules)
     (c.args.next.now.outline.bound - 1) c.in-Some.last c.count_change.new.totals c.holds_last.new.totals (search rules) (c.requires.kinds (c.args.next.now.outline.bound - 1) c.in-Some.last (search rules)) (search rules) (c.holds_last.ensures (search rules))
 
 pub returns-in-Some-clause-totals : goal.returns-in-Some-clause-totals
 returns-in-Some-clause-totals c =
-    totals_again c.args.schema.now.shape (layout_at c.args.next.now.outline) (rows_with c.args.rows.now.rows c.args.next.now.differences) (c.args.next.now.outline.bound - 1) c.in-Some.last c.count_change.new.totals c.holds_last.new.totals
+    totals_again c.args.schema.now.shape c.args.next.now.own (layout_at c.args.next.now.outline) (rows_with c.args.rows.now.rows c.args.next.now.differences) (c.args.next.now.outline.bound - 1) c.in-Some.last c.count_change.new.totals c.holds_last.new.totals
     (search rules) (search rules) (c.holds_last.ensures (search rules))

@@ -17,8 +17,8 @@ returns c =
 pub returns-in_err-more : goal.returns-in_err-more
 returns-in_err-more c =
     let rows = rows_with c.args.rows.now.rows c.args.next.now.differences in
-    let told : FailsHeld c.args.schema.now.shape (layout_at c.args.next.now.outline) rows c.in_err-more.field-0.0 =
-    fails_slot c.args.schema.now.shape (layout_at c.args.next.now.outline) rows c.loop-ordinal.ordinal c.in_ok-slot.slot c.loop-ordinal.ends c.loop-ordinal.bytes c.in_err-more.field-0.0 c.loop-ordinal.invariant c.in_ok-slot.ensures (search rules) in
+    let told : FailsHeld c.args.schema.now.shape c.args.next.now.own (layout_at c.args.next.now.outline) rows c.in_err-more.field-0.0 =
+    fails_slot c.args.schema.now.shape c.args.next.now.own (layout_at c.args.next.now.outline) rows c.loop-ordinal.ordinal c.in_ok-slot.slot c.loop-ordinal.ends c.loop-ordinal.bytes c.in_err-more.field-0.0 c.loop-ordinal.invariant c.in_ok-slot.ensures (search rules) in
     search rules
 
 pub loop-ordinal-preserved : goal.loop-ordinal-preserved

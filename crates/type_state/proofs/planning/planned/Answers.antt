@@ -21,13 +21,13 @@ test_held-requires-clause-kinds c = moved_kinds c.args.schema.now.shape c.args.p
 pub returns-in_err-totals-clause-tells : goal.returns-in_err-totals-clause-tells
 returns-in_err-totals-clause-tells c =
     let told : FailsMove c.args.schema.now.shape c.args.patch.now c.args.rows.now.rows c.in_err-totals.field-0.0 =
-    fails_held c.args.schema.now.shape c.args.patch.now c.args.rows.now.rows (rows_with c.args.rows.now.rows c.in_ok-plan.plan.differences) (layout_at c.in_ok-plan.plan.outline) c.in_err-totals.field-0.0 c.in_ok-plan.ensures.layout
+    fails_held c.args.schema.now.shape c.args.patch.now c.args.rows.now.rows (rows_with c.args.rows.now.rows c.in_ok-plan.plan.differences) c.in_ok-plan.plan.own (layout_at c.in_ok-plan.plan.outline) c.in_err-totals.field-0.0 c.in_ok-plan.ensures.own c.in_ok-plan.ensures.layout
     (leads c.args.schema.now.shape c.args.patch.now c.args.rows.now.rows c.in_ok-plan.plan.differences c.in_ok-plan.ensures.known) c.in_err-totals.ensures.tells in
     search rules
 
 pub returns-clause-tells : goal.returns-clause-tells
 returns-clause-tells c =
-    moved_by c.args.schema.now.shape c.args.patch.now c.args.rows.now.rows (rows_with c.args.rows.now.rows c.in_ok-plan.plan.differences) (layout_at c.in_ok-plan.plan.outline) c.in_ok-plan.ensures.layout c.in_ok-plan.ensures.tells c.in_ok-totals.ensures.tells
+    moved_by c.args.schema.now.shape c.args.patch.now c.args.rows.now.rows (rows_with c.args.rows.now.rows c.in_ok-plan.plan.differences) c.in_ok-plan.plan.own (layout_at c.in_ok-plan.plan.outline) c.in_ok-plan.ensures.own c.in_ok-plan.ensures.layout c.in_ok-plan.ensures.tells c.in_ok-totals.ensures.tells
 
 pub returns-clause-kinds : goal.returns-clause-kinds
 returns-clause-kinds c = moved_kinds c.args.schema.now.shape c.args.patch.now c.args.rows.now.rows (rows_with c.args.rows.now.rows c.in_ok-plan.plan.differences) c.requires.readable c.in_ok-plan.ensures.tells c.requires.kinds

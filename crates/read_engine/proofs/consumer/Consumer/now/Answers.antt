@@ -6,15 +6,15 @@ use Rattle.read_engine.specs.Walking.{table_at}
 use Rattle.read_engine.proofs.Consumers.{fits_at, shows_schemas, shows_table, stands_and}
 use Rattle.read_engine.proofs.consumer.Consumer.now.Goals as goal
 
-pub new-requires : goal.new-requires
-new-requires c =
+pub now_of-requires : goal.now_of-requires
+now_of-requires c =
     subst (IsTableOf c.types.result.now) (sym c.states.ensures.table) (subst (λ (schemas : List Schema). IsTableOf schemas (table_at c.args.self.now)) (sym c.types.ensures.schemas) (fits_at c.args.self.now c.types.ensures.position))
 
 pub returns-clause-schemas : goal.returns-clause-schemas
-returns-clause-schemas c = shows_schemas c.args.self.now c.new.result.schemas c.requires (c.new.ensures.schemas ∙ c.types.ensures.schemas)
+returns-clause-schemas c = shows_schemas c.args.self.now c.now_of.result.schemas c.requires (c.now_of.ensures.schemas ∙ c.types.ensures.schemas)
 
 pub returns-clause-table : goal.returns-clause-table
-returns-clause-table c = shows_table c.args.self.now c.new.result.table c.requires (c.new.ensures.table ∙ c.states.ensures.table)
+returns-clause-table c = shows_table c.args.self.now c.now_of.result.table c.requires (c.now_of.ensures.table ∙ c.states.ensures.table)
 
 pub returns-clause-position : goal.returns-clause-position
 returns-clause-position c = stands_and c.args.self.now IsPosition c.requires c.types.ensures.position

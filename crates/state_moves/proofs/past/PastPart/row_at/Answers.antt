@@ -1,7 +1,7 @@
 use Rattle.std.proofs.Common.{◌≡◌, List, Some, ap, length, subst, arith}
 use Rattle.std.specs.Prelude.{IsSomeAnd, slice_get}
 use Rattle.row_model.specs.declared.row.Row.{Row}
-use Rattle.state_moves.specs.Past.{PastPart}
+use Rattle.row_model.specs.Before.{PastPart}
 use Rattle.state_moves.proofs.PastRows.{row_lent, rows_long}
 use Rattle.state_moves.proofs.past.PastPart.row_at.Goals as goal
 

@@ -1,0 +1,11 @@
+pub mod Counts
+pub mod Following
+pub mod Fronts
+pub mod Grouping
+pub mod Levels
+pub mod Listing
+pub mod Nearest
+pub mod Orders
+pub mod Places
+pub mod Plans
+pub mod Walks

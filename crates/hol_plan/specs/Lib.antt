@@ -1,0 +1,4 @@
+pub mod Start
+pub mod Steps
+pub mod Walk
+pub mod Ways

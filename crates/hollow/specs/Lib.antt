@@ -1,0 +1,20 @@
+-- The definitions that the contracts of this crate's calls cite, each crate's under its name.
+pub use Rattle.blob_frame.specs as blob_frame
+pub use Rattle.blob_writing.specs as blob_writing
+pub use Rattle.chain_check.specs as chain_check
+pub use Rattle.chain_store.specs as chain_store
+pub use Rattle.hol_io.specs as hol_io
+pub use Rattle.hol_memory.specs as hol_memory
+pub use Rattle.hol_varint.specs as hol_varint
+pub use Rattle.json_rows.specs as json_rows
+pub use Rattle.json_values.specs as json_values
+pub use Rattle.ordinal_map.specs as ordinal_map
+pub use Rattle.read_engine.specs as read_engine
+pub use Rattle.record_json.specs as record_json
+pub use Rattle.record_trees.specs as record_trees
+pub use Rattle.row_model.specs as row_model
+pub use Rattle.schema_model.specs as schema_model
+pub use Rattle.snapshot_blob.specs as snapshot_blob
+pub use Rattle.state_blobs.specs as state_blobs
+pub use Rattle.state_moves.specs as state_moves
+pub use Rattle.write_engine.specs as write_engine
