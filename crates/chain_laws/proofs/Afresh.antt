@@ -5,7 +5,7 @@ use Rattle.schema_model.specs.declared.schema.Schema.{Schema}
 use Rattle.hol_orders.specs.declared.order.Order.{Order}
 use Rattle.hol_orders.specs.Order.{asked_of, kind_of}
 use Rattle.hol_answers.specs.declared.reply.Reply.{Reply}
-use Rattle.hollow_machine.specs.State.{Machine, with_consumer}
+use Rattle.hollow_machine.specs.State.{Machine, with_consumer, with_reader}
 use Rattle.hollow_machine.specs.Step.{Step}
 use Rattle.written_laws.specs.Chain.{Chain, IsChain}
 use Rattle.written_laws.specs.HoldsChain.{HoldsChain}
@@ -44,7 +44,8 @@ module _ (machine fresh : Machine) (chain : Chain) (sound : IsChain chain) (of :
     position = afresh.now;
     stands = stands machine fresh chain sound of afresh;
     indexes = sym afresh.indexes;
-    is = (λ i. with_consumer machine (afresh.was i)) ∙ (λ i. with_consumer (sym afresh.is i) (Some afresh.now));
+    last = machine.version;
+    is = (λ i. with_consumer machine (afresh.was i)) ∙ (λ i. with_reader (sym afresh.is i) (Some afresh.now) machine.version);
   }
 
 pub answered_afresh : (machine fresh : Machine) (chain : Chain) (asked : Order) (answer : Reply) → IsOfState (kind_of asked) → HoldsChain machine.store chain → IsConsumerOf chain machine.consumer

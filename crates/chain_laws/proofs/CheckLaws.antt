@@ -16,7 +16,7 @@ use Rattle.hol_answers.specs.declared.reply.Reply.TheVariants as reply
 use Rattle.hollow_machine.proofs.Refusals.{one_snapshot_refusal, one_step_refusal, some_one}
 use Rattle.hollow_machine.specs.CheckOrder.{CheckReply, WalkLoads, WalkSteps, both_new, check_form, walk_calls}
 use Rattle.hollow_machine.specs.StepOrder.{StepRefusal}
-use Rattle.chain_laws.proofs.Answering.{IsNoCycle, unless_cycle}
+use Rattle.chain_laws.proofs.Answering.{IsUnpublished, unless_published}
 use Rattle.chain_laws.proofs.ConsumerOrders.{no_refusal}
 use Rattle.chain_laws.proofs.Lawful.{IsLawful, same_keeps, same_of, says_both, stays_sound}
 use Rattle.chain_laws.proofs.OneMove.{step_once}
@@ -91,17 +91,17 @@ module _ (store : Store) where
       let same = ends_one walk_calls (Some store) (λ (consumer : Option Position). IfSome consumer IsTyped) loads_one steps_one loads_typed steps_typed versions None both_new end last tt ends ends_too in
       answer_is ∙ ap (reply_of versions) same ∙ sym other_is
 
-  no_cycle : (versions : List ℕ) (answer : Reply) → CheckReply store versions answer → IsNoCycle answer
-  no_cycle versions (reply.Check states) is = tt
-  no_cycle versions (reply.Refused refusal) is = tt
-  no_cycle versions _ is = absurd is
+  unpublished : (versions : List ℕ) (answer : Reply) → CheckReply store versions answer → IsUnpublished answer
+  unpublished versions (reply.Check states) is = refl
+  unpublished versions (reply.Refused refusal) is = refl
+  unpublished versions _ is = absurd is
 
 pub check_lawful : IsLawful Kind.Check check_form
 check_lawful = record {
   once = λ written machine sound versions one other next after is also. says_both one other next after (one_check machine.store versions one other is.0 also.0, is.1 ∙ sym also.1);
   sound = λ machine sound versions answer next is. stays_sound machine sound next is.1;
   keeps = λ machine chain kept over line order orders versions asks_it answer next is.
-      same_keeps machine line chain kept over answer next (unless_cycle machine line chain answer (no_cycle machine.store versions answer is.0)) is.1;
+      same_keeps machine line chain kept over answer next (unless_published machine line chain answer (unpublished machine.store versions answer is.0)) is.1;
   moves = λ machine chain holds of versions answer next is. same_of machine chain of next is.1;
   afresh = λ can. absurd cc;
 }

@@ -1,5 +1,5 @@
 -- The orders that move a consumer over a store that holds a chain: which are taken, and that a step from another state is refused.
-use Rattle.std.proofs.Common.{◌≡◌, ◌≢◌, ℕ, ℤ, List, [], Bool, true, false, if◌then◌else◌, inl, inr, Option, Some, None, refl, sym, ap, subst, ◌∙◌, length}
+use Rattle.std.proofs.Common.{◌≡◌, ◌≢◌, ℕ, ℤ, List, [], Bool, true, false, if◌then◌else◌, inl, inr, Option, Some, refl, sym, ap, subst, ◌∙◌, length}
 use Rattle.std.specs.Prelude.{IsSomeAnd, nat_lt}
 use Rattle.std.specs.FinMap.{get}
 use Rattle.hol_io.specs.declared.name.BlobName.{BlobName}
@@ -25,7 +25,7 @@ use Rattle.hol_answers.specs.declared.reply.Reply.TheVariants as reply
 use Rattle.hollow_machine.proofs.Refusals.{one_step_refusal, some_one}
 use Rattle.hollow_machine.specs.Blobs.{SnapshotRefusal}
 use Rattle.hollow_machine.specs.LoadOrder.{LoadStep}
-use Rattle.hollow_machine.specs.State.{Machine, with_consumer}
+use Rattle.hollow_machine.specs.State.{Machine, moved_to}
 use Rattle.hollow_machine.specs.StepOrder.{StepRefusal, StepStep, step_name}
 use Rattle.written_laws.specs.Chain.{Chain, ChainState, HasVersion}
 use Rattle.written_laws.specs.HoldsChain.{HoldsChain, IsStep, IsThere}
@@ -62,7 +62,7 @@ pub no_refusal : (name : BlobName) (content : Option (List ℕ)) (blob : List �
 no_refusal name content blob now to at typed steps refusal (found, fails, is) =
     stepped_or_fault blob now to found typed.names steps (subst (λ (c : Option (List ℕ)). RefusesStep name c now found) at fails)
 
-module _ (machine : Machine) (chain : Chain) (name : BlobName) (now : Position) (holds : HoldsChain machine.store chain) (of_step : IsStep name) (was : machine.consumer ≡ Some now) (is : IsIn chain now)
+module _ (machine : Machine) (chain : Chain) (name : BlobName) (version : ℕ) (now : Position) (holds : HoldsChain machine.store chain) (of_step : IsStep name) (was : machine.consumer ≡ Some now) (is : IsIn chain now)
     (starts : StartsAt machine.store name now.tag) where
   abbrev stored : Option (List ℕ)
   stored = get machine.store name
@@ -74,22 +74,22 @@ module _ (machine : Machine) (chain : Chain) (name : BlobName) (now : Position) 
   can_step =
       let (head, has, starts_at) = starts in
       let (blob, n, at, short, begin) = has in
-      let (version, from, there, destination, patch, delta) = delta_of machine.store chain holds name blob of_step at in
+      let (home, from, there, destination, patch, delta) = delta_of machine.store chain holds name blob of_step at in
       let same : from.tag ≡ now.tag = sym (delta_origin stored from.model blob head from.tag destination patch at has delta) ∙ starts_at in
-      let own = own_delta machine.store chain holds now is version from blob destination patch there same delta in
+      let own = own_delta machine.store chain holds now is home from blob destination patch there same delta in
       let (to, steps) = step_there machine.store chain holds name blob now destination patch of_step at is own in
       (blob, to, at, steps)
 
-  pub step_taken : (position : Position) × StepStep machine name (reply.Step position.tag) (with_consumer machine (Some position))
+  pub step_taken : (position : Position) × StepStep machine name version (reply.Step position.tag) (moved_to machine version position)
   step_taken =
       let (blob, to, at, steps) = can_step in (
         to,
         subst (λ (consumer : Option Position). IsSomeAnd consumer (λ here. (b : List ℕ) × (p : Position) × (stored ≡ Some b) × StepsBy b here p × (to.tag ≡ p.tag)
-            × (with_consumer machine (Some to) ≡ with_consumer machine (Some p)))) (sym was) (blob, to, at, steps, refl, refl),
+            × (moved_to machine version to ≡ moved_to machine version p))) (sym was) (blob, to, at, steps, refl, refl),
       )
 
-  pub step_only : (answer : Reply) (next : Machine) → StepStep machine name answer next
-      → (position : Position) × IsIn chain position × (answer ≡ reply.Step position.tag) × (next ≡ with_consumer machine (Some position))
+  pub step_only : (answer : Reply) (next : Machine) → StepStep machine name version answer next
+      → (position : Position) × IsIn chain position × (answer ≡ reply.Step position.tag) × (next ≡ moved_to machine version position)
   step_only (reply.Step tag) next step =
       let (here, also, (blob, to, at, steps, tag_is, next_is)) = found_with machine.consumer _ step in
       let same : here ≡ now = some_one machine.consumer here now also was in
@@ -109,7 +109,7 @@ unfolding step_of judged.delta_of ◌>>=◌ short standing starts test
 other_fault name content head now (blob, n, at, small, begin) apart =
     subst (λ (c : Option (List ℕ)). RefusesStep name c now (fault.OtherOrigin head.origin now.tag)) (sym at) (inl (inr (tt, small, inr ((head, n), begin, inl (apart, refl)))))
 
-module _ (machine : Machine) (name : BlobName) (now : Position) (origin : ℤ) (was : machine.consumer ≡ Some now) (starts : StartsAt machine.store name origin) (apart : origin ≢ now.tag) where
+module _ (machine : Machine) (name : BlobName) (version : ℕ) (now : Position) (origin : ℤ) (was : machine.consumer ≡ Some now) (starts : StartsAt machine.store name origin) (apart : origin ≢ now.tag) where
   abbrev content : Option (List ℕ)
   content = get machine.store name
 
@@ -120,10 +120,10 @@ module _ (machine : Machine) (name : BlobName) (now : Position) (origin : ℤ) (
     ap (λ (o : ℤ). refusal_of_blob name (fault.OtherOrigin o now.tag)) starts.2,
   )
 
-  pub other_refused : StepStep machine name (reply.Refused (other_origin name origin now.tag)) machine
+  pub other_refused : StepStep machine name version (reply.Refused (other_origin name origin now.tag)) machine
   other_refused = (subst (λ (consumer : Option Position). StepRefusal name content consumer (other_origin name origin now.tag)) (sym was) refused_so, refl)
 
-  pub other_only : (answer : Reply) (next : Machine) → StepStep machine name answer next → (answer ≡ reply.Refused (other_origin name origin now.tag)) × (next ≡ machine)
+  pub other_only : (answer : Reply) (next : Machine) → StepStep machine name version answer next → (answer ≡ reply.Refused (other_origin name origin now.tag)) × (next ≡ machine)
   other_only (reply.Step tag) next step =
       let (here, also, (blob, to, at, steps, tag_is, next_is)) = found_with machine.consumer _ step in
       let same : here ≡ now = some_one machine.consumer here now also was in
@@ -149,14 +149,14 @@ module _ (machine : Machine) (chain : Chain) (version : ℕ) (state : ChainState
       let (other, also, (head, tag, is)) = holds.each (Snapshot version) blob at in
       (blob, record { tag = head.destination; schemas = other.model; halves = is.halves; before = table_of is.halves; indexes = [] }, at, (head, is.accepted, refl, refl, refl))
 
-  pub load_taken : (position : Position) × LoadStep machine version (reply.Load state.tag) (with_consumer machine (Some position))
+  pub load_taken : (position : Position) × LoadStep machine version (reply.Load state.tag) (moved_to machine version position)
   load_taken =
       let (blob, position, at, loads) = can_load in
       let stands = loads_state machine.store chain holds version state blob position there at loads in
       (position, (blob, position, at, loads, sym stands.tag, refl))
 
   pub load_only : (answer : Reply) (next : Machine) → LoadStep machine version answer next
-      → (position : Position) × StandsAt state position × (position.indexes ≡ []) × (answer ≡ reply.Load state.tag) × (next ≡ with_consumer machine (Some position))
+      → (position : Position) × StandsAt state position × (position.indexes ≡ []) × (answer ≡ reply.Load state.tag) × (next ≡ moved_to machine version position)
   load_only (reply.Load tag) next (blob, position, at, loads, tag_is, next_is) =
       let stands = loads_state machine.store chain holds version state blob position there at loads in
       (position, stands, loads.4, ap (λ (t : ℤ). reply.Load t) (tag_is ∙ stands.tag), next_is)
@@ -166,4 +166,4 @@ module _ (machine : Machine) (chain : Chain) (version : ℕ) (state : ChainState
   pub load_fresh : (now : Position) (answer : Reply) (next : Machine) → machine.consumer ≡ Some now → now.tag ≡ state.tag → now.indexes ≡ [] → LoadStep machine version answer next → Fresh chain machine next
   load_fresh now answer next was tag bare step =
       let (position, stands, none, answer_is, next_is) = load_only answer next step in
-      record { now = now; was = was; version = version; state = state; there = there; tag = tag; position = position; stands = stands; indexes = none ∙ sym bare; is = next_is }
+      record { now = now; was = was; version = version; state = state; there = there; tag = tag; position = position; stands = stands; indexes = none ∙ sym bare; last = Some version; is = next_is }

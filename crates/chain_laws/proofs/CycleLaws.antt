@@ -97,7 +97,9 @@ module _ (machine : Machine) (chain : Chain) (kept : KeepsChain machine.store ch
 -- as a cycle keeps the chain, so does the line that asks for it
 line_keeps : (machine : Machine) (line : List ℕ) (chain : Chain) (next_state : NextState) (answer : Reply) (next : Machine) → Orders line (order.Cycle next_state)
     → CycleStep machine (asked_cycle (asked_state next_state)) answer next → KeepsCycle machine (asked_cycle (asked_state next_state)) answer chain next → Keeps machine line answer chain next
-line_keeps machine line chain next_state (reply.Cycle names true version) next orders step (after, grows, kept, over, longer) = (after, (next_state, sym step.0, orders, grows), kept, over, longer)
+line_keeps machine line chain next_state (reply.Cycle names true version) next orders step (after, grows, kept, over, longer) =
+    (after, (order.Cycle next_state, asked_cycle (asked_state next_state), orders, refl, sym step.0, grows), kept, over, longer)
+line_keeps machine line chain next_state (reply.Change change) next orders step keeps = absurd step
 line_keeps machine line chain next_state _ next orders step keeps = keeps
 
 module _ (machine : Machine) (sound : IsSoundMachine machine) where

@@ -10,7 +10,7 @@ use Rattle.chain_laws.proofs.PastLaws.{past_lawful}
 use Rattle.chain_laws.proofs.RestoreLaws.{restore_lawful}
 use Rattle.chain_laws.proofs.StatLaws.{stat_lawful}
 use Rattle.chain_laws.proofs.StepLaws.{step_lawful}
-use Rattle.chain_laws.proofs.Lawful.{IsLawful}
+use Rattle.chain_laws.proofs.Lawful.{IsLawful, unbuilt_lawful}
 use Rattle.chain_laws.proofs.LookLaws.{at_lawful, find_lawful, get_lawful, has_lawful, live_lawful, row_lawful}
 
 pub laws : (kind : Kind) → IsLawful kind (form kind)
@@ -29,3 +29,12 @@ laws Kind.At = at_lawful
 laws Kind.Past = past_lawful
 laws Kind.Check = check_lawful
 laws Kind.Stat = stat_lawful
+laws Kind.Grow = unbuilt_lawful Kind.Grow
+laws Kind.Plan = unbuilt_lawful Kind.Plan
+laws Kind.Goto = unbuilt_lawful Kind.Goto
+laws Kind.Change = unbuilt_lawful Kind.Change
+laws Kind.WalkIndex = unbuilt_lawful Kind.WalkIndex
+laws Kind.WalkFind = unbuilt_lawful Kind.WalkFind
+laws Kind.History = unbuilt_lawful Kind.History
+laws Kind.Was = unbuilt_lawful Kind.Was
+laws Kind.WasGet = unbuilt_lawful Kind.WasGet

@@ -17,8 +17,8 @@ use Rattle.chain_laws.proofs.Afresh.{afresh_there}
 module _ (machine : Machine) (chain : Chain) (stands : StandsOn chain machine) where
   true_step : (from to : ℕ) (answer : Reply) (next : Machine) → Step machine (order.Step from to) answer next → IsTrueStep chain machine from to answer next
   true_step from to answer next step = record {
-    taken = λ now was starts. step_only machine chain (step_name from to) now stands.kept.holds (step_named from to) was (subst (IsConsumerOf chain) was stands.consumer) starts answer next step;
-    other = λ now origin was starts apart. other_only machine (step_name from to) now origin was starts apart answer next step;
+    taken = λ now was starts. step_only machine chain (step_name from to) to now stands.kept.holds (step_named from to) was (subst (IsConsumerOf chain) was stands.consumer) starts answer next step;
+    other = λ now origin was starts apart. other_only machine (step_name from to) to now origin was starts apart answer next step;
   }
 
   true_order : (asked : Order) (answer : Reply) (next : Machine) → Step machine asked answer next → IsTrueOrder chain machine asked answer next

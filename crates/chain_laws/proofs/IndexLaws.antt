@@ -15,9 +15,10 @@ use Rattle.chain_laws.proofs.OneKey.{one_index}
 index_leaves : LeavesOf index_form
 index_leaves machine asked (reply.Index keys) next step =
     let added = index_added machine asked.0 (texts_of_array asked.1) keys next step in (
-      tt,
+      refl,
       inr (
         record added.now { indexes = added.after },
+        machine.version,
         added.is,
         (λ typed. let was = subst (λ (consumer : Option Position). IfSome consumer IsTyped) added.was typed in record { names = was.names; types = was.types; rows = was.rows }),
         (λ chain holds of.
@@ -31,7 +32,7 @@ index_leaves machine asked (reply.Index keys) next step =
             }),
       ),
     )
-index_leaves machine asked (reply.Refused refusal) next step = (tt, inl step.1)
+index_leaves machine asked (reply.Refused refusal) next step = (refl, inl step.1)
 index_leaves machine asked _ next step = absurd step
 
 pub index_lawful : IsLawful Kind.Index index_form

@@ -6,18 +6,19 @@ use Rattle.hol_orders.specs.declared.order.Order.{Order}
 use Rattle.hol_orders.specs.Kind.{shape}
 use Rattle.hol_orders.specs.Order.{Orders, asking, asks}
 use Rattle.hol_answers.specs.declared.refusal.Refusal.{Refusal}
+use Rattle.hol_answers.specs.declared.refusal.Refusal.TheVariants.{BadOrder}
 use Rattle.hol_answers.specs.declared.reply.Reply.{Reply}
 use Rattle.hol_answers.specs.declared.reply.Reply.TheVariants as reply
 use Rattle.read_engine.specs.Position.{Position}
-use Rattle.hollow_machine.specs.Forms.{OrderForm, Refuses, looking}
-use Rattle.hollow_machine.specs.State.{Machine, with_consumer}
+use Rattle.hollow_machine.specs.Forms.{OrderForm, Refuses, StepBy, answers_of_state, looking, unbuilt}
+use Rattle.hollow_machine.specs.State.{Machine, with_reader}
 use Rattle.written_laws.specs.Chain.{Chain, ChainState, HasVersion, IsChain}
 use Rattle.written_laws.specs.HoldsChain.{HoldsChain}
 use Rattle.chain_laws.specs.Answers.{SaysOne}
 use Rattle.chain_laws.specs.Consumers.{Fresh, IsConsumerOf, IsIn}
 use Rattle.chain_laws.specs.Growth.{GrowsBy}
 use Rattle.chain_laws.specs.Producers.{IsProducerOf, KeepsChain}
-use Rattle.chain_laws.proofs.Answering.{IsNoCycle, unless_cycle}
+use Rattle.chain_laws.proofs.Answering.{IsUnpublished, unless_published}
 use Rattle.chain_laws.proofs.OneCycle.{IsOnce, WrittenOnce}
 use Rattle.chain_laws.proofs.OneLook.{says}
 use Rattle.chain_laws.proofs.TypedConsumers.{IsTyped}
@@ -38,46 +39,47 @@ Keeps machine line answer chain next =
 -- the orders of a kind are answered in one way
 abbrev pub IsOneOf : {Asked : Type 0} → OrderForm Asked → Type 0
 IsOneOf {Asked} form = WrittenOnce → (machine : Machine) → IsSoundMachine machine → (asked : Asked) (one other : Reply) (next after : Machine)
-    → form.Answers machine asked one next → form.Answers machine asked other after → SaysOne one other × (next ≡ after)
+    → StepBy form machine asked one next → StepBy form machine asked other after → SaysOne one other × (next ≡ after)
 
 -- they leave a sound machine sound
 abbrev pub IsSoundOf : {Asked : Type 0} → OrderForm Asked → Type 0
-IsSoundOf {Asked} form = (machine : Machine) → IsSoundMachine machine → (asked : Asked) (answer : Reply) (next : Machine) → form.Answers machine asked answer next → IsSoundMachine next
+IsSoundOf {Asked} form = (machine : Machine) → IsSoundMachine machine → (asked : Asked) (answer : Reply) (next : Machine) → StepBy form machine asked answer next → IsSoundMachine next
 
 -- they keep the chain of a store, and a producer over it
 abbrev pub KeepsOf : (kind : Kind) → OrderForm (shape kind).Asked → Type 0
 KeepsOf kind form = (machine : Machine) (chain : Chain) → KeepsChain machine.store chain → IsProducerOf chain machine.producer
     → (line : List ℕ) (order : Order) → Orders line order → (asked : (shape kind).Asked) → asking order ≡ asks kind asked
-    → (answer : Reply) (next : Machine) → form.Answers machine asked answer next → Keeps machine line answer chain next
+    → (answer : Reply) (next : Machine) → StepBy form machine asked answer next → Keeps machine line answer chain next
 
 -- they leave the consumer at a state of the chain
 abbrev pub MovesOf : {Asked : Type 0} → OrderForm Asked → Type 0
 MovesOf {Asked} form = (machine : Machine) (chain : Chain) → HoldsChain machine.store chain → IsConsumerOf chain machine.consumer
-    → (asked : Asked) (answer : Reply) (next : Machine) → form.Answers machine asked answer next → IsConsumerOf chain next.consumer
+    → (asked : Asked) (answer : Reply) (next : Machine) → StepBy form machine asked answer next → IsConsumerOf chain next.consumer
 
 -- they are answered as where the consumer has its state afresh
 abbrev pub IsFreshOf : {Asked : Type 0} → OrderForm Asked → Type 0
 IsFreshOf {Asked} form = (machine fresh : Machine) (chain : Chain) → IsChain chain → IsConsumerOf chain machine.consumer → Fresh chain machine fresh
-    → (asked : Asked) (answer : Reply) (next : Machine) → form.Answers machine asked answer next → form.Answers fresh asked answer fresh
+    → (asked : Asked) (answer : Reply) (next : Machine) → StepBy form machine asked answer next → StepBy form fresh asked answer fresh
 
 pub record IsLawful (kind : Kind) (form : OrderForm (shape kind).Asked) : Type 0 where
   pub once : IsOneOf form
   pub sound : IsSoundOf form
   pub keeps : KeepsOf kind form
   pub moves : MovesOf form
-  pub afresh : form.of_state ≡ true → IsFreshOf form
+  pub afresh : answers_of_state form ≡ true → IsFreshOf form
 
 -- ---- what stays
 
 module _ (machine : Machine) (line : List ℕ) (chain : Chain) (kept : KeepsChain machine.store chain) (over : IsProducerOf chain machine.producer) where
   -- the store and the producer stay
-  pub beside_keeps : (answer : Reply) (next : Machine) (consumer : Option Position) → GrowsBy machine line answer chain chain → next ≡ with_consumer machine consumer → Keeps machine line answer chain next
-  beside_keeps answer next consumer grows same =
+  pub beside_keeps : (answer : Reply) (next : Machine) (consumer : Option Position) (version : Option ℕ) → GrowsBy machine line answer chain chain → next ≡ with_reader machine consumer version
+      → Keeps machine line answer chain next
+  beside_keeps answer next consumer version grows same =
       let both = subst (λ (m : Machine). KeepsChain m.store chain × IsProducerOf chain m.producer) (sym same) (kept, over) in
       (chain, grows, both.0, both.1, (λ v s there. there))
 
   pub same_keeps : (answer : Reply) (next : Machine) → GrowsBy machine line answer chain chain → next ≡ machine → Keeps machine line answer chain next
-  same_keeps answer next grows same = beside_keeps answer next machine.consumer grows same
+  same_keeps answer next grows same = beside_keeps answer next machine.consumer machine.version grows same
 
   pub refused_keeps : (answer : Reply) (next : Machine) (refusal : Refusal) → Refuses machine refusal answer next → Keeps machine line answer chain next
   refused_keeps answer next refusal refuses =
@@ -86,8 +88,8 @@ module _ (machine : Machine) (line : List ℕ) (chain : Chain) (kept : KeepsChai
 pub stays_sound : (machine : Machine) → IsSoundMachine machine → (next : Machine) → next ≡ machine → IsSoundMachine next
 stays_sound machine sound next same = subst IsSoundMachine (sym same) sound
 
-pub moved_sound : (machine : Machine) → IsSoundMachine machine → (next : Machine) (position : Position) → next ≡ with_consumer machine (Some position) → IsTyped position → IsSoundMachine next
-moved_sound machine sound next position next_is typed = subst IsSoundMachine (sym next_is) (sound.0, typed)
+pub moved_sound : (machine : Machine) → IsSoundMachine machine → (next : Machine) (position : Position) (version : Option ℕ) → next ≡ with_reader machine (Some position) version → IsTyped position → IsSoundMachine next
+moved_sound machine sound next position version next_is typed = subst IsSoundMachine (sym next_is) (sound.0, typed)
 
 pub stays_of : (machine : Machine) (chain : Chain) → IsConsumerOf chain machine.consumer → (next : Machine) → next.consumer ≡ machine.consumer → IsConsumerOf chain next.consumer
 stays_of machine chain of next same = subst (IsConsumerOf chain) (sym same) of
@@ -96,17 +98,17 @@ pub same_of : (machine : Machine) (chain : Chain) → IsConsumerOf chain machine
 same_of machine chain of next same = stays_of machine chain of next (ap (λ (m : Machine). m.consumer) same)
 
 -- the consumer is this one, which stands in the chain
-pub moved_of : (machine : Machine) (chain : Chain) (next : Machine) (position : Position) → next ≡ with_consumer machine (Some position) → IsIn chain position → IsConsumerOf chain next.consumer
-moved_of machine chain next position next_is is_in = subst (λ (m : Machine). IsConsumerOf chain m.consumer) (sym next_is) is_in
+pub moved_of : (machine : Machine) (chain : Chain) (next : Machine) (position : Position) (version : Option ℕ) → next ≡ with_reader machine (Some position) version → IsIn chain position → IsConsumerOf chain next.consumer
+moved_of machine chain next position version next_is is_in = subst (λ (m : Machine). IsConsumerOf chain m.consumer) (sym next_is) is_in
 
 pub says_both : (one other : Reply) (next after : Machine) → (one ≡ other) × (next ≡ after) → SaysOne one other × (next ≡ after)
 says_both one other next after (same, and) = (says one other same, and)
 
--- ---- orders that look
+-- ---- orders that look, and orders that are not built
 
 pub looks_lawful : (kind : Kind) (Answers : Option Position → (shape kind).Asked → Reply → Type 0) (of_state : Bool)
     → ((consumer : Option Position) (asked : (shape kind).Asked) (one other : Reply) → IfSome consumer IsTyped → Answers consumer asked one → Answers consumer asked other → SaysOne one other)
-    → ((consumer : Option Position) (asked : (shape kind).Asked) (answer : Reply) → Answers consumer asked answer → IsNoCycle answer)
+    → ((consumer : Option Position) (asked : (shape kind).Asked) (answer : Reply) → Answers consumer asked answer → IsUnpublished answer)
     → (of_state ≡ true → (machine fresh : Machine) (chain : Chain) → IsChain chain → IsConsumerOf chain machine.consumer → Fresh chain machine fresh → (asked : (shape kind).Asked) (answer : Reply)
     → Answers machine.consumer asked answer → Answers fresh.consumer asked answer)
     → IsLawful kind (looking Answers of_state)
@@ -114,40 +116,46 @@ looks_lawful k Answers of_state one none afresh = record {
   once = λ written machine sound asked answer other next after is also. (one machine.consumer asked answer other sound.1 is.0 also.0, is.1 ∙ sym also.1);
   sound = λ machine sound asked answer next is. stays_sound machine sound next is.1;
   keeps = λ machine chain kept over line order orders asked asks_it answer next is.
-      same_keeps machine line chain kept over answer next (unless_cycle machine line chain answer (none machine.consumer asked answer is.0)) is.1;
+      same_keeps machine line chain kept over answer next (unless_published machine line chain answer (none machine.consumer asked answer is.0)) is.1;
   moves = λ machine chain holds of asked answer next is. same_of machine chain of next is.1;
   afresh = λ can machine fresh chain sound of is_fresh asked answer next is. (afresh can machine fresh chain sound of is_fresh asked answer is.0, refl);
 }
 
+pub unbuilt_lawful : (kind : Kind) → IsLawful kind unbuilt
+unbuilt_lawful k = looks_lawful k (λ consumer asked answer. answer ≡ reply.Refused BadOrder) false
+    (λ consumer asked one other typed is also. says one other (is ∙ sym also))
+    (λ consumer asked answer is. subst IsUnpublished (sym is) refl)
+    (λ can. absurd cc)
+
 -- ---- orders that move the consumer, or leave it
 
--- the machine, or one whose consumer is at this position, whose rows are of a model, and which stands in the chain
+-- the machine, or one whose consumer is at this position, by whichever version, whose rows are of a model, and which stands in the chain
 abbrev pub IsLeft : Machine → Machine → Type 0
 IsLeft machine next =
     (next ≡ machine)
-    ⊎ ((position : Position) × (next ≡ with_consumer machine (Some position)) × (IfSome machine.consumer IsTyped → IsTyped position)
+    ⊎ ((position : Position) × (version : Option ℕ) × (next ≡ with_reader machine (Some position) version) × (IfSome machine.consumer IsTyped → IsTyped position)
     × ((chain : Chain) → HoldsChain machine.store chain → IsConsumerOf chain machine.consumer → IsIn chain position))
 
 left_sound : (machine : Machine) → IsSoundMachine machine → (next : Machine) → IsLeft machine next → IsSoundMachine next
 left_sound machine sound next (inl same) = stays_sound machine sound next same
-left_sound machine sound next (inr (position, next_is, typed, is_in)) = moved_sound machine sound next position next_is (typed sound.1)
+left_sound machine sound next (inr (position, version, next_is, typed, is_in)) = moved_sound machine sound next position version next_is (typed sound.1)
 
 left_moves : (machine : Machine) (chain : Chain) → HoldsChain machine.store chain → IsConsumerOf chain machine.consumer → (next : Machine) → IsLeft machine next → IsConsumerOf chain next.consumer
 left_moves machine chain holds of next (inl same) = same_of machine chain of next same
-left_moves machine chain holds of next (inr (position, next_is, typed, is_in)) = moved_of machine chain next position next_is (is_in chain holds of)
+left_moves machine chain holds of next (inr (position, version, next_is, typed, is_in)) = moved_of machine chain next position version next_is (is_in chain holds of)
 
 left_keeps : (machine : Machine) (line : List ℕ) (chain : Chain) → KeepsChain machine.store chain → IsProducerOf chain machine.producer → (answer : Reply) (next : Machine)
-    → IsNoCycle answer → IsLeft machine next → Keeps machine line answer chain next
-left_keeps machine line chain kept over answer next none (inl same) = same_keeps machine line chain kept over answer next (unless_cycle machine line chain answer none) same
-left_keeps machine line chain kept over answer next none (inr (position, next_is, typed, is_in)) =
-    beside_keeps machine line chain kept over answer next (Some position) (unless_cycle machine line chain answer none) next_is
+    → IsUnpublished answer → IsLeft machine next → Keeps machine line answer chain next
+left_keeps machine line chain kept over answer next none (inl same) = same_keeps machine line chain kept over answer next (unless_published machine line chain answer none) same
+left_keeps machine line chain kept over answer next none (inr (position, version, next_is, typed, is_in)) =
+    beside_keeps machine line chain kept over answer next (Some position) version (unless_published machine line chain answer none) next_is
 
 -- what such an order leaves, with an answer that is no cycle's
 abbrev pub LeavesOf : {Asked : Type 0} → OrderForm Asked → Type 0
 LeavesOf {Asked} form =
-    (machine : Machine) (asked : Asked) (answer : Reply) (next : Machine) → form.Answers machine asked answer next → IsNoCycle answer × IsLeft machine next
+    (machine : Machine) (asked : Asked) (answer : Reply) (next : Machine) → StepBy form machine asked answer next → IsUnpublished answer × IsLeft machine next
 
-pub moves_lawful : (kind : Kind) (form : OrderForm (shape kind).Asked) → form.of_state ≡ false → IsOneOf form → LeavesOf form → IsLawful kind form
+pub moves_lawful : (kind : Kind) (form : OrderForm (shape kind).Asked) → answers_of_state form ≡ false → IsOneOf form → LeavesOf form → IsLawful kind form
 moves_lawful k form not one leaves = record {
   once = one;
   sound = λ machine sound asked answer next is. left_sound machine sound next (leaves machine asked answer next is).1;

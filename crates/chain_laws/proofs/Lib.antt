@@ -45,6 +45,8 @@ mod Putting
 mod ReadTexts
 mod RestoreLaws
 mod RestoredChains
+mod ScriptFilms
+mod ScriptModel
 mod SoundMachines
 mod StatLaws
 mod StepLaws

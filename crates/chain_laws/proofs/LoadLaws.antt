@@ -1,5 +1,5 @@
 -- The laws of the order `load`.
-use Rattle.std.proofs.Common.{refl, inl, inr}
+use Rattle.std.proofs.Common.{Some, refl, inl, inr}
 use Rattle.hol_answers.specs.declared.reply.Reply.TheVariants as reply
 use Rattle.hollow_machine.specs.LoadOrder.{load_form}
 use Rattle.chain_laws.proofs.ConsumerMoves.{loads_in}
@@ -10,8 +10,8 @@ use Rattle.chain_laws.proofs.OneMove.{one_load}
 
 load_leaves : LeavesOf load_form
 load_leaves machine version (reply.Load tag) next (blob, position, at, loads, tag_is, next_is) =
-    (tt, inr (position, next_is, (λ typed. load_typed blob position loads), (λ chain holds of. loads_in machine.store chain holds version blob position at loads)))
-load_leaves machine version (reply.Refused refusal) next step = (tt, inl step.1)
+    (refl, inr (position, Some version, next_is, (λ typed. load_typed blob position loads), (λ chain holds of. loads_in machine.store chain holds version blob position at loads)))
+load_leaves machine version (reply.Refused refusal) next step = (refl, inl step.1)
 load_leaves machine version _ next step = absurd step
 
 pub load_lawful : IsLawful Kind.Load load_form

@@ -289,7 +289,7 @@ module _ (written : WrittenOnce) (machine : Machine) (last : Published) (asked :
 
   -- the records give trees, and these pass this limit
   abbrev PassedBy : Limit → Type 0
-  PassedBy passed = (trees : List (ℕ × PlainTree)) × GivesTrees last.model asked.add trees × PassKind written machine last version tag trees model once passed
+  PassedBy passed = (trees : List (ℕ × PlainTree)) × GivesTrees last asked.add trees × PassKind written machine last version tag trees model once passed
 
   abbrev AfterKind : Refusal → Type 0
   AfterKind refusal =
@@ -302,8 +302,8 @@ module _ (written : WrittenOnce) (machine : Machine) (last : Published) (asked :
   after_kind (refused.TooLarge passed) (may, (trees, gives, passes)) = inr (may, inr (passed, refl, (trees, gives, pass_kind written machine last version tag trees model once passed passes)))
   after_kind _ is = inl is
 
-  same_trees : (trees others : List (ℕ × PlainTree)) → GivesTrees last.model asked.add trees → GivesTrees last.model asked.add others → trees ≡ others
-  same_trees trees others gives also = given_one last.model asked.add trees others gives also
+  same_trees : (trees others : List (ℕ × PlainTree)) → GivesTrees last asked.add trees → GivesTrees last asked.add others → trees ≡ others
+  same_trees trees others gives also = given_one last asked.add trees others gives also
 
   passed_one : (l m : Limit) → PassedBy l → PassedBy m → l ≡ m
   passed_one l m (trees, gives, kind) (others, gives_too, also) =
@@ -315,8 +315,8 @@ module _ (written : WrittenOnce) (machine : Machine) (last : Published) (asked :
   after_one r s (inl not) (inr may) = absurd (may_apart store last.version version tag r not may.0)
   after_one r s (inr may) (inl not) = absurd (may_apart store last.version version tag s not may.0)
   after_one r s (inr (may, inl none)) (inr (may_too, inl also)) = no_trees_one last.model asked.add r s none also
-  after_one r s (inr (may, inl none)) (inr (may_too, inr (passed, is, (trees, gives, kind)))) = absurd (no_trees_apart last.model asked.add r trees gives none)
-  after_one r s (inr (may, inr (passed, is, (trees, gives, kind)))) (inr (may_too, inl none)) = absurd (no_trees_apart last.model asked.add s trees gives none)
+  after_one r s (inr (may, inl none)) (inr (may_too, inr (passed, is, (trees, gives, kind)))) = absurd (no_trees_apart last asked.add r trees gives none)
+  after_one r s (inr (may, inr (passed, is, (trees, gives, kind)))) (inr (may_too, inl none)) = absurd (no_trees_apart last asked.add s trees gives none)
   after_one r s (inr (may, inr (l, is, kind))) (inr (may_too, inr (m, is_too, also))) = is ∙ ap (λ p. refused.TooLarge p) (passed_one l m kind also) ∙ sym is_too
 
   after_succeeds_one : (names others : List (List ℕ)) (published also : Bool) (next after : Machine) → SucceedsAfter machine last asked names published next
@@ -329,7 +329,7 @@ module _ (written : WrittenOnce) (machine : Machine) (last : Published) (asked :
 
   after_succeeds_not : (names : List (List ℕ)) (published : Bool) (next : Machine) (refusal : Refusal) → SucceedsAfter machine last asked names published next → AfterKind refusal → ⊥
   after_succeeds_not names published next refusal (may, more) (inl not) = may_apart store last.version version tag refusal not may
-  after_succeeds_not names published next refusal (may, (trees, gives, one)) (inr (may_too, inl none)) = no_trees_apart last.model asked.add refusal trees gives none
+  after_succeeds_not names published next refusal (may, (trees, gives, one)) (inr (may_too, inl none)) = no_trees_apart last asked.add refusal trees gives none
   after_succeeds_not names published next refusal (may, (trees, gives, one)) (inr (may_too, inr (passed, is, (others, gives_too, kind)))) =
       succeeds_not written machine last version tag trees model once names published next passed one
       (subst (λ (list : List (ℕ × PlainTree)). PassKind written machine last version tag list model once passed) (sym (same_trees trees others gives gives_too)) kind)

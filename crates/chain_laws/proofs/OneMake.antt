@@ -14,7 +14,7 @@ use Rattle.hol_answers.specs.declared.reply.Reply.TheVariants as reply
 use Rattle.state_blobs.specs.Published.{Published}
 use Rattle.hollow_machine.specs.CheckOrder.{CheckReply}
 use Rattle.hollow_machine.specs.CycleOrder.{CycleStep}
-use Rattle.hollow_machine.specs.MakeCommand.{ChecksCycles, MakeReply, Makes, PassesCycles, RefusesOneOf, SumsUp, film_cycle, film_machine, published_by, there_and_back}
+use Rattle.hollow_machine.specs.MakeCommand.{ChecksCycles, MakeReply, Makes, PassesCycles, RefusesOneOf, SumsUp, film_cycle, film_machine, versions_published, there_and_back}
 use Rattle.hollow_machine.specs.State.{Machine}
 use Rattle.chain_laws.proofs.CheckLaws.{one_check}
 use Rattle.chain_laws.proofs.CycleLaws.{cycle_sound}
@@ -41,7 +41,7 @@ module _ (written : WrittenOnce) (seed rows : ℕ) where
       let (answers, machines) = step_one machine sound cycle answer also between middle step step_too in
       let here = subst (λ (m : Machine). PassesCycles seed rows m cycles more after) (sym machines) passes_too in
       let rest = passes_one cycles between (cycle_sound machine sound (film_cycle seed rows cycle) answer between step) others more next after passes here in
-      (are ∙ (λ i. published_by (answers i) ++ rest.0 i) ∙ sym are_too, rest.1)
+      (are ∙ (λ i. versions_published (answers i) ++ rest.0 i) ∙ sym are_too, rest.1)
 
   -- one of the cycles is the first that is refused, seen from the first of them on
   abbrev FirstRefused : Machine → List ℕ → Refusal → Machine → Type 0

@@ -1,5 +1,5 @@
 -- A load and a step of a consumer have one answer line, and leave one machine.
-use Rattle.std.proofs.Common.{◌≡◌, ◌≢◌, ◌<◌, ◌⊎◌, ℕ, suc, List, [], ◌∷◌, length, Option, Some, None, inl, inr, refl, sym, ap, subst, ◌∙◌, arith}
+use Rattle.std.proofs.Common.{◌≡◌, ◌<◌, ◌⊎◌, ℕ, suc, List, [], ◌∷◌, length, Option, Some, inl, inr, refl, sym, ap, subst, ◌∙◌, arith}
 use Rattle.std.specs.Prelude.{IfSome}
 use Rattle.std.specs.FinMap.{get}
 use Rattle.std.proofs.lemmas.Bool.{cases_eq}
@@ -20,7 +20,7 @@ use Rattle.read_engine.specs.Position.{Position, rows_now}
 use Rattle.read_engine.specs.Taking.{LoadsFrom, StepsBy, layout_at}
 use Rattle.hollow_machine.proofs.Refusals.{one_snapshot_refusal, one_step_refusal, some_one}
 use Rattle.hollow_machine.specs.LoadOrder.{LoadStep}
-use Rattle.hollow_machine.specs.State.{Machine, with_consumer}
+use Rattle.hollow_machine.specs.State.{Machine, moved_to}
 use Rattle.hollow_machine.specs.StepOrder.{StepRefusal, StepStep}
 use Rattle.written_laws.proofs.MovedOnce.{moved_once}
 use Rattle.written_laws.proofs.PatchOnce.{patch_once, tags_once}
@@ -52,7 +52,7 @@ one_load machine version (reply.Load tag) (reply.Load also) next after (blob, po
     let same = some_one (get machine.store (Snapshot version)) x blob at_x at in
     let here : position ≡ place = load_once blob position place loads (subst (λ (b : List ℕ). LoadsFrom b place) same loads_x) in
     alike (reply.Load tag) (reply.Load also) next after (ap (λ t. reply.Load t) (tag_is ∙ ap (λ (p : Position). p.tag) here ∙ sym also_is))
-    (next_is ∙ ap (λ (p : Position). with_consumer machine (Some p)) here ∙ sym after_is)
+    (next_is ∙ ap (moved_to machine version) here ∙ sym after_is)
 one_load machine version (reply.Load tag) (reply.Refused refusal) next after (blob, position, at, loads, tag_is, next_is) step =
     absurd (no_load_refusal version (get machine.store (Snapshot version)) blob position at loads refusal step.0)
 one_load machine version (reply.Refused refusal) (reply.Load tag) next after step (blob, position, at, loads, tag_is, next_is) =
@@ -118,7 +118,7 @@ step_once blob now a b typed one other =
     let indexes = one.indexes ∙ sym other.indexes in
     λ i. record { tag = tags.1 i; schemas = schemas i; halves = halves i; before = before i; indexes = indexes i }
 
-module _ (machine : Machine) (name : BlobName) (typed : IfSome machine.consumer IsTyped) where
+module _ (machine : Machine) (name : BlobName) (version : ℕ) (typed : IfSome machine.consumer IsTyped) where
   abbrev content : Option (List ℕ)
   content = get machine.store name
 
@@ -128,7 +128,7 @@ module _ (machine : Machine) (name : BlobName) (typed : IfSome machine.consumer 
       let here : IsTyped now = subst (λ (consumer : Option Position). IfSome consumer IsTyped) is typed in
       no_refusal name content blob now to at here steps refusal (subst (λ (consumer : Option Position). StepRefusal name content consumer refusal) is refuses)
 
-  pub one_move : (one other : Reply) (next after : Machine) → StepStep machine name one next → StepStep machine name other after → Alike one next other after
+  pub one_move : (one other : Reply) (next after : Machine) → StepStep machine name version one next → StepStep machine name version other after → Alike one next other after
   one_move (reply.Step tag) (reply.Step also) next after one other =
       let (now, is, (blob, to, at, steps, tag_is, next_is)) = found_with machine.consumer _ one in
       let (now_too, is_too, (x, place, at_x, steps_x, also_is, after_is)) = found_with machine.consumer _ other in
@@ -137,7 +137,7 @@ module _ (machine : Machine) (name : BlobName) (typed : IfSome machine.consumer 
       let steps_too : StepsBy blob now place = subst (λ (b : List ℕ). StepsBy b now place) bytes (subst (λ (p : Position). StepsBy x p place) here steps_x) in
       let there : to ≡ place = step_once blob now to place (subst (λ (consumer : Option Position). IfSome consumer IsTyped) is typed) steps steps_too in
       alike (reply.Step tag) (reply.Step also) next after (ap (λ t. reply.Step t) (tag_is ∙ ap (λ (p : Position). p.tag) there ∙ sym also_is))
-      (next_is ∙ ap (λ (p : Position). with_consumer machine (Some p)) there ∙ sym after_is)
+      (next_is ∙ ap (moved_to machine version) there ∙ sym after_is)
   one_move (reply.Step tag) (reply.Refused refusal) next after one other =
       let (now, is, (blob, to, at, steps, tag_is, next_is)) = found_with machine.consumer _ one in
       absurd (taken_not now to blob refusal is at steps other.0)

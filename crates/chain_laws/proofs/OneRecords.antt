@@ -13,6 +13,7 @@ use Rattle.hollow_machine.specs.Records.{Adding, AreRead, AreTypes, Entry, Gives
 use Rattle.hol_answers.specs.declared.refusal.Refusal.{Refusal}
 use Rattle.hol_answers.specs.declared.refusal.Refusal.TheVariants as refused
 use Rattle.hol_answers.specs.Refusal.{bad_record}
+use Rattle.state_blobs.specs.Published.{Published}
 use Rattle.chain_laws.proofs.PrintedOnce.{each_once}
 use Rattle.chain_laws.proofs.StoreNames.{name_once}
 
@@ -117,12 +118,13 @@ module _ (schemas : List Schema) where
   no_trees_one (spelled add) r s (inr (types, unread)) (inr (types_too, also)) = unread_same add r s unread also
   no_trees_one (given records) r s none also = absurd none
 
-  pub no_trees_apart : (add : Adding) (r : Refusal) (trees : List (ℕ × PlainTree)) → GivesTrees schemas add trees → NoTrees add r → ⊥
-  no_trees_apart (spelled add) r trees gives (inl (name, is, first)) = no_type schemas add name gives.types first
-  no_trees_apart (spelled add) r trees gives (inr (types, (name, place, reason, is, (t, named, first)))) = no_tree schemas add trees t place reason gives.read first
+module _ (last : Published) where
+  pub no_trees_apart : (add : Adding) (r : Refusal) (trees : List (ℕ × PlainTree)) → GivesTrees last add trees → NoTrees last.model add r → ⊥
+  no_trees_apart (spelled add) r trees gives (inl (name, is, first)) = no_type last.model add name gives.types first
+  no_trees_apart (spelled add) r trees gives (inr (types, (name, place, reason, is, (t, named, first)))) = no_tree last.model add trees t place reason gives.read first
   no_trees_apart (given records) r trees gives none = none
 
   -- the records give trees in one way
-  pub given_one : (add : Adding) (trees others : List (ℕ × PlainTree)) → GivesTrees schemas add trees → GivesTrees schemas add others → trees ≡ others
-  given_one (spelled add) trees others gives also = trees_one schemas add trees others gives.read also.read
+  pub given_one : (add : Adding) (trees others : List (ℕ × PlainTree)) → GivesTrees last add trees → GivesTrees last add others → trees ≡ others
+  given_one (spelled add) trees others gives also = trees_one last.model add trees others gives.read also.read
   given_one (given records) trees others gives also = gives ∙ sym also

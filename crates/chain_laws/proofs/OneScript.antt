@@ -7,7 +7,7 @@ use Rattle.hol_orders.specs.Order.{Asking, Orders, asked_of, asking, kind_of}
 use Rattle.hol_answers.specs.declared.refusal.Refusal.{Refusal}
 use Rattle.hol_answers.specs.declared.reply.Reply.{Reply}
 use Rattle.hol_io.specs.Store.{Store}
-use Rattle.hollow_machine.specs.Forms.{Refuses}
+use Rattle.hollow_machine.specs.Forms.{Refuses, StepBy}
 use Rattle.hollow_machine.specs.Script.{LineStep, Script}
 use Rattle.hollow_machine.specs.State.{Machine}
 use Rattle.state_blobs.specs.Published.{Published}
@@ -35,7 +35,7 @@ module _ (written : WrittenOnce) (machine : Machine) (sound : IsSoundMachine mac
   pub steps_one : (a b : Order) → asking a ≡ asking b → Step machine a one next → Step machine b other after → SaysOne one other × (next ≡ after)
   steps_one a b same step step_too =
       (laws (kind_of a)).once written machine sound (asked_of a) one other next after step
-      (subst (λ (x : Asking). (form x.kind).Answers machine x.asked other after) (sym same) step_too)
+      (subst (λ (x : Asking). StepBy (form x.kind) machine x.asked other after) (sym same) step_too)
 
   both_refused : (refusal : Refusal) → Refuses machine refusal one next → Refuses machine refusal other after → SaysOne one other × (next ≡ after)
   both_refused refusal first second = says_both one other next after (first.0 ∙ sym second.0, first.1 ∙ sym second.1)

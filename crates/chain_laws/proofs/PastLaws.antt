@@ -20,7 +20,7 @@ use Rattle.hollow_machine.specs.RowOrders.{PastReply, past_form, ShowsGone, Show
 use Rattle.chain_laws.specs.Answers.{SaysOne}
 use Rattle.chain_laws.proofs.PrintedOnce.{tree_once}
 use Rattle.hol_orders.specs.declared.kind.Kind.{Kind}
-use Rattle.chain_laws.proofs.Answering.{IsNoCycle, of_answers}
+use Rattle.chain_laws.proofs.Answering.{IsUnpublished, of_answers}
 use Rattle.chain_laws.proofs.Lawful.{IsLawful, looks_lawful}
 use Rattle.chain_laws.proofs.OneLook.{one_of, rising_one, says}
 
@@ -67,16 +67,16 @@ module _ (now : Position) (t : ℕ) where
 pub one_past : (consumer : Option Position) (name : Name) (a b : Reply) → PastReply consumer name a → PastReply consumer name b → SaysOne a b
 one_past consumer name a b one other = one_of name ShowsPast one_past_at consumer a b one other
 
-past_no_cycle_at : (now : Position) (t : ℕ) (answer : Reply) → ShowsPast now t answer → IsNoCycle answer
-past_no_cycle_at now t (reply.Past entries) is = tt
-past_no_cycle_at now t (reply.Refused refusal) is = tt
-past_no_cycle_at now t _ is = absurd is
+past_unpublished_at : (now : Position) (t : ℕ) (answer : Reply) → ShowsPast now t answer → IsUnpublished answer
+past_unpublished_at now t (reply.Past entries) is = refl
+past_unpublished_at now t (reply.Refused refusal) is = refl
+past_unpublished_at now t _ is = absurd is
 
-past_no_cycle : (consumer : Option Position) (name : Name) (answer : Reply) → PastReply consumer name answer → IsNoCycle answer
-past_no_cycle consumer name answer is = of_answers IsNoCycle name ShowsPast tt tt past_no_cycle_at consumer answer is
+past_unpublished : (consumer : Option Position) (name : Name) (answer : Reply) → PastReply consumer name answer → IsUnpublished answer
+past_unpublished consumer name answer is = of_answers IsUnpublished name ShowsPast refl refl past_unpublished_at consumer answer is
 
 pub past_lawful : IsLawful Kind.Past past_form
 past_lawful = looks_lawful Kind.Past (λ consumer name answer. PastReply consumer name answer) false
     (λ consumer name one other typed is also. one_past consumer name one other is also)
-    (λ consumer name answer is. past_no_cycle consumer name answer is)
+    (λ consumer name answer is. past_unpublished consumer name answer is)
     (λ can. absurd cc)

@@ -1,10 +1,9 @@
 -- What a script, or the command `make`, makes of the chain where it stops.
-use Rattle.std.proofs.Common.{◌≡◌, ◌<◌, ◌≤◌, ◌⊎◌, inl, inr, ℕ, ℤ, List, [], ◌∷◌, ◌++◌, Bool, true, false, if◌then◌else◌, Option, Some, None, length, take, refl, sym, ap, subst, ◌∙◌, arith, append_assoc}
+use Rattle.std.proofs.Common.{◌≡◌, ◌<◌, ◌≤◌, ◌⊎◌, inl, inr, ℕ, List, [], ◌∷◌, ◌++◌, true, false, if◌then◌else◌, Option, Some, None, length, take, refl, sym, ap, subst, ◌∙◌, arith, append_assoc}
 use Rattle.std.specs.Prelude.{All, FitsSigned, IsSomeAnd, IsTrue}
 use Rattle.std.specs.Fmt.{decimal}
 use Rattle.std.specs.Int.{w64}
 use Rattle.std.specs.FinMap.{insert}
-use Rattle.std.specs.List.{range_with_len}
 use Rattle.std.proofs.lemmas.Bool.{cases_lt}
 use Rattle.std.proofs.lemmas.List.{append-nil, take_all}
 use Rattle.std.proofs.lemmas.List.Elements.{All-head}
@@ -17,7 +16,7 @@ use Rattle.row_model.specs.Table.{Table}
 use Rattle.schema_model.specs.Model.{IsModel}
 use Rattle.hol_orders.specs.declared.order.Order.{Order}
 use Rattle.hol_orders.specs.declared.order.Order.TheVariants as order
-use Rattle.hol_orders.specs.Order.{Orders}
+use Rattle.hol_orders.specs.Order.{IsOrder, Orders}
 use Rattle.hol_orders.specs.Parts.{asked_state}
 use Rattle.hol_answers.specs.declared.reply.Reply.{Reply}
 use Rattle.hol_answers.specs.Reply.{is_refusal, line_of}
@@ -29,11 +28,11 @@ use Rattle.hollow_machine.specs.Records.{AskedCycle, asked_cycle}
 use Rattle.hollow_machine.specs.Script.{LineStep, Script}
 use Rattle.hollow_machine.specs.State.{Machine, started}
 use Rattle.hollow_machine.specs.Left.{HasFirst}
-use Rattle.hollow_machine.specs.Puts.{ArePutsOf, CyclePuts, LinePuts, OrderPuts, PutsAfter}
+use Rattle.hollow_machine.specs.Puts.{ArePutsOf, CyclePuts, PutsAfter, PutsFor, asks_for}
 use Rattle.hollow_machine.specs.Stopped.{LeavesAhead, StopsAfter, StopsBetween, StopsWithin}
 use Rattle.hollow_machine.proofs.Scripts.{join}
 use Rattle.state_blobs.specs.Published.{Published}
-use Rattle.state_blobs.specs.Puts.{AreBlobs, IsShort, Put, put_all, puts_of}
+use Rattle.state_blobs.specs.Puts.{IsShort, Put, put_all, puts_of}
 use Rattle.written_laws.specs.Chain.{Chain}
 use Rattle.written_laws.specs.HoldsChain.{HoldsChain}
 use Rattle.chain_laws.specs.Growth.{AddsAsked}
@@ -121,11 +120,20 @@ module _ (machine : Machine) (chain : Chain) (kept : KeepsChain machine.store ch
   no_first : (puts : List Put) (store : Store) → puts ≡ [] → HasFirst puts machine.store store → ⊥
   no_first puts store none first = let some = first.some in let within = first.within in let count = ap length none in omega (arith, some, within, count)
 
-  order_adds : (line : List ℕ) (lines : List (List ℕ)) (asked : Order) (puts : List Put) (store : Store) → Orders line asked → OrderPuts asked machine puts → HasFirst puts machine.store store →
-      (after : Chain) × MayAddAhead machine (line ∷ lines) chain after × HoldsChain store after
-  order_adds line lines (order.Cycle next_state) puts store orders are first =
-      let (after, adds, holds) = cycle_adds (asked_cycle (asked_state next_state)) puts store orders.0.0 orders.0.1 are first in (after, inr (next_state, orders, adds), holds)
-  order_adds line lines _ puts store orders are first = absurd (no_first puts store are first)
+  -- the numbers of a cycle that an order asks for are a version and a tag
+  asked_fits : (asking : Order) (asked : AskedCycle) → IsOrder asking → asks_for asking ≡ Some asked → IsVersion asked.version × FitsSigned w64 asked.tag
+  asked_fits (order.Cycle next_state) asked fits is =
+      let there : Some (asked_cycle (asked_state next_state)) ≡ Some asked = is in
+      let same : asked_cycle (asked_state next_state) ≡ asked = cc in
+      subst (λ (a : AskedCycle). IsVersion a.version × FitsSigned w64 a.tag) same (fits.0, fits.1)
+  asked_fits _ asked fits is = absurd cc
+
+  order_adds : (line : List ℕ) (lines : List (List ℕ)) (asking : Order) (asked : Option AskedCycle) (puts : List Put) (store : Store) → asks_for asking ≡ asked → Orders line asking → PutsFor asked machine puts
+      → HasFirst puts machine.store store → (after : Chain) × MayAddAhead machine (line ∷ lines) chain after × HoldsChain store after
+  order_adds line lines asking (Some asked) puts store is orders are first =
+      let (is_version, fits) = asked_fits asking asked orders.0 is in
+      let (after, adds, holds) = cycle_adds asked puts store is_version fits are first in (after, inr (asking, asked, orders, is, adds), holds)
+  order_adds line lines asking None puts store is orders are first = absurd (no_first puts store are first)
 
   same_holds : (store : Store) → store ≡ machine.store → HoldsChain store chain
   same_holds store same = subst (λ (s : Store). HoldsChain s chain) (sym same) kept.holds
@@ -133,7 +141,7 @@ module _ (machine : Machine) (chain : Chain) (kept : KeepsChain machine.store ch
   pub ahead_adds : (ahead : List (List ℕ)) (store : Store) → LeavesAhead machine ahead store → (after : Chain) × MayAddAhead machine ahead chain after × HoldsChain store after
   ahead_adds [] store same = (chain, refl, same_holds store same)
   ahead_adds (line ∷ lines) store (inl same) = (chain, inl refl, same_holds store same)
-  ahead_adds (line ∷ lines) store (inr (puts, (short, (asked, orders, are)), first)) = order_adds line lines asked puts store orders are first
+  ahead_adds (line ∷ lines) store (inr (puts, (short, (asked, orders, are)), first)) = order_adds line lines asked (asks_for asked) puts store refl orders are first
 
   pub cycles_add : (seed rows : ℕ) (ahead : List ℕ) (store : Store) → seed ≤ 999999 → All IsNumber ahead → LeavesCycles seed rows machine ahead store →
       (after : Chain) × MayAddCycle seed rows machine ahead chain after × HoldsChain store after

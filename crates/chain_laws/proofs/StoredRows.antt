@@ -12,7 +12,7 @@ use Rattle.row_model.specs.PlainTree.{PlainTree, PlainTrees, PlainPairs, leaf, o
 use Rattle.row_model.specs.Row.{stored_value, is_least}
 use Rattle.row_model.specs.Table.{Table, RowMap, row_at}
 use Rattle.record_trees.specs.FitsTree.{IsLeafOr}
-use Rattle.ordinal_map.proofs.SlotRows.{get_inserted, get_beside}
+use Rattle.ordinal_map.proofs.SetRows.{get_inserted, get_beside}
 use Rattle.row_model.proofs.RowsFrom.{get_in}
 use Rattle.row_packing.specs.Written.{IsStored}
 use Rattle.write_engine.specs.Cycle.{Adds, AddsFields, AddsAll, AddsPairs, AddsRecords, Next, PutsRow, no_rows, rows_in}

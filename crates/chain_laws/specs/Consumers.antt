@@ -5,7 +5,7 @@ use Rattle.hol_io.specs.Store.{Store, told}
 use Rattle.blob_frame.specs.declared.header.Header.{Header}
 use Rattle.blob_frame.specs.Header.{HasHeader}
 use Rattle.read_engine.specs.Position.{Position, rows_now}
-use Rattle.hollow_machine.specs.State.{Machine, with_consumer}
+use Rattle.hollow_machine.specs.State.{Machine, with_reader}
 use Rattle.written_laws.specs.Chain.{Chain, ChainState, HasVersion}
 use Rattle.chain_laws.specs.KeptIndexes.{AreIndexes}
 
@@ -32,7 +32,7 @@ abbrev pub StartsAt : Store → BlobName → ℤ → Type 0
 StartsAt store name tag = (header : Header) × HasHeader (told (Some store) name) header × (header.origin ≡ tag)
 
 -- The machine is the same, but that its consumer, which has the tag of a version of the chain, has the state of that version afresh: its tag, model
--- and rows, in whichever layouts and with whichever rows before. It keeps the same indexes.
+-- and rows, in whichever layouts and with whichever rows before, and whichever version its last load or step led to. It keeps the same indexes.
 pub record Fresh (chain : Chain) (machine fresh : Machine) : Type 0 where
   pub now : Position
   pub was : machine.consumer ≡ Some now
@@ -43,4 +43,5 @@ pub record Fresh (chain : Chain) (machine fresh : Machine) : Type 0 where
   pub position : Position
   pub stands : StandsAt state position
   pub indexes : position.indexes ≡ now.indexes
-  pub is : fresh ≡ with_consumer machine (Some position)
+  pub last : Option ℕ
+  pub is : fresh ≡ with_reader machine (Some position) last

@@ -1,21 +1,19 @@
 -- What lines add to the chain that a store holds: the state that each of them publishes.
-use Rattle.std.specs.Prelude.{◌≡◌, ℕ, ℤ, List, [], ◌∷◌, ◌++◌, true, IsSomeAnd}
+use Rattle.std.specs.Prelude.{◌≡◌, ℕ, ℤ, List, [], ◌∷◌, ◌++◌, Option, Some, None, IsSomeAnd}
 use Rattle.std.specs.FinMap.{insert}
 use Rattle.std.specs.List.{range_with_len}
 use Rattle.hol_io.specs.Store.{Store}
 use Rattle.row_model.specs.PlainTree.{PlainTree}
 use Rattle.row_model.specs.Table.{Table}
 use Rattle.write_engine.specs.Cycle.{Next}
-use Rattle.hol_orders.specs.declared.order.NextState.{NextState}
-use Rattle.hol_orders.specs.declared.order.Order.TheVariants as order
-use Rattle.hol_orders.specs.Parts.{asked_state}
+use Rattle.hol_orders.specs.declared.order.Order.{Order}
 use Rattle.hol_answers.specs.declared.reply.Reply.{Reply}
-use Rattle.hol_answers.specs.declared.reply.Reply.TheVariants.{Cycle}
 use Rattle.hol_orders.specs.Order.{Orders}
-use Rattle.hol_answers.specs.Reply.{line_of}
+use Rattle.hol_answers.specs.Reply.{line_of, published_by}
 use Rattle.hollow_machine.specs.CycleOrder.{CycleStep}
 use Rattle.hollow_machine.specs.MakeCommand.{film_cycle, film_machine}
-use Rattle.hollow_machine.specs.Records.{AskedCycle, GivesTrees, asked_cycle}
+use Rattle.hollow_machine.specs.Puts.{asks_for}
+use Rattle.hollow_machine.specs.Records.{AskedCycle, GivesTrees}
 use Rattle.hollow_machine.specs.Script.{LineStep}
 use Rattle.hollow_machine.specs.State.{Machine}
 use Rattle.state_blobs.specs.Published.{Published}
@@ -30,21 +28,28 @@ AddsState chain last version tag trees after =
 -- The chain has the state more that is asked for: its records give trees, and these make it.
 abbrev pub AddsAsked : Chain → Published → AskedCycle → Chain → Type 0
 AddsAsked chain last asked after =
-    (trees : List (ℕ × PlainTree)) × GivesTrees last.model asked.add trees × AddsState chain last asked.version asked.tag trees after
+    (trees : List (ℕ × PlainTree)) × GivesTrees last asked.add trees × AddsState chain last asked.version asked.tag trees after
 
--- What a cycle with this answer makes of the chain: where the answer is that it published, it has the state more that is asked for, and else it is
--- the same.
+-- What a cycle makes of the chain whose answer tells of this version that it was published, or of none: the chain has the state more that is asked for,
+-- or is the same.
+abbrev pub GrowsAsked : Machine → AskedCycle → Option ℕ → Chain → Chain → Type 0
+GrowsAsked machine asked None chain after = after ≡ chain
+GrowsAsked machine asked (Some version) chain after = IsSomeAnd machine.producer (λ last. AddsAsked chain last asked after)
+
 abbrev pub GrowsByCycle : Machine → AskedCycle → Reply → Chain → Chain → Type 0
-GrowsByCycle machine asked (Cycle names true version) chain after = IsSomeAnd machine.producer (λ last. AddsAsked chain last asked after)
-GrowsByCycle machine asked _ chain after = after ≡ chain
+GrowsByCycle machine asked answer chain after = GrowsAsked machine asked (published_by answer) chain after
 
--- What a line with this answer makes of the chain: where the answer is that it published, it has the state of the line's cycle more, and
--- else it is the same.
+-- What a line makes of the chain whose answer tells of this version that it was published, or of none: the chain has the state more that the line's
+-- order asks for, under this version, or is the same.
+abbrev pub GrowsTo : Machine → List ℕ → Option ℕ → Chain → Chain → Type 0
+GrowsTo machine line None chain after = after ≡ chain
+GrowsTo machine line (Some version) chain after =
+    (order : Order) × (asked : AskedCycle) × Orders line order × (asks_for order ≡ Some asked) × (asked.version ≡ version)
+    × IsSomeAnd machine.producer (λ last. AddsAsked chain last asked after)
+
+-- What a line with this answer makes of the chain.
 abbrev pub GrowsBy : Machine → List ℕ → Reply → Chain → Chain → Type 0
-GrowsBy machine line (Cycle names true version) chain after =
-    (asked : NextState) × (asked.version ≡ version) × Orders line (order.Cycle asked)
-    × IsSomeAnd machine.producer (λ last. AddsAsked chain last (asked_cycle (asked_state asked)) after)
-GrowsBy machine line _ chain after = after ≡ chain
+GrowsBy machine line answer chain after = GrowsTo machine line (published_by answer) chain after
 
 -- The lines have these answers one after another, and make the later chain of the earlier one; and this is the machine behind the last.
 abbrev pub GrowsAlong : Machine → List (List ℕ) → List ℕ → Chain → Machine → Chain → Type 0

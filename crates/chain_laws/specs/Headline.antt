@@ -9,8 +9,9 @@ use Rattle.hol_answers.specs.declared.reply.Reply.TheVariants as reply
 use Rattle.hol_orders.specs.Order.{Orders, kind_of}
 use Rattle.hol_answers.specs.Reply.{line_of}
 use Rattle.read_engine.specs.Position.{Position}
+use Rattle.hollow_machine.specs.Forms.{answers_of_state}
 use Rattle.hollow_machine.specs.Script.{LineStep}
-use Rattle.hollow_machine.specs.State.{Machine, with_consumer}
+use Rattle.hollow_machine.specs.State.{Machine, moved_to}
 use Rattle.hollow_machine.specs.Step.{Step, form}
 use Rattle.hollow_machine.specs.StepOrder.{step_name}
 use Rattle.written_laws.specs.Chain.{Chain}
@@ -22,7 +23,7 @@ use Rattle.chain_laws.specs.Producers.{IsProducerOf, KeepsChain}
 -- at another tag, it is refused as such, and nothing changes.
 pub record IsTrueStep (chain : Chain) (machine : Machine) (from to : ℕ) (answer : Reply) (next : Machine) : Type 0 where
   pub taken : (now : Position) → machine.consumer ≡ Some now → StartsAt machine.store (step_name from to) now.tag
-      → (position : Position) × IsIn chain position × (answer ≡ reply.Step position.tag) × (next ≡ with_consumer machine (Some position))
+      → (position : Position) × IsIn chain position × (answer ≡ reply.Step position.tag) × (next ≡ moved_to machine to position)
   pub other : (now : Position) (origin : ℤ) → machine.consumer ≡ Some now → StartsAt machine.store (step_name from to) origin → origin ≢ now.tag
       → (answer ≡ reply.Refused (other_origin (step_name from to) origin now.tag)) × (next ≡ machine)
 
@@ -32,7 +33,7 @@ IsAsFresh chain machine asked answer = (fresh : Machine) → Fresh chain machine
 
 -- The orders of the kind are answered of the consumer's state alone.
 abbrev pub IsOfState : Kind → Type 0
-IsOfState kind = (form kind).of_state ≡ true
+IsOfState kind = answers_of_state (form kind) ≡ true
 
 -- What is promised of each order: of a step which are taken, and of what is answered of the consumer's state that the way to the state does not
 -- show.

@@ -5,4 +5,5 @@ pub mod Growth
 pub mod Headline
 pub mod KeptIndexes
 pub mod Producers
+pub mod ScriptOrders
 pub mod Stopped

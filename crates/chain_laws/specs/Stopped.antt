@@ -1,18 +1,17 @@
 -- What a script, or the command `make`, makes of the chain where it stops: the states that its answered lines published, and at most one more, which may
 -- be there in part.
-use Rattle.std.specs.Prelude.{◌≡◌, ◌⊎◌, ◌++◌, ℕ, ℤ, List, [], ◌∷◌, IsSomeAnd, false}
+use Rattle.std.specs.Prelude.{◌≡◌, ◌⊎◌, ◌++◌, ℕ, ℤ, List, [], ◌∷◌, Some, IsSomeAnd, false}
 use Rattle.std.specs.FinMap.{insert}
 use Rattle.std.specs.List.{range_with_len}
 use Rattle.hol_io.specs.Store.{Store}
 use Rattle.row_model.specs.PlainTree.{PlainTree}
 use Rattle.row_model.specs.Table.{Table}
 use Rattle.write_engine.specs.Cycle.{Next}
-use Rattle.hol_orders.specs.declared.order.NextState.{NextState}
-use Rattle.hol_orders.specs.declared.order.Order.TheVariants as order
+use Rattle.hol_orders.specs.declared.order.Order.{Order}
 use Rattle.hol_orders.specs.Order.{Orders}
-use Rattle.hol_orders.specs.Parts.{asked_state}
 use Rattle.hollow_machine.specs.MakeCommand.{film_cycle, film_machine}
-use Rattle.hollow_machine.specs.Records.{AskedCycle, GivesTrees, asked_cycle}
+use Rattle.hollow_machine.specs.Puts.{asks_for}
+use Rattle.hollow_machine.specs.Records.{AskedCycle, GivesTrees}
 use Rattle.hollow_machine.specs.State.{Machine, started}
 use Rattle.state_blobs.specs.Published.{Published}
 use Rattle.written_laws.specs.Chain.{Chain, ChainState}
@@ -27,7 +26,7 @@ state_begun last tag rows = record (state_behind last tag rows) { published = fa
 -- The chain has the state more that is asked for, but it is not published.
 abbrev pub BeginsAsked : Chain → Published → AskedCycle → Chain → Type 0
 BeginsAsked chain last asked after =
-    (trees : List (ℕ × PlainTree)) × (rows : Table) × GivesTrees last.model asked.add trees × Next last.model last.rows trees rows
+    (trees : List (ℕ × PlainTree)) × (rows : Table) × GivesTrees last asked.add trees × Next last.model last.rows trees rows
     × (after ≡ insert chain asked.version (state_begun last asked.tag rows))
 
 -- The chain is the same, or has the state more that a cycle asks for, published or not.
@@ -39,7 +38,7 @@ MayAdd machine asked chain after =
 abbrev pub MayAddAhead : Machine → List (List ℕ) → Chain → Chain → Type 0
 MayAddAhead machine [] chain after = after ≡ chain
 MayAddAhead machine (line ∷ lines) chain after =
-    (after ≡ chain) ⊎ ((asked : NextState) × Orders line (order.Cycle asked) × MayAdd machine (asked_cycle (asked_state asked)) chain after)
+    (after ≡ chain) ⊎ ((order : Order) × (asked : AskedCycle) × Orders line order × (asks_for order ≡ Some asked) × MayAdd machine asked chain after)
 
 -- A store holds the chain that the first of these lines made of the earlier one, with at most one state more, which the next line was to publish.
 pub record HoldsLonger (first : Store) (chain : Chain) (lines : List (List ℕ)) (store : Store) : Type 0 where

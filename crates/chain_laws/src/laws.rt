@@ -1,14 +1,16 @@
 //! Laws of chains.
-ghost use Rattle.std.specs.Prelude.{◌≡◌, ◌≢◌, ◌≤◌, ◌↔◌, ℕ, ℤ, List, [], ◌∷◌, ◌++◌, Bool, Some, IfSome, Contains, FitsSigned};
+ghost use Rattle.std.specs.Prelude.{◌≡◌, ◌≢◌, ◌≤◌, ◌↔◌, ◌^◌, ℕ, ℤ, List, [], ◌∷◌, ◌++◌, Bool, Some, IfSome, Contains, FitsSigned};
 ghost use Rattle.std.specs.Int.{w64};
 ghost use Rattle.serde_json.specs.View.{view};
 ghost use Rattle.serde_json.specs.declared.value.Value.{Value};
 ghost use Rattle.schema_model.specs.declared.schema.name.Name.{Name};
+ghost use Rattle.film_script.specs.Films.{film_schemas, films};
 ghost use Rattle.hol_io.specs.declared.name.BlobName.TheVariants.{Snapshot};
 ghost use Rattle.hol_io.specs.Name.{IsVersion};
 ghost use Rattle.hol_io.specs.Store.{Store};
 ghost use Rattle.hol_orders.specs.declared.kind.Kind.TheVariants as Kind;
 ghost use Rattle.hol_orders.specs.Order.{kind_of};
+ghost use Rattle.hol_orders.specs.Parts.{asked_state};
 ghost use Rattle.hol_orders.specs.declared.order.NextState.{NextState};
 ghost use Rattle.hol_orders.specs.declared.order.Order.{Order};
 ghost use Rattle.hol_orders.specs.declared.order.Order.TheVariants as order;
@@ -19,12 +21,13 @@ ghost use Rattle.hol_answers.specs.declared.reply.Reply.{Reply};
 ghost use Rattle.hol_answers.specs.declared.reply.Reply.TheVariants as reply;
 ghost use Rattle.read_engine.specs.Position.{Index, IsPosition, Position};
 ghost use Rattle.hollow_machine.specs.KeyPaths.{texts_of_array};
-ghost use Rattle.hollow_machine.specs.MakeCommand.{Makes};
+ghost use Rattle.hollow_machine.specs.CycleOrder.{CycleStep};
+ghost use Rattle.hollow_machine.specs.MakeCommand.{Makes, film_cycle, film_machine};
 ghost use Rattle.hollow_machine.specs.Made.{StopsMake};
-ghost use Rattle.hollow_machine.specs.Records.{AskedCycle};
+ghost use Rattle.hollow_machine.specs.Records.{AskedCycle, SpellsTrees};
 ghost use Rattle.hollow_machine.specs.RestoreOrder.{IsLast, producer_at};
 ghost use Rattle.hollow_machine.specs.Script.{LineStep, Script};
-ghost use Rattle.hollow_machine.specs.State.{Machine, started, with_consumer, with_producer};
+ghost use Rattle.hollow_machine.specs.State.{Machine, moved_to, started, with_consumer, with_producer};
 ghost use Rattle.hollow_machine.specs.Step.{Step};
 ghost use Rattle.hollow_machine.specs.Left.{HasFirst};
 ghost use Rattle.hollow_machine.specs.Puts.{CyclePuts};
@@ -39,6 +42,7 @@ ghost use Rattle.chain_laws.specs.Growth.{GrowsAlong, GrowsBy, GrowsByMake};
 ghost use Rattle.chain_laws.specs.Headline.{AreTrueLines, StandsOn, IsOfState};
 ghost use Rattle.chain_laws.specs.KeptIndexes.{AsksFor};
 ghost use Rattle.chain_laws.specs.Producers.{HoldsBytes, IsProducerOf, KeepsChain};
+ghost use Rattle.chain_laws.specs.ScriptOrders.{films_data, script_model, script_state};
 ghost use Rattle.chain_laws.specs.Stopped.{HoldsLonger, HoldsLongerByMake, MayAdd};
 ghost use Rattle.state_blobs.specs.Puts.{Put};
 
@@ -125,10 +129,10 @@ pub fn script_keeps_consumer()
 pub fn chain_step_taken()
     ensures taken { (machine : Machine) (chain : Chain) (from to : ℕ) (now : Position)
         → HoldsChain machine.store chain → machine.consumer ≡ Some now → IsIn chain now → StartsAt machine.store (step_name from to) now.tag
-        → (position : Position) × Step machine (order.Step from to) (reply.Step position.tag) (with_consumer machine (Some position)) }
+        → (position : Position) × Step machine (order.Step from to) (reply.Step position.tag) (moved_to machine to position) }
     ensures only { (machine next : Machine) (chain : Chain) (from to : ℕ) (now : Position) (answer : Reply)
         → HoldsChain machine.store chain → machine.consumer ≡ Some now → IsIn chain now → StartsAt machine.store (step_name from to) now.tag → Step machine (order.Step from to) answer next
-        → (position : Position) × IsIn chain position × (answer ≡ reply.Step position.tag) × (next ≡ with_consumer machine (Some position)) }
+        → (position : Position) × IsIn chain position × (answer ≡ reply.Step position.tag) × (next ≡ moved_to machine to position) }
 {}
 
 /// A step whose blob starts at another tag than the consumer's is refused as such, and nothing changes, whatever else the store has.
@@ -146,10 +150,10 @@ pub fn other_origin_refused()
 pub fn chain_load_taken()
     ensures taken { (machine : Machine) (chain : Chain) (version : ℕ) (state : ChainState)
         → HoldsChain machine.store chain → HasVersion chain version state → IsThere machine.store (Snapshot version)
-        → (position : Position) × Step machine (order.Load version) (reply.Load state.tag) (with_consumer machine (Some position)) }
+        → (position : Position) × Step machine (order.Load version) (reply.Load state.tag) (moved_to machine version position) }
     ensures only { (machine next : Machine) (chain : Chain) (version : ℕ) (state : ChainState) (answer : Reply)
         → HoldsChain machine.store chain → HasVersion chain version state → IsThere machine.store (Snapshot version) → Step machine (order.Load version) answer next
-        → (position : Position) × StandsAt state position × (position.indexes ≡ []) × (answer ≡ reply.Load state.tag) × (next ≡ with_consumer machine (Some position)) }
+        → (position : Position) × StandsAt state position × (position.indexes ≡ []) × (answer ≡ reply.Load state.tag) × (next ≡ moved_to machine version position) }
     ensures fresh { (machine next : Machine) (chain : Chain) (version : ℕ) (state : ChainState) (now : Position) (answer : Reply)
         → HoldsChain machine.store chain → HasVersion chain version state → IsThere machine.store (Snapshot version) → machine.consumer ≡ Some now → now.tag ≡ state.tag
         → now.indexes ≡ [] → Step machine (order.Load version) answer next → Fresh chain machine next }
@@ -272,6 +276,18 @@ pub fn one_make()
 {
     blob_writing::laws::one_written_snapshot();
     blob_writing::laws::one_written_delta();
+    film_script::laws::films_model();
+}
+
+/// The command `make` is a script of orders: the order `model` with the JSON of its schemas leaves the machine that it starts from; the JSON of the films
+/// of a cycle is read as the trees that it adds; and the order `cycle` with them is answered as that cycle is, where the producer has these schemas.
+pub fn make_is_orders()
+    ensures model { (store : Store) (schemas : Value) → view schemas ≡ script_model → Step (started store) (order.Model schemas) (reply.Model 3) (film_machine store) }
+    ensures films { (seed rows cycle : ℕ) → rows ≤ 2 ^ 31 → SpellsTrees film_schemas (films_data seed rows cycle) (films seed rows cycle) }
+    ensures cycles { (machine next : Machine) (seed rows cycle : ℕ) (asked : NextState) (answer : Reply)
+        → rows ≤ 2 ^ 31 → IfSome machine.producer (λ last. last.model ≡ film_schemas) → asked_state asked ≡ script_state seed rows cycle
+        → Step machine (order.Cycle asked) answer next ↔ CycleStep machine (film_cycle seed rows cycle) answer next }
+{
     film_script::laws::films_model();
 }
 

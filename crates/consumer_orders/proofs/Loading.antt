@@ -10,7 +10,7 @@ use Rattle.hol_answers.specs.declared.refusal.Refusal.{Refusal}
 use Rattle.hol_answers.specs.declared.reply.Reply.TheVariants.{Load, Refused}
 use Rattle.hollow_machine.proofs.Refusals.{snapshot_refused}
 use Rattle.hollow_machine.specs.Blobs.{TellsOf}
-use Rattle.hollow_machine.specs.Kept.{MovesConsumer, kept_with_consumer, machine_of}
+use Rattle.hollow_machine.specs.Kept.{MovesReader, kept_with_reader, machine_of, reader_of}
 use Rattle.hollow_machine.specs.LoadOrder.{LoadStep}
 
 -- The tag that is told is that of where the consumer stands.
@@ -20,17 +20,17 @@ same_tag tag now position is stands =
     cc
 
 -- A loaded consumer moves the machine.
-pub loaded : (E : Type 0) (held : Option Store) (version : ℕ) (old new : Option Position) (tag told_tag : ℤ) → told_tag ≡ tag → Some tag ≡ option_map (λ p. p.tag) new →
+pub loaded : (E : Type 0) (held : Option Store) (version : ℕ) (before : Option ℕ) (old new : Option Position) (tag told_tag : ℤ) → told_tag ≡ tag → Some tag ≡ option_map (λ p. p.tag) new →
     IfSome held (λ store. TellsLoad (Snapshot version) (told held (Snapshot version)) new (Ok tt)) →
-    MovesConsumer {E = E} (λ machine reply next. LoadStep machine version reply next) held old new (Ok (Load told_tag))
-loaded E None version old new tag told_tag same is tells = λ kept. tt
-loaded E (Some store) version old new tag told_tag same is (blob, position, there, stands, loads) = λ kept.
-    (store, refl, (blob, position, there, loads, same ∙ same_tag tag new position is stands, ap (λ at. machine_of store (kept_with_consumer kept at)) stands))
+    MovesReader {E = E} (λ machine reply next. LoadStep machine version reply next) held (reader_of old before) (reader_of new (Some version)) (Ok (Load told_tag))
+loaded E None version before old new tag told_tag same is tells = λ kept. tt
+loaded E (Some store) version before old new tag told_tag same is (blob, position, there, stands, loads) = λ kept.
+    (store, refl, (blob, position, there, loads, same ∙ same_tag tag new position is stands, ap (λ at. machine_of store (kept_with_reader kept (reader_of at (Some version)))) stands))
 
 -- A snapshot that is refused leaves the machine as it was.
-pub not_loaded : (E : Type 0) (held : Option Store) (version : ℕ) (old new : Option Position) (found : BlobFault) (why : Refusal) → new ≡ old → TellsOf (Snapshot version) found why →
+pub not_loaded : (E : Type 0) (held : Option Store) (version : ℕ) (before : Option ℕ) (old new : Option Position) (found : BlobFault) (why : Refusal) → new ≡ old → TellsOf (Snapshot version) found why →
     IfSome held (λ store. TellsLoad (Snapshot version) (told held (Snapshot version)) new (Err found)) →
-    MovesConsumer {E = E} (λ machine reply next. LoadStep machine version reply next) held old new (Ok (Refused why))
-not_loaded E None version old new found why same is tells = λ kept. tt
-not_loaded E (Some store) version old new found why same is tells = λ kept.
-    (store, refl, (snapshot_refused (Snapshot version) (told (Some store) (Snapshot version)) found why is tells, ap (λ at. machine_of store (kept_with_consumer kept at)) same))
+    MovesReader {E = E} (λ machine reply next. LoadStep machine version reply next) held (reader_of old before) (reader_of new before) (Ok (Refused why))
+not_loaded E None version before old new found why same is tells = λ kept. tt
+not_loaded E (Some store) version before old new found why same is tells = λ kept.
+    (store, refl, (snapshot_refused (Snapshot version) (told (Some store) (Snapshot version)) found why is tells, ap (λ at. machine_of store (kept_with_reader kept (reader_of at before))) same))

@@ -1,7 +1,7 @@
 //! The order `load`.
 ghost use Rattle.std.specs.Prelude.{◌≡◌, ◌≤◌, IsErrOf, OnErr};
 ghost use Rattle.hol_io.specs.Causes.{Rose};
-ghost use Rattle.hollow_machine.specs.Kept.{MovesConsumer};
+ghost use Rattle.hollow_machine.specs.Kept.{MovesReader, reader_of};
 ghost use Rattle.hollow_machine.specs.LoadOrder.{LoadStep};
 
 use hol_answers::{Reply, blob_refusal};
@@ -9,27 +9,33 @@ use hol_io::{BlobName, BlobStore};
 use hol_orders::OrderStop;
 use read_engine::Consumer;
 
-/// The consumer becomes the state of a version's snapshot, and the answer tells its tag; or the snapshot is refused, with its first fault: `NoBlob`,
-/// `TooLarge` or `BadBlob`. After a refusal or a stop the consumer is as before. The store stays as it is. `Store` comes only where the store's count
-/// of faults rose.
+/// The consumer becomes the state of the snapshot of a version, which is its version then, and the answer tells its tag; or the snapshot is refused, with
+/// its first fault: `NoBlob`, `TooLarge` or `BadBlob`. After a refusal or a stop the consumer and its version are as before. The store stays as it is.
+/// `Store` comes only where the store's count of faults rose.
 pub fn load<S: BlobStore>(
     store: &mut S,
     consumer: &mut Consumer,
-    version: u64,
+    version: &mut Option<u64>,
+    wanted: u64,
 ) -> Result<Reply, OrderStop>
-    ensures step { MovesConsumer (λ machine reply next. LoadStep machine version reply next) (S.seen store.old).held consumer.old consumer.new result }
+    ensures step { MovesReader (λ machine reply next. LoadStep machine wanted reply next) (S.seen store.old).held
+        (reader_of consumer.old version.old) (reader_of consumer.new version.new) result }
     ensures stopped { OnErr result (consumer.new ≡ consumer.old) }
+    ensures unmoved { OnErr result (version.new ≡ version.old) }
     ensures held { (S.seen store.new).held ≡ (S.seen store.old).held }
     ensures puts { (S.seen store.new).puts ≡ (S.seen store.old).puts }
     ensures store_fault { IsErrOf result OrderStop.Store → Rose (S.seen store.old).faults (S.seen store.new).faults }
     ensures later { (S.seen store.old).faults ≤ (S.seen store.new).faults }
 {
-    if let Err(fault) = consumer.load(store, version) {
-        let refusal = blob_refusal(&BlobName::Snapshot(version), fault)?;
+    if let Err(fault) = consumer.load(store, wanted) {
+        let refusal = blob_refusal(&BlobName::Snapshot(wanted), fault)?;
         return Ok(Reply::Refused(refusal));
     }
     match consumer.tag() {
-        Some(tag) => Ok(Reply::Load(tag)),
+        Some(tag) => {
+            *version = Some(wanted);
+            Ok(Reply::Load(tag))
+        }
         None => unreachable!(),
     }
 }

@@ -7,7 +7,7 @@ use Rattle.std.proofs.lemmas.Bool.{cases_eq}
 use Rattle.row_model.specs.declared.row.Row.{Row}
 use Rattle.row_model.specs.Table.{Table, RowMap, row_at}
 use Rattle.ordinal_map.specs.Assign.{IsPut}
-use Rattle.ordinal_map.proofs.SlotRows.{get_beside, get_inserted}
+use Rattle.ordinal_map.proofs.SetRows.{get_beside, get_inserted}
 use Rattle.write_engine.specs.Agreement.{TablesAgree}
 use Rattle.write_engine.specs.Cycle.{PutsRow, rows_in, with_row}
 use Rattle.write_engine.proofs.ClosedStates.{at_rows, beside_set, length_set, row_beside, row_here}

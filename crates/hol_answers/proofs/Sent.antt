@@ -71,11 +71,16 @@ pub object_sent : (members : List (Bor (List ℕ) × Content)) (old first mid ne
 object_sent members old first mid new begins sent ends =
     front_sent members no_members old first mid new (subst (λ n. Logs old first (map_begins (Some n))) (sym (add-zero (length members))) begins) sent (ends, refl)
 
--- the members and one more
-pub object_with_sent : (members : List (Bor (List ℕ) × Content)) (name : List ℕ) (last : Data) (old first mid named told new : Log) → Logs old first (map_begins (Some (length members + 1))) → SendsFront members first mid →
-    Logs mid named (field_key name AsIs) → Sends last named told → Logs told new map_ends → SendsPlain (object (members_before members (member name last no_members))) old new
-object_with_sent members name last old first mid named told new begins sent key also ends =
-    front_sent members (member name last no_members) old first mid new begins sent (member_sent name last no_members mid named told new key (also last refl) (ends, refl))
+-- the members, one more and then the others
+pub object_around_sent : (front back : List (Bor (List ℕ) × Content)) (name : List ℕ) (one : Data) (old first mid named told others new : Log) →
+    Logs old first (map_begins (Some (length front + 1 + length back))) → SendsFront front first mid → Logs mid named (field_key name AsIs) → Sends one named told →
+    SendsFront back told others → Logs others new map_ends → SendsPlain (object (members_before front (member name one (members_of back)))) old new
+object_around_sent front back name one old first mid named told others new begins sent key also rest ends =
+    let behind = rest no_members new (ends, refl) in
+    let count : length front + 1 + length back ≡ length front + members_len (member name one (members_of back)) =
+    let more = members_len-before back no_members in omega (arith, more) in
+    front_sent front (member name one (members_of back)) old first mid new (subst (λ n. Logs old first (map_begins (Some n))) count begins) sent
+    (member_sent name one (members_of back) mid named told new key (also one refl) behind)
 
 -- the text of what is sent is the compact one
 pub text_sent : (json : Data) (log : Log) (text : List ℕ) → Sends json (Some []) log → IsTextOf log text → text ≡ compact_text json

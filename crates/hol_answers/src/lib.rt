@@ -17,7 +17,8 @@ pub use faults::blob_refusal;
 pub use line::put_line;
 pub use plain::PlainValue;
 pub use refusal::{
-    Difference, EqualRows, ItemFault, MAX_LINE_BYTES, OriginFault, Refusal, RefusedRecord, RowPlace,
+    Difference, EqualKeys, EqualRows, ItemFault, MAX_LINE_BYTES, OriginFault, Refusal,
+    RefusedRecord, RowPlace,
 };
-pub use reply::{Made, PastRows, Reply, put_reply, reply_line};
+pub use reply::{Blobs, Change, Made, PastRows, Progress, Reply, put_reply, reply_line};
 pub use stat::{TypeCounts, TypesCounts};

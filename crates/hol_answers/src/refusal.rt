@@ -71,6 +71,17 @@ pub struct EqualRows {
     pub second: u32,
 }
 
+/// Two records of an order that have one key.
+#[derive(Debug, Drop)]
+pub struct EqualKeys {
+    /// The name of their type.
+    pub type_name: Name,
+    /// The place of the first one among those of its type, from 0.
+    pub first: u64,
+    /// The place of the second one.
+    pub second: u64,
+}
+
 /// Why a command or an order is refused. Each refusal has a number of its own, which its line tells beside its name and
 /// its members.
 #[derive(Debug, Drop)]
@@ -140,4 +151,24 @@ pub enum Refusal {
     WrongKind(Name),
     /// 34: the values are no key.
     BadKey,
+    /// 35: the new model does not grow the producer's in the type of this name.
+    NotGrown(Name),
+    /// 36: no list of blobs leads from one version to the other.
+    NoPlan {
+        /// The version of the consumer, where it has a state.
+        from: Option<u64>,
+        /// The version that was asked for.
+        to: u64,
+    },
+    /// 37: two records that are put have one key.
+    KeyTwice(EqualKeys),
+    /// 38: a record that is put has no key.
+    NoKey {
+        /// The name of the type.
+        type_name: Name,
+        /// The place of the record among those of its type, from 0.
+        index: u64,
+    },
+    /// 39: no state that this version had is kept.
+    NotKept(u64),
 }

@@ -6,6 +6,7 @@ use crate::plain::PlainValue;
 use crate::reply_json::ReplyView;
 use crate::{Refusal, TypesCounts};
 use blob_frame::Header;
+use hol_io::BlobName;
 use hol_varint::{List, Ordinals};
 use schema_model::Names;
 use std::alloc::{AllocError, Global};
@@ -25,6 +26,35 @@ pub struct Made {
     /// How many rows of Text it has.
     pub texts: u64,
 }
+
+/// How far a consumer went along a list of blobs.
+#[derive(Debug, Drop)]
+pub struct Progress {
+    /// How many blobs were applied.
+    pub applied: u64,
+    /// How many there are in the list.
+    pub of: u64,
+    /// Why the next one was refused, where one was.
+    pub refused: Option<Refusal>,
+    /// The tag of the consumer's state afterwards, where it has one.
+    pub tag: Option<i64>,
+}
+
+/// The next state of a producer, as a change of the one before.
+#[derive(Debug, Drop)]
+pub struct Change {
+    /// The names of the types that changed, in model order.
+    pub changed: Names,
+    /// How many of the keys to be removed no row of the state before has.
+    pub missing: u64,
+    /// Whether blobs were put.
+    pub published: bool,
+    /// The version that was asked for.
+    pub version: u64,
+}
+
+/// Names of blobs, in their order.
+pub type Blobs = List<BlobName>;
 
 /// What a command or an order answers in one line.
 #[derive(Debug, Drop)]
@@ -85,6 +115,29 @@ pub enum Reply {
     },
     /// The summary of the command `make`.
     Make(Made),
+    /// The producer has a model that grows its own, of so many types.
+    Grow(u32),
+    /// The shortest list of blobs that leads the consumer to a version.
+    Plan(Blobs),
+    /// The consumer went along the shortest list of blobs, up to the first one that was refused.
+    Goto(Progress),
+    /// The next state of the producer, as a change of the one before.
+    Change(Change),
+    /// The consumer keeps an index through collections, in which so many rows reach a value.
+    WalkIndex(u64),
+    /// The ordinals of the rows that reach a value, rising.
+    WalkFind(Ordinals),
+    /// So many old states are kept.
+    History(u32),
+    /// The record of a row of an old state.
+    Was(PlainValue),
+    /// The record that has a primary key in an old state.
+    WasGet {
+        /// Its ordinal.
+        ordinal: u32,
+        /// The record.
+        row: PlainValue,
+    },
     /// Why the command or the order is refused.
     Refused(Refusal),
 }
@@ -103,10 +156,14 @@ impl Reply {
 pub fn reply_line(alloc: Global, reply: Reply) -> Result<String, AllocError>
     ensures { IfOk result (λ line. string_bytes line ≡ line_of reply) }
 {
-    let view = ReplyView {
-        alloc,
-        reply: &reply,
-    };
+    lent_line(alloc, &reply)
+}
+
+// The same of an answer that is lent.
+fn lent_line(alloc: Global, reply: &Reply) -> Result<String, AllocError>
+    ensures { IfOk result (λ line. string_bytes line ≡ line_of reply.now) }
+{
+    let view = ReplyView { alloc, reply };
     let Ok(mut line) = serde_json::to_string(alloc, &view) else {
         return Err(AllocError);
     };

@@ -1,18 +1,20 @@
 //! The JSON object of each answer, written by serde's events.
-ghost use Rattle.std.specs.Prelude.{OnOk, List};
-ghost use Rattle.hol_answers.specs.Reply.{head_data, model_data, cycle_data, restore_data, tag_data, index_data, get_data, ordinals_data, row_data, has_data, at_data, past_data, check_data, make_data};
+ghost use Rattle.std.specs.Prelude.{OnOk, List, [], ◌∷◌, codes};
+ghost use Rattle.serde_json.specs.Data.{string};
+ghost use Rattle.serde_json.specs.View.{view};
+ghost use Rattle.hol_orders.specs.Parts.{whole};
+ghost use Rattle.hol_answers.specs.declared.reply.Reply.TheVariants as said;
+ghost use Rattle.hol_answers.specs.Member.{integer, says};
+ghost use Rattle.hol_answers.specs.Reply.{reply_data};
 ghost use Rattle.hol_answers.specs.Sent.{Sends};
 
-use crate::member::Content::{Bool, Integer, Names, Number, Schemas, Text};
-use crate::member::{Content, send_object, send_object_with};
+use crate::member::Content::{Bool, Integer, Number, Schemas, Text};
+use crate::member::{Content, send_object, send_object_around};
 use crate::plain::PlainValue;
-use crate::refusal_json::send_refusal;
-use crate::reply::{Made, PastRows, Reply};
-use crate::stat::send_stat;
+use crate::reply::{Change, Made, Progress, Reply};
 use crate::to_json::ToJson;
 use blob_frame::Header;
-use hol_varint::Ordinals;
-use schema_model::Names as NameList;
+use schema_model::Names;
 use serde::{Described, Serialize, Serializer};
 use std::alloc::Global;
 
@@ -32,159 +34,161 @@ impl Described for ReplyView<'_> {
 
 impl Serialize for ReplyView<'_> {
     fn serialize<S: Serializer>(&self, out: &mut S) -> Result<(), S::Error> {
+        let alloc = self.alloc;
         match self.reply {
-            Reply::Head(header) => send_head(header, out),
-            Reply::Model(types) => send_model(*types, out),
+            Reply::Head(header) => send_head(alloc, header, out),
+            Reply::Model(types) => send_ok(alloc, "model", "types", types, out),
             Reply::Cycle {
                 changed,
                 published,
                 version,
-            } => send_cycle(changed, *published, *version, out),
-            Reply::Restore { tag, version } => send_restore(*tag, *version, out),
-            Reply::Load(tag) => send_tag("load", *tag, out),
-            Reply::Step(tag) => send_tag("step", *tag, out),
-            Reply::Index(keys) => send_index(*keys, out),
-            Reply::Get { ordinal, row } => send_get(*ordinal, row, out),
-            Reply::Find(ordinals) => send_ordinals("find", ordinals, out),
-            Reply::Live(ordinals) => send_ordinals("live", ordinals, out),
-            Reply::Row(row) => send_row(row, out),
-            Reply::Has(there) => send_has(*there, out),
-            Reply::At(value) => send_at(*value, out),
-            Reply::Past(rows) => send_past(rows, out),
-            Reply::Check(states) => send_check(*states, out),
-            Reply::Stat { tag, types } => send_stat(*tag, types, out),
-            Reply::Make(made) => send_make(made, out),
-            Reply::Refused(refusal) => send_refusal(self.alloc, refusal, out),
+            } => send_cycle(alloc, changed, *published, *version, out),
+            Reply::Restore { tag, version } => {
+                send_tagged(alloc, "restore", *tag, "version", version, out)
+            }
+            Reply::Load(tag) => send_ok(alloc, "load", "tag", tag, out),
+            Reply::Step(tag) => send_ok(alloc, "step", "tag", tag, out),
+            Reply::Index(keys) => send_before_ok(alloc, "keys", keys, "index", out),
+            Reply::Get { ordinal, row } => send_found(alloc, "get", *ordinal, row, out),
+            Reply::Find(ordinals) => send_ok(alloc, "find", "ordinals", ordinals, out),
+            Reply::Live(ordinals) => send_ok(alloc, "live", "ordinals", ordinals, out),
+            Reply::Row(row) => send_ok(alloc, "row", "row", row, out),
+            Reply::Has(there) => send_before_ok(alloc, "has", there, "has", out),
+            Reply::At(value) => send_ok(alloc, "at", "value", value, out),
+            Reply::Past(rows) => send_ok(alloc, "past", "rows", rows, out),
+            Reply::Check(states) => send_ok(alloc, "check", "states", states, out),
+            Reply::Stat { tag, types } => send_tagged(alloc, "stat", *tag, "types", types, out),
+            Reply::Make(made) => send_make(alloc, made, out),
+            Reply::Grow(types) => send_ok(alloc, "grow", "types", types, out),
+            Reply::Plan(blobs) => send_before_ok(alloc, "blobs", blobs, "plan", out),
+            Reply::Goto(progress) => send_goto(alloc, progress, out),
+            Reply::Change(change) => send_change(alloc, change, out),
+            Reply::WalkIndex(keys) => send_before_ok(alloc, "keys", keys, "walkindex", out),
+            Reply::WalkFind(ordinals) => send_ok(alloc, "walkfind", "ordinals", ordinals, out),
+            Reply::History(kept) => send_before_ok(alloc, "kept", kept, "history", out),
+            Reply::Was(row) => send_ok(alloc, "was", "row", row, out),
+            Reply::WasGet { ordinal, row } => send_found(alloc, "wasget", *ordinal, row, out),
+            Reply::Refused(refusal) => refusal.send(alloc, out),
         }
     }
 }
 
-fn send_head<S: Serializer>(header: &Header, out: &mut S) -> Result<(), S::Error>
-    ensures { OnOk result (Sends (head_data header.now) (S.written out.old) (S.written out.new)) }
+// An answer that has one more member behind its word.
+fn send_ok<T: ToJson, S: Serializer>(
+    alloc: Global,
+    word: &str,
+    name: &str,
+    value: &T,
+    out: &mut S,
+) -> Result<(), S::Error>
+    ensures { OnOk result (Sends (says ((codes "ok", string word.now) ∷ (name.now, T.json value.now) ∷ [])) (S.written out.old) (S.written out.new)) }
 {
-    let members = [
+    send_object_around(alloc, &[("ok", Text(word))], name, value, &[], out)
+}
+
+// An answer that has one more member before its word.
+fn send_before_ok<T: ToJson, S: Serializer>(
+    alloc: Global,
+    name: &str,
+    value: &T,
+    word: &str,
+    out: &mut S,
+) -> Result<(), S::Error>
+    ensures { OnOk result (Sends (says ((name.now, T.json value.now) ∷ (codes "ok", string word.now) ∷ [])) (S.written out.old) (S.written out.new)) }
+{
+    send_object_around(alloc, &[], name, value, &[("ok", Text(word))], out)
+}
+
+// An answer that tells a tag, and one more member behind it.
+fn send_tagged<T: ToJson, S: Serializer>(
+    alloc: Global,
+    word: &str,
+    tag: i64,
+    name: &str,
+    value: &T,
+    out: &mut S,
+) -> Result<(), S::Error>
+    ensures { OnOk result (Sends (says ((codes "ok", string word.now) ∷ (codes "tag", integer tag) ∷ (name.now, T.json value.now) ∷ []))
+        (S.written out.old) (S.written out.new)) }
+{
+    let front = [("ok", Text(word)), ("tag", Integer(tag))];
+    send_object_around(alloc, &front, name, value, &[], out)
+}
+
+// An answer that shows a row by its ordinal and as its record.
+fn send_found<S: Serializer>(
+    alloc: Global,
+    word: &str,
+    ordinal: u32,
+    row: &PlainValue,
+    out: &mut S,
+) -> Result<(), S::Error>
+    ensures { OnOk result (Sends (says ((codes "ok", string word.now) ∷ (codes "ordinal", whole ordinal) ∷ (codes "row", view row.now) ∷ []))
+        (S.written out.old) (S.written out.new)) }
+{
+    let front = [("ok", Text(word)), ("ordinal", Number(u64::from(ordinal)))];
+    send_object_around(alloc, &front, "row", row, &[], out)
+}
+
+fn send_head<S: Serializer>(alloc: Global, header: &Header, out: &mut S) -> Result<(), S::Error>
+    ensures { OnOk result (Sends (reply_data (said.Head header.now)) (S.written out.old) (S.written out.new)) }
+{
+    let front = [
         ("destination", Integer(header.destination)),
         ("format", Number(1030)),
         ("ok", Text("head")),
         ("origin", Integer(header.origin)),
         ("schemas", Schemas(&header.schemas)),
     ];
-    send_object_with(&members, "tags", &header.tags, out)
-}
-
-fn send_model<S: Serializer>(types: u32, out: &mut S) -> Result<(), S::Error>
-    ensures { OnOk result (Sends (model_data types) (S.written out.old) (S.written out.new)) }
-{
-    send_object(
-        &[("ok", Text("model")), ("types", Number(u64::from(types)))],
-        out,
-    )
+    send_object_around(alloc, &front, "tags", &header.tags, &[], out)
 }
 
 fn send_cycle<S: Serializer>(
-    changed: &NameList,
+    alloc: Global,
+    changed: &Names,
     published: bool,
     version: u64,
     out: &mut S,
 ) -> Result<(), S::Error>
-    ensures { OnOk result (Sends (cycle_data changed.now published version) (S.written out.old) (S.written out.new)) }
+    ensures { OnOk result (Sends (reply_data (said.Cycle changed.now published version)) (S.written out.old) (S.written out.new)) }
 {
-    send_object(
-        &[
-            ("changed", Names(changed)),
-            ("ok", Text("cycle")),
-            ("published", Bool(published)),
-            ("version", Number(version)),
-        ],
-        out,
-    )
+    let back = [
+        ("ok", Text("cycle")),
+        ("published", Bool(published)),
+        ("version", Number(version)),
+    ];
+    send_object_around(alloc, &[], "changed", changed, &back, out)
 }
 
-fn send_restore<S: Serializer>(tag: i64, version: u64, out: &mut S) -> Result<(), S::Error>
-    ensures { OnOk result (Sends (restore_data tag version) (S.written out.old) (S.written out.new)) }
+fn send_goto<S: Serializer>(alloc: Global, progress: &Progress, out: &mut S) -> Result<(), S::Error>
+    ensures { OnOk result (Sends (reply_data (said.Goto progress.now)) (S.written out.old) (S.written out.new)) }
 {
-    send_object(
-        &[
-            ("ok", Text("restore")),
-            ("tag", Integer(tag)),
-            ("version", Number(version)),
-        ],
-        out,
-    )
+    let front = [
+        ("applied", Number(progress.applied)),
+        ("of", Number(progress.of)),
+        ("ok", Text("goto")),
+    ];
+    let back = [("tag", Content::integer_or_null(progress.tag))];
+    send_object_around(alloc, &front, "refused", &progress.refused, &back, out)
 }
 
-// A consumer that is now at this tag.
-fn send_tag<S: Serializer>(word: &str, tag: i64, out: &mut S) -> Result<(), S::Error>
-    ensures { OnOk result (Sends (tag_data word.now tag) (S.written out.old) (S.written out.new)) }
+fn send_change<S: Serializer>(alloc: Global, change: &Change, out: &mut S) -> Result<(), S::Error>
+    ensures { OnOk result (Sends (reply_data (said.Change change.now)) (S.written out.old) (S.written out.new)) }
 {
-    send_object(&[("ok", Text(word)), ("tag", Integer(tag))], out)
+    let back = [
+        ("missing", Number(change.missing)),
+        ("ok", Text("change")),
+        ("published", Bool(change.published)),
+        ("version", Number(change.version)),
+    ];
+    send_object_around(alloc, &[], "changed", &change.changed, &back, out)
 }
 
-fn send_index<S: Serializer>(keys: u64, out: &mut S) -> Result<(), S::Error>
-    ensures { OnOk result (Sends (index_data keys) (S.written out.old) (S.written out.new)) }
+fn send_make<S: Serializer>(alloc: Global, made: &Made, out: &mut S) -> Result<(), S::Error>
+    ensures { OnOk result (Sends (reply_data (said.Make made.now)) (S.written out.old) (S.written out.new)) }
 {
-    send_object(&[("keys", Number(keys)), ("ok", Text("index"))], out)
-}
-
-fn send_get<S: Serializer>(ordinal: u32, row: &PlainValue, out: &mut S) -> Result<(), S::Error>
-    ensures { OnOk result (Sends (get_data ordinal row.now) (S.written out.old) (S.written out.new)) }
-{
-    let members = [("ok", Text("get")), ("ordinal", Number(u64::from(ordinal)))];
-    send_object_with(&members, "row", row, out)
-}
-
-// Ordinals of a type, in their order.
-fn send_ordinals<S: Serializer>(
-    word: &str,
-    ordinals: &Ordinals,
-    out: &mut S,
-) -> Result<(), S::Error>
-    ensures { OnOk result (Sends (ordinals_data word.now ordinals.now) (S.written out.old) (S.written out.new)) }
-{
-    send_object_with(&[("ok", Text(word))], "ordinals", ordinals, out)
-}
-
-fn send_row<S: Serializer>(row: &PlainValue, out: &mut S) -> Result<(), S::Error>
-    ensures { OnOk result (Sends (row_data row.now) (S.written out.old) (S.written out.new)) }
-{
-    send_object_with(&[("ok", Text("row"))], "row", row, out)
-}
-
-fn send_has<S: Serializer>(there: bool, out: &mut S) -> Result<(), S::Error>
-    ensures { OnOk result (Sends (has_data there) (S.written out.old) (S.written out.new)) }
-{
-    send_object(&[("has", Bool(there)), ("ok", Text("has"))], out)
-}
-
-fn send_at<S: Serializer>(value: Option<u32>, out: &mut S) -> Result<(), S::Error>
-    ensures { OnOk result (Sends (at_data value) (S.written out.old) (S.written out.new)) }
-{
-    send_object(
-        &[
-            ("ok", Text("at")),
-            ("value", Content::number_or_null(value)),
-        ],
-        out,
-    )
-}
-
-fn send_past<S: Serializer>(rows: &PastRows, out: &mut S) -> Result<(), S::Error>
-    ensures { OnOk result (Sends (past_data rows.now) (S.written out.old) (S.written out.new)) }
-{
-    send_object_with(&[("ok", Text("past"))], "rows", rows, out)
-}
-
-fn send_check<S: Serializer>(states: u64, out: &mut S) -> Result<(), S::Error>
-    ensures { OnOk result (Sends (check_data states) (S.written out.old) (S.written out.new)) }
-{
-    send_object(&[("ok", Text("check")), ("states", Number(states))], out)
-}
-
-fn send_make<S: Serializer>(made: &Made, out: &mut S) -> Result<(), S::Error>
-    ensures { OnOk result (Sends (make_data made.now) (S.written out.old) (S.written out.new)) }
-{
-    let members = [("ok", Text("make")), ("published", Number(made.published))];
-    send_object_with(&members, "rows", made, out)
+    let front = [("ok", Text("make")), ("published", Number(made.published))];
+    send_object_around(alloc, &front, "rows", made, &[], out)
 }
 
 // How many rows there are of each type.
@@ -193,14 +197,12 @@ impl ToJson for Made {
 
     ghost json = { made_rows };
 
-    fn send<S: Serializer>(&self, out: &mut S) -> Result<(), S::Error> {
-        send_object(
-            &[
-                ("Film", Number(self.films)),
-                ("Tags", Number(self.tags)),
-                ("Text", Number(self.texts)),
-            ],
-            out,
-        )
+    fn send<S: Serializer>(&self, alloc: Global, out: &mut S) -> Result<(), S::Error> {
+        let members = [
+            ("Film", Number(self.films)),
+            ("Tags", Number(self.tags)),
+            ("Text", Number(self.texts)),
+        ];
+        send_object(alloc, &members, out)
     }
 }

@@ -1,15 +1,15 @@
 //! What the order `stat` answers: what a consumer keeps of each type, and the JSON object of it.
-ghost use Rattle.std.specs.Prelude.{◌≡◌, OnOk};
+ghost use Rattle.std.specs.Prelude.{◌≡◌};
 ghost use Rattle.hol_answers.specs.Content.{content_data};
-ghost use Rattle.hol_answers.specs.Reply.{max_data, stat_data};
-ghost use Rattle.hol_answers.specs.Sent.{Sends};
+ghost use Rattle.hol_answers.specs.Reply.{max_data};
 
 use crate::member::Content::{Integer, Number, Text};
-use crate::member::{Content, send_object, send_object_with};
+use crate::member::{Content, send_object};
 use crate::to_json::ToJson;
 use hol_varint::List;
 use schema_model::Name;
 use serde::Serializer;
+use std::alloc::Global;
 
 /// What a consumer keeps of one type.
 #[derive(Debug, Drop)]
@@ -29,26 +29,15 @@ pub struct TypeCounts {
 /// What a consumer keeps of the types of its model, in model order.
 pub type TypesCounts = List<TypeCounts>;
 
-/// Sends the object that tells what is kept of each type of the state with this tag.
-pub(crate) fn send_stat<S: Serializer>(
-    tag: i64,
-    types: &TypesCounts,
-    out: &mut S,
-) -> Result<(), S::Error>
-    ensures { OnOk result (Sends (stat_data tag types.now) (S.written out.old) (S.written out.new)) }
-{
-    let members = [("ok", Text("stat")), ("tag", Integer(tag))];
-    send_object_with(&members, "types", types, out)
-}
-
 // What is kept of one type.
 impl ToJson for TypeCounts {
     ghost use Rattle.hol_answers.specs.Reply.{counts_data};
 
     ghost json = { counts_data };
 
-    fn send<S: Serializer>(&self, out: &mut S) -> Result<(), S::Error> {
+    fn send<S: Serializer>(&self, alloc: Global, out: &mut S) -> Result<(), S::Error> {
         send_object(
+            alloc,
             &[
                 ("bytes", Number(self.bytes)),
                 ("live", Number(self.live)),

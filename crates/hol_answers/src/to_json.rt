@@ -1,8 +1,11 @@
 //! What stands in answers as JSON, sent to a serializer with no tree of values.
 use crate::plain::PlainValue;
+use hol_io::{BlobName, name_text};
 use hol_varint::List;
 use schema_model::{Name, Schema};
 use serde::{Serialize, Serializer};
+use serde_json::Number as JsonNumber;
+use std::alloc::Global;
 
 /// What has a JSON value in answers.
 pub(crate) trait ToJson: Drop {
@@ -13,8 +16,8 @@ pub(crate) trait ToJson: Drop {
     // Its JSON.
     ghost json: { Self → Data };
 
-    /// Sends its JSON.
-    fn send<S: Serializer>(&self, out: &mut S) -> Result<(), S::Error>
+    /// Sends its JSON. Memory is taken for the name of a blob alone.
+    fn send<S: Serializer>(&self, alloc: Global, out: &mut S) -> Result<(), S::Error>
         ensures { OnOk result (Sends (json self.now) (S.written out.old) (S.written out.new)) };
 }
 
@@ -23,8 +26,38 @@ impl ToJson for u32 {
 
     ghost json = { whole };
 
-    fn send<S: Serializer>(&self, out: &mut S) -> Result<(), S::Error> {
+    fn send<S: Serializer>(&self, _alloc: Global, out: &mut S) -> Result<(), S::Error> {
         out.u64(u64::from(*self))
+    }
+}
+
+impl ToJson for u64 {
+    ghost use Rattle.hol_orders.specs.Parts.{whole};
+
+    ghost json = { whole };
+
+    fn send<S: Serializer>(&self, _alloc: Global, out: &mut S) -> Result<(), S::Error> {
+        out.u64(*self)
+    }
+}
+
+impl ToJson for i64 {
+    ghost use Rattle.hol_answers.specs.Member.{integer};
+
+    ghost json = { integer };
+
+    fn send<S: Serializer>(&self, _alloc: Global, out: &mut S) -> Result<(), S::Error> {
+        JsonNumber::from(*self).serialize(out)
+    }
+}
+
+impl ToJson for bool {
+    ghost use Rattle.serde_json.specs.Data.{boolean};
+
+    ghost json = { boolean };
+
+    fn send<S: Serializer>(&self, _alloc: Global, out: &mut S) -> Result<(), S::Error> {
+        out.bool(*self)
     }
 }
 
@@ -33,7 +66,7 @@ impl ToJson for Name {
 
     ghost json = { string };
 
-    fn send<S: Serializer>(&self, out: &mut S) -> Result<(), S::Error> {
+    fn send<S: Serializer>(&self, _alloc: Global, out: &mut S) -> Result<(), S::Error> {
         out.str(self.text())
     }
 }
@@ -44,7 +77,7 @@ impl ToJson for Schema {
 
     ghost json = { λ schema. string schema.name };
 
-    fn send<S: Serializer>(&self, out: &mut S) -> Result<(), S::Error> {
+    fn send<S: Serializer>(&self, _alloc: Global, out: &mut S) -> Result<(), S::Error> {
         out.str(self.name.text())
     }
 }
@@ -54,8 +87,35 @@ impl ToJson for PlainValue {
 
     ghost json = { view };
 
-    fn send<S: Serializer>(&self, out: &mut S) -> Result<(), S::Error> {
+    fn send<S: Serializer>(&self, _alloc: Global, out: &mut S) -> Result<(), S::Error> {
         self.value().serialize(out)
+    }
+}
+
+impl ToJson for BlobName {
+    ghost use Rattle.hol_answers.specs.Reply.{blob_item};
+
+    ghost json = { blob_item };
+
+    fn send<S: Serializer>(&self, alloc: Global, out: &mut S) -> Result<(), S::Error> {
+        match name_text(alloc, self) {
+            Ok(text) => out.str(text.as_str()),
+            Err(_) => Err(out.custom("memory")),
+        }
+    }
+}
+
+// Null where there is none.
+impl<T: ToJson> ToJson for Option<T> {
+    ghost use Rattle.hol_answers.specs.Member.{or_null};
+
+    ghost json = { or_null T.json };
+
+    fn send<S: Serializer>(&self, alloc: Global, out: &mut S) -> Result<(), S::Error> {
+        match self {
+            None => out.unit(),
+            Some(thing) => thing.send(alloc, out),
+        }
     }
 }
 
@@ -65,27 +125,25 @@ impl<A: ToJson, B: ToJson> ToJson for (A, B) {
 
     ghost json = { λ both. pair (A.json both.0) (B.json both.1) };
 
-    fn send<S: Serializer>(&self, out: &mut S) -> Result<(), S::Error> {
+    fn send<S: Serializer>(&self, alloc: Global, out: &mut S) -> Result<(), S::Error> {
         out.begin_seq(Some(2))?;
-        self.0.send(out)?;
-        self.1.send(out)?;
+        self.0.send(alloc, out)?;
+        self.1.send(alloc, out)?;
         out.end_seq()
     }
 }
 
 // A list of the items, in their order.
 impl<T: ToJson> ToJson for List<T> {
-    ghost use Rattle.std.specs.Prelude.{map};
-    ghost use Rattle.serde_json.specs.Data.{array};
-    ghost use Rattle.serde_json.specs.View.{items_of};
+    ghost use Rattle.hol_answers.specs.Member.{list_of};
 
-    ghost json = { λ items. array (items_of (map T.json items)) };
+    ghost json = { list_of T.json };
 
-    fn send<S: Serializer>(&self, out: &mut S) -> Result<(), S::Error> {
+    fn send<S: Serializer>(&self, alloc: Global, out: &mut S) -> Result<(), S::Error> {
         let items = self.as_slice();
         out.begin_seq(Some(items.len()))?;
         for item in items {
-            item.send(out)?;
+            item.send(alloc, out)?;
         }
         out.end_seq()
     }

@@ -1,5 +1,5 @@
 -- Arrays and objects of JSON values, item by item and member by member.
-use Rattle.std.proofs.Common.{◌≡◌, ◌↔◌, ℕ, List, [], ◌∷◌, length, map, Bool, true, ◌&&◌, Result, Ok, Err, String, is_some, codes, refl, ap, sym, ◌∙◌, subst, arith}
+use Rattle.std.proofs.Common.{◌≡◌, ◌↔◌, ℕ, List, [], ◌∷◌, length, map, Bool, true, false, ◌&&◌, Result, Ok, Err, String, is_some, codes, refl, ap, sym, ◌∙◌, subst, arith}
 use Rattle.std.specs.Prelude.{IsTrue, IsErrAnd}
 use Rattle.std.specs.List.{list_all}
 use Rattle.std.specs.Map.{values_of}
@@ -10,9 +10,9 @@ use Rattle.serde_json.specs.View.{view, items_of, items_view, members_view}
 use Rattle.serde_json.specs.declared.value.Value.{Value}
 use Rattle.hol_orders.specs.declared.order.OrderFault.{OrderFault}
 use Rattle.hol_orders.specs.declared.order.OrderFault.TheVariants.{BadOrder, Memory}
-use Rattle.hol_orders.specs.Parts.{triple, state_data}
-use Rattle.hol_orders.specs.Shapes.{IsText, AreTexts, IsArray, AreArrays}
-use Rattle.hol_orders.specs.Taken.{TellsItems, TellsNext, TellsThree}
+use Rattle.hol_orders.specs.Parts.{change_data, state_data, triple}
+use Rattle.hol_orders.specs.Shapes.{IsText, AreTexts, IsArray, AreArrays, AreListsOfArrays, are_lists, is_list_of_arrays}
+use Rattle.hol_orders.specs.Taken.{TellsFour, TellsItems, TellsNext, TellsThree}
 
 -- two lists with the same items are equally long
 pub same_count : (these : List Data) (those : List Value) → array (items_of these) ≡ array (items_of (map view those)) → length these ≡ length those
@@ -83,6 +83,29 @@ all_arrays (m ∷ entries) are = array_again (view m.1) (list_all (λ v. is_some
 pub arrays : (entries : List (String Global × Value)) (r : Bool) → r ≡ list_all (λ v. is_some (as_array (view v))) (values_of entries) → IsTrue r ↔ AreArrays (members_view entries)
 arrays entries r is = ((λ e. are_arrays entries (sym is ∙ e)), (λ are. is ∙ all_arrays entries are))
 
+-- what a test of each value tells of arrays alone, and of arrays of arrays under names
+pub lists : (values : List Value) → list_all (λ v. is_some (as_array (view v))) values ≡ are_lists (items_view values)
+lists [] = refl
+lists (v ∷ values) = ap (λ rest. is_some (as_array (view v)) && rest) (lists values)
+
+both_true : (one rest : Bool) → (one && rest) ≡ true → (one ≡ true) × (rest ≡ true)
+both_true true rest e = (refl, e)
+both_true false rest e = cc
+
+pub named_lists : (entries : List (String Global × Value)) (r : Bool) → r ≡ list_all (λ v. is_list_of_arrays (view v)) (values_of entries) →
+    IsTrue r ↔ AreListsOfArrays (members_view entries)
+named_lists entries r is = ((λ e. are entries (sym is ∙ e)), (λ all. is ∙ again entries all))
+  where
+    are : (entries : List (String Global × Value)) → list_all (λ v. is_list_of_arrays (view v)) (values_of entries) ≡ true → AreListsOfArrays (members_view entries)
+    are [] e = tt
+    are (m ∷ entries) e =
+        let both = both_true (is_list_of_arrays (view m.1)) (list_all (λ v. is_list_of_arrays (view v)) (values_of entries)) e in
+        (both.0, are entries both.1)
+
+    again : (entries : List (String Global × Value)) → AreListsOfArrays (members_view entries) → list_all (λ v. is_list_of_arrays (view v)) (values_of entries) ≡ true
+    again [] all = refl
+    again (m ∷ entries) all = ap (λ one. one && list_all (λ v. is_list_of_arrays (view v)) (values_of entries)) all.0 ∙ again entries all.1
+
 -- an object that has more than one member
 none_left : (rest : List (String Global × Value)) → members_view rest ≡ no_members → length rest ≡ 0
 none_left [] e = refl
@@ -111,5 +134,35 @@ pub no_state_more : (json : Data) (m0 m1 m2 : Members) (left : List (String Glob
     m0 ≡ member (codes "add") add m1 → m1 ≡ member (codes "tag") tag m2 → m2 ≡ member (codes "version") version (members_view left) →
     (length left ≡ 0 → ⊥) → (a t v : Data) → state_data a t v ≡ json → ⊥
 no_state_more json m0 m1 m2 left add tag version there one two three more a t v same =
+    let rest : members_view left ≡ no_members = cc in
+    more (none_left left rest)
+
+-- the same of a change: an object whose third member is not the tag, whose fourth is not the version, or that has more members
+pub no_change_tag : (json : Data) (m0 m1 m2 m3 : Members) (put remove : Data) (r : Result (Value × Value × Value × Value) OrderFault) (fault : OrderFault) →
+    IsErrAnd r (λ e. e ≡ fault) → json ≡ object m0 → m0 ≡ member (codes "put") put m1 → m1 ≡ member (codes "remove") remove m2 →
+    TellsNext (codes "tag") m2 m3 (Err fault) → TellsFour change_data json r
+no_change_tag json m0 m1 m2 m3 put remove (Ok found) fault is there one two none = absurd is
+no_change_tag json m0 m1 m2 m3 put remove (Err Memory) fault is there one two none =
+    let told : TellsNext (codes "tag") m2 m3 (Err Memory) = subst (λ e. TellsNext (codes "tag") m2 m3 (Err e)) (sym is) none in
+    absurd told
+no_change_tag json m0 m1 m2 m3 put remove (Err BadOrder) fault is there one two none =
+    let told : TellsNext (codes "tag") m2 m3 (Err BadOrder) = subst (λ e. TellsNext (codes "tag") m2 m3 (Err e)) (sym is) none in
+    λ p k t v same. (let rest : m2 ≡ member (codes "tag") t (member (codes "version") v no_members) = cc in told t (member (codes "version") v no_members) rest)
+
+pub no_change_version : (json : Data) (m0 m1 m2 m3 m4 : Members) (put remove tag : Data) (r : Result (Value × Value × Value × Value) OrderFault) (fault : OrderFault) →
+    IsErrAnd r (λ e. e ≡ fault) → json ≡ object m0 → m0 ≡ member (codes "put") put m1 → m1 ≡ member (codes "remove") remove m2 → m2 ≡ member (codes "tag") tag m3 →
+    TellsNext (codes "version") m3 m4 (Err fault) → TellsFour change_data json r
+no_change_version json m0 m1 m2 m3 m4 put remove tag (Ok found) fault is there one two three none = absurd is
+no_change_version json m0 m1 m2 m3 m4 put remove tag (Err Memory) fault is there one two three none =
+    let told : TellsNext (codes "version") m3 m4 (Err Memory) = subst (λ e. TellsNext (codes "version") m3 m4 (Err e)) (sym is) none in
+    absurd told
+no_change_version json m0 m1 m2 m3 m4 put remove tag (Err BadOrder) fault is there one two three none =
+    let told : TellsNext (codes "version") m3 m4 (Err BadOrder) = subst (λ e. TellsNext (codes "version") m3 m4 (Err e)) (sym is) none in
+    λ p k t v same. (let rest : m3 ≡ member (codes "version") v no_members = cc in told v no_members rest)
+
+pub no_change_more : (json : Data) (m0 m1 m2 m3 : Members) (left : List (String Global × Value)) (put remove tag version : Data) → json ≡ object m0 →
+    m0 ≡ member (codes "put") put m1 → m1 ≡ member (codes "remove") remove m2 → m2 ≡ member (codes "tag") tag m3 → m3 ≡ member (codes "version") version (members_view left) →
+    (length left ≡ 0 → ⊥) → (p k t v : Data) → change_data p k t v ≡ json → ⊥
+no_change_more json m0 m1 m2 m3 left put remove tag version there one two three four more p k t v same =
     let rest : members_view left ≡ no_members = cc in
     more (none_left left rest)

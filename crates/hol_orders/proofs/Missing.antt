@@ -4,15 +4,22 @@ use Rattle.std.specs.Prelude.{IsErrAnd}
 use Rattle.serde_json.specs.Data.{Data}
 use Rattle.hol_orders.specs.declared.order.OrderFault.{OrderFault}
 use Rattle.hol_orders.specs.declared.order.OrderFault.TheVariants.{BadOrder, Memory}
-use Rattle.hol_orders.specs.Shapes.{Finds}
+use Rattle.hol_orders.specs.Spelling.{Finds, Lacks, Spelling}
+
+-- an answer that is this fault tells what the fault tells
+pub found_none : {U B : Type 0} (whole : Spelling B) (of : U → B) (json : Data) (r : Result U OrderFault) (fault : OrderFault) → IsErrAnd r (λ e. e ≡ fault) →
+    Lacks whole json fault → Finds whole of json r
+found_none whole of json (Ok thing) fault is none = absurd is
+found_none whole of json (Err other) fault is none = subst (λ e. Lacks whole json e) (sym is) none
 
 -- each thing that the whole spells has the part, and none is found in the part
-pub no_whole : {A T : Type 0} (FitsA : A → Type 0) (spelled_a : A → Data) (FitsT : T → Type 0) (spelled_t : T → Data) (part json : Data)
-    (r : Result T OrderFault) (fault : OrderFault) → IsErrAnd r (λ e. e ≡ fault) →
-    ((thing : T) → FitsT thing → spelled_t thing ≡ json → (a : A) × FitsA a × (spelled_a a ≡ part)) →
-    Finds FitsA spelled_a part (Err fault) → Finds FitsT spelled_t json r
-no_whole FitsA spelled_a FitsT spelled_t part json (Ok thing) fault is has none = absurd is
-no_whole FitsA spelled_a FitsT spelled_t part json (Err Memory) fault is has none = tt
-no_whole FitsA spelled_a FitsT spelled_t part json (Err BadOrder) fault is has none =
-    let told = subst (λ e. Finds FitsA spelled_a part (Err e)) (sym is) none in
-    λ thing fits same. told (has thing fits same).0 (has thing fits same).1 (has thing fits same).2
+lacks_whole : {A B : Type 0} (part : Spelling A) (whole : Spelling B) (inside json : Data) (fault : OrderFault) →
+    ((thing : B) → whole.Fits thing → whole.spelled thing ≡ json → (a : A) × part.Fits a × (part.spelled a ≡ inside)) → Lacks part inside fault → Lacks whole json fault
+lacks_whole part whole inside json Memory has none = tt
+lacks_whole part whole inside json BadOrder has none = λ thing fits same. none (has thing fits same).0 (has thing fits same).1 (has thing fits same).2
+
+pub no_whole : {A U B : Type 0} (part : Spelling A) (whole : Spelling B) (of : U → B) (inside json : Data)
+    (r : Result U OrderFault) (fault : OrderFault) → IsErrAnd r (λ e. e ≡ fault) →
+    ((thing : B) → whole.Fits thing → whole.spelled thing ≡ json → (a : A) × part.Fits a × (part.spelled a ≡ inside)) →
+    Lacks part inside fault → Finds whole of json r
+no_whole part whole of inside json r fault is has none = found_none whole of json r fault is (lacks_whole part whole inside json fault has none)

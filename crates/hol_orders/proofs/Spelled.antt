@@ -1,25 +1,44 @@
 -- What is asked for is spelled in one way: of what is spelled alike, the same is asked for.
-use Rattle.std.proofs.Common.{◌≡◌, ℕ, ℤ, pos, negsuc, List, refl, ap, subst}
-use Rattle.serde_json.specs.Data.{Data, string}
+use Rattle.std.proofs.Common.{◌≡◌, ℤ, pos, negsuc, refl, ap, subst}
+use Rattle.serde_json.specs.Data.{Data}
 use Rattle.serde_json.specs.Find.{of_integer}
+use Rattle.json_values.specs.SchemaJson.{AreSchemas}
 use Rattle.hol_orders.specs.declared.kind.Kind.{Kind}
-use Rattle.hol_orders.specs.Kind.{shape}
 use Rattle.hol_orders.specs.declared.order.Order.{Order}
+use Rattle.hol_orders.specs.Kind.{IsAny, bound, change, shape, state, step, truth, walk}
 use Rattle.hol_orders.specs.Order.{asked_of, asking, asks, content_of, kind_of}
-use Rattle.hol_orders.specs.Parts.{AskedState, pair, state_asked, triple, whole}
+use Rattle.hol_orders.specs.Shapes.{ArePaths, IsArray}
+use Rattle.hol_orders.specs.Spelling.{IsOneWay, Spelling, json, ordinal, pair_of, text, triple_of, version}
 use Rattle.hol_orders.proofs.Walks.{one_list}
 
-one_pair : (a b x y : Data) → pair a b ≡ pair x y → (a ≡ x) × (b ≡ y)
-one_pair a b x y same = (cc, cc)
+one_json : (Fits : Data → Type 0) → IsOneWay (json Fits)
+one_json Fits one other same = same
 
-one_triple : (a b c x y z : Data) → triple a b c ≡ triple x y z → (a ≡ x) × (b ≡ y) × (c ≡ z)
-one_triple a b c x y z same = (cc, cc, cc)
+one_text : IsOneWay text
+one_text one other same = cc
 
-one_whole : (m n : ℕ) → whole m ≡ whole n → m ≡ n
-one_whole m n same = cc
+one_version : IsOneWay version
+one_version one other same = cc
 
-one_text : (s t : List ℕ) → string s ≡ string t → s ≡ t
-one_text s t same = cc
+one_ordinal : IsOneWay ordinal
+one_ordinal one other same = cc
+
+one_bound : IsOneWay bound
+one_bound one other same = cc
+
+one_pair : {A B : Type 0} (first : Spelling A) (second : Spelling B) → IsOneWay first → IsOneWay second → IsOneWay (pair_of first second)
+one_pair first second one_first one_second one other same =
+    let a : first.spelled one.0 ≡ first.spelled other.0 = cc in
+    let b : second.spelled one.1 ≡ second.spelled other.1 = cc in
+    λ i. (one_first one.0 other.0 a i, one_second one.1 other.1 b i)
+
+one_triple : {A B C : Type 0} (first : Spelling A) (second : Spelling B) (third : Spelling C) → IsOneWay first → IsOneWay second → IsOneWay third →
+    IsOneWay (triple_of first second third)
+one_triple first second third one_first one_second one_third one other same =
+    let a : first.spelled one.0 ≡ first.spelled other.0 = cc in
+    let b : second.spelled one.1 ≡ second.spelled other.1 = cc in
+    let c : third.spelled one.2 ≡ third.spelled other.2 = cc in
+    λ i. (one_first one.0 other.0 a i, one_second one.1 other.1 b i, one_third one.2 other.2 c i)
 
 one_integer : (y z : ℤ) → of_integer y ≡ of_integer z → y ≡ z
 one_integer (pos m) (pos n) same = cc
@@ -27,39 +46,59 @@ one_integer (pos m) (negsuc n) same = cc
 one_integer (negsuc m) (pos n) same = cc
 one_integer (negsuc m) (negsuc n) same = cc
 
-one_state : (one other : AskedState) → state_asked one ≡ state_asked other → one ≡ other
+one_state : IsOneWay state
 one_state one other same =
     let add : one.add ≡ other.add = cc in
     let tag : one.tag ≡ other.tag = one_integer one.tag other.tag cc in
     let version : one.version ≡ other.version = cc in
     λ i. record { version = version i; tag = tag i; add = add i }
 
-pub one_content : (kind : Kind) (one other : (shape kind).Asked) → (shape kind).spelled one ≡ (shape kind).spelled other → one ≡ other
-one_content Kind.Model one other same = same
-one_content Kind.Cycle one other same = one_state one other same
-one_content Kind.Step one other same =
-    let parts = one_pair (whole one.0) (whole one.1) (whole other.0) (whole other.1) same in
-    λ i. (one_whole one.0 other.0 parts.0 i, one_whole one.1 other.1 parts.1 i)
-one_content Kind.Find one other same =
-    let parts = one_triple (string one.0) one.1 one.2 (string other.0) other.1 other.2 same in λ i. (one_text one.0 other.0 parts.0 i, parts.1 i, parts.2 i)
-one_content Kind.Check one other same = one_list one other cc
-one_content Kind.Stat one other same = refl
-one_content Kind.Index one other same = let parts = one_pair (string one.0) one.1 (string other.0) other.1 same in λ i. (one_text one.0 other.0 parts.0 i, parts.1 i)
-one_content Kind.Get one other same = let parts = one_pair (string one.0) one.1 (string other.0) other.1 same in λ i. (one_text one.0 other.0 parts.0 i, parts.1 i)
-one_content Kind.Row one other same =
-    let parts = one_pair (string one.0) (whole one.1) (string other.0) (whole other.1) same in
-    λ i. (one_text one.0 other.0 parts.0 i, one_whole one.1 other.1 parts.1 i)
-one_content Kind.Has one other same =
-    let parts = one_triple (string one.0) (whole one.1) (whole one.2) (string other.0) (whole other.1) (whole other.2) same in
-    λ i. (one_text one.0 other.0 parts.0 i, one_whole one.1 other.1 parts.1 i, one_whole one.2 other.2 parts.2 i)
-one_content Kind.At one other same =
-    let parts = one_triple (string one.0) (whole one.1) (whole one.2) (string other.0) (whole other.1) (whole other.2) same in
-    λ i. (one_text one.0 other.0 parts.0 i, one_whole one.1 other.1 parts.1 i, one_whole one.2 other.2 parts.2 i)
-one_content _ one other same = cc
+one_change : IsOneWay change
+one_change one other same =
+    let put : one.put ≡ other.put = cc in
+    let remove : one.remove ≡ other.remove = cc in
+    let tag : one.tag ≡ other.tag = one_integer one.tag other.tag cc in
+    let version : one.version ≡ other.version = cc in
+    λ i. record { version = version i; tag = tag i; put = put i; remove = remove i }
+
+one_step : IsOneWay step
+one_step one other same = one_pair version version one_version one_version one other same
+
+one_walk : IsOneWay walk
+one_walk one other same = one_list one other cc
+
+one_truth : IsOneWay truth
+one_truth one other same = refl
+
+one_content : (kind : Kind) → IsOneWay (shape kind).spelling
+one_content Kind.Model = one_json AreSchemas
+one_content Kind.Cycle = one_state
+one_content Kind.Restore = one_version
+one_content Kind.Load = one_version
+one_content Kind.Step = one_step
+one_content Kind.Index = one_pair text (json ArePaths) one_text (one_json ArePaths)
+one_content Kind.Get = one_pair text (json IsArray) one_text (one_json IsArray)
+one_content Kind.Find = one_triple text (json ArePaths) (json IsArray) one_text (one_json ArePaths) (one_json IsArray)
+one_content Kind.Live = one_text
+one_content Kind.Row = one_pair text ordinal one_text one_ordinal
+one_content Kind.Has = one_triple text ordinal ordinal one_text one_ordinal one_ordinal
+one_content Kind.At = one_triple text ordinal ordinal one_text one_ordinal one_ordinal
+one_content Kind.Past = one_text
+one_content Kind.Check = one_walk
+one_content Kind.Stat = one_truth
+one_content Kind.Grow = one_json AreSchemas
+one_content Kind.Plan = one_version
+one_content Kind.Goto = one_version
+one_content Kind.Change = one_change
+one_content Kind.WalkIndex = one_pair text text one_text one_text
+one_content Kind.WalkFind = one_triple text text (json IsAny) one_text one_text (one_json IsAny)
+one_content Kind.History = one_bound
+one_content Kind.Was = one_triple version text ordinal one_version one_text one_ordinal
+one_content Kind.WasGet = one_triple version text (json IsArray) one_version one_text (one_json IsArray)
 
 -- orders of one kind that are spelled alike ask for the same
 abbrev AreAlike : Kind → Kind → Type 0
-AreAlike k j = (one : (shape k).Asked) (other : (shape j).Asked) → (shape k).spelled one ≡ (shape j).spelled other → asks k one ≡ asks j other
+AreAlike k j = (one : (shape k).Asked) (other : (shape j).Asked) → (shape k).spelling.spelled one ≡ (shape j).spelling.spelled other → asks k one ≡ asks j other
 
 alike : (kind : Kind) → AreAlike kind kind
 alike k one other same = ap (asks k) (one_content k one other same)

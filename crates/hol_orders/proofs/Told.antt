@@ -1,5 +1,5 @@
 -- What reading a line tells.
-use Rattle.std.proofs.Common.{◌≡◌, ◌⊎◌, inl, inr, ℕ, List, Some, Result, Ok, Err, refl, ap, sym, ◌∙◌}
+use Rattle.std.proofs.Common.{◌≡◌, ◌⊎◌, inl, inr, ℕ, List, Some, Result, Ok, Err, refl, ap, sym, ◌∙◌, subst}
 use Rattle.std.specs.Prelude.{IsErrAnd, IsUtf8}
 use Rattle.hol_varint.specs.Yields.{Yields}
 use Rattle.serde_json.specs.Data.{Data, object, no_members, member}
@@ -8,9 +8,8 @@ use Rattle.hol_orders.specs.declared.kind.Kind.{Kind}
 use Rattle.hol_orders.specs.declared.order.Order.{Order}
 use Rattle.hol_orders.specs.declared.order.OrderFault.{OrderFault}
 use Rattle.hol_orders.specs.declared.order.OrderFault.TheVariants.{BadOrder, Memory}
-use Rattle.hol_orders.specs.Kind.{word_of_kind}
-use Rattle.hol_orders.specs.Order.{Orders, TellsOrder, IsFreeOrder, IsOfKind, asking, kind_of, content_of, order_data}
-use Rattle.hol_orders.specs.Shapes.{Finds}
+use Rattle.hol_orders.specs.Kind.{shape, word_of_kind}
+use Rattle.hol_orders.specs.Order.{Orders, TellsOrder, IsFreeOrder, IsOrder, FindsOrder, asked_of, asking, kind_of, content_of, order_data}
 use Rattle.hol_orders.proofs.Spelled.{one_asking}
 use Rattle.hol_orders.proofs.Words.{one_word}
 
@@ -25,20 +24,25 @@ bad_told line (Ok order) told = ((λ e. cc), (λ none. absurd (none order told))
 bad_told line (Err BadOrder) told = ((λ e. told), (λ none. inl refl))
 bad_told line (Err Memory) told = ((λ e. cc), (λ none. inr tt))
 
+-- an order asks for what its kind can ask for
+has_asked : (kind : Kind) (order : Order) → IsOrder order → kind_of order ≡ kind →
+    (asked : (shape kind).Asked) × (shape kind).spelling.Fits asked × ((shape kind).spelling.spelled asked ≡ content_of order)
+has_asked which order is of =
+    subst (λ (k : Kind). (asked : (shape k).Asked) × (shape k).spelling.Fits asked × ((shape k).spelling.spelled asked ≡ content_of order)) of (asked_of order, is, refl)
+
 -- a line that is an object with one member is the order of the member's kind and content, or none
 pub told_kind : (line word : List ℕ) (kind : Kind) (content : Data) (r : Result Order OrderFault) → IsUtf8 line →
-    read line ≡ Some (object (member word content no_members)) → word_of_kind kind ≡ word → Finds (IsOfKind kind) content_of content r → TellsOrder line r
-told_kind line word kind content (Ok order) utf8 reads named found =
-    let kinds : kind_of order ≡ kind = found.0.1 in
-    let contents : content_of order ≡ content = found.1 in
-    let words : word_of_kind (kind_of order) ≡ word = ap word_of_kind kinds ∙ named in
-    (found.0.0, utf8, reads ∙ (λ i. Some (object (member (sym words i) (sym contents i) no_members))))
-told_kind line word kind content (Err BadOrder) utf8 reads named found = λ order is.
+    read line ≡ Some (object (member word content no_members)) → word_of_kind kind ≡ word → FindsOrder kind content r → TellsOrder line r
+told_kind line word which content (Ok order) utf8 reads named found =
+    let words : word_of_kind (kind_of order) ≡ word = ap word_of_kind found.1 ∙ named in
+    (found.0, utf8, reads ∙ (λ i. Some (object (member (sym words i) (sym found.2 i) no_members))))
+told_kind line word which content (Err BadOrder) utf8 reads named found = λ order is.
     (let e = is.2 in
     let words : word ≡ word_of_kind (kind_of order) = cc in
     let contents : content_of order ≡ content = cc in
-    found order (is.0, one_word (kind_of order) kind (sym (named ∙ words))) contents)
-told_kind line word kind content (Err Memory) utf8 reads named found = tt
+    let asked = has_asked which order is.0 (one_word (kind_of order) which (sym (named ∙ words))) in
+    found asked.0 asked.1 (asked.2 ∙ contents))
+told_kind line word which content (Err Memory) utf8 reads named found = tt
 
 -- a line is one order at most
 pub one_order : (line : List ℕ) (one other : Order) → Orders line one → Orders line other → asking one ≡ asking other

@@ -9,7 +9,8 @@ use Rattle.hol_io.specs.Name.{IsVersion}
 use Rattle.hol_orders.specs.declared.order.OrderFault.{OrderFault}
 use Rattle.hol_orders.specs.declared.order.OrderFault.TheVariants.{BadOrder, Memory}
 use Rattle.hol_orders.specs.Parts.{whole, versions_data}
-use Rattle.hol_orders.specs.Shapes.{Finds, AreVersions, DoNeighboursDiffer, IsWalk}
+use Rattle.hol_orders.specs.Shapes.{AreVersions, DoNeighboursDiffer, IsWalk}
+use Rattle.hol_orders.specs.Spelling.{Finds, Lacks, version as a_version, versions as some_versions}
 
 -- an array is that of one list of numbers at most
 pub one_list : (these those : List ℕ) → items_of (map whole these) ≡ items_of (map whole those) → these ≡ those
@@ -39,12 +40,12 @@ versions_more [] version are is = (is, tt)
 versions_more (x ∷ versions) version are is = (are.0, versions_more versions version are.1 is)
 
 pub versions_stop : (values : List Value) (place : ℕ) (value : Value) (r : Result (List ℕ) OrderFault) (fault : OrderFault) → IsErrAnd r (λ e. e ≡ fault) →
-    place < length values → value ≡ get_or values place value → Finds IsVersion whole (view value) (Err fault) → Finds AreVersions versions_data (array (items_view values)) r
-versions_stop values place value (Ok versions) fault is within at none = absurd is
+    place < length values → value ≡ get_or values place value → Lacks a_version (view value) fault → Finds some_versions (λ ns. ns) (array (items_view values)) r
+versions_stop values place value (Ok list) fault is within at none = absurd is
 versions_stop values place value (Err Memory) fault is within at none = tt
 versions_stop values place value (Err BadOrder) fault is within at none =
-    let told = subst (λ e. Finds IsVersion whole (view value) (Err e)) (sym is) none in
-    λ versions are same. no_versions values place value within at told versions are cc
+    let told = subst (λ e. Lacks a_version (view value) e) (sym is) none in
+    λ list are same. no_versions values place value within at told list are cc
 
 -- a loop's step
 pub versions_step : (values : List Value) (place : ℕ) (value : Value) (versions after : List ℕ) (version : ℕ) → place < length values → value ≡ get_or values place value →

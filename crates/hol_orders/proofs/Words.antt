@@ -1,7 +1,7 @@
 -- The words of orders are told from one another whole: each is a number, its bytes in base 256.
 use Rattle.std.proofs.Common.{◌≡◌, ℕ, ◌+◌, ◌*◌, List, [], ◌∷◌, if◌then◌else◌, ◌==◌, Option, Some, None, refl, ap, sym, ◌∙◌}
 use Rattle.hol_orders.specs.declared.kind.Kind.{Kind}
-use Rattle.hol_orders.specs.declared.kind.Kind.TheVariants.{Model, Cycle, Restore, Load, Step, Index, Get, Find, Live, Row, Has, At, Past, Check, Stat}
+use Rattle.hol_orders.specs.declared.kind.Kind.TheVariants.{Model, Cycle, Restore, Load, Step, Index, Get, Find, Live, Row, Has, At, Past, Check, Stat, Grow, Plan, Goto, Change, WalkIndex, WalkFind, History, Was, WasGet}
 use Rattle.hol_orders.specs.Kind.{word_of_kind}
 
 abbrev number_of : List ℕ → ℕ
@@ -14,7 +14,9 @@ first_with word [] = None
 first_with word (kind ∷ kinds) = if number_of (word_of_kind kind) == number_of word then Some kind else first_with word kinds
 
 abbrev kinds : List Kind
-kinds = Model ∷ Cycle ∷ Restore ∷ Load ∷ Step ∷ Index ∷ Get ∷ Find ∷ Live ∷ Row ∷ Has ∷ At ∷ Past ∷ Check ∷ Stat ∷ []
+kinds =
+    Model ∷ Cycle ∷ Restore ∷ Load ∷ Step ∷ Index ∷ Get ∷ Find ∷ Live ∷ Row ∷ Has ∷ At ∷ Past ∷ Check ∷ Stat
+    ∷ Grow ∷ Plan ∷ Goto ∷ Change ∷ WalkIndex ∷ WalkFind ∷ History ∷ Was ∷ WasGet ∷ []
 
 back : (kind : Kind) → first_with (word_of_kind kind) kinds ≡ Some kind
 back Model = refl

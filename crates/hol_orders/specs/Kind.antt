@@ -1,88 +1,87 @@
 -- The kinds of orders: the word that each has in its line, what it asks for, and how that is spelled in JSON.
 use Rattle.std.specs.Prelude.{◌≡◌, ◌≢◌, ℕ, List, Option, Some, None, codes, FitsSigned, true}
 use Rattle.std.specs.Int.{w64}
-use Rattle.serde_json.specs.Data.{Data, string, boolean}
+use Rattle.serde_json.specs.Data.{Data, boolean}
 use Rattle.hol_io.specs.Name.{IsVersion}
 use Rattle.json_values.specs.SchemaJson.{AreSchemas}
 use Rattle.hol_orders.specs.declared.kind.Kind.{Kind}
-use Rattle.hol_orders.specs.declared.kind.Kind.TheVariants.{Model, Cycle, Restore, Load, Step, Index, Get, Find, Live, Row, Has, At, Past, Check, Stat}
-use Rattle.hol_orders.specs.Parts.{AskedState, pair, triple, whole, versions_data, state_asked}
-use Rattle.hol_orders.specs.Shapes.{ArePaths, IsArray, IsOrdinal, AreRecords, IsWalk}
+use Rattle.hol_orders.specs.declared.kind.Kind.TheVariants.{Model, Cycle, Restore, Load, Step, Index, Get, Find, Live, Row, Has, At, Past, Check, Stat, Grow, Plan, Goto, Change, WalkIndex, WalkFind, History, Was, WasGet}
+use Rattle.hol_orders.specs.Parts.{AskedChange, AskedState, change_asked, pair, whole, versions_data, state_asked}
+use Rattle.hol_orders.specs.Shapes.{AreKeys, ArePaths, AreRecords, IsArray, IsBound, IsWalk}
+use Rattle.hol_orders.specs.Spelling.{Spelling, json, ordinal, pair_of, text, triple_of, version}
 
--- What the orders of a kind are: the name of their one member, what they ask for, how that is spelled under the name, and what can be asked for: its
--- numbers are in their ranges, and what stays JSON in it has its shape.
+-- What the orders of a kind are: the name of their one member, what they ask for, and how that is spelled under the name.
 pub record Shape : Type 1 where
   pub word : List ℕ
   pub Asked : Type 0
-  pub spelled : Asked → Data
-  pub Fits : Asked → Type 0
+  pub spelling : Spelling Asked
 
--- what a cycle can ask for
+-- the orders that have such things under this word
+abbrev pub under : {A : Type 0} → List ℕ → Spelling A → Shape
+under {A = A} word spelling = record { word = word; Asked = A; spelling = spelling }
+
+-- what a cycle can ask for, and what a change can
 abbrev pub IsNextState : AskedState → Type 0
 IsNextState asked = IsVersion asked.version × FitsSigned w64 asked.tag × AreRecords asked.add
 
--- orders that ask for a version
-abbrev pub of_version : List ℕ → Shape
-of_version word = record { word = word; Asked = ℕ; spelled = whole; Fits = IsVersion }
+abbrev pub state : Spelling AskedState
+state = record { Fits = IsNextState; spelled = state_asked }
 
--- orders that ask of a type, by its name
-abbrev pub of_type : List ℕ → Shape
-of_type word = record { word = word; Asked = List ℕ; spelled = string; Fits = λ name. Unit {0} }
+abbrev pub IsStateChange : AskedChange → Type 0
+IsStateChange asked = IsVersion asked.version × FitsSigned w64 asked.tag × AreRecords asked.put × AreKeys asked.remove
 
--- orders that ask of a row: the name of its type, and its ordinal
-abbrev pub of_row : List ℕ → Shape
-of_row word = record {
-  word = word;
-  Asked = List ℕ × ℕ;
-  spelled = λ asked. pair (string asked.0) (whole asked.1);
-  Fits = λ asked. IsOrdinal asked.1;
+abbrev pub change : Spelling AskedChange
+change = record { Fits = IsStateChange; spelled = change_asked }
+
+-- a step from a version to another one
+abbrev pub step : Spelling (ℕ × ℕ)
+step = record {
+  Fits = λ asked. IsVersion asked.0 × IsVersion asked.1 × (asked.0 ≢ asked.1);
+  spelled = λ asked. pair (whole asked.0) (whole asked.1);
 }
 
--- orders that ask of a row and another one, by its ordinal
-abbrev pub of_row_and_ordinal : List ℕ → Shape
-of_row_and_ordinal word = record {
-  word = word;
-  Asked = List ℕ × ℕ × ℕ;
-  spelled = λ asked. triple (string asked.0) (whole asked.1) (whole asked.2);
-  Fits = λ asked. IsOrdinal asked.1 × IsOrdinal asked.2;
-}
+-- versions that are walked
+abbrev pub walk : Spelling (List ℕ)
+walk = record { Fits = IsWalk; spelled = versions_data }
 
--- orders that ask of a type by something that stays JSON
-abbrev pub of_type_and_json : List ℕ → (Data → Type 0) → Shape
-of_type_and_json word Fits = record {
-  word = word;
-  Asked = List ℕ × Data;
-  spelled = λ asked. pair (string asked.0) asked.1;
-  Fits = λ asked. Fits asked.1;
-}
+-- how many old states are kept
+abbrev pub bound : Spelling ℕ
+bound = record { Fits = IsBound; spelled = whole }
+
+-- the value `true`
+abbrev pub truth : Spelling (Unit {0})
+truth = record { Fits = λ asked. Unit {0}; spelled = λ asked. boolean true }
+
+-- any JSON
+abbrev pub IsAny : Data → Type 0
+IsAny value = Unit {0}
 
 -- What the orders of each kind are.
 abbrev pub shape : Kind → Shape
-shape Model = record { word = codes "model"; Asked = Data; spelled = λ schemas. schemas; Fits = AreSchemas }
-shape Cycle = record { word = codes "cycle"; Asked = AskedState; spelled = state_asked; Fits = IsNextState }
-shape Restore = of_version (codes "restore")
-shape Load = of_version (codes "load")
-shape Step = record {
-  word = codes "step";
-  Asked = ℕ × ℕ;
-  spelled = λ asked. pair (whole asked.0) (whole asked.1);
-  Fits = λ asked. IsVersion asked.0 × IsVersion asked.1 × (asked.0 ≢ asked.1);
-}
-shape Index = of_type_and_json (codes "index") ArePaths
-shape Get = of_type_and_json (codes "get") IsArray
-shape Find = record {
-  word = codes "find";
-  Asked = List ℕ × Data × Data;
-  spelled = λ asked. triple (string asked.0) asked.1 asked.2;
-  Fits = λ asked. ArePaths asked.1 × IsArray asked.2;
-}
-shape Live = of_type (codes "live")
-shape Row = of_row (codes "row")
-shape Has = of_row_and_ordinal (codes "has")
-shape At = of_row_and_ordinal (codes "at")
-shape Past = of_type (codes "past")
-shape Check = record { word = codes "check"; Asked = List ℕ; spelled = versions_data; Fits = IsWalk }
-shape Stat = record { word = codes "stat"; Asked = Unit {0}; spelled = λ asked. boolean true; Fits = λ asked. Unit {0} }
+shape Model = under (codes "model") (json AreSchemas)
+shape Cycle = under (codes "cycle") state
+shape Restore = under (codes "restore") version
+shape Load = under (codes "load") version
+shape Step = under (codes "step") step
+shape Index = under (codes "index") (pair_of text (json ArePaths))
+shape Get = under (codes "get") (pair_of text (json IsArray))
+shape Find = under (codes "find") (triple_of text (json ArePaths) (json IsArray))
+shape Live = under (codes "live") text
+shape Row = under (codes "row") (pair_of text ordinal)
+shape Has = under (codes "has") (triple_of text ordinal ordinal)
+shape At = under (codes "at") (triple_of text ordinal ordinal)
+shape Past = under (codes "past") text
+shape Check = under (codes "check") walk
+shape Stat = under (codes "stat") truth
+shape Grow = under (codes "grow") (json AreSchemas)
+shape Plan = under (codes "plan") version
+shape Goto = under (codes "goto") version
+shape Change = under (codes "change") change
+shape WalkIndex = under (codes "walkindex") (pair_of text text)
+shape WalkFind = under (codes "walkfind") (triple_of text text (json IsAny))
+shape History = under (codes "history") bound
+shape Was = under (codes "was") (triple_of version text ordinal)
+shape WasGet = under (codes "wasget") (triple_of version text (json IsArray))
 
 -- The name of the one member that an order of this kind has.
 abbrev pub word_of_kind : Kind → List ℕ

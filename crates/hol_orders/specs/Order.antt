@@ -5,11 +5,12 @@ use Rattle.serde_json.specs.Read.{read}
 use Rattle.serde_json.specs.View.{view}
 use Rattle.hol_orders.specs.declared.kind.Kind.{Kind}
 use Rattle.hol_orders.specs.declared.order.Order.{Order}
-use Rattle.hol_orders.specs.declared.order.Order.TheVariants.{Model, Cycle, Restore, Load, Step, Index, Get, Find, Live, Row, Has, At, Past, Check, Stat}
+use Rattle.hol_orders.specs.declared.order.Order.TheVariants.{Model, Cycle, Restore, Load, Step, Index, Get, Find, Live, Row, Has, At, Past, Check, Stat, Grow, Plan, Goto, Change, WalkIndex, WalkFind, History, Was, WasGet}
 use Rattle.hol_orders.specs.declared.order.OrderFault.{OrderFault}
 use Rattle.hol_orders.specs.declared.order.OrderFault.TheVariants.{BadOrder, Memory}
 use Rattle.hol_orders.specs.Kind.{shape, word_of_kind}
-use Rattle.hol_orders.specs.Parts.{asked_state}
+use Rattle.hol_orders.specs.Parts.{asked_change, asked_state}
+use Rattle.hol_orders.specs.Spelling.{Lacks}
 
 -- The kind of an order.
 abbrev pub kind_of : Order → Kind
@@ -28,6 +29,15 @@ kind_of (At name ordinal key) = Kind.At
 kind_of (Past name) = Kind.Past
 kind_of (Check versions) = Kind.Check
 kind_of Stat = Kind.Stat
+kind_of (Grow schemas) = Kind.Grow
+kind_of (Plan version) = Kind.Plan
+kind_of (Goto version) = Kind.Goto
+kind_of (Change change) = Kind.Change
+kind_of (WalkIndex name path) = Kind.WalkIndex
+kind_of (WalkFind name path value) = Kind.WalkFind
+kind_of (History bound) = Kind.History
+kind_of (Was version name ordinal) = Kind.Was
+kind_of (WasGet version name values) = Kind.WasGet
 
 -- What an order asks for.
 abbrev pub asked_of : (order : Order) → (shape (kind_of order)).Asked
@@ -46,6 +56,15 @@ asked_of (At name ordinal key) = (name, ordinal, key)
 asked_of (Past name) = name
 asked_of (Check versions) = versions
 asked_of Stat = tt
+asked_of (Grow schemas) = view schemas
+asked_of (Plan version) = version
+asked_of (Goto version) = version
+asked_of (Change change) = asked_change change
+asked_of (WalkIndex name path) = (name, path)
+asked_of (WalkFind name path value) = (name, path, view value)
+asked_of (History bound) = bound
+asked_of (Was version name ordinal) = (version, name, ordinal)
+asked_of (WasGet version name values) = (version, name, view values)
 
 -- An order as its kind and what it asks for.
 pub record Asking : Type 0 where
@@ -60,7 +79,7 @@ asking order = asks (kind_of order) (asked_of order)
 
 -- What stands in an order under its word.
 abbrev pub content_of : Order → Data
-content_of order = (shape (kind_of order)).spelled (asked_of order)
+content_of order = (shape (kind_of order)).spelling.spelled (asked_of order)
 
 -- The JSON object of an order: it has one member.
 abbrev pub order_data : Order → Data
@@ -68,11 +87,12 @@ order_data order = object (member (word_of_kind (kind_of order)) (content_of ord
 
 -- The numbers of an order are in their ranges, and what stays JSON in it has its shape.
 abbrev pub IsOrder : Order → Type 0
-IsOrder order = (shape (kind_of order)).Fits (asked_of order)
+IsOrder order = (shape (kind_of order)).spelling.Fits (asked_of order)
 
--- It is an order of this kind.
-abbrev pub IsOfKind : Kind → Order → Type 0
-IsOfKind kind order = IsOrder order × (kind_of order ≡ kind)
+-- What looking for an order of a kind in JSON answers: the one that asks for what the JSON spells, or why nothing is found that the kind can ask for.
+abbrev pub FindsOrder : Kind → Data → Result Order OrderFault → Type 0
+FindsOrder which json (Ok order) = IsOrder order × (kind_of order ≡ which) × (content_of order ≡ json)
+FindsOrder which json (Err fault) = Lacks (shape which).spelling json fault
 
 -- The line is one JSON value in UTF-8, which is that of the order.
 abbrev pub Orders : List ℕ → Order → Type 0

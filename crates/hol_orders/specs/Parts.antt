@@ -7,6 +7,7 @@ use Rattle.record_stream.specs.CycleLine.{added_by}
 use Rattle.hol_orders.specs.declared.added.Added.{Added}
 use Rattle.hol_orders.specs.declared.added.Added.TheVariants.{Json, Line}
 use Rattle.hol_orders.specs.declared.order.NextState.{NextState}
+use Rattle.hol_orders.specs.declared.order.StateChange.{StateChange}
 
 -- a whole number
 abbrev pub whole : ℕ → Data
@@ -31,6 +32,14 @@ state_data add tag version = object
     (member (codes "tag") tag
     (member (codes "version") version no_members)))
 
+-- an object that has members `put`, `remove`, `tag` and `version` alone
+abbrev pub change_data : Data → Data → Data → Data → Data
+change_data put remove tag version = object
+    (member (codes "put") put
+    (member (codes "remove") remove
+    (member (codes "tag") tag
+    (member (codes "version") version no_members))))
+
 -- What a cycle asks for: the version and the tag of the next state, and the records that it adds, by type.
 pub record AskedState : Type 0 where
   pub version : ℕ
@@ -47,3 +56,17 @@ asked_state next = record { version = next.version; tag = next.tag; add = added 
 
 abbrev pub state_asked : AskedState → Data
 state_asked asked = state_data asked.add (number (of_integer asked.tag)) (whole asked.version)
+
+-- What a change asks for: the version and the tag of the next state, the records that are put into the state before it and the keys of those that are
+-- removed from it, each by type.
+pub record AskedChange : Type 0 where
+  pub version : ℕ
+  pub tag : ℤ
+  pub put : Data
+  pub remove : Data
+
+abbrev pub asked_change : StateChange → AskedChange
+asked_change change = record { version = change.version; tag = change.tag; put = view change.put; remove = view change.remove }
+
+abbrev pub change_asked : AskedChange → Data
+change_asked asked = change_data asked.put asked.remove (number (of_integer asked.tag)) (whole asked.version)

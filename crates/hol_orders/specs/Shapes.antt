@@ -1,9 +1,8 @@
 -- The parts of orders that stay JSON, and the numbers in them: which there are.
-use Rattle.std.specs.Prelude.{◌≡◌, ◌≢◌, ℕ, ◌+◌, ◌<◌, ◌^◌, List, [], ◌∷◌, length, slice_index, IsTrue, Result, Ok, Err}
+use Rattle.std.specs.Prelude.{◌≢◌, ℕ, ◌+◌, ◌<◌, ◌≤◌, ◌^◌, List, [], ◌∷◌, length, slice_index, IsTrue, Bool, true, false, ◌&&◌, is_some}
 use Rattle.serde_json.specs.Data.{Data, boolean, string, array, object, Items, no_items, item, Members, no_members, member}
+use Rattle.serde_json.specs.Find.{as_array}
 use Rattle.hol_io.specs.Name.{IsVersion}
-use Rattle.hol_orders.specs.declared.order.OrderFault.{OrderFault}
-use Rattle.hol_orders.specs.declared.order.OrderFault.TheVariants.{BadOrder, Memory}
 
 -- a text
 abbrev pub IsText : Data → Type 0
@@ -39,6 +38,29 @@ abbrev pub AreRecords : Data → Type 0
 AreRecords (object types) = AreArrays types
 AreRecords _ = ⊥
 
+-- Whether these are arrays, and whether this is an array of arrays.
+abbrev pub are_lists : Items → Bool
+are_lists no_items = true
+are_lists (item json rest) = is_some (as_array json) && are_lists rest
+
+abbrev pub is_list_of_arrays : Data → Bool
+is_list_of_arrays (array items) = are_lists items
+is_list_of_arrays _ = false
+
+-- members whose values are arrays of arrays
+abbrev pub AreListsOfArrays : Members → Type 0
+AreListsOfArrays no_members = Unit {0}
+AreListsOfArrays (member name json rest) = IsTrue (is_list_of_arrays json) × AreListsOfArrays rest
+
+-- keys of records to be removed: an object that has an array of arrays under each name
+abbrev pub AreKeys : Data → Type 0
+AreKeys (object types) = AreListsOfArrays types
+AreKeys _ = ⊥
+
+-- A history is bounded by a number up to 1,000.
+abbrev pub IsBound : ℕ → Type 0
+IsBound bound = bound ≤ 1000
+
 -- the value `true`
 abbrev pub IsTruth : Data → Type 0
 IsTruth (boolean truth) = IsTrue truth
@@ -58,10 +80,3 @@ pub record IsWalk (versions : List ℕ) : Type 0 where
   pub each : AreVersions versions
   pub some : 0 < length versions
   pub apart : DoNeighboursDiffer versions
-
--- What looking for a thing in JSON answers: the one that the JSON spells, or `BadOrder` exactly where it spells none,
--- unless memory is refused.
-abbrev pub Finds : {T : Type 0} → (T → Type 0) → (T → Data) → Data → Result T OrderFault → Type 0
-Finds Fits spelled json (Ok thing) = Fits thing × (spelled thing ≡ json)
-Finds {T = T} Fits spelled json (Err BadOrder) = (thing : T) → Fits thing → spelled thing ≢ json
-Finds Fits spelled json (Err Memory) = Unit {0}

@@ -29,3 +29,9 @@ abbrev pub TellsThree : (Data → Data → Data → Data) → Data → Result (V
 TellsThree form json (Ok found) = form (view found.0) (view found.1) (view found.2) ≡ json
 TellsThree form json (Err BadOrder) = (first second third : Data) → form first second third ≢ json
 TellsThree form json (Err Memory) = ⊥
+
+-- the same of four parts
+abbrev pub TellsFour : (Data → Data → Data → Data → Data) → Data → Result (Value × Value × Value × Value) OrderFault → Type 0
+TellsFour form json (Ok found) = form (view found.0) (view found.1) (view found.2) (view found.3) ≡ json
+TellsFour form json (Err BadOrder) = (first second third fourth : Data) → form first second third fourth ≢ json
+TellsFour form json (Err Memory) = ⊥

@@ -2,13 +2,12 @@
 ghost use Rattle.std.specs.Prelude.{◌≡◌, ◌≢◌, ◌<◌, ◌↔◌, ℕ, length, MatchOption, IsTrue};
 ghost use Rattle.serde_json.specs.Data.{array};
 ghost use Rattle.serde_json.specs.View.{view, items_view, members_view};
-ghost use Rattle.hol_io.specs.Name.{IsVersion};
-ghost use Rattle.hol_orders.specs.Parts.{whole as whole_data, triple, state_data, versions_data};
-ghost use Rattle.hol_orders.specs.Shapes.{ArePaths, AreTexts, AreRecords, AreArrays, AreVersions, DoNeighboursDiffer, Finds, IsTruth};
-ghost use Rattle.hol_orders.specs.Taken.{TellsItems, TellsMember, TellsNext, TellsThree};
+ghost use Rattle.hol_orders.specs.Parts.{whole as whole_data, triple};
+ghost use Rattle.hol_orders.specs.Shapes.{ArePaths, AreTexts, AreRecords, AreArrays, AreKeys, AreListsOfArrays, DoNeighboursDiffer, IsTruth, are_lists, is_list_of_arrays};
+ghost use Rattle.hol_orders.specs.Spelling.{Finds, version as a_version, versions as some_versions};
+ghost use Rattle.hol_orders.specs.Taken.{TellsItems, TellsMember, TellsThree};
 
-use crate::added::Added;
-use crate::order::{NextState, OrderFault, Versions};
+use crate::order::{OrderFault, Versions};
 use json_values::are_schemas;
 use schema_model::Name;
 use serde_json::{Map, Value};
@@ -16,19 +15,20 @@ use std::alloc::Global;
 
 /// What stands in an order, and what is to be found in its JSON.
 pub(crate) trait FromJson: Drop + Sized {
-    ghost use Rattle.serde_json.specs.Data.{Data};
     ghost use Rattle.serde_json.specs.View.{view};
-    ghost use Rattle.hol_orders.specs.Shapes.{Finds};
+    ghost use Rattle.hol_orders.specs.Spelling.{Finds, Spelling};
 
-    // Which of them there are.
-    ghost fits: { Self → Type 0 };
+    // What is asked for by it.
+    ghost Asked: { Type 0 };
 
-    // The JSON of one.
-    ghost spelled: { Self → Data };
+    ghost asked: { Self → Asked };
+
+    // Which can be asked for, and the JSON of each.
+    ghost spelling: { Spelling Asked };
 
     /// The one that the value spells. `BadOrder` comes exactly where it spells none.
     fn from_json(alloc: Global, value: Value) -> Result<Self, OrderFault>
-        ensures { Finds fits spelled (view value) result };
+        ensures { Finds spelling asked (view value) result };
 }
 
 /// Key paths, still JSON: an array of texts.
@@ -43,16 +43,31 @@ pub(crate) struct KeyValues(pub(crate) Value);
 #[derive(Drop)]
 pub(crate) struct Records(pub(crate) Value);
 
+/// Keys of records to be removed by type, still JSON: an object of arrays of arrays.
+#[derive(Drop)]
+pub(crate) struct RemovedKeys(pub(crate) Value);
+
+/// A value of a key, still JSON: whatever it is.
+#[derive(Drop)]
+pub(crate) struct KeyValue(pub(crate) Value);
+
+/// How many old states are kept: at most 1,000.
+#[derive(Drop)]
+pub(crate) struct Bound(pub(crate) u32);
+
 /// Schemas, still JSON: a list of them.
 #[derive(Drop)]
 pub(crate) struct SchemaList(pub(crate) Value);
 
 impl FromJson for Name {
-    ghost use Rattle.serde_json.specs.Data.{string};
+    ghost use Rattle.std.specs.Prelude.{ℕ, List};
+    ghost use Rattle.hol_orders.specs.Spelling.{text};
 
-    ghost fits = { λ _. Unit {0} };
+    ghost Asked = { List ℕ };
 
-    ghost spelled = { string };
+    ghost asked = { λ name. name };
+
+    ghost spelling = { text };
 
     fn from_json(_alloc: Global, value: Value) -> Result<Name, OrderFault> {
         match value {
@@ -64,12 +79,14 @@ impl FromJson for Name {
 
 // A version.
 impl FromJson for u64 {
-    ghost use Rattle.hol_io.specs.Name.{IsVersion};
-    ghost use Rattle.hol_orders.specs.Parts.{whole};
+    ghost use Rattle.std.specs.Prelude.{ℕ};
+    ghost use Rattle.hol_orders.specs.Spelling.{version};
 
-    ghost fits = { IsVersion };
+    ghost Asked = { ℕ };
 
-    ghost spelled = { whole };
+    ghost asked = { λ number. number };
+
+    ghost spelling = { version };
 
     fn from_json(_alloc: Global, value: Value) -> Result<u64, OrderFault> {
         version(&value)
@@ -78,12 +95,14 @@ impl FromJson for u64 {
 
 // An ordinal.
 impl FromJson for u32 {
-    ghost use Rattle.hol_orders.specs.Shapes.{IsOrdinal};
-    ghost use Rattle.hol_orders.specs.Parts.{whole};
+    ghost use Rattle.std.specs.Prelude.{ℕ};
+    ghost use Rattle.hol_orders.specs.Spelling.{ordinal};
 
-    ghost fits = { IsOrdinal };
+    ghost Asked = { ℕ };
 
-    ghost spelled = { whole };
+    ghost asked = { λ number. number };
+
+    ghost spelling = { ordinal };
 
     fn from_json(_alloc: Global, value: Value) -> Result<u32, OrderFault> {
         match whole(&value) {
@@ -95,14 +114,14 @@ impl FromJson for u32 {
 
 // A tag.
 impl FromJson for i64 {
-    ghost use Rattle.std.specs.Prelude.{FitsSigned};
-    ghost use Rattle.std.specs.Int.{w64};
-    ghost use Rattle.serde_json.specs.Data.{number};
-    ghost use Rattle.serde_json.specs.Find.{of_integer};
+    ghost use Rattle.std.specs.Prelude.{ℤ};
+    ghost use Rattle.hol_orders.specs.Spelling.{tag};
 
-    ghost fits = { FitsSigned w64 };
+    ghost Asked = { ℤ };
 
-    ghost spelled = { λ tag. number (of_integer tag) };
+    ghost asked = { λ number. number };
+
+    ghost spelling = { tag };
 
     fn from_json(_alloc: Global, value: Value) -> Result<i64, OrderFault> {
         match value {
@@ -113,12 +132,16 @@ impl FromJson for i64 {
 }
 
 impl FromJson for Paths {
+    ghost use Rattle.serde_json.specs.Data.{Data};
     ghost use Rattle.serde_json.specs.View.{view};
     ghost use Rattle.hol_orders.specs.Shapes.{ArePaths};
+    ghost use Rattle.hol_orders.specs.Spelling.{json};
 
-    ghost fits = { λ paths. ArePaths (view paths.0) };
+    ghost Asked = { Data };
 
-    ghost spelled = { λ paths. view paths.0 };
+    ghost asked = { λ paths. view paths.0 };
+
+    ghost spelling = { json ArePaths };
 
     fn from_json(_alloc: Global, value: Value) -> Result<Paths, OrderFault> {
         if are_paths(&value) {
@@ -130,12 +153,16 @@ impl FromJson for Paths {
 }
 
 impl FromJson for KeyValues {
+    ghost use Rattle.serde_json.specs.Data.{Data};
     ghost use Rattle.serde_json.specs.View.{view};
     ghost use Rattle.hol_orders.specs.Shapes.{IsArray};
+    ghost use Rattle.hol_orders.specs.Spelling.{json};
 
-    ghost fits = { λ values. IsArray (view values.0) };
+    ghost Asked = { Data };
 
-    ghost spelled = { λ values. view values.0 };
+    ghost asked = { λ values. view values.0 };
+
+    ghost spelling = { json IsArray };
 
     fn from_json(_alloc: Global, value: Value) -> Result<KeyValues, OrderFault> {
         if value.is_array() {
@@ -147,12 +174,16 @@ impl FromJson for KeyValues {
 }
 
 impl FromJson for Records {
+    ghost use Rattle.serde_json.specs.Data.{Data};
     ghost use Rattle.serde_json.specs.View.{view};
     ghost use Rattle.hol_orders.specs.Shapes.{AreRecords};
+    ghost use Rattle.hol_orders.specs.Spelling.{json};
 
-    ghost fits = { λ records. AreRecords (view records.0) };
+    ghost Asked = { Data };
 
-    ghost spelled = { λ records. view records.0 };
+    ghost asked = { λ records. view records.0 };
+
+    ghost spelling = { json AreRecords };
 
     fn from_json(_alloc: Global, value: Value) -> Result<Records, OrderFault> {
         if are_records(&value) {
@@ -164,12 +195,16 @@ impl FromJson for Records {
 }
 
 impl FromJson for SchemaList {
+    ghost use Rattle.serde_json.specs.Data.{Data};
     ghost use Rattle.serde_json.specs.View.{view};
     ghost use Rattle.json_values.specs.SchemaJson.{AreSchemas};
+    ghost use Rattle.hol_orders.specs.Spelling.{json};
 
-    ghost fits = { λ schemas. AreSchemas (view schemas.0) };
+    ghost Asked = { Data };
 
-    ghost spelled = { λ schemas. view schemas.0 };
+    ghost asked = { λ schemas. view schemas.0 };
+
+    ghost spelling = { json AreSchemas };
 
     fn from_json(_alloc: Global, value: Value) -> Result<SchemaList, OrderFault> {
         if are_schemas(&value) {
@@ -180,51 +215,71 @@ impl FromJson for SchemaList {
     }
 }
 
-impl FromJson for NextState {
-    ghost use Rattle.hol_orders.specs.Kind.{IsNextState};
-    ghost use Rattle.hol_orders.specs.Parts.{asked_state, state_asked};
+impl FromJson for RemovedKeys {
+    ghost use Rattle.serde_json.specs.Data.{Data};
+    ghost use Rattle.serde_json.specs.View.{view};
+    ghost use Rattle.hol_orders.specs.Shapes.{AreKeys};
+    ghost use Rattle.hol_orders.specs.Spelling.{json};
 
-    ghost fits = { λ next. IsNextState (asked_state next) };
+    ghost Asked = { Data };
 
-    ghost spelled = { λ next. state_asked (asked_state next) };
+    ghost asked = { λ keys. view keys.0 };
 
-    fn from_json(alloc: Global, value: Value) -> Result<NextState, OrderFault> {
-        let (add, tag, version) = state_members(value)?;
-        let Records(add) = FromJson::from_json(alloc, add)?;
-        let tag = FromJson::from_json(alloc, tag)?;
-        let version = FromJson::from_json(alloc, version)?;
-        Ok(NextState {
-            version,
-            tag,
-            add: Added::Json(add),
-        })
+    ghost spelling = { json AreKeys };
+
+    fn from_json(_alloc: Global, value: Value) -> Result<RemovedKeys, OrderFault> {
+        if are_keys(&value) {
+            Ok(RemovedKeys(value))
+        } else {
+            Err(OrderFault::BadOrder)
+        }
     }
 }
 
-// The values of `add`, `tag` and `version` of an object that has these members alone.
-fn state_members(value: Value) -> Result<(Value, Value, Value), OrderFault>
-    ensures { TellsThree state_data (view value) result }
-{
-    let Value::Object(mut members) = value else {
-        return Err(OrderFault::BadOrder);
-    };
-    let add = next_named(&mut members, "add")?;
-    let tag = next_named(&mut members, "tag")?;
-    let version = next_named(&mut members, "version")?;
-    if members.is_empty() {
-        Ok((add, tag, version))
-    } else {
-        Err(OrderFault::BadOrder)
+impl FromJson for KeyValue {
+    ghost use Rattle.serde_json.specs.Data.{Data};
+    ghost use Rattle.serde_json.specs.View.{view};
+    ghost use Rattle.hol_orders.specs.Kind.{IsAny};
+    ghost use Rattle.hol_orders.specs.Spelling.{json};
+
+    ghost Asked = { Data };
+
+    ghost asked = { λ value. view value.0 };
+
+    ghost spelling = { json IsAny };
+
+    fn from_json(_alloc: Global, value: Value) -> Result<KeyValue, OrderFault> {
+        Ok(KeyValue(value))
+    }
+}
+
+impl FromJson for Bound {
+    ghost use Rattle.std.specs.Prelude.{ℕ};
+    ghost use Rattle.hol_orders.specs.Kind.{bound};
+
+    ghost Asked = { ℕ };
+
+    ghost asked = { λ number. number.0 };
+
+    ghost spelling = { bound };
+
+    fn from_json(_alloc: Global, value: Value) -> Result<Bound, OrderFault> {
+        match whole(&value) {
+            Some(number) if number <= 1000 => Ok(Bound(number as u32)),
+            _ => Err(OrderFault::BadOrder),
+        }
     }
 }
 
 // An array of the two.
 impl<A: FromJson, B: FromJson> FromJson for (A, B) {
-    ghost use Rattle.hol_orders.specs.Parts.{pair};
+    ghost use Rattle.hol_orders.specs.Spelling.{pair_of};
 
-    ghost fits = { λ both. A.fits both.0 × B.fits both.1 };
+    ghost Asked = { A.Asked × B.Asked };
 
-    ghost spelled = { λ both. pair (A.spelled both.0) (B.spelled both.1) };
+    ghost asked = { λ both. (A.asked both.0, B.asked both.1) };
+
+    ghost spelling = { pair_of A.spelling B.spelling };
 
     fn from_json(alloc: Global, value: Value) -> Result<(A, B), OrderFault> {
         let [first, second] = items::<2>(value)?;
@@ -236,11 +291,13 @@ impl<A: FromJson, B: FromJson> FromJson for (A, B) {
 
 // An array of the three.
 impl<A: FromJson, B: FromJson, C: FromJson> FromJson for (A, B, C) {
-    ghost use Rattle.hol_orders.specs.Parts.{triple};
+    ghost use Rattle.hol_orders.specs.Spelling.{triple_of};
 
-    ghost fits = { λ all. A.fits all.0 × B.fits all.1 × C.fits all.2 };
+    ghost Asked = { A.Asked × B.Asked × C.Asked };
 
-    ghost spelled = { λ all. triple (A.spelled all.0) (B.spelled all.1) (C.spelled all.2) };
+    ghost asked = { λ all. (A.asked all.0, B.asked all.1, C.asked all.2) };
+
+    ghost spelling = { triple_of A.spelling B.spelling C.spelling };
 
     fn from_json(alloc: Global, value: Value) -> Result<(A, B, C), OrderFault> {
         let (first, second, third) = triple_of(value)?;
@@ -252,12 +309,14 @@ impl<A: FromJson, B: FromJson, C: FromJson> FromJson for (A, B, C) {
 }
 
 impl FromJson for Versions {
-    ghost use Rattle.hol_orders.specs.Parts.{versions_data};
-    ghost use Rattle.hol_orders.specs.Shapes.{IsWalk};
+    ghost use Rattle.std.specs.Prelude.{ℕ, List};
+    ghost use Rattle.hol_orders.specs.Kind.{walk};
 
-    ghost fits = { IsWalk };
+    ghost Asked = { List ℕ };
 
-    ghost spelled = { versions_data };
+    ghost asked = { λ versions. versions };
+
+    ghost spelling = { walk };
 
     fn from_json(alloc: Global, value: Value) -> Result<Versions, OrderFault> {
         let Value::Array(items) = value else {
@@ -274,7 +333,7 @@ impl FromJson for Versions {
 
 // The versions that the items of an array are.
 fn versions_of(alloc: Global, items: &[Value]) -> Result<Versions, OrderFault>
-    ensures { Finds AreVersions versions_data (array (items_view items.now)) result }
+    ensures { Finds some_versions (λ found. found) (array (items_view items.now)) result }
 {
     let mut versions = Versions::new(alloc);
     for item in items {
@@ -297,7 +356,7 @@ fn is_walk(versions: &[u64]) -> bool
 
 // The version that a value is.
 fn version(value: &Value) -> Result<u64, OrderFault>
-    ensures { Finds IsVersion whole_data (view value.now) result }
+    ensures { Finds a_version (λ found. found) (view value.now) result }
 {
     match whole(value) {
         Some(version) if 0 < version && version < 1 << 63 => Ok(version),
@@ -350,16 +409,6 @@ pub(crate) fn only_member(value: Value) -> Option<(String, Value)>
     }
 }
 
-// Takes the first member that is left, where it has this name.
-fn next_named(members: &mut Map<String, Value>, name: &str) -> Result<Value, OrderFault>
-    ensures { TellsNext name.now (members_view members.old.entries) (members_view members.new.entries) result }
-{
-    match members.pop_first() {
-        Some((found, value)) if found.as_str() == name => Ok(value),
-        _ => Err(OrderFault::BadOrder),
-    }
-}
-
 /// Whether a value is `true`.
 pub(crate) fn is_true(value: &Value) -> bool
     ensures { IsTrue result ↔ IsTruth (view value.now) }
@@ -400,4 +449,36 @@ fn are_arrays(members: &Map<String, Value>) -> bool
     ensures { IsTrue result ↔ AreArrays (members_view members.now.entries) }
 {
     members.values().all(|value| value.is_array())
+}
+
+// Whether a value is an object of arrays of arrays.
+fn are_keys(value: &Value) -> bool
+    ensures { IsTrue result ↔ AreKeys (view value.now) }
+{
+    match value {
+        Value::Object(members) => are_lists_of_arrays(members),
+        _ => false,
+    }
+}
+
+fn are_lists_of_arrays(members: &Map<String, Value>) -> bool
+    ensures { IsTrue result ↔ AreListsOfArrays (members_view members.now.entries) }
+{
+    members.values().all(|value| is_list_of_arrays(value))
+}
+
+// Whether a value is an array of arrays.
+fn is_list_of_arrays(value: &Value) -> bool
+    ensures { result ≡ is_list_of_arrays (view value.now) }
+{
+    match value {
+        Value::Array(items) => are_lists(items.as_slice()),
+        _ => false,
+    }
+}
+
+fn are_lists(items: &[Value]) -> bool
+    ensures { result ≡ are_lists (items_view items.now) }
+{
+    items.iter().all(|item| item.is_array())
 }

@@ -34,6 +34,24 @@ pub enum Kind {
     Check,
     /// Counts what the consumer keeps.
     Stat,
+    /// Gives the producer a model that grows its own.
+    Grow,
+    /// Shows the shortest way to a version.
+    Plan,
+    /// Moves the consumer along the shortest way to a version.
+    Goto,
+    /// Publishes the next state as a change of the one before.
+    Change,
+    /// Keeps an index through collections.
+    WalkIndex,
+    /// Looks up the rows that reach a value.
+    WalkFind,
+    /// Sets how many old states are kept.
+    History,
+    /// Shows a row of an old state.
+    Was,
+    /// Looks up the row with a primary key in an old state.
+    WasGet,
 }
 
 impl Kind {
@@ -57,6 +75,15 @@ impl Kind {
             "past" => Some(Kind::Past),
             "check" => Some(Kind::Check),
             "stat" => Some(Kind::Stat),
+            "grow" => Some(Kind::Grow),
+            "plan" => Some(Kind::Plan),
+            "goto" => Some(Kind::Goto),
+            "change" => Some(Kind::Change),
+            "walkindex" => Some(Kind::WalkIndex),
+            "walkfind" => Some(Kind::WalkFind),
+            "history" => Some(Kind::History),
+            "was" => Some(Kind::Was),
+            "wasget" => Some(Kind::WasGet),
             _ => None,
         }
     }

@@ -10,8 +10,9 @@ pub mod laws;
 mod order;
 mod order_stop;
 mod shapes;
+mod states;
 
 pub use added::Added;
 pub use kind::Kind;
-pub use order::{NextState, Order, OrderFault, OrderReader, Versions, order_of};
+pub use order::{NextState, Order, OrderFault, OrderReader, StateChange, Versions, order_of};
 pub use order_stop::OrderStop;

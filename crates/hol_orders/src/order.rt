@@ -29,6 +29,19 @@ pub struct NextState {
     pub add: Added,
 }
 
+/// What a change asks for: the next state, as a change of the one before.
+#[derive(Debug, Drop)]
+pub struct StateChange {
+    /// The version that it is to have.
+    pub version: u64,
+    /// The tag that it is to have.
+    pub tag: i64,
+    /// The records that are put, still JSON: an object of arrays, by type.
+    pub put: Value,
+    /// The primary keys of the records that are removed, still JSON: an object of arrays of arrays, by type.
+    pub remove: Value,
+}
+
 /// What one line of a script asks for. Versions are numbers from 1 to 2^63 - 1.
 #[derive(Debug, Drop)]
 pub enum Order {
@@ -103,6 +116,50 @@ pub enum Order {
     Check(Versions),
     /// `{"stat":true}`: counts what the consumer keeps.
     Stat,
+    /// `{"grow":[S1,S2]}`: gives the producer a model of these schemas, which are still JSON; it grows the producer's own.
+    Grow(Value),
+    /// `{"plan":V}`: shows the shortest list of blobs that leads the consumer to a version.
+    Plan(u64),
+    /// `{"goto":V}`: moves the consumer along the shortest list of blobs to a version.
+    Goto(u64),
+    /// `{"change":{"version":V,"tag":T,"put":{type:[records]},"remove":{type:[[values]]}}}`: publishes the next state.
+    Change(StateChange),
+    /// `{"walkindex":[type,path]}`: keeps an index of what the rows of a type reach through collections.
+    WalkIndex {
+        /// The name of the type.
+        type_name: Name,
+        /// The path.
+        path: Name,
+    },
+    /// `{"walkfind":[type,path,value]}`: lists the rows that reach a value.
+    WalkFind {
+        /// The name of the type.
+        type_name: Name,
+        /// The path.
+        path: Name,
+        /// The value, still JSON.
+        value: Value,
+    },
+    /// `{"history":n}`: keeps up to n old states, 0 to 1,000.
+    History(u32),
+    /// `{"was":[V,type,o]}`: shows a row of the state that a version had.
+    Was {
+        /// The version.
+        version: u64,
+        /// The name of the type.
+        type_name: Name,
+        /// The ordinal of the row.
+        ordinal: u32,
+    },
+    /// `{"wasget":[V,type,[values]]}`: shows the row that has this primary key in the state that a version had.
+    WasGet {
+        /// The version.
+        version: u64,
+        /// The name of the type.
+        type_name: Name,
+        /// The values of the key, still JSON: an array.
+        values: Value,
+    },
 }
 
 /// Why a line is not read.
@@ -192,6 +249,7 @@ fn read_order(alloc: Global, scratch: &mut Scratch, line: &[u8]) -> Result<Order
 }
 
 // The same of a line that is read whole.
+#[tactic(auto, using(crate::proofs::Told::told_kind))]
 fn order_in_json(alloc: Global, line: &[u8]) -> Result<Order, OrderFault>
     ensures { TellsOrder line.now result }
 {

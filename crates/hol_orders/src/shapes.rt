@@ -1,9 +1,10 @@
 //! The shape of each kind of order: what its one member holds.
-ghost use Rattle.serde_json.specs.View.{view};
-ghost use Rattle.hol_orders.specs.Order.{IsOfKind, content_of};
-ghost use Rattle.hol_orders.specs.Shapes.{Finds};
+#![tactic(auto, using(crate::proofs::OfKind::none_asked))]
 
-use crate::json_parts::{FromJson, KeyValues, Paths, SchemaList, is_true};
+ghost use Rattle.serde_json.specs.View.{view};
+ghost use Rattle.hol_orders.specs.Order.{FindsOrder};
+
+use crate::json_parts::{Bound, FromJson, KeyValue, KeyValues, Paths, SchemaList, is_true};
 use crate::kind::Kind;
 use crate::order::{Order, OrderFault};
 use serde_json::Value;
@@ -11,7 +12,7 @@ use std::alloc::Global;
 
 /// The order of this kind that has this content. `BadOrder` comes exactly where none has it.
 pub(crate) fn order_with(alloc: Global, kind: Kind, content: Value) -> Result<Order, OrderFault>
-    ensures { Finds (IsOfKind kind) content_of (view content) result }
+    ensures { FindsOrder kind (view content) result }
 {
     match kind {
         Kind::Model => model_order(alloc, content),
@@ -29,39 +30,46 @@ pub(crate) fn order_with(alloc: Global, kind: Kind, content: Value) -> Result<Or
         Kind::Past => past_order(alloc, content),
         Kind::Check => check_order(alloc, content),
         Kind::Stat => stat_order(content),
+        Kind::Grow => grow_order(alloc, content),
+        Kind::Plan => plan_order(alloc, content),
+        Kind::Goto => goto_order(alloc, content),
+        Kind::Change => change_order(alloc, content),
+        Kind::WalkIndex => walk_index_order(alloc, content),
+        Kind::WalkFind => walk_find_order(alloc, content),
+        Kind::History => history_order(alloc, content),
+        Kind::Was => was_order(alloc, content),
+        Kind::WasGet => was_get_order(alloc, content),
     }
 }
 
 fn model_order(alloc: Global, content: Value) -> Result<Order, OrderFault>
-    ensures { Finds (IsOfKind Kind.Model) content_of (view content) result }
+    ensures { FindsOrder Kind.Model (view content) result }
 {
     let SchemaList(schemas) = FromJson::from_json(alloc, content)?;
     Ok(Order::Model(schemas))
 }
 
 fn cycle_order(alloc: Global, content: Value) -> Result<Order, OrderFault>
-    ensures { Finds (IsOfKind Kind.Cycle) content_of (view content) result }
+    ensures { FindsOrder Kind.Cycle (view content) result }
 {
     Ok(Order::Cycle(FromJson::from_json(alloc, content)?))
 }
 
-#[tactic(auto, using(crate::proofs::OfKind::none_asked))]
 fn restore_order(alloc: Global, content: Value) -> Result<Order, OrderFault>
-    ensures { Finds (IsOfKind Kind.Restore) content_of (view content) result }
+    ensures { FindsOrder Kind.Restore (view content) result }
 {
     Ok(Order::Restore(FromJson::from_json(alloc, content)?))
 }
 
-#[tactic(auto, using(crate::proofs::OfKind::none_asked))]
 fn load_order(alloc: Global, content: Value) -> Result<Order, OrderFault>
-    ensures { Finds (IsOfKind Kind.Load) content_of (view content) result }
+    ensures { FindsOrder Kind.Load (view content) result }
 {
     Ok(Order::Load(FromJson::from_json(alloc, content)?))
 }
 
-#[tactic(auto, using(crate::proofs::OfKind::no_still))]
+#[tactic(auto, using(crate::proofs::OfKind::no_step, crate::proofs::OfKind::no_still))]
 fn step_order(alloc: Global, content: Value) -> Result<Order, OrderFault>
-    ensures { Finds (IsOfKind Kind.Step) content_of (view content) result }
+    ensures { FindsOrder Kind.Step (view content) result }
 {
     let (from, to): (u64, u64) = FromJson::from_json(alloc, content)?;
     if from == to {
@@ -72,21 +80,21 @@ fn step_order(alloc: Global, content: Value) -> Result<Order, OrderFault>
 }
 
 fn index_order(alloc: Global, content: Value) -> Result<Order, OrderFault>
-    ensures { Finds (IsOfKind Kind.Index) content_of (view content) result }
+    ensures { FindsOrder Kind.Index (view content) result }
 {
     let (type_name, Paths(paths)) = FromJson::from_json(alloc, content)?;
     Ok(Order::Index { type_name, paths })
 }
 
 fn get_order(alloc: Global, content: Value) -> Result<Order, OrderFault>
-    ensures { Finds (IsOfKind Kind.Get) content_of (view content) result }
+    ensures { FindsOrder Kind.Get (view content) result }
 {
     let (type_name, KeyValues(values)) = FromJson::from_json(alloc, content)?;
     Ok(Order::Get { type_name, values })
 }
 
 fn find_order(alloc: Global, content: Value) -> Result<Order, OrderFault>
-    ensures { Finds (IsOfKind Kind.Find) content_of (view content) result }
+    ensures { FindsOrder Kind.Find (view content) result }
 {
     let (type_name, Paths(paths), KeyValues(values)) = FromJson::from_json(alloc, content)?;
     Ok(Order::Find {
@@ -96,22 +104,21 @@ fn find_order(alloc: Global, content: Value) -> Result<Order, OrderFault>
     })
 }
 
-#[tactic(auto, using(crate::proofs::OfKind::none_asked))]
 fn live_order(alloc: Global, content: Value) -> Result<Order, OrderFault>
-    ensures { Finds (IsOfKind Kind.Live) content_of (view content) result }
+    ensures { FindsOrder Kind.Live (view content) result }
 {
     Ok(Order::Live(FromJson::from_json(alloc, content)?))
 }
 
 fn row_order(alloc: Global, content: Value) -> Result<Order, OrderFault>
-    ensures { Finds (IsOfKind Kind.Row) content_of (view content) result }
+    ensures { FindsOrder Kind.Row (view content) result }
 {
     let (type_name, ordinal) = FromJson::from_json(alloc, content)?;
     Ok(Order::Row { type_name, ordinal })
 }
 
 fn has_order(alloc: Global, content: Value) -> Result<Order, OrderFault>
-    ensures { Finds (IsOfKind Kind.Has) content_of (view content) result }
+    ensures { FindsOrder Kind.Has (view content) result }
 {
     let (type_name, ordinal, element) = FromJson::from_json(alloc, content)?;
     Ok(Order::Has {
@@ -122,7 +129,7 @@ fn has_order(alloc: Global, content: Value) -> Result<Order, OrderFault>
 }
 
 fn at_order(alloc: Global, content: Value) -> Result<Order, OrderFault>
-    ensures { Finds (IsOfKind Kind.At) content_of (view content) result }
+    ensures { FindsOrder Kind.At (view content) result }
 {
     let (type_name, ordinal, key) = FromJson::from_json(alloc, content)?;
     Ok(Order::At {
@@ -132,26 +139,96 @@ fn at_order(alloc: Global, content: Value) -> Result<Order, OrderFault>
     })
 }
 
-#[tactic(auto, using(crate::proofs::OfKind::none_asked))]
 fn past_order(alloc: Global, content: Value) -> Result<Order, OrderFault>
-    ensures { Finds (IsOfKind Kind.Past) content_of (view content) result }
+    ensures { FindsOrder Kind.Past (view content) result }
 {
     Ok(Order::Past(FromJson::from_json(alloc, content)?))
 }
 
-#[tactic(auto, using(crate::proofs::OfKind::none_asked))]
 fn check_order(alloc: Global, content: Value) -> Result<Order, OrderFault>
-    ensures { Finds (IsOfKind Kind.Check) content_of (view content) result }
+    ensures { FindsOrder Kind.Check (view content) result }
 {
     Ok(Order::Check(FromJson::from_json(alloc, content)?))
 }
 
 #[tactic(auto, using(crate::proofs::OfKind::stat_found))]
 fn stat_order(content: Value) -> Result<Order, OrderFault>
-    ensures { Finds (IsOfKind Kind.Stat) content_of (view content) result }
+    ensures { FindsOrder Kind.Stat (view content) result }
 {
     if !is_true(&content) {
         return Err(OrderFault::BadOrder);
     }
     Ok(Order::Stat)
+}
+
+fn grow_order(alloc: Global, content: Value) -> Result<Order, OrderFault>
+    ensures { FindsOrder Kind.Grow (view content) result }
+{
+    let SchemaList(schemas) = FromJson::from_json(alloc, content)?;
+    Ok(Order::Grow(schemas))
+}
+
+fn plan_order(alloc: Global, content: Value) -> Result<Order, OrderFault>
+    ensures { FindsOrder Kind.Plan (view content) result }
+{
+    Ok(Order::Plan(FromJson::from_json(alloc, content)?))
+}
+
+fn goto_order(alloc: Global, content: Value) -> Result<Order, OrderFault>
+    ensures { FindsOrder Kind.Goto (view content) result }
+{
+    Ok(Order::Goto(FromJson::from_json(alloc, content)?))
+}
+
+fn change_order(alloc: Global, content: Value) -> Result<Order, OrderFault>
+    ensures { FindsOrder Kind.Change (view content) result }
+{
+    Ok(Order::Change(FromJson::from_json(alloc, content)?))
+}
+
+fn walk_index_order(alloc: Global, content: Value) -> Result<Order, OrderFault>
+    ensures { FindsOrder Kind.WalkIndex (view content) result }
+{
+    let (type_name, path) = FromJson::from_json(alloc, content)?;
+    Ok(Order::WalkIndex { type_name, path })
+}
+
+fn walk_find_order(alloc: Global, content: Value) -> Result<Order, OrderFault>
+    ensures { FindsOrder Kind.WalkFind (view content) result }
+{
+    let (type_name, path, KeyValue(value)) = FromJson::from_json(alloc, content)?;
+    Ok(Order::WalkFind {
+        type_name,
+        path,
+        value,
+    })
+}
+
+fn history_order(alloc: Global, content: Value) -> Result<Order, OrderFault>
+    ensures { FindsOrder Kind.History (view content) result }
+{
+    let Bound(bound) = FromJson::from_json(alloc, content)?;
+    Ok(Order::History(bound))
+}
+
+fn was_order(alloc: Global, content: Value) -> Result<Order, OrderFault>
+    ensures { FindsOrder Kind.Was (view content) result }
+{
+    let (version, type_name, ordinal) = FromJson::from_json(alloc, content)?;
+    Ok(Order::Was {
+        version,
+        type_name,
+        ordinal,
+    })
+}
+
+fn was_get_order(alloc: Global, content: Value) -> Result<Order, OrderFault>
+    ensures { FindsOrder Kind.WasGet (view content) result }
+{
+    let (version, type_name, KeyValues(values)) = FromJson::from_json(alloc, content)?;
+    Ok(Order::WasGet {
+        version,
+        type_name,
+        values,
+    })
 }

@@ -24,4 +24,4 @@ FOLDER holds blobs under the names snapshot-V, delta-U-V, reversedelta-V-U and a
                and back; one line of JSON tells how many states and rows there are
 
 status: 0 answered, 1 refused, 2 no such command, 3 standard input failed, 4 standard output failed,
-5 the folder failed, 6 want of memory, 7 more than 2^32 bytes of input";
+5 the folder failed, 6 out of memory, 7 more than 2^32 bytes of input";

@@ -59,10 +59,10 @@ load_stays machine next version (reply.Load tag) (blob, position, at, loads, tag
 load_stays machine next version (reply.Refused refusal) is = same_store machine next machine is.1 refl
 load_stays machine next version _ is = absurd is
 
-step_stays : (machine next : Machine) (name : BlobName) (answer : Reply) → StepStep machine name answer next → next.store ≡ machine.store
-step_stays machine next name (reply.Step tag) is = of_some machine.consumer _ is (λ now moved. same_store machine next _ moved.5 refl)
-step_stays machine next name (reply.Refused refusal) is = same_store machine next machine is.1 refl
-step_stays machine next name _ is = absurd is
+step_stays : (machine next : Machine) (name : BlobName) (version : ℕ) (answer : Reply) → StepStep machine name version answer next → next.store ≡ machine.store
+step_stays machine next name version (reply.Step tag) is = of_some machine.consumer _ is (λ now moved. same_store machine next _ moved.5 refl)
+step_stays machine next name version (reply.Refused refusal) is = same_store machine next machine is.1 refl
+step_stays machine next name version _ is = absurd is
 
 -- the consumer keeps the index of a type
 abbrev KeepsAt : Machine → List (List ℕ) → ℕ → Machine → Position → ℕ → Type 0
@@ -130,7 +130,7 @@ order_puts (order.Cycle next_state) machine next answer is = cycle_puts machine 
 order_puts (order.Model schemas) machine next answer is = inl (model_stays machine next _ answer is)
 order_puts (order.Restore version) machine next answer is = inl (restore_stays machine next version answer is)
 order_puts (order.Load version) machine next answer is = inl (load_stays machine next version answer is)
-order_puts (order.Step from to) machine next answer is = inl (step_stays machine next _ answer is)
+order_puts (order.Step from to) machine next answer is = inl (step_stays machine next _ to answer is)
 order_puts (order.Index name paths) machine next answer is = inl (index_stays machine next name _ answer is)
 order_puts _ machine next answer is = inl (same_store machine next machine is.1 refl)
 

@@ -7,12 +7,13 @@ use Rattle.hol_orders.specs.Order.{asked_of, kind_of}
 use Rattle.hol_answers.specs.declared.refusal.Refusal.{Refusal}
 use Rattle.hol_answers.specs.declared.reply.Reply.TheVariants.{Refused}
 use Rattle.hol_answers.specs.Reply.{is_refusal, line_of}
+use Rattle.hollow_machine.specs.Forms.{StepBy}
 use Rattle.hollow_machine.specs.Script.{LineStep, Script}
 use Rattle.hollow_machine.specs.State.{Machine}
 use Rattle.hollow_machine.specs.Step.{Step, form}
 
 -- an order that is refused changes nothing
-kind_unchanged : (kind : Kind) (machine next : Machine) (asked : (shape kind).Asked) (refusal : Refusal) → (form kind).Answers machine asked (Refused refusal) next → next ≡ machine
+kind_unchanged : (kind : Kind) (machine next : Machine) (asked : (shape kind).Asked) (refusal : Refusal) → StepBy (form kind) machine asked (Refused refusal) next → next ≡ machine
 kind_unchanged Kind.Model machine next asked refusal is = is.1
 kind_unchanged _ machine next asked refusal is = is.1
 

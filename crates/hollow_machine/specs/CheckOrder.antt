@@ -1,5 +1,5 @@
 -- The order `check`: what it answers of a store, whose machine stays as it was.
-use Rattle.std.specs.Prelude.{◌≡◌, ℕ, List, Option, Some, None, Result, Ok, Err, IfSome, IsSomeAnd, length, false}
+use Rattle.std.specs.Prelude.{◌≡◌, ℕ, List, Option, Some, None, Result, Ok, Err, IfSome, IsSomeAnd, length}
 use Rattle.hol_io.specs.declared.name.BlobName.{BlobName}
 use Rattle.hol_io.specs.declared.name.BlobName.TheVariants.{Snapshot}
 use Rattle.hol_io.specs.Store.{Store, told}
@@ -13,7 +13,7 @@ use Rattle.hol_answers.specs.declared.refusal.Refusal.TheVariants.{Mismatch}
 use Rattle.hol_answers.specs.declared.reply.Reply.{Reply}
 use Rattle.hol_answers.specs.declared.reply.Reply.TheVariants.{Check, Refused}
 use Rattle.hollow_machine.specs.Blobs.{SnapshotRefusal}
-use Rattle.hollow_machine.specs.Forms.{OrderForm}
+use Rattle.hollow_machine.specs.Forms.{OrderForm, moving}
 use Rattle.hollow_machine.specs.RestoreOrder.{IsStored}
 use Rattle.hollow_machine.specs.StepOrder.{StepRefusal}
 
@@ -50,4 +50,4 @@ CheckReply store versions (Refused refusal) =
 CheckReply store versions _ = ⊥
 
 abbrev pub check_form : OrderForm (List ℕ)
-check_form = record { Answers = λ machine versions reply next. CheckReply machine.store versions reply × (next ≡ machine); of_state = false }
+check_form = moving (λ machine versions reply next. CheckReply machine.store versions reply × (next ≡ machine))

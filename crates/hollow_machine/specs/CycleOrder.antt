@@ -20,7 +20,7 @@ use Rattle.state_blobs.specs.Puts.{AreBlobs, IsShort, Put, puts_of, put_all}
 use Rattle.hollow_machine.specs.Records.{AskedCycle, GivesNoTrees, GivesTrees, asked_cycle}
 use Rattle.hollow_machine.specs.State.{Machine, with_producer, with_store}
 use Rattle.state_blobs.specs.Published.{Published}
-use Rattle.hollow_machine.specs.Forms.{OrderForm}
+use Rattle.hollow_machine.specs.Forms.{OrderForm, moving}
 
 -- The records of these types and trees make this next state, and these types change by it.
 pub record Makes (last : Published) (trees : List (ℕ × PlainTree)) (rows : Table) (changed : List ℕ) : Type 0 where
@@ -47,7 +47,7 @@ RefusesAfter store last asked (NoType name) = MayFollow store last.version asked
 RefusesAfter store last asked (BadRecord fault) = MayFollow store last.version asked.version asked.tag × GivesNoTrees last.model asked.add (BadRecord fault)
 RefusesAfter store last asked (TooLarge passed) =
     MayFollow store last.version asked.version asked.tag
-    × ((trees : List (ℕ × PlainTree)) × GivesTrees last.model asked.add trees × PassesLimit last asked.version asked.tag trees passed)
+    × ((trees : List (ℕ × PlainTree)) × GivesTrees last asked.add trees × PassesLimit last asked.version asked.tag trees passed)
 RefusesAfter store last asked refusal = MayNotFollow store last.version asked.version asked.tag refusal
 
 -- Why the order is refused: there is no producer, or what there is to it.
@@ -77,7 +77,7 @@ Succeeds machine last version tag trees names published next =
 abbrev pub SucceedsAfter : Machine → Published → AskedCycle → List (List ℕ) → Bool → Machine → Type 0
 SucceedsAfter machine last asked names published next =
     MayFollow machine.store last.version asked.version asked.tag
-    × ((trees : List (ℕ × PlainTree)) × GivesTrees last.model asked.add trees × Succeeds machine last asked.version asked.tag trees names published next)
+    × ((trees : List (ℕ × PlainTree)) × GivesTrees last asked.add trees × Succeeds machine last asked.version asked.tag trees names published next)
 
 -- What the order answers, and the machine behind it.
 abbrev pub CycleStep : Machine → AskedCycle → Reply → Machine → Type 0
@@ -87,4 +87,4 @@ CycleStep machine asked (Refused refusal) next = CycleRefusal machine asked refu
 CycleStep machine asked _ next = ⊥
 
 abbrev pub cycle_form : OrderForm AskedState
-cycle_form = record { Answers = λ machine asked reply next. CycleStep machine (asked_cycle asked) reply next; of_state = false }
+cycle_form = moving (λ machine asked reply next. CycleStep machine (asked_cycle asked) reply next)

@@ -1,5 +1,5 @@
 -- The order `index`: what it answers, and the machine behind it.
-use Rattle.std.specs.Prelude.{◌≡◌, ℕ, List, Option, Some, None, IsSomeAnd, false}
+use Rattle.std.specs.Prelude.{◌≡◌, ℕ, List, Option, Some, None, IsSomeAnd}
 use Rattle.serde_json.specs.Data.{Data}
 use Rattle.schema_model.specs.declared.limit.Limit.TheVariants.{Indexes}
 use Rattle.schema_model.specs.declared.model.path.Path.{Path}
@@ -13,7 +13,7 @@ use Rattle.hol_answers.specs.declared.reply.Reply.{Reply}
 use Rattle.hol_answers.specs.declared.reply.Reply.TheVariants as reply
 use Rattle.hollow_machine.specs.KeyPaths.{AreKeyPaths, HasShape, IsObject, PathsRefusal, texts_of_array}
 use Rattle.hollow_machine.specs.State.{Machine, with_consumer}
-use Rattle.hollow_machine.specs.Forms.{OrderForm}
+use Rattle.hollow_machine.specs.Forms.{OrderForm, moving}
 
 -- Why no index of the type at an index is kept: there is no such key; or there is no room.
 abbrev pub RefusesIndex : Name → List (List ℕ) → Position → ℕ → Refusal → Type 0
@@ -38,4 +38,4 @@ IndexStep machine name texts (reply.Refused refusal) next = IndexRefusal machine
 IndexStep machine name texts _ next = ⊥
 
 abbrev pub index_form : OrderForm (Name × Data)
-index_form = record { Answers = λ machine asked reply next. IndexStep machine asked.0 (texts_of_array asked.1) reply next; of_state = false }
+index_form = moving (λ machine asked reply next. IndexStep machine asked.0 (texts_of_array asked.1) reply next)

@@ -1,5 +1,5 @@
 -- What a program keeps of the machine: its store, its producer and its consumer, and what a call that answers an order means for them.
-use Rattle.std.specs.Prelude.{◌≡◌, length, false, Option, Some, Result, IfOk, IfSome}
+use Rattle.std.specs.Prelude.{◌≡◌, ℕ, [], length, false, Option, Some, None, Result, IfOk, IfSome}
 use Rattle.std.specs.Option.{option_map}
 use Rattle.hol_io.specs.Store.{Store}
 use Rattle.write_engine.specs.Cycle.{no_rows}
@@ -9,21 +9,44 @@ use Rattle.hol_answers.specs.declared.reply.Reply.{Reply}
 use Rattle.hollow_machine.specs.State.{Machine}
 use Rattle.state_blobs.specs.Published.{published_of}
 
--- What is kept from line to line beside the store: a producer, where there is one, and where the consumer stands, once it has a state.
+-- What is kept of a consumer from line to line: where it stands, once it has a state, and the version to which its last load or step that was not refused
+-- led.
+pub record Reader : Type 0 where
+  pub consumer : Option Position
+  pub version : Option ℕ
+
+abbrev pub reader_of : Option Position → Option ℕ → Reader
+reader_of consumer version = record { consumer = consumer; version = version }
+
+-- What is kept from line to line beside the store: a producer, where there is one, and what is kept of the consumer.
 pub record Kept : Type 0 where
   pub producer : Option Production
-  pub consumer : Option Position
+  pub reader : Reader
 
--- The same with this producer, and with this consumer.
+-- A consumer without a state; and it, without a producer.
+abbrev pub new_reader : Reader
+new_reader = reader_of None None
+
+abbrev pub nothing_kept : Kept
+nothing_kept = record { producer = None; reader = new_reader }
+
+-- The same with this producer, and with this of the consumer.
 abbrev pub kept_with_producer : Kept → Option Production → Kept
 kept_with_producer kept producer = record kept { producer = producer }
 
-abbrev pub kept_with_consumer : Kept → Option Position → Kept
-kept_with_consumer kept consumer = record kept { consumer = consumer }
+abbrev pub kept_with_reader : Kept → Reader → Kept
+kept_with_reader kept reader = record kept { reader = reader }
 
--- The machine over a store whose producer is the one that is kept, and whose consumer stands where the one that is kept does.
+-- The machine over a store whose producer is the one that is kept, and whose consumer stands where the one that is kept does. No older states are kept.
 abbrev pub machine_of : Store → Kept → Machine
-machine_of store kept = record { store = store; producer = option_map published_of kept.producer; consumer = kept.consumer }
+machine_of store kept = record {
+  store = store;
+  producer = option_map published_of kept.producer;
+  consumer = kept.reader.consumer;
+  version = kept.reader.version;
+  bound = 0;
+  past = [];
+}
 
 -- A producer between two cycles: the next one is open, and has no rows.
 pub record IsResting (kept : Production) : Type 0 where
@@ -40,7 +63,7 @@ abbrev pub MovesProducer : {E : Type 0} → (Machine → Reply → Machine → T
 MovesProducer IsStep held producer held' producer' result =
     (kept : Kept) → Moves IsStep held (kept_with_producer kept producer) held' (kept_with_producer kept producer') result
 
--- What the answer of an order of a consumer means over a store that stays, whatever else is kept, which stays too.
-abbrev pub MovesConsumer : {E : Type 0} → (Machine → Reply → Machine → Type 0) → Option Store → Option Position → Option Position → Result Reply E → Type 0
-MovesConsumer IsStep held consumer consumer' result =
-    (kept : Kept) → Moves IsStep held (kept_with_consumer kept consumer) held (kept_with_consumer kept consumer') result
+-- What the answer of an order of a consumer means over a store that stays, whatever producer is kept, which stays too.
+abbrev pub MovesReader : {E : Type 0} → (Machine → Reply → Machine → Type 0) → Option Store → Reader → Reader → Result Reply E → Type 0
+MovesReader IsStep held reader reader' result =
+    (kept : Kept) → Moves IsStep held (kept_with_reader kept reader) held (kept_with_reader kept reader') result

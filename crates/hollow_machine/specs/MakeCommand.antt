@@ -1,16 +1,16 @@
 -- The command `make`: the orders of its script, answered one after another, and its one line.
-use Rattle.std.specs.Prelude.{◌≡◌, ◌⊎◌, ℕ, List, [], ◌∷◌, ◌++◌, true, false, Some, IsSomeAnd, drop, length, reverse}
+use Rattle.std.specs.Prelude.{◌≡◌, ◌⊎◌, ℕ, List, [], ◌∷◌, ◌++◌, true, false, Option, Some, None, IsSomeAnd, drop, length, reverse}
 use Rattle.std.specs.FinMap.{keys}
 use Rattle.std.specs.List.{range_with_len}
 use Rattle.film_script.specs.Films.{cycle_tag, film_schemas, films}
 use Rattle.hol_io.specs.Store.{Store}
 use Rattle.row_model.specs.Table.{Table}
 use Rattle.row_model.specs.BothStates.{rows_in}
-use Rattle.hol_answers.specs.Reply.{is_refusal}
+use Rattle.hol_answers.specs.Reply.{is_refusal, published_by}
 use Rattle.hol_answers.specs.declared.refusal.Refusal.{Refusal}
 use Rattle.hol_answers.specs.declared.reply.Made.{Made}
 use Rattle.hol_answers.specs.declared.reply.Reply.{Reply}
-use Rattle.hol_answers.specs.declared.reply.Reply.TheVariants.{Cycle, Make, Refused}
+use Rattle.hol_answers.specs.declared.reply.Reply.TheVariants.{Make, Refused}
 use Rattle.state_blobs.specs.Published.{new_producer}
 use Rattle.hollow_machine.specs.CheckOrder.{CheckReply}
 use Rattle.hollow_machine.specs.CycleOrder.{CycleStep}
@@ -19,16 +19,20 @@ use Rattle.hollow_machine.specs.State.{Machine, started, with_producer}
 
 -- what the cycle of this number asks for: the films that it shows, under its number and its tag
 abbrev pub film_cycle : ℕ → ℕ → ℕ → AskedCycle
-film_cycle seed rows cycle = record { version = cycle; tag = cycle_tag seed cycle; add = given (films seed rows cycle) }
+film_cycle seed rows cycle = record { version = cycle; tag = cycle_tag seed cycle; add = given (films seed rows cycle); snapshot = true }
 
 -- the machine behind the order `model` of the script's schemas
 abbrev pub film_machine : Store → Machine
 film_machine store = with_producer (started store) (Some (new_producer film_schemas))
 
+-- a version, if there is one, as a list
+abbrev pub one_or_none : Option ℕ → List ℕ
+one_or_none None = []
+one_or_none (Some version) = version ∷ []
+
 -- the versions that an answer publishes
-abbrev pub published_by : Reply → List ℕ
-published_by (Cycle names true version) = version ∷ []
-published_by _ = []
+abbrev pub versions_published : Reply → List ℕ
+versions_published answer = one_or_none (published_by answer)
 
 -- The cycles of these numbers are answered one after another, and none is refused; these versions are published, and this is the machine behind
 -- the last one.
@@ -36,7 +40,7 @@ abbrev pub PassesCycles : ℕ → ℕ → Machine → List ℕ → List ℕ → 
 PassesCycles seed rows machine [] published next = (published ≡ []) × (next ≡ machine)
 PassesCycles seed rows machine (cycle ∷ cycles) published next =
     (answer : Reply) × (between : Machine) × (others : List ℕ) × CycleStep machine (film_cycle seed rows cycle) answer between × (is_refusal answer ≡ false)
-    × PassesCycles seed rows between cycles others next × (published ≡ published_by answer ++ others)
+    × PassesCycles seed rows between cycles others next × (published ≡ versions_published answer ++ others)
 
 -- One of the cycles is the first that is refused, for this, and this is the machine behind it.
 pub record RefusesOneOf (seed rows : ℕ) (machine : Machine) (cycles : List ℕ) (refusal : Refusal) (next : Machine) : Type 0 where

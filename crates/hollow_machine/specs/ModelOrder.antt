@@ -1,5 +1,5 @@
 -- The order `model`: what it answers, and the machine behind it.
-use Rattle.std.specs.Prelude.{◌≡◌, ◌⊎◌, ℕ, List, Some, None, codes, length, IsSomeAnd, false}
+use Rattle.std.specs.Prelude.{◌≡◌, ◌⊎◌, ℕ, List, Some, None, codes, length, IsSomeAnd}
 use Rattle.serde_json.specs.Data.{Data}
 use Rattle.serde_json.specs.Find.{at}
 use Rattle.schema_model.specs.declared.model.rule.Rule.{Rule}
@@ -13,7 +13,7 @@ use Rattle.hol_answers.specs.declared.reply.Reply.{Reply}
 use Rattle.hol_answers.specs.declared.reply.Reply.TheVariants.{Model, Refused}
 use Rattle.hollow_machine.specs.State.{Machine, with_producer}
 use Rattle.state_blobs.specs.Published.{new_producer}
-use Rattle.hollow_machine.specs.Forms.{OrderForm}
+use Rattle.hollow_machine.specs.Forms.{OrderForm, moving}
 
 -- The schemas that the value stands for break this rule first, and the type at this index is the first that breaks it. A
 -- FLOAT or a DOUBLE breaks a rule too, though no schema has one.
@@ -41,4 +41,4 @@ ModelStep machine value (Refused refusal) next = ModelRefusal machine value refu
 ModelStep machine value _ next = ⊥
 
 abbrev pub model_form : OrderForm Data
-model_form = record { Answers = λ machine value reply next. ModelStep machine value reply next; of_state = false }
+model_form = moving (λ machine value reply next. ModelStep machine value reply next)

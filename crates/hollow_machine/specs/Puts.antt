@@ -1,5 +1,5 @@
 -- The puts of an order and of a line, in their order: those by which a cycle publishes.
-use Rattle.std.specs.Prelude.{◌≡◌, ◌≤◌, ℕ, ℤ, List, [], All, None, IsSomeAnd, length}
+use Rattle.std.specs.Prelude.{◌≡◌, ◌≤◌, ℕ, ℤ, List, [], All, Option, Some, None, IsSome, IsSomeAnd, length}
 use Rattle.hol_io.specs.Store.{Store}
 use Rattle.row_model.specs.PlainTree.{PlainTree}
 use Rattle.row_model.specs.Table.{Table}
@@ -27,15 +27,27 @@ abbrev pub PutsAfter : Store → Published → AskedCycle → List Put → Type 
 PutsAfter store last asked puts =
     MayFollow store last.version asked.version asked.tag
     × ((trees : List (ℕ × PlainTree)) × (rows : Table) × (changed : List ℕ)
-    × GivesTrees last.model asked.add trees × Makes last trees rows changed × Publishes last changed × ArePutsOf last rows asked.version asked.tag puts)
+    × GivesTrees last asked.add trees × Makes last trees rows changed × Publishes last changed × ArePutsOf last rows asked.version asked.tag puts)
 
 abbrev pub CyclePuts : AskedCycle → Machine → List Put → Type 0
 CyclePuts asked machine puts = IsSomeAnd machine.producer (λ last. PutsAfter machine.store last asked puts)
 
--- The puts of an order: those of a cycle that publishes; no other order puts anything.
+-- The cycle that an order asks for, if it asks for one.
+abbrev pub asks_for : Order → Option AskedCycle
+asks_for (order.Cycle next_state) = Some (asked_cycle (asked_state next_state))
+asks_for _ = None
+
+-- The order may put blobs.
+abbrev pub MayPut : Order → Type 0
+MayPut order = IsSome (asks_for order)
+
+-- The puts of an order that asks for this cycle, or for none: those of a cycle that publishes; no other order puts anything.
+abbrev pub PutsFor : Option AskedCycle → Machine → List Put → Type 0
+PutsFor None machine puts = puts ≡ []
+PutsFor (Some asked) machine puts = CyclePuts asked machine puts
+
 abbrev pub OrderPuts : Order → Machine → List Put → Type 0
-OrderPuts (order.Cycle next_state) machine puts = CyclePuts (asked_cycle (asked_state next_state)) machine puts
-OrderPuts _ machine puts = puts ≡ []
+OrderPuts order machine puts = PutsFor (asks_for order) machine puts
 
 -- The puts of a line: those of the order that it is.
 abbrev pub LinePuts : List ℕ → Machine → List Put → Type 0

@@ -1,5 +1,5 @@
 -- The records of a cycle, and which trees they give: as JSON, those under the name of each type of the model, types in model order.
-use Rattle.std.specs.Prelude.{◌≡◌, ℕ, ℤ, List, [], ◌∷◌, ◌++◌, All, IsOk, IsSome, IsSomeAnd, None, Ok, Err, length, map, flat_map, slice_get}
+use Rattle.std.specs.Prelude.{◌≡◌, ℕ, ℤ, List, [], ◌∷◌, ◌++◌, All, Bool, true, IsOk, IsSome, IsSomeAnd, None, Ok, Err, length, map, flat_map, slice_get}
 use Rattle.std.specs.List.{AllZip, range_with_len, zip}
 use Rattle.std.specs.Option.{option_map_or, option_and_then}
 use Rattle.serde_json.specs.Data.{Data, Items, no_items, item, Members, no_members, member}
@@ -9,6 +9,7 @@ use Rattle.schema_model.specs.declared.schema.Schema.{Schema}
 use Rattle.schema_model.specs.Parts.{index_of_type}
 use Rattle.row_model.specs.PlainTree.{PlainTree}
 use Rattle.record_json.specs.ReadTree.{read_tree}
+use Rattle.state_blobs.specs.Published.{Published}
 use Rattle.hol_orders.specs.Parts.{AskedState}
 use Rattle.hol_answers.specs.declared.refusal.Refusal.{Refusal}
 use Rattle.hol_answers.specs.declared.refusal.Refusal.TheVariants.{BadRecord, NoType}
@@ -18,15 +19,16 @@ pub data Adding : Type 0 where
   spelled : Data → Adding
   given : List (ℕ × PlainTree) → Adding
 
--- What a cycle asks for: the version and the tag that the next state is to have, and the records that it adds.
+-- What a cycle asks for: the version and the tag that the next state is to have, the records that it adds, and whether its snapshot is to be put.
 pub record AskedCycle : Type 0 where
   pub version : ℕ
   pub tag : ℤ
   pub add : Adding
+  pub snapshot : Bool
 
 -- what an order asks for
 abbrev pub asked_cycle : AskedState → AskedCycle
-asked_cycle asked = record { version = asked.version; tag = asked.tag; add = spelled asked.add }
+asked_cycle asked = record { version = asked.version; tag = asked.tag; add = spelled asked.add; snapshot = true }
 
 -- A record of a cycle: the index of its type, its place among the records of the type, from 0, and its JSON.
 pub record Entry : Type 0 where
@@ -102,10 +104,10 @@ pub record SpellsTrees (schemas : List Schema) (add : Data) (trees : List (ℕ �
   pub types : AreTypes schemas add
   pub read : AreRead schemas (entries schemas add) trees
 
--- The records give these trees.
-abbrev pub GivesTrees : List Schema → Adding → List (ℕ × PlainTree) → Type 0
-GivesTrees schemas (spelled add) trees = SpellsTrees schemas add trees
-GivesTrees schemas (given records) trees = trees ≡ records
+-- The records give these trees behind the producer's last state.
+abbrev pub GivesTrees : Published → Adding → List (ℕ × PlainTree) → Type 0
+GivesTrees last (spelled add) trees = SpellsTrees last.model add trees
+GivesTrees last (given records) trees = trees ≡ records
 
 -- The records are JSON, of which this holds.
 abbrev pub IsSpelledAnd : Adding → (Data → Type 0) → Type 0

@@ -1,5 +1,5 @@
 -- The order `restore`: what it answers, and the machine behind it.
-use Rattle.std.specs.Prelude.{◌≡◌, ◌≢◌, ◌⊎◌, ℕ, List, Some, None, IsSomeAnd, slice_get, false}
+use Rattle.std.specs.Prelude.{◌≡◌, ◌≢◌, ◌⊎◌, ℕ, List, Some, None, IsSomeAnd, slice_get}
 use Rattle.hol_io.specs.declared.name.BlobName.TheVariants.{Announced, Snapshot}
 use Rattle.hol_io.specs.Store.{Store, told}
 use Rattle.schema_model.specs.declared.reason.Reason.TheVariants.{BadAnnounced}
@@ -15,7 +15,7 @@ use Rattle.hol_answers.specs.declared.reply.Reply.{Reply}
 use Rattle.hol_answers.specs.declared.reply.Reply.TheVariants.{Refused, Restore}
 use Rattle.state_blobs.specs.Published.{Published}
 use Rattle.hollow_machine.specs.Blobs.{SnapshotRefusal}
-use Rattle.hollow_machine.specs.Forms.{OrderForm}
+use Rattle.hollow_machine.specs.Forms.{OrderForm, moving}
 use Rattle.hollow_machine.specs.State.{Machine, with_producer}
 
 -- The store has an announced version, and it is this one.
@@ -63,4 +63,4 @@ RestoreStep machine version (Refused refusal) next = RestoreRefusal machine.stor
 RestoreStep machine version _ next = ⊥
 
 abbrev pub restore_form : OrderForm ℕ
-restore_form = record { Answers = λ machine version reply next. RestoreStep machine version reply next; of_state = false }
+restore_form = moving (λ machine version reply next. RestoreStep machine version reply next)

@@ -1,13 +1,15 @@
 -- What the machine answers to an order, and the machine behind it.
+use Rattle.std.specs.Prelude.{Option}
 use Rattle.hol_orders.specs.declared.kind.Kind.{Kind}
 use Rattle.hol_orders.specs.declared.kind.Kind.TheVariants.{Model, Cycle, Restore, Load, Step as StepKind, Index, Get, Find, Live, Row, Has, At, Past, Check, Stat}
 use Rattle.hol_orders.specs.declared.order.Order.{Order}
 use Rattle.hol_orders.specs.Kind.{shape}
 use Rattle.hol_orders.specs.Order.{asked_of, kind_of}
 use Rattle.hol_answers.specs.declared.reply.Reply.{Reply}
+use Rattle.read_engine.specs.Position.{Position}
 use Rattle.hollow_machine.specs.CheckOrder.{check_form}
 use Rattle.hollow_machine.specs.CycleOrder.{cycle_form}
-use Rattle.hollow_machine.specs.Forms.{OrderForm}
+use Rattle.hollow_machine.specs.Forms.{IsLooking, LooksBy, OrderForm, StepBy, unbuilt}
 use Rattle.hollow_machine.specs.IndexOrder.{index_form}
 use Rattle.hollow_machine.specs.KeyOrders.{find_form, get_form}
 use Rattle.hollow_machine.specs.LoadOrder.{load_form}
@@ -19,7 +21,7 @@ use Rattle.hollow_machine.specs.State.{Machine}
 use Rattle.hollow_machine.specs.StatOrder.{stat_form}
 use Rattle.hollow_machine.specs.StepOrder.{step_form}
 
--- What the orders of each kind are answered.
+-- What the orders of each kind are answered. Those of the last line are not built.
 abbrev pub form : (kind : Kind) → OrderForm (shape kind).Asked
 form Model = model_form
 form Cycle = cycle_form
@@ -36,7 +38,15 @@ form At = at_form
 form Past = past_form
 form Check = check_form
 form Stat = stat_form
+form _ = unbuilt
 
 -- What an order is answered.
 abbrev pub Step : Machine → Order → Reply → Machine → Type 0
-Step machine order reply next = (form (kind_of order)).Answers machine (asked_of order) reply next
+Step machine order reply next = StepBy (form (kind_of order)) machine (asked_of order) reply next
+
+-- The order looks at where the consumer stands, and changes nothing; and what it is answered then.
+abbrev pub IsLook : Order → Type 0
+IsLook order = IsLooking (form (kind_of order))
+
+abbrev pub LooksAt : Order → Option Position → Reply → Type 0
+LooksAt order consumer reply = LooksBy (form (kind_of order)) consumer (asked_of order) reply

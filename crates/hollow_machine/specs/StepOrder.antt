@@ -1,5 +1,5 @@
 -- The order `step`: what it answers, and the machine behind it.
-use Rattle.std.specs.Prelude.{◌≡◌, ℕ, List, Option, Some, None, IsSomeAnd, if◌then◌else◌, nat_lt, false}
+use Rattle.std.specs.Prelude.{◌≡◌, ℕ, List, Option, Some, None, IsSomeAnd, if◌then◌else◌, nat_lt}
 use Rattle.hol_io.specs.declared.name.BlobName.{BlobName}
 use Rattle.hol_io.specs.declared.name.BlobName.TheVariants.{Delta, Reverse}
 use Rattle.hol_io.specs.Store.{told}
@@ -12,8 +12,8 @@ use Rattle.hol_answers.specs.declared.refusal.Refusal.TheVariants.{NoState}
 use Rattle.hol_answers.specs.declared.reply.Reply.{Reply}
 use Rattle.hol_answers.specs.declared.reply.Reply.TheVariants.{Refused, Step}
 use Rattle.hollow_machine.specs.Blobs.{TellsOf}
-use Rattle.hollow_machine.specs.State.{Machine, with_consumer}
-use Rattle.hollow_machine.specs.Forms.{OrderForm}
+use Rattle.hollow_machine.specs.State.{Machine, moved_to}
+use Rattle.hollow_machine.specs.Forms.{OrderForm, moving}
 
 -- The blob that leads from one version to another one: the delta where versions rise, and else the reverse delta.
 abbrev pub step_name : ℕ → ℕ → BlobName
@@ -28,13 +28,13 @@ abbrev pub StepRefusal : BlobName → Option (List ℕ) → Option Position → 
 StepRefusal name content None refusal = refusal ≡ NoState
 StepRefusal name content (Some now) refusal = DeltaRefusal name content now refusal
 
--- The consumer moves along the blob, to the tag of its destination, or the order is refused and all stays.
-abbrev pub StepStep : Machine → BlobName → Reply → Machine → Type 0
-StepStep machine name (Step tag) next =
+-- The consumer moves along the blob, to the tag of its destination and to this version, or the order is refused and all stays.
+abbrev pub StepStep : Machine → BlobName → ℕ → Reply → Machine → Type 0
+StepStep machine name version (Step tag) next =
     IsSomeAnd machine.consumer (λ now. (blob : List ℕ) × (to : Position) × (told (Some machine.store) name ≡ Some blob) × StepsBy blob now to × (tag ≡ to.tag)
-    × (next ≡ with_consumer machine (Some to)))
-StepStep machine name (Refused refusal) next = StepRefusal name (told (Some machine.store) name) machine.consumer refusal × (next ≡ machine)
-StepStep machine name _ next = ⊥
+    × (next ≡ moved_to machine version to))
+StepStep machine name version (Refused refusal) next = StepRefusal name (told (Some machine.store) name) machine.consumer refusal × (next ≡ machine)
+StepStep machine name version _ next = ⊥
 
 abbrev pub step_form : OrderForm (ℕ × ℕ)
-step_form = record { Answers = λ machine asked reply next. StepStep machine (step_name asked.0 asked.1) reply next; of_state = false }
+step_form = moving (λ machine asked reply next. StepStep machine (step_name asked.0 asked.1) asked.1 reply next)

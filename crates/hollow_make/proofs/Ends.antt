@@ -24,7 +24,7 @@ use Rattle.hollow_machine.specs.CheckOrder.{CheckReply}
 use Rattle.hollow_machine.specs.Kept.{IsResting}
 use Rattle.hollow_machine.specs.Made.{LeavesCycles, StopsCycles}
 use Rattle.hollow_machine.specs.MakeCommand.{MakeReply, SumsUp, film_machine, there_and_back}
-use Rattle.hollow_machine.specs.State.{Machine}
+use Rattle.hollow_machine.specs.State.{Machine, started, with_producer}
 use Rattle.hollow_make.specs.Parts.{HaltsMake, HaltsScript, IsEnd, TellsCycles, TellsEnd, TellsMake, TellsScript, machine_at}
 
 -- The script's schemas break no rule.
@@ -56,7 +56,7 @@ pub makes : (seed rows cycles : ℕ) (held held' : Option Store) (first now : Pr
     → TellsMake {E = OrderStop} seed rows cycles held held' (Some now) (Ok answer)
 makes seed rows cycles None held' first now answer start tells = tt
 makes seed rows cycles (Some store) held' first now answer start (next, told, is) =
-    (next, told, subst (λ (p : Published). MakeReply seed rows (range_with_len 1 cycles) (record { store = store; producer = Some p; consumer = None }) answer (machine_at next (Some now))) (start_is first start) is)
+    (next, told, subst (λ (p : Published). MakeReply seed rows (range_with_len 1 cycles) (with_producer (started store) (Some p)) answer (machine_at next (Some now))) (start_is first start) is)
 
 -- The first refusal of the cycles is the answer.
 pub script_refused : (seed rows cycles : ℕ) (held held' : Option Store) (first now : Production) (published : List ℕ) (refused : Option Reply) (answer : Reply) → refused ≡ Some answer
@@ -136,7 +136,7 @@ behind_cycles seed rows cycles held mid held' first now published refused (Err w
 pub make_halts : (seed rows cycles : ℕ) (held held' : Option Store) (first : Production) → IsStart film_schemas first → HaltsScript seed rows cycles held first held' → HaltsMake seed rows cycles held held'
 make_halts seed rows cycles None held' first start halts = tt
 make_halts seed rows cycles (Some store) held' first start (next, told, stops) =
-    (next, told, subst (λ (p : Published). StopsCycles seed rows (record { store = store; producer = Some p; consumer = None }) (range_with_len 1 cycles) next) (start_is first start) stops)
+    (next, told, subst (λ (p : Published). StopsCycles seed rows (with_producer (started store) (Some p)) (range_with_len 1 cycles) next) (start_is first start) stops)
 
 same_left : (seed rows : ℕ) (machine : Machine) (ahead : List ℕ) → LeavesCycles seed rows machine ahead machine.store
 same_left seed rows machine [] = refl

@@ -14,10 +14,10 @@ use Rattle.hol_answers.specs.Reply.{is_refusal}
 use Rattle.hol_answers.specs.declared.reply.Reply.{Reply}
 use Rattle.hol_answers.specs.declared.reply.Reply.TheVariants.{Cycle, Refused}
 use Rattle.hollow_machine.specs.CycleOrder.{CycleStep}
-use Rattle.hollow_machine.specs.Kept.{IsResting, MovesProducer}
-use Rattle.hollow_machine.specs.Left.{HaltsProducer, HasPart, LeavesCycle}
+use Rattle.hollow_machine.specs.Kept.{IsResting, MovesProducer, nothing_kept}
+use Rattle.hollow_machine.specs.Left.{HaltsProducer, HasPart}
 use Rattle.hollow_machine.specs.Made.{LeavesCycles}
-use Rattle.hollow_machine.specs.MakeCommand.{PassesCycles, film_cycle, published_by}
+use Rattle.hollow_machine.specs.MakeCommand.{PassesCycles, film_cycle, versions_published}
 use Rattle.hollow_machine.specs.Puts.{CyclePuts}
 use Rattle.hollow_machine.specs.State.{Machine}
 use Rattle.hollow_make.specs.Parts.{HaltsScript, TellsCycles, machine_at, publishes}
@@ -25,25 +25,25 @@ use Rattle.hollow_make.specs.Walked.{AreBelow, ArePublished}
 
 -- a cycle behind others
 passes_more : (seed rows : ℕ) (machine between next : Machine) (cycles published : List ℕ) (cycle : ℕ) (answer : Reply) → PassesCycles seed rows machine cycles published between
-    → CycleStep between (film_cycle seed rows cycle) answer next → is_refusal answer ≡ false → PassesCycles seed rows machine (cycles ++ cycle ∷ []) (published ++ published_by answer) next
+    → CycleStep between (film_cycle seed rows cycle) answer next → is_refusal answer ≡ false → PassesCycles seed rows machine (cycles ++ cycle ∷ []) (published ++ versions_published answer) next
 passes_more seed rows machine between next [] published cycle answer (none, same) step not =
-    let are : published ++ published_by answer ≡ published_by answer ++ [] = ap (λ ns. ns ++ published_by answer) none ∙ sym (append-nil (published_by answer)) in
+    let are : published ++ versions_published answer ≡ versions_published answer ++ [] = ap (λ ns. ns ++ versions_published answer) none ∙ sym (append-nil (versions_published answer)) in
     (answer, next, [], subst (λ (m : Machine). CycleStep m (film_cycle seed rows cycle) answer next) same step, not, (refl, refl), are)
 passes_more seed rows machine between next (c ∷ cs) published cycle answer (reply, there, others, first, passed, rest, are) step not = (
   reply,
   there,
-  others ++ published_by answer,
+  others ++ versions_published answer,
   first,
   passed,
   passes_more seed rows there between next cs others cycle answer rest step not,
-  ap (λ ns. ns ++ published_by answer) are ∙ append_assoc (published_by reply) others (published_by answer),
+  ap (λ ns. ns ++ versions_published answer) are ∙ append_assoc (versions_published reply) others (versions_published answer),
 )
 
 -- the version that is noted of an answer to this cycle, where it publishes
 abbrev noted : ℕ → Reply → List ℕ
 noted cycle answer = if publishes answer then cycle ∷ [] else []
 
-noted_is : (seed rows cycle : ℕ) (machine next : Machine) (answer : Reply) → CycleStep machine (film_cycle seed rows cycle) answer next → noted cycle answer ≡ published_by answer
+noted_is : (seed rows cycle : ℕ) (machine next : Machine) (answer : Reply) → CycleStep machine (film_cycle seed rows cycle) answer next → noted cycle answer ≡ versions_published answer
 noted_is seed rows cycle machine next (Cycle names true version) step = ap (λ n. n ∷ []) (sym step.0)
 noted_is seed rows cycle machine next (Cycle names false version) step = refl
 noted_is seed rows cycle machine next (Refused why) step = refl
@@ -127,7 +127,7 @@ MovesBy seed rows cycle held before held' after answer =
 step_at : (seed rows cycle : ℕ) (held held' : Option Store) (store : Store) (before after : Production) (answer : Reply) → held ≡ Some store → MovesBy seed rows cycle held before held' after answer
     → (next : Store) × (held' ≡ Some next) × CycleStep (machine_at store (Some before)) (film_cycle seed rows cycle) answer (machine_at next (Some after))
 step_at seed rows cycle held held' store before after answer is moves =
-    subst (λ (h : Option Store). MovesBy seed rows cycle h before held' after answer) is moves (record { producer = None; consumer = None })
+    subst (λ (h : Option Store). MovesBy seed rows cycle h before held' after answer) is moves nothing_kept
 
 pub run_step : (seed rows : ℕ) (held mid held' : Option Store) (first before after : Production) (place : ℕ) (published versions : List ℕ) (answer : Reply) → HasRun seed rows held first place mid before published
     → MovesBy seed rows (place + 1) mid before held' after answer → is_refusal answer ≡ false → after.schemas ≡ film_schemas → IsResting after
@@ -150,9 +150,9 @@ run_step seed rows held mid held' first before after place published versions an
         let more = passes_more seed rows (machine_at store (Some first)) (machine_at there (Some before)) (machine_at next (Some after)) (range_with_len 1 place) published (place + 1) answer so_far step not in
         let one : 1 + place ≡ place + 1 = omega arith in
         let cycles : range_with_len 1 (place + 1) ≡ range_with_len 1 place ++ (place + 1) ∷ [] = range_join 1 place 1 ∙ ap (λ k. range_with_len 1 place ++ k ∷ []) one in
-        let same : published ++ published_by answer ≡ published ++ (if publishes answer then (place + 1) ∷ [] else []) =
+        let same : published ++ versions_published answer ≡ published ++ (if publishes answer then (place + 1) ∷ [] else []) =
         ap (λ ns. published ++ ns) (sym (noted_is seed rows (place + 1) (machine_at there (Some before)) (machine_at next (Some after)) answer step)) in
-        let at_cycles = subst (λ ns. PassesCycles seed rows (machine_at store (Some first)) ns (published ++ published_by answer) (machine_at next (Some after))) (sym cycles) more in
+        let at_cycles = subst (λ ns. PassesCycles seed rows (machine_at store (Some first)) ns (published ++ versions_published answer) (machine_at next (Some after))) (sym cycles) more in
         (next, told, subst (λ ns. PassesCycles seed rows (machine_at store (Some first)) (range_with_len 1 (place + 1)) ns (machine_at next (Some after))) same at_cycles)
 
 -- all cycles were run
@@ -233,18 +233,17 @@ part_left seed rows machine cycle ahead store (inl same) = inl same
 part_left seed rows machine cycle ahead store (inr (puts, are, first)) = inr (puts, are, first)
 
 -- what the cycle at a place leaves that stops
-abbrev HaltsBy : ℕ → ℕ → ℕ → Option Store → Production → Option Store → Production → OrderStop → Type 0
-HaltsBy seed rows cycle held before held' after why = HaltsProducer (LeavesCycle (film_cycle seed rows cycle)) held (Some before) held' (Some after) (Err why)
+abbrev HaltsBy : ℕ → ℕ → ℕ → Option Store → Production → Option Store → OrderStop → Type 0
+HaltsBy seed rows cycle held before held' why = HaltsProducer (CyclePuts (film_cycle seed rows cycle)) held (Some before) held' (Err why)
 
 -- The next cycle stops.
-pub run_halts : (seed rows cycles : ℕ) (held mid held' : Option Store) (first before after : Production) (place : ℕ) (published : List ℕ) (why : OrderStop) → place < cycles
-    → HasRun seed rows held first place mid before published → HaltsBy seed rows (place + 1) mid before held' after why → HaltsScript seed rows cycles held first held'
-run_halts seed rows cycles None mid held' first before after place published why inside run halts = tt
-run_halts seed rows cycles (Some store) mid held' first before after place published why inside run halts =
+pub run_halts : (seed rows cycles : ℕ) (held mid held' : Option Store) (first before : Production) (place : ℕ) (published : List ℕ) (why : OrderStop) → place < cycles
+    → HasRun seed rows held first place mid before published → HaltsBy seed rows (place + 1) mid before held' why → HaltsScript seed rows cycles held first held'
+run_halts seed rows cycles None mid held' first before place published why inside run halts = tt
+run_halts seed rows cycles (Some store) mid held' first before place published why inside run halts =
     let (there, is, passes) = run.passes in
     let machine = machine_at there (Some before) in
-    let (next, told, (now, part, next_is)) = subst (λ (h : Option Store). HaltsBy seed rows (place + 1) h before held' after why) is halts (record { producer = None; consumer = None }) in
-    let same : now ≡ next = sym (ap (λ (m : Machine). m.store) next_is) in
+    let (next, told, part) = subst (λ (h : Option Store). HaltsBy seed rows (place + 1) h before held' why) is halts nothing_kept in
     let rest = cycles - (place + 1) in
     let all : cycles ≡ place + suc rest = omega (arith, inside) in
     let one : 1 + place ≡ place + 1 = omega arith in (
@@ -257,6 +256,6 @@ run_halts seed rows cycles (Some store) mid held' first before after place publi
         published = published;
         next = machine;
         passes = passes;
-        left = part_left seed rows machine (place + 1) (range_with_len (place + 1 + 1) rest) next (subst (HasPart (CyclePuts (film_cycle seed rows (place + 1)) machine) there) same part);
+        left = part_left seed rows machine (place + 1) (range_with_len (place + 1 + 1) rest) next part;
       },
     )

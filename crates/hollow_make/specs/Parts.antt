@@ -9,7 +9,7 @@ use Rattle.hol_answers.specs.declared.reply.Reply.{Reply}
 use Rattle.hol_answers.specs.declared.reply.Reply.TheVariants.{Cycle, Make, Refused}
 use Rattle.hol_answers.specs.declared.refusal.Refusal.{Refusal}
 use Rattle.hollow_machine.specs.CheckOrder.{CheckReply}
-use Rattle.hollow_machine.specs.Kept.{machine_of}
+use Rattle.hollow_machine.specs.Kept.{kept_with_producer, machine_of, nothing_kept}
 use Rattle.hollow_machine.specs.Made.{StopsCycles, StopsMake}
 use Rattle.hollow_machine.specs.MakeCommand.{MakeReply, Makes, PassesCycles, RefusesOneOf, SumsUp, there_and_back}
 use Rattle.hollow_machine.specs.State.{Machine}
@@ -21,7 +21,7 @@ publishes _ = false
 
 -- the machine of the script over a store, whose producer is this one
 abbrev pub machine_at : Store → Option Production → Machine
-machine_at store producer = machine_of store (record { producer = producer; consumer = None })
+machine_at store producer = machine_of store (kept_with_producer nothing_kept producer)
 
 -- What the command answers, and the producer behind it.
 abbrev pub TellsMake : {E : Type 0} → ℕ → ℕ → ℕ → Option Store → Option Store → Option Production → Result Reply E → Type 0

@@ -8,7 +8,9 @@ use Rattle.hol_io.specs.Store.{Store}
 use Rattle.hol_io.specs.Turn.{IsEnded}
 use Rattle.hol_answers.specs.declared.reply.Reply.{Reply}
 use Rattle.hol_answers.specs.Reply.{is_refusal, line_of}
-use Rattle.hollow_machine.specs.Kept.{machine_of}
+use Rattle.std.specs.Option.{option_map}
+use Rattle.state_blobs.specs.Published.{published_of}
+use Rattle.hollow_machine.specs.Kept.{machine_of, reader_of}
 use Rattle.hollow_machine.specs.Script.{LineStep, Script, longest_line}
 use Rattle.hollow_machine.specs.State.{Machine, started}
 use Rattle.hollow_machine.proofs.Scripts.{join}
@@ -211,7 +213,7 @@ none_has first before waiting machine at_start nothing = record {
 }
 
 at_start : (first : Store) (kept : Keep) → KeepsNothing kept → machine_with first kept ≡ started first
-at_start first kept none = (λ i. machine_of first (record { producer = none.producer i; consumer = none.consumer i }))
+at_start first kept none = (λ i. machine_of first (record { producer = none.producer i; reader = reader_of (none.consumer i) (none.version i) }))
 
 pub starts_answered : (left : Option (List ℕ)) (held : Option Store) (reading : Reading) (kept : Keep) (before : Option (List ℕ)) (waiting : List ℕ) → KeepsNothing kept → waiting ≡ [] →
     ((bytes : List ℕ) → IsAhead reading bytes bytes longest_input) → reading.line_max ≡ longest_line →
@@ -227,11 +229,12 @@ starts_answered (Some bytes) (Some first) reading kept before waiting none nothi
 }
 
 -- a run that stops before its first line
-pub stops_at_start : (left : Option (List ℕ)) (held : Option Store) (before : Option (List ℕ)) (waiting : List ℕ) → waiting ≡ [] →
-    IfSome left (λ bytes. IfSome held (λ first. HasStopped bytes first left held before before waiting stop.Memory))
-stops_at_start None held before waiting nothing = tt
-stops_at_start (Some bytes) None before waiting nothing = tt
-stops_at_start (Some bytes) (Some first) before waiting nothing = ([], cut bytes, false, started first, first, refl, none_has first before waiting (started first) refl nothing, refl, inl refl)
+pub stops_at_start : (left : Option (List ℕ)) (held : Option Store) (keep : Keep) (before : Option (List ℕ)) (waiting : List ℕ) → KeepsNothing keep → waiting ≡ [] →
+    IfSome left (λ bytes. IfSome held (λ first. HasStopped bytes first left held keep before before waiting stop.Memory))
+stops_at_start None held keep before waiting none nothing = tt
+stops_at_start (Some bytes) None keep before waiting none nothing = tt
+stops_at_start (Some bytes) (Some first) keep before waiting none nothing =
+    ([], cut bytes, false, started first, first, refl, none_has first before waiting (started first) refl nothing, refl, inl refl, inl (ap (option_map published_of) none.producer))
 
 pub some_store : (a b : Store) → Some a ≡ Some b → a ≡ b
 some_store a b same = cc

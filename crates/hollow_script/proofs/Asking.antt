@@ -1,5 +1,5 @@
 -- What a line asks for, and that what waits is written before.
-use Rattle.std.proofs.Common.{◌≡◌, ◌<◌, ◌≤◌, ◌⊎◌, inl, inr, List, [], ◌∷◌, ◌++◌, ℕ, length, Bool, true, false, Option, Some, None, Ok, Err, refl, sym, ap, ◌∙◌, subst, append_assoc}
+use Rattle.std.proofs.Common.{◌≡◌, ◌<◌, ◌≤◌, ◌⊎◌, inl, inr, List, [], ◌∷◌, ◌++◌, ℕ, length, Bool, true, false, Option, Some, None, Ok, Err, refl, sym, ◌∙◌, subst, append_assoc}
 use Rattle.std.specs.Prelude.{IsErrOf}
 use Rattle.hol_io.specs.Lines.{Reading, cut}
 use Rattle.hol_io.specs.Store.{Store}
@@ -18,10 +18,11 @@ use Rattle.hol_answers.specs.declared.reply.Reply.TheVariants.{Refused}
 use Rattle.hollow_machine.specs.Script.{longest_line}
 use Rattle.hollow_machine.specs.State.{Machine}
 use Rattle.hollow_machine.specs.Step.{Step}
-use Rattle.hollow_machine.specs.Left.{HasPart, LeavesOrder}
+use Rattle.hollow_machine.specs.Left.{HasPart}
+use Rattle.hollow_machine.specs.Puts.{OrderPuts}
 use Rattle.hollow_machine.specs.Stopped.{LeavesAhead}
-use Rattle.hollow_script.specs.Asked.{AskedPuts, AskedStep, Asks, LeavesAsked}
-use Rattle.hollow_script.specs.Kept.{HaltsKept, MovesKept, machine_with}
+use Rattle.hollow_script.specs.Asked.{AskedPuts, AskedStep, Asks}
+use Rattle.hollow_script.specs.Kept.{HaltsKept, MovesKept, SameProducer, machine_with}
 use Rattle.hollow_script.specs.Scripted.{AnswersNext, AreTaken, AsksNext, HasGiven, TurnsNext, widened}
 use Rattle.hollow_script.proofs.Lining.{given_front}
 use Rattle.hollow_script.specs.declared.asked.Asked.{Asked}
@@ -100,18 +101,19 @@ module _ (bytes : List ℕ) (given : List (List ℕ)) (left : Option (List ℕ))
   part_ahead machine line it lines store asks (inr (puts, are, first)) = inr (puts, asks.puts machine puts are, first)
 
   puts_ahead : (held held' : Option Store) (keep keep' : Keep) (now : Store) (found : Option Asked) (it : Asked) (why : ScriptStop) → found ≡ Some it → held ≡ Some now →
-      AsksNext bytes given left reading (Ok found) → HaltsKept {E = ScriptStop} (λ machine next. LeavesAsked it machine next) held keep held' keep' (Err why) →
-      (ahead : List (List ℕ)) × (next : Store) × (cut bytes ≡ given ++ ahead) × (held' ≡ Some next) × LeavesAhead (machine_with now keep) ahead next
-  puts_ahead held held' keep keep' now found it why is told asks halts =
+      AsksNext bytes given left reading (Ok found) → HaltsKept {E = ScriptStop} (AskedPuts it) held keep held' (Err why) →
+      SameProducer keep keep' →
+      (ahead : List (List ℕ)) × (next : Store) × (cut bytes ≡ given ++ ahead) × (held' ≡ Some next) × LeavesAhead (machine_with now keep) ahead next × SameProducer keep keep'
+  puts_ahead held held' keep keep' now found it why is told asks halts same =
       let (line, has, line_asks_it) = subst (λ f. AsksNext bytes given left reading (Ok f)) is asks in
-      let (next, after, (store, part, next_is)) = subst (λ h. HaltsKept {E = ScriptStop} (λ machine next. LeavesAsked it machine next) h keep held' keep' (Err why)) told halts in
-      let front = given_front bytes left reading (given ++ line ∷ []) has in
-      let same : store ≡ next = sym (ap (λ (m : Machine). m.store) next_is) in (
+      let (next, after, part) = subst (λ h. HaltsKept {E = ScriptStop} (AskedPuts it) h keep held' (Err why)) told halts in
+      let front = given_front bytes left reading (given ++ line ∷ []) has in (
         line ∷ front.0,
         next,
         front.1 ∙ append_assoc given (line ∷ []) front.0,
         after,
-        part_ahead (machine_with now keep) line it front.0 next line_asks_it (subst (HasPart (AskedPuts it (machine_with now keep)) now) same part),
+        part_ahead (machine_with now keep) line it front.0 next line_asks_it part,
+        same,
       )
 
   same_ahead : (machine : Machine) (ahead : List (List ℕ)) → LeavesAhead machine ahead machine.store
@@ -126,18 +128,18 @@ module _ (bytes : List ℕ) (given : List (List ℕ)) (left : Option (List ℕ))
   asks_stop left' reading' held keep now stop.TooLong has told other asks = (asks, told)
   asks_stop left' reading' held keep now stop.Store has told other asks = absurd (other refl)
   asks_stop left' reading' held keep now stop.Memory has told other asks =
-      let front = given_front bytes left reading given has in (front.0, now, front.1, told, same_ahead (machine_with now keep) front.0)
+      let front = given_front bytes left reading given has in (front.0, now, front.1, told, same_ahead (machine_with now keep) front.0, refl)
 
   -- why what it asks for is not answered is why the line is not
   pub asked_halts : (held held' : Option Store) (keep keep' : Keep) (now : Store) (found : Option Asked) (it : Asked) (why : ScriptStop) → found ≡ Some it → held ≡ Some now →
       (why ≡ stop.Memory) ⊎ ((why ≡ stop.Store) ⊎ (why ≡ stop.Sink)) → (why ≡ stop.Sink → held' ≡ held) → AsksNext bytes given left reading (Ok found) →
-      HaltsKept {E = ScriptStop} (λ machine next. LeavesAsked it machine next) held keep held' keep' (Err why) →
+      HaltsKept {E = ScriptStop} (AskedPuts it) held keep held' (Err why) → SameProducer keep keep' →
       AnswersNext bytes given now left reading keep held' keep' (Err why)
-  asked_halts held held' keep keep' now found it stop.Sink is told others unput asks halts = unput refl ∙ told
-  asked_halts held held' keep keep' now found it stop.Source is told others unput asks halts = absurd (neither others (λ e. cc) (λ e. cc) (λ e. cc))
-  asked_halts held held' keep keep' now found it stop.TooLong is told others unput asks halts = absurd (neither others (λ e. cc) (λ e. cc) (λ e. cc))
-  asked_halts held held' keep keep' now found it stop.Store is told others unput asks halts = puts_ahead held held' keep keep' now found it stop.Store is told asks halts
-  asked_halts held held' keep keep' now found it stop.Memory is told others unput asks halts = puts_ahead held held' keep keep' now found it stop.Memory is told asks halts
+  asked_halts held held' keep keep' now found it stop.Sink is told others unput asks halts same = unput refl ∙ told
+  asked_halts held held' keep keep' now found it stop.Source is told others unput asks halts same = absurd (neither others (λ e. cc) (λ e. cc) (λ e. cc))
+  asked_halts held held' keep keep' now found it stop.TooLong is told others unput asks halts same = absurd (neither others (λ e. cc) (λ e. cc) (λ e. cc))
+  asked_halts held held' keep keep' now found it stop.Store is told others unput asks halts same = puts_ahead held held' keep keep' now found it stop.Store is told asks halts same
+  asked_halts held held' keep keep' now found it stop.Memory is told others unput asks halts same = puts_ahead held held' keep keep' now found it stop.Memory is told asks halts same
 
 -- as an order moves the machine, so does what asks for it
 pub order_moves : (held held' : Option Store) (keep keep' : Keep) (it : Asked) (order : Order) (reply : Reply) → it ≡ asked.Order order →
@@ -154,18 +156,17 @@ refused_moves None keep it refusal is = tt
 refused_moves (Some store) keep it refusal is =
     (store, refl, subst (λ a. AskedStep (machine_with store keep) a (Refused refusal) (machine_with store keep)) (sym is) (refl, refl))
 
--- what an order leaves that stops, what asks for it leaves
-pub order_halts : (held held' : Option Store) (keep keep' : Keep) (it : Asked) (order : Order) (why : OrderStop) (other : ScriptStop) → it ≡ asked.Order order →
-    HaltsKept {E = OrderStop} (λ machine next. LeavesOrder order machine next) held keep held' keep' (Err why) →
-    HaltsKept {E = ScriptStop} (λ machine next. LeavesAsked it machine next) held keep held' keep' (Err other)
-order_halts None held' keep keep' it order why other is halts = tt
-order_halts (Some store) held' keep keep' it order why other is halts =
-    (halts.0, halts.1, subst (λ a. LeavesAsked a (machine_with store keep) (machine_with halts.0 keep')) (sym is) halts.2)
+-- what an order leaves of the store that stops, what asks for it leaves
+pub order_halts : (held held' : Option Store) (keep : Keep) (it : Asked) (order : Order) (why : OrderStop) (other : ScriptStop) → it ≡ asked.Order order →
+    HaltsKept {E = OrderStop} (OrderPuts order) held keep held' (Err why) → HaltsKept {E = ScriptStop} (AskedPuts it) held keep held' (Err other)
+order_halts None held' keep it order why other is halts = tt
+order_halts (Some store) held' keep it order why other is halts =
+    (halts.0, halts.1, subst (λ a. HasPart (AskedPuts a (machine_with store keep)) store halts.0) (sym is) halts.2)
 
 -- an order that was not begun leaves all
-pub none_halts : (held : Option Store) (keep : Keep) (it : Asked) (why : ScriptStop) → HaltsKept {E = ScriptStop} (λ machine next. LeavesAsked it machine next) held keep held keep (Err why)
+pub none_halts : (held : Option Store) (keep : Keep) (it : Asked) (why : ScriptStop) → HaltsKept {E = ScriptStop} (AskedPuts it) held keep held (Err why)
 none_halts None keep it why = tt
-none_halts (Some store) keep it why = (store, refl, (store, inl refl, refl))
+none_halts (Some store) keep it why = (store, refl, inl refl)
 
 -- an order that is not one that may put is none
 pub may_not : (P : Type 0) (test : Bool) → test ≡ false → (P → test ≡ true) → P → ⊥

@@ -16,8 +16,8 @@ use Rattle.hollow_machine.specs.Puts.{LinePuts}
 use Rattle.hollow_machine.specs.Stopped.{LeavesAhead, StopsAfter, StopsBetween, StopsWithin}
 use Rattle.hollow_machine.proofs.LinePuts.{line_puts}
 use Rattle.hollow_machine.proofs.Scripts.{join}
-use Rattle.hollow_script.specs.Kept.{machine_with}
-use Rattle.hollow_script.specs.Scripted.{AllAnswered, AnswersNext, FailsWithin, HasAnswered, HasGiven, HasStopped, IsAnswered, StandsBehind, StopsReply, StopsWaiting, Waits, longest_input}
+use Rattle.hollow_script.specs.Kept.{KeepsAhead, KeepsProducer, machine_with}
+use Rattle.hollow_script.specs.Scripted.{AllAnswered, AnswersNext, FailsWithin, HasAnswered, HasGiven, HasStopped, IsAnswered, StandsBehind, StopsAhead, StopsReply, StopsWaiting, Waits, longest_input}
 use Rattle.hollow_script.specs.Stopping.{LeavesStopped}
 use Rattle.hollow_script.specs.declared.keep.Keep.{Keep}
 use Rattle.hollow_script.specs.declared.script_stop.ScriptStop.{ScriptStop}
@@ -33,14 +33,15 @@ module _ (bytes : List ℕ) (first : Store) (left left' : Option (List ℕ)) (he
   Answers result = (given : List (List ℕ)) (now : Store) → HasGiven bytes left r given → held ≡ Some now → AnswersNext bytes given now left' r' kept held' kept' result
 
   -- the store has the first puts of the next line, and then no answer waits
-  stops_ahead : (ahead : List (List ℕ)) (next : Store) → cut bytes ≡ is.lines ++ ahead → held' ≡ Some next → LeavesAhead (machine_with is.store kept) ahead next → (held' ≡ held) ⊎ (waiting' ≡ []) →
-      HasAnswered first is.lines before after waiting' refused (machine_with is.store kept) → HasStopped bytes first left' held' before after waiting' stop.Memory
-  stops_ahead ahead next cut_is told leaves (inl same) has =
-      (is.lines, ahead, refused, machine_with is.store kept, next, cut_is, has, told, inl (some_store next is.store (sym told ∙ same ∙ is.told)))
-  stops_ahead ahead next cut_is told leaves (inr none) has = (is.lines, ahead, refused, machine_with is.store kept, next, cut_is, has, told, inr (none, leaves))
+  stops_ahead : (Keeps : Machine → List (List ℕ) → Type 0) (ahead : List (List ℕ)) (next : Store) → cut bytes ≡ is.lines ++ ahead → held' ≡ Some next → LeavesAhead (machine_with is.store kept) ahead next →
+      (held' ≡ held) ⊎ (waiting' ≡ []) → HasAnswered first is.lines before after waiting' refused (machine_with is.store kept) → Keeps (machine_with is.store kept) ahead →
+      StopsAhead Keeps bytes first held' before after waiting'
+  stops_ahead Keeps ahead next cut_is told leaves (inl same) has keeps =
+      (is.lines, ahead, refused, machine_with is.store kept, next, cut_is, has, told, inl (some_store next is.store (sym told ∙ same ∙ is.told)), keeps)
+  stops_ahead Keeps ahead next cut_is told leaves (inr none) has keeps = (is.lines, ahead, refused, machine_with is.store kept, next, cut_is, has, told, inr (none, leaves), keeps)
 
   pub reply_stops : (why : ScriptStop) → Answers (Err why) → (held' ≡ held) ⊎ (waiting' ≡ []) → StopsWaiting mid after waiting waiting' why →
-      HasStopped bytes first left' held' before after waiting' why
+      HasStopped bytes first left' held' kept' before after waiting' why
   reply_stops stop.Source answers quiet puts =
       let (taken, told) = answers is.lines is.store is.given is.told in
       let has = answered_on first is.lines before mid after waiting waiting' refused (machine_with is.store kept) is.answered puts in
@@ -54,11 +55,12 @@ module _ (bytes : List ℕ) (first : Store) (left left' : Option (List ℕ)) (he
       let has = answered_on first is.lines before mid after waiting waiting' refused (machine_with is.store kept) is.answered puts in
       subst (λ (ls : List (List ℕ)). StandsBehind first ls held' before after waiting') finished_are (refused, machine_with is.store kept, has, told)
   reply_stops stop.Store answers quiet puts =
-      let (ahead, next, cut_is, told, leaves) = answers is.lines is.store is.given is.told in
-      stops_ahead ahead next cut_is told leaves quiet (answered_on first is.lines before mid after waiting waiting' refused (machine_with is.store kept) is.answered puts)
+      let (ahead, next, cut_is, told, leaves, same) = answers is.lines is.store is.given is.told in
+      stops_ahead (λ machine lines. KeepsProducer kept' machine) ahead next cut_is told leaves quiet
+      (answered_on first is.lines before mid after waiting waiting' refused (machine_with is.store kept) is.answered puts) same
   reply_stops stop.Memory answers quiet puts =
-      let (ahead, next, cut_is, told, leaves) = answers is.lines is.store is.given is.told in
-      stops_ahead ahead next cut_is told leaves quiet (answered_on first is.lines before mid after waiting waiting' refused (machine_with is.store kept) is.answered puts)
+      let (ahead, next, cut_is, told, leaves, same) = answers is.lines is.store is.given is.told in
+      stops_ahead (KeepsAhead kept') ahead next cut_is told leaves quiet (answered_on first is.lines before mid after waiting waiting' refused (machine_with is.store kept) is.answered puts) (inl same)
 
   -- ---- behind it
 
@@ -68,7 +70,7 @@ module _ (bytes : List ℕ) (first : Store) (left left' : Option (List ℕ)) (he
   all_ahead machine line lines next (inr (puts, are, put, all)) = inr (puts, are, put)
 
   pub put_stops : (why : ScriptStop) (reply : Reply) (found : Option Reply) → found ≡ Some reply → Answers (Ok found) → (held' ≡ held) ⊎ (waiting ≡ []) →
-      StopsReply (line_of reply) mid after waiting waiting' why → HasStopped bytes first left' held' before after waiting' why
+      StopsReply (line_of reply) mid after waiting waiting' why → HasStopped bytes first left' held' kept' before after waiting' why
   put_stops stop.Source reply found some answers quiet puts = absurd puts
   put_stops stop.TooLong reply found some answers quiet puts = absurd puts
   put_stops stop.Store reply found some answers quiet puts = absurd puts
@@ -87,7 +89,7 @@ module _ (bytes : List ℕ) (first : Store) (left left' : Option (List ℕ)) (he
       let leaves = all_ahead machine line front.0 next (line_puts machine (machine_with next kept') line reply step) in
       let still = unwritten first is.lines before mid waiting refused machine is.answered after nothing in
       let has = subst (λ (w : List ℕ). HasAnswered first is.lines before after w refused machine) (sym same) still in
-      stops_ahead (line ∷ front.0) next (front.1 ∙ append_assoc is.lines (line ∷ []) front.0) told leaves (over quiet) has
+      stops_ahead (KeepsAhead kept') (line ∷ front.0) next (front.1 ∙ append_assoc is.lines (line ∷ []) front.0) told leaves (over quiet) has (inr (reply, machine_with next kept', step, refl))
     where
       over : (held' ≡ held) ⊎ (waiting ≡ []) → (held' ≡ held) ⊎ (waiting' ≡ [])
       over (inl kept_is) = inl kept_is
@@ -95,9 +97,9 @@ module _ (bytes : List ℕ) (first : Store) (left left' : Option (List ℕ)) (he
 
 -- a run that stops between two lines
 pub stays_stopped : (bytes : List ℕ) (first : Store) (left : Option (List ℕ)) (held : Option Store) (r : Reading) (kept : Keep) (before after : Option (List ℕ)) (waiting : List ℕ) (refused : Bool) → IsAnswered bytes first left held r kept before after waiting refused →
-    HasStopped bytes first left held before after waiting stop.Memory
+    HasStopped bytes first left held kept before after waiting stop.Memory
 stays_stopped bytes first left held r kept before after waiting refused is =
-    let front = given_front bytes left r is.lines is.given in (is.lines, front.0, refused, machine_with is.store kept, is.store, front.1, is.answered, is.told, inl refl)
+    let front = given_front bytes left r is.lines is.given in (is.lines, front.0, refused, machine_with is.store kept, is.store, front.1, is.answered, is.told, inl refl, inl refl)
 
 -- ---- the end of a run
 
@@ -176,9 +178,9 @@ waits_within machine last (line ∷ lines) waiting refused count (reply, between
           })
     ]
 
-module _ (bytes : List ℕ) (first : Store) (left : Option (List ℕ)) (held : Option Store) (before mid after : Option (List ℕ)) (waiting : List ℕ) where
+module _ (bytes : List ℕ) (first : Store) (left : Option (List ℕ)) (held : Option Store) (keep : Keep) (before mid after : Option (List ℕ)) (waiting : List ℕ) where
   -- the sink failed within the answers that wait
-  fails_within : (lines ahead : List (List ℕ)) → cut bytes ≡ lines ++ ahead → StandsBehind first lines held before mid waiting → FailsWithin waiting mid after → LeavesStopped bytes first left held before after stop.Sink
+  fails_within : (lines ahead : List (List ℕ)) → cut bytes ≡ lines ++ ahead → StandsBehind first lines held before mid waiting → FailsWithin waiting mid after → LeavesStopped bytes first left held keep before after stop.Sink
   fails_within lines ahead cut_is (refused, machine, is, told) (count, inside, gained) =
       let within = waits_within is.middle machine is.pending waiting is.also count is.waits inside in
       let text = is.gone ++ take count waiting in
@@ -203,7 +205,7 @@ module _ (bytes : List ℕ) (first : Store) (left : Option (List ℕ)) (held : O
       (text, machine.store, so, told, Appends-trans before mid after is.gone (take count waiting) is.gained gained)
 
   -- the sink fails behind all lines
-  pub all_failed : (kept : Keep) (refused : Bool) → AllAnswered bytes first held kept before mid waiting refused → FailsWithin waiting mid after → LeavesStopped bytes first left held before after stop.Sink
+  pub all_failed : (kept : Keep) (refused : Bool) → AllAnswered bytes first held kept before mid waiting refused → FailsWithin waiting mid after → LeavesStopped bytes first left held keep before after stop.Sink
   all_failed kept refused is fails =
       fails_within (cut bytes) [] (sym (append-nil (cut bytes))) (refused, machine_with is.store kept, is.answered, is.told) fails
 
@@ -211,7 +213,7 @@ module _ (bytes : List ℕ) (first : Store) (left : Option (List ℕ)) (held : O
   none_fails none (count, inside, gained) = omega (arith, inside, ap length none)
 
   -- the sink fails behind another stop
-  pub fails_behind : (why : ScriptStop) → (why ≡ stop.Sink → ⊥) → HasStopped bytes first left held before mid waiting why → FailsWithin waiting mid after → LeavesStopped bytes first left held before after stop.Sink
+  pub fails_behind : (why : ScriptStop) → (why ≡ stop.Sink → ⊥) → HasStopped bytes first left held keep before mid waiting why → FailsWithin waiting mid after → LeavesStopped bytes first left held keep before after stop.Sink
   fails_behind stop.Sink other is fails = absurd (other refl)
   fails_behind stop.Source other (took, consumes, stands) fails =
       let front = taken_front bytes left took consumes in
@@ -219,10 +221,10 @@ module _ (bytes : List ℕ) (first : Store) (left : Option (List ℕ)) (held : O
   fails_behind stop.TooLong other stands fails =
       let front = finished_within longest_input bytes in
       fails_within (finished (take longest_input bytes)) front.0 front.1 stands fails
-  fails_behind stop.Store other (lines, ahead, refused, machine, store, cut_is, is, told, inl same) fails = fails_within lines ahead cut_is (refused, machine, is, told ∙ ap Some same) fails
-  fails_behind stop.Store other (lines, ahead, refused, machine, store, cut_is, is, told, inr (none, leaves)) fails = absurd (none_fails none fails)
-  fails_behind stop.Memory other (lines, ahead, refused, machine, store, cut_is, is, told, inl same) fails = fails_within lines ahead cut_is (refused, machine, is, told ∙ ap Some same) fails
-  fails_behind stop.Memory other (lines, ahead, refused, machine, store, cut_is, is, told, inr (none, leaves)) fails = absurd (none_fails none fails)
+  fails_behind stop.Store other (lines, ahead, refused, machine, store, cut_is, is, told, inl same, keeps) fails = fails_within lines ahead cut_is (refused, machine, is, told ∙ ap Some same) fails
+  fails_behind stop.Store other (lines, ahead, refused, machine, store, cut_is, is, told, inr (none, leaves), keeps) fails = absurd (none_fails none fails)
+  fails_behind stop.Memory other (lines, ahead, refused, machine, store, cut_is, is, told, inl same, keeps) fails = fails_within lines ahead cut_is (refused, machine, is, told ∙ ap Some same) fails
+  fails_behind stop.Memory other (lines, ahead, refused, machine, store, cut_is, is, told, inr (none, leaves), keeps) fails = absurd (none_fails none fails)
 
   -- all that waits is written
   gains : (lines : List (List ℕ)) (refused : Bool) (machine : Machine) (is : HasAnswered first lines before mid waiting refused machine) → Appends mid after waiting → Appends before after (is.gone ++ waiting)
@@ -239,20 +241,23 @@ module _ (bytes : List ℕ) (first : Store) (left : Option (List ℕ)) (held : O
   )
 
   between : (lines ahead : List (List ℕ)) (refused : Bool) (machine : Machine) (store : Store) → cut bytes ≡ lines ++ ahead → HasAnswered first lines before mid waiting refused machine → held ≡ Some store →
-      LeavesAhead machine ahead store → Appends mid after waiting →
-      (text : List ℕ) × (store : Store) × StopsBetween first (cut bytes) text store × (held ≡ Some store) × Appends before after text
-  between lines ahead refused machine store cut_is is told leaves gained = (
+      LeavesAhead machine ahead store → Appends mid after waiting → (Keeps : Machine → List (List ℕ) → Type 0) → Keeps machine ahead →
+      (text : List ℕ) × (store : Store) × ((so : StopsBetween first (cut bytes) text store) × Keeps so.machine so.ahead) × (held ≡ Some store) × Appends before after text
+  between lines ahead refused machine store cut_is is told leaves gained Keeps keeps = (
     is.gone ++ waiting,
     store,
-    record {
-      answered = lines;
-      ahead = ahead;
-      lines_are = cut_is;
-      refused = refused;
-      machine = machine;
-      script = whole_script first lines before mid waiting refused machine is;
-      left = leaves;
-    },
+    (
+      record {
+        answered = lines;
+        ahead = ahead;
+        lines_are = cut_is;
+        refused = refused;
+        machine = machine;
+        script = whole_script first lines before mid waiting refused machine is;
+        left = leaves;
+      },
+      keeps,
+    ),
     told,
     gains lines refused machine is gained,
   )
@@ -266,17 +271,17 @@ module _ (bytes : List ℕ) (first : Store) (left : Option (List ℕ)) (held : O
   left_ahead machine ahead store (inr (none, leaves)) = leaves
 
   -- what waits is written behind a stop
-  pub written_behind : (why : ScriptStop) → (why ≡ stop.Sink → ⊥) → HasStopped bytes first left held before mid waiting why → Appends mid after waiting → LeavesStopped bytes first left held before after why
+  pub written_behind : (why : ScriptStop) → (why ≡ stop.Sink → ⊥) → HasStopped bytes first left held keep before mid waiting why → Appends mid after waiting → LeavesStopped bytes first left held keep before after why
   written_behind stop.Sink other is gained = absurd (other refl)
   written_behind stop.Source other (took, consumes, stands) gained =
       let (text, store, so, told, all) = behind (finished took) stands gained in (text, store, (took, consumes, so), told, all)
   written_behind stop.TooLong other stands gained = behind (finished (take longest_input bytes)) stands gained
-  written_behind stop.Store other (lines, ahead, refused, machine, store, cut_is, is, told, leaves) gained =
-      between lines ahead refused machine store cut_is is told (left_ahead machine ahead store leaves) gained
-  written_behind stop.Memory other (lines, ahead, refused, machine, store, cut_is, is, told, leaves) gained =
-      between lines ahead refused machine store cut_is is told (left_ahead machine ahead store leaves) gained
+  written_behind stop.Store other (lines, ahead, refused, machine, store, cut_is, is, told, leaves, keeps) gained =
+      between lines ahead refused machine store cut_is is told (left_ahead machine ahead store leaves) gained (λ now next. KeepsProducer keep now) keeps
+  written_behind stop.Memory other (lines, ahead, refused, machine, store, cut_is, is, told, leaves, keeps) gained =
+      between lines ahead refused machine store cut_is is told (left_ahead machine ahead store leaves) gained (KeepsAhead keep) keeps
 
 -- The sink failed before.
-pub failed_before : (bytes : List ℕ) (first : Store) (left : Option (List ℕ)) (held : Option Store) (before after : Option (List ℕ)) (waiting : List ℕ) → HasStopped bytes first left held before after waiting stop.Sink →
-    LeavesStopped bytes first left held before after stop.Sink
-failed_before bytes first left held before after waiting (mid, (lines, ahead, cut_is, stands), fails) = fails_within bytes first left held before mid after waiting lines ahead cut_is stands fails
+pub failed_before : (bytes : List ℕ) (first : Store) (left : Option (List ℕ)) (held : Option Store) (keep : Keep) (before after : Option (List ℕ)) (waiting : List ℕ) → HasStopped bytes first left held keep before after waiting stop.Sink →
+    LeavesStopped bytes first left held keep before after stop.Sink
+failed_before bytes first left held keep before after waiting (mid, (lines, ahead, cut_is, stands), fails) = fails_within bytes first left held keep before mid after waiting lines ahead cut_is stands fails

@@ -1,5 +1,6 @@
 mod Halting
 pub mod Lining
+mod Looking
 mod Ordering
 mod Asking
 mod Replying

@@ -2,22 +2,14 @@
 use Rattle.std.specs.Prelude.{List, ℕ}
 use Rattle.state_blobs.specs.Puts.{Put}
 use Rattle.hol_orders.specs.Order.{IsOrder}
-use Rattle.hol_orders.specs.declared.order.Order.{Order}
-use Rattle.hol_orders.specs.declared.order.Order.TheVariants as order
 use Rattle.hol_answers.specs.declared.reply.Reply.{Reply}
 use Rattle.hollow_machine.specs.Forms.{Refuses}
 use Rattle.hollow_machine.specs.Script.{LineStep}
 use Rattle.hollow_machine.specs.State.{Machine}
 use Rattle.hollow_machine.specs.Step.{Step}
-use Rattle.hollow_machine.specs.Left.{LeavesPart}
 use Rattle.hollow_machine.specs.Puts.{LinePuts, OrderPuts}
 use Rattle.hollow_script.specs.declared.asked.Asked.{Asked}
 use Rattle.hollow_script.specs.declared.asked.Asked.TheVariants as asked
-
--- The order may put blobs.
-abbrev pub MayPut : Order → Type 0
-MayPut (order.Cycle next_state) = Unit {0}
-MayPut _ = ⊥
 
 -- The order that is asked for is in its ranges.
 abbrev pub MeetsOrder : Asked → Type 0
@@ -33,10 +25,6 @@ AskedStep machine (asked.Refused refusal) reply next = Refuses machine refusal r
 abbrev pub AskedPuts : Asked → Machine → List Put → Type 0
 AskedPuts (asked.Order order) machine puts = OrderPuts order machine puts
 AskedPuts (asked.Refused refusal) machine puts = ⊥
-
--- What is left of the machine where what is asked for stops before its answer.
-abbrev pub LeavesAsked : Asked → Machine → Machine → Type 0
-LeavesAsked asked machine next = LeavesPart (AskedPuts asked) machine next
 
 -- The line asks for this: what that is answered, the line is; and what that puts, the line does.
 pub record Asks (line : List ℕ) (asked : Asked) : Type 0 where

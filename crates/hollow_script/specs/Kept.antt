@@ -1,20 +1,25 @@
 -- What a run keeps from one order to the next, and the machine that it stands for.
-use Rattle.std.specs.Prelude.{◌≡◌, Option, None, Result}
+use Rattle.std.specs.Prelude.{◌≡◌, ◌⊎◌, ℕ, List, [], ◌∷◌, Option, None, Result}
+use Rattle.std.specs.Option.{option_map}
 use Rattle.hol_io.specs.Store.{Store}
+use Rattle.state_blobs.specs.Published.{published_of}
+use Rattle.state_blobs.specs.Puts.{Put}
 use Rattle.hol_answers.specs.declared.reply.Reply.{Reply}
-use Rattle.hollow_machine.specs.Kept.{Kept, Moves, machine_of}
+use Rattle.hollow_machine.specs.Kept.{Kept, Moves, machine_of, reader_of}
 use Rattle.hollow_machine.specs.Left.{Halts}
+use Rattle.hollow_machine.specs.Script.{LineStep}
 use Rattle.hollow_machine.specs.State.{Machine}
 use Rattle.hollow_script.specs.declared.keep.Keep.{Keep}
 
--- There is no producer, and the consumer has no state.
+-- There is no producer, and the consumer has no state and no version.
 pub record KeepsNothing (keep : Keep) : Type 0 where
   pub producer : keep.producer ≡ None
   pub consumer : keep.consumer ≡ None
+  pub version : keep.version ≡ None
 
 -- What is kept of the machine.
 abbrev pub kept_of : Keep → Kept
-kept_of keep = record { producer = keep.producer; consumer = keep.consumer }
+kept_of keep = record { producer = keep.producer; reader = reader_of keep.consumer keep.version }
 
 -- The machine over a store whose producer and consumer are those that are kept.
 abbrev pub machine_with : Store → Keep → Machine
@@ -24,6 +29,23 @@ machine_with store keep = machine_of store (kept_of keep)
 abbrev pub MovesKept : {E : Type 0} → (Machine → Reply → Machine → Type 0) → Option Store → Keep → Option Store → Keep → Result Reply E → Type 0
 MovesKept IsStep held keep held' keep' result = Moves IsStep held (kept_of keep) held' (kept_of keep') result
 
--- What it means that no answer comes, where the store tells what it holds: the machine of what is kept is left so.
-abbrev pub HaltsKept : {E : Type 0} → (Machine → Machine → Type 0) → Option Store → Keep → Option Store → Keep → Result Reply E → Type 0
-HaltsKept IsLeft held keep held' keep' result = Halts IsLeft held (kept_of keep) held' (kept_of keep') result
+-- What it means that no answer comes, where the store tells what it holds: the store is as it was, or has the first of such puts.
+abbrev pub HaltsKept : {E : Type 0} → (Machine → List Put → Type 0) → Option Store → Keep → Option Store → Result Reply E → Type 0
+HaltsKept ArePuts held keep held' result = Halts ArePuts held (kept_of keep) held' result
+
+-- The producer that is kept has published the same.
+abbrev pub SameProducer : Keep → Keep → Type 0
+SameProducer keep keep' = option_map published_of keep'.producer ≡ option_map published_of keep.producer
+
+-- The producer that is kept is that of the machine.
+abbrev pub KeepsProducer : Keep → Machine → Type 0
+KeepsProducer keep machine = option_map published_of keep.producer ≡ machine.producer
+
+-- It is that behind the first of these lines, whose answer was lost.
+abbrev pub LosesAnswer : Keep → Machine → List (List ℕ) → Type 0
+LosesAnswer keep machine [] = ⊥
+LosesAnswer keep machine (line ∷ lines) = (reply : Reply) × (next : Machine) × LineStep machine line reply next × KeepsProducer keep next
+
+-- It is that of the machine, or behind the first of these lines.
+abbrev pub KeepsAhead : Keep → Machine → List (List ℕ) → Type 0
+KeepsAhead keep machine ahead = KeepsProducer keep machine ⊎ LosesAnswer keep machine ahead

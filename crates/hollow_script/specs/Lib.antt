@@ -1,5 +1,4 @@
 pub mod Asked
 pub mod Kept
-pub mod Looking
 pub mod Scripted
 pub mod Stopping

@@ -19,7 +19,7 @@ use Rattle.hollow_script.specs.declared.asked.Asked.{Asked}
 use Rattle.hollow_script.specs.declared.keep.Keep.{Keep}
 use Rattle.hollow_script.specs.declared.script_stop.ScriptStop.{ScriptStop}
 use Rattle.hollow_script.specs.declared.script_stop.ScriptStop.TheVariants.{Memory, Sink, Source, Store as StoreFailed, TooLong}
-use Rattle.hollow_script.specs.Kept.{machine_with}
+use Rattle.hollow_script.specs.Kept.{KeepsAhead, KeepsProducer, SameProducer, machine_with}
 
 -- How many bytes of an input are taken as lines.
 abbrev pub longest_input : ℕ
@@ -60,7 +60,7 @@ AsksNext bytes lines left' reading' (Err Source) = AreTaken bytes left' lines
 AsksNext bytes lines left' reading' (Err stop) = Unit {0}
 
 -- What the next line is answered over a store, where these lines were given before: an answer that moves the machine, or
--- none where the input has no other lines. Where it stops, the store is as it was, or has the first puts of the next line.
+-- none where the input has no other lines. Where it stops, the store is as it was, or has the first puts of the next line, and the producer is as it was.
 abbrev pub AnswersNext : List ℕ → List (List ℕ) → Store → Option (List ℕ) → Reading → Keep → Option Store → Keep → Result (Option Reply) ScriptStop → Type 0
 AnswersNext bytes lines store left' reading' kept held' kept' (Ok (Some reply)) =
     (line : List ℕ) × HasGiven bytes left' reading' (lines ++ line ∷ [])
@@ -72,6 +72,7 @@ AnswersNext bytes lines store left' reading' kept held' kept' (Err Sink) = held'
 AnswersNext bytes lines store left' reading' kept held' kept' (Err TooLong) = AreFinished bytes lines × (held' ≡ Some store)
 AnswersNext bytes lines store left' reading' kept held' kept' (Err stop) =
     (ahead : List (List ℕ)) × (next : Store) × (cut bytes ≡ lines ++ ahead) × (held' ≡ Some next) × LeavesAhead (machine_with store kept) ahead next
+    × SameProducer kept kept'
 
 -- Lines whose answers wait: their text, whether one of them is a refusal, and the machine behind them, whose store is the one behind each of them, the
 -- first one too.
@@ -159,21 +160,22 @@ abbrev pub StandsBetween : List ℕ → Store → Option Store → Option (List 
 StandsBetween bytes first held before after waiting =
     (answered ahead : List (List ℕ)) × (cut bytes ≡ answered ++ ahead) × StandsBehind first answered held before after waiting
 
--- Some first lines of an input are answered, and the store is the one behind them; or no answer waits, and it has the first puts of the next line.
-abbrev pub StopsAhead : List ℕ → Store → Option Store → Option (List ℕ) → Option (List ℕ) → List ℕ → Type 0
-StopsAhead bytes first held before after waiting =
+-- Some first lines of an input are answered, and the store is the one behind them; or no answer waits, and it has the first puts of the next line. What is
+-- kept is so.
+abbrev pub StopsAhead : (Machine → List (List ℕ) → Type 0) → List ℕ → Store → Option Store → Option (List ℕ) → Option (List ℕ) → List ℕ → Type 0
+StopsAhead Keeps bytes first held before after waiting =
     (answered ahead : List (List ℕ)) × (refused : Bool) × (machine : Machine) × (store : Store) × (cut bytes ≡ answered ++ ahead)
     × HasAnswered first answered before after waiting refused machine × (held ≡ Some store)
-    × ((store ≡ machine.store) ⊎ ((waiting ≡ []) × LeavesAhead machine ahead store))
+    × ((store ≡ machine.store) ⊎ ((waiting ≡ []) × LeavesAhead machine ahead store)) × Keeps machine ahead
 
 -- What is left where serving the lines of an input stops, of which the source has so much left; what still waits is not yet written.
-abbrev pub HasStopped : List ℕ → Store → Option (List ℕ) → Option Store → Option (List ℕ) → Option (List ℕ) → List ℕ → ScriptStop → Type 0
-HasStopped bytes first left' held before after waiting Source =
+abbrev pub HasStopped : List ℕ → Store → Option (List ℕ) → Option Store → Keep → Option (List ℕ) → Option (List ℕ) → List ℕ → ScriptStop → Type 0
+HasStopped bytes first left' held keep before after waiting Source =
     (took : List ℕ) × Consumes (Some bytes) left' took × StandsBehind first (finished took) held before after waiting
-HasStopped bytes first left' held before after waiting Sink = (mid : Option (List ℕ)) × StandsBetween bytes first held before mid waiting × FailsWithin waiting mid after
-HasStopped bytes first left' held before after waiting StoreFailed = StopsAhead bytes first held before after waiting
-HasStopped bytes first left' held before after waiting Memory = StopsAhead bytes first held before after waiting
-HasStopped bytes first left' held before after waiting TooLong = StandsBehind first (finished (take longest_input bytes)) held before after waiting
+HasStopped bytes first left' held keep before after waiting Sink = (mid : Option (List ℕ)) × StandsBetween bytes first held before mid waiting × FailsWithin waiting mid after
+HasStopped bytes first left' held keep before after waiting StoreFailed = StopsAhead (λ machine ahead. KeepsProducer keep machine) bytes first held before after waiting
+HasStopped bytes first left' held keep before after waiting Memory = StopsAhead (KeepsAhead keep) bytes first held before after waiting
+HasStopped bytes first left' held keep before after waiting TooLong = StandsBehind first (finished (take longest_input bytes)) held before after waiting
 
 -- What serving the next line leaves, where the lines before it are answered: it is answered too, or all lines are; or it stops.
 abbrev pub ServesNext : List ℕ → Store → Option (List ℕ) → Option Store → Reading → Keep → Option (List ℕ) → Option (List ℕ) → List ℕ → Bool → Result (Option Bool) ScriptStop → Type 0
@@ -181,7 +183,7 @@ ServesNext bytes first left held reading kept before after waiting refused (Ok (
     IsAnswered bytes first left held reading kept before after waiting (if refused then true else also)
 ServesNext bytes first left held reading kept before after waiting refused (Ok None) =
     AllAnswered bytes first held kept before after waiting refused
-ServesNext bytes first left held reading kept before after waiting refused (Err stop) = HasStopped bytes first left held before after waiting stop
+ServesNext bytes first left held reading kept before after waiting refused (Err stop) = HasStopped bytes first left held kept before after waiting stop
 
 -- The lines of some answers were gained by the sink but for the last ones, which wait; and whether one of them is a refusal.
 pub record HasReplied (before after : Option (List ℕ)) (waiting : List ℕ) (refused : Bool) : Type 0 where

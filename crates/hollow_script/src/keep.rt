@@ -12,16 +12,19 @@ pub struct Keep {
     pub producer: Option<Producer>,
     /// The consumer, which has no state before it loads one.
     pub consumer: Consumer,
+    /// The version to which the consumer's last load or step that was not refused led.
+    pub version: Option<u64>,
 }
 
 impl Keep {
-    /// No producer, and a consumer without a state. It takes no memory.
+    /// No producer, and a consumer without a state and a version. It takes no memory.
     pub fn new(alloc: Global) -> Keep
         ensures { KeepsNothing result }
     {
         Keep {
             producer: None,
             consumer: Consumer::new(alloc),
+            version: None,
         }
     }
 }

@@ -1,18 +1,16 @@
 //! The orders: what each is answered, and what it leaves of the store and of what is kept.
-ghost use Rattle.std.specs.Prelude.{◌≡◌, ◌≤◌, true, IfErr, IfOk, IfSome, IsErrOf};
+ghost use Rattle.std.specs.Prelude.{◌≡◌, ◌≤◌, true, IfErr, IfOk, IfSome, IsErrOf, OnErr};
 ghost use Rattle.hol_io.specs.Causes.{Rose};
 ghost use Rattle.hol_orders.specs.Order.{IsOrder};
 ghost use Rattle.hollow_machine.specs.Kept.{IsResting};
-ghost use Rattle.hollow_machine.specs.Step.{Step};
-ghost use Rattle.hollow_machine.specs.Left.{LeavesOrder};
-ghost use Rattle.hollow_script.specs.Asked.{MayPut};
-ghost use Rattle.hollow_script.specs.Kept.{HaltsKept, MovesKept};
-ghost use Rattle.hollow_script.specs.Looking.{IsLook, LooksAt};
+ghost use Rattle.hollow_machine.specs.Puts.{MayPut, OrderPuts};
+ghost use Rattle.hollow_machine.specs.Step.{IsLook, LooksAt, Step};
+ghost use Rattle.hollow_script.specs.Kept.{HaltsKept, MovesKept, SameProducer};
 
 use crate::keep::Keep;
 use chain_orders::{check, restore};
 use consumer_orders::{at, find, get, has, index, live, load, past, row, stat, step};
-use hol_answers::Reply;
+use hol_answers::{Refusal, Reply};
 use hol_io::BlobStore;
 use hol_orders::{Order, OrderStop};
 use producer_orders::{cycle, model};
@@ -26,7 +24,7 @@ pub fn may_put(order: &Order) -> bool
     matches!(order, Order::Cycle(_))
 }
 
-/// Answers an order. Where it stops all is as it was, but that the store may have the first puts of a cycle.
+/// Answers an order. Where it stops the producer is as it was, and the store too, or it has the first puts of a cycle.
 pub fn answer<S: BlobStore>(
     alloc: Global,
     order: &Order,
@@ -37,8 +35,8 @@ pub fn answer<S: BlobStore>(
     requires resting { IfSome keep.old.producer IsResting }
     ensures step { MovesKept (λ machine reply next. Step machine order.now reply next)
         (S.seen store.old).held keep.old (S.seen store.new).held keep.new result }
-    ensures halts { HaltsKept (λ machine next. LeavesOrder order.now machine next)
-        (S.seen store.old).held keep.old (S.seen store.new).held keep.new result }
+    ensures halts { HaltsKept (OrderPuts order.now) (S.seen store.old).held keep.old (S.seen store.new).held result }
+    ensures undone { OnErr result (SameProducer keep.old keep.new) }
     ensures quiet { (MayPut order.now → ⊥) → (S.seen store.new).held ≡ (S.seen store.old).held }
     ensures resting { IfSome keep.new.producer IsResting }
     ensures store_fault { IsErrOf result OrderStop.Store → Rose (S.seen store.old).faults (S.seen store.new).faults }
@@ -48,15 +46,15 @@ pub fn answer<S: BlobStore>(
         Order::Model(schemas) => model(alloc, schemas, &mut keep.producer),
         Order::Cycle(next) => cycle(alloc, store, &mut keep.producer, next),
         Order::Restore(version) => restore(alloc, store, &mut keep.producer, *version),
-        Order::Load(version) => load(store, &mut keep.consumer, *version),
-        Order::Step { from, to } => step(store, &mut keep.consumer, *from, *to),
+        Order::Load(version) => load(store, &mut keep.consumer, &mut keep.version, *version),
+        Order::Step { from, to } => step(store, &mut keep.consumer, &mut keep.version, *from, *to),
         Order::Index { type_name, paths } => index(alloc, &mut keep.consumer, type_name, paths),
         Order::Check(versions) => check(alloc, store, versions),
         _ => look(alloc, order, &keep.consumer),
     }
 }
 
-// Answers an order that looks at where the consumer stands.
+// Answers an order that looks at where the consumer stands. Those of the last arm are not built, and are told to be none.
 fn look(alloc: Global, order: &Order, consumer: &Consumer) -> Result<Reply, OrderStop>
     requires { IsLook order.now }
     ensures reply { IfOk result (LooksAt order.now consumer.now) }
@@ -83,6 +81,6 @@ fn look(alloc: Global, order: &Order, consumer: &Consumer) -> Result<Reply, Orde
         } => at(alloc, consumer, type_name, *ordinal, *key),
         Order::Past(type_name) => past(alloc, consumer, type_name),
         Order::Stat => stat(alloc, consumer),
-        _ => unreachable!(),
+        _ => Ok(Reply::Refused(Refusal::BadOrder)),
     }
 }

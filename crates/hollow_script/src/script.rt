@@ -1,13 +1,14 @@
 //! The loop over the lines of a script.
-ghost use Rattle.std.specs.Prelude.{◌≡◌, ◌<◌, ◌≤◌, ◌⊎◌, ℕ, List, [], Bool, true, Option, None, IfOk, IfErr, IfSome, Some, Ok, IsErrOf};
+ghost use Rattle.std.specs.Prelude.{◌≡◌, ◌<◌, ◌≤◌, ◌⊎◌, ℕ, List, [], Bool, true, Option, None, IfOk, IfErr, IfSome, OnErr, Some, Ok, IsErrOf};
 ghost use Rattle.std.specs.Io.KnownBytes.{IsAtEnd};
 ghost use Rattle.hol_io.specs.Causes.{Rose};
 ghost use Rattle.hol_io.specs.Lines.{Takes};
 ghost use Rattle.hol_io.specs.Store.{Store};
 ghost use Rattle.hol_io.specs.Turn.{EndsInput, HasLimits, IsEnded, LendsLine};
 ghost use Rattle.hollow_machine.specs.Kept.{IsResting};
-ghost use Rattle.hollow_script.specs.Asked.{AskedStep, LeavesAsked, MayPut, MeetsOrder};
-ghost use Rattle.hollow_script.specs.Kept.{HaltsKept, KeepsNothing, MovesKept};
+ghost use Rattle.hollow_machine.specs.Puts.{MayPut};
+ghost use Rattle.hollow_script.specs.Asked.{AskedPuts, AskedStep, MeetsOrder};
+ghost use Rattle.hollow_script.specs.Kept.{HaltsKept, KeepsNothing, MovesKept, SameProducer};
 ghost use Rattle.hollow_script.specs.Scripted.{AllAnswered, AllWritten, AnswersNext, AreTaken, AsksNext, HasGiven, HasReplied, HasStopped, IsAnswered, RepliesNext, ServesNext, TakesPast, TurnsNext, WritesReplies, WritesWaiting};
 ghost use Rattle.hollow_script.specs.Stopping.{LeavesStopped};
 
@@ -28,7 +29,8 @@ const MAX_INPUT_BYTES: u64 = 0x1_0000_0000;
 /// time, but what waits is written before an order that may put begins, and before more of the input is read; and the last
 /// ones before it ends, unless the sink failed. So where it stops, the sink has the answers to some first lines, and the store is
 /// the one behind them, or has besides the first puts of the next line (`LeavesStopped`). Where the source fails, the lines are
-/// all that end in what was taken of the input.
+/// all that end in what was taken of the input. Where the store fails or memory is refused, no answer that was made is left out, but one for which memory
+/// was refused.
 pub fn run_script<I: Source, O: Sink, S: BlobStore>(
     alloc: Global,
     input: &mut I,
@@ -40,7 +42,7 @@ pub fn run_script<I: Source, O: Sink, S: BlobStore>(
     ensures written { IfSome (I.left input.old) (λ bytes. IfSome (S.seen store.old).held (λ first. IfOk result
         (AllWritten bytes first (S.seen store.new).held keep.new (O.taken out.old) (O.taken out.new)))) }
     ensures stopped { IfSome (I.left input.old) (λ bytes. IfSome (S.seen store.old).held (λ first. IfErr result
-        (LeavesStopped bytes first (I.left input.new) (S.seen store.new).held (O.taken out.old) (O.taken out.new)))) }
+        (LeavesStopped bytes first (I.left input.new) (S.seen store.new).held keep.new (O.taken out.old) (O.taken out.new)))) }
     ensures replied { IfOk result (WritesReplies (O.taken out.old) (O.taken out.new)) }
     ensures ended { IfOk result (λ refused. IsAtEnd (I.left input.new)) }
     ensures source_fault { IsErrOf result ScriptStop.Source → Rose (I.faults input.old) (I.faults input.new) }
@@ -78,7 +80,7 @@ fn answer_lines<I: Source, O: Sink, S: BlobStore>(
     ensures answered { IfSome (I.left input.old) (λ bytes. IfSome (S.seen store.old).held (λ first. IfOk result
         (AllAnswered bytes first (S.seen store.new).held keep.new (O.taken out.old) (O.taken out.new) waiting.new.items))) }
     ensures stops { IfSome (I.left input.old) (λ bytes. IfSome (S.seen store.old).held (λ first. IfErr result
-        (HasStopped bytes first (I.left input.new) (S.seen store.new).held (O.taken out.old) (O.taken out.new) waiting.new.items))) }
+        (HasStopped bytes first (I.left input.new) (S.seen store.new).held keep.new (O.taken out.old) (O.taken out.new) waiting.new.items))) }
     ensures replied { IfOk result (HasReplied (O.taken out.old) (O.taken out.new) waiting.new.items) }
     ensures ended { IfOk result (λ refused. IsAtEnd (I.left input.new)) }
     ensures source_fault { IsErrOf result ScriptStop.Source → Rose (I.faults input.old) (I.faults input.new) }
@@ -281,8 +283,8 @@ fn answer_asked<O: Sink, S: BlobStore>(
     requires resting { IfSome keep.old.producer IsResting }
     ensures step { MovesKept (λ machine reply next. AskedStep machine asked reply next)
         (S.seen store.old).held keep.old (S.seen store.new).held keep.new result }
-    ensures halts { HaltsKept (λ machine next. LeavesAsked asked machine next)
-        (S.seen store.old).held keep.old (S.seen store.new).held keep.new result }
+    ensures halts { HaltsKept (AskedPuts asked) (S.seen store.old).held keep.old (S.seen store.new).held result }
+    ensures undone { OnErr result (SameProducer keep.old keep.new) }
     ensures quiet { ((S.seen store.new).held ≡ (S.seen store.old).held) ⊎ (waiting.new.items ≡ []) }
     ensures unput { IsErrOf result ScriptStop.Sink → (S.seen store.new).held ≡ (S.seen store.old).held }
     ensures put { WritesWaiting (O.taken out.old) (O.taken out.new) waiting.old.items waiting.new.items result }

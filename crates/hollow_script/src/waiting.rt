@@ -1,5 +1,5 @@
 //! Answers that wait to be written.
-ghost use Rattle.std.specs.Prelude.{◌≡◌, ◌≤◌, ◌⊎◌, [], IfErr, IfOk, IsErrOf, OnErr, OnOk};
+ghost use Rattle.std.specs.Prelude.{◌≡◌, ◌<◌, ◌≤◌, ◌⊎◌, ◌^◌, [], IfErr, IfOk, IsErrOf, OnErr, OnOk, length};
 ghost use Rattle.std.specs.Io.KnownBytes.{Appends};
 ghost use Rattle.hol_io.specs.Causes.{HasCause, Rose};
 ghost use Rattle.hol_answers.specs.Reply.{line_of};
@@ -36,6 +36,7 @@ pub fn put_answer<O: Sink>(
     out: &mut O,
 ) -> Result<(), ScriptStop>
     ensures put { PutsReply (line_of reply) (O.taken out.old) (O.taken out.new) waiting.old.items waiting.new.items result }
+    ensures few { OnOk result (length waiting.new.items < 2 ^ 15) }
     ensures sink_fault { IsErrOf result ScriptStop.Sink → Rose (O.faults out.old) (O.faults out.new) }
     ensures later { O.faults out.old ≤ O.faults out.new }
     ensures others { IfErr result (λ stop. (stop ≡ ScriptStop.Memory) ⊎ (stop ≡ ScriptStop.Sink)) }

@@ -14,6 +14,7 @@ use Rattle.hollow_machine.specs.Stopped.{LeavesAhead, StopsAfter, StopsBetween, 
 use Rattle.hollow_make.specs.Parts.{TellsMake, machine_at}
 use Rattle.hollow_script.specs.Scripted.{longest_input}
 use Rattle.hollow_script.specs.Stopping.{LeavesStopped, StopsSo}
+use Rattle.hollow_script.specs.declared.keep.Keep.{Keep}
 use Rattle.hollow_script.specs.declared.script_stop.ScriptStop.{ScriptStop}
 use Rattle.hollow_script.specs.declared.script_stop.ScriptStop.TheVariants as stop
 use Rattle.hollow_script.proofs.Lining.{finished_within, taken_front}
@@ -54,23 +55,23 @@ past_two stop.Store = omega arith
 past_two stop.Memory = omega arith
 past_two stop.TooLong = omega arith
 
-module _ (input left : Option (List ℕ)) (held after_held : Option Store) (before after : Option (List ℕ)) where
+module _ (input left : Option (List ℕ)) (held after_held : Option Store) (kept : Keep) (before after : Option (List ℕ)) where
   -- what is left of the sink and of the store at a status
   abbrev pub LeftAt : ℕ → Type 0
-  LeftAt status = IfSome input (λ bytes. IfSome held (λ first. StopsScript bytes first left after_held before after status))
+  LeftAt status = IfSome input (λ bytes. IfSome held (λ first. StopsScript bytes first left after_held kept before after status))
 
-  stops_at : (bytes : List ℕ) (first : Store) (given : ScriptStop) (status : ℕ) → status ≡ script_status (Err given) → LeavesStopped bytes first left after_held before after given → StopsScript bytes first left after_held before after status
+  stops_at : (bytes : List ℕ) (first : Store) (given : ScriptStop) (status : ℕ) → status ≡ script_status (Err given) → LeavesStopped bytes first left after_held kept before after given → StopsScript bytes first left after_held kept before after status
   stops_at bytes first given status is left_so = λ why same.
       (let one : given ≡ why = sym (stop_of_status given) ∙ ap stop_at (sym is ∙ same) ∙ stop_of_status why in
-      subst (LeavesStopped bytes first left after_held before after) one left_so)
+      subst (LeavesStopped bytes first left after_held kept before after) one left_so)
 
   -- a script stops with its status
   pub script_stops : (why given : ScriptStop) (status : ℕ) → why ≡ given → status ≡ script_status (Err given) →
-      IfSome input (λ bytes. IfSome held (λ first. IfErr {T = Bool} (Err why) (LeavesStopped bytes first left after_held before after))) → LeftAt status
-  script_stops why given status same is left_so = over input held (subst (λ (w : ScriptStop). IfSome input (λ bytes. IfSome held (λ first. IfErr {T = Bool} (Err w) (LeavesStopped bytes first left after_held before after)))) same left_so)
+      IfSome input (λ bytes. IfSome held (λ first. IfErr {T = Bool} (Err why) (LeavesStopped bytes first left after_held kept before after))) → LeftAt status
+  script_stops why given status same is left_so = over input held (subst (λ (w : ScriptStop). IfSome input (λ bytes. IfSome held (λ first. IfErr {T = Bool} (Err w) (LeavesStopped bytes first left after_held kept before after)))) same left_so)
     where
-      over : (i : Option (List ℕ)) (h : Option Store) → IfSome i (λ bytes. IfSome h (λ first. LeavesStopped bytes first left after_held before after given)) →
-          IfSome i (λ bytes. IfSome h (λ first. StopsScript bytes first left after_held before after status))
+      over : (i : Option (List ℕ)) (h : Option Store) → IfSome i (λ bytes. IfSome h (λ first. LeavesStopped bytes first left after_held kept before after given)) →
+          IfSome i (λ bytes. IfSome h (λ first. StopsScript bytes first left after_held kept before after status))
       over None h is_left = tt
       over (Some bytes) None is_left = tt
       over (Some bytes) (Some first) is_left = stops_at bytes first given status is is_left
@@ -79,7 +80,7 @@ module _ (input left : Option (List ℕ)) (held after_held : Option Store) (befo
   pub script_ended : (status : ℕ) → status < 2 → LeftAt status
   script_ended status small = over input held
     where
-      over : (i : Option (List ℕ)) (h : Option Store) → IfSome i (λ bytes. IfSome h (λ first. StopsScript bytes first left after_held before after status))
+      over : (i : Option (List ℕ)) (h : Option Store) → IfSome i (λ bytes. IfSome h (λ first. StopsScript bytes first left after_held kept before after status))
       over None h = tt
       over (Some bytes) None = tt
       over (Some bytes) (Some first) = λ why is. absurd (let past = past_two why in omega (arith, small, is, past))
@@ -114,24 +115,24 @@ after_between first store lines answered ahead text lines_are (refused, machine,
     same_ahead [] = store_is
     same_ahead (line ∷ others) = inl store_is
 
-so_keeps : KeepBetween → KeepWithin → (bytes : List ℕ) (left : Option (List ℕ)) (first store : Store) (chain : Chain) (text : List ℕ) (why : ScriptStop) → KeepsChain first chain → StopsSo bytes first left why text store → HoldsLonger first chain (cut bytes) store
-so_keeps between within bytes left first store chain text stop.Source kept (took, consumes, so) =
+so_keeps : KeepBetween → KeepWithin → (bytes : List ℕ) (left : Option (List ℕ)) (first store : Store) (chain : Chain) (text : List ℕ) (keep : Keep) (why : ScriptStop) → KeepsChain first chain → StopsSo bytes first left keep why text store → HoldsLonger first chain (cut bytes) store
+so_keeps between within bytes left first store chain text keep stop.Source kept (took, consumes, so) =
     let front = taken_front bytes left took consumes in
     between first store (cut bytes) text chain kept (after_between first store (cut bytes) (finished took) front.0 text front.1 so)
-so_keeps between within bytes left first store chain text stop.Sink kept so = within first store (cut bytes) text chain kept so
-so_keeps between within bytes left first store chain text stop.Store kept so = between first store (cut bytes) text chain kept so
-so_keeps between within bytes left first store chain text stop.Memory kept so = between first store (cut bytes) text chain kept so
-so_keeps between within bytes left first store chain text stop.TooLong kept so =
+so_keeps between within bytes left first store chain text keep stop.Sink kept so = within first store (cut bytes) text chain kept so
+so_keeps between within bytes left first store chain text keep stop.Store kept so = between first store (cut bytes) text chain kept so.0
+so_keeps between within bytes left first store chain text keep stop.Memory kept so = between first store (cut bytes) text chain kept so.0
+so_keeps between within bytes left first store chain text keep stop.TooLong kept so =
     let front = finished_within longest_input bytes in
     between first store (cut bytes) text chain kept (after_between first store (cut bytes) (finished (take longest_input bytes)) front.0 text front.1 so)
 
-pub leaves_chain : KeepBetween → KeepWithin → AreKept → (input left : Option (List ℕ)) (held after_held : Option Store) (before after : Option (List ℕ)) (why : ScriptStop) → IfSome held HoldsBytes →
-    IfSome input (λ bytes. IfSome held (λ first. IfErr {T = Bool} (Err why) (LeavesStopped bytes first left after_held before after))) →
+pub leaves_chain : KeepBetween → KeepWithin → AreKept → (input left : Option (List ℕ)) (held after_held : Option Store) (kept : Keep) (before after : Option (List ℕ)) (why : ScriptStop) → IfSome held HoldsBytes →
+    IfSome input (λ bytes. IfSome held (λ first. IfErr {T = Bool} (Err why) (LeavesStopped bytes first left after_held kept before after))) →
     IfSome input (λ bytes. IfSome held (λ first. (chain : Chain) → HoldsChain first chain → LeavesChain bytes first chain after_held))
-leaves_chain between within keeps None left held after_held before after why of_bytes so = tt
-leaves_chain between within keeps (Some bytes) left None after_held before after why of_bytes so = tt
-leaves_chain between within keeps (Some bytes) left (Some first) after_held before after why of_bytes (text, store, so, told, gained) = λ chain holds.
-    (store, told, so_keeps between within bytes left first store chain text why (keeps first chain holds of_bytes) so)
+leaves_chain between within keeps None left held after_held kept before after why of_bytes so = tt
+leaves_chain between within keeps (Some bytes) left None after_held kept before after why of_bytes so = tt
+leaves_chain between within keeps (Some bytes) left (Some first) after_held kept before after why of_bytes (text, store, so, told, gained) = λ chain holds.
+    (store, told, so_keeps between within bytes left first store chain text kept why (keeps first chain holds of_bytes) so)
 
 -- ---- the command `make`
 

@@ -68,8 +68,8 @@ MakesPart seed rows cycles first held before after =
     GainsPart (λ text refused. (next : Machine) × WritesMade seed rows cycles first text refused next × (held ≡ Some next.store)) before after
 
 -- Where the status is that of a script that stopped, the script left this of the sink and of the store, and the source has so much left.
-abbrev pub StopsScript : List ℕ → Store → Option (List ℕ) → Option Store → Option (List ℕ) → Option (List ℕ) → ℕ → Type 0
-StopsScript bytes first left' held before after status = (why : ScriptStop) → status ≡ script_status (Err why) → LeavesStopped bytes first left' held before after why
+abbrev pub StopsScript : List ℕ → Store → Option (List ℕ) → Option Store → Keep → Option (List ℕ) → Option (List ℕ) → ℕ → Type 0
+StopsScript bytes first left' held kept before after status = (why : ScriptStop) → status ≡ script_status (Err why) → LeavesStopped bytes first left' held kept before after why
 
 -- The store is the one behind some first cycles of `make`, or has besides the first puts of the next one.
 abbrev pub StopsMade : ℕ → ℕ → ℕ → Store → Option Store → Type 0

@@ -90,7 +90,7 @@ pub fn run<I: Source, O: Sink, S: BlobStore, P: Progress>(
 
     // What is written, and what the store then holds, where `run` and `make` stop.
     ensures script_stopped { AskScript (map string_bytes words.now) → IfSome (I.left input.old) (λ bytes. IfSome (S.seen store.old).held (λ first.
-        StopsScript bytes first (I.left input.new) (S.seen store.new).held (O.taken out.old) (O.taken out.new) result)) }
+        StopsScript bytes first (I.left input.new) (S.seen store.new).held keep.new (O.taken out.old) (O.taken out.new) result)) }
     ensures make_stopped { 2 < result → (seed rows cycles : ℕ) → Asks (map string_bytes words.now) (Command.Make seed rows cycles)
         → IfSome (S.seen store.old).held (λ first. StopsMade seed rows cycles first (S.seen store.new).held) }
     ensures make_silent { 4 < result → (seed rows cycles : ℕ) → Asks (map string_bytes words.now) (Command.Make seed rows cycles) → out.new ≡ out.old }
@@ -158,7 +158,7 @@ fn serve_script<I: Source, O: Sink, S: BlobStore>(
         ((result ≡ 1) ↔ GainsRefusalLine (O.taken out.old) (O.taken out.new)) }
     ensures ended { result < 2 → IsAtEnd (I.left input.new) }
     ensures stopped { IfSome (I.left input.old) (λ bytes. IfSome (S.seen store.old).held (λ first.
-        StopsScript bytes first (I.left input.new) (S.seen store.new).held (O.taken out.old) (O.taken out.new) result)) }
+        StopsScript bytes first (I.left input.new) (S.seen store.new).held keep.new (O.taken out.old) (O.taken out.new) result)) }
     ensures chain { 2 < result → IfSome (I.left input.old) (λ bytes. IfSome (S.seen store.old).held (λ first.
         (chain : Chain) → HoldsChain first chain → LeavesChain bytes first chain (S.seen store.new).held)) }
     ensures status { (result ≤ 7) × (result ≢ 2) }
@@ -251,15 +251,13 @@ fn make_line<O: Sink, S: BlobStore, P: Progress>(
     ensures sink_fault { IsErrOf result Stop.Sink → Rose (O.faults out.old) (O.faults out.new) }
     ensures store_fault { IsErrOf result Stop.Store → Rose (S.seen store.old).faults (S.seen store.new).faults }
 {
-    let reply = make(
-        alloc,
-        store,
-        &mut keep.producer,
-        seed,
-        rows,
-        cycles,
-        progress,
-    )?;
+    // The pattern names each field: nothing else is kept from line to line.
+    let Keep {
+        producer,
+        consumer: _,
+        version: _,
+    } = keep;
+    let reply = make(alloc, store, producer, seed, rows, cycles, progress)?;
     write_reply(alloc, reply, out)
 }
 

@@ -1,11 +1,14 @@
--- Records of one INT, and the types that take them.
-use Rattle.std.specs.Prelude.{List, [], ◌∷◌, ◌≡◌, ℤ, slice_get, IsSomeAnd}
+-- Records of one INT, the types that take them, and an index of them.
+use Rattle.std.specs.Prelude.{List, [], ◌∷◌, ◌≡◌, ℕ, ℤ, Some, slice_get, IsSomeAnd}
+use Rattle.hollow.specs.schema_model.declared.model.path.Path.{Path}
 use Rattle.hollow.specs.schema_model.declared.schema.Field.{Field}
 use Rattle.hollow.specs.schema_model.declared.schema.FieldKind.{FieldKind}
 use Rattle.hollow.specs.schema_model.declared.schema.Schema.{Schema}
 use Rattle.hollow.specs.row_model.declared.row.Value.{Value}
 use Rattle.hollow.specs.row_model.PlainTree.{PlainTree, leaf, object, no_trees, tree_then}
 use Rattle.hollow.specs.record_trees.Types.{object_fields}
+use Rattle.hollow.specs.read_engine.Indexes.{index_by}
+use Rattle.hollow.specs.read_engine.Position.{Position}
 
 -- a record of one number
 abbrev pub number_tree : ℤ → PlainTree
@@ -23,3 +26,7 @@ TakesNumbers schema = IsSomeAnd (object_fields schema.shape) IsOneInt
 -- the first type is one
 abbrev pub AreNumbers : List Schema → Type 0
 AreNumbers schemas = IsSomeAnd (slice_get schemas 0) TakesNumbers
+
+-- the index of this number is one of the first type
+abbrev pub KeepsNumbers : ℕ → Position → Type 0
+KeepsNumbers number now = (paths : List Path) × (slice_get now.indexes number ≡ Some (index_by 0 paths))

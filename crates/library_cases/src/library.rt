@@ -1,13 +1,13 @@
 //! The crates as a library, as README and the guide show them: a producer publishes two states into a store in memory, and a consumer follows them.
-ghost use Rattle.std.specs.Prelude.{◌≡◌, ◌↔◌, ◌<◌, IfOk, IsSome, IsTrue, OnOk, false, true};
+ghost use Rattle.std.specs.Prelude.{◌≡◌, ◌↔◌, ◌<◌, IfOk, IsSome, IsSomeAnd, IsTrue, OnOk, false, true};
 ghost use Rattle.hollow.specs.row_model.Tree.{plain};
 ghost use Rattle.hollow.specs.write_engine.CycleLimit.{TellsCycle, TellsTypes};
-ghost use Rattle.library_cases.specs.Numbers.{AreNumbers, TakesNumbers, number_tree};
+ghost use Rattle.library_cases.specs.Numbers.{AreNumbers, KeepsNumbers, TakesNumbers, number_tree};
 
 use hollow::{
     BlobName, Closed, Consumer, Field, FieldKind, Fields, MemStore, Model, ModelFault, Name,
-    Producer, PutRowFault, Row, Rows, Schema, Schemas, Shape, Steps, Tree, Trees, Value, model_of,
-    publish, write_blobs,
+    PathFault, Paths, Producer, PutRowFault, Row, Rows, Schema, Schemas, Shape, Steps, Tree, Trees,
+    Value, Values, model_of, publish, resolve, write_blobs,
 };
 use std::alloc::{AllocError, Global};
 use std::marker::Brand;
@@ -179,6 +179,61 @@ fn number_of(alloc: Global, ordinal: u32, row: &Row) -> Result<String, AllocErro
     }
 }
 
+// What a consumer tells that loads the first state, keeps an index of its numbers and steps to the second: the record there of the number 9.
+#[tactic(auto, using(crate::proofs::LookingUp::step_kept))]
+fn look_up<L: Ledger>(alloc: Global, blank: Blank, store: &mut MemStore) -> Result<String, Fail>
+    requires ledger { blank.name ≡ L.name }
+    requires parts { blank.parts ≡ L.parts }
+    requires some { 0 < blank.parts }
+{
+    let mut consumer = Consumer::new(alloc);
+    consumer.load(store, 1)?;
+    let mut steps = Steps::<L>::new(blank);
+    let index = index_numbers(alloc, &mut consumer, &mut steps)?;
+    consumer.step(store, &BlobName::Delta(1, 2), &mut steps)?;
+    Ok(find_number(alloc, &consumer, index, 9)?)
+}
+
+// A consumer keeps an index of the records by their number. The index.
+#[tactic(auto, using(crate::proofs::LookingUp::first_there, crate::proofs::LookingUp::added_kept))]
+fn index_numbers<L: Ledger>(
+    alloc: Global,
+    consumer: &mut Consumer,
+    steps: &mut Steps<L>,
+) -> Result<u32, Fail>
+    requires { IsSome consumer.old }
+    ensures { IfOk result (λ index. IsSomeAnd consumer.new (KeepsNumbers index)) }
+{
+    let path = match consumer.model() {
+        Some(model) if model.len() > 0 => resolve(alloc, model, 0, "value")?,
+        _ => return Err(Fail::from(PathFault::BadPath)),
+    };
+    let paths = Paths::from_vec(vec![in alloc; path]?);
+    Ok(consumer.add_index(0, paths, steps)?)
+}
+
+// The record of a number in a consumer's state, behind its ordinal; empty where there is not one.
+#[tactic(auto, using(crate::proofs::LookingUp::number_inside, crate::proofs::LookingUp::found_live))]
+fn find_number(
+    alloc: Global,
+    consumer: &Consumer,
+    index: u32,
+    number: i32,
+) -> Result<String, AllocError>
+    requires { IsSomeAnd consumer.now (KeepsNumbers index) }
+{
+    let key = Values::from_vec(vec![in alloc; Value::Int(number)]?);
+    let ordinals = consumer.find(index, &key)?;
+    match ordinals.as_slice() {
+        [ordinal] => {
+            let rows = consumer.now();
+            let row = rows.row(alloc, 0, *ordinal)?;
+            number_of(alloc, *ordinal, &row)
+        }
+        _ => Ok(String::new(alloc)),
+    }
+}
+
 #[test]
 fn follows_two_states(rt: HostRuntime) -> Result<(), Fail> {
     let alloc = rt.alloc();
@@ -188,5 +243,17 @@ fn follows_two_states(rt: HostRuntime) -> Result<(), Fail> {
     publish_numbers(alloc, &mut producer, &mut store, &[5, 9], 2, 102)?;
     let told = follow::<Brand>(alloc, Blank::new(1), &mut store)?;
     assert_eq!(rt; told.as_str(), "0: 5, 1: 7, then 0: 5, 2: 9, ");
+    Ok(())
+}
+
+#[test]
+fn looks_up_a_number(rt: HostRuntime) -> Result<(), Fail> {
+    let alloc = rt.alloc();
+    let mut store = MemStore::new(alloc, Vec::new(alloc), Vec::new(alloc));
+    let mut producer = Producer::new(alloc, model_of_numbers(alloc)?)?;
+    publish_numbers(alloc, &mut producer, &mut store, &[5, 7], 1, 101)?;
+    publish_numbers(alloc, &mut producer, &mut store, &[5, 9], 2, 102)?;
+    let found = look_up::<Brand>(alloc, Blank::new(1), &mut store)?;
+    assert_eq!(rt; found.as_str(), "2: 9, ");
     Ok(())
 }

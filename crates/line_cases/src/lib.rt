@@ -2,6 +2,8 @@
 #![tactic(auto)]
 
 #[cfg(test)]
+mod orders;
+#[cfg(test)]
 mod plain_cycles;
 #[cfg(test)]
 mod plain_finds;

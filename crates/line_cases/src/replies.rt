@@ -1,5 +1,5 @@
 //! Lines: of a refusal that names a row, and of several answers, one behind the other.
-use hol_answers::{ItemFault, Refusal, Reply, RowPlace, put_line, put_reply};
+use hol_answers::{Blobs, ItemFault, Progress, Refusal, Reply, RowPlace, put_line, put_reply};
 use hol_io::BlobName;
 use schema_model::{Name, Reason};
 use serde_json::Value;
@@ -19,12 +19,27 @@ fn bad_row(alloc: Global) -> Result<Refusal, AllocError> {
     }))
 }
 
-/// The lines of null, of a model of one type, and of that blob.
+/// How far a consumer went that met this blob behind one other.
+fn progress(alloc: Global) -> Result<Reply, AllocError> {
+    Ok(Reply::Goto(Progress {
+        applied: 1,
+        of: 3,
+        refused: Some(bad_row(alloc)?),
+        tag: Some(-71),
+    }))
+}
+
+/// The lines of null, of a model of one type, of that blob, and of what no order of the program answers yet.
 fn lines(alloc: Global) -> Result<Vec<u8>, AllocError> {
     let mut out = Vec::new(alloc);
     put_line(alloc, &mut out, &Value::Null)?;
     put_reply(alloc, &mut out, Reply::Model(1))?;
     put_reply(alloc, &mut out, Reply::Refused(bad_row(alloc)?))?;
+    put_reply(alloc, &mut out, progress(alloc)?)?;
+    put_reply(alloc, &mut out, Reply::Plan(Blobs::new(alloc)))?;
+    put_reply(alloc, &mut out, Reply::History(2))?;
+    let none = Refusal::NoPlan { from: None, to: 9 };
+    put_reply(alloc, &mut out, Reply::Refused(none))?;
     Ok(out)
 }
 
@@ -32,6 +47,10 @@ fn lines(alloc: Global) -> Result<Vec<u8>, AllocError> {
 const LINES: &str = r#"null
 {"ok":"model","types":1}
 {"at":31,"blob":"snapshot-1","error":19,"name":"BadBlob","ordinal":7,"reason":45,"type":"A"}
+{"applied":1,"of":3,"ok":"goto","refused":{"at":31,"blob":"snapshot-1","error":19,"name":"BadBlob","ordinal":7,"reason":45,"type":"A"},"tag":-71}
+{"blobs":[],"ok":"plan"}
+{"kept":2,"ok":"history"}
+{"error":36,"from":null,"name":"NoPlan","to":9}
 "#;
 
 #[test]

@@ -1,5 +1,7 @@
+pub mod Dropping
+pub mod Freeing
 pub mod Keeping
+pub mod Placing
 pub mod Puts
 pub mod Restoring
-pub mod SlotRows
-pub mod Unlinking
+pub mod SetRows

@@ -7,7 +7,7 @@ use Rattle.hol_varint.specs.Yields.{Yields}
 use Rattle.row_model.specs.declared.row.Row.{Row}
 use Rattle.row_model.specs.Table.{RowMap}
 use Rattle.ordinal_map.specs.Assign.{Agree, Holds, IsFreePut, IsLeast, IsPut, IsTaken, TellsPut}
-use Rattle.ordinal_map.proofs.SlotRows.{get_inserted, get_beside}
+use Rattle.ordinal_map.proofs.SetRows.{get_inserted, get_beside}
 use Rattle.ordinal_map.specs.States.{States}
 use Rattle.ordinal_map.specs.declared.fault.PutRowFault.{PutRowFault}
 use Rattle.ordinal_map.specs.declared.fault.PutRowFault.TheVariants.{TooMany, Memory}

@@ -1,4 +1,4 @@
 pub mod Assign
+pub mod KeptRows
 pub mod Restored
-pub mod Slots
 pub mod States

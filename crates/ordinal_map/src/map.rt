@@ -1,54 +1,56 @@
 //! The rows of a type in the previous and the current state, and the ordinals that they get.
-ghost use Rattle.std.specs.Prelude.{◌≡◌, ◌≢◌, ◌↔◌, ℕ, ◌<◌, ◌^◌, Some, None, Ok, Err, OnErr, IsSome, IsTrue, MatchBool};
-ghost use Rattle.std.specs.FinMap.{get, empty};
+ghost use Rattle.std.specs.Prelude.{◌≡◌, ◌≢◌, ◌↔◌, ℕ, ◌<◌, ◌^◌, Some, None, Ok, Err, OnErr, OnOk, IsSome, IsTrue, MatchBool};
+ghost use Rattle.std.specs.FinMap.{get, empty, remove};
 ghost use Rattle.hol_varint.specs.Yields.{Yields};
 ghost use Rattle.row_hash.specs.Hash.{row_hash as hash_of_row};
 ghost use Rattle.ordinal_map.specs.Assign.{Agree, Holds, IsFreePut, IsPast, IsPut, IsTaken, TellsPut};
 ghost use Rattle.ordinal_map.specs.Restored.{IsFreeRestore, IsUnknown, TellsRestore};
 
+use crate::changes::{free_beside, free_row, place_row};
 use crate::fault::{PutRowFault, RestoreRowFault};
-use crate::row_chains::{find, link, unlink_free};
-use crate::slot::{
-    Slot, advance_all, any_changed, current_has, least_free, make_room, previous_has, row_at,
-    undo_all,
-};
+use crate::kept_rows::row_at;
+use crate::row_chains::find;
+use hol_varint::Duplicate;
 use linked_slots::Chains;
+use ordinal_set::OrdinalSet;
 use row_hash::row_hash;
 use row_model::Row;
 use schema_model::MAX_ORDINALS;
 use std::alloc::{AllocError, Global};
 use std::marker::Model;
+use std::mem;
 
 /// The rows of a type in the previous state and in the current one, each under its ordinal.
 ///
 /// No row stands under two ordinals, and no ordinal has two rows, whichever of the two states they are in.
 #[derive(Drop)]
 pub struct OrdinalMap {
-    /// What stands under each ordinal.
-    slots: Vec<Slot>,
+    alloc: Global,
+    /// The row under each ordinal, that of either state.
+    rows: Vec<Option<Row>>,
+    /// The ordinals of the previous state.
+    previous: OrdinalSet,
+    /// The ordinals of the current state.
+    current: OrdinalSet,
     /// The ordinals of the rows by the rows' hashes.
     chains: Chains,
     /// Where the next row is looked for first: behind the ordinal that was given last, for rows that come in the order of the cycle before.
     expected: u32,
     /// The ordinals below it are taken.
     filled: u32,
-    /// One past the greatest ordinal of the previous state, 0 for none.
-    previous_bound: u32,
-    /// One past the greatest ordinal of the current state, 0 for none.
-    current_bound: u32,
 }
 
 impl Model for OrdinalMap {
     ghost use Rattle.ordinal_map.specs.States.{States, states_code};
-    ghost use Rattle.ordinal_map.specs.Slots.{previous_row, current_row, rows_of, AreKept};
+    ghost use Rattle.ordinal_map.specs.KeptRows.{rows_of, AreKept};
 
     ghost Value = { States };
 
     ghost coded = { states_code };
 
-    ghost view = { λ m. record { previous = rows_of previous_row m.slots.items; current = rows_of current_row m.slots.items } };
+    ghost view = { λ m. record { previous = rows_of m.rows.items m.previous; current = rows_of m.rows.items m.current } };
 
-    ghost invariant = { λ m. AreKept m.slots.items m.chains m.filled m.previous_bound m.current_bound };
+    ghost invariant = { λ m. AreKept m.rows.items m.chains m.previous m.current m.filled };
 }
 
 impl OrdinalMap {
@@ -57,12 +59,13 @@ impl OrdinalMap {
         ensures { result ≡ record { previous = empty; current = empty } }
     {
         OrdinalMap {
-            slots: Vec::new(alloc),
+            alloc,
+            rows: Vec::new(alloc),
+            previous: OrdinalSet::new(alloc),
+            current: OrdinalSet::new(alloc),
             chains: Chains::new(alloc),
             expected: 0,
             filled: 0,
-            previous_bound: 0,
-            current_bound: 0,
         }
     }
 
@@ -71,7 +74,7 @@ impl OrdinalMap {
         ensures has { IsTrue result ↔ IsSome (get self.now.previous ordinal) }
         ensures agree { Agree self.now.previous self.now.current }
     {
-        previous_has(self.slots.as_slice(), ordinal)
+        self.previous.contains(ordinal)
     }
 
     /// Whether the current state has a row under the ordinal.
@@ -79,21 +82,21 @@ impl OrdinalMap {
         ensures has { IsTrue result ↔ IsSome (get self.now.current ordinal) }
         ensures agree { Agree self.now.previous self.now.current }
     {
-        current_has(self.slots.as_slice(), ordinal)
+        self.current.contains(ordinal)
     }
 
     /// One past the greatest ordinal of the previous state, 0 for none.
     pub fn previous_bound(&self) -> u32
         ensures { IsPast self.now.previous result }
     {
-        self.previous_bound
+        self.previous.bound()
     }
 
     /// One past the greatest ordinal of the current state, 0 for none.
     pub fn current_bound(&self) -> u32
         ensures { IsPast self.now.current result }
     {
-        self.current_bound
+        self.current.bound()
     }
 
     /// The row that one of the two states has under the ordinal.
@@ -102,7 +105,7 @@ impl OrdinalMap {
         ensures row { Holds self.now.previous self.now.current result.now ordinal }
         ensures agree { Agree self.now.previous self.now.current }
     {
-        match row_at(self.slots.as_slice(), ordinal) {
+        match row_at(self.rows.as_slice(), ordinal) {
             Some(row) => row,
             None => unreachable!(),
         }
@@ -112,7 +115,8 @@ impl OrdinalMap {
     pub fn is_changed(&self) -> bool
         ensures { MatchBool result (self.now.current ≢ self.now.previous) (self.now.current ≡ self.now.previous) }
     {
-        any_changed(self.slots.as_slice())
+        self.current.first_beside(&self.previous, 0).is_some()
+            || self.previous.first_beside(&self.current, 0).is_some()
     }
 
     /// Puts a row into the current state, and gives its ordinal: the one under which one of the two states has it, else the least number
@@ -136,27 +140,30 @@ impl OrdinalMap {
         ensures agree { Agree self.old.previous self.old.current }
     {
         if let Some(ordinal) = find(
-            self.slots.as_slice(),
+            self.rows.as_slice(),
             &self.chains,
             self.expected,
             hash,
             &row,
         ) {
-            self.slots[ordinal as usize].enter();
+            self.current.insert(ordinal)?;
             self.expected = ordinal + 1;
-            self.current_bound = self.current_bound.max(ordinal + 1);
             return Ok(ordinal);
         }
-        let ordinal = least_free(self.slots.as_slice(), self.filled);
+        let ordinal = self.previous.least_free_from(&self.current, self.filled);
         if ordinal >= MAX_ORDINALS {
             return Err(PutRowFault::TooMany);
         }
-        make_room(&mut self.slots, ordinal)?;
-        link(&mut self.chains, ordinal, hash)?;
-        self.slots[ordinal as usize] = Slot::Current(row);
+        place_row(
+            &mut self.rows,
+            &mut self.chains,
+            &mut self.current,
+            ordinal,
+            hash,
+            row,
+        )?;
         self.expected = ordinal + 1;
         self.filled = ordinal + 1;
-        self.current_bound = self.current_bound.max(ordinal + 1);
         Ok(ordinal)
     }
 
@@ -187,7 +194,7 @@ impl OrdinalMap {
         ensures agree { Agree self.new.previous self.new.current }
     {
         if let Some(other) = find(
-            self.slots.as_slice(),
+            self.rows.as_slice(),
             &self.chains,
             self.expected,
             hash,
@@ -195,36 +202,72 @@ impl OrdinalMap {
         ) {
             return Err(RestoreRowFault::Equal(other));
         }
-        make_room(&mut self.slots, ordinal)?;
-        link(&mut self.chains, ordinal, hash)?;
-        self.slots[ordinal as usize] = Slot::Previous(row);
-        self.previous_bound = self.previous_bound.max(ordinal + 1);
+        place_row(
+            &mut self.rows,
+            &mut self.chains,
+            &mut self.previous,
+            ordinal,
+            hash,
+            row,
+        )?;
         Ok(())
     }
 
-    /// Makes the current state the previous one. The new current one has no rows. It takes no memory.
+    /// Puts each row of the previous state into the current one, which has none. Its only memory is a set of as many bits as there are ordinals.
+    ///
+    /// Where memory is refused both states stay as they were.
+    pub fn keep_all(&mut self) -> Result<(), AllocError>
+        requires { self.old.current ≡ empty }
+        ensures kept { OnOk result (self.new ≡ record self.old { current = self.old.previous }) }
+        ensures refused { OnErr result (self.new ≡ self.old) }
+        ensures agree { Agree self.new.previous self.new.current }
+    {
+        self.current = self.previous.copy(self.alloc)?;
+        Ok(())
+    }
+
+    /// Takes a row out of the current state, which has it under this ordinal. The ordinal is free then where the previous state lacks it. It
+    /// takes no memory.
+    pub fn drop_row(&mut self, ordinal: u32)
+        requires { IsSome (get self.old.current ordinal) }
+        ensures dropped { self.new ≡ record self.old { current = remove self.old.current ordinal } }
+        ensures agree { Agree self.new.previous self.new.current }
+    {
+        self.current.remove(ordinal);
+        if !self.previous.contains(ordinal) {
+            free_row(&mut self.rows, &mut self.chains, ordinal);
+            self.filled = self.filled.min(ordinal);
+        }
+    }
+
+    /// Makes the current state the previous one. The new current one has no rows. It takes no memory, and looks at no row that stays.
     pub fn advance(&mut self)
         ensures { self.new ≡ record { previous = self.old.current; current = empty } }
     {
-        advance_all(&mut self.slots);
-        unlink_free(&mut self.chains, self.slots.as_slice());
+        free_beside(
+            &mut self.rows,
+            &mut self.chains,
+            &self.previous,
+            &self.current,
+        );
+        mem::swap(&mut self.previous, &mut self.current);
+        self.current.clear();
         self.expected = 0;
         self.filled = 0;
-        self.previous_bound = self.current_bound;
-        self.current_bound = 0;
     }
 
     /// Takes all rows out of the current state. It takes no memory, and next to no time where there is none.
     pub fn undo(&mut self)
         ensures { self.new ≡ record self.old { current = empty } }
     {
-        if self.current_bound == 0 {
-            return;
-        }
-        undo_all(&mut self.slots);
-        unlink_free(&mut self.chains, self.slots.as_slice());
+        free_beside(
+            &mut self.rows,
+            &mut self.chains,
+            &self.current,
+            &self.previous,
+        );
+        self.current.clear();
         self.expected = 0;
         self.filled = 0;
-        self.current_bound = 0;
     }
 }

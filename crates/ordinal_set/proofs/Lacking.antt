@@ -13,7 +13,7 @@ use Rattle.std.proofs.lemmas.List.Kept.{IsStrictlyIncreasing-filter}
 use Rattle.ordinal_set.specs.Ordinals.{AreOrdinals, IsNextMember, without_ordinal, lacking, members_below}
 use Rattle.ordinal_set.specs.Population.{has_bit, population_of, FitOrdinals}
 use Rattle.ordinal_set.proofs.Populations.{clear_bit, bit_past}
-use Rattle.ordinal_set.proofs.Members.{members_below-next, first_or_other, here, there, no_member}
+use Rattle.ordinal_set.proofs.Members.{Contains-filter, Contains-kept, passes-from_filter, members_below-next, first_or_other, here, there, no_member}
 
 -- two filters, one after the other
 filter_both : (p q : ℕ → Bool) (xs : List ℕ) → filter (λ x. p x && q x) xs ≡ filter q (filter p xs)
@@ -91,9 +91,20 @@ bits_cleared words o inside m =
 pub bits_past : (words : List ℕ) (o : ℕ) → length words ≤ o / 64 → (m : ℕ) → has_bit words m ≡ (has_bit words m && not (m == o))
 bits_past words o past m = bit_without (has_bit words m) (has_bit words m) m o (λ same. ap (has_bit words) same ∙ bit_past words o past) (λ apart. refl)
 
+pub member_without : (set : List ℕ) (o m : ℕ) → Contains (without_ordinal o set) m → Contains set m × (m ≡ o → ⊥)
+unfolding without_ordinal
+member_without set o m h = (
+  Contains-filter (λ n. not (n == o)) set m h,
+  (λ same. let passes = passes-from_filter (λ n. not (n == o)) set m h in let test = ap not (eq-eqb m o same) in absurd cc),
+)
+
+pub without_member : (set : List ℕ) (o m : ℕ) → Contains set m → (m ≡ o → ⊥) → Contains (without_ordinal o set) m
+unfolding without_ordinal
+without_member set o m here apart = Contains-kept (λ n. not (n == o)) set m here (ap not (ne_eqb m o apart))
+
 -- ---- the members that another set lacks
 
-any_member : (other : List ℕ) (m : ℕ) → Contains other m → list_any (λ n. n == m) other ≡ true
+pub any_member : (other : List ℕ) (m : ℕ) → Contains other m → list_any (λ n. n == m) other ≡ true
 any_member [] m h = absurd (no_member m h)
 any_member (x ∷ rest) m h =
     elim (cases_Bool (x == m)) [
@@ -105,7 +116,7 @@ any_member (x ∷ rest) m h =
           ]
     ]
 
-no_member_any : (other : List ℕ) (m : ℕ) → (Contains other m → ⊥) → list_any (λ n. n == m) other ≡ false
+pub no_member_any : (other : List ℕ) (m : ℕ) → (Contains other m → ⊥) → list_any (λ n. n == m) other ≡ false
 no_member_any [] m none = refl
 no_member_any (x ∷ rest) m none =
     let test : (x == m) ≡ false = ne_eqb x m (λ e. none (subst (λ y. Contains (x ∷ rest) y) e (here x rest))) in

@@ -1,5 +1,6 @@
 pub mod Members
 pub mod Populations
+pub mod Beside
 pub mod Lacking
 pub mod LeastFree
 pub mod GapRuns

@@ -260,6 +260,20 @@ bound_of-le (x ∷ rest) limit below =
     let others = bound_of-le rest limit (λ m h. below m (there x rest m h)) in
     omega arith
 
+-- the bound is 0, or one past a member
+pub bound_of-member : (set : List ℕ) → (bound_of set ≡ 0) ⊎ ((m : ℕ) × (bound_of set ≡ m + 1) × Contains set m)
+unfolding bound_of
+bound_of-member [] = inl refl
+bound_of-member (x ∷ rest) = inr (greatest (bound_of-member rest))
+  where
+    greatest : (bound_of rest ≡ 0) ⊎ ((m : ℕ) × (bound_of rest ≡ m + 1) × Contains rest m) → (m : ℕ) × (bound_of (x ∷ rest) ≡ m + 1) × Contains (x ∷ rest) m
+    greatest (inl none) = (x, omega arith, here x rest)
+    greatest (inr (m, is, member)) =
+        elim (cases_lt m x) [
+          | inl below ↦ (x, omega arith, here x rest)
+          | inr above ↦ (m, omega arith, there x rest m member)
+        ]
+
 -- ---- a set with one ordinal put in
 
 pub Contains-with_ordinal_cases : (o : ℕ) (set : List ℕ) (m : ℕ) → Contains (with_ordinal o set) m → Contains set m ⊎ (o ≡ m)

@@ -45,8 +45,9 @@ without_ordinal o set = filter (λ m. not (m == o)) set
 unfoldable pub lacking : List ℕ → List ℕ → List ℕ
 lacking set other = filter (λ m. not (list_any (λ n. n == m) other)) set
 
--- The number is in neither set, and each number below it is in one of them.
-pub record IsLeastFree (set other : List ℕ) (least : ℕ) : Type 0 where
+-- The number is in neither set and not below `from`, and each number between the two is in one of them.
+pub record IsLeastFree (from : ℕ) (set other : List ℕ) (least : ℕ) : Type 0 where
   pub free : Contains set least → ⊥
   pub other_free : Contains other least → ⊥
-  pub below : (m : ℕ) → m < least → Contains set m ⊎ Contains other m
+  pub reached : from ≤ least
+  pub below : (m : ℕ) → from ≤ m → m < least → Contains set m ⊎ Contains other m

@@ -6,6 +6,7 @@ pub mod laws;
 mod population;
 mod scan;
 mod set;
+mod two_sets;
 
 pub use gaps::{GapFault, put_gaps, read_gaps};
 pub use set::OrdinalSet;

@@ -1,6 +1,6 @@
 //! Bits of words, scanned for the members that they stand for.
 ghost use Rattle.std.specs.Prelude.{ℕ, ◌≡◌, ◌*◌, ◌^◌, ◌≤◌, ◌==◌, ◌&&◌, not, length, max, vec_len, slice_index, OnOk};
-ghost use Rattle.ordinal_set.specs.Ordinals.{bound_of, TellsNext, IsLeastFree};
+ghost use Rattle.ordinal_set.specs.Ordinals.{bound_of, TellsNext};
 ghost use Rattle.ordinal_set.specs.Population.{has_bit, population_of, FitOrdinals};
 
 use std::alloc::AllocError;
@@ -89,20 +89,4 @@ pub(crate) fn word_at(words: &[u64], place: usize) -> u64
     ensures { result ≡ slice_index words.now place }
 {
     words.get(place).copied().unwrap_or(0)
-}
-
-/// The least number whose bit is clear in both word arrays.
-pub(crate) fn least_clear(words: &[u64], others: &[u64]) -> u32
-    requires words { FitOrdinals words.now }
-    requires others { FitOrdinals others.now }
-    ensures { IsLeastFree (population_of words.now) (population_of others.now) result }
-{
-    let len = words.len().max(others.len());
-    for place in 0..len {
-        let word = word_at(words, place) | word_at(others, place);
-        if word != u64::MAX {
-            return place as u32 * 64 + word.trailing_ones();
-        }
-    }
-    len as u32 * 64
 }

@@ -4,7 +4,8 @@ ghost use Rattle.ordinal_set.specs.Ordinals.{AreOrdinals, with_ordinal, without_
 ghost use Rattle.ordinal_set.specs.Population.{population_of, AreUpTo, IsPopulation};
 
 use crate::population::{population_words, push_words};
-use crate::scan::{clear_bit, has_set, last_set, least_clear, lengthen, next_set};
+use crate::scan::{clear_bit, has_set, last_set, lengthen, next_set};
+use crate::two_sets::{next_beside, next_clear};
 use hol_varint::{Duplicate, Ordinals};
 use std::alloc::{AllocError, Global};
 use std::marker::Model;
@@ -116,9 +117,27 @@ impl OrdinalSet {
 
     /// The least number that is in neither set.
     pub fn least_free(&self, other: &OrdinalSet) -> u32
-        ensures { IsLeastFree self.now other.now result }
+        ensures { IsLeastFree 0 self.now other.now result }
     {
-        least_clear(&self.words, &other.words)
+        self.least_free_from(other, 0)
+    }
+
+    /// The least number that is not below `o` and in neither set.
+    pub fn least_free_from(&self, other: &OrdinalSet, o: u32) -> u32
+        ensures { IsLeastFree o self.now other.now result }
+    {
+        next_clear(&self.words, &other.words, o)
+    }
+
+    /// The least number of the set that is not below `o` and that the other one lacks; `None` where there is none. Where the two agree,
+    /// 64 numbers are passed at a time.
+    pub fn first_beside(&self, other: &OrdinalSet, o: u32) -> Option<u32>
+        ensures first { result ≡ least_from o (lacking self.now other.now) }
+        ensures tells { TellsNext o (lacking self.now other.now) result }
+        ensures ordinals { AreOrdinals self.now }
+        ensures others { AreOrdinals other.now }
+    {
+        next_beside(&self.words, &other.words, o)
     }
 
     /// The numbers of the set that the other one lacks, rising.

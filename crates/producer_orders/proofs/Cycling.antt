@@ -18,8 +18,8 @@ use Rattle.hol_answers.specs.declared.reply.Reply.TheVariants as reply
 use Rattle.hollow_machine.specs.CycleOrder.{AreNamed, CycleRefusal, CycleStep, Makes, Publishes, RefusesAfter}
 use Rattle.hollow_machine.specs.Follow.{MayFollow, MayNotFollow}
 use Rattle.hollow_machine.specs.Kept.{MovesProducer, kept_with_producer, machine_of}
-use Rattle.hollow_machine.specs.Left.{HaltsProducer, HasPart, LeavesCycle}
-use Rattle.hollow_machine.specs.Puts.{ArePutsOf, PutsAfter}
+use Rattle.hollow_machine.specs.Left.{HaltsProducer, HasPart}
+use Rattle.hollow_machine.specs.Puts.{ArePutsOf, CyclePuts, PutsAfter}
 use Rattle.hollow_machine.specs.Records.{AskedCycle, GivesTrees}
 use Rattle.hollow_machine.specs.State.{Machine}
 use Rattle.state_blobs.specs.Published.{published_of, Published}
@@ -37,7 +37,7 @@ use Rattle.producer_orders.specs.Making.{AreRefused, Ends, EndsPublished, Follow
 
 -- what is too large is refused, where the state would be published
 too_large : (store : Store) (last : Published) (asked : AskedCycle) (trees : List (ℕ × PlainTree)) (rows : Table) (changed : List ℕ) (why : Refusal) →
-    MayFollow store last.version asked.version asked.tag → GivesTrees last.model asked.add trees → Makes last trees rows changed → Publishes last changed →
+    MayFollow store last.version asked.version asked.tag → GivesTrees last asked.add trees → Makes last trees rows changed → Publishes last changed →
     IsTooLarge last rows asked.version asked.tag why → RefusesAfter store last asked why
 too_large store last asked trees rows changed (refusal.TooLarge limit.Ordinals) follows gives makes publishes told = absurd told.3
 too_large store last asked trees rows changed (refusal.TooLarge limit.Blob) follows gives makes publishes told = (follows, (trees, gives, (rows, changed, makes, publishes, told.0, told.1)))
@@ -46,7 +46,7 @@ too_large store last asked trees rows changed _ follows gives makes publishes to
 
 -- how a closed cycle ends is what the order answers
 ended : (store : Store) (last : Published) (asked : AskedCycle) (trees : List (ℕ × PlainTree)) (rows : Table) (changed : List ℕ) (held : Option Store) (now : Published) (answer : Reply) →
-    MayFollow store last.version asked.version asked.tag → GivesTrees last.model asked.add trees → Makes last trees rows changed →
+    MayFollow store last.version asked.version asked.tag → GivesTrees last asked.add trees → Makes last trees rows changed →
     IsEnded store last rows changed asked.version asked.tag held now answer →
     (next : Store) × (held ≡ Some next) × ((machine : Machine) → CycleStep (machine_with machine store last) asked answer (machine_with machine next now))
 ended store last asked trees rows changed held now (reply.Cycle names published version) follows gives makes (same, named, (next, is, leaves)) =
@@ -64,7 +64,7 @@ stops_before ArePuts store held held' same told = (store, same ∙ told, inl ref
 
 -- how the last part ends is how the cycle ends
 ends_so : (store : Store) (last : Published) (asked : AskedCycle) (trees : List (ℕ × PlainTree)) (rows : Table) (changed : List ℕ) (held : Option Store) (now : Published) (result : Result Reply CycleEnd) →
-    MayFollow store last.version asked.version asked.tag → GivesTrees last.model asked.add trees → Makes last trees rows changed →
+    MayFollow store last.version asked.version asked.tag → GivesTrees last asked.add trees → Makes last trees rows changed →
     TellsEnd (IsEnded store last rows changed asked.version asked.tag held now) (λ why. (held ≡ Some store) × Publishes last changed × IsTooLarge last rows asked.version asked.tag why)
     (λ stop. StopsPart (λ puts. Publishes last changed × ArePutsOf last rows asked.version asked.tag puts) store held) result →
     TellsEnd (λ answer. (next : Store) × (held ≡ Some next) × ((machine : Machine) → CycleStep (machine_with machine store last) asked answer (machine_with machine next now)))
@@ -189,13 +189,12 @@ put_in_part (Some store) held' last now rows version tag blobs stop within (coun
     let front = front_of puts count in
     (put_all store (take count puts), is, first_puts (ArePutsOf last rows version tag) puts are store (put_all store (take count puts)) front.0 front.1 (ap (put_all store) front.2))
 
--- What a cycle leaves that stops, where all of it that is not put is dropped.
-pub halts : (asked : AskedCycle) (held held' : Option Store) (old mid new : Production) (stop : OrderStop) → new ≡ without_rows mid → published_of mid ≡ published_of old →
+-- What a cycle leaves of the store that stops.
+pub halts : (asked : AskedCycle) (held held' : Option Store) (old mid : Production) (stop : OrderStop) →
     Steps asked held (published_of old) held' (published_of mid) (Err (cycle_end.Stopped stop)) →
-    HaltsProducer (LeavesCycle asked) held (Some old) held' (Some new) (Err stop)
-halts asked None held' old mid new stop is kept steps = λ beside. tt
-halts asked (Some store) held' old mid new stop is kept (next, told, part) =
-    λ beside. (next, told, (next, part, ap (λ (p : Published). machine_with (machine_of store (kept_with_producer beside (Some old))) next p) (ap published_of is ∙ kept)))
+    HaltsProducer (CyclePuts asked) held (Some old) held' (Err stop)
+halts asked None held' old mid stop steps = λ beside. tt
+halts asked (Some store) held' old mid stop steps = λ beside. steps
 
 -- What a producer has published, where it stays if a cycle stops, is what there was of one.
 pub undone : {E : Type 0} (result : Result Reply E) (producer : Option Production) (old new : Production) → producer ≡ Some old → OnErr result (published_of new ≡ published_of old) →

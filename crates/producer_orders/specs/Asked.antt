@@ -1,5 +1,5 @@
 -- What a cycle asks for, wherever its records come from.
-use Rattle.std.specs.Prelude.{◌≡◌, ◌≤◌, ℕ, ℤ, List, [], ◌∷◌, filter, map}
+use Rattle.std.specs.Prelude.{◌≡◌, ◌≤◌, ℕ, ℤ, List, [], ◌∷◌, filter, map, true}
 use Rattle.film_script.specs.Films.{film, film_schemas, film_type, films, is_shown}
 use Rattle.row_model.specs.PlainTree.{PlainTree}
 use Rattle.schema_model.specs.declared.schema.Schema.{Schema}
@@ -17,7 +17,7 @@ adding_of (Films script) = given (films script.seed script.rows script.cycle)
 
 -- what is asked for, as the machine has it: a version, a tag and records
 abbrev pub asked_of : ℕ → ℤ → Records → AskedCycle
-asked_of version tag records = record { version = version; tag = tag; add = adding_of records }
+asked_of version tag records = record { version = version; tag = tag; add = adding_of records; snapshot = true }
 
 -- the records of the film at a place, which is one where the cycle shows it, and else none
 abbrev pub film_at : FilmCycle → ℕ → List (ℕ × PlainTree)

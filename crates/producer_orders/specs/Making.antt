@@ -28,7 +28,7 @@ use Rattle.state_blobs.specs.declared.write.Blobs.{Blobs}
 -- A closed cycle: the trees that the records give, the state that these make and the types that it changes, and the limit that it passes.
 pub record IsMade (last : Published) (add : Adding) (made : Production) (closed : Closed) : Type 0 where
   pub trees : List (ℕ × PlainTree)
-  pub gives : GivesTrees last.model add trees
+  pub gives : GivesTrees last add trees
   pub makes : Makes last trees made.current closed.changed
   pub over : TellsCycle last.model last.rows made.current last.version closed.changed made.over
   pub first : IsTrue closed.first ↔ (last.version ≡ 0)
@@ -37,12 +37,12 @@ pub record IsMade (last : Published) (add : Adding) (made : Production) (closed 
 
 -- The trees that the records give make these rows.
 abbrev pub AreTaken : Published → Adding → Table → Type 0
-AreTaken last add rows = (trees : List (ℕ × PlainTree)) × GivesTrees last.model add trees × Next last.model last.rows trees rows
+AreTaken last add rows = (trees : List (ℕ × PlainTree)) × GivesTrees last add trees × Next last.model last.rows trees rows
 
 -- The records are refused so: they give no trees; or they do, and a row would get the ordinal 2^22.
 abbrev pub AreRefused : Published → Adding → Refusal → Type 0
 AreRefused last add (TooLarge limit.Ordinals) =
-    (trees : List (ℕ × PlainTree)) × GivesTrees last.model add trees × ((rows : Table) → ¬ Next last.model last.rows trees rows)
+    (trees : List (ℕ × PlainTree)) × GivesTrees last add trees × ((rows : Table) → ¬ Next last.model last.rows trees rows)
 AreRefused last add refusal = GivesNoTrees last.model add refusal
 
 -- A state that is to be published is refused so: a type passes a limit; or each type keeps all, and a blob is too long.

@@ -11,7 +11,8 @@ ghost use Rattle.hollow_machine.specs.CycleOrder.{CycleStep};
 ghost use Rattle.hollow_machine.specs.Kept.{IsResting, MovesProducer};
 ghost use Rattle.hollow_machine.specs.MakeCommand.{film_cycle};
 ghost use Rattle.hollow_machine.specs.Records.{asked_cycle};
-ghost use Rattle.hollow_machine.specs.Left.{HaltsProducer, LeavesCycle};
+ghost use Rattle.hollow_machine.specs.Left.{HaltsProducer};
+ghost use Rattle.hollow_machine.specs.Puts.{CyclePuts};
 ghost use Rattle.state_blobs.specs.Published.{published_of};
 ghost use Rattle.producer_orders.specs.Asked.{Suit, asked_of};
 ghost use Rattle.producer_orders.specs.Ends.{HasEndCause, IsMemory, TellsEnd};
@@ -42,7 +43,7 @@ pub fn cycle<S: BlobStore>(
     requires resting { IfSome producer.old IsResting }
     ensures step { MovesProducer (λ machine reply after. CycleStep machine (asked_cycle (asked_state next.now)) reply after)
         (S.seen store.old).held producer.old (S.seen store.new).held producer.new result }
-    ensures halts { HaltsProducer (LeavesCycle (asked_cycle (asked_state next.now))) (S.seen store.old).held producer.old (S.seen store.new).held producer.new result }
+    ensures halts { HaltsProducer (CyclePuts (asked_cycle (asked_state next.now))) (S.seen store.old).held producer.old (S.seen store.new).held result }
     ensures undone { OnErr result (option_map published_of producer.new ≡ option_map published_of producer.old) }
     ensures resting { IfSome producer.new IsResting }
     ensures store_fault { IsErrOf result OrderStop.Store → Rose (S.seen store.old).faults (S.seen store.new).faults }
@@ -65,7 +66,7 @@ fn spelled_cycle<S: BlobStore>(
     requires resting { IsResting producer.old }
     ensures step { MovesProducer (λ machine reply after. CycleStep machine (asked_cycle (asked_state next.now)) reply after)
         (S.seen store.old).held (Some producer.old) (S.seen store.new).held (Some producer.new) result }
-    ensures halts { HaltsProducer (LeavesCycle (asked_cycle (asked_state next.now))) (S.seen store.old).held (Some producer.old) (S.seen store.new).held (Some producer.new) result }
+    ensures halts { HaltsProducer (CyclePuts (asked_cycle (asked_state next.now))) (S.seen store.old).held (Some producer.old) (S.seen store.new).held result }
     ensures undone { OnErr result (published_of producer.new ≡ published_of producer.old) }
     ensures resting { IsResting producer.new }
     ensures store_fault { IsErrOf result OrderStop.Store → Rose (S.seen store.old).faults (S.seen store.new).faults }
@@ -93,7 +94,7 @@ pub fn film_cycle<S: BlobStore>(
     requires resting { IsResting producer.old }
     ensures step { MovesProducer (λ machine reply after. CycleStep machine (film_cycle seed rows cycle) reply after)
         (S.seen store.old).held (Some producer.old) (S.seen store.new).held (Some producer.new) result }
-    ensures halts { HaltsProducer (LeavesCycle (film_cycle seed rows cycle)) (S.seen store.old).held (Some producer.old) (S.seen store.new).held (Some producer.new) result }
+    ensures halts { HaltsProducer (CyclePuts (film_cycle seed rows cycle)) (S.seen store.old).held (Some producer.old) (S.seen store.new).held result }
     ensures undone { OnErr result (published_of producer.new ≡ published_of producer.old) }
     ensures model { producer.new.schemas ≡ film_schemas }
     ensures resting { IsResting producer.new }
@@ -118,7 +119,7 @@ fn cycle_of<S: BlobStore>(
     requires resting { IsResting producer.old }
     ensures step { MovesProducer (λ machine reply after. CycleStep machine (asked_of version tag records.now) reply after)
         (S.seen store.old).held (Some producer.old) (S.seen store.new).held (Some producer.new) result }
-    ensures halts { HaltsProducer (LeavesCycle (asked_of version tag records.now)) (S.seen store.old).held (Some producer.old) (S.seen store.new).held (Some producer.new) result }
+    ensures halts { HaltsProducer (CyclePuts (asked_of version tag records.now)) (S.seen store.old).held (Some producer.old) (S.seen store.new).held result }
     ensures undone { OnErr result (published_of producer.new ≡ published_of producer.old) }
     ensures model { producer.new.schemas ≡ producer.old.schemas }
     ensures resting { IsResting producer.new }

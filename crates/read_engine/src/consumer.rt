@@ -236,7 +236,16 @@ impl Consumer {
     pub(crate) fn tag_or_zero(&self) -> i64
         ensures { result ≡ tag_at self.now }
     {
-        self.tag.unwrap_or(0)
+        // Nothing else is kept: a further field would have to be named here.
+        let Consumer {
+            alloc: _,
+            tag,
+            model: _,
+            states: _,
+            past: _,
+            indexes: _,
+        } = self;
+        tag.unwrap_or(0)
     }
 
     /// The types of its state, none where it has no state.
@@ -253,25 +262,5 @@ impl Consumer {
         ensures schemas { map (λ state. state.schema) result.now ≡ schemas_at self.now }
     {
         self.states.as_slice()
-    }
-}
-
-#[cfg(test)]
-mod tests {
-    use super::Consumer;
-
-    // Nothing else is kept: a further field would have to be named here.
-    #[test]
-    fn keeps_nothing_else(rt: HostRuntime) {
-        let Consumer {
-            alloc: _,
-            tag,
-            model,
-            states,
-            past,
-            indexes,
-        } = Consumer::new(rt.alloc());
-        assert!(rt; tag.is_none() && model.len() == 0 && states.is_empty());
-        assert!(rt; past.is_empty() && indexes.is_empty());
     }
 }

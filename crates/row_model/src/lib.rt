@@ -3,6 +3,7 @@
 
 mod dangling;
 pub mod laws;
+mod left_rows;
 mod lent;
 mod lists;
 mod packed;
@@ -15,6 +16,7 @@ mod seen;
 mod tree;
 
 pub use dangling::{Dangling, dangling_in, first_dangling, is_closed_at, is_plain_type};
+pub use left_rows::LeftRows;
 pub use lent::{LentRow, row_of_place};
 pub use lists::{Areas, Pairs, Places, Values, Widths, Words};
 pub use packed::{Packed, PlaceFault};

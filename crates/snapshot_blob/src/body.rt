@@ -13,7 +13,7 @@ use blob_frame::BlobFault;
 use hol_io::BlobStore;
 use schema_model::Model;
 use std::alloc::Global;
-use type_state::{NextRows, TypeStates};
+use type_state::{NextRows, TypeStates, next_of};
 
 /// The body of a snapshot that was read: its model, and each type's rows in the next half of its state.
 #[derive(Drop)]
@@ -31,7 +31,7 @@ impl Body {
         ensures schemas { result.schemas ≡ self.now.model }
         ensures table { result.table ≡ table_of (next_halves self.now.states) }
     {
-        NextRows::new(&self.model, &self.states)
+        next_of(&self.model, &self.states)
     }
 }
 

@@ -12,7 +12,7 @@ use blob_frame::{BlobFault, Header};
 use hol_io::{BlobName, BlobStore};
 use schema_model::Model;
 use std::alloc::Global;
-use type_state::{NextRows, TypeStates};
+use type_state::{NextRows, TypeStates, next_of};
 
 /// A snapshot that was read: its header, its model, and each type's rows in the next half of its state.
 #[derive(Drop)]
@@ -32,7 +32,7 @@ impl Loaded {
         ensures schemas { result.schemas ≡ self.now.model }
         ensures table { result.table ≡ table_of (next_halves self.now.states) }
     {
-        NextRows::new(&self.model, &self.states)
+        next_of(&self.model, &self.states)
     }
 }
 

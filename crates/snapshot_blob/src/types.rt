@@ -23,7 +23,7 @@ use hol_varint::{Duplicate, GapList};
 use schema_model::{Model, ModelFault, Reason, Rule, Schemas, first_too_deep, model_of};
 use std::alloc::{AllocError, Global};
 use type_rows::Section;
-use type_state::{NextRows, TypeState, TypeStates};
+use type_state::{TypeState, TypeStates, next_of};
 
 /// The state of a snapshot's types: their model, which their schemas are, the rows of each in the next half of its
 /// state, all within the limits, and each ordinal that a row names live.
@@ -174,7 +174,7 @@ fn check_closed(
     requires long { length offsets.now ≡ length model.now }
     ensures { MatchResult result (λ done. IsClosed model.now (table_of (next_halves states.now))) (Blames (closed offsets.now model.now (table_of (next_halves states.now))) IsWant) }
 {
-    let rows = NextRows::new(model, states);
+    let rows = next_of(model, states);
     match first_dangling(alloc, &rows)? {
         None => Ok(()),
         Some(found) => {

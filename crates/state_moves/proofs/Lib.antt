@@ -9,5 +9,6 @@ pub mod Mapped
 pub mod MovedParts
 pub mod Moves
 pub mod PastRows
+pub mod SettledMoves
 pub mod Tables
 pub mod Unchanged

@@ -27,7 +27,7 @@ use Rattle.state_moves.specs.Judged.{IsFreeMove, part_moves}
 use Rattle.row_model.specs.Before.{PastPart, no_part, rows_of_places}
 use Rattle.state_moves.specs.Moving.{AreMoved, ComesOf, IsReadableIn, MovesState, StaysCurrent, TypeIs, coming_halves, parts_move}
 use Rattle.state_moves.proofs.Judging.{coming_none, coming_set, moved_next, moved_none}
-use Rattle.state_moves.proofs.PastRows.{current_bound}
+use Rattle.type_rows.proofs.Entries.{below_bound}
 use Rattle.state_moves.proofs.Tables.{current_at}
 
 -- ---- lists
@@ -75,7 +75,7 @@ all_push P (w ∷ xs) x all one = All-cons P w (xs ++ x ∷ []) (All-head P w xs
 -- ---- ordinals
 
 pub small_live : (state : State) (bound : ℕ) (ordinals : List ℕ) → bound ≡ bound_of (keys state.current.rows) → bound < 2 ^ 32 → All (λ o. IsSome (get state.current.rows o)) ordinals → All (λ o. o < 2 ^ 32 - 1) ordinals
-small_live state bound ordinals is small live k d inside = let below = (current_bound state bound is).above (get_or ordinals k d) (live k d inside) in omega (arith, below, small)
+small_live state bound ordinals is small live k d inside = let below = below_bound state.current.rows (get_or ordinals k d) (live k d inside) in omega (arith, below, is, small)
 
 -- ---- what stays
 

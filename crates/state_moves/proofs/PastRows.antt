@@ -9,19 +9,16 @@ use Rattle.std.specs.List.Sorted.{IsStrictlyIncreasing, IsStrictlySortedBy, IsBi
 use Rattle.std.specs.Ordering.{nat_cmp, eq_by_cmp}
 use Rattle.std.specs.declared.cmp.Ordering.TheVariants.{Equal}
 use Rattle.std.specs.Cmp.{nat_cmp_total, ranked}
-use Rattle.std.specs.FinMap.{find, get, keys, retain_keys, get-insert, get-retain_keys}
+use Rattle.std.specs.FinMap.{find, get, retain_keys, get-insert, get-retain_keys}
 use Rattle.std.proofs.lemmas.Bool.{cases_lt, cases_order, false_from_ne_true, false≢true}
 use Rattle.std.proofs.lemmas.List.Elements.{All-head, All-tail}
 use Rattle.std.proofs.lemmas.List.Sorted.{searched}
 use Rattle.std.proofs.lemmas.Option.{get_or_from_slice_get, slice_get-get_or}
 use Rattle.std.proofs.lemmas.Map.Keys.{below_from_sorted, sorted_from_strictly_increasing}
-use Rattle.ordinal_set.specs.Ordinals.{bound_of}
 use Rattle.row_model.specs.declared.row.Row.{Row}
 use Rattle.row_model.specs.Table.{RowMap}
 use Rattle.row_model.proofs.RowEntries.{skips, finds}
-use Rattle.type_state.specs.State.{State}
-use Rattle.type_state.proofs.NextStates.{bound_of_state}
-use Rattle.row_model.specs.Before.{FitsPast, PastPart, is_new, left_rows, rows_before, rows_of_places, with_rows}
+use Rattle.row_model.specs.Before.{PastPart, is_new, left_rows, rows_before, rows_of_places, with_rows}
 use Rattle.type_views.specs.OneType.{IsRowsBound}
 
 -- ---- numbers that rise
@@ -37,7 +34,7 @@ any_at [] o i inside is = absurd (omega arith)
 any_at (x ∷ xs) o zero inside is = ap (λ (b : Bool). b || list_any (λ n. eqb n o) xs) (eq-eqb x o is)
 any_at (x ∷ xs) o (suc i) inside is = elim (eqb x o) as (λ b. (b || list_any (λ n. eqb n o) xs) ≡ true) [ true ↦ refl | false ↦ any_at xs o i (omega arith) is ]
 
-any_none : (xs : List ℕ) (o : ℕ) → ((k : ℕ) → k < length xs → get_or xs k 0 ≡ o → ⊥) → list_any (λ n. eqb n o) xs ≡ false
+pub any_none : (xs : List ℕ) (o : ℕ) → ((k : ℕ) → k < length xs → get_or xs k 0 ≡ o → ⊥) → list_any (λ n. eqb n o) xs ≡ false
 any_none [] o none = refl
 any_none (x ∷ xs) o none =
     ap (λ (b : Bool). b || list_any (λ n. eqb n o) xs) (false_from_ne_true (eqb x o) (λ t. none 0 (omega arith) (eqb-true x o t)))
@@ -69,7 +66,7 @@ found (x ∷ os) (w ∷ rs) o (suc i) r rises inside is there =
     let above : x < get_or os i 0 = below_from_sorted (x ∷ os) 0 (suc i) 0 rises (omega arith) inside in
     skips o (x, w) (zip os rs) (λ same. omega (arith, same, above, is)) ∙ found os rs o i r rises.1 (omega arith) is there
 
-missed : (os : List ℕ) (rs : List Row) (o : ℕ) → ((k : ℕ) → k < length os → get_or os k 0 ≡ o → ⊥) → find nat_cmp o (zip os rs) ≡ None
+pub missed : (os : List ℕ) (rs : List Row) (o : ℕ) → ((k : ℕ) → k < length os → get_or os k 0 ≡ o → ⊥) → find nat_cmp o (zip os rs) ≡ None
 missed [] rs o none = refl
 missed (x ∷ os) [] o none = refl
 missed (x ∷ os) (w ∷ rs) o none = skips o (x, w) (zip os rs) (λ same. none 0 (omega arith) (sym same)) ∙ missed os rs o (λ k inside. none (suc k) (omega arith))
@@ -174,20 +171,10 @@ live_before now part q live = by_left (find nat_cmp q (left_rows part)) refl
 
 -- ---- bounds
 
-pub current_bound : (state : State) (bound : ℕ) → bound ≡ bound_of (keys state.current.rows) → IsRowsBound state.current.rows bound
-current_bound state bound is =
-    let turned : State = record { schema = state.schema; current = state.other; other = state.current } in
-    let h = bound_of_state (turned ∷ []) 0 bound turned refl is in
-    record { above = h.above; least = h.least }
-
-pub other_bound : (state : State) (bound : ℕ) → bound ≡ bound_of (keys state.other.rows) → IsRowsBound state.other.rows bound
-other_bound state bound is = let h = bound_of_state (state ∷ []) 0 bound state refl is in record { above = h.above; least = h.least }
-
-pub above_before : (state : State) (part : PastPart) (bound most : ℕ) → FitsPast state.current.rows part → bound ≡ bound_of (keys state.current.rows) → bound ≤ most
-    → ((k : ℕ) → k < length part.gone → get_or part.gone k 0 < most) → (o : ℕ) → IsSome (get (rows_before state.current.rows part) o) → o < most
-above_before state part bound most fits is le gone o live = elim (live_before state.current.rows part o live) [
+pub above_before : (now : RowMap) (part : PastPart) (bound most : ℕ) → IsRowsBound now bound → bound ≤ most → ((k : ℕ) → k < length part.gone → get_or part.gone k 0 < most) → (o : ℕ) → IsSome (get (rows_before now part) o) → o < most
+above_before now part bound most is le gone o live = elim (live_before now part o live) [
   | inl (r, there) ↦ let (k, inside, at) = place_of part.gone part.rows o r there in omega (arith, gone k inside, at)
-  | inr (none, old, now) ↦ omega (arith, (current_bound state bound is).above o now, le)
+  | inr (none, old, here) ↦ omega (arith, is.above o here, le)
 ]
 
 -- ---- what the looking up answers

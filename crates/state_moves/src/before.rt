@@ -7,7 +7,6 @@ ghost use Rattle.type_state.specs.Views.{table_of};
 ghost use Rattle.state_moves.specs.Halves.{current_halves};
 ghost use Rattle.row_model.specs.Before.{FitsPast, rows_before, table_before};
 
-use crate::now::state_at;
 use crate::past::{PastPart, part_at};
 use column_rows::PackedItems;
 use hol_varint::Duplicate;
@@ -15,7 +14,7 @@ use record_views::Column;
 use row_model::{LentRow, Row};
 use schema_model::Model;
 use std::alloc::{AllocError, Global};
-use type_state::TypeState;
+use type_state::{PackedRows, TypeState, state_at};
 use type_views::{OneType, RowsByType, StateRows, TypeColumns, TypeRows};
 
 /// The rows before the last step of the types of a model.
@@ -63,7 +62,7 @@ impl<'a> RowsByType for TypesBefore<'a> {
     fn of_type(&self, type_index: u32) -> Option<RowsBefore<'a>> {
         match state_at(self.states, type_index) {
             Some(state) => Some(RowsBefore {
-                state,
+                rows: state.current(),
                 part: part_at(self.past, type_index),
             }),
             None => None,
@@ -74,7 +73,7 @@ impl<'a> RowsByType for TypesBefore<'a> {
 /// The rows of a type before the last step.
 #[derive(Drop)]
 pub struct RowsBefore<'a> {
-    state: &'a TypeState,
+    rows: PackedRows<'a>,
     part: &'a PastPart,
 }
 
@@ -87,9 +86,9 @@ impl<'a> std::marker::Model for RowsBefore<'a> {
 
     ghost coded = { rows_code };
 
-    ghost view = { λ r. rows_before r.state.now.current.rows r.part.now };
+    ghost view = { λ r. rows_before r.rows.rows r.part.now };
 
-    ghost invariant = { λ r. FitsPast r.state.now.current.rows r.part.now };
+    ghost invariant = { λ r. FitsPast r.rows.rows r.part.now };
 }
 
 impl<'a> RowsBefore<'a> {
@@ -97,7 +96,7 @@ impl<'a> RowsBefore<'a> {
     fn first_bound(&self) -> u32
         ensures { (ordinal : ℕ) → IsSome (get self.now ordinal) → ordinal < result }
     {
-        let bound = self.state.bound();
+        let bound = self.rows.bound();
         match self.part.gone().as_slice().last() {
             Some(last) => bound.max(*last + 1),
             None => bound,
@@ -124,21 +123,21 @@ impl<'a> TypeRows<'a> for RowsBefore<'a> {
     fn is_live(&self, ordinal: u32) -> bool {
         match self.part.left_row(ordinal) {
             Some(_) => true,
-            None => !self.part.is_new(ordinal) && self.state.is_live(ordinal),
+            None => !self.part.is_new(ordinal) && self.rows.is_live(ordinal),
         }
     }
 
     fn row(&self, alloc: Global, ordinal: u32) -> Result<Row, AllocError> {
         match self.part.left_row(ordinal) {
             Some(row) => row.copy(alloc),
-            None => self.state.row(alloc, ordinal),
+            None => self.rows.row(alloc, ordinal),
         }
     }
 
     fn lend(&self, alloc: Global, ordinal: u32) -> Result<LentRow<'a>, AllocError> {
         match self.part.left_row(ordinal) {
             Some(row) => Ok(LentRow::Kept(row)),
-            None => self.state.lend(alloc, ordinal),
+            None => self.rows.lend(alloc, ordinal),
         }
     }
 }
@@ -148,20 +147,20 @@ impl<'a> TypeColumns<'a> for RowsBefore<'a> {
         if !self.part.gone().is_empty() {
             return None;
         }
-        self.state.column(field)
+        self.rows.column(field)
     }
 
     fn lists(&self) -> Option<PackedItems<'a>> {
         if !self.part.gone().is_empty() {
             return None;
         }
-        self.state.lists()
+        self.rows.lists()
     }
 
     fn runs(&self) -> Option<PackedItems<'a>> {
         if !self.part.gone().is_empty() {
             return None;
         }
-        self.state.runs()
+        self.rows.runs()
     }
 }

@@ -1,18 +1,12 @@
 //! The rows that come in a step: the next rows of the types that it names, and the current ones of the others.
 ghost use Rattle.std.specs.Prelude.{◌≡◌};
-ghost use Rattle.std.specs.List.{AllZip};
 ghost use Rattle.type_state.specs.Views.{table_of};
-ghost use Rattle.state_moves.specs.Moving.{AreComing, IsComingLaid, coming_half, coming_halves};
+ghost use Rattle.state_moves.specs.Moving.{AreComing, coming_half, coming_halves};
 
 use crate::moved::is_named;
-use crate::now::state_at;
-use column_rows::PackedItems;
-use record_views::Column;
-use row_model::{LentRow, Row};
 use schema_model::Model;
-use std::alloc::{AllocError, Global};
-use type_state::TypeState;
-use type_views::{OneType, RowsByType, StateRows, TypeColumns, TypeRows};
+use type_state::{PackedRows, TypeState, state_at};
+use type_views::{RowsByType, StateRows};
 
 /// The rows that come in a step, by the types of a model.
 pub type Coming<'a> = StateRows<'a, ComingTypes<'a>>;
@@ -50,102 +44,25 @@ impl<'a> std::marker::Model for ComingTypes<'a> {
 }
 
 impl<'a> RowsByType for ComingTypes<'a> {
-    type Of = ComingRows<'a>;
+    type Of = PackedRows<'a>;
 
     ghost table = { λ types. types };
 
-    fn of_type(&self, type_index: u32) -> Option<ComingRows<'a>> {
+    fn of_type(&self, type_index: u32) -> Option<PackedRows<'a>> {
         match state_at(self.states, type_index) {
-            Some(state) => Some(ComingRows {
-                state,
-                is_named: is_named(self.named, type_index),
-            }),
+            Some(state) => Some(coming_rows(state, is_named(self.named, type_index))),
             None => None,
         }
     }
 }
 
-/// The rows of a type that come in a step.
-#[derive(Drop)]
-pub struct ComingRows<'a> {
-    state: &'a TypeState,
-    is_named: bool,
-}
-
-impl<'a> std::marker::Model for ComingRows<'a> {
-    ghost use Rattle.row_model.specs.Table.{RowMap};
-    ghost use Rattle.type_views.specs.Content.{rows_code};
-    ghost use Rattle.state_moves.specs.Moving.{IsComingLaid, coming_half};
-
-    ghost Value = { RowMap };
-
-    ghost coded = { rows_code };
-
-    ghost view = { λ r. (coming_half r.state.now r.is_named).rows };
-
-    ghost invariant = { λ r. IsComingLaid r.state.now r.is_named };
-}
-
-impl<'a> OneType for ComingRows<'a> {
-    ghost rows = { λ rows. rows };
-}
-
-impl<'a> TypeRows<'a> for ComingRows<'a> {
-    fn bound(&self) -> u32 {
-        if self.is_named {
-            self.state.next_bound()
-        } else {
-            self.state.bound()
-        }
-    }
-
-    fn is_live(&self, ordinal: u32) -> bool {
-        if self.is_named {
-            self.state.next_is_live(ordinal)
-        } else {
-            self.state.is_live(ordinal)
-        }
-    }
-
-    fn row(&self, alloc: Global, ordinal: u32) -> Result<Row, AllocError> {
-        if self.is_named {
-            self.state.next_row(alloc, ordinal)
-        } else {
-            self.state.row(alloc, ordinal)
-        }
-    }
-
-    fn lend(&self, alloc: Global, ordinal: u32) -> Result<LentRow<'a>, AllocError> {
-        if self.is_named {
-            self.state.lend_next(alloc, ordinal)
-        } else {
-            self.state.lend(alloc, ordinal)
-        }
-    }
-}
-
-impl<'a> TypeColumns<'a> for ComingRows<'a> {
-    fn column(&self, field: u32) -> Option<Column<'a>> {
-        if self.is_named {
-            self.state.next_column(field)
-        } else {
-            self.state.column(field)
-        }
-    }
-
-    fn lists(&self) -> Option<PackedItems<'a>> {
-        if self.is_named {
-            self.state.next_lists()
-        } else {
-            self.state.lists()
-        }
-    }
-
-    fn runs(&self) -> Option<PackedItems<'a>> {
-        if self.is_named {
-            self.state.next_runs()
-        } else {
-            self.state.runs()
-        }
+// The rows of a type that come: the next ones where the step names it, else the current ones.
+fn coming_rows(state: &TypeState, is_named: bool) -> PackedRows<'_>
+    ensures { result.rows ≡ (coming_half state.entry.now is_named).rows }
+{
+    if is_named {
+        state.other()
+    } else {
+        state.current()
     }
 }

@@ -5,6 +5,8 @@
 mod before;
 mod closing;
 mod coming;
+pub mod laws;
+mod left;
 mod moved;
 mod moving;
 mod next_state;
@@ -13,9 +15,10 @@ mod past;
 mod turning;
 
 pub use before::{Before, RowsBefore, TypesBefore, before_of};
-pub use coming::{Coming, ComingRows, ComingTypes, coming_of};
+pub use coming::{Coming, ComingTypes, coming_of};
+pub use left::Left;
 pub use moved::{Moved, NamedTypes};
 pub use next_state::move_state;
-pub use now::{CurrentRows, CurrentTypes, Now, has_same_rows_in, now_of};
+pub use now::{CurrentTypes, Now, has_same_rows_in, now_of};
 pub use past::{PastPart, PastParts, no_past, part_at};
 pub use turning::{flip_all, flip_named};

@@ -60,7 +60,13 @@ impl PastPart {
     pub fn came(&self) -> &Ordinals
         ensures { result.now ≡ self.now.came }
     {
-        &self.came
+        // Nothing else is kept of a type: a further field would have to be named here.
+        let PastPart {
+            came,
+            gone: _,
+            rows: _,
+        } = self;
+        came
     }
 
     /// The ordinals that left in the step, rising.
@@ -70,8 +76,8 @@ impl PastPart {
         &self.gone
     }
 
-    // The row of the ordinal at a place among those that left.
-    fn row_at(&self, place: usize) -> Option<&Row>
+    /// The row of the ordinal at a place among those that left.
+    pub(crate) fn row_at(&self, place: usize) -> Option<&Row>
         requires { place < length self.now.rows }
         ensures { IsSomeAnd result (λ row. slice_get self.now.rows place ≡ Some row.now) }
     {
@@ -117,16 +123,4 @@ pub fn part_at(past: &[PastPart], type_index: u32) -> &PastPart
     ensures { slice_get past.now type_index ≡ Some result.now }
 {
     &past[type_index as usize]
-}
-
-#[cfg(test)]
-mod tests {
-    use super::PastPart;
-
-    // Nothing else is kept of a type: a further field would have to be named here.
-    #[test]
-    fn keeps_nothing_else(rt: HostRuntime) {
-        let PastPart { came, gone, rows } = PastPart::none(rt.alloc());
-        assert!(rt; came.is_empty() && gone.is_empty() && rows.is_empty());
-    }
 }

@@ -1,21 +1,18 @@
 -- The rows of a half that is kept: those that were laid out, and none where nothing is.
-use Rattle.std.proofs.Common.{true, false, Option, ◌≡◌, inl, inr, ℕ, List, None, Some, sym, subst, ap, ◌∙◌, arith}
-use Rattle.std.specs.Prelude.{Contains, IfOk, IsSome, Result, is_some, map}
-use Rattle.std.specs.declared.alloc.AllocError.{AllocError}
+use Rattle.std.proofs.Common.{true, false, Option, ◌≡◌, inl, inr, ℕ, List, None, sym, subst, ap, ◌∙◌, arith}
+use Rattle.std.specs.Prelude.{Contains, IsSome, is_some, map}
 use Rattle.std.specs.Ordering.{nat_cmp}
-use Rattle.std.specs.List.Sorted.{IsStrictlyIncreasing}
-use Rattle.std.specs.FinMap.{empty, from_entries, get, get-empty, keys}
+use Rattle.std.specs.FinMap.{empty, from_entries, get, get-empty}
 use Rattle.std.proofs.lemmas.Bool.{false≢true}
 use Rattle.schema_model.specs.declared.schema.Shape.{Shape}
 use Rattle.row_model.specs.declared.row.Row.{Row}
 use Rattle.row_model.specs.Table.{RowMap}
 use Rattle.packed_half.specs.declared.half.HalfShape.{HalfShape}
 use Rattle.packed_half.specs.Half.{section_in}
-use Rattle.packed_half.specs.LaidOut.{HasRowUnder, HasRows, IsLaidOut}
+use Rattle.packed_half.specs.LaidOut.{HasRows, IsLaidOut}
 use Rattle.packed_half.specs.Laying.{CanLay}
 use Rattle.spelled_rows.specs.Rows.{row_in, rows_in}
-use Rattle.spelled_rows.proofs.LiveRows.{keys_in, live_found, none_found, rows_are}
-use Rattle.type_rows.proofs.Removal.{has_or}
+use Rattle.spelled_rows.proofs.LiveRows.{live_found, none_found, rows_are}
 use Rattle.type_state.specs.Lookup.{elements_of, pairs_of}
 use Rattle.type_state.specs.State.{empty_half}
 use Rattle.type_state.specs.Kept.{IsBare, IsHalf, half_in, half_rows}
@@ -35,18 +32,9 @@ laid_half shape half words rows can laid =
     let same = sym (laid_rows shape half words rows laid) in
     inr record { laid = subst (IsLaidOut shape half words) same laid; can = subst (CanLay shape half) same can }
 
-pub half_keys : (shape : Shape) (half : HalfShape) (words : List ℕ) → IsStrictlyIncreasing half.live → keys (half_rows shape half words) ≡ half.live
-half_keys shape half words rising = keys_in shape (section_in shape half words) rising
-
--- An ordinal is live exactly where it has a row.
+-- A live ordinal has a row.
 pub live_row : (shape : Shape) (half : HalfShape) (words : List ℕ) (ordinal : ℕ) → Contains half.live ordinal → IsSome (get (half_rows shape half words) ordinal)
 live_row shape half words ordinal live = ap is_some (live_found shape (section_in shape half words) ordinal live)
-
-pub row_live : (shape : Shape) (half : HalfShape) (words : List ℕ) (ordinal : ℕ) → IsSome (get (half_rows shape half words) ordinal) → Contains half.live ordinal
-row_live shape half words ordinal some = elim (has_or half.live ordinal) [
-  | inl live ↦ live
-  | inr none ↦ absurd (false≢true (sym (ap is_some (none_found shape (section_in shape half words) ordinal none)) ∙ some))
-]
 
 none_there : (ordinal : ℕ) → is_some (get {X = Row} (empty {X = Row} {R = nat_cmp}) ordinal) ≡ false
 none_there ordinal = ap (λ (row : Option Row). is_some row) (get-empty nat_cmp ordinal)
@@ -55,23 +43,6 @@ none_there ordinal = ap (λ (row : Option Row). is_some row) (get-empty nat_cmp 
 pub row_laid : (shape : Shape) (half : HalfShape) (words : List ℕ) (ordinal : ℕ) → IsHalf shape half words → IsSome (get (half_rows shape half words) ordinal) → IsLaidOut shape half words (half_rows shape half words)
 row_laid shape half words ordinal (inl bare) some = absurd (false≢true (sym (none_there ordinal) ∙ subst (λ (rows : RowMap). is_some (get rows ordinal) ≡ true) (bare_rows shape half words bare) some))
 row_laid shape half words ordinal (inr packed) some = packed.laid
-
-pub row_under : (shape : Shape) (half : HalfShape) (words : List ℕ) (ordinal : ℕ) → IsHalf shape half words → IsSome (get (half_rows shape half words) ordinal) → HasRowUnder shape half words ordinal
-row_under shape half words ordinal kept some = (half_rows shape half words, row_laid shape half words ordinal kept some, some)
-
--- ---- for a half whose rows are known
-
-module _ (shape : Shape) (half : HalfShape) (words given : List ℕ) (ordinal : ℕ) (rows : RowMap) (same : given ≡ words) (kept : IsHalf shape half words) (are : half_rows shape half words ≡ rows) (some : IsSome (get rows ordinal)) where
-  laid_there : IsLaidOut shape half given rows
-  laid_there =
-      subst (λ (ws : List ℕ). IsLaidOut shape half ws rows) (sym same)
-      (subst (IsLaidOut shape half words) are (row_laid shape half words ordinal kept (subst (λ (rs : RowMap). IsSome (get rs ordinal)) (sym are) some)))
-
-  pub row_shown : HasRowUnder shape half given ordinal
-  row_shown = (rows, laid_there, some)
-
-  pub row_given : (found : Result Row AllocError) → ((all : RowMap) → IsLaidOut shape half given all → IfOk found (λ row. get all ordinal ≡ Some row)) → IfOk found (λ row. get rows ordinal ≡ Some row)
-  row_given found tells = tells rows laid_there
 
 -- ---- look-ups
 

@@ -7,7 +7,7 @@ use Rattle.row_model.specs.Table.{RowMap}
 use Rattle.packed_half.specs.Half.{section_in}
 use Rattle.record_views.specs.Bytes.{bytes_of}
 use Rattle.type_state.specs.declared.kept_records.KeptRecords.{KeptRecords}
-use Rattle.type_state.specs.Current.{rows_code}
+use Rattle.type_state.specs.PackedRows.{rows_code}
 use Rattle.type_state.specs.Kept.{IsHalf, half_rows}
 
 -- The rows of the half that they are the records of.

@@ -1,6 +1,4 @@
-pub mod Columns
 pub mod Counted
-pub mod Current
 pub mod Differences
 pub mod FirstFaults
 pub mod Kept
@@ -10,6 +8,7 @@ pub mod Live
 pub mod Lookup
 pub mod Moved
 pub mod Moving
+pub mod PackedRows
 pub mod Recorded
 pub mod SectionRows
 pub mod State

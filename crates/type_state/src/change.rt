@@ -12,7 +12,7 @@ ghost use Rattle.type_state.specs.Moving.{IsHeld};
 ghost use Rattle.type_state.specs.Counted.{ComeFitting, HoldsLast, IsNoNarrower};
 
 use crate::counting::exchange_rows;
-use crate::current::Current;
+use crate::packed_rows::PackedRows;
 use crate::planning::Plan;
 use row_model::Row;
 use schema_model::{MAX_WORDS, Schema, Shape};
@@ -40,7 +40,7 @@ fn count_change(
     totals: &mut Totals,
     shape: &Shape,
     next: &Plan,
-    rows: &Current<'_>,
+    rows: &PackedRows<'_>,
 ) -> Result<bool, AllocError>
     requires widths { length next.now.outline.widths ≡ width_count shape.now }
     requires narrow { (part : ℕ) → slice_index next.now.outline.widths part ≤ 64 }
@@ -100,7 +100,7 @@ pub(crate) fn totals_by_change(
     alloc: Global,
     schema: &Schema,
     next: &Plan,
-    rows: &Current<'_>,
+    rows: &PackedRows<'_>,
 ) -> Result<Option<Totals>, AllocError>
     requires widths { length next.now.outline.widths ≡ width_count schema.now.shape }
     requires narrow { (part : ℕ) → slice_index next.now.outline.widths part ≤ 64 }

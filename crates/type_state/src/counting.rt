@@ -11,8 +11,8 @@ ghost use Rattle.type_rows.specs.Layout.{width_count};
 ghost use Rattle.type_rows.specs.Totals.{AreLess, AreMore, HasParts};
 ghost use Rattle.type_state.specs.Counted.{AreNothing, FitsSomewhere, IsComing, IsCounted};
 
-use crate::current::Current;
 use crate::differences::Difference;
+use crate::packed_rows::PackedRows;
 use row_model::Row;
 use schema_model::Shape;
 use std::alloc::{AllocError, Global};
@@ -30,7 +30,7 @@ fn are_nothing(totals: &Totals) -> bool
 fn take_under(
     alloc: Global,
     totals: &mut Totals,
-    rows: &Current<'_>,
+    rows: &PackedRows<'_>,
     ordinal: u32,
 ) -> Result<(), AllocError>
     requires { (row : StoredRow) → get rows.now.rows ordinal ≡ Some row → HasParts (length totals.old.ends.offsets.items) row }
@@ -67,7 +67,7 @@ pub(crate) fn exchange_rows(
     totals: &mut Totals,
     shape: &Shape,
     widths: &[u32],
-    rows: &Current<'_>,
+    rows: &PackedRows<'_>,
     differences: &[Difference],
 ) -> Result<bool, AllocError>
     requires widths { length widths.now ≡ width_count shape.now }

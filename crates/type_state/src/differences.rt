@@ -7,10 +7,11 @@ ghost use Rattle.std.specs.Ordering.{nat_cmp};
 ghost use Rattle.row_model.specs.Table.{RowMap};
 ghost use Rattle.type_state.specs.Differences.{AreApart, rows_with};
 
-use crate::current::Current;
+use crate::packed_rows::PackedRows;
 use hol_varint::Duplicate;
 use row_model::Row;
 use std::alloc::{AllocError, Global};
+use type_views::TypeRows;
 
 /// What stands under an ordinal: a row or none.
 pub(crate) type Difference = (u32, Option<Row>);
@@ -47,7 +48,7 @@ fn copy_of(alloc: Global, row: &Option<Row>) -> Result<Option<Row>, AllocError>
 
 impl Differences {
     /// Whether a row stands under an ordinal. It takes no memory.
-    pub(crate) fn is_live(&self, rows: &Current<'_>, ordinal: u32) -> bool
+    pub(crate) fn is_live(&self, rows: &PackedRows<'_>, ordinal: u32) -> bool
         requires { AreApart self.now }
         ensures { IsTrue result ↔ IsSome (get (rows_with rows.now.rows self.now) ordinal) }
     {
@@ -75,7 +76,7 @@ impl Differences {
     pub(crate) fn find(
         &self,
         alloc: Global,
-        rows: &Current<'_>,
+        rows: &PackedRows<'_>,
         ordinal: u32,
     ) -> Result<Option<Row>, AllocError>
         requires { AreApart self.now }

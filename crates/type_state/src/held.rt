@@ -14,7 +14,7 @@ ghost use Rattle.type_state.specs.FirstFaults.{FailsHeld, FailsSlot};
 ghost use Rattle.type_state.specs.Moving.{AreLaidOut, IsHeld, LaysSlot};
 
 use crate::change::totals_by_change;
-use crate::current::Current;
+use crate::packed_rows::PackedRows;
 use crate::planning::Plan;
 use row_model::Row;
 use schema_model::{Limit, MAX_BYTES, MAX_WORDS, Reason, Schema, Shape};
@@ -50,7 +50,7 @@ fn lay_out(
     alloc: Global,
     schema: &Schema,
     next: &Plan,
-    rows: &Current<'_>,
+    rows: &PackedRows<'_>,
     ends: &mut Ends,
 ) -> Result<u64, RowFault>
     requires widths { length next.now.outline.widths ≡ width_count schema.now.shape }
@@ -84,7 +84,7 @@ fn test_all(
     alloc: Global,
     schema: &Schema,
     next: &Plan,
-    rows: &Current<'_>,
+    rows: &PackedRows<'_>,
 ) -> Result<Totals, RowFault>
     requires widths { length next.now.outline.widths ≡ width_count schema.now.shape }
     requires narrow { (part : ℕ) → slice_index next.now.outline.widths part ≤ 64 }
@@ -121,7 +121,7 @@ pub(crate) fn test_held(
     alloc: Global,
     schema: &Schema,
     next: &Plan,
-    rows: &Current<'_>,
+    rows: &PackedRows<'_>,
 ) -> Result<Totals, RowFault>
     requires widths { length next.now.outline.widths ≡ width_count schema.now.shape }
     requires narrow { (part : ℕ) → slice_index next.now.outline.widths part ≤ 64 }

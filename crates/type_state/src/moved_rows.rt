@@ -3,9 +3,9 @@ ghost use Rattle.std.specs.Prelude.{◌≡◌};
 ghost use Rattle.type_state.specs.Differences.{AreApart, rows_with};
 ghost use Rattle.type_state.specs.KeptRecords.{AreKept, kept_rows};
 
-use crate::current::Current;
 use crate::differences::Differences;
 use crate::kept_records::KeptRecords;
+use crate::packed_rows::PackedRows;
 use hol_varint::Octets;
 use object_codec::put_row;
 use packed_half::{NewRows, elements_in, put_elements};
@@ -17,7 +17,7 @@ use std::marker::Model;
 /// The current rows with differences.
 #[derive(Drop)]
 pub(crate) struct MovedRows<'a> {
-    rows: &'a Current<'a>,
+    rows: &'a PackedRows<'a>,
     records: KeptRecords<'a>,
     differences: &'a Differences,
 }
@@ -39,7 +39,7 @@ impl<'a> Model for MovedRows<'a> {
 impl<'a> MovedRows<'a> {
     /// These rows, whose records stand here, with these differences.
     pub(crate) fn new(
-        rows: &'a Current<'a>,
+        rows: &'a PackedRows<'a>,
         records: KeptRecords<'a>,
         differences: &'a Differences,
     ) -> MovedRows<'a>

@@ -13,13 +13,13 @@ ghost use Rattle.type_state.specs.Kept.{IsHalf, half_rows};
 ghost use Rattle.type_state.specs.Live.{live_with as live_ordinals};
 ghost use Rattle.type_state.specs.Moved.{IsMoveOf};
 
-use crate::current::Current;
 use crate::differences::Differences;
 use crate::field_bytes::bytes_of_fields;
 use crate::kept_records::KeptRecords;
 use crate::kept_runs::{can_copy_runs, lay_by_runs};
 use crate::live::live_with;
 use crate::moved_rows::MovedRows;
+use crate::packed_rows::PackedRows;
 use crate::planning::{CountedPlan, Plan, planned};
 use ordinal_set::OrdinalSet;
 use packed_half::{HalfRows, HalfShape, lay_out};
@@ -74,7 +74,7 @@ fn lengths_of(half: &HalfShape) -> &[u64]
 }
 
 /// The half of a plan, whose rows add up to these totals.
-fn half_of(alloc: Global, rows: &Current<'_>, counted: CountedPlan) -> Result<Move, AllocError>
+fn half_of(alloc: Global, rows: &PackedRows<'_>, counted: CountedPlan) -> Result<Move, AllocError>
     requires { AreBelow (2 ^ 32 - 1) counted.plan.differences.added.items }
     ensures differences { IfOk result (λ next. next.differences ≡ counted.plan.differences) }
     ensures layout { IfOk result (λ next. layout_in next.half ≡ layout_at counted.plan.outline) }
@@ -111,7 +111,7 @@ pub(crate) fn moved(
     ensures kind { IfErr result IsLoadFault }
     ensures fault { IfErr result (FailsMove schema.now.shape patch.now (half_rows schema.now.shape current.entry.half.now current.entry.words.now)) }
 {
-    let rows = Current::new(schema, current.half, current.words);
+    let rows = PackedRows::new(schema, current.half, current.words);
     let counted = planned(alloc, schema, &rows, patch)?;
     Ok(half_of(alloc, &rows, counted)?)
 }
@@ -140,7 +140,7 @@ pub(crate) fn lay_moved<'a>(
     if can_copy_runs(&schema.shape, current.half, &next.half) {
         return lay_by_runs(alloc, schema, records, next, words);
     }
-    let rows = Current::new(schema, current.half, current.words);
+    let rows = PackedRows::new(schema, current.half, current.words);
     let moved = MovedRows::new(&rows, records, &next.differences);
     lay_out(alloc, schema, &next.half, &moved, words)
 }

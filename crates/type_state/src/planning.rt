@@ -13,14 +13,15 @@ ghost use Rattle.type_state.specs.Differences.{AreApart, AreBelow, removal, rows
 ghost use Rattle.type_state.specs.Moving.{IsDifferent, IsMoved};
 
 use crate::added::read_added;
-use crate::current::Current;
 use crate::differences::{Difference, Differences};
 use crate::held::test_held;
+use crate::packed_rows::PackedRows;
 use hol_varint::Duplicate;
 use row_faults::first_bad_ordinal;
 use schema_model::{Reason, Schema};
 use std::alloc::{AllocError, Global};
 use type_rows::{Outline, PatchSection, RowFault, Totals};
+use type_views::TypeRows;
 
 /// The rows that a patch moves others to, as differences from these, and their layout.
 #[derive(Debug, Drop)]
@@ -64,7 +65,7 @@ fn first_bound(bound: u32, differences: &Differences) -> u32
 }
 
 /// One past the greatest ordinal that has a row with the differences.
-fn bound_with(rows: &Current<'_>, differences: &Differences) -> u32
+fn bound_with(rows: &PackedRows<'_>, differences: &Differences) -> u32
     requires apart { AreApart differences.now }
     requires small { AreBelow (2 ^ 32 - 1) differences.now.added.items }
     requires removed { AreBelow (bound_of (keys rows.now.rows)) differences.now.removed.items }
@@ -85,7 +86,7 @@ fn bound_with(rows: &Current<'_>, differences: &Differences) -> u32
 fn differences_of(
     alloc: Global,
     schema: &Schema,
-    rows: &Current<'_>,
+    rows: &PackedRows<'_>,
     patch: &PatchSection,
 ) -> Result<Differences, RowFault>
     requires { IsReadablePatch schema.now.shape patch.now }
@@ -105,7 +106,7 @@ fn differences_of(
 fn differing(
     alloc: Global,
     schema: &Schema,
-    rows: &Current<'_>,
+    rows: &PackedRows<'_>,
     patch: &PatchSection,
 ) -> Result<Plan, RowFault>
     requires { IsReadablePatch schema.now.shape patch.now }
@@ -134,7 +135,7 @@ fn differing(
 pub(crate) fn planned(
     alloc: Global,
     schema: &Schema,
-    rows: &Current<'_>,
+    rows: &PackedRows<'_>,
     patch: &PatchSection,
 ) -> Result<CountedPlan, RowFault>
     requires readable { IsReadablePatch schema.now.shape patch.now }

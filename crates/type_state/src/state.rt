@@ -1,13 +1,11 @@
 //! The state of one type: its current rows, and those of the state before or of the next one.
-ghost use Rattle.std.specs.Prelude.{◌≡◌, ◌↔◌, Some, IsSome, IfErr, IfOk, IfSome, IsTrue, MatchResult, OnOk};
+ghost use Rattle.std.specs.Prelude.{◌≡◌, ◌↔◌, Some, IsSome, IfErr, IfOk, IsTrue, MatchResult, OnOk};
 ghost use Rattle.std.specs.FinMap.{get, keys, values};
 ghost use Rattle.ordinal_set.specs.Ordinals.{bound_of};
 ghost use Rattle.hol_varint.specs.Yields.{Yields};
-ghost use Rattle.row_model.specs.Lent.{lent_row};
 ghost use Rattle.row_model.specs.Table.{RowMap};
 ghost use Rattle.std.specs.List.{Contains};
 ghost use Rattle.bucket_codec.specs.Run.{FindsIn};
-ghost use Rattle.type_state.specs.Columns.{AreListsIn, AreRunsIn, IsColumnIn};
 ghost use Rattle.type_state.specs.Lookup.{elements_of, pairs_of};
 ghost use Rattle.type_rows.specs.WellFormed.{IsReadable};
 ghost use Rattle.type_rows.specs.Loads.{IsLoadFault, IsFreeRow, Loads, TellsLoad, layout_of};
@@ -21,21 +19,20 @@ ghost use Rattle.type_rows.specs.WordsHeld.{bytes_held};
 ghost use Rattle.type_state.specs.State.{IsLaidOut, empty_half};
 ghost use Rattle.type_state.specs.WordsHeld.{words_held};
 
-use crate::columns::{column_in, lists_in, runs_in};
 use crate::loading::{half_of_section, lay_section_next};
 use crate::moving::{Move, moved};
+use crate::packed_rows::PackedRows;
 use crate::turning::{clear_next, lay_moved_next};
-use column_rows::PackedItems;
 use ordinal_set::OrdinalSet;
 use packed_half::{HalfRows, HalfShape, bytes_of_half};
 use raw_words::TwinWords;
-use record_views::Column;
-use row_model::{LentRow, Row, Widths, Words};
+use row_model::{Row, Widths, Words};
 use schema_model::Schema;
 use std::alloc::{AllocError, Global};
 use std::marker::Model;
 use std::mem;
 use type_rows::{PatchSection, RowFault, Section};
+use type_views::TypeRows;
 
 /// The rows of one type: those of its current state, and beside them those of the state before or of the next one, each in words of its own.
 ///
@@ -219,18 +216,32 @@ impl TypeState {
         bytes_of_half(&self.now)
     }
 
+    /// The rows of the current state.
+    pub fn current(&self) -> PackedRows<'_>
+        ensures { result.rows ≡ self.entry.now.current.rows }
+    {
+        PackedRows::new(&self.schema, &self.now, self.twin.current())
+    }
+
+    /// The rows of the other half: those of the state before, or those that come next.
+    pub fn other(&self) -> PackedRows<'_>
+        ensures { result.rows ≡ self.entry.now.other.rows }
+    {
+        PackedRows::new(&self.schema, &self.other, self.twin.other())
+    }
+
     /// One past the greatest live ordinal of the current state, 0 for none.
     pub fn bound(&self) -> u32
         ensures { result ≡ bound_of (keys self.entry.now.current.rows) }
     {
-        self.now.live.bound()
+        self.current().bound()
     }
 
     /// Whether the current state has a row under the ordinal.
     pub fn is_live(&self, ordinal: u32) -> bool
         ensures { IsTrue result ↔ IsSome (get self.entry.now.current.rows ordinal) }
     {
-        self.now.live.contains(ordinal)
+        self.current().is_live(ordinal)
     }
 
     /// A copy of the row of the current state under a live ordinal.
@@ -238,12 +249,7 @@ impl TypeState {
         requires { IsSome (get self.now.current.rows ordinal) }
         ensures { IfOk result (λ row. get self.entry.now.current.rows ordinal ≡ Some row) }
     {
-        let half = HalfRows {
-            shape: &self.schema.shape,
-            half: &self.now,
-            words: self.twin.current(),
-        };
-        half.row(alloc, &self.schema, ordinal)
+        self.current().row(alloc, ordinal)
     }
 
     /// Whether the current rows are seen to be those of another type of the same shape, with none of them looked at: both halves are described in
@@ -254,44 +260,6 @@ impl TypeState {
         ensures { IsTrue result → self.entry.now.current.rows ≡ other.entry.now.current.rows }
     {
         self.now.is_same(&other.now) && self.twin.current() == other.twin.current()
-    }
-
-    /// One past the greatest ordinal that was live in the state before, 0 for none.
-    pub fn bound_before(&self) -> u32
-        ensures { result ≡ bound_of (keys self.entry.now.other.rows) }
-    {
-        self.other.live.bound()
-    }
-
-    /// One past the greatest ordinal that is live in the next half, 0 for none.
-    pub fn next_bound(&self) -> u32
-        requires { IsLaidOut self.now.schema self.now.other }
-        ensures { result ≡ bound_of (keys self.entry.now.other.rows) }
-    {
-        self.other.live.bound()
-    }
-
-    /// Whether the state before had a row under the ordinal.
-    pub fn was_live(&self, ordinal: u32) -> bool
-        ensures { IsTrue result ↔ IsSome (get self.entry.now.other.rows ordinal) }
-    {
-        self.other.live.contains(ordinal)
-    }
-
-    /// Whether the next half has a row under the ordinal.
-    pub fn next_is_live(&self, ordinal: u32) -> bool
-        requires { IsLaidOut self.now.schema self.now.other }
-        ensures { IsTrue result ↔ IsSome (get self.entry.now.other.rows ordinal) }
-    {
-        self.other.live.contains(ordinal)
-    }
-
-    /// The row of the current state under a live ordinal, to look at; it is made of its place.
-    pub fn lend(&self, alloc: Global, ordinal: u32) -> Result<LentRow<'_>, AllocError>
-        requires { IsSome (get self.now.current.rows ordinal) }
-        ensures { IfOk result (λ lent. get self.entry.now.current.rows ordinal ≡ Some (lent_row lent)) }
-    {
-        Ok(LentRow::Made(self.row(alloc, ordinal)?))
     }
 
     /// Whether the current state has a set with the element under the ordinal. It takes no memory.
@@ -325,17 +293,42 @@ impl TypeState {
         half.at(ordinal, key)
     }
 
+    /// One past the greatest ordinal that was live in the state before, 0 for none.
+    pub fn bound_before(&self) -> u32
+        ensures { result ≡ bound_of (keys self.entry.now.other.rows) }
+    {
+        self.other().bound()
+    }
+
+    /// Whether the state before had a row under the ordinal.
+    pub fn was_live(&self, ordinal: u32) -> bool
+        ensures { IsTrue result ↔ IsSome (get self.entry.now.other.rows ordinal) }
+    {
+        self.other().is_live(ordinal)
+    }
+
     /// A copy of the row of the state before under an ordinal that was live.
     pub fn row_before(&self, alloc: Global, ordinal: u32) -> Result<Row, AllocError>
         requires { IsSome (get self.now.other.rows ordinal) }
         ensures { IfOk result (λ row. get self.entry.now.other.rows ordinal ≡ Some row) }
     {
-        let half = HalfRows {
-            shape: &self.schema.shape,
-            half: &self.other,
-            words: self.twin.other(),
-        };
-        half.row(alloc, &self.schema, ordinal)
+        self.other().row(alloc, ordinal)
+    }
+
+    /// One past the greatest ordinal that is live in the next half, 0 for none.
+    pub fn next_bound(&self) -> u32
+        requires { IsLaidOut self.now.schema self.now.other }
+        ensures { result ≡ bound_of (keys self.entry.now.other.rows) }
+    {
+        self.other().bound()
+    }
+
+    /// Whether the next half has a row under the ordinal.
+    pub fn next_is_live(&self, ordinal: u32) -> bool
+        requires { IsLaidOut self.now.schema self.now.other }
+        ensures { IsTrue result ↔ IsSome (get self.entry.now.other.rows ordinal) }
+    {
+        self.other().is_live(ordinal)
     }
 
     /// A copy of the row of the next half under an ordinal that is live there.
@@ -344,87 +337,6 @@ impl TypeState {
         requires live { IsSome (get self.now.other.rows ordinal) }
         ensures { IfOk result (λ row. get self.entry.now.other.rows ordinal ≡ Some row) }
     {
-        self.row_before(alloc, ordinal)
-    }
-
-    /// The row of the next half under an ordinal that is live there, to look at; it is made of its place.
-    pub fn lend_next(&self, alloc: Global, ordinal: u32) -> Result<LentRow<'_>, AllocError>
-        requires laid { IsLaidOut self.now.schema self.now.other }
-        requires live { IsSome (get self.now.other.rows ordinal) }
-        ensures { IfOk result (λ lent. get self.entry.now.other.rows ordinal ≡ Some (lent_row lent)) }
-    {
-        Ok(LentRow::Made(self.row_before(alloc, ordinal)?))
-    }
-
-    /// A field of the records of the current state; none where the type has no such field, and where there is no place. It takes no memory.
-    pub fn column(&self, field: u32) -> Option<Column<'_>>
-        ensures { IfSome result (IsColumnIn self.entry.now.current.rows field) }
-    {
-        let half = HalfRows {
-            shape: &self.schema.shape,
-            half: &self.now,
-            words: self.twin.current(),
-        };
-        column_in(half, field)
-    }
-
-    /// The lists of the current state; none where the type is of another kind, and where there is no place. It takes no memory.
-    pub fn lists(&self) -> Option<PackedItems<'_>>
-        ensures { IfSome result (AreListsIn self.entry.now.current.rows) }
-    {
-        let half = HalfRows {
-            shape: &self.schema.shape,
-            half: &self.now,
-            words: self.twin.current(),
-        };
-        lists_in(half)
-    }
-
-    /// The sets or maps of the current state; none where the type is of another kind, and where there is no place. It takes no memory.
-    pub fn runs(&self) -> Option<PackedItems<'_>>
-        ensures { IfSome result (AreRunsIn self.entry.now.current.rows) }
-    {
-        let half = HalfRows {
-            shape: &self.schema.shape,
-            half: &self.now,
-            words: self.twin.current(),
-        };
-        runs_in(half)
-    }
-
-    /// A field of the records of the next half, as `column` of the current one.
-    pub fn next_column(&self, field: u32) -> Option<Column<'_>>
-        ensures { IfSome result (IsColumnIn self.entry.now.other.rows field) }
-    {
-        let half = HalfRows {
-            shape: &self.schema.shape,
-            half: &self.other,
-            words: self.twin.other(),
-        };
-        column_in(half, field)
-    }
-
-    /// The lists of the next half, as `lists` of the current one.
-    pub fn next_lists(&self) -> Option<PackedItems<'_>>
-        ensures { IfSome result (AreListsIn self.entry.now.other.rows) }
-    {
-        let half = HalfRows {
-            shape: &self.schema.shape,
-            half: &self.other,
-            words: self.twin.other(),
-        };
-        lists_in(half)
-    }
-
-    /// The sets or maps of the next half, as `runs` of the current one.
-    pub fn next_runs(&self) -> Option<PackedItems<'_>>
-        ensures { IfSome result (AreRunsIn self.entry.now.other.rows) }
-    {
-        let half = HalfRows {
-            shape: &self.schema.shape,
-            half: &self.other,
-            words: self.twin.other(),
-        };
-        runs_in(half)
+        self.other().row(alloc, ordinal)
     }
 }

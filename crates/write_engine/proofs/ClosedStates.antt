@@ -19,7 +19,7 @@ use Rattle.schema_model.specs.Parts.{index_of_type}
 use Rattle.row_model.specs.PlainTree.{PlainTree, PlainTrees, PlainPairs, leaf, object, list, set, map, no_trees, tree_then, no_pairs, pair_then}
 use Rattle.row_model.specs.Row.{FitsKind, FitsShape, IsValueInRange, IsRowInRange, references_of_row, references_of_value, stored_value, is_least}
 use Rattle.row_model.specs.Table.{Table, RowMap, row_at, IsLive, IsLiveByName}
-use Rattle.ordinal_map.proofs.SlotRows.{get_inserted, get_beside}
+use Rattle.ordinal_map.proofs.SetRows.{get_inserted, get_beside}
 use Rattle.write_engine.specs.Cycle.{Adds, AddsFields, AddsAll, AddsPairs, AddsRecords, Next, PutsRow, no_rows, rows_in, with_row}
 use Rattle.record_trees.specs.FitsTree.{FitsLeaf, IsLeafOr}
 use Rattle.write_engine.specs.RowPuts.{FitsRow}
@@ -44,7 +44,7 @@ Grows before after = (t ordinal : ℕ) → IsLive before t ordinal → IsLive af
 
 -- ---- a row is put
 
-at_set : (table : Table) (t ordinal : ℕ) (rows : RowMap) → t < length table → row_at (slice_set table t rows) t ordinal ≡ get rows ordinal
+pub at_set : (table : Table) (t ordinal : ℕ) (rows : RowMap) → t < length table → row_at (slice_set table t rows) t ordinal ≡ get rows ordinal
 at_set [] t ordinal rows inside = absurd (omega arith)
 at_set (r ∷ table) zero ordinal rows inside = refl
 at_set (r ∷ table) (suc t) ordinal rows inside = at_set table t ordinal rows (omega arith)

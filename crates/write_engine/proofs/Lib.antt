@@ -1,6 +1,8 @@
 pub mod Changes
 pub mod ClosedStates
+pub mod Dropping
 pub mod Duplicates
+pub mod Filling
 pub mod Gathering
 pub mod Members
 pub mod NextStates

@@ -38,7 +38,7 @@ placed (r ∷ table) (suc t) rows = elim (placed table t rows) [
   | nowhere e ↦ nowhere (ap (λ (rest : Table). r ∷ rest) e)
 ]
 
-agree_set : (previous before : Table) (t : ℕ) (rows : RowMap) → TablesAgree previous before → Agree (rows_in previous t) rows → TablesAgree previous (slice_set before t rows)
+pub agree_set : (previous before : Table) (t : ℕ) (rows : RowMap) → TablesAgree previous before → Agree (rows_in previous t) rows → TablesAgree previous (slice_set before t rows)
 agree_set previous before t rows agree there u =
     elim (placed before t rows) [
       | nowhere e ↦ subst (λ (table : Table). Agree (rows_in previous u) (rows_in table u)) (sym e) (agree u)

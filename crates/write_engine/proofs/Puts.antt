@@ -20,12 +20,12 @@ rows_at read [] t d inside = absurd (omega arith)
 rows_at read (s ∷ maps) zero d inside = refl
 rows_at read (s ∷ maps) (suc t) d inside = rows_at read maps t d (omega arith)
 
-map_set : (read : States → RowMap) (maps : List States) (t : ℕ) (s : States) → map read (slice_set maps t s) ≡ slice_set (map read maps) t (read s)
+pub map_set : (read : States → RowMap) (maps : List States) (t : ℕ) (s : States) → map read (slice_set maps t s) ≡ slice_set (map read maps) t (read s)
 map_set read [] t s = refl
 map_set read (x ∷ maps) zero s = refl
 map_set read (x ∷ maps) (suc t) s = ap (λ (rest : Table). read x ∷ rest) (map_set read maps t s)
 
-set_same : (read : States → RowMap) (maps : List States) (t : ℕ) (s d : States) → t < length maps → read s ≡ read (get_or maps t d) → slice_set (map read maps) t (read s) ≡ map read maps
+pub set_same : (read : States → RowMap) (maps : List States) (t : ℕ) (s d : States) → t < length maps → read s ≡ read (get_or maps t d) → slice_set (map read maps) t (read s) ≡ map read maps
 set_same read [] t s d inside same = absurd (omega arith)
 set_same read (x ∷ maps) zero s d inside same = ap (λ (rows : RowMap). rows ∷ map read maps) same
 set_same read (x ∷ maps) (suc t) s d inside same = ap (λ (rest : Table). read x ∷ rest) (set_same read maps t s d (omega arith) same)

@@ -11,7 +11,7 @@ use Rattle.row_model.specs.Table.{Table, IsBound, IsLive, row_at}
 use Rattle.row_model.proofs.RowsFrom.{get_in}
 use Rattle.ordinal_map.specs.Restored.{IsUnknown, Restored}
 use Rattle.ordinal_map.specs.States.{States}
-use Rattle.ordinal_map.proofs.SlotRows.{get_beside, get_inserted, same_rows}
+use Rattle.ordinal_map.proofs.SetRows.{get_beside, get_inserted, same_rows}
 use Rattle.write_engine.specs.Cycle.{rows_in}
 use Rattle.write_engine.specs.Production.{current_of, no_states, previous_of}
 use Rattle.write_engine.specs.Restoring.{HasDistinctRows, IsFirstDuplicate, IsFirstOfType}

@@ -5,5 +5,6 @@ pub mod Leaf
 pub mod Production
 pub mod RestoredRows
 pub mod Restoring
+pub mod RowDrops
 pub mod RowPuts
 pub mod Soundness

@@ -34,6 +34,10 @@ undone states = record states { current = empty }
 abbrev pub advanced : States → States
 advanced states = record { previous = states.current; current = empty }
 
+-- the states when the current one takes all rows of the previous one
+abbrev pub filled : States → States
+filled states = record states { current = states.previous }
+
 -- Both states are closed and their rows fit the types, and the two agree.
 pub record IsProducing (schemas : List Schema) (maps : List States) : Type 0 where
   pub previous : IsClosedTableOf schemas (previous_of maps)

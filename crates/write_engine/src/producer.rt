@@ -1,7 +1,7 @@
 //! A producer: the previous state, and the cycle that makes the next one.
 ghost use Rattle.std.specs.Prelude.{◌≡◌, ◌↔◌, ◌<◌, ◌^◌, ℕ, Ok, Err, IfOk, IsTrue, OnErr, OnOk, true, false, length};
 ghost use Rattle.hol_varint.specs.Yields.{Yields};
-ghost use Rattle.row_model.specs.Table.{Table, IsClosed};
+ghost use Rattle.row_model.specs.Table.{Table, IsClosed, IsLive};
 ghost use Rattle.row_model.specs.PlainTree.{PlainTree};
 ghost use Rattle.row_model.specs.Tree.{plain};
 ghost use Rattle.ordinal_map.specs.Assign.{IsFreePut, IsPut};
@@ -12,13 +12,14 @@ ghost use Rattle.record_trees.specs.FitsTree.{FitsTree};
 ghost use Rattle.record_trees.specs.Rows.{IsRowOf};
 ghost use Rattle.write_engine.specs.Production.{AreChanged, IsProducing, IsStart, advanced_to, current_of, previous_of, without_rows};
 ghost use Rattle.write_engine.specs.Restoring.{HasLowOrdinals, IsFirstDuplicate, IsFreeRestore, TellsRestored, restored_of};
+ghost use Rattle.write_engine.specs.RowDrops.{MayLeave, without_row};
 ghost use Rattle.write_engine.specs.RowPuts.{FitsRow, TellsRowPut};
 ghost use Rattle.write_engine.specs.Soundness.{IsClosedTableOf};
 
 use crate::adding::{add_tree, put_row};
 use crate::limits::cycle_limit;
 use crate::restoring::{RestoreFault, restore_states};
-use crate::states::{advance_all, changed_types, make_states, undo_all};
+use crate::states::{advance_all, changed_types, drop_row, keep_all, make_states, undo_all};
 use crate::views::{Current, Previous};
 use hol_varint::Ordinals;
 use ordinal_map::{OrdinalMap, PutRowFault};
@@ -114,6 +115,26 @@ fn put_one(maps: &mut Vec<OrdinalMap>, type_index: u32, row: Row) -> Result<u32,
     put_row(maps.as_mut_slice(), type_index, row)
 }
 
+// Takes out a row of a type.
+fn drop_one(maps: &mut Vec<OrdinalMap>, type_index: u32, ordinal: u32)
+    requires { IsLive (current_of maps.old.items) type_index ordinal }
+    ensures previous { previous_of maps.new.items ≡ previous_of maps.old.items }
+    ensures current { current_of maps.new.items ≡ without_row (current_of maps.old.items) type_index ordinal }
+{
+    drop_row(maps.as_mut_slice(), type_index, ordinal);
+}
+
+// Takes out a row of a type that no row names.
+fn drop_unnamed(model: &Model, maps: &mut Vec<OrdinalMap>, type_index: u32, ordinal: u32)
+    requires producing { IsProducing model.now maps.old.items }
+    requires leaves { MayLeave model.now (current_of maps.old.items) type_index ordinal }
+    ensures producing { IsProducing model.now maps.new.items }
+    ensures previous { previous_of maps.new.items ≡ previous_of maps.old.items }
+    ensures current { current_of maps.new.items ≡ without_row (current_of maps.old.items) type_index ordinal }
+{
+    drop_one(maps, type_index, ordinal);
+}
+
 // Puts the row of a record that refers to no others.
 fn put_plain(
     model: &Model,
@@ -129,6 +150,7 @@ fn put_plain(
         → IfOk result (λ ordinal. Adds model.now (previous_of maps.old.items) type_index tree (current_of maps.old.items) ordinal (current_of maps.new.items)) }
     ensures too_many { (tree : PlainTree) → IsRowOf tree row → result ≡ Err PutRowFault.TooMany
         → (ordinal : ℕ) (after : Table) → ¬ Adds model.now (previous_of maps.old.items) type_index tree (current_of maps.old.items) ordinal after }
+    ensures refused { OnErr result (current_of maps.new.items ≡ current_of maps.old.items) }
 {
     put_one(maps, type_index, row)
 }
@@ -236,7 +258,7 @@ impl Producer {
 
     /// Adds a record that refers to no others, as the row that it is, and gives its ordinal.
     ///
-    /// `TooMany` comes where it would get the ordinal 2^22.
+    /// `TooMany` comes where it would get the ordinal 2^22. After a refusal the producer is as it was, and the cycle keeps its rows.
     pub fn add_row(&mut self, type_index: u32, row: Row) -> Result<u32, PutRowFault>
         requires fits { (tree : PlainTree) × FitsTree self.old.schemas type_index tree × IsRowOf tree row }
         requires open { self.old.closed ≡ false }
@@ -245,6 +267,7 @@ impl Producer {
         ensures too_many { (tree : PlainTree) → IsRowOf tree row → result ≡ Err PutRowFault.TooMany
             → (ordinal : ℕ) (after : Table) → ¬ Adds self.old.schemas self.old.previous type_index tree self.old.current ordinal after }
         ensures kept { self.new ≡ record self.old { current = self.new.current } }
+        ensures refused { OnErr result (self.new ≡ self.old) }
     {
         put_plain(&self.model, &mut self.maps, type_index, row)
     }
@@ -263,6 +286,27 @@ impl Producer {
         ensures refused { OnErr result (self.new ≡ self.old) }
     {
         put_one(&mut self.maps, type_index, row)
+    }
+
+    /// Opens a cycle that begins with all rows of the previous state, where no cycle is open. Its only memory is a bit for each ordinal.
+    ///
+    /// Where memory is refused no cycle is open.
+    pub fn keep_all(&mut self) -> Result<(), AllocError>
+        requires none { self.old.current ≡ no_rows (length self.old.schemas) }
+        requires open { self.old.closed ≡ false }
+        ensures kept { OnOk result (self.new ≡ record self.old { current = self.old.previous }) }
+        ensures refused { OnErr result (self.new ≡ self.old) }
+    {
+        keep_all(&mut self.maps)
+    }
+
+    /// Takes a row out of the cycle, which no row of the cycle names. It takes no memory.
+    pub fn drop_row(&mut self, type_index: u32, ordinal: u32)
+        requires leaves { MayLeave self.old.schemas self.old.current type_index ordinal }
+        requires open { self.old.closed ≡ false }
+        ensures { self.new ≡ record self.old { current = without_row self.old.current type_index ordinal } }
+    {
+        drop_unnamed(&self.model, &mut self.maps, type_index, ordinal);
     }
 
     /// Closes the cycle, tells which types it has changed, and finds the limit that it passes. After a refusal the cycle is open, with its rows.

@@ -1,6 +1,9 @@
 //! The rows of all types, each type's in an ordinal map.
-ghost use Rattle.std.specs.Prelude.{◌≡◌, IfOk, length, map, replicate};
-ghost use Rattle.write_engine.specs.Production.{AreChanged, advanced, current_of, no_states, previous_of, undone};
+ghost use Rattle.std.specs.Prelude.{◌≡◌, IfOk, OnErr, OnOk, length, map, replicate};
+ghost use Rattle.row_model.specs.Table.{IsLive};
+ghost use Rattle.write_engine.specs.Cycle.{no_rows};
+ghost use Rattle.write_engine.specs.Production.{AreChanged, advanced, current_of, filled, no_states, previous_of, undone};
+ghost use Rattle.write_engine.specs.RowDrops.{without_row};
 
 use hol_varint::Ordinals;
 use ordinal_map::OrdinalMap;
@@ -33,6 +36,40 @@ pub(crate) fn advance_all(maps: &mut Vec<OrdinalMap>)
     for rows in maps.iter_mut() {
         rows.advance();
     }
+}
+
+/// Puts the rows of each type's previous state into its current one, which has none. Where memory is refused no current state has any.
+pub(crate) fn keep_all(maps: &mut Vec<OrdinalMap>) -> Result<(), AllocError>
+    requires { current_of maps.old.items ≡ no_rows (length maps.old.items) }
+    ensures kept { OnOk result (maps.new.items ≡ map filled maps.old.items) }
+    ensures refused { OnErr result (maps.new.items ≡ maps.old.items) }
+{
+    let kept = keep_some(maps);
+    if kept.is_err() {
+        undo_all(maps);
+    }
+    kept
+}
+
+// The same, but that some current states may have their rows where memory is refused.
+fn keep_some(maps: &mut Vec<OrdinalMap>) -> Result<(), AllocError>
+    requires { current_of maps.old.items ≡ no_rows (length maps.old.items) }
+    ensures kept { OnOk result (maps.new.items ≡ map filled maps.old.items) }
+    ensures refused { OnErr result (map undone maps.new.items ≡ maps.old.items) }
+{
+    for rows in maps.iter_mut() {
+        rows.keep_all()?;
+    }
+    Ok(())
+}
+
+/// Takes a row of a type out of its current state.
+pub(crate) fn drop_row(maps: &mut [OrdinalMap], type_index: u32, ordinal: u32)
+    requires { IsLive (current_of maps.old) type_index ordinal }
+    ensures previous { previous_of maps.new ≡ previous_of maps.old }
+    ensures current { current_of maps.new ≡ without_row (current_of maps.old) type_index ordinal }
+{
+    maps[type_index as usize].drop_row(ordinal);
 }
 
 /// The types whose rows differ in the two states.

@@ -4,6 +4,6 @@ use Rattle.chain_laws.proofs.laws.chain_step_taken.Goals as goal
 
 pub returns : goal.returns
 returns c = record {
-  taken = λ machine chain from to now holds was is starts. step_taken machine chain (step_name from to) now holds (step_named from to) was is starts;
-  only = λ machine next chain from to now answer holds was is starts step. step_only machine chain (step_name from to) now holds (step_named from to) was is starts answer next step;
+  taken = λ machine chain from to now holds was is starts. step_taken machine chain (step_name from to) to now holds (step_named from to) was is starts;
+  only = λ machine next chain from to now answer holds was is starts step. step_only machine chain (step_name from to) to now holds (step_named from to) was is starts answer next step;
 }

@@ -6,5 +6,5 @@ use Rattle.chain_laws.proofs.laws.one_move.Goals as goal
 pub returns : goal.returns
 returns c = record {
   load = λ machine next after version answer other one also. one_load machine version answer other next after one also;
-  step = λ machine next after from to answer other is one also. one_move machine (step_name from to) (typed_if machine.consumer is) answer other next after one also;
+  step = λ machine next after from to answer other is one also. one_move machine (step_name from to) to (typed_if machine.consumer is) answer other next after one also;
 }

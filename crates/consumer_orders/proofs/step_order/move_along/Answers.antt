@@ -6,9 +6,9 @@ use Rattle.consumer_orders.proofs.step_order.move_along.Goals as goal
 
 pub returns-in-Err-clause-step : goal.returns-in-Err-clause-step
 returns-in-Err-clause-step g c =
-    not_moved OrderStop (g.S.BlobStore.seen c.args.store.now).held c.args.name.now c.args.consumer.now c.step.new.self c.in-Err.fault c.in_ok-refusal.refusal c.requires.state c.in-Err.ensures.refused
+    not_moved OrderStop (g.S.BlobStore.seen c.args.store.now).held c.args.name.now c.args.to c.args.version.now c.args.consumer.now c.step.new.self c.in-Err.fault c.in_ok-refusal.refusal c.requires.state c.in-Err.ensures.refused
     (sym c.in_ok-refusal.ensures) c.in-Err.ensures.tells
 
 pub returns-clause-step : goal.returns-clause-step
 returns-clause-step g c =
-    moved OrderStop (g.S.BlobStore.seen c.args.store.now).held c.args.name.now c.args.consumer.now c.step.new.self c.in-Some.tag _ c.requires.state (grind (arith, ints, to_z-of_z)) c.in-Some.ensures c.in_default.ensures.tells
+    moved OrderStop (g.S.BlobStore.seen c.args.store.now).held c.args.name.now c.args.to c.args.version.now c.args.consumer.now c.step.new.self c.in-Some.tag _ c.requires.state (grind (arith, ints, to_z-of_z)) c.in-Some.ensures c.in_default.ensures.tells

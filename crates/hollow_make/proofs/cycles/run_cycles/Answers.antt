@@ -42,7 +42,7 @@ pub returns-in_err-reply-clause-halts : goal.returns-in_err-reply-clause-halts
 returns-in_err-reply-clause-halts g c =
     let p = err_from_is_err_and c.from_residual.result c.from_residual.ensures.1 in
     rw p.1 (run_halts c.args.seed c.args.rows c.args.cycles (g.S.BlobStore.seen c.args.store.now).held (g.S.BlobStore.seen c.loop-place.store).held (g.S.BlobStore.seen c.film_cycle.new.store).held
-    c.args.producer.now c.loop-place.producer c.film_cycle.new.producer c.loop-place.place c.loop-place.published c.in_err-reply.field-0.0 c.loop-place-test.true c.loop-place.invariant.run c.in_err-reply.ensures.halts)
+    c.args.producer.now c.loop-place.producer c.loop-place.place c.loop-place.published c.in_err-reply.field-0.0 c.loop-place-test.true c.loop-place.invariant.run c.in_err-reply.ensures.halts)
 
 pub returns-in_err-note-clause-halts : goal.returns-in_err-note-clause-halts
 returns-in_err-note-clause-halts g c =

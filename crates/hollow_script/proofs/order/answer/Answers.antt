@@ -1,8 +1,10 @@
 use Rattle.std.proofs.Common.{refl, subst, sym}
 use Rattle.hol_orders.specs.declared.order.Order.TheVariants as order
 use Rattle.hol_orders.specs.Order.{IsOrder}
-use Rattle.hollow_script.proofs.Ordering.{checks, consumer_halts, consumer_moves, cycle_halts, cycle_moves, looks, model_moves, producer_halts, restore_moves, still_err}
-use Rattle.hollow_script.specs.Asked.{MayPut}
+use Rattle.hollow_machine.specs.Kept.{reader_of}
+use Rattle.hollow_machine.specs.Puts.{MayPut, OrderPuts}
+use Rattle.hollow_script.proofs.Looking.{is_look}
+use Rattle.hollow_script.proofs.Ordering.{checks, cycle_halts, cycle_moves, looks, model_moves, reader_moves, restore_moves, same_published, stays_halts, still_published}
 use Rattle.hollow_script.specs.Kept.{kept_of}
 use Rattle.hollow_script.proofs.order.answer.Goals as goal
 
@@ -23,18 +25,19 @@ returns-in-Cycle-clause-step g c =
 
 pub returns-in-Load-clause-step : goal.returns-in-Load-clause-step
 returns-in-Load-clause-step g c =
-    consumer_moves (g.S.BlobStore.seen c.args.store.now).held (g.S.BlobStore.seen c.load.new.store).held (kept_of c.args.keep.now) c.load.new.consumer c.args.order.now
+    reader_moves (g.S.BlobStore.seen c.args.store.now).held (g.S.BlobStore.seen c.load.new.store).held (kept_of c.args.keep.now) (reader_of c.load.new.consumer c.load.new.version) c.args.order.now
     (order.Load c.in-Load.version) c.load.result c.in-Load.is c.load.ensures.held c.load.ensures.step
 
 pub returns-in-Step-clause-step : goal.returns-in-Step-clause-step
 returns-in-Step-clause-step g c =
-    consumer_moves (g.S.BlobStore.seen c.args.store.now).held (g.S.BlobStore.seen c.step.new.store).held (kept_of c.args.keep.now) c.step.new.consumer c.args.order.now
+    reader_moves (g.S.BlobStore.seen c.args.store.now).held (g.S.BlobStore.seen c.step.new.store).held (kept_of c.args.keep.now) (reader_of c.step.new.consumer c.step.new.version) c.args.order.now
     (order.Step c.in-Step.from c.in-Step.to) c.step.result c.in-Step.is c.step.ensures.held c.step.ensures.step
 
 pub returns-in-Index-clause-step : goal.returns-in-Index-clause-step
 returns-in-Index-clause-step g c =
     let held = (g.S.BlobStore.seen c.args.store.now).held in
-    consumer_moves held held (kept_of c.args.keep.now) c.index.new.consumer c.args.order.now (order.Index c.in-Index.type_name c.in-Index.paths) c.index.result c.in-Index.is refl (c.index.ensures.step held)
+    reader_moves held held (kept_of c.args.keep.now) (reader_of c.index.new.consumer c.args.keep.now.version) c.args.order.now (order.Index c.in-Index.type_name c.in-Index.paths) c.index.result c.in-Index.is refl
+    (c.index.ensures.step held c.args.keep.now.version)
 
 pub restore-requires-clause-order : goal.restore-requires-clause-order
 restore-requires-clause-order g c = subst IsOrder c.in-Restore.is c.requires.order
@@ -52,6 +55,11 @@ returns-in-Check-clause-step g c =
     checks (g.S.BlobStore.seen c.args.store.now).held (g.S.BlobStore.seen c.check.new.store).held (kept_of c.args.keep.now) c.args.order.now c.in-Check.versions c.check.result
     c.in-Check.is c.check.ensures.held c.check.ensures.reply
 
+pub look-requires : goal.look-requires
+look-requires g c =
+    is_look c.args.order.now c.in_default.not-Model c.in_default.not-Cycle c.in_default.not-Restore c.in_default.not-Load c.in_default.not-Step c.in_default.not-Index
+    c.in_default.not-Check
+
 pub returns-in_default-clause-step : goal.returns-in_default-clause-step
 returns-in_default-clause-step g c =
     looks (g.S.BlobStore.seen c.args.store.now).held (kept_of c.args.keep.now) c.args.order.now c.look.result c.look.ensures.reply
@@ -61,42 +69,65 @@ returns-in_default-clause-step g c =
 pub returns-in-Model-clause-halts : goal.returns-in-Model-clause-halts
 returns-in-Model-clause-halts g c =
     let held = (g.S.BlobStore.seen c.args.store.now).held in
-    producer_halts held held (kept_of c.args.keep.now) c.model.new.producer c.args.order.now c.model.result refl c.model.ensures.stopped
-
-pub returns-in-Cycle-clause-halts : goal.returns-in-Cycle-clause-halts
-returns-in-Cycle-clause-halts g c =
-    cycle_halts (g.S.BlobStore.seen c.args.store.now).held (g.S.BlobStore.seen c.cycle.new.store).held (kept_of c.args.keep.now) c.cycle.new.producer c.args.order.now c.cycle.result
-    c.in-Cycle.next c.in-Cycle.is c.cycle.ensures.halts
+    stays_halts (OrderPuts c.args.order.now) held held (kept_of c.args.keep.now) c.model.result refl
 
 pub returns-in-Restore-clause-halts : goal.returns-in-Restore-clause-halts
 returns-in-Restore-clause-halts g c =
-    producer_halts (g.S.BlobStore.seen c.args.store.now).held (g.S.BlobStore.seen c.restore.new.store).held (kept_of c.args.keep.now) c.restore.new.producer c.args.order.now c.restore.result
-    c.restore.ensures.held c.restore.ensures.stopped
+    let held = (g.S.BlobStore.seen c.args.store.now).held in
+    stays_halts (OrderPuts c.args.order.now) held (g.S.BlobStore.seen c.restore.new.store).held (kept_of c.args.keep.now) c.restore.result c.restore.ensures.held
 
 pub returns-in-Load-clause-halts : goal.returns-in-Load-clause-halts
 returns-in-Load-clause-halts g c =
-    consumer_halts (g.S.BlobStore.seen c.args.store.now).held (g.S.BlobStore.seen c.load.new.store).held (kept_of c.args.keep.now) c.load.new.consumer c.args.order.now c.load.result
-    c.load.ensures.held c.load.ensures.stopped
+    let held = (g.S.BlobStore.seen c.args.store.now).held in
+    stays_halts (OrderPuts c.args.order.now) held (g.S.BlobStore.seen c.load.new.store).held (kept_of c.args.keep.now) c.load.result c.load.ensures.held
 
 pub returns-in-Step-clause-halts : goal.returns-in-Step-clause-halts
 returns-in-Step-clause-halts g c =
-    consumer_halts (g.S.BlobStore.seen c.args.store.now).held (g.S.BlobStore.seen c.step.new.store).held (kept_of c.args.keep.now) c.step.new.consumer c.args.order.now c.step.result
-    c.step.ensures.held c.step.ensures.stopped
+    let held = (g.S.BlobStore.seen c.args.store.now).held in
+    stays_halts (OrderPuts c.args.order.now) held (g.S.BlobStore.seen c.step.new.store).held (kept_of c.args.keep.now) c.step.result c.step.ensures.held
 
 pub returns-in-Index-clause-halts : goal.returns-in-Index-clause-halts
 returns-in-Index-clause-halts g c =
     let held = (g.S.BlobStore.seen c.args.store.now).held in
-    consumer_halts held held (kept_of c.args.keep.now) c.index.new.consumer c.args.order.now c.index.result refl c.index.ensures.stopped
+    stays_halts (OrderPuts c.args.order.now) held held (kept_of c.args.keep.now) c.index.result refl
 
 pub returns-in-Check-clause-halts : goal.returns-in-Check-clause-halts
 returns-in-Check-clause-halts g c =
-    consumer_halts (g.S.BlobStore.seen c.args.store.now).held (g.S.BlobStore.seen c.check.new.store).held (kept_of c.args.keep.now) c.args.keep.now.consumer c.args.order.now c.check.result
-    c.check.ensures.held (still_err c.args.keep.now.consumer c.check.result)
+    let held = (g.S.BlobStore.seen c.args.store.now).held in
+    stays_halts (OrderPuts c.args.order.now) held (g.S.BlobStore.seen c.check.new.store).held (kept_of c.args.keep.now) c.check.result c.check.ensures.held
 
 pub returns-in_default-clause-halts : goal.returns-in_default-clause-halts
 returns-in_default-clause-halts g c =
     let held = (g.S.BlobStore.seen c.args.store.now).held in
-    consumer_halts held held (kept_of c.args.keep.now) c.args.keep.now.consumer c.args.order.now c.look.result refl (still_err c.args.keep.now.consumer c.look.result)
+    stays_halts (OrderPuts c.args.order.now) held held (kept_of c.args.keep.now) c.look.result refl
+
+pub returns-in-Cycle-clause-halts : goal.returns-in-Cycle-clause-halts
+returns-in-Cycle-clause-halts g c =
+    cycle_halts (g.S.BlobStore.seen c.args.store.now).held (g.S.BlobStore.seen c.cycle.new.store).held (kept_of c.args.keep.now) c.args.order.now c.cycle.result
+    c.in-Cycle.next c.in-Cycle.is c.cycle.ensures.halts
 
 pub returns-in-Cycle-clause-quiet : goal.returns-in-Cycle-clause-quiet
-returns-in-Cycle-clause-quiet g c = λ not. absurd (not (subst MayPut (sym c.in-Cycle.is) tt))
+returns-in-Cycle-clause-quiet g c = λ not. absurd (not (subst MayPut (sym c.in-Cycle.is) refl))
+
+-- ---- the producer, where it stops
+
+pub returns-in-Model-clause-undone : goal.returns-in-Model-clause-undone
+returns-in-Model-clause-undone g c = still_published c.args.keep.now.producer c.model.new.producer c.model.result c.model.ensures.stopped
+
+pub returns-in-Restore-clause-undone : goal.returns-in-Restore-clause-undone
+returns-in-Restore-clause-undone g c = still_published c.args.keep.now.producer c.restore.new.producer c.restore.result c.restore.ensures.stopped
+
+pub returns-in-Load-clause-undone : goal.returns-in-Load-clause-undone
+returns-in-Load-clause-undone g c = same_published c.args.keep.now.producer c.load.result
+
+pub returns-in-Step-clause-undone : goal.returns-in-Step-clause-undone
+returns-in-Step-clause-undone g c = same_published c.args.keep.now.producer c.step.result
+
+pub returns-in-Index-clause-undone : goal.returns-in-Index-clause-undone
+returns-in-Index-clause-undone g c = same_published c.args.keep.now.producer c.index.result
+
+pub returns-in-Check-clause-undone : goal.returns-in-Check-clause-undone
+returns-in-Check-clause-undone g c = same_published c.args.keep.now.producer c.check.result
+
+pub returns-in_default-clause-undone : goal.returns-in_default-clause-undone
+returns-in_default-clause-undone g c = same_published c.args.keep.now.producer c.look.result

@@ -1,3 +1,4 @@
+use Rattle.std.proofs.Common.{refl}
 use Rattle.hollow_script.proofs.Asking.{none_halts, order_halts, order_moves, quiet_of, refused_moves}
 use Rattle.hollow_script.proofs.Replying.{order_writes}
 use Rattle.std.proofs.lemmas.Result.{err_from_is_err_and}
@@ -27,7 +28,7 @@ returns-in_ok-answer-in-Order-clause-quiet g c = quiet_of c.in_ok-make_way-in-Or
 pub returns-in_err-answer-in-Order-clause-halts : goal.returns-in_err-answer-in-Order-clause-halts
 returns-in_err-answer-in-Order-clause-halts g c =
     let p = err_from_is_err_and c.from_residual-in_err-answer-in-Order.result c.from_residual-in_err-answer-in-Order.ensures.1 in
-    rw p.1 (order_halts (g.S.BlobStore.seen c.args.store.now).held (g.S.BlobStore.seen c.answer.new.store).held c.args.keep.now c.answer.new.keep c.args.asked c.in-Order.order c.in_err-answer-in-Order.field-0.0 p.0
+    rw p.1 (order_halts (g.S.BlobStore.seen c.args.store.now).held (g.S.BlobStore.seen c.answer.new.store).held c.args.keep.now c.args.asked c.in-Order.order c.in_err-answer-in-Order.field-0.0 p.0
     c.in-Order.is c.in_err-answer-in-Order.ensures.halts)
 
 pub returns-in_ok-answer-in-Order-clause-step : goal.returns-in_ok-answer-in-Order-clause-step
@@ -37,3 +38,10 @@ returns-in_ok-answer-in-Order-clause-step g c =
 
 pub returns-in-Refused-clause-step : goal.returns-in-Refused-clause-step
 returns-in-Refused-clause-step g c = refused_moves (g.S.BlobStore.seen c.args.store.now).held c.args.keep.now c.args.asked c.in-Refused.refusal c.in-Refused.is
+
+pub returns-in_err-make_way-in-Order-clause-undone : goal.returns-in_err-make_way-in-Order-clause-undone
+returns-in_err-make_way-in-Order-clause-undone g c = let p = err_from_is_err_and c.from_residual.result c.from_residual.ensures.1 in rw p.1 refl
+
+pub returns-in_err-answer-in-Order-clause-undone : goal.returns-in_err-answer-in-Order-clause-undone
+returns-in_err-answer-in-Order-clause-undone g c =
+    let p = err_from_is_err_and c.from_residual-in_err-answer-in-Order.result c.from_residual-in_err-answer-in-Order.ensures.1 in rw p.1 c.in_err-answer-in-Order.ensures.undone

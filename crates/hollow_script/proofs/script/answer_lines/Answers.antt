@@ -63,7 +63,7 @@ returns-in_default-clause-replied g c =
 pub returns-in_err-lines-clause-stops : goal.returns-in_err-lines-clause-stops
 returns-in_err-lines-clause-stops g c =
     let p = err_from_is_err_and c.from_residual.result c.from_residual.ensures.1 in
-    rw (p.1, p.2) (stops_at_start (g.I.Source.left c.args.input.now) (g.S.BlobStore.seen c.args.store.now).held (g.O.Sink.taken c.args.out.now) c.args.waiting.now.items c.requires.none_waits)
+    rw (p.1, p.2) (stops_at_start (g.I.Source.left c.args.input.now) (g.S.BlobStore.seen c.args.store.now).held c.args.keep.now (g.O.Sink.taken c.args.out.now) c.args.waiting.now.items c.requires.fresh c.requires.none_waits)
 
 pub returns-in_err-also-clause-stops : goal.returns-in_err-also-clause-stops
 returns-in_err-also-clause-stops g c =
@@ -72,7 +72,7 @@ returns-in_err-also-clause-stops g c =
     let held' = (g.S.BlobStore.seen c.serve_next.new.store).held in
     rw (p.1, p.2) (told_both (g.I.Source.left c.args.input.now) (g.S.BlobStore.seen c.args.store.now).held
     (λ bytes first. IsAnswered bytes first (g.I.Source.left c.loop-turn.input) (g.S.BlobStore.seen c.loop-turn.store).held c.loop-turn.lines c.loop-turn.keep before (g.O.Sink.taken c.loop-turn.out) c.loop-turn.waiting.items c.loop-turn.refused)
-    (λ bytes first. HasStopped bytes first (g.I.Source.left c.serve_next.new.input) held' before (g.O.Sink.taken c.serve_next.new.out) c.serve_next.new.waiting.items c.in_err-also.field-0.0) c.loop-turn.invariant.answered
+    (λ bytes first. HasStopped bytes first (g.I.Source.left c.serve_next.new.input) held' c.serve_next.new.keep before (g.O.Sink.taken c.serve_next.new.out) c.serve_next.new.waiting.items c.in_err-also.field-0.0) c.loop-turn.invariant.answered
     (λ bytes first is. c.in_err-also.ensures.served bytes first before c.loop-turn.refused is))
 
 pub returns-clause-stops : goal.returns-clause-stops
@@ -82,5 +82,5 @@ returns-clause-stops g c =
     let after = g.O.Sink.taken c.loop-turn.out in
     told_both (g.I.Source.left c.args.input.now) (g.S.BlobStore.seen c.args.store.now).held
     (λ bytes first. IsAnswered bytes first (g.I.Source.left c.loop-turn.input) held c.loop-turn.lines c.loop-turn.keep before after c.loop-turn.waiting.items c.loop-turn.refused)
-    (λ bytes first. HasStopped bytes first (g.I.Source.left c.loop-turn.input) held before after c.loop-turn.waiting.items stop.Memory) c.loop-turn.invariant.answered
+    (λ bytes first. HasStopped bytes first (g.I.Source.left c.loop-turn.input) held c.loop-turn.keep before after c.loop-turn.waiting.items stop.Memory) c.loop-turn.invariant.answered
     (λ bytes first is. stays_stopped bytes first (g.I.Source.left c.loop-turn.input) held c.loop-turn.lines c.loop-turn.keep before after c.loop-turn.waiting.items c.loop-turn.refused is)

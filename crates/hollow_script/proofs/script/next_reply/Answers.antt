@@ -20,7 +20,7 @@ returns-in_err-answer_asked-clause-answers g c = λ bytes given now has told.
     (let p = err_from_is_err_and c.from_residual-in_err-answer_asked.result c.from_residual-in_err-answer_asked.ensures.1 in
     rw (p.1, p.2) (asked_halts bytes given (g.I.Source.left c.next_asked.new.input) c.next_asked.new.lines (g.S.BlobStore.seen c.args.store.now).held (g.S.BlobStore.seen c.answer_asked.new.store).held
     c.args.keep.now c.answer_asked.new.keep now c.in_ok-asked.field-0 c.in-Some.asked c.in_err-answer_asked.field-0.0 (search rules) told c.in_err-answer_asked.ensures.others (search rules)
-    (c.in_ok-asked.ensures.asks bytes given has) c.in_err-answer_asked.ensures.halts))
+    (c.in_ok-asked.ensures.asks bytes given has) c.in_err-answer_asked.ensures.halts c.in_err-answer_asked.ensures.undone))
 
 pub returns-in_err-answer_asked-clause-put : goal.returns-in_err-answer_asked-clause-put
 returns-in_err-answer_asked-clause-put g c =

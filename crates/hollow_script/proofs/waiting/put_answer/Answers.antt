@@ -1,3 +1,4 @@
+use Rattle.std.proofs.Common.{ap, arith, length}
 use Rattle.std.proofs.lemmas.Result.{err_from_is_err_and}
 use Rattle.hol_answers.specs.Reply.{line_of}
 use Rattle.hollow_script.proofs.Replying.{reply_fails, reply_put, reply_refused}
@@ -18,3 +19,6 @@ pub returns-clause-put : goal.returns-clause-put
 returns-clause-put g c =
     reply_put (line_of c.args.reply) (g.O.Sink.taken c.args.out.now) (g.O.Sink.taken c.write_waiting.new.out) c.args.waiting.now.items c.put_reply.new.out.items c.write_waiting.new.waiting.items
     c.in_ok-put_reply.ensures.put c.in_ok-write_waiting.ensures.put
+
+pub returns-clause-few : goal.returns-clause-few
+returns-clause-few g c = let none = ap length c.in_ok-write_waiting.ensures.none in omega (arith, none)

@@ -1,14 +1,14 @@
 use Rattle.std.proofs.Common.{◌≡◌, ℕ, Some, length}
 use Rattle.std.specs.Prelude.{Contains}
 use Rattle.linked_slots.specs.Chained.{IsAt, left_at}
-use Rattle.ordinal_map.specs.Slots.{any_row, row_in}
+use Rattle.ordinal_map.specs.KeptRows.{row_under}
 use Rattle.ordinal_map.proofs.row_chains.find_in_chain.Given as goal
 
 -- the row stands ahead, if it stands
 abbrev pub invariant-loop-at : goal.invariant-loop-at
 invariant-loop-at l = record {
   at : IsAt l.chains l.hash l.at;
-  ahead : (ordinal : ℕ) → row_in any_row l.slots ordinal ≡ Some l.row → Contains (left_at l.chains l.hash l.at) ordinal;
+  ahead : (ordinal : ℕ) → row_under l.rows ordinal ≡ Some l.row → Contains (left_at l.chains l.hash l.at) ordinal;
 }
 
 abbrev pub decreases-loop-at : goal.decreases-loop-at

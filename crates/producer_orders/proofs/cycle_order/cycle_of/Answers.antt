@@ -36,7 +36,7 @@ returns-in-Err-Stopped-clause-halts g c =
     let mid = c.run_cycle-ended.new.producer in
     let told = rw c.in-Err-Stopped.field-0-is at c.in-Err-Stopped.ensures.steps in
     let steps = at_tag (λ t. Steps (asked_of c.args.version t c.args.records.now) held (published_of old) held' (published_of mid) (Err (Stopped c.in-Err-Stopped.stop))) c.args.tag c.ranges.tag told in
-    halts (asked_of c.args.version c.args.tag c.args.records.now) held held' old mid c.undo.new.self c.in-Err-Stopped.stop c.undo.ensures c.in-Err-Stopped.ensures.kept steps
+    halts (asked_of c.args.version c.args.tag c.args.records.now) held held' old mid c.in-Err-Stopped.stop steps
 
 pub returns-in-Err-Stopped-clause-undone : goal.returns-in-Err-Stopped-clause-undone
 returns-in-Err-Stopped-clause-undone g c = ap published_of c.undo.ensures ∙ c.in-Err-Stopped.ensures.kept

@@ -1,8 +1,9 @@
-use Rattle.std.proofs.Common.{ℤ, Some}
+use Rattle.std.proofs.Common.{ℤ, Some, true}
 use Rattle.hol_orders.specs.Parts.{added}
 use Rattle.hollow_machine.specs.CycleOrder.{CycleStep}
 use Rattle.hollow_machine.specs.Kept.{MovesProducer}
-use Rattle.hollow_machine.specs.Left.{HaltsProducer, LeavesCycle}
+use Rattle.hollow_machine.specs.Left.{HaltsProducer}
+use Rattle.hollow_machine.specs.Puts.{CyclePuts}
 use Rattle.hollow_machine.specs.Records.{spelled}
 use Rattle.state_blobs.proofs.Tags.{at_tag}
 use Rattle.producer_orders.proofs.cycle_order.spelled_cycle.Goals as goal
@@ -12,7 +13,7 @@ returns-clause-step g c =
     let held = (g.S.BlobStore.seen c.args.store.now).held in
     let held' = (g.S.BlobStore.seen c.cycle_of.new.store).held in
     let next = c.args.next.now in
-    at_tag (λ (t : ℤ). MovesProducer (λ machine reply after. CycleStep machine (record { version = next.version; tag = t; add = spelled (added next.add) }) reply after) held (Some c.args.producer.now) held' (Some c.cycle_of.new.producer) c.cycle_of.result)
+    at_tag (λ (t : ℤ). MovesProducer (λ machine reply after. CycleStep machine (record { version = next.version; tag = t; add = spelled (added next.add); snapshot = true }) reply after) held (Some c.args.producer.now) held' (Some c.cycle_of.new.producer) c.cycle_of.result)
     next.tag c.requires.order.1 c.cycle_of.ensures.step
 
 pub returns-clause-halts : goal.returns-clause-halts
@@ -20,5 +21,5 @@ returns-clause-halts g c =
     let held = (g.S.BlobStore.seen c.args.store.now).held in
     let held' = (g.S.BlobStore.seen c.cycle_of.new.store).held in
     let next = c.args.next.now in
-    at_tag (λ (t : ℤ). HaltsProducer (LeavesCycle (record { version = next.version; tag = t; add = spelled (added next.add) })) held (Some c.args.producer.now) held' (Some c.cycle_of.new.producer) c.cycle_of.result)
+    at_tag (λ (t : ℤ). HaltsProducer (CyclePuts (record { version = next.version; tag = t; add = spelled (added next.add); snapshot = true })) held (Some c.args.producer.now) held' c.cycle_of.result)
     next.tag c.requires.order.1 c.cycle_of.ensures.halts

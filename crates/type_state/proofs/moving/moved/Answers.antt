@@ -9,7 +9,7 @@ use Rattle.type_rows.specs.Loads.{IsLoadFault}
 use Rattle.type_rows.specs.Patches.{RefusesMove}
 use Rattle.row_faults.specs.MoveFault.{FailsMove}
 use Rattle.type_state.specs.declared.differences.Differences.{Differences}
-use Rattle.type_state.specs.Current.{Standing}
+use Rattle.type_state.specs.PackedRows.{Standing}
 use Rattle.type_state.specs.declared.moving.Move.{Move}
 use Rattle.type_state.specs.Differences.{rows_with}
 use Rattle.type_state.specs.Kept.{half_rows}

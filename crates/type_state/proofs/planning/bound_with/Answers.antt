@@ -4,12 +4,12 @@ use Rattle.std.specs.FinMap.{get, keys}
 use Rattle.ordinal_set.specs.Ordinals.{bound_of}
 use Rattle.type_rows.proofs.Entries.{least_bound}
 use Rattle.type_state.specs.Differences.{rows_with}
-use Rattle.type_state.proofs.Bounds.{none_above}
+use Rattle.type_state.proofs.Bounds.{bound_of_rows, none_above}
 use Rattle.type_state.proofs.planning.bound_with.Goals as goal
 
 pub loop-above-init : goal.loop-above-init
 loop-above-init c =
-    none_above c.args.rows.now.rows c.args.differences.now (bound_of (keys c.args.rows.now.rows)) c.first_bound-above.result c.requires.apart refl (omega (arith, c.first_bound-above.ensures.before, c.bound.ensures.bound)) c.first_bound-above.ensures.added c.requires.removed
+    none_above c.args.rows.now.rows c.args.differences.now (bound_of (keys c.args.rows.now.rows)) c.first_bound-above.result c.requires.apart refl (omega (arith, c.first_bound-above.ensures.before, bound_of_rows c.args.rows.now.rows c.bound.result c.bound.ensures)) c.first_bound-above.ensures.added c.requires.removed
 
 pub returns-then-is_live : goal.returns-then-is_live
 returns-then-is_live c =

@@ -1,6 +1,5 @@
 use Rattle.std.proofs.Common.{◌<◌, ◌^◌, List, ℕ, map, ap, ◌∙◌, subst, sym, arith, rules}
 use Rattle.std.specs.Prelude.{All}
-use Rattle.type_rows.proofs.Entries.{below_bound}
 use Rattle.row_faults.specs.MoveFault.{FailsMove, OrdinalsPass}
 use Rattle.type_state.specs.Differences.{removal}
 use Rattle.type_state.proofs.PassedOrdinals.{addable, fails_adds, removable}
@@ -12,7 +11,7 @@ returns-in-Some c = c.in-Some.ensures c.args.rows.now.rows (sym c.live.ensures)
 pub removals-requires : goal.removals-requires
 removals-requires c =
     let live = (removable c.args.patch.now c.args.rows.now.rows (c.in_default.ensures c.args.rows.now.rows (sym c.live.ensures)).removed).live in
-    let small : All (λ o. o < 2 ^ 32) c.args.patch.now.removed = λ k d inside. (let low = below_bound c.args.rows.now.rows _ (live k d inside) in omega (arith, low, c.bound-bound.ensures.bound, c.bound-bound.ensures.small)) in
+    let small : All (λ o. o < 2 ^ 32) c.args.patch.now.removed = λ k d inside. (let low = c.bound-bound.ensures.above _ (live k d inside) in omega (arith, low, c.bound-bound.type_inv)) in
     subst (All (λ o. o < 2 ^ 32)) (sym c.as_slice.ensures) small
 
 pub read_added-requires-clause-rising : goal.read_added-requires-clause-rising

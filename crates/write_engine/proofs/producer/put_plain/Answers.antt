@@ -3,6 +3,7 @@ use Rattle.write_engine.specs.Production.{current_of, previous_of}
 use Rattle.write_engine.proofs.Parts.{fits_index}
 use Rattle.write_engine.proofs.PlainRows.{plain_added, plain_producing, plain_too_many}
 use Rattle.write_engine.proofs.Producing.{count_types}
+use Rattle.write_engine.proofs.RowPuts.{refused_same}
 use Rattle.write_engine.proofs.producer.put_plain.Goals as goal
 
 pub put_one-requires-clause-known : goal.put_one-requires-clause-known
@@ -21,3 +22,7 @@ returns-clause-added c =
 pub returns-clause-too_many : goal.returns-clause-too_many
 returns-clause-too_many c =
     plain_too_many c.args.model.now (previous_of c.args.maps.now.items) (current_of c.args.maps.now.items) (current_of c.put_one.new.maps.items) c.args.type_index c.args.row c.put_one.result c.requires.producing.agree c.put_one.ensures.tells
+
+pub returns-clause-refused : goal.returns-clause-refused
+returns-clause-refused c =
+    refused_same (previous_of c.args.maps.now.items) (current_of c.args.maps.now.items) (current_of c.put_one.new.maps.items) c.args.type_index c.args.row c.put_one.result c.put_one.ensures.tells

@@ -1,15 +1,20 @@
-use Rattle.std.proofs.Common.{◌≡◌, ℕ, ap, sym, subst, ◌∙◌, List}
-use Rattle.linked_slots.specs.Chained.{hash_of}
-use Rattle.ordinal_map.specs.Slots.{kept_at, AreKept}
-use Rattle.ordinal_map.specs.declared.slot.Slot.{Slot}
-use Rattle.ordinal_map.proofs.Keeping.{advanced_kept, advanced_states, states_of}
+use Rattle.std.proofs.Common.{sym, ap, subst, ◌∙◌, inl}
+use Rattle.ordinal_map.specs.KeptRows.{AreKept}
+use Rattle.ordinal_map.proofs.Freeing.{advanced_kept, advanced_states}
+use Rattle.ordinal_map.proofs.Keeping.{inside, states_of}
 use Rattle.ordinal_map.proofs.map.OrdinalMap.advance.Goals as goal
+
+pub free_beside-requires-clause-within : goal.free_beside-requires-clause-within
+free_beside-requires-clause-within c = λ o member. inside c.self.inside.rows.items o ((c.self.invariant.live o).1 (inl member))
 
 pub invariant_of-self : goal.invariant_of-self
 invariant_of-self c =
-    let linked = subst (λ (ss : List Slot). (q : ℕ) → hash_of c.unlink_free.new.chains q ≡ kept_at ss q (hash_of c.self.inside.chains q)) (c.as_slice.ensures.value ∙ c.advance_all.ensures) c.unlink_free.ensures.hashes in
-    subst (λ (ss : List Slot). AreKept ss c.unlink_free.new.chains 0 c.self.inside.current_bound 0) (sym c.advance_all.ensures)
-    (advanced_kept c.self.inside.slots.items c.self.inside.chains c.unlink_free.new.chains c.self.inside.filled c.self.inside.previous_bound c.self.inside.current_bound c.self.invariant c.unlink_free.ensures.roomy linked)
+    subst (λ set. AreKept c.free_beside.new.rows.items c.free_beside.new.chains set c.clear.new.self 0) (sym c.swap.ensures.x_after)
+    (subst (λ set. AreKept c.free_beside.new.rows.items c.free_beside.new.chains c.self.inside.current set 0) (sym c.clear.ensures)
+    (advanced_kept c.self.inside.rows.items c.free_beside.new.rows.items c.self.inside.chains c.free_beside.new.chains c.self.inside.previous c.self.inside.current c.self.inside.filled c.self.invariant c.args.self.now c.self.view_is c.free_beside.ensures.few c.free_beside.ensures.roomy c.free_beside.ensures.freed))
 
 pub returns : goal.returns
-returns c = ap states_of c.advance_all.ensures ∙ advanced_states c.self.inside.slots.items c.args.self.now c.self.view_is
+returns c =
+    ap (λ set. states_of c.free_beside.new.rows.items set c.clear.new.self) c.swap.ensures.x_after
+    ∙ ap (states_of c.free_beside.new.rows.items c.self.inside.current) c.clear.ensures
+    ∙ advanced_states c.self.inside.rows.items c.free_beside.new.rows.items c.self.inside.chains c.free_beside.new.chains c.self.inside.previous c.self.inside.current c.self.inside.filled c.self.invariant c.args.self.now c.self.view_is c.free_beside.ensures.few c.free_beside.ensures.roomy c.free_beside.ensures.freed

@@ -1,11 +1,11 @@
-use Rattle.std.proofs.Common.{◌∙◌, ap, subst, ◌≡◌}
-use Rattle.std.specs.Prelude.{◌≢◌, MatchBool}
-use Rattle.std.specs.List.{list_any}
-use Rattle.ordinal_map.specs.Slots.{changed}
-use Rattle.ordinal_map.proofs.Keeping.{tells_changed}
+use Rattle.ordinal_map.proofs.Keeping.{changed_first, changed_second}
 use Rattle.ordinal_map.proofs.map.OrdinalMap.is_changed.Goals as goal
 
-pub returns : goal.returns
-returns c =
-    subst (λ states. MatchBool c.any_changed.result (states.current ≢ states.previous) (states.current ≡ states.previous)) c.self.view_is
-    (tells_changed c.self.inside.slots.items c.any_changed.result (c.any_changed.ensures ∙ ap (list_any changed) c.as_slice.ensures.value))
+pub returns-then-is_some : goal.returns-then-is_some
+returns-then-is_some c =
+    changed_first c.self.inside.rows.items c.self.inside.chains c.self.inside.previous c.self.inside.current c.self.inside.filled c.self.invariant c.args.self.now c.self.view_is c.first_beside.result c.is_some.result c.first_beside.ensures.tells c.is_some.ensures c.if-is_some.true
+
+pub returns-else-is_some : goal.returns-else-is_some
+returns-else-is_some c =
+    changed_second c.self.inside.rows.items c.self.inside.chains c.self.inside.previous c.self.inside.current c.self.inside.filled c.self.invariant c.args.self.now c.self.view_is c.first_beside.result c.first_beside-else-is_some.result c.is_some.result c.is_some-else-is_some.result
+    c.first_beside.ensures.tells c.first_beside-else-is_some.ensures.tells c.is_some.ensures c.if-is_some.false c.is_some-else-is_some.ensures

@@ -1,110 +1,79 @@
-use Rattle.std.proofs.Common.{◌≡◌, ◌<◌, ◌^◌, length, ◌∙◌, ap, sym, subst, arith, ℕ, refl}
-use Rattle.ordinal_map.specs.Slots.{any_row, row_in, AreKept}
-use Rattle.ordinal_map.proofs.Keeping.{tells_entered, entered_room, tells_new_ordinal, tells_new, agree_seen, extended_kept, extended_states, found_at, found_none, hashed_seen, not_linked, refused}
-use Rattle.ordinal_map.specs.Assign.{IsPut}
-use Rattle.std.specs.Prelude.{IsSome}
+use Rattle.std.proofs.Common.{◌+◌, ◌≤◌, ◌^◌, length, sym, ap, subst, ◌∙◌, refl, arith}
+use Rattle.std.specs.Prelude.{Ok}
+use Rattle.ordinal_map.specs.Assign.{IsPut, TellsPut}
+use Rattle.ordinal_map.specs.KeptRows.{AreKept}
+use Rattle.ordinal_map.specs.States.{States}
+use Rattle.ordinal_map.proofs.Keeping.{agree_seen, alike_kept, alike_states, found_at, found_none, free_under, no_ordinal, refused, states_of}
+use Rattle.ordinal_map.proofs.Placing.{entered_kept, entered_tells, put_kept, put_tells, stand_low}
 use Rattle.ordinal_map.proofs.map.OrdinalMap.put_hashed.Goals as goal
 
-pub find-requires-clause-linked : goal.find-requires-clause-linked
-find-requires-clause-linked c = hashed_seen c.as_slice.result.now c.self.inside.slots.items c.self.inside.chains c.as_slice.ensures.value c.self.invariant.hashed
+pub returns-in_err-insert-clause-agree : goal.returns-in_err-insert-clause-agree
+returns-in_err-insert-clause-agree c = agree_seen c.self.inside.rows.items c.self.inside.chains c.self.inside.previous c.self.inside.current c.self.inside.filled c.args.self.now c.self.invariant c.self.view_is
 
-pub index_mut-requires : goal.index_mut-requires
-index_mut-requires c =
-    let stand = found_at c.as_slice.result.now c.self.inside.slots.items c.args.row c.find.result c.in-Some.ordinal c.as_slice.ensures.value c.find.ensures c.in-Some.is in
-    let room = (entered_room c.self.inside.slots.items c.self.inside.chains c.self.inside.filled c.self.inside.previous_bound c.self.inside.current_bound c.args.row c.in-Some.ordinal c.self.invariant stand).0 in
-    omega (arith, room, c.self.inside.slots.ok)
+pub overflow_add-self : goal.overflow_add-self
+overflow_add-self c =
+    let stand = found_at c.as_slice.result.now c.self.inside.rows.items c.args.row c.find.result c.in-Some.ordinal c.as_slice.ensures.value c.find.ensures c.in-Some.is in
+    let low = stand_low c.self.inside.rows.items c.self.inside.chains c.self.inside.previous c.self.inside.current c.self.inside.filled c.self.invariant c.args.self.now c.self.view_is c.args.row c.in-Some.ordinal stand in
+    record { fits = omega (arith, low) }
 
-pub overflow_add-ordinal : goal.overflow_add-ordinal
-overflow_add-ordinal c =
-    let stand = found_at c.as_slice.result.now c.self.inside.slots.items c.args.row c.find.result c.in-Some.ordinal c.as_slice.ensures.value c.find.ensures c.in-Some.is in
-    let low = (entered_room c.self.inside.slots.items c.self.inside.chains c.self.inside.filled c.self.inside.previous_bound c.self.inside.current_bound c.args.row c.in-Some.ordinal c.self.invariant stand).1 in
-    omega arith
+pub invariant_of-self-in-Some : goal.invariant_of-self-in-Some
+invariant_of-self-in-Some c =
+    let stand = found_at c.as_slice.result.now c.self.inside.rows.items c.args.row c.find.result c.in-Some.ordinal c.as_slice.ensures.value c.find.ensures c.in-Some.is in
+    subst (λ set. AreKept c.self.inside.rows.items c.self.inside.chains c.self.inside.previous set c.self.inside.filled) (sym c.in_ok-insert.ensures.ok)
+    (entered_kept c.self.inside.rows.items c.self.inside.chains c.self.inside.previous c.self.inside.current c.self.inside.filled c.self.invariant c.args.self.now c.self.view_is c.args.row c.in-Some.ordinal stand)
 
-pub invariant_of-self : goal.invariant_of-self
-invariant_of-self c =
-    let stand = found_at c.as_slice.result.now c.self.inside.slots.items c.args.row c.find.result c.in-Some.ordinal c.as_slice.ensures.value c.find.ensures c.in-Some.is in
-    (tells_entered c.self.inside.slots.items c.self.inside.chains c.self.inside.filled c.self.inside.previous_bound c.self.inside.current_bound c.args.self.now c.args.row c.in-Some.ordinal
-    c.index_mut.result.now c.enter.new.self c.max-self-inside.result c.self.invariant c.self.view_is stand c.index_mut.ensures.value c.enter.ensures c.max-self-inside.ensures).0
+pub returns-in-Some-clause-tells : goal.returns-in-Some-clause-tells
+returns-in-Some-clause-tells c =
+    let stand = found_at c.as_slice.result.now c.self.inside.rows.items c.args.row c.find.result c.in-Some.ordinal c.as_slice.ensures.value c.find.ensures c.in-Some.is in
+    subst (λ set. TellsPut c.args.self.now c.args.row (states_of c.self.inside.rows.items c.self.inside.previous set) (Ok c.in-Some.ordinal)) (sym c.in_ok-insert.ensures.ok)
+    (entered_tells c.self.inside.rows.items c.self.inside.chains c.self.inside.previous c.self.inside.current c.self.inside.filled c.self.invariant c.args.self.now c.self.view_is c.args.row c.in-Some.ordinal stand)
 
-pub returns-in-Some : goal.returns-in-Some
-returns-in-Some c =
-    let stand = found_at c.as_slice.result.now c.self.inside.slots.items c.args.row c.find.result c.in-Some.ordinal c.as_slice.ensures.value c.find.ensures c.in-Some.is in
-    record {
-      tells =
-          (tells_entered c.self.inside.slots.items c.self.inside.chains c.self.inside.filled c.self.inside.previous_bound c.self.inside.current_bound c.args.self.now c.args.row c.in-Some.ordinal
-          c.index_mut.result.now c.enter.new.self c.max-self-inside.result c.self.invariant c.self.view_is stand c.index_mut.ensures.value c.enter.ensures c.max-self-inside.ensures).1;
-      agree = agree_seen _ _ _ _ _ c.args.self.now c.self.invariant c.self.view_is;
-    }
+pub returns-in-Some-clause-agree : goal.returns-in-Some-clause-agree
+returns-in-Some-clause-agree c = agree_seen c.self.inside.rows.items c.self.inside.chains c.self.inside.previous c.self.inside.current c.self.inside.filled c.args.self.now c.self.invariant c.self.view_is
 
-pub returns-then-ordinal-ge-MAX_ORDINALS : goal.returns-then-ordinal-ge-MAX_ORDINALS
-returns-then-ordinal-ge-MAX_ORDINALS c =
-    let none = found_none c.as_slice.result.now c.self.inside.slots.items c.args.row c.find.result c.as_slice.ensures.value c.find.ensures c.in_default.is in
-    let same = c.as_slice-2.ensures.value in
-    let free = sym (ap (λ ss. row_in any_row ss c.least_free-ordinal.result) same) ∙ c.least_free-ordinal.ensures.free in
-    let below = subst (λ ss. (q : ℕ) → q < c.least_free-ordinal.result → IsSome (row_in any_row ss q)) same c.least_free-ordinal.ensures.below in
-    let most : c.least_free-ordinal.result ≡ 2 ^ 22 = omega (arith, c.least_free-ordinal.ensures.within, ap length same, c.self.invariant.few) in
-    record {
-      tells = (
-        subst (λ o. IsPut c.args.self.now.previous c.args.self.now.current c.args.row o) most
-            (tells_new_ordinal c.self.inside.slots.items c.self.inside.chains c.self.inside.filled c.self.inside.previous_bound c.self.inside.current_bound c.args.self.now c.args.row c.least_free-ordinal.result c.self.invariant c.self.view_is none free below),
-        refl,
-      );
-      agree = agree_seen _ _ _ _ _ c.args.self.now c.self.invariant c.self.view_is;
-    }
+pub returns-then-ordinal-ge-MAX_ORDINALS-clause-tells : goal.returns-then-ordinal-ge-MAX_ORDINALS-clause-tells
+returns-then-ordinal-ge-MAX_ORDINALS-clause-tells c =
+    let none = found_none c.as_slice.result.now c.self.inside.rows.items c.args.row c.find.result c.as_slice.ensures.value c.find.ensures c.in_default.is in (
+      subst (λ (s : States). IsPut s.previous s.current c.args.row (2 ^ 22)) c.self.view_is (no_ordinal c.self.inside.rows.items c.self.inside.chains c.self.inside.previous c.self.inside.current c.self.inside.filled c.self.invariant c.args.row c.least_free_from-ordinal.result none c.least_free_from-ordinal.ensures (omega arith)),
+      refl,
+    )
 
-pub invariant_of-self-in_err-make_room : goal.invariant_of-self-in_err-make_room
-invariant_of-self-in_err-make_room c =
-    extended_kept c.self.inside.slots.items c.make_room.new.slots.items c.least_free-ordinal.result c.self.inside.chains c.self.inside.filled c.self.inside.previous_bound c.self.inside.current_bound
-    c.make_room.ensures.extends (omega arith) c.self.invariant
+pub returns-then-ordinal-ge-MAX_ORDINALS-clause-agree : goal.returns-then-ordinal-ge-MAX_ORDINALS-clause-agree
+returns-then-ordinal-ge-MAX_ORDINALS-clause-agree c = agree_seen c.self.inside.rows.items c.self.inside.chains c.self.inside.previous c.self.inside.current c.self.inside.filled c.args.self.now c.self.invariant c.self.view_is
 
-pub returns-in_err-make_room : goal.returns-in_err-make_room
-returns-in_err-make_room c =
-    record {
-      tells =
-          refused c.args.self.now c.args.row _ c.from_residual.result c.from_residual.ensures.1
-          (extended_states c.self.inside.slots.items c.make_room.new.slots.items c.least_free-ordinal.result c.args.self.now c.make_room.ensures.extends c.self.view_is);
-      agree = agree_seen _ _ _ _ _ c.args.self.now c.self.invariant c.self.view_is;
-    }
+pub invariant_of-self-in_err-place_row : goal.invariant_of-self-in_err-place_row
+invariant_of-self-in_err-place_row c =
+    let few : length c.place_row.new.rows.items ≤ 2 ^ 22 = omega (arith, c.place_row.ensures.few, c.self.invariant.few) in
+    subst (λ set. AreKept c.place_row.new.rows.items c.place_row.new.chains c.self.inside.previous set c.self.inside.filled) (sym c.in_err-place_row.ensures.unput)
+    (alike_kept c.self.inside.rows.items c.self.inside.chains c.self.inside.previous c.self.inside.current c.self.inside.filled c.self.invariant c.place_row.new.rows.items c.place_row.new.chains c.in_err-place_row.ensures.alike few c.place_row.ensures.roomy)
 
-pub link-requires-clause-free : goal.link-requires-clause-free
-link-requires-clause-free c =
-    let free = sym (ap (λ ss. row_in any_row ss c.least_free-ordinal.result) c.as_slice-2.ensures.value) ∙ c.least_free-ordinal.ensures.free in
-    not_linked c.self.inside.slots.items c.self.inside.chains c.least_free-ordinal.result c.self.invariant.hashed free
+pub returns-in_err-place_row-clause-tells : goal.returns-in_err-place_row-clause-tells
+returns-in_err-place_row-clause-tells c =
+    refused c.args.self.now c.args.row (states_of c.place_row.new.rows.items c.self.inside.previous c.place_row.new.set) c.from_residual-in_err-place_row.result c.from_residual-in_err-place_row.ensures.1
+    (ap (states_of c.place_row.new.rows.items c.self.inside.previous) c.in_err-place_row.ensures.unput
+    ∙ alike_states c.self.inside.rows.items c.place_row.new.rows.items c.self.inside.chains c.place_row.new.chains c.self.inside.previous c.self.inside.current c.in_err-place_row.ensures.alike
+    ∙ c.self.view_is)
 
-pub invariant_of-self-in_err-link : goal.invariant_of-self-in_err-link
-invariant_of-self-in_err-link c =
-    let same = c.in_err-link.ensures.err in
-    subst (λ chains. AreKept c.make_room.new.slots.items chains c.self.inside.filled c.self.inside.previous_bound c.self.inside.current_bound) (sym same)
-    (extended_kept c.self.inside.slots.items c.make_room.new.slots.items c.least_free-ordinal.result c.self.inside.chains c.self.inside.filled c.self.inside.previous_bound c.self.inside.current_bound
-    c.make_room.ensures.extends (omega arith) c.self.invariant)
-
-pub returns-in_err-link : goal.returns-in_err-link
-returns-in_err-link c =
-    record {
-      tells =
-          refused c.args.self.now c.args.row _ c.from_residual-in_err-link.result c.from_residual-in_err-link.ensures.1
-          (extended_states c.self.inside.slots.items c.make_room.new.slots.items c.least_free-ordinal.result c.args.self.now c.make_room.ensures.extends c.self.view_is);
-      agree = agree_seen _ _ _ _ _ c.args.self.now c.self.invariant c.self.view_is;
-    }
+pub returns-in_err-place_row-clause-agree : goal.returns-in_err-place_row-clause-agree
+returns-in_err-place_row-clause-agree c = agree_seen c.self.inside.rows.items c.self.inside.chains c.self.inside.previous c.self.inside.current c.self.inside.filled c.args.self.now c.self.invariant c.self.view_is
 
 pub invariant_of-self-2 : goal.invariant_of-self-2
 invariant_of-self-2 c =
-    let none = found_none c.as_slice.result.now c.self.inside.slots.items c.args.row c.find.result c.as_slice.ensures.value c.find.ensures c.in_default.is in
-    let same = c.as_slice-2.ensures.value in
-    let free = sym (ap (λ ss. row_in any_row ss c.least_free-ordinal.result) same) ∙ c.least_free-ordinal.ensures.free in
-    let below = subst (λ ss. (q : ℕ) → q < c.least_free-ordinal.result → IsSome (row_in any_row ss q)) same c.least_free-ordinal.ensures.below in
-    (tells_new c.self.inside.slots.items c.make_room.new.slots.items c.self.inside.chains c.link.new.chains c.self.inside.filled c.self.inside.previous_bound c.self.inside.current_bound c.args.self.now c.args.hash c.args.row
-    c.least_free-ordinal.result c.max-self-inside-2.result c.self.invariant c.self.view_is c.requires none free below (omega arith) c.make_room.ensures.extends (omega (arith, c.in_ok-make_room.ensures.room, c.make_room.new.slots.ok)) c.in_ok-link.ensures.ok c.link.ensures.roomy c.max-self-inside-2.ensures).0
+    let none = found_none c.as_slice.result.now c.self.inside.rows.items c.args.row c.find.result c.as_slice.ensures.value c.find.ensures c.in_default.is in
+    let o = c.least_free_from-ordinal.result in
+    let free = free_under c.self.inside.rows.items c.self.inside.chains c.self.inside.previous c.self.inside.current c.self.inside.filled c.self.invariant o c.least_free_from-ordinal.ensures.free c.least_free_from-ordinal.ensures.other_free in
+    let few : length c.place_row.new.rows.items ≤ 2 ^ 22 = omega (arith, c.place_row.ensures.few, c.self.invariant.few) in
+    subst (λ set. AreKept c.place_row.new.rows.items c.place_row.new.chains c.self.inside.previous set (o + 1)) (sym c.in_ok-place_row.ensures.put)
+    (put_kept c.self.inside.rows.items c.self.inside.chains c.self.inside.previous c.self.inside.current c.self.inside.filled c.self.invariant c.args.self.now c.self.view_is c.args.row o c.args.hash c.place_row.new.rows.items c.place_row.new.chains c.requires c.in_ok-place_row.ensures.placed none free few c.place_row.ensures.roomy c.least_free_from-ordinal.ensures)
 
-pub returns : goal.returns
-returns c =
-    let none = found_none c.as_slice.result.now c.self.inside.slots.items c.args.row c.find.result c.as_slice.ensures.value c.find.ensures c.in_default.is in
-    let same = c.as_slice-2.ensures.value in
-    let free = sym (ap (λ ss. row_in any_row ss c.least_free-ordinal.result) same) ∙ c.least_free-ordinal.ensures.free in
-    let below = subst (λ ss. (q : ℕ) → q < c.least_free-ordinal.result → IsSome (row_in any_row ss q)) same c.least_free-ordinal.ensures.below in
-    record {
-      tells =
-          (tells_new c.self.inside.slots.items c.make_room.new.slots.items c.self.inside.chains c.link.new.chains c.self.inside.filled c.self.inside.previous_bound c.self.inside.current_bound c.args.self.now c.args.hash c.args.row
-          c.least_free-ordinal.result c.max-self-inside-2.result c.self.invariant c.self.view_is c.requires none free below (omega arith) c.make_room.ensures.extends (omega (arith, c.in_ok-make_room.ensures.room, c.make_room.new.slots.ok)) c.in_ok-link.ensures.ok c.link.ensures.roomy c.max-self-inside-2.ensures).1;
-      agree = agree_seen _ _ _ _ _ c.args.self.now c.self.invariant c.self.view_is;
-    }
+pub returns-clause-tells : goal.returns-clause-tells
+returns-clause-tells c =
+    let none = found_none c.as_slice.result.now c.self.inside.rows.items c.args.row c.find.result c.as_slice.ensures.value c.find.ensures c.in_default.is in
+    let o = c.least_free_from-ordinal.result in
+    let free = free_under c.self.inside.rows.items c.self.inside.chains c.self.inside.previous c.self.inside.current c.self.inside.filled c.self.invariant o c.least_free_from-ordinal.ensures.free c.least_free_from-ordinal.ensures.other_free in
+    let few : length c.place_row.new.rows.items ≤ 2 ^ 22 = omega (arith, c.place_row.ensures.few, c.self.invariant.few) in
+    subst (λ set. TellsPut c.args.self.now c.args.row (states_of c.place_row.new.rows.items c.self.inside.previous set) (Ok o)) (sym c.in_ok-place_row.ensures.put)
+    (put_tells c.self.inside.rows.items c.self.inside.chains c.self.inside.previous c.self.inside.current c.self.inside.filled c.self.invariant c.args.self.now c.self.view_is c.args.row o c.args.hash c.place_row.new.rows.items c.place_row.new.chains c.requires c.in_ok-place_row.ensures.placed none free few c.place_row.ensures.roomy c.least_free_from-ordinal.ensures (omega arith))
+
+pub returns-clause-agree : goal.returns-clause-agree
+returns-clause-agree c = agree_seen c.self.inside.rows.items c.self.inside.chains c.self.inside.previous c.self.inside.current c.self.inside.filled c.args.self.now c.self.invariant c.self.view_is

@@ -1,64 +1,57 @@
-use Rattle.std.proofs.Common.{sym, subst, arith}
-use Rattle.ordinal_map.specs.Slots.{AreKept}
-use Rattle.ordinal_map.proofs.Keeping.{agree, agree_seen, extended_kept, extended_states, found_at, found_none, free_before, hashed_seen, not_linked, tells_equal, tells_restored}
+use Rattle.std.proofs.Common.{◌≤◌, ◌^◌, length, sym, ap, subst, ◌∙◌, refl, arith}
+use Rattle.std.specs.Prelude.{Ok, option_map}
+use Rattle.row_hash.specs.Hash.{row_hash}
+use Rattle.ordinal_map.specs.Assign.{Agree}
+use Rattle.ordinal_map.specs.KeptRows.{AreKept}
+use Rattle.ordinal_map.specs.Restored.{TellsRestore}
+use Rattle.ordinal_map.specs.States.{States}
+use Rattle.ordinal_map.proofs.Keeping.{agree_seen, alike_states, found_at, found_none, states_of}
+use Rattle.ordinal_map.proofs.Placing.{equal_tells, free_before, restored_kept, restored_tells}
 use Rattle.ordinal_map.proofs.Restoring.{no_memory}
 use Rattle.ordinal_map.proofs.map.OrdinalMap.restore_hashed.Goals as goal
 
-pub find-requires-clause-linked : goal.find-requires-clause-linked
-find-requires-clause-linked c = hashed_seen c.as_slice.result.now c.self.inside.slots.items c.self.inside.chains c.as_slice.ensures.value c.self.invariant.hashed
+pub returns-in-Some-clause-tells : goal.returns-in-Some-clause-tells
+returns-in-Some-clause-tells c =
+    equal_tells c.self.inside.rows.items c.self.inside.chains c.self.inside.previous c.self.inside.current c.self.inside.filled c.self.invariant c.args.self.now c.self.view_is c.args.row c.in-Some.other (found_at c.as_slice.result.now c.self.inside.rows.items c.args.row c.find.result c.in-Some.other c.as_slice.ensures.value c.find.ensures c.in-Some.is) c.args.ordinal c.requires.current
 
-pub returns-in-Some : goal.returns-in-Some
-returns-in-Some c =
-    let stand = found_at c.as_slice.result.now c.self.inside.slots.items c.args.row c.find.result c.in-Some.other c.as_slice.ensures.value c.find.ensures c.in-Some.is in
-    record {
-      tells = tells_equal c.self.inside.slots.items c.args.self.now c.args.row c.args.ordinal c.in-Some.other c.self.view_is c.requires.current stand;
-      agree = agree_seen _ _ _ _ _ c.args.self.now c.self.invariant c.self.view_is;
-    }
+pub returns-in-Some-clause-agree : goal.returns-in-Some-clause-agree
+returns-in-Some-clause-agree c = agree_seen c.self.inside.rows.items c.self.inside.chains c.self.inside.previous c.self.inside.current c.self.inside.filled c.args.self.now c.self.invariant c.self.view_is
 
-pub invariant_of-self : goal.invariant_of-self
-invariant_of-self c =
-    extended_kept c.self.inside.slots.items c.make_room.new.slots.items c.args.ordinal c.self.inside.chains c.self.inside.filled c.self.inside.previous_bound c.self.inside.current_bound
-    c.make_room.ensures.extends c.requires.low c.self.invariant
+pub place_row-requires-clause-free : goal.place_row-requires-clause-free
+place_row-requires-clause-free c =
+    c.self.invariant.hashed c.args.ordinal ∙ ap (option_map row_hash) (free_before c.self.inside.rows.items c.self.inside.chains c.self.inside.previous c.self.inside.current c.self.inside.filled c.self.invariant c.args.self.now c.self.view_is c.args.ordinal c.requires.current c.requires.free)
 
-pub returns-in_err-make_room : goal.returns-in_err-make_room
-returns-in_err-make_room c =
-    let same = extended_states c.self.inside.slots.items c.make_room.new.slots.items c.args.ordinal c.args.self.now c.make_room.ensures.extends c.self.view_is in
-    record {
-      tells = no_memory c.args.self.now c.args.ordinal c.args.row _ c.from_residual.result c.from_residual.ensures.1 same;
-      agree = agree c.make_room.new.slots.items c.self.inside.chains c.self.inside.filled c.self.inside.previous_bound c.self.inside.current_bound
-          (extended_kept c.self.inside.slots.items c.make_room.new.slots.items c.args.ordinal c.self.inside.chains c.self.inside.filled c.self.inside.previous_bound c.self.inside.current_bound
-          c.make_room.ensures.extends c.requires.low c.self.invariant);
-    }
+pub returns-in_err-place_row-clause-tells : goal.returns-in_err-place_row-clause-tells
+returns-in_err-place_row-clause-tells c =
+    no_memory c.args.self.now c.args.ordinal c.args.row (states_of c.place_row.new.rows.items c.place_row.new.set c.self.inside.current) c.from_residual.result c.from_residual.ensures.1
+    (ap (λ set. states_of c.place_row.new.rows.items set c.self.inside.current) c.in_err-place_row.ensures.unput
+    ∙ alike_states c.self.inside.rows.items c.place_row.new.rows.items c.self.inside.chains c.place_row.new.chains c.self.inside.previous c.self.inside.current c.in_err-place_row.ensures.alike
+    ∙ c.self.view_is)
 
-pub link-requires-clause-free : goal.link-requires-clause-free
-link-requires-clause-free c =
-    not_linked c.self.inside.slots.items c.self.inside.chains c.args.ordinal c.self.invariant.hashed (free_before c.self.inside.slots.items c.args.self.now c.args.ordinal c.self.view_is c.requires.current c.requires.free)
-
-pub invariant_of-self-in_err-link : goal.invariant_of-self-in_err-link
-invariant_of-self-in_err-link c =
-    subst (λ chains. AreKept c.make_room.new.slots.items chains c.self.inside.filled c.self.inside.previous_bound c.self.inside.current_bound) (sym c.in_err-link.ensures.err)
-    (extended_kept c.self.inside.slots.items c.make_room.new.slots.items c.args.ordinal c.self.inside.chains c.self.inside.filled c.self.inside.previous_bound c.self.inside.current_bound
-    c.make_room.ensures.extends c.requires.low c.self.invariant)
-
-pub returns-in_err-link : goal.returns-in_err-link
-returns-in_err-link c =
-    let same = extended_states c.self.inside.slots.items c.make_room.new.slots.items c.args.ordinal c.args.self.now c.make_room.ensures.extends c.self.view_is in
-    record {
-      tells = no_memory c.args.self.now c.args.ordinal c.args.row _ c.from_residual-in_err-link.result c.from_residual-in_err-link.ensures.1 same;
-      agree = agree c.make_room.new.slots.items c.self.inside.chains c.self.inside.filled c.self.inside.previous_bound c.self.inside.current_bound
-          (extended_kept c.self.inside.slots.items c.make_room.new.slots.items c.args.ordinal c.self.inside.chains c.self.inside.filled c.self.inside.previous_bound c.self.inside.current_bound
-          c.make_room.ensures.extends c.requires.low c.self.invariant);
-    }
+pub returns-in_err-place_row-clause-agree : goal.returns-in_err-place_row-clause-agree
+returns-in_err-place_row-clause-agree c =
+    subst (λ (s : States). Agree s.previous s.current)
+    (sym (ap (λ set. states_of c.place_row.new.rows.items set c.self.inside.current) c.in_err-place_row.ensures.unput
+    ∙ alike_states c.self.inside.rows.items c.place_row.new.rows.items c.self.inside.chains c.place_row.new.chains c.self.inside.previous c.self.inside.current c.in_err-place_row.ensures.alike
+    ∙ c.self.view_is))
+    (agree_seen c.self.inside.rows.items c.self.inside.chains c.self.inside.previous c.self.inside.current c.self.inside.filled c.args.self.now c.self.invariant c.self.view_is)
 
 pub invariant_of-self-2 : goal.invariant_of-self-2
 invariant_of-self-2 c =
-    let none = found_none c.as_slice.result.now c.self.inside.slots.items c.args.row c.find.result c.as_slice.ensures.value c.find.ensures c.in_default.is in
-    (tells_restored c.self.inside.slots.items c.make_room.new.slots.items c.self.inside.chains c.link.new.chains c.self.inside.filled c.self.inside.previous_bound c.self.inside.current_bound c.args.self.now c.args.hash c.args.row
-    c.args.ordinal c.max-self-inside.result c.self.invariant c.self.view_is c.requires.hashed c.requires.current c.requires.free none c.requires.low c.make_room.ensures.extends (omega (arith, c.in_ok-make_room.ensures.room, c.make_room.new.slots.ok)) c.in_ok-link.ensures.ok c.link.ensures.roomy c.max-self-inside.ensures).0
+    let none = found_none c.as_slice.result.now c.self.inside.rows.items c.args.row c.find.result c.as_slice.ensures.value c.find.ensures c.in_default.is in
+    let free = free_before c.self.inside.rows.items c.self.inside.chains c.self.inside.previous c.self.inside.current c.self.inside.filled c.self.invariant c.args.self.now c.self.view_is c.args.ordinal c.requires.current c.requires.free in
+    let few : length c.place_row.new.rows.items ≤ 2 ^ 22 = omega (arith, c.place_row.ensures.few, c.self.invariant.few, c.requires.low) in
+    subst (λ set. AreKept c.place_row.new.rows.items c.place_row.new.chains set c.self.inside.current c.self.inside.filled) (sym c.in_ok-place_row.ensures.put)
+    (restored_kept c.self.inside.rows.items c.self.inside.chains c.self.inside.previous c.self.inside.current c.self.inside.filled c.self.invariant c.args.self.now c.self.view_is c.args.row c.args.ordinal c.args.hash c.place_row.new.rows.items c.place_row.new.chains c.requires.hashed c.in_ok-place_row.ensures.placed none free few c.place_row.ensures.roomy)
 
-pub returns : goal.returns
-returns c =
-    let none = found_none c.as_slice.result.now c.self.inside.slots.items c.args.row c.find.result c.as_slice.ensures.value c.find.ensures c.in_default.is in
-    let restored = tells_restored c.self.inside.slots.items c.make_room.new.slots.items c.self.inside.chains c.link.new.chains c.self.inside.filled c.self.inside.previous_bound c.self.inside.current_bound c.args.self.now c.args.hash c.args.row
-    c.args.ordinal c.max-self-inside.result c.self.invariant c.self.view_is c.requires.hashed c.requires.current c.requires.free none c.requires.low c.make_room.ensures.extends (omega (arith, c.in_ok-make_room.ensures.room, c.make_room.new.slots.ok)) c.in_ok-link.ensures.ok c.link.ensures.roomy c.max-self-inside.ensures in
-    record { tells = restored.1; agree = agree _ _ _ _ _ restored.0 }
+pub returns-clause-tells : goal.returns-clause-tells
+returns-clause-tells c =
+    let none = found_none c.as_slice.result.now c.self.inside.rows.items c.args.row c.find.result c.as_slice.ensures.value c.find.ensures c.in_default.is in
+    let free = free_before c.self.inside.rows.items c.self.inside.chains c.self.inside.previous c.self.inside.current c.self.inside.filled c.self.invariant c.args.self.now c.self.view_is c.args.ordinal c.requires.current c.requires.free in
+    let few : length c.place_row.new.rows.items ≤ 2 ^ 22 = omega (arith, c.place_row.ensures.few, c.self.invariant.few, c.requires.low) in
+    subst (λ set. TellsRestore c.args.self.now c.args.ordinal c.args.row (states_of c.place_row.new.rows.items set c.self.inside.current) (Ok tt)) (sym c.in_ok-place_row.ensures.put)
+    (restored_tells c.self.inside.rows.items c.self.inside.chains c.self.inside.previous c.self.inside.current c.self.inside.filled c.self.invariant c.args.self.now c.self.view_is c.args.row c.args.ordinal c.args.hash c.place_row.new.rows.items c.place_row.new.chains c.requires.hashed c.in_ok-place_row.ensures.placed none free few c.place_row.ensures.roomy)
+
+pub returns-clause-agree : goal.returns-clause-agree
+returns-clause-agree c =
+    agree_seen c.place_row.new.rows.items c.place_row.new.chains c.place_row.new.set c.self.inside.current c.self.inside.filled (states_of c.place_row.new.rows.items c.place_row.new.set c.self.inside.current) (invariant_of-self-2 c) refl

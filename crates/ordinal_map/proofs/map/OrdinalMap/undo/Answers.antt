@@ -1,19 +1,18 @@
-use Rattle.std.proofs.Common.{◌≡◌, ℕ, ap, sym, subst, ◌∙◌, List}
-use Rattle.linked_slots.specs.Chained.{hash_of}
-use Rattle.ordinal_map.specs.Slots.{kept_at, AreKept}
-use Rattle.ordinal_map.specs.declared.slot.Slot.{Slot}
-use Rattle.ordinal_map.proofs.Keeping.{undone_kept, undone_nothing, undone_states, states_of}
+use Rattle.std.proofs.Common.{sym, ap, subst, ◌∙◌, inr}
+use Rattle.ordinal_map.specs.KeptRows.{AreKept}
+use Rattle.ordinal_map.proofs.Freeing.{undone_kept, undone_states}
+use Rattle.ordinal_map.proofs.Keeping.{inside, states_of}
 use Rattle.ordinal_map.proofs.map.OrdinalMap.undo.Goals as goal
+
+pub free_beside-requires-clause-within : goal.free_beside-requires-clause-within
+free_beside-requires-clause-within c = λ o member. inside c.self.inside.rows.items o ((c.self.invariant.live o).1 (inr member))
 
 pub invariant_of-self : goal.invariant_of-self
 invariant_of-self c =
-    let linked = subst (λ (ss : List Slot). (q : ℕ) → hash_of c.unlink_free.new.chains q ≡ kept_at ss q (hash_of c.self.inside.chains q)) (c.as_slice.ensures.value ∙ c.undo_all.ensures) c.unlink_free.ensures.hashes in
-    subst (λ (ss : List Slot). AreKept ss c.unlink_free.new.chains 0 c.self.inside.previous_bound 0) (sym c.undo_all.ensures)
-    (undone_kept c.self.inside.slots.items c.self.inside.chains c.unlink_free.new.chains c.self.inside.filled c.self.inside.previous_bound c.self.inside.current_bound c.self.invariant c.unlink_free.ensures.roomy linked)
+    subst (λ set. AreKept c.free_beside.new.rows.items c.free_beside.new.chains c.self.inside.previous set 0) (sym c.clear.ensures)
+    (undone_kept c.self.inside.rows.items c.free_beside.new.rows.items c.self.inside.chains c.free_beside.new.chains c.self.inside.previous c.self.inside.current c.self.inside.filled c.self.invariant c.args.self.now c.self.view_is c.free_beside.ensures.few c.free_beside.ensures.roomy c.free_beside.ensures.freed)
 
 pub returns : goal.returns
-returns c = ap states_of c.undo_all.ensures ∙ undone_states c.self.inside.slots.items c.args.self.now c.self.view_is
-
-pub returns-then-self-eq0 : goal.returns-then-self-eq0
-returns-then-self-eq0 c =
-    undone_nothing c.self.inside.slots.items c.self.inside.chains c.self.inside.filled c.self.inside.previous_bound c.self.inside.current_bound c.args.self.now c.self.invariant c.if-self-eq0.true c.self.view_is
+returns c =
+    ap (states_of c.free_beside.new.rows.items c.self.inside.previous) c.clear.ensures
+    ∙ undone_states c.self.inside.rows.items c.free_beside.new.rows.items c.self.inside.chains c.free_beside.new.chains c.self.inside.previous c.self.inside.current c.self.inside.filled c.self.invariant c.args.self.now c.self.view_is c.free_beside.ensures.few c.free_beside.ensures.roomy c.free_beside.ensures.freed

@@ -8,4 +8,4 @@ use Rattle.state_moves.proofs.before.RowsBeforeTypeColumns.column.Goals as goal
 pub returns : goal.returns
 returns c =
     let none : c.self.inside.part.now.gone ≡ [] = search rules in
-    subst (λ (rows : RowMap). IfSome c.column.result (IsColumnIn rows c.args.field)) c.self.view_is (column_stays c.self.inside.state.now.current.rows c.self.inside.part.now none c.args.field c.column.result c.column.ensures)
+    subst (λ (rows : RowMap). IfSome c.column.result (IsColumnIn rows c.args.field)) c.self.view_is (column_stays c.self.inside.rows.rows c.self.inside.part.now none c.args.field c.column.result c.column.ensures)

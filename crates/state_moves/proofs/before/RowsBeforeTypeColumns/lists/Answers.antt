@@ -8,4 +8,4 @@ use Rattle.state_moves.proofs.before.RowsBeforeTypeColumns.lists.Goals as goal
 pub returns : goal.returns
 returns c =
     let none : c.self.inside.part.now.gone ≡ [] = search rules in
-    subst (λ (rows : RowMap). IfSome c.lists.result (AreListsIn rows)) c.self.view_is (lists_stay c.self.inside.state.now.current.rows c.self.inside.part.now none c.lists.result c.lists.ensures)
+    subst (λ (rows : RowMap). IfSome c.lists.result (AreListsIn rows)) c.self.view_is (lists_stay c.self.inside.rows.rows c.self.inside.part.now none c.lists.result c.lists.ensures)

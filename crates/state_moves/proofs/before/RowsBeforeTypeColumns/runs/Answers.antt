@@ -8,4 +8,4 @@ use Rattle.state_moves.proofs.before.RowsBeforeTypeColumns.runs.Goals as goal
 pub returns : goal.returns
 returns c =
     let none : c.self.inside.part.now.gone ≡ [] = search rules in
-    subst (λ (rows : RowMap). IfSome c.runs.result (AreRunsIn rows)) c.self.view_is (runs_stay c.self.inside.state.now.current.rows c.self.inside.part.now none c.runs.result c.runs.ensures)
+    subst (λ (rows : RowMap). IfSome c.runs.result (AreRunsIn rows)) c.self.view_is (runs_stay c.self.inside.rows.rows c.self.inside.part.now none c.runs.result c.runs.ensures)

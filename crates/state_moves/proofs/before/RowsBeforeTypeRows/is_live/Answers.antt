@@ -7,14 +7,14 @@ use Rattle.state_moves.proofs.before.RowsBeforeTypeRows.is_live.Goals as goal
 
 pub returns-in-Some : goal.returns-in-Some
 returns-in-Some c =
-    subst (λ (rows : RowMap). IsTrue true ↔ IsSome (get rows c.args.ordinal)) c.self.view_is (λ t. left_live c.self.inside.state.now.current.rows c.self.inside.part.now c.args.ordinal c.in-Some.field-0.now c.in-Some.ensures, λ live. refl)
+    subst (λ (rows : RowMap). IsTrue true ↔ IsSome (get rows c.args.ordinal)) c.self.view_is (λ t. left_live c.self.inside.rows.rows c.self.inside.part.now c.args.ordinal c.in-Some.field-0.now c.in-Some.ensures, λ live. refl)
 
 pub returns-then-not-is_new : goal.returns-then-not-is_new
 returns-then-not-is_new c =
     subst (λ (rows : RowMap). IsTrue c.is_live.result ↔ IsSome (get rows c.args.ordinal)) c.self.view_is
-    (not_new_live c.self.inside.state.now.current.rows c.self.inside.part.now c.args.ordinal c.is_new.result c.is_live.result c.in-None.ensures c.is_new.ensures c.if-not-is_new.true c.is_live.ensures)
+    (not_new_live c.self.inside.rows.rows c.self.inside.part.now c.args.ordinal c.is_new.result c.is_live.result c.in-None.ensures c.is_new.ensures c.if-not-is_new.true c.is_live.ensures)
 
 pub returns-else-not-is_new : goal.returns-else-not-is_new
 returns-else-not-is_new c =
     subst (λ (rows : RowMap). IsTrue (not c.is_new.result) ↔ IsSome (get rows c.args.ordinal)) c.self.view_is
-    (new_not_live c.self.inside.state.now.current.rows c.self.inside.part.now c.args.ordinal c.is_new.result c.in-None.ensures c.is_new.ensures c.if-not-is_new.false)
+    (new_not_live c.self.inside.rows.rows c.self.inside.part.now c.args.ordinal c.is_new.result c.in-None.ensures c.is_new.ensures c.if-not-is_new.false)

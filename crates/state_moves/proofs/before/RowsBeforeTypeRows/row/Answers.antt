@@ -7,12 +7,12 @@ use Rattle.state_moves.proofs.PastRows.{copy_left, live_kept}
 use Rattle.state_moves.proofs.before.RowsBeforeTypeRows.row.Goals as goal
 
 pub row-requires : goal.row-requires
-row-requires c = (live_kept c.self.inside.state.now.current.rows c.self.inside.part.now c.args.ordinal c.in-None.ensures (subst (λ (rows : RowMap). IsSome (get rows c.args.ordinal)) (sym c.self.view_is) c.requires)).0
+row-requires c = (live_kept c.self.inside.rows.rows c.self.inside.part.now c.args.ordinal c.in-None.ensures (subst (λ (rows : RowMap). IsSome (get rows c.args.ordinal)) (sym c.self.view_is) c.requires)).0
 
 pub returns-in-Some : goal.returns-in-Some
-returns-in-Some c = subst (λ (rows : RowMap). IfOk c.copy.result (λ row. get rows c.args.ordinal ≡ Some row)) c.self.view_is (copy_left c.self.inside.state.now.current.rows c.self.inside.part.now c.args.ordinal c.in-Some.row.now c.copy.result c.in-Some.ensures c.copy.ensures)
+returns-in-Some c = subst (λ (rows : RowMap). IfOk c.copy.result (λ row. get rows c.args.ordinal ≡ Some row)) c.self.view_is (copy_left c.self.inside.rows.rows c.self.inside.part.now c.args.ordinal c.in-Some.row.now c.copy.result c.in-Some.ensures c.copy.ensures)
 
 pub returns-in-None : goal.returns-in-None
 returns-in-None c =
     subst (λ (rows : RowMap). IfOk c.row.result (λ row. get rows c.args.ordinal ≡ Some row)) c.self.view_is
-    (subst (λ (found : Option Row). IfOk c.row.result (λ row. found ≡ Some row)) (sym (live_kept c.self.inside.state.now.current.rows c.self.inside.part.now c.args.ordinal c.in-None.ensures (subst (λ (rows : RowMap). IsSome (get rows c.args.ordinal)) (sym c.self.view_is) c.requires)).1) c.row.ensures)
+    (subst (λ (found : Option Row). IfOk c.row.result (λ row. found ≡ Some row)) (sym (live_kept c.self.inside.rows.rows c.self.inside.part.now c.args.ordinal c.in-None.ensures (subst (λ (rows : RowMap). IsSome (get rows c.args.ordinal)) (sym c.self.view_is) c.requires)).1) c.row.ensures)

@@ -1,9 +1,8 @@
-use Rattle.std.proofs.Common.{◌∙◌, ap, sym}
-use Rattle.std.specs.FinMap.{keys}
-use Rattle.ordinal_set.specs.Ordinals.{bound_of}
-use Rattle.type_state.specs.State.{State}
-use Rattle.type_state.proofs.HalfRows.{half_keys}
+use Rattle.std.proofs.Common.{subst}
+use Rattle.row_model.specs.Table.{RowMap}
+use Rattle.type_views.specs.OneType.{IsRowsBound}
+use Rattle.type_state.proofs.Bounds.{bound_of_rows}
 use Rattle.type_state.proofs.state.TypeState.bound.Goals as goal
 
 pub returns : goal.returns
-returns c = c.bound.ensures.bound ∙ ap bound_of (sym (half_keys c.self.inside.schema.shape c.self.inside.now c.self.inside.twin.current c.bound.ensures.ordinals.rising)) ∙ ap (λ (s : State). bound_of (keys s.current.rows)) c.self.view_is
+returns c = bound_of_rows c.args.self.now.current.rows c.bound.result (subst (λ (rows : RowMap). IsRowsBound rows c.bound.result) c.current.ensures c.bound.ensures)

@@ -1,0 +1,10 @@
+pub mod SpotOrder
+pub mod SpotSets
+pub mod StepFronts
+pub mod StepSpots
+pub mod RowsBefore
+pub mod OldTables
+pub mod Pushes
+pub mod KeptRows
+pub mod Looking
+pub mod Taken

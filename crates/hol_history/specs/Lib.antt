@@ -1,0 +1,5 @@
+pub mod History
+pub mod Kept
+pub mod Spots
+pub mod Steps
+pub mod Then

@@ -1,0 +1,5 @@
+use Rattle.ordinal_map.proofs.Keeping.{seen_past_previous}
+use Rattle.ordinal_map.proofs.map.OrdinalMap.previous_bound.Goals as goal
+
+pub returns : goal.returns
+returns c = seen_past_previous c.self.inside.rows.items c.self.inside.chains c.self.inside.previous c.self.inside.current c.self.inside.filled c.self.invariant c.args.self.now c.self.view_is c.bound.result c.bound.ensures.bound
