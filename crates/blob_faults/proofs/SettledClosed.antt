@@ -5,11 +5,11 @@ use Rattle.std.proofs.lemmas.Bool.{cases_Bool, false≢true}
 use Rattle.std.proofs.lemmas.Option.{none-some}
 use Rattle.schema_model.specs.declared.reason.Reason.TheVariants.{Dangling as dangles}
 use Rattle.schema_model.specs.declared.schema.Schema.{Schema}
-use Rattle.row_model.specs.declared.dangling.Dangling.{Dangling}
-use Rattle.row_model.specs.Dangling.{IsClosedAt, TellsDangling, are_live}
+use Rattle.closed_rows.specs.declared.dangling.Dangling.{Dangling}
+use Rattle.closed_rows.specs.Dangling.{IsClosedAt, TellsDangling, are_live}
 use Rattle.row_model.specs.Row.{references_of_row}
 use Rattle.row_model.specs.Table.{Table, IsClosed}
-use Rattle.row_model.proofs.Danglings.{told_live}
+use Rattle.closed_rows.proofs.Danglings.{told_live}
 use Rattle.blob_frame.specs.declared.fault.BlobFault.TheVariants as fault
 use Rattle.blob_faults.specs.Rows.{closed}
 use Rattle.blob_faults.specs.Settles.{Settles}

@@ -3,7 +3,7 @@ use Rattle.std.specs.Prelude.{◌≡◌, ◌≢◌, ℕ, List, Some, slice_get}
 use Rattle.schema_model.specs.declared.reason.Reason.TheVariants.{Dangling as dangles}
 use Rattle.schema_model.specs.declared.schema.name.Name.{Name}
 use Rattle.schema_model.specs.declared.schema.Schema.{Schema}
-use Rattle.row_model.specs.declared.dangling.Dangling.{Dangling}
+use Rattle.closed_rows.specs.declared.dangling.Dangling.{Dangling}
 use Rattle.type_rows.specs.declared.fault.RowFault.{RowFault}
 use Rattle.blob_frame.specs.declared.fault.BlobFault.{BlobFault}
 use Rattle.blob_frame.specs.declared.fault.BlobFault.TheVariants as fault

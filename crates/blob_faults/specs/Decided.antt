@@ -9,8 +9,8 @@ use Rattle.schema_model.specs.declared.reason.Reason.TheVariants.{BadSchema, Dan
 use Rattle.schema_model.specs.declared.schema.Schema.{Schema}
 use Rattle.schema_model.specs.declared.schema.name.Name.{Name}
 use Rattle.schema_model.specs.Model.{IsFirstBreaking, IsKept, IsModel, rule_place}
-use Rattle.row_model.specs.declared.dangling.Dangling.{Dangling}
-use Rattle.row_model.specs.Dangling.{IsClosedAt, TellsDangling, TellsType}
+use Rattle.closed_rows.specs.declared.dangling.Dangling.{Dangling}
+use Rattle.closed_rows.specs.Dangling.{IsClosedAt, TellsDangling, TellsType}
 use Rattle.row_model.specs.Table.{RowMap, Table, IsClosed}
 use Rattle.type_rows.specs.declared.fault.RowFault.{RowFault}
 use Rattle.type_rows.specs.declared.patch.PatchSection.{PatchSection}

@@ -3,8 +3,8 @@ use Rattle.std.specs.Prelude.{◌≤◌, ◌<◌, ℕ, List, Option, Some}
 use Rattle.schema_model.specs.declared.limit.Limit.TheVariants.{Ordinals, Items}
 use Rattle.schema_model.specs.declared.schema.Schema.{Schema}
 use Rattle.schema_model.specs.Limit.{number_of_limit}
-use Rattle.row_model.specs.declared.dangling.Dangling.{Dangling}
-use Rattle.row_model.specs.Dangling.{TellsDangling}
+use Rattle.closed_rows.specs.declared.dangling.Dangling.{Dangling}
+use Rattle.closed_rows.specs.Dangling.{TellsDangling}
 use Rattle.row_model.specs.Table.{RowMap, Table, IsClosed}
 use Rattle.type_rows.specs.declared.patch.PatchSection.{PatchSection}
 use Rattle.type_rows.specs.declared.section.Section.{Section}

@@ -5,7 +5,8 @@ ghost use Rattle.blob_frame.specs.Written.{schemas_at, schema_list_bytes, header
 
 use crate::header::FORMAT;
 use hol_varint::{Ordinals, put_vint};
-use schema_model::{Model, laws, put_schema};
+use schema_bytes::{laws, put_schema};
+use schema_model::Model;
 use std::alloc::{AllocError, Global};
 
 /// Writes a header at the end: the format, the two tags, the schemas of these types of the model in this order, no

@@ -121,7 +121,7 @@ fn put_change<A: Rows, B: Rows>(
     ensures { OnOk result ((change : TypeChange) × IsChangeOf (B.schemas new.now) (A.table old.now) (B.table new.now) type_index change × (out.new.items ≡ out.old.items ++ change_bytes change)) }
 {
     let alloc = *out.allocator();
-    schema_model::laws::spellable_model();
+    schema_bytes::laws::spellable_model();
     let place = type_index as usize;
     let chosen = plan.chosen.get(place);
     let removed = plan.before.alone.get(place);

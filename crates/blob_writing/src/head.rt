@@ -4,7 +4,8 @@ ghost use Rattle.schema_model.specs.Schema.{IsSpellable};
 ghost use Rattle.blob_writing.specs.Written.{type_head_bytes};
 
 use crate::items::or_undone;
-use schema_model::{Schema, put_schema};
+use schema_bytes::put_schema;
+use schema_model::Schema;
 use std::alloc::AllocError;
 
 /// The shard envelope: a number that is not 0, no bytes to skip, and one shard.

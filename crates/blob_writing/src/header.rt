@@ -7,7 +7,8 @@ ghost use Rattle.blob_writing.specs.Limits.{HasFewPaths, HasManyPaths, MeansLarg
 use crate::WriteFault;
 use blob_frame::put_header;
 use hol_varint::{Ordinals, put_vlong};
-use schema_model::{MAX_BLOB_BYTES, Model, Schema, Shape, laws, put_schema};
+use schema_bytes::{laws, put_schema};
+use schema_model::{MAX_BLOB_BYTES, Model, Schema, Shape};
 use std::alloc::{AllocError, Global};
 
 /// Writes the header of a blob at the end, with the schemas of these types of the model. The types are indexes of the

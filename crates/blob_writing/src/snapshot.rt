@@ -132,7 +132,7 @@ fn put_type<A: Rows, B: Rows>(
     ensures { OnOk result ((carried : TypeRows) × IsCarriedOf (B.schemas new.now) (A.table old.now) (B.table new.now) type_index carried × (out.new.items ≡ out.old.items ++ type_bytes carried)) }
 {
     let alloc = *out.allocator();
-    schema_model::laws::spellable_model();
+    schema_bytes::laws::spellable_model();
     let place = type_index as usize;
     let chosen = plan.chosen.get(place);
     let packed = snapshot_rows(alloc, new, type_index, chosen)?;

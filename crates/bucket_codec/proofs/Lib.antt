@@ -1,5 +1,4 @@
 pub mod BucketCounts
-mod Spreads
 mod Places
 mod Members
 mod Buckets
@@ -15,6 +14,6 @@ mod Behind
 mod Clearing
 mod Fills
 mod Rows
-mod Placed
+pub mod Placed
 pub mod PlaceRows
 mod OnePacking

@@ -1,5 +1,5 @@
 -- What the writer of a blob chooses for a SET or MAP type: the widths and the total, over the rows of two states.
-use Rattle.std.specs.Prelude.{◌≡◌, ℕ, ◌+◌, ◌-◌, ◌^◌, List, [], ◌∷◌, ◌++◌, length, map, flat_map, fold, max, min}
+use Rattle.std.specs.Prelude.{ℕ, ◌+◌, List, [], ◌∷◌, ◌++◌, length, map, flat_map, fold, max, min}
 use Rattle.std.specs.List.{sum_by}
 use Rattle.bit_array.specs.Digits.{digit_count}
 use Rattle.schema_model.specs.declared.schema.Shape.{Shape}
@@ -48,10 +48,3 @@ widths_for _ rows = set_widths rows
 -- The total of these rows: the number of their buckets, or one more than the limit where they are more.
 abbrev pub total_for : List Row → ℕ
 total_for rows = min (buckets_of_rows rows) (number_of_limit Limit.Items + 1)
-
--- What is gathered of rows: how many buckets they take, up to the greatest number of 128 bits, and the greatest size, element or key, and value.
-pub record IsSpread (rows : List Row) (buckets size key value : ℕ) : Type 0 where
-  pub buckets_are : buckets ≡ min (buckets_of_rows rows) (2 ^ 128 - 1)
-  pub size_is : size ≡ fold max 0 (sizes_of rows)
-  pub key_is : key ≡ fold max 0 (keys_of_rows rows)
-  pub value_is : value ≡ fold max 0 (values_of_rows rows)

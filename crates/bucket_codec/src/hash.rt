@@ -30,8 +30,8 @@ pub fn buckets_for(elements: u32) -> u64
     buckets_for_any(u64::from(elements)) as u64
 }
 
-/// The same of any number of elements that memory holds.
-pub(crate) fn buckets_for_any(elements: u64) -> u128
+/// How many buckets the run of a set or map of this many elements takes, of any number that memory holds.
+pub fn buckets_for_any(elements: u64) -> u128
     requires { elements < 2 ^ 63 }
     ensures is { result ≡ bucket_count elements }
     ensures count { IsBucketCount elements result }

@@ -1,7 +1,6 @@
 //! The rows of SET and MAP types as packed bits, and back: hash buckets, in which sets and maps are looked up without being unpacked.
 #![tactic(auto)]
 
-mod chosen;
 mod fill;
 mod hash;
 pub mod laws;
@@ -14,9 +13,8 @@ mod row;
 mod run;
 mod taken;
 
-pub use chosen::{total, widths};
-pub use hash::{buckets_for, hash_int};
+pub use hash::{buckets_for, buckets_for_any, hash_int};
 pub use lookup::{at, has};
-pub use packing::{pack, put_row};
+pub use packing::{pack, put_row, size_of};
 pub use place::run_length;
 pub use row::read;

@@ -71,7 +71,7 @@ fn bucket_bits(widths: &[u32]) -> u64
 }
 
 /// How many elements or pairs a row has.
-pub(crate) fn size_of(row: &Row) -> usize
+pub fn size_of(row: &Row) -> usize
     ensures is { result ≡ length (pairs_of row.now) }
     ensures small { result < 2 ^ 63 }
 {

@@ -3,7 +3,8 @@ ghost use Rattle.std.specs.Prelude.{◌≡◌, ◌<◌, ◌↔◌, IfSome, IsTru
 ghost use Rattle.std.specs.Option.{option_map};
 ghost use Rattle.chain_check.specs.Compare.{FirstOtherType, IsFirst, IsFirstAdded, IsLost, KeepsTypes};
 
-use schema_model::{Model, Schema, same_schema};
+use schema_growth::same_schema;
+use schema_model::{Model, Schema};
 
 /// The schema of the first type by which a fresh model differs from a walked one; `None` exactly where the models are the same. It is the first
 /// type of the walked model that the fresh one lacks, has at another index or has under another schema; where there is none, the first type that

@@ -45,7 +45,8 @@ module _ (machine fresh : Machine) (chain : Chain) (sound : IsChain chain) (of :
     stands = stands machine fresh chain sound of afresh;
     indexes = sym afresh.indexes;
     last = machine.version;
-    is = (λ i. with_consumer machine (afresh.was i)) ∙ (λ i. with_reader (sym afresh.is i) (Some afresh.now) machine.version);
+    past = machine.past;
+    is = (λ i. with_consumer machine (afresh.was i)) ∙ (λ i. record (with_reader (sym afresh.is i) (Some afresh.now) machine.version) { past = machine.past });
   }
 
 pub answered_afresh : (machine fresh : Machine) (chain : Chain) (asked : Order) (answer : Reply) → IsOfState (kind_of asked) → HoldsChain machine.store chain → IsConsumerOf chain machine.consumer

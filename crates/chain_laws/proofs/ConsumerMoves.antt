@@ -3,7 +3,7 @@ use Rattle.std.proofs.Common.{◌≡◌, ℕ, ℤ, List, length, Some, refl, sym
 use Rattle.std.proofs.lemmas.List.{length-map}
 use Rattle.std.specs.FinMap.{get}
 use Rattle.hol_io.specs.declared.name.BlobName.{BlobName}
-use Rattle.hol_io.specs.declared.name.BlobName.TheVariants.{Announced, Delta, Reverse, Snapshot}
+use Rattle.hol_io.specs.declared.name.BlobName.TheVariants.{Delta, Reverse, Snapshot}
 use Rattle.hol_io.specs.Store.{Store}
 use Rattle.schema_model.specs.declared.schema.Schema.{Schema}
 use Rattle.row_model.specs.Table.{Table}
@@ -21,14 +21,25 @@ use Rattle.written_laws.specs.Chain.{Chain, ChainState, HasVersion}
 use Rattle.written_laws.specs.HoldsChain.{HoldsChain, IsStep, LeadsOn}
 use Rattle.written_laws.proofs.ChainSteps.{same_model, step_leads}
 use Rattle.written_laws.proofs.MovedOnce.{moved_once}
-use Rattle.written_laws.proofs.PatchOnce.{parts_once}
+use Rattle.written_laws.proofs.PatchOnce.{parts_once, tags_once}
 use Rattle.chain_laws.specs.Consumers.{IsIn, StandsAt}
 use Rattle.chain_laws.specs.KeptIndexes.{AreIndexes}
 use Rattle.chain_laws.proofs.AddedIndexes.{no_indexes}
 use Rattle.chain_laws.proofs.NextPosition.{next_halves, next_table, next_count, next_others, next_named}
 
+-- the blob is a delta, or a reverse delta, from one version to another
+abbrev pub IsBetween : BlobName → ℕ → ℕ → Type 0
+IsBetween (Delta from to) begin end = (from ≡ begin) × (to ≡ end)
+IsBetween (Reverse from to) begin end = (from ≡ begin) × (to ≡ end)
+IsBetween _ begin end = ⊥
+
+pub is_step : (name : BlobName) (begin end : ℕ) → IsBetween name begin end → IsStep name
+is_step (Delta from to) begin end between = tt
+is_step (Reverse from to) begin end between = tt
+is_step _ begin end between = absurd between
+
 module _ (store : Store) (chain : Chain) (holds : HoldsChain store chain) where
-  one : (version : ℕ) (a b : ChainState) → HasVersion chain version a → HasVersion chain version b → a ≡ b
+  pub one : (version : ℕ) (a b : ChainState) → HasVersion chain version a → HasVersion chain version b → a ≡ b
   one version a b at also = let same : Some a ≡ Some b = sym at ∙ also in cc
 
   -- ---- loads
@@ -56,24 +67,46 @@ module _ (store : Store) (chain : Chain) (holds : HoldsChain store chain) where
         indexes = subst (AreIndexes position.schemas) (sym loads.4) (no_indexes position.schemas);
       }
 
+  -- a consumer in the chain is at the version that has its tag
+  in_version : (version : ℕ) (state : ChainState) (position : Position) → HasVersion chain version state → state.tag ≡ position.tag → (is : IsIn chain position) → is.version ≡ version
+  in_version version state position there tag is = holds.sound.tags is.version version is.state state is.there there (sym is.stands.tag ∙ sym tag)
+
+  -- a load leads to its version
+  pub loads_at : (version : ℕ) (blob : List ℕ) (position : Position) → get store (Snapshot version) ≡ Some blob → LoadsFrom blob position → (is : IsIn chain position) × (is.version ≡ version)
+  loads_at version blob position at loads =
+      let (state, there, snapshot) = holds.each (Snapshot version) blob at in
+      let is = loads_in version blob position at loads in
+      (is, in_version version state position there (sym (loads_state version state blob position there at loads).tag) is)
+
   -- ---- steps
 
   rows_are : (version : ℕ) (state : ChainState) → HasVersion chain version state → length state.table ≡ length state.model
   rows_are version state there = (holds.sound.sound version state there).rows.types
 
-  -- a delta of the chain is one against the model of the state that it starts from
-  pub delta_of : (name : BlobName) (blob : List ℕ) → IsStep name → get store name ≡ Some blob
-      → (version : ℕ) × (from : ChainState) × HasVersion chain version from × (destination : ℤ) × (patch : List TypePatch) × DeltaIs from.model blob from.tag destination patch
-  delta_of (Delta from to) blob step at =
+  -- a delta of the chain leads from the state of its first version to that of its second one, against the model of the first
+  pub delta_of : (name : BlobName) (blob : List ℕ) (begin end : ℕ) → IsBetween name begin end → get store name ≡ Some blob
+      → (from to : ChainState) × HasVersion chain begin from × HasVersion chain end to × (patch : List TypePatch) × DeltaIs from.model blob from.tag to.tag patch
+  delta_of (Delta from to) blob begin end between at =
       let (before, after, was, there, parent, leads) = holds.each (Delta from to) blob at in
-      let model = same_model chain holds.sound from to before after was there parent in
-      (from, before, was, after.tag, leads.patch, subst (λ (m : List Schema). DeltaIs m blob before.tag after.tag leads.patch) model leads.is)
-  delta_of (Reverse from to) blob step at =
+      let model = same_model chain holds.sound from to before after was there parent in (
+        before,
+        after,
+        subst (λ (v : ℕ). HasVersion chain v before) between.0 was,
+        subst (λ (v : ℕ). HasVersion chain v after) between.1 there,
+        leads.patch,
+        subst (λ (m : List Schema). DeltaIs m blob before.tag after.tag leads.patch) model leads.is,
+      )
+  delta_of (Reverse from to) blob begin end between at =
       let (before, after, was, there, parent, leads) = holds.each (Reverse from to) blob at in
-      let model = same_model chain holds.sound to from before after was there parent in
-      (from, after, there, before.tag, leads.patch, subst (λ (m : List Schema). DeltaIs m blob after.tag before.tag leads.patch) (sym model) leads.is)
-  delta_of (Snapshot version) blob step at = absurd step
-  delta_of Announced blob step at = absurd step
+      let model = same_model chain holds.sound to from before after was there parent in (
+        after,
+        before,
+        subst (λ (v : ℕ). HasVersion chain v after) between.0 there,
+        subst (λ (v : ℕ). HasVersion chain v before) between.1 was,
+        leads.patch,
+        subst (λ (m : List Schema). DeltaIs m blob after.tag before.tag leads.patch) (sym model) leads.is,
+      )
+  delta_of _ blob begin end between at = absurd between
 
   -- where this is the state that a consumer has it is one against the consumer's own model
   pub own_delta : (now : Position) → IsIn chain now → (version : ℕ) (from : ChainState) (blob : List ℕ) (destination : ℤ) (patch : List TypePatch) → HasVersion chain version from → from.tag ≡ now.tag
@@ -105,6 +138,15 @@ module _ (store : Store) (chain : Chain) (holds : HoldsChain store chain) where
         };
         indexes = subst (λ (m : List Schema). AreIndexes m to.indexes) (sym steps.model) (subst (AreIndexes now.schemas) (sym steps.indexes) is.indexes);
       }
+
+  -- a step leads to the second version of its blob
+  pub steps_at : (name : BlobName) (blob : List ℕ) (begin end : ℕ) (now to : Position) → IsBetween name begin end → get store name ≡ Some blob → IsIn chain now → StepsBy blob now to
+      → (is : IsIn chain to) × (is.version ≡ end)
+  steps_at name blob begin end now to between at was steps =
+      let is = steps_in name blob now to (is_step name begin end between) at was steps in
+      let (from, next, there, ends, patch, delta) = delta_of name blob begin end between at in
+      let tags = tags_once from.model now.schemas blob from.tag next.tag now.tag to.tag patch steps.patch delta steps.is in
+      (is, in_version end next to ends tags.1 is)
 
   -- a delta of the chain from where the consumer stands is one that it can take
   pub step_there : (name : BlobName) (blob : List ℕ) (now : Position) (destination : ℤ) (patch : List TypePatch) → IsStep name → get store name ≡ Some blob → IsIn chain now

@@ -4,6 +4,7 @@ use Rattle.std.specs.Prelude.{IsSomeAnd, nat_lt}
 use Rattle.std.specs.FinMap.{get}
 use Rattle.hol_io.specs.declared.name.BlobName.{BlobName}
 use Rattle.hol_io.specs.declared.name.BlobName.TheVariants.{Snapshot, Delta, Reverse}
+use Rattle.hol_io.specs.Store.{Store}
 use Rattle.schema_model.specs.declared.schema.Schema.{Schema}
 use Rattle.type_state.specs.Views.{table_of}
 use Rattle.blob_frame.specs.declared.fault.BlobFault.TheVariants as fault
@@ -25,24 +26,27 @@ use Rattle.hol_answers.specs.declared.reply.Reply.TheVariants as reply
 use Rattle.hollow_machine.proofs.Refusals.{one_step_refusal, some_one}
 use Rattle.hollow_machine.specs.Blobs.{SnapshotRefusal}
 use Rattle.hollow_machine.specs.LoadOrder.{LoadStep}
-use Rattle.hollow_machine.specs.State.{Machine, moved_to}
+use Rattle.hollow_machine.specs.State.{Machine, loaded_to, stepped_to}
 use Rattle.hollow_machine.specs.StepOrder.{StepRefusal, StepStep, step_name}
 use Rattle.written_laws.specs.Chain.{Chain, ChainState, HasVersion}
 use Rattle.written_laws.specs.HoldsChain.{HoldsChain, IsStep, IsThere}
 use Rattle.chain_laws.specs.Consumers.{Fresh, IsIn, StandsAt, StartsAt}
 use Rattle.chain_laws.proofs.BlobTags.{delta_begins}
-use Rattle.chain_laws.proofs.ConsumerMoves.{delta_of, loads_state, own_delta, step_there, steps_in}
+use Rattle.chain_laws.proofs.ConsumerMoves.{IsBetween, delta_of, is_step, loads_state, one, own_delta, step_there, steps_in}
 use Rattle.chain_laws.proofs.StoreNames.{found, found_with}
 use Rattle.chain_laws.proofs.TypedConsumers.{IsTyped, typed_in}
 
 -- ---- names and headers
 
-pub step_named : (from to : ℕ) → IsStep (step_name from to)
-step_named from to = by_order (nat_lt from to)
+pub step_between : (from to : ℕ) → IsBetween (step_name from to) from to
+step_between from to = by_order (nat_lt from to)
   where
-    by_order : (rises : Bool) → IsStep (if rises then Delta from to else Reverse from to)
-    by_order true = tt
-    by_order false = tt
+    by_order : (rises : Bool) → IsBetween (if rises then Delta from to else Reverse from to) from to
+    by_order true = (refl, refl)
+    by_order false = (refl, refl)
+
+pub step_named : (from to : ℕ) → IsStep (step_name from to)
+step_named from to = is_step (step_name from to) from to (step_between from to)
 
 -- a delta starts where its header says
 delta_origin : (content : Option (List ℕ)) (schemas : List Schema) (blob : List ℕ) (head : Header) (origin destination : ℤ) (patch : List TypePatch) → content ≡ Some blob → HasHeader content head
@@ -62,8 +66,16 @@ pub no_refusal : (name : BlobName) (content : Option (List ℕ)) (blob : List �
 no_refusal name content blob now to at typed steps refusal (found, fails, is) =
     stepped_or_fault blob now to found typed.names steps (subst (λ (c : Option (List ℕ)). RefusesStep name c now found) at fails)
 
-module _ (machine : Machine) (chain : Chain) (name : BlobName) (version : ℕ) (now : Position) (holds : HoldsChain machine.store chain) (of_step : IsStep name) (was : machine.consumer ≡ Some now) (is : IsIn chain now)
-    (starts : StartsAt machine.store name now.tag) where
+module _ (store : Store) (chain : Chain) (name : BlobName) (begin end : ℕ) (now : Position) (holds : HoldsChain store chain) (between : IsBetween name begin end) (is : IsIn chain now) where
+  -- a delta of the chain from a state with the tag where the consumer stands can be taken
+  pub can_take : (blob : List ℕ) → get store name ≡ Some blob → ((from : ChainState) → HasVersion chain begin from → from.tag ≡ now.tag) → (to : Position) × StepsBy blob now to
+  can_take blob at starts =
+      let (from, next, there, ends, patch, delta) = delta_of store chain holds name blob begin end between at in
+      let own = own_delta store chain holds now is begin from blob next.tag patch there (starts from there) delta in
+      step_there store chain holds name blob now next.tag patch (is_step name begin end between) at is own
+
+module _ (machine : Machine) (chain : Chain) (name : BlobName) (begin version : ℕ) (now : Position) (holds : HoldsChain machine.store chain) (between : IsBetween name begin version) (was : machine.consumer ≡ Some now)
+    (is : IsIn chain now) (starts : StartsAt machine.store name now.tag) where
   abbrev stored : Option (List ℕ)
   stored = get machine.store name
 
@@ -73,28 +85,28 @@ module _ (machine : Machine) (chain : Chain) (name : BlobName) (version : ℕ) (
   can_step : (blob : List ℕ) × (to : Position) × (stored ≡ Some blob) × StepsBy blob now to
   can_step =
       let (head, has, starts_at) = starts in
-      let (blob, n, at, short, begin) = has in
-      let (home, from, there, destination, patch, delta) = delta_of machine.store chain holds name blob of_step at in
-      let same : from.tag ≡ now.tag = sym (delta_origin stored from.model blob head from.tag destination patch at has delta) ∙ starts_at in
-      let own = own_delta machine.store chain holds now is home from blob destination patch there same delta in
-      let (to, steps) = step_there machine.store chain holds name blob now destination patch of_step at is own in
+      let (blob, n, at, short, first) = has in
+      let (from, next, there, ends, patch, delta) = delta_of machine.store chain holds name blob begin version between at in
+      let origin : from.tag ≡ now.tag = sym (delta_origin stored from.model blob head from.tag next.tag patch at has delta) ∙ starts_at in
+      let (to, steps) = can_take machine.store chain name begin version now holds between is blob at
+      (λ other there_too. (let same : other ≡ from = one machine.store chain holds begin other from there_too there in ap (λ (s : ChainState). s.tag) same ∙ origin)) in
       (blob, to, at, steps)
 
-  pub step_taken : (position : Position) × StepStep machine name version (reply.Step position.tag) (moved_to machine version position)
+  pub step_taken : (position : Position) × StepStep machine name version (reply.Step position.tag) (stepped_to machine version position)
   step_taken =
       let (blob, to, at, steps) = can_step in (
         to,
         subst (λ (consumer : Option Position). IsSomeAnd consumer (λ here. (b : List ℕ) × (p : Position) × (stored ≡ Some b) × StepsBy b here p × (to.tag ≡ p.tag)
-            × (moved_to machine version to ≡ moved_to machine version p))) (sym was) (blob, to, at, steps, refl, refl),
+            × (stepped_to machine version to ≡ stepped_to machine version p))) (sym was) (blob, to, at, steps, refl, refl),
       )
 
   pub step_only : (answer : Reply) (next : Machine) → StepStep machine name version answer next
-      → (position : Position) × IsIn chain position × (answer ≡ reply.Step position.tag) × (next ≡ moved_to machine version position)
+      → (position : Position) × IsIn chain position × (answer ≡ reply.Step position.tag) × (next ≡ stepped_to machine version position)
   step_only (reply.Step tag) next step =
       let (here, also, (blob, to, at, steps, tag_is, next_is)) = found_with machine.consumer _ step in
       let same : here ≡ now = some_one machine.consumer here now also was in
       let from_now : StepsBy blob now to = subst (λ (p : Position). StepsBy blob p to) same steps in
-      (to, steps_in machine.store chain holds name blob now to of_step at is from_now, ap (λ (t : ℤ). reply.Step t) tag_is, next_is)
+      (to, steps_in machine.store chain holds name blob now to (is_step name begin version between) at is from_now, ap (λ (t : ℤ). reply.Step t) tag_is, next_is)
   step_only (reply.Refused refusal) next step =
       let (blob, to, at, steps) = can_step in
       absurd (no_refusal name stored blob now to at typed steps refusal (subst (λ (consumer : Option Position). StepRefusal name stored consumer refusal) was step.0))
@@ -149,14 +161,14 @@ module _ (machine : Machine) (chain : Chain) (version : ℕ) (state : ChainState
       let (other, also, (head, tag, is)) = holds.each (Snapshot version) blob at in
       (blob, record { tag = head.destination; schemas = other.model; halves = is.halves; before = table_of is.halves; indexes = [] }, at, (head, is.accepted, refl, refl, refl))
 
-  pub load_taken : (position : Position) × LoadStep machine version (reply.Load state.tag) (moved_to machine version position)
+  pub load_taken : (position : Position) × LoadStep machine version (reply.Load state.tag) (loaded_to machine version position)
   load_taken =
       let (blob, position, at, loads) = can_load in
       let stands = loads_state machine.store chain holds version state blob position there at loads in
       (position, (blob, position, at, loads, sym stands.tag, refl))
 
   pub load_only : (answer : Reply) (next : Machine) → LoadStep machine version answer next
-      → (position : Position) × StandsAt state position × (position.indexes ≡ []) × (answer ≡ reply.Load state.tag) × (next ≡ moved_to machine version position)
+      → (position : Position) × StandsAt state position × (position.indexes ≡ []) × (answer ≡ reply.Load state.tag) × (next ≡ loaded_to machine version position)
   load_only (reply.Load tag) next (blob, position, at, loads, tag_is, next_is) =
       let stands = loads_state machine.store chain holds version state blob position there at loads in
       (position, stands, loads.4, ap (λ (t : ℤ). reply.Load t) (tag_is ∙ stands.tag), next_is)
@@ -166,4 +178,4 @@ module _ (machine : Machine) (chain : Chain) (version : ℕ) (state : ChainState
   pub load_fresh : (now : Position) (answer : Reply) (next : Machine) → machine.consumer ≡ Some now → now.tag ≡ state.tag → now.indexes ≡ [] → LoadStep machine version answer next → Fresh chain machine next
   load_fresh now answer next was tag bare step =
       let (position, stands, none, answer_is, next_is) = load_only answer next step in
-      record { now = now; was = was; version = version; state = state; there = there; tag = tag; position = position; stands = stands; indexes = none ∙ sym bare; last = Some version; is = next_is }
+      record { now = now; was = was; version = version; state = state; there = there; tag = tag; position = position; stands = stands; indexes = none ∙ sym bare; last = Some version; past = []; is = next_is }

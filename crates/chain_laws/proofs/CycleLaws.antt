@@ -29,10 +29,11 @@ use Rattle.chain_laws.specs.Producers.{IsOver, IsProducerOf, KeepsChain, state_b
 use Rattle.chain_laws.proofs.PublishedState.{first_kept, later_kept, over_longer, versions_stay}
 use Rattle.chain_laws.proofs.StoreNames.{found_with}
 use Rattle.written_laws.specs.HoldsChain.{HoldsChain}
-use Rattle.chain_laws.specs.Consumers.{IsConsumerOf}
+use Rattle.read_engine.specs.Position.{Position}
+use Rattle.chain_laws.specs.Consumers.{IsReaderAt, IsReaderOf}
 use Rattle.write_engine.proofs.NextStates.{next_once}
 use Rattle.chain_laws.proofs.OneCycle.{IsOnce, one_cycle}
-use Rattle.chain_laws.proofs.Lawful.{Extends, IsLawful, IsSoundMachine, Keeps, KeepsOf, stays_sound, stays_of, same_of, says_both}
+use Rattle.chain_laws.proofs.Lawful.{Extends, IsLawful, IsSoundMachine, Keeps, KeepsOf, stays_sound, same_of, says_both}
 use Rattle.hol_orders.specs.declared.kind.Kind.{Kind}
 
 -- The cycle leaves this machine, and the chain grew by what it published.
@@ -118,18 +119,37 @@ module _ (machine : Machine) (sound : IsSoundMachine machine) where
   cycle_sound asked (reply.Refused refusal) next step = stays_sound machine sound next step.1
   cycle_sound asked _ next step = absurd step
 
-module _ (machine : Machine) (chain : Chain) (holds : HoldsChain machine.store chain) (of : IsConsumerOf chain machine.consumer) where
+module _ (machine : Machine) (chain : Chain) (holds : HoldsChain machine.store chain) (of : IsReaderOf chain machine) where
   succeeds_moves : (last : Published) (asked : AskedCycle) (names : List (List ℕ)) (published : Bool) (next : Machine) → SucceedsAfter machine last asked names published next
-      → IsConsumerOf chain next.consumer
+      → IsReaderOf chain next
   succeeds_moves last asked names false next (may, (trees, gives, (rows, changed, makes, named, leaves))) = same_of machine chain of next leaves.2
   succeeds_moves last asked names true next (may, (trees, gives, (rows, changed, makes, named, (publishes, limits, (blobs, are, short, next_is))))) =
-      stays_of machine chain of next (ap (λ (m : Machine). m.consumer) next_is)
+      subst (IsReaderOf chain) (sym next_is) of
 
-  pub cycle_moves : (asked : AskedCycle) (answer : Reply) (next : Machine) → CycleStep machine asked answer next → IsConsumerOf chain next.consumer
+  pub cycle_moves : (asked : AskedCycle) (answer : Reply) (next : Machine) → CycleStep machine asked answer next → IsReaderOf chain next
   cycle_moves asked (reply.Cycle names published version) next step =
       let (last, is, succeeds) = found_with machine.producer _ step.1 in succeeds_moves last asked names published next succeeds
   cycle_moves asked (reply.Refused refusal) next step = same_of machine chain of next step.1
   cycle_moves asked _ next step = absurd step
+
+-- a machine whose consumer is at no version stays so
+abbrev pub IsNowhere : Machine → Type 0
+IsNowhere machine = (machine.consumer ≡ None) × (machine.version ≡ None)
+
+module _ (machine : Machine) (nowhere : IsNowhere machine) where
+  succeeds_nowhere : (last : Published) (asked : AskedCycle) (names : List (List ℕ)) (published : Bool) (next : Machine) → SucceedsAfter machine last asked names published next → IsNowhere next
+  succeeds_nowhere last asked names false next (may, (trees, gives, (rows, changed, makes, named, leaves))) = subst IsNowhere (sym leaves.2) nowhere
+  succeeds_nowhere last asked names true next (may, (trees, gives, (rows, changed, makes, named, (publishes, limits, (blobs, are, short, next_is))))) = subst IsNowhere (sym next_is) nowhere
+
+  pub cycle_nowhere : (asked : AskedCycle) (answer : Reply) (next : Machine) → CycleStep machine asked answer next → IsNowhere next
+  cycle_nowhere asked (reply.Cycle names published version) next step =
+      let (last, is, succeeds) = found_with machine.producer _ step.1 in succeeds_nowhere last asked names published next succeeds
+  cycle_nowhere asked (reply.Refused refusal) next step = subst IsNowhere (sym step.1) nowhere
+  cycle_nowhere asked _ next step = absurd step
+
+-- and is so over each chain
+pub nowhere_of : (chain : Chain) (machine : Machine) → IsNowhere machine → IsReaderOf chain machine
+nowhere_of chain machine nowhere = subst (λ (consumer : Option Position). IsReaderAt chain consumer machine.version machine.past) (sym nowhere.0) nowhere.1
 
 -- what an order of this kind asks for
 abbrev state_in : (kind : Kind) → (shape kind).Asked → AskedState

@@ -3,10 +3,12 @@ use Rattle.hol_orders.specs.declared.kind.Kind.{Kind}
 use Rattle.hollow_machine.specs.Step.{form}
 use Rattle.chain_laws.proofs.CheckLaws.{check_lawful}
 use Rattle.chain_laws.proofs.CycleLaws.{cycle_lawful}
+use Rattle.chain_laws.proofs.HistoryLaws.{history_lawful, was_lawful, wasget_lawful}
 use Rattle.chain_laws.proofs.IndexLaws.{index_lawful}
 use Rattle.chain_laws.proofs.LoadLaws.{load_lawful}
 use Rattle.chain_laws.proofs.ModelLaws.{model_lawful}
 use Rattle.chain_laws.proofs.PastLaws.{past_lawful}
+use Rattle.chain_laws.proofs.PlanLaws.{goto_lawful, plan_lawful}
 use Rattle.chain_laws.proofs.RestoreLaws.{restore_lawful}
 use Rattle.chain_laws.proofs.StatLaws.{stat_lawful}
 use Rattle.chain_laws.proofs.StepLaws.{step_lawful}
@@ -30,11 +32,11 @@ laws Kind.Past = past_lawful
 laws Kind.Check = check_lawful
 laws Kind.Stat = stat_lawful
 laws Kind.Grow = unbuilt_lawful Kind.Grow
-laws Kind.Plan = unbuilt_lawful Kind.Plan
-laws Kind.Goto = unbuilt_lawful Kind.Goto
+laws Kind.Plan = plan_lawful
+laws Kind.Goto = goto_lawful
 laws Kind.Change = unbuilt_lawful Kind.Change
 laws Kind.WalkIndex = unbuilt_lawful Kind.WalkIndex
 laws Kind.WalkFind = unbuilt_lawful Kind.WalkFind
-laws Kind.History = unbuilt_lawful Kind.History
-laws Kind.Was = unbuilt_lawful Kind.Was
-laws Kind.WasGet = unbuilt_lawful Kind.WasGet
+laws Kind.History = history_lawful
+laws Kind.Was = was_lawful
+laws Kind.WasGet = wasget_lawful

@@ -24,7 +24,7 @@ use Rattle.read_engine.specs.Indexes.{KeepsIndex, index_by}
 use Rattle.read_engine.specs.Position.{Index, Position, rows_now}
 use Rattle.hollow_machine.specs.IndexOrder.{IndexStep}
 use Rattle.hollow_machine.specs.LoadOrder.{LoadStep}
-use Rattle.hollow_machine.specs.State.{Machine, moved_to, with_consumer}
+use Rattle.hollow_machine.specs.State.{Machine, loaded_to, with_consumer}
 use Rattle.written_laws.specs.Chain.{Chain, ChainState, HasVersion}
 use Rattle.written_laws.specs.HoldsChain.{HoldsChain, IsThere}
 use Rattle.chain_laws.specs.Afresh.{AreAdded, AskForAll}
@@ -150,7 +150,7 @@ module _ (machine : Machine) (chain : Chain) (version : ℕ) (state : ChainState
   is_in : IsIn chain now
   is_in = subst (λ (consumer : Option Position). IfSome consumer (IsIn chain)) was of
 
-  is_fresh : (position : Position) (next : Machine) → StandsAt state position → next ≡ moved_to machine version (record position { indexes = now.indexes }) → Fresh chain machine next
+  is_fresh : (position : Position) (next : Machine) → StandsAt state position → next ≡ loaded_to machine version (record position { indexes = now.indexes }) → Fresh chain machine next
   is_fresh position next stands next_is = record {
     now = now;
     was = was;
@@ -162,6 +162,7 @@ module _ (machine : Machine) (chain : Chain) (version : ℕ) (state : ChainState
     stands = record { tag = stands.tag; model = stands.model; rows = stands.rows };
     indexes = refl;
     last = Some version;
+    past = [];
     is = next_is;
   }
 
@@ -171,19 +172,19 @@ module _ (machine : Machine) (chain : Chain) (version : ℕ) (state : ChainState
       let (position, stands, none, answer_is, loaded_is) = load_only machine chain version state holds there whole answer loaded step in
       let names = subst (λ (m : List Schema). IsKept m DuplicateName) (sym stands.model) ((holds.sound.sound version state there).model DuplicateName) in
       let asks_here = subst (λ (m : List Schema). AskForAll m asked now.indexes) (sym stands.model) asks in
-      let bare = loaded_is ∙ (λ i. moved_to machine version (record position { indexes = none i })) in
-      is_fresh position next stands (added_all (moved_to machine version position) position asked [] now.indexes loaded next names asks_here is_in.indexes.apart bare added)
+      let bare = loaded_is ∙ (λ i. loaded_to machine version (record position { indexes = none i })) in
+      is_fresh position next stands (added_all (loaded_to machine version position) position asked [] now.indexes loaded next names asks_here is_in.indexes.apart bare added)
 
   pub fresh_there : (loaded next : Machine) × (asked : List (Name × List (List ℕ)))
       × LoadStep machine version (reply.Load state.tag) loaded × AskForAll state.model asked now.indexes × AreAdded loaded asked next × Fresh chain machine next
   unfolding is_fresh
   fresh_there =
       let (first, step) = load_taken machine chain version state holds there whole in
-      let loaded : Machine = moved_to machine version first in
+      let loaded : Machine = loaded_to machine version first in
       let (position, stands, none, answer_is, loaded_is) = load_only machine chain version state holds there whole (reply.Load state.tag) loaded step in
-      let bare = loaded_is ∙ (λ i. moved_to machine version (record position { indexes = none i })) in
-      let next : Machine = moved_to machine version (record position { indexes = now.indexes }) in
+      let bare = loaded_is ∙ (λ i. loaded_to machine version (record position { indexes = none i })) in
+      let next : Machine = loaded_to machine version (record position { indexes = now.indexes }) in
       let fresh = is_fresh position next stands refl in
       let model = schemas_same machine next chain holds.sound of fresh in
-      let (asked, asks, added) = added_there (moved_to machine version position) position [] now.indexes loaded (subst (λ (m : List Schema). AreIndexes m now.indexes) model is_in.indexes) bare in
+      let (asked, asks, added) = added_there (loaded_to machine version position) position [] now.indexes loaded (subst (λ (m : List Schema). AreIndexes m now.indexes) model is_in.indexes) bare in
       (loaded, next, asked, step, subst (λ (m : List Schema). AskForAll m asked now.indexes) stands.model asks, added, fresh)

@@ -1,8 +1,10 @@
 -- What is promised of each line of a script, over a store that keeps a chain.
 use Rattle.std.proofs.Common.{ℕ, List, [], ◌∷◌, Bool, refl, sym, subst}
+use Rattle.serde_json.specs.View.{view}
 use Rattle.hol_orders.specs.declared.order.Order.{Order}
 use Rattle.hol_orders.specs.declared.order.Order.TheVariants as order
 use Rattle.hol_answers.specs.declared.reply.Reply.{Reply}
+use Rattle.hol_answers.specs.declared.reply.Reply.TheVariants as reply
 use Rattle.hollow_machine.specs.Script.{LineStep, Script}
 use Rattle.hollow_machine.specs.State.{Machine}
 use Rattle.hollow_machine.specs.Step.{Step}
@@ -11,20 +13,32 @@ use Rattle.written_laws.specs.Chain.{Chain}
 use Rattle.chain_laws.specs.Consumers.{IsConsumerOf}
 use Rattle.chain_laws.specs.Headline.{AreTrueLines, IsTrueLine, IsTrueOrder, IsTrueStep, StandsOn}
 use Rattle.chain_laws.proofs.ConsumerLines.{line_keeps_both}
-use Rattle.chain_laws.proofs.ConsumerOrders.{other_only, step_named, step_only}
+use Rattle.chain_laws.proofs.ConsumerOrders.{other_only, step_between, step_only}
 use Rattle.chain_laws.proofs.Afresh.{afresh_there}
+use Rattle.chain_laws.proofs.Lawful.{reader_in}
+use Rattle.chain_laws.proofs.OldRows.{was_as_row, wasget_as_get}
+use Rattle.chain_laws.proofs.PlannedMoves.{goto_arrives}
 
 module _ (machine : Machine) (chain : Chain) (stands : StandsOn chain machine) where
+  in_chain : IsConsumerOf chain machine.consumer
+  in_chain = reader_in chain machine.consumer machine.version machine.past stands.consumer
+
   true_step : (from to : ℕ) (answer : Reply) (next : Machine) → Step machine (order.Step from to) answer next → IsTrueStep chain machine from to answer next
   true_step from to answer next step = record {
-    taken = λ now was starts. step_only machine chain (step_name from to) to now stands.kept.holds (step_named from to) was (subst (IsConsumerOf chain) was stands.consumer) starts answer next step;
+    taken = λ now was starts.
+        step_only machine chain (step_name from to) from to now stands.kept.holds (step_between from to) was (subst (IsConsumerOf chain) was in_chain) starts answer next step;
     other = λ now origin was starts apart. other_only machine (step_name from to) to now origin was starts apart answer next step;
   }
 
   true_order : (asked : Order) (answer : Reply) (next : Machine) → Step machine asked answer next → IsTrueOrder chain machine asked answer next
   true_order order answer next step = record {
     moves = λ from to is. true_step from to answer next (subst (λ (o : Order). Step machine o answer next) is step);
-    fresh = λ of_state fresh is_fresh. afresh_there machine fresh next chain order answer of_state stands.kept.holds.sound stands.consumer is_fresh step;
+    goes = λ version progress is answer_is.
+        goto_arrives machine next chain version progress stands.kept.holds stands.consumer
+        (subst (λ (o : Order). Step machine o (reply.Goto progress) next) is (subst (λ (r : Reply). Step machine order r next) answer_is step));
+    was = λ version name ordinal is reaches. was_as_row machine chain stands.consumer version reaches name ordinal answer (subst (λ (o : Order). Step machine o answer next) is step).0;
+    wasget = λ version name values is reaches. wasget_as_get machine chain stands.consumer version reaches name (view values) answer (subst (λ (o : Order). Step machine o answer next) is step).0;
+    fresh = λ of_state fresh is_fresh. afresh_there machine fresh next chain order answer of_state stands.kept.holds.sound in_chain is_fresh step;
   }
 
   true_line : (line : List ℕ) (answer : Reply) (next : Machine) → LineStep machine line answer next → (after : Chain) × IsTrueLine chain machine line answer next after

@@ -1,6 +1,9 @@
 -- What every law of lines asks of the orders of a kind.
-use Rattle.std.proofs.Common.{◌≡◌, ℕ, List, Bool, true, Option, Some, refl, sym, ap, subst, ◌∙◌, inl, inr, ◌⊎◌, false}
+use Rattle.std.proofs.Common.{◌≡◌, ℕ, List, Bool, true, Option, Some, None, refl, sym, ap, subst, ◌∙◌, false}
 use Rattle.std.specs.Prelude.{IfSome}
+use Rattle.hol_io.specs.Store.{Store}
+use Rattle.row_model.specs.Table.{Table}
+use Rattle.state_blobs.specs.Published.{Published}
 use Rattle.hol_orders.specs.declared.kind.Kind.{Kind}
 use Rattle.hol_orders.specs.declared.order.Order.{Order}
 use Rattle.hol_orders.specs.Kind.{shape}
@@ -11,11 +14,11 @@ use Rattle.hol_answers.specs.declared.reply.Reply.{Reply}
 use Rattle.hol_answers.specs.declared.reply.Reply.TheVariants as reply
 use Rattle.read_engine.specs.Position.{Position}
 use Rattle.hollow_machine.specs.Forms.{OrderForm, Refuses, StepBy, answers_of_state, looking, unbuilt}
-use Rattle.hollow_machine.specs.State.{Machine, with_reader}
+use Rattle.hollow_machine.specs.State.{Machine}
 use Rattle.written_laws.specs.Chain.{Chain, ChainState, HasVersion, IsChain}
 use Rattle.written_laws.specs.HoldsChain.{HoldsChain}
 use Rattle.chain_laws.specs.Answers.{SaysOne}
-use Rattle.chain_laws.specs.Consumers.{Fresh, IsConsumerOf, IsIn}
+use Rattle.chain_laws.specs.Consumers.{Fresh, IsConsumerOf, IsReaderAt, IsReaderOf}
 use Rattle.chain_laws.specs.Growth.{GrowsBy}
 use Rattle.chain_laws.specs.Producers.{IsProducerOf, KeepsChain}
 use Rattle.chain_laws.proofs.Answering.{IsUnpublished, unless_published}
@@ -53,8 +56,8 @@ KeepsOf kind form = (machine : Machine) (chain : Chain) → KeepsChain machine.s
 
 -- they leave the consumer at a state of the chain
 abbrev pub MovesOf : {Asked : Type 0} → OrderForm Asked → Type 0
-MovesOf {Asked} form = (machine : Machine) (chain : Chain) → HoldsChain machine.store chain → IsConsumerOf chain machine.consumer
-    → (asked : Asked) (answer : Reply) (next : Machine) → StepBy form machine asked answer next → IsConsumerOf chain next.consumer
+MovesOf {Asked} form = (machine : Machine) (chain : Chain) → HoldsChain machine.store chain → IsReaderOf chain machine
+    → (asked : Asked) (answer : Reply) (next : Machine) → StepBy form machine asked answer next → IsReaderOf chain next
 
 -- they are answered as where the consumer has its state afresh
 abbrev pub IsFreshOf : {Asked : Type 0} → OrderForm Asked → Type 0
@@ -72,14 +75,12 @@ pub record IsLawful (kind : Kind) (form : OrderForm (shape kind).Asked) : Type 0
 
 module _ (machine : Machine) (line : List ℕ) (chain : Chain) (kept : KeepsChain machine.store chain) (over : IsProducerOf chain machine.producer) where
   -- the store and the producer stay
-  pub beside_keeps : (answer : Reply) (next : Machine) (consumer : Option Position) (version : Option ℕ) → GrowsBy machine line answer chain chain → next ≡ with_reader machine consumer version
-      → Keeps machine line answer chain next
-  beside_keeps answer next consumer version grows same =
-      let both = subst (λ (m : Machine). KeepsChain m.store chain × IsProducerOf chain m.producer) (sym same) (kept, over) in
-      (chain, grows, both.0, both.1, (λ v s there. there))
+  pub beside_keeps : (answer : Reply) (next : Machine) → GrowsBy machine line answer chain chain → next.store ≡ machine.store → next.producer ≡ machine.producer → Keeps machine line answer chain next
+  beside_keeps answer next grows store producer =
+      (chain, grows, subst (λ (s : Store). KeepsChain s chain) (sym store) kept, subst (IsProducerOf chain) (sym producer) over, (λ v s there. there))
 
   pub same_keeps : (answer : Reply) (next : Machine) → GrowsBy machine line answer chain chain → next ≡ machine → Keeps machine line answer chain next
-  same_keeps answer next grows same = beside_keeps answer next machine.consumer machine.version grows same
+  same_keeps answer next grows same = beside_keeps answer next grows (ap (λ (m : Machine). m.store) same) (ap (λ (m : Machine). m.producer) same)
 
   pub refused_keeps : (answer : Reply) (next : Machine) (refusal : Refusal) → Refuses machine refusal answer next → Keeps machine line answer chain next
   refused_keeps answer next refusal refuses =
@@ -88,18 +89,13 @@ module _ (machine : Machine) (line : List ℕ) (chain : Chain) (kept : KeepsChai
 pub stays_sound : (machine : Machine) → IsSoundMachine machine → (next : Machine) → next ≡ machine → IsSoundMachine next
 stays_sound machine sound next same = subst IsSoundMachine (sym same) sound
 
-pub moved_sound : (machine : Machine) → IsSoundMachine machine → (next : Machine) (position : Position) (version : Option ℕ) → next ≡ with_reader machine (Some position) version → IsTyped position → IsSoundMachine next
-moved_sound machine sound next position version next_is typed = subst IsSoundMachine (sym next_is) (sound.0, typed)
+pub same_of : (machine : Machine) (chain : Chain) → IsReaderOf chain machine → (next : Machine) → next ≡ machine → IsReaderOf chain next
+same_of machine chain of next same = subst (IsReaderOf chain) (sym same) of
 
-pub stays_of : (machine : Machine) (chain : Chain) → IsConsumerOf chain machine.consumer → (next : Machine) → next.consumer ≡ machine.consumer → IsConsumerOf chain next.consumer
-stays_of machine chain of next same = subst (IsConsumerOf chain) (sym same) of
-
-pub same_of : (machine : Machine) (chain : Chain) → IsConsumerOf chain machine.consumer → (next : Machine) → next ≡ machine → IsConsumerOf chain next.consumer
-same_of machine chain of next same = stays_of machine chain of next (ap (λ (m : Machine). m.consumer) same)
-
--- the consumer is this one, which stands in the chain
-pub moved_of : (machine : Machine) (chain : Chain) (next : Machine) (position : Position) (version : Option ℕ) → next ≡ with_reader machine (Some position) version → IsIn chain position → IsConsumerOf chain next.consumer
-moved_of machine chain next position version next_is is_in = subst (λ (m : Machine). IsConsumerOf chain m.consumer) (sym next_is) is_in
+-- a consumer that is at a version of the chain is at a state of it
+pub reader_in : (chain : Chain) (consumer : Option Position) (version : Option ℕ) (past : List (ℕ × Table)) → IsReaderAt chain consumer version past → IsConsumerOf chain consumer
+reader_in chain None version past of = tt
+reader_in chain (Some now) version past of = of.0
 
 pub says_both : (one other : Reply) (next after : Machine) → (one ≡ other) × (next ≡ after) → SaysOne one other × (next ≡ after)
 says_both one other next after (same, and) = (says one other same, and)
@@ -127,30 +123,35 @@ unbuilt_lawful k = looks_lawful k (λ consumer asked answer. answer ≡ reply.Re
     (λ consumer asked answer is. subst IsUnpublished (sym is) refl)
     (λ can. absurd cc)
 
--- ---- orders that move the consumer, or leave it
+-- ---- orders that leave the store and the producer
 
--- the machine, or one whose consumer is at this position, by whichever version, whose rows are of a model, and which stands in the chain
-abbrev pub IsLeft : Machine → Machine → Type 0
-IsLeft machine next =
-    (next ≡ machine)
-    ⊎ ((position : Position) × (version : Option ℕ) × (next ≡ with_reader machine (Some position) version) × (IfSome machine.consumer IsTyped → IsTyped position)
-    × ((chain : Chain) → HoldsChain machine.store chain → IsConsumerOf chain machine.consumer → IsIn chain position))
+-- The store and the producer are as they were; the rows of a consumer are of its model, where they were; and a consumer that stood in the chain stands in it.
+pub record IsLeft (machine next : Machine) : Type 0 where
+  pub store : next.store ≡ machine.store
+  pub producer : next.producer ≡ machine.producer
+  pub typed : IfSome machine.consumer IsTyped → IfSome next.consumer IsTyped
+  pub moves : (chain : Chain) → HoldsChain machine.store chain → IsReaderOf chain machine → IsReaderOf chain next
+
+pub left_same : (machine next : Machine) → next ≡ machine → IsLeft machine next
+left_same machine next same = record {
+  store = ap (λ (m : Machine). m.store) same;
+  producer = ap (λ (m : Machine). m.producer) same;
+  typed = λ typed. subst (λ (m : Machine). IfSome m.consumer IsTyped) (sym same) typed;
+  moves = λ chain holds of. same_of machine chain of next same;
+}
+
+pub left_on : (machine between next : Machine) → IsLeft machine between → IsLeft between next → IsLeft machine next
+left_on machine between next first then = record {
+  store = then.store ∙ first.store;
+  producer = then.producer ∙ first.producer;
+  typed = λ typed. then.typed (first.typed typed);
+  moves = λ chain holds of. then.moves chain (subst (λ (s : Store). HoldsChain s chain) (sym first.store) holds) (first.moves chain holds of);
+}
 
 left_sound : (machine : Machine) → IsSoundMachine machine → (next : Machine) → IsLeft machine next → IsSoundMachine next
-left_sound machine sound next (inl same) = stays_sound machine sound next same
-left_sound machine sound next (inr (position, version, next_is, typed, is_in)) = moved_sound machine sound next position version next_is (typed sound.1)
+left_sound machine sound next left = (subst (λ (producer : Option Published). IfSome producer IsOnce) (sym left.producer) sound.0, left.typed sound.1)
 
-left_moves : (machine : Machine) (chain : Chain) → HoldsChain machine.store chain → IsConsumerOf chain machine.consumer → (next : Machine) → IsLeft machine next → IsConsumerOf chain next.consumer
-left_moves machine chain holds of next (inl same) = same_of machine chain of next same
-left_moves machine chain holds of next (inr (position, version, next_is, typed, is_in)) = moved_of machine chain next position version next_is (is_in chain holds of)
-
-left_keeps : (machine : Machine) (line : List ℕ) (chain : Chain) → KeepsChain machine.store chain → IsProducerOf chain machine.producer → (answer : Reply) (next : Machine)
-    → IsUnpublished answer → IsLeft machine next → Keeps machine line answer chain next
-left_keeps machine line chain kept over answer next none (inl same) = same_keeps machine line chain kept over answer next (unless_published machine line chain answer none) same
-left_keeps machine line chain kept over answer next none (inr (position, version, next_is, typed, is_in)) =
-    beside_keeps machine line chain kept over answer next (Some position) version (unless_published machine line chain answer none) next_is
-
--- what such an order leaves, with an answer that is no cycle's
+-- what such an order leaves, with an answer that tells of no version that it was published
 abbrev pub LeavesOf : {Asked : Type 0} → OrderForm Asked → Type 0
 LeavesOf {Asked} form =
     (machine : Machine) (asked : Asked) (answer : Reply) (next : Machine) → StepBy form machine asked answer next → IsUnpublished answer × IsLeft machine next
@@ -160,7 +161,8 @@ moves_lawful k form not one leaves = record {
   once = one;
   sound = λ machine sound asked answer next is. left_sound machine sound next (leaves machine asked answer next is).1;
   keeps = λ machine chain kept over line order orders asked asks_it answer next is.
-      (let (none, left) = leaves machine asked answer next is in left_keeps machine line chain kept over answer next none left);
-  moves = λ machine chain holds of asked answer next is. left_moves machine chain holds of next (leaves machine asked answer next is).1;
+      (let (none, left) = leaves machine asked answer next is in
+      beside_keeps machine line chain kept over answer next (unless_published machine line chain answer none) left.store left.producer);
+  moves = λ machine chain holds of asked answer next is. (leaves machine asked answer next is).1.moves chain holds of;
   afresh = λ can. absurd cc;
 }

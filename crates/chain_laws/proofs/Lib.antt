@@ -14,6 +14,7 @@ mod FreshAnswers
 mod FreshIndexes
 mod FreshKeys
 mod Headlines
+mod HistoryLaws
 mod IndexLaws
 mod Inserting
 mod LastState
@@ -27,6 +28,7 @@ mod ModelLaws
 mod NameOrder
 mod NewState
 mod NextPosition
+mod OldRows
 mod OneCycle
 mod OneKey
 mod OneLook
@@ -39,6 +41,8 @@ mod OneRestore
 mod OneScript
 mod OneWalk
 mod PastLaws
+mod PlanLaws
+mod PlannedMoves
 mod PrintedOnce
 mod PublishedState
 mod Putting

@@ -20,9 +20,10 @@ use Rattle.state_blobs.specs.Published.{new_producer}
 use Rattle.hollow_machine.specs.MakeCommand.{ChecksCycles, MakeReply, Makes, PassesCycles, RefusesOneOf, film_cycle, film_machine}
 use Rattle.hollow_machine.specs.State.{Machine}
 use Rattle.written_laws.specs.Chain.{Chain}
+use Rattle.chain_laws.specs.Consumers.{IsReaderOf}
 use Rattle.chain_laws.specs.Growth.{GrowsByCycles, GrowsByMake}
 use Rattle.chain_laws.specs.Producers.{IsOver, IsProducerOf, KeepsChain}
-use Rattle.chain_laws.proofs.CycleLaws.{cycle_keeps}
+use Rattle.chain_laws.proofs.CycleLaws.{IsNowhere, cycle_keeps, cycle_nowhere, nowhere_of}
 
 -- ---- the cycles of the script
 
@@ -149,11 +150,19 @@ texts =
 pub script_over : IsModel film_schemas → (chain : Chain) → IsOver chain (new_producer film_schemas)
 script_over model chain = record { model = model; texts = texts; stands = inl refl }
 
+-- ---- the consumer
+
+passes_nowhere : (seed rows : ℕ) (cycles published : List ℕ) (machine next : Machine) → IsNowhere machine → PassesCycles seed rows machine cycles published next → IsNowhere next
+passes_nowhere seed rows [] published machine next nowhere (none, same) = subst IsNowhere (sym same) nowhere
+passes_nowhere seed rows (cycle ∷ cycles) published machine next nowhere (answer, between, others, step, passed, passes, are) =
+    passes_nowhere seed rows cycles others between next (cycle_nowhere machine nowhere (film_cycle seed rows cycle) answer between step) passes
+
 -- ---- the command
 
 module _ (model : IsModel film_schemas) (store : Store) (seed rows cycles : ℕ) (small : seed ≤ 999999) (few : cycles ≤ 1000) (chain : Chain) (kept : KeepsChain store chain) where
   abbrev KeepsMade : Machine → Type 0
-  KeepsMade next = (after : Chain) × GrowsByMake store seed rows cycles chain next after × KeepsChain next.store after × IsProducerOf after next.producer
+  KeepsMade next =
+      (after : Chain) × GrowsByMake store seed rows cycles chain next after × KeepsChain next.store after × IsProducerOf after next.producer × IsReaderOf after next
 
   all_numbers : All IsNumber (range_with_len 1 cycles)
   all_numbers = numbers 1 cycles (omega arith) (omega (arith, few))
@@ -164,7 +173,7 @@ module _ (model : IsModel film_schemas) (store : Store) (seed rows cycles : ℕ)
   checked_keep : (Answers : List ℕ → Reply → Type 0) (next : Machine) → ChecksCycles seed rows (film_machine store) (range_with_len 1 cycles) Answers next → KeepsMade next
   checked_keep Answers next (published, passes, checks) =
       let (after, along, still, there) = passes_keep seed rows small (range_with_len 1 cycles) published (film_machine store) next chain all_numbers kept over passes in
-      (after, (range_with_len 1 cycles, [], sym (append-nil (range_with_len 1 cycles)), along), still, there)
+      (after, (range_with_len 1 cycles, [], sym (append-nil (range_with_len 1 cycles)), along), still, there, nowhere_of after next (passes_nowhere seed rows (range_with_len 1 cycles) published (film_machine store) next (refl, refl) passes))
 
   refused_keep : (refusal : Refusal) (next : Machine) → RefusesOneOf seed rows (film_machine store) (range_with_len 1 cycles) refusal next → KeepsMade next
   refused_keep refusal next is =
@@ -175,6 +184,7 @@ module _ (model : IsModel film_schemas) (store : Store) (seed rows cycles : ℕ)
         (is.before, is.cycle ∷ is.behind, is.cycles_are, subst (λ (m : Machine). GrowsByCycles seed rows (film_machine store) is.before chain m after) (sym stays) along),
         subst (λ (m : Machine). KeepsChain m.store after) (sym stays) still,
         subst (λ (m : Machine). IsProducerOf after m.producer) (sym stays) there,
+        subst (IsReaderOf after) (sym stays) (nowhere_of after is.between (passes_nowhere seed rows is.before is.published (film_machine store) is.between (refl, refl) is.passes)),
       )
 
   make_keeps : (answer : Reply) (next : Machine) → MakeReply seed rows (range_with_len 1 cycles) (film_machine store) answer next → KeepsMade next
@@ -185,5 +195,5 @@ module _ (model : IsModel film_schemas) (store : Store) (seed rows cycles : ℕ)
 
 pub makes_keep : IsModel film_schemas → (store : Store) (next : Machine) (seed rows cycles : ℕ) (answer : Reply) (chain : Chain) → seed ≤ 999999 → cycles ≤ 1000
     → Makes store seed rows cycles answer next → KeepsChain store chain
-    → (after : Chain) × GrowsByMake store seed rows cycles chain next after × KeepsChain next.store after × IsProducerOf after next.producer
+    → (after : Chain) × GrowsByMake store seed rows cycles chain next after × KeepsChain next.store after × IsProducerOf after next.producer × IsReaderOf after next
 makes_keep model store next seed rows cycles answer chain small few makes kept = make_keeps model store seed rows cycles small few chain kept answer next makes

@@ -15,10 +15,10 @@ use Rattle.written_laws.specs.Chain.{Chain}
 use Rattle.chain_laws.specs.Producers.{IsOver, IsProducerOf, KeepsChain}
 use Rattle.chain_laws.proofs.ValueTexts.{named_texts}
 use Rattle.written_laws.specs.HoldsChain.{HoldsChain}
-use Rattle.chain_laws.specs.Consumers.{IsConsumerOf}
+use Rattle.chain_laws.specs.Consumers.{IsReaderOf}
 use Rattle.chain_laws.proofs.LastState.{none_once}
 use Rattle.chain_laws.proofs.OneCycle.{IsOnce}
-use Rattle.chain_laws.proofs.Lawful.{IsLawful, IsSoundMachine, Keeps, KeepsOf, same_keeps, stays_sound, stays_of, same_of, says_both}
+use Rattle.chain_laws.proofs.Lawful.{IsLawful, IsSoundMachine, Keeps, KeepsOf, same_keeps, stays_sound, same_of, says_both}
 use Rattle.hol_orders.specs.declared.kind.Kind.{Kind}
 use Rattle.chain_laws.proofs.OneModel.{one_model}
 
@@ -39,9 +39,9 @@ module _ (machine : Machine) (sound : IsSoundMachine machine) where
   model_sound value (reply.Refused refusal) next step = stays_sound machine sound next step.1
   model_sound value _ next step = absurd step
 
-module _ (machine : Machine) (chain : Chain) (holds : HoldsChain machine.store chain) (of : IsConsumerOf chain machine.consumer) where
-  model_moves : (value : Data) (answer : Reply) (next : Machine) → ModelStep machine value answer next → IsConsumerOf chain next.consumer
-  model_moves value (reply.Model types) next (schemas, none, stands, model, count, next_is) = stays_of machine chain of next (ap (λ (m : Machine). m.consumer) next_is)
+module _ (machine : Machine) (chain : Chain) (holds : HoldsChain machine.store chain) (of : IsReaderOf chain machine) where
+  model_moves : (value : Data) (answer : Reply) (next : Machine) → ModelStep machine value answer next → IsReaderOf chain next
+  model_moves value (reply.Model types) next (schemas, none, stands, model, count, next_is) = subst (IsReaderOf chain) (sym next_is) of
   model_moves value (reply.Refused refusal) next step = same_of machine chain of next step.1
   model_moves value _ next step = absurd step
 

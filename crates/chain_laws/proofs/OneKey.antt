@@ -18,6 +18,7 @@ use Rattle.schema_model.specs.Model.{IsKept}
 use Rattle.schema_model.specs.Parts.{index_of_type}
 use Rattle.schema_model.specs.Path.{Resolves}
 use Rattle.row_model.specs.PlainTree.{node_count}
+use Rattle.row_model.specs.Table.{Table}
 use Rattle.schema_model.proofs.Ways.{one_path}
 use Rattle.json_values.specs.KeyFrom.{AreKinds, SpellsKey, key_values}
 use Rattle.record_json.specs.PrintTree.{PrintsTree}
@@ -96,13 +97,13 @@ module _ (schemas : List Schema) (names : IsKept schemas DuplicateName) (t : ℕ
 module _ {X : Type 0} (Same : X → X → Type 0) (same : (a b : X) → a ≡ b → Same a b) (schemas : List Schema) (names : IsKept schemas DuplicateName) (t : ℕ) (texts : List (List ℕ)) (wrong : X) (bad : List ℕ → X)
     (P : List Path → X → Type 0) where
   -- the rows are no records; a path leads to no value; or what there is to the paths
-  abbrev Along : X → Type 0
+  abbrev pub Along : X → Type 0
   Along x =
       ((¬ HasShape IsObject schemas t) × (x ≡ wrong))
       ⊎ (HasShape IsObject schemas t
       × (((lost : List ℕ) × IsBadPath schemas t texts lost × (x ≡ bad lost)) ⊎ ((paths : List Path) × AreKeyPaths schemas t texts paths × P paths x)))
 
-  along_once : ((paths : List Path) (a b : X) → P paths a → P paths b → Same a b) → (a b : X) → Along a → Along b → Same a b
+  pub along_once : ((paths : List Path) (a b : X) → P paths a → P paths b → Same a b) → (a b : X) → Along a → Along b → Same a b
   along_once each a b (inl one) (inl other) = same a b (one.1 ∙ sym other.1)
   along_once each a b (inl one) (inr other) = absurd (one.0 other.0)
   along_once each a b (inr one) (inl other) = absurd (other.0 one.0)
@@ -134,21 +135,58 @@ key_once schemas paths json a b one other =
     let both : Some a ≡ Some b = sym one.values ∙ ap (λ (ks : List FieldKind). key_values ks json) kinds ∙ other.values in
     cc
 
-matches_once : (schemas : List Schema) (now : Position) (t : ℕ) (paths : List Path) (key : List row_value.Value) (xs ys : List ℕ) → AreMatches schemas (rows_now now) t paths key xs → AreMatches schemas (rows_now now) t paths key ys → xs ≡ ys
-matches_once schemas now t paths key xs ys one other =
+matches_once : (schemas : List Schema) (table : Table) (t : ℕ) (paths : List Path) (key : List row_value.Value) (xs ys : List ℕ) → AreMatches schemas table t paths key xs → AreMatches schemas table t paths key ys → xs ≡ ys
+matches_once schemas table t paths key xs ys one other =
     rising_one xs ys one.rising other.rising (λ q. ((λ among. (other.are q).1 ((one.are q).0 among)), (λ among. (one.are q).1 ((other.are q).0 among))))
+
+-- ---- the rows of a table that have a key
+
+module _ (values : Data) (now : Position) (table : Table) (t : ℕ) (Q : List ℕ → Reply → Type 0) where
+  -- the JSON spells no key of the paths; or what there is to the rows that have the key
+  abbrev pub Keyed : List Path → Reply → Type 0
+  Keyed paths x =
+      (((key : List row_value.Value) → ¬ SpellsKey now.schemas paths values key) × (x ≡ reply.Refused BadKey))
+      ⊎ ((key : List row_value.Value) × SpellsKey now.schemas paths values key × ((ordinals : List ℕ) × AreMatches now.schemas table t paths key ordinals × Q ordinals x))
+
+  pub keyed_once : ((ordinals : List ℕ) (a b : Reply) → Q ordinals a → Q ordinals b → SaysOne a b) → (paths : List Path) (a b : Reply) → Keyed paths a → Keyed paths b → SaysOne a b
+  keyed_once each paths a b (inl one) (inl other) = says a b (one.1 ∙ sym other.1)
+  keyed_once each paths a b (inl one) (inr (key, spells, found)) = absurd (one.0 key spells)
+  keyed_once each paths a b (inr (key, spells, found)) (inl other) = absurd (other.0 key spells)
+  keyed_once each paths a b (inr (key, spells, (xs, are, p))) (inr (also, spells_too, (ys, are_too, q))) =
+      let keys = key_once now.schemas paths values also key spells_too spells in
+      let lists = matches_once now.schemas table t paths key ys xs (subst (λ (k : List row_value.Value). AreMatches now.schemas table t paths k ys) keys are_too) are in
+      each xs a b p (subst (λ (os : List ℕ). Q os b) lists q)
+
+-- what is told of the rows that have a key, of which one is shown
+module _ (now : Position) (table : Table) (t : ℕ) (tell : ℕ → Value → Reply) where
+  abbrev nodes : ℕ → ℕ
+  nodes ordinal = node_count (record_at now table t ordinal)
+
+  abbrev pub Shows : List ℕ → Reply → Type 0
+  Shows [] x = x ≡ reply.Refused NoMatch
+  Shows (ordinal ∷ []) x =
+      ((number_of_limit Nodes < nodes ordinal) × (x ≡ reply.Refused (TooLarge Nodes)))
+      ⊎ ((nodes ordinal ≤ number_of_limit Nodes)
+      × ((value : Value) × PrintsTree now.schemas t (record_at now table t ordinal) (view value) × (x ≡ tell ordinal value)))
+  Shows (first ∷ second ∷ rest) x = x ≡ reply.Refused (Ambiguous first second)
+
+  pub shows_once : ((ordinal : ℕ) (v w : Value) → view v ≡ view w → SaysOne (tell ordinal v) (tell ordinal w)) → (ordinals : List ℕ) (a b : Reply) → Shows ordinals a → Shows ordinals b → SaysOne a b
+  shows_once told [] a b one other = says a b (one ∙ sym other)
+  shows_once told (ordinal ∷ []) a b (inl one) (inl other) = says a b (one.1 ∙ sym other.1)
+  shows_once told (ordinal ∷ []) a b (inl one) (inr other) = absurd (let many = one.0 in let few = other.0 in omega (arith, many, few))
+  shows_once told (ordinal ∷ []) a b (inr one) (inl other) = absurd (let many = other.0 in let few = one.0 in omega (arith, many, few))
+  shows_once told (ordinal ∷ []) a b (inr (few, (v, prints, a_is))) (inr (also, (w, prints_too, b_is))) =
+      let row = tree_once now.schemas t (record_at now table t ordinal) (view v) (view w) prints prints_too in
+      subst (λ (x : Reply). SaysOne x b) (sym a_is) (subst (λ (y : Reply). SaysOne (tell ordinal v) y) (sym b_is) (told ordinal v w row))
+  shows_once told (first ∷ second ∷ rest) a b one other = says a b (one ∙ sym other)
 
 -- ---- find and get
 
 module _ (name : Name) (texts : List (List ℕ)) (values : Data) (now : Position) (typed : IsTyped now) (t : ℕ) (Q : List ℕ → Reply → Type 0) where
-  -- what there is to paths of which an index is kept
-  abbrev Keyed : List Path → Reply → Type 0
-  Keyed paths x =
-      (((key : List row_value.Value) → ¬ SpellsKey now.schemas paths values key) × (x ≡ reply.Refused BadKey))
-      ⊎ ((key : List row_value.Value) × SpellsKey now.schemas paths values key × ((ordinals : List ℕ) × AreMatches now.schemas (rows_now now) t paths key ordinals × Q ordinals x))
-
+  -- what there is to paths, of which an index is kept or not
   abbrev Indexed : List Path → Reply → Type 0
-  Indexed paths x = ((¬ Contains now.indexes (index_by t paths)) × (x ≡ reply.Refused NoIndex)) ⊎ (Contains now.indexes (index_by t paths) × Keyed paths x)
+  Indexed paths x =
+      ((¬ Contains now.indexes (index_by t paths)) × (x ≡ reply.Refused NoIndex)) ⊎ (Contains now.indexes (index_by t paths) × Keyed values now (rows_now now) t Q paths x)
 
   abbrev Looked : Reply → Type 0
   Looked x = Along SaysOne says now.schemas typed.names t texts (reply.Refused (WrongKind name)) (λ lost. reply.Refused (BadPath lost)) Indexed x
@@ -163,20 +201,11 @@ module _ (name : Name) (texts : List (List ℕ)) (values : Data) (now : Position
   looked_found : (ordinals : List ℕ) (x : Reply) → FindsUnder texts values now t ordinals → Q ordinals x → Looked x
   looked_found ordinals x (paths, kept, (key, spells, are)) q = inr (kept.0, inr (paths, kept.1, inr (kept.2, inr (key, spells, (ordinals, are, q)))))
 
-  keyed_once : ((ordinals : List ℕ) (a b : Reply) → Q ordinals a → Q ordinals b → SaysOne a b) → (paths : List Path) (a b : Reply) → Keyed paths a → Keyed paths b → SaysOne a b
-  keyed_once each paths a b (inl one) (inl other) = says a b (one.1 ∙ sym other.1)
-  keyed_once each paths a b (inl one) (inr (key, spells, found)) = absurd (one.0 key spells)
-  keyed_once each paths a b (inr (key, spells, found)) (inl other) = absurd (other.0 key spells)
-  keyed_once each paths a b (inr (key, spells, (xs, are, p))) (inr (also, spells_too, (ys, are_too, q))) =
-      let keys = key_once now.schemas paths values also key spells_too spells in
-      let lists = matches_once now.schemas now t paths key ys xs (subst (λ (k : List row_value.Value). AreMatches now.schemas (rows_now now) t paths k ys) keys are_too) are in
-      each xs a b p (subst (λ (os : List ℕ). Q os b) lists q)
-
   indexed_once : ((ordinals : List ℕ) (a b : Reply) → Q ordinals a → Q ordinals b → SaysOne a b) → (paths : List Path) (a b : Reply) → Indexed paths a → Indexed paths b → SaysOne a b
   indexed_once each paths a b (inl one) (inl other) = says a b (one.1 ∙ sym other.1)
   indexed_once each paths a b (inl one) (inr other) = absurd (one.0 other.0)
   indexed_once each paths a b (inr one) (inl other) = absurd (other.0 one.0)
-  indexed_once each paths a b (inr one) (inr other) = keyed_once each paths a b one.1 other.1
+  indexed_once each paths a b (inr one) (inr other) = keyed_once values now (rows_now now) t Q each paths a b one.1 other.1
 
   looked_once : ((ordinals : List ℕ) (a b : Reply) → Q ordinals a → Q ordinals b → SaysOne a b) → (a b : Reply) → Looked a → Looked b → SaysOne a b
   looked_once each a b one other =
@@ -203,41 +232,23 @@ abbrev get_object : ℕ → Data → Data
 get_object ordinal row = object (member (codes "ok") (string (codes "get")) (member (codes "ordinal") (whole ordinal) (member (codes "row") row no_members)))
 
 module _ (name : Name) (values : Data) (now : Position) (typed : IsTyped now) (t : ℕ) where
-  abbrev nodes : ℕ → ℕ
-  nodes ordinal = node_count (record_at now (rows_now now) t ordinal)
+  abbrev Tells : List ℕ → Reply → Type 0
+  Tells ordinals x = Shows now (rows_now now) t (λ ordinal value. reply.Get ordinal value) ordinals x
 
-  -- what is told of the rows that have the key
-  abbrev Shows : List ℕ → Reply → Type 0
-  Shows [] x = x ≡ reply.Refused NoMatch
-  Shows (ordinal ∷ []) x =
-      ((number_of_limit Nodes < nodes ordinal) × (x ≡ reply.Refused (TooLarge Nodes)))
-      ⊎ ((nodes ordinal ≤ number_of_limit Nodes)
-      × ((value : Value) × PrintsTree now.schemas t (record_at now (rows_now now) t ordinal) (view value) × (x ≡ reply.Get ordinal value)))
-  Shows (first ∷ second ∷ rest) x = x ≡ reply.Refused (Ambiguous first second)
+  get_refused : (refusal : Refusal) → GetRefusal name values now t refusal → Looked name [] values now typed t Tells (reply.Refused refusal)
+  get_refused NoMatch is = looked_found name [] values now typed t Tells [] (reply.Refused NoMatch) is refl
+  get_refused (Ambiguous first second) (rest, is) = looked_found name [] values now typed t Tells (first ∷ second ∷ rest) (reply.Refused (Ambiguous first second)) is refl
+  get_refused (TooLarge Nodes) (ordinal, is, many) = looked_found name [] values now typed t Tells (ordinal ∷ []) (reply.Refused (TooLarge Nodes)) is (inl (many, refl))
+  get_refused refusal is = looked_refused name [] values now typed t Tells refusal is
 
-  shows_once : (ordinals : List ℕ) (a b : Reply) → Shows ordinals a → Shows ordinals b → SaysOne a b
-  shows_once [] a b one other = says a b (one ∙ sym other)
-  shows_once (ordinal ∷ []) a b (inl one) (inl other) = says a b (one.1 ∙ sym other.1)
-  shows_once (ordinal ∷ []) a b (inl one) (inr other) = absurd (let many = one.0 in let few = other.0 in omega (arith, many, few))
-  shows_once (ordinal ∷ []) a b (inr one) (inl other) = absurd (let many = other.0 in let few = one.0 in omega (arith, many, few))
-  shows_once (ordinal ∷ []) a b (inr (few, (v, prints, a_is))) (inr (also, (w, prints_too, b_is))) =
-      let row = tree_once now.schemas t (record_at now (rows_now now) t ordinal) (view v) (view w) prints prints_too in
-      subst (λ (x : Reply). SaysOne x b) (sym a_is) (subst (λ (y : Reply). SaysOne (reply.Get ordinal v) y) (sym b_is) (ap (get_object ordinal) row, refl))
-  shows_once (first ∷ second ∷ rest) a b one other = says a b (one ∙ sym other)
-
-  get_refused : (refusal : Refusal) → GetRefusal name values now t refusal → Looked name [] values now typed t Shows (reply.Refused refusal)
-  get_refused NoMatch is = looked_found name [] values now typed t Shows [] (reply.Refused NoMatch) is refl
-  get_refused (Ambiguous first second) (rest, is) = looked_found name [] values now typed t Shows (first ∷ second ∷ rest) (reply.Refused (Ambiguous first second)) is refl
-  get_refused (TooLarge Nodes) (ordinal, is, many) = looked_found name [] values now typed t Shows (ordinal ∷ []) (reply.Refused (TooLarge Nodes)) is (inl (many, refl))
-  get_refused refusal is = looked_refused name [] values now typed t Shows refusal is
-
-  get_kind : (answer : Reply) → ShowsFound name values now t answer → Looked name [] values now typed t Shows answer
-  get_kind (reply.Get ordinal value) (is, few, prints) = looked_found name [] values now typed t Shows (ordinal ∷ []) (reply.Get ordinal value) is (inr (few, (value, prints, refl)))
+  get_kind : (answer : Reply) → ShowsFound name values now t answer → Looked name [] values now typed t Tells answer
+  get_kind (reply.Get ordinal value) (is, few, prints) = looked_found name [] values now typed t Tells (ordinal ∷ []) (reply.Get ordinal value) is (inr (few, (value, prints, refl)))
   get_kind (reply.Refused refusal) is = get_refused refusal is
   get_kind _ is = absurd is
 
   get_at_once : (a b : Reply) → ShowsFound name values now t a → ShowsFound name values now t b → SaysOne a b
-  get_at_once a b one other = looked_once name [] values now typed t Shows shows_once a b (get_kind a one) (get_kind b other)
+  get_at_once a b one other = looked_once name [] values now typed t Tells
+      (shows_once now (rows_now now) t (λ ordinal value. reply.Get ordinal value) (λ ordinal v w row. (ap (get_object ordinal) row, refl))) a b (get_kind a one) (get_kind b other)
 
 pub one_find : (consumer : Option Position) (name : Name) (texts : List (List ℕ)) (values : Data) (a b : Reply) → IfSome consumer IsTyped → FindReply consumer name texts values a → FindReply consumer name texts values b → SaysOne a b
 one_find consumer name texts values a b typed one other = one_typed name (ListsFound name texts values) (λ now is t. find_at_once name texts values now is t) consumer a b typed one other

@@ -10,7 +10,7 @@ use Rattle.schema_model.specs.Limit.{number_of_limit}
 use Rattle.schema_model.specs.Parts.{index_of_type}
 use Rattle.row_model.specs.PlainTree.{node_count}
 use Rattle.row_model.specs.Row.{Rises}
-use Rattle.row_model.specs.Table.{IsLive}
+use Rattle.row_model.specs.Table.{IsLive, Table}
 use Rattle.write_engine.proofs.RisingLists.{one_set}
 use Rattle.hol_answers.specs.declared.refusal.Refusal.{Refusal}
 use Rattle.hol_answers.specs.declared.refusal.Refusal.TheVariants.{NoRow, TooLarge}
@@ -18,7 +18,7 @@ use Rattle.hol_answers.specs.declared.reply.Reply.{Reply}
 use Rattle.hol_answers.specs.declared.reply.Reply.TheVariants as reply
 use Rattle.hol_answers.specs.Reply.{is_refusal, reply_data}
 use Rattle.read_engine.specs.Position.{Position, rows_now}
-use Rattle.hollow_machine.specs.RowOrders.{AnswersAt, AnswersOf, ListsLive, LiveReply, RowRefusal, RowReply, ShowsRow, record_at}
+use Rattle.hollow_machine.specs.RowOrders.{AnswersAt, AnswersOf, ListsLive, LiveReply, RowRefusalIn, RowReply, ShowsRow, ShowsRowIn, record_at}
 use Rattle.chain_laws.specs.Answers.{SaysOne}
 use Rattle.chain_laws.proofs.PrintedOnce.{tree_once}
 use Rattle.chain_laws.proofs.TypedConsumers.{IsTyped}
@@ -68,21 +68,21 @@ one_live consumer name a b one other = one_of name ListsLive one_list consumer a
 abbrev row_object : Data → Data
 row_object row = object (member (codes "ok") (string (codes "row")) (member (codes "row") row no_members))
 
-module _ (name : Name) (ordinal : ℕ) (now : Position) (t : ℕ) where
+-- a record of a table
+module _ (table : Table) (name : Name) (ordinal : ℕ) (now : Position) (t : ℕ) where
   abbrev Live : Type 0
-  Live = IsLive (rows_now now) t ordinal
+  Live = IsLive table t ordinal
 
   abbrev nodes : ℕ
-  nodes = node_count (record_at now (rows_now now) t ordinal)
-
-  row_kind : (refusal : Refusal) → RowRefusal name ordinal now t refusal
-      → ((Live → ⊥) × (refusal ≡ NoRow (record { type_name = name; ordinal = ordinal }))) ⊎ (Live × (number_of_limit Nodes < nodes) × (refusal ≡ TooLarge Nodes))
-  row_kind (NoRow row) is = inl (is.2, (λ i. NoRow (record { type_name = is.0 i; ordinal = is.1 i })))
-  row_kind (TooLarge Nodes) is = inr (is.0, is.1, refl)
-  row_kind _ is = absurd is
+  nodes = node_count (record_at now table t ordinal)
 
   abbrev Kind : Refusal → Type 0
   Kind refusal = ((Live → ⊥) × (refusal ≡ NoRow (record { type_name = name; ordinal = ordinal }))) ⊎ (Live × (number_of_limit Nodes < nodes) × (refusal ≡ TooLarge Nodes))
+
+  row_kind : (refusal : Refusal) → RowRefusalIn table name ordinal now t refusal → Kind refusal
+  row_kind (NoRow row) is = inl (is.2, (λ i. NoRow (record { type_name = is.0 i; ordinal = is.1 i })))
+  row_kind (TooLarge Nodes) is = inr (is.0, is.1, refl)
+  row_kind _ is = absurd is
 
   both : (r s : Refusal) → Kind r → Kind s → r ≡ s
   both r s (inl none) (inl also) = none.1 ∙ sym also.1
@@ -90,15 +90,21 @@ module _ (name : Name) (ordinal : ℕ) (now : Position) (t : ℕ) where
   both r s (inr large) (inl none) = absurd (none.0 large.0)
   both r s (inr large) (inr also) = large.2 ∙ sym also.2
 
-  shown_not : (value : Value) (refusal : Refusal) → ShowsRow name ordinal now t (reply.Row value) → RowRefusal name ordinal now t refusal → ⊥
+  pub refused_once : (r s : Refusal) → RowRefusalIn table name ordinal now t r → RowRefusalIn table name ordinal now t s → r ≡ s
+  refused_once r s one other = both r s (row_kind r one) (row_kind s other)
+
+  pub shown_not : (value : Value) (refusal : Refusal) → ShowsRowIn table ordinal now t (view value) → RowRefusalIn table name ordinal now t refusal → ⊥
   shown_not value refusal shows refuses = elim (row_kind refusal refuses) [ inl none ↦ none.0 shows.0 | inr large ↦ (let few = shows.1 in let many = large.1 in omega arith) ]
 
+pub shown_once : (table : Table) (ordinal : ℕ) (now : Position) (t : ℕ) (v w : Value) → ShowsRowIn table ordinal now t (view v) → ShowsRowIn table ordinal now t (view w) → view v ≡ view w
+shown_once table ordinal now t v w one other = tree_once now.schemas t (record_at now table t ordinal) (view v) (view w) one.2 other.2
+
+module _ (name : Name) (ordinal : ℕ) (now : Position) (t : ℕ) where
   one_show : (a b : Reply) → ShowsRow name ordinal now t a → ShowsRow name ordinal now t b → SaysOne a b
-  one_show (reply.Row v) (reply.Row w) one other = (ap row_object (tree_once now.schemas t (record_at now (rows_now now) t ordinal) (view v) (view w) one.2 other.2), refl)
-  one_show (reply.Row v) (reply.Refused refusal) one other = absurd (shown_not v refusal one other)
-  one_show (reply.Refused refusal) (reply.Row w) one other = absurd (shown_not w refusal other one)
-  one_show (reply.Refused r) (reply.Refused s) one other =
-      says (reply.Refused r) (reply.Refused s) (ap (λ x. reply.Refused x) (both r s (row_kind r one) (row_kind s other)))
+  one_show (reply.Row v) (reply.Row w) one other = (ap row_object (shown_once (rows_now now) ordinal now t v w one other), refl)
+  one_show (reply.Row v) (reply.Refused refusal) one other = absurd (shown_not (rows_now now) name ordinal now t v refusal one other)
+  one_show (reply.Refused refusal) (reply.Row w) one other = absurd (shown_not (rows_now now) name ordinal now t w refusal other one)
+  one_show (reply.Refused r) (reply.Refused s) one other = says (reply.Refused r) (reply.Refused s) (ap (λ x. reply.Refused x) (refused_once (rows_now now) name ordinal now t r s one other))
   one_show (reply.Row v) _ one other = absurd other
   one_show (reply.Refused r) _ one other = absurd other
   one_show _ b one other = absurd one

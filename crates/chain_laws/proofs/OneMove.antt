@@ -1,4 +1,4 @@
--- A load and a step of a consumer have one answer line, and leave one machine.
+-- A load and a step of a consumer have one answer, and leave one machine.
 use Rattle.std.proofs.Common.{◌≡◌, ◌<◌, ◌⊎◌, ℕ, suc, List, [], ◌∷◌, length, Option, Some, inl, inr, refl, sym, ap, subst, ◌∙◌, arith}
 use Rattle.std.specs.Prelude.{IfSome}
 use Rattle.std.specs.FinMap.{get}
@@ -20,22 +20,17 @@ use Rattle.read_engine.specs.Position.{Position, rows_now}
 use Rattle.read_engine.specs.Taking.{LoadsFrom, StepsBy, layout_at}
 use Rattle.hollow_machine.proofs.Refusals.{one_snapshot_refusal, one_step_refusal, some_one}
 use Rattle.hollow_machine.specs.LoadOrder.{LoadStep}
-use Rattle.hollow_machine.specs.State.{Machine, moved_to}
+use Rattle.hollow_machine.specs.State.{Machine, loaded_to, stepped_to}
 use Rattle.hollow_machine.specs.StepOrder.{StepRefusal, StepStep}
 use Rattle.written_laws.proofs.MovedOnce.{moved_once}
 use Rattle.written_laws.proofs.PatchOnce.{patch_once, tags_once}
-use Rattle.chain_laws.specs.Answers.{SaysOne}
 use Rattle.chain_laws.proofs.ConsumerOrders.{no_load_refusal, no_refusal}
-use Rattle.chain_laws.proofs.OneLook.{says}
 use Rattle.chain_laws.proofs.StoreNames.{found_with}
 use Rattle.chain_laws.proofs.TypedConsumers.{IsTyped}
 
--- both answers say one line, and the machines behind them are one
-abbrev Alike : Reply → Machine → Reply → Machine → Type 0
-Alike one next other after = SaysOne one other × (next ≡ after)
-
-alike : (one other : Reply) (next after : Machine) → one ≡ other → next ≡ after → Alike one next other after
-alike one other next after same and = (says one other same, and)
+-- both answers are one, and so are the machines behind them
+abbrev pub Alike : Reply → Machine → Reply → Machine → Type 0
+Alike one next other after = (one ≡ other) × (next ≡ after)
 
 -- ---- loads
 
@@ -51,8 +46,7 @@ pub one_load : (machine : Machine) (version : ℕ) (one other : Reply) (next aft
 one_load machine version (reply.Load tag) (reply.Load also) next after (blob, position, at, loads, tag_is, next_is) (x, place, at_x, loads_x, also_is, after_is) =
     let same = some_one (get machine.store (Snapshot version)) x blob at_x at in
     let here : position ≡ place = load_once blob position place loads (subst (λ (b : List ℕ). LoadsFrom b place) same loads_x) in
-    alike (reply.Load tag) (reply.Load also) next after (ap (λ t. reply.Load t) (tag_is ∙ ap (λ (p : Position). p.tag) here ∙ sym also_is))
-    (next_is ∙ ap (moved_to machine version) here ∙ sym after_is)
+    (ap (λ t. reply.Load t) (tag_is ∙ ap (λ (p : Position). p.tag) here ∙ sym also_is), next_is ∙ ap (loaded_to machine version) here ∙ sym after_is)
 one_load machine version (reply.Load tag) (reply.Refused refusal) next after (blob, position, at, loads, tag_is, next_is) step =
     absurd (no_load_refusal version (get machine.store (Snapshot version)) blob position at loads refusal step.0)
 one_load machine version (reply.Refused refusal) (reply.Load tag) next after step (blob, position, at, loads, tag_is, next_is) =
@@ -60,7 +54,7 @@ one_load machine version (reply.Refused refusal) (reply.Load tag) next after ste
 one_load machine version (reply.Refused r) (reply.Refused s) next after one other =
     let content = get machine.store (Snapshot version) in
     let same = one_snapshot_refusal (Snapshot version) content r s one.0 other.0 in
-    alike (reply.Refused r) (reply.Refused s) next after (ap (λ x. reply.Refused x) same) (one.1 ∙ sym other.1)
+    (ap (λ x. reply.Refused x) same, one.1 ∙ sym other.1)
 one_load machine version (reply.Load tag) _ next after one other = absurd other
 one_load machine version (reply.Refused r) _ next after one other = absurd other
 one_load machine version _ other_answer next after one other = absurd one
@@ -136,8 +130,7 @@ module _ (machine : Machine) (name : BlobName) (version : ℕ) (typed : IfSome m
       let bytes = some_one content x blob at_x at in
       let steps_too : StepsBy blob now place = subst (λ (b : List ℕ). StepsBy b now place) bytes (subst (λ (p : Position). StepsBy x p place) here steps_x) in
       let there : to ≡ place = step_once blob now to place (subst (λ (consumer : Option Position). IfSome consumer IsTyped) is typed) steps steps_too in
-      alike (reply.Step tag) (reply.Step also) next after (ap (λ t. reply.Step t) (tag_is ∙ ap (λ (p : Position). p.tag) there ∙ sym also_is))
-      (next_is ∙ ap (moved_to machine version) there ∙ sym after_is)
+      (ap (λ t. reply.Step t) (tag_is ∙ ap (λ (p : Position). p.tag) there ∙ sym also_is), next_is ∙ ap (stepped_to machine version) there ∙ sym after_is)
   one_move (reply.Step tag) (reply.Refused refusal) next after one other =
       let (now, is, (blob, to, at, steps, tag_is, next_is)) = found_with machine.consumer _ one in
       absurd (taken_not now to blob refusal is at steps other.0)
@@ -145,7 +138,7 @@ module _ (machine : Machine) (name : BlobName) (version : ℕ) (typed : IfSome m
       let (now, is, (blob, to, at, steps, tag_is, next_is)) = found_with machine.consumer _ other in
       absurd (taken_not now to blob refusal is at steps one.0)
   one_move (reply.Refused r) (reply.Refused s) next after one other =
-      alike (reply.Refused r) (reply.Refused s) next after (ap (λ x. reply.Refused x) (one_step_refusal name content machine.consumer r s one.0 other.0)) (one.1 ∙ sym other.1)
+      (ap (λ x. reply.Refused x) (one_step_refusal name content machine.consumer r s one.0 other.0), one.1 ∙ sym other.1)
   one_move (reply.Step tag) _ next after one other = absurd other
   one_move (reply.Refused r) _ next after one other = absurd other
   one_move _ other_answer next after one other = absurd one

@@ -1,5 +1,5 @@
 -- The laws of the order `restore`.
-use Rattle.std.proofs.Common.{◌≡◌, ℕ, true, Some, inl, inr, refl, sym, ap, subst, arith}
+use Rattle.std.proofs.Common.{◌≡◌, ℕ, true, Some, inl, inr, refl, sym, subst, arith}
 use Rattle.std.specs.Prelude.{IsTrue}
 use Rattle.hol_io.specs.declared.name.BlobName.TheVariants.{Announced}
 use Rattle.hol_io.specs.Store.{Store, told}
@@ -13,10 +13,10 @@ use Rattle.hollow_machine.specs.RestoreOrder.{IsLast, IsStored, RestoreStep, pro
 use Rattle.hollow_machine.specs.State.{Machine}
 use Rattle.written_laws.specs.Chain.{Chain, ChainState, HasVersion}
 use Rattle.written_laws.specs.HoldsChain.{HoldsChain}
-use Rattle.chain_laws.specs.Consumers.{IsConsumerOf}
+use Rattle.chain_laws.specs.Consumers.{IsReaderOf}
 use Rattle.chain_laws.specs.Producers.{IsAt, IsOver, IsProducerOf, KeepsChain}
 use Rattle.chain_laws.proofs.ConsumerMoves.{loads_state}
-use Rattle.chain_laws.proofs.Lawful.{IsLawful, IsSoundMachine, KeepsOf, same_keeps, same_of, says_both, stays_of, stays_sound}
+use Rattle.chain_laws.proofs.Lawful.{IsLawful, IsSoundMachine, KeepsOf, same_keeps, same_of, says_both, stays_sound}
 use Rattle.chain_laws.proofs.OneCycle.{IsOnce}
 use Rattle.chain_laws.proofs.OneRestore.{one_restore}
 use Rattle.chain_laws.proofs.ReadTexts.{loaded_texts}
@@ -71,10 +71,10 @@ restore_sound machine sound version (reply.Restore tag restored) next (is, last,
 restore_sound machine sound version (reply.Refused refusal) next step = stays_sound machine sound next step.1
 restore_sound machine sound version _ next step = absurd step
 
-restore_moves : (machine : Machine) (chain : Chain) → IsConsumerOf chain machine.consumer → (version : ℕ) (answer : Reply) (next : Machine) → RestoreStep machine version answer next
-    → IsConsumerOf chain next.consumer
+restore_moves : (machine : Machine) (chain : Chain) → IsReaderOf chain machine → (version : ℕ) (answer : Reply) (next : Machine) → RestoreStep machine version answer next
+    → IsReaderOf chain next
 restore_moves machine chain of version (reply.Restore tag restored) next (is, last, (position, stored, once, tag_is, next_is)) =
-    stays_of machine chain of next (ap (λ (m : Machine). m.consumer) next_is)
+    subst (IsReaderOf chain) (sym next_is) of
 restore_moves machine chain of version (reply.Refused refusal) next step = same_of machine chain of next step.1
 restore_moves machine chain of version _ next step = absurd step
 

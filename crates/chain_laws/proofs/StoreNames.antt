@@ -4,10 +4,12 @@ use Rattle.std.specs.Prelude.{Contains, IsSome, IsSomeAnd, is_some, fold}
 use Rattle.std.specs.FinMap.{get, keys, contains_key-keys}
 use Rattle.std.specs.Int.{w64, cast_unsigned}
 use Rattle.std.proofs.lemmas.Fmt.{decimal_injective}
-use Rattle.std.proofs.lemmas.Map.Views.{Contains-from_any, tells_apart}
+use Rattle.std.proofs.lemmas.Cmp.{eq_by_cmp_equiv}
+use Rattle.std.proofs.lemmas.Map.Views.{Contains-from_any, list_any-from_Contains, tells_apart}
 use Rattle.hol_io.specs.declared.name.BlobName.{BlobName}
 use Rattle.hol_io.specs.Name.{IsVersion}
 use Rattle.hol_io.specs.Store.{Store, names}
+use Rattle.hol_io.proofs.NameOrder.{name_cmp_total}
 use Rattle.schema_model.specs.declared.schema.Schema.{Schema}
 use Rattle.chain_laws.proofs.NameOrder.{name_cmp-IsAntisymmetric}
 use Rattle.chain_store.specs.Announced.{Announces, IsNoVersion}
@@ -32,6 +34,10 @@ name_once (Some s) a b one other = sym one ∙ other
 pub is_name : (store : Store) (name : BlobName) (blob : List ℕ) → get store name ≡ Some blob → Contains (names store) name
 is_name store name blob at =
     Contains-from_any (tells_apart name_cmp-IsAntisymmetric) name (keys store) (sym (contains_key-keys store name) ∙ ap is_some at)
+
+-- what is listed is there
+pub name_is : (store : Store) (name : BlobName) → Contains (names store) name → IsSome (get store name)
+name_is store name listed = contains_key-keys store name ∙ list_any-from_Contains (eq_by_cmp_equiv name_cmp_total) name (keys store) listed
 
 -- ---- versions
 

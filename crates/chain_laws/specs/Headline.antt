@@ -1,9 +1,13 @@
 -- The headline: what a script over a store that holds a chain comes to, line by line.
 use Rattle.std.specs.Prelude.{◌≡◌, ◌≢◌, ℕ, ℤ, List, [], ◌∷◌, ◌++◌, Some, true}
+use Rattle.serde_json.specs.View.{view}
+use Rattle.serde_json.specs.declared.value.Value.{Value}
+use Rattle.schema_model.specs.declared.schema.name.Name.{Name}
 use Rattle.hol_orders.specs.declared.kind.Kind.{Kind}
 use Rattle.hol_orders.specs.declared.order.Order.{Order}
 use Rattle.hol_orders.specs.declared.order.Order.TheVariants as order
 use Rattle.hol_answers.specs.Refusal.{other_origin}
+use Rattle.hol_answers.specs.declared.reply.Progress.{Progress}
 use Rattle.hol_answers.specs.declared.reply.Reply.{Reply}
 use Rattle.hol_answers.specs.declared.reply.Reply.TheVariants as reply
 use Rattle.hol_orders.specs.Order.{Orders, kind_of}
@@ -11,19 +15,20 @@ use Rattle.hol_answers.specs.Reply.{line_of}
 use Rattle.read_engine.specs.Position.{Position}
 use Rattle.hollow_machine.specs.Forms.{answers_of_state}
 use Rattle.hollow_machine.specs.Script.{LineStep}
-use Rattle.hollow_machine.specs.State.{Machine, moved_to}
+use Rattle.hollow_machine.specs.State.{Machine, stepped_to}
 use Rattle.hollow_machine.specs.Step.{Step, form}
 use Rattle.hollow_machine.specs.StepOrder.{step_name}
 use Rattle.written_laws.specs.Chain.{Chain}
-use Rattle.chain_laws.specs.Consumers.{Fresh, IsConsumerOf, IsIn, StartsAt}
+use Rattle.chain_laws.specs.Consumers.{Arrives, Fresh, IsIn, IsReaderOf, StartsAt}
 use Rattle.chain_laws.specs.Growth.{GrowsBy}
+use Rattle.chain_laws.specs.OldStates.{IsGotThen, IsRowThen, Reaches}
 use Rattle.chain_laws.specs.Producers.{IsProducerOf, KeepsChain}
 
 -- A step along a blob of the store: where this starts where the consumer stands, it is taken, and leads to a state of the chain; where it starts
 -- at another tag, it is refused as such, and nothing changes.
 pub record IsTrueStep (chain : Chain) (machine : Machine) (from to : ℕ) (answer : Reply) (next : Machine) : Type 0 where
   pub taken : (now : Position) → machine.consumer ≡ Some now → StartsAt machine.store (step_name from to) now.tag
-      → (position : Position) × IsIn chain position × (answer ≡ reply.Step position.tag) × (next ≡ moved_to machine to position)
+      → (position : Position) × IsIn chain position × (answer ≡ reply.Step position.tag) × (next ≡ stepped_to machine to position)
   pub other : (now : Position) (origin : ℤ) → machine.consumer ≡ Some now → StartsAt machine.store (step_name from to) origin → origin ≢ now.tag
       → (answer ≡ reply.Refused (other_origin (step_name from to) origin now.tag)) × (next ≡ machine)
 
@@ -35,17 +40,20 @@ IsAsFresh chain machine asked answer = (fresh : Machine) → Fresh chain machine
 abbrev pub IsOfState : Kind → Type 0
 IsOfState kind = answers_of_state (form kind) ≡ true
 
--- What is promised of each order: of a step which are taken, and of what is answered of the consumer's state that the way to the state does not
--- show.
+-- What is promised of each order: of a step which are taken; of going to a version that no blob is refused; of what is answered of an older state, that it is
+-- what is answered at that state; and of what is answered of the consumer's state, that the way to the state does not show.
 pub record IsTrueOrder (chain : Chain) (machine : Machine) (asked : Order) (answer : Reply) (next : Machine) : Type 0 where
   pub moves : (from to : ℕ) → asked ≡ order.Step from to → IsTrueStep chain machine from to answer next
+  pub goes : (version : ℕ) (progress : Progress) → asked ≡ order.Goto version → answer ≡ reply.Goto progress → Arrives chain version progress next
+  pub was : (version : ℕ) (name : Name) (ordinal : ℕ) → asked ≡ order.Was version name ordinal → Reaches machine version → IsRowThen chain version name ordinal answer
+  pub wasget : (version : ℕ) (name : Name) (values : Value) → asked ≡ order.WasGet version name values → Reaches machine version → IsGotThen chain version name (view values) answer
   pub fresh : IsOfState (kind_of asked) → IsAsFresh chain machine asked answer
 
--- The store keeps the chain, the producer is new or at a published state of it, and the consumer at a state of it.
+-- The store keeps the chain, the producer is new or at a published state of it, and the consumer without a state or at one of it, with older ones of it.
 pub record StandsOn (chain : Chain) (machine : Machine) : Type 0 where
   pub kept : KeepsChain machine.store chain
   pub producer : IsProducerOf chain machine.producer
-  pub consumer : IsConsumerOf chain machine.consumer
+  pub consumer : IsReaderOf chain machine
 
 -- A line has this answer and leaves this machine, over the chain that it made of the earlier one, and what is promised of its order holds.
 pub record IsTrueLine (chain : Chain) (machine : Machine) (line : List ℕ) (answer : Reply) (next : Machine) (after : Chain) : Type 0 where

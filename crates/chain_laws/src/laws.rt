@@ -4,6 +4,7 @@ ghost use Rattle.std.specs.Int.{w64};
 ghost use Rattle.serde_json.specs.View.{view};
 ghost use Rattle.serde_json.specs.declared.value.Value.{Value};
 ghost use Rattle.schema_model.specs.declared.schema.name.Name.{Name};
+ghost use Rattle.row_model.specs.Table.{Table};
 ghost use Rattle.film_script.specs.Films.{film_schemas, films};
 ghost use Rattle.hol_io.specs.declared.name.BlobName.TheVariants.{Snapshot};
 ghost use Rattle.hol_io.specs.Name.{IsVersion};
@@ -17,9 +18,11 @@ ghost use Rattle.hol_orders.specs.declared.order.Order.TheVariants as order;
 ghost use Rattle.hol_answers.specs.declared.refusal.Difference.{Difference};
 ghost use Rattle.hol_answers.specs.declared.refusal.Refusal.TheVariants.{Mismatch};
 ghost use Rattle.hol_answers.specs.Refusal.{other_origin};
+ghost use Rattle.hol_answers.specs.declared.reply.Progress.{Progress};
 ghost use Rattle.hol_answers.specs.declared.reply.Reply.{Reply};
 ghost use Rattle.hol_answers.specs.declared.reply.Reply.TheVariants as reply;
 ghost use Rattle.read_engine.specs.Position.{Index, IsPosition, Position};
+ghost use Rattle.hollow_machine.specs.HistoryOrders.{rows_then};
 ghost use Rattle.hollow_machine.specs.KeyPaths.{texts_of_array};
 ghost use Rattle.hollow_machine.specs.CycleOrder.{CycleStep};
 ghost use Rattle.hollow_machine.specs.MakeCommand.{Makes, film_cycle, film_machine};
@@ -27,7 +30,7 @@ ghost use Rattle.hollow_machine.specs.Made.{StopsMake};
 ghost use Rattle.hollow_machine.specs.Records.{AskedCycle, SpellsTrees};
 ghost use Rattle.hollow_machine.specs.RestoreOrder.{IsLast, producer_at};
 ghost use Rattle.hollow_machine.specs.Script.{LineStep, Script};
-ghost use Rattle.hollow_machine.specs.State.{Machine, moved_to, started, with_consumer, with_producer};
+ghost use Rattle.hollow_machine.specs.State.{Machine, loaded_to, started, stepped_to, with_consumer, with_producer};
 ghost use Rattle.hollow_machine.specs.Step.{Step};
 ghost use Rattle.hollow_machine.specs.Left.{HasFirst};
 ghost use Rattle.hollow_machine.specs.Puts.{CyclePuts};
@@ -37,10 +40,11 @@ ghost use Rattle.written_laws.specs.Chain.{Chain, ChainState, HasVersion};
 ghost use Rattle.written_laws.specs.HoldsChain.{HoldsChain, IsThere};
 ghost use Rattle.chain_laws.specs.Afresh.{AreAdded, AskForAll};
 ghost use Rattle.chain_laws.specs.Answers.{SaysOne};
-ghost use Rattle.chain_laws.specs.Consumers.{Fresh, IsConsumerOf, IsIn, StandsAt, StartsAt};
+ghost use Rattle.chain_laws.specs.Consumers.{Arrives, Fresh, IsConsumerOf, IsIn, IsOld, IsReaderOf, StandsAt, StartsAt};
 ghost use Rattle.chain_laws.specs.Growth.{GrowsAlong, GrowsBy, GrowsByMake};
 ghost use Rattle.chain_laws.specs.Headline.{AreTrueLines, StandsOn, IsOfState};
 ghost use Rattle.chain_laws.specs.KeptIndexes.{AsksFor};
+ghost use Rattle.chain_laws.specs.OldStates.{IsGotThen, IsRowThen, Reaches};
 ghost use Rattle.chain_laws.specs.Producers.{HoldsBytes, IsProducerOf, KeepsChain};
 ghost use Rattle.chain_laws.specs.ScriptOrders.{films_data, script_model, script_state};
 ghost use Rattle.chain_laws.specs.Stopped.{HoldsLonger, HoldsLongerByMake, MayAdd};
@@ -70,12 +74,12 @@ pub fn script_keeps_chain()
         → (after : Chain) × GrowsAlong (started store) lines text chain next after × KeepsChain next.store after × IsProducerOf after next.producer }
 {}
 
-/// Where the store keeps a chain, so it does behind the command `make`. The chain has the states more that its cycles published, and the producer is new
-/// or at a published state of it.
+/// Where the store keeps a chain, so it does behind the command `make`. The chain has the states more that its cycles published, the producer is new or at
+/// a published state of it, and the consumer has no state.
 pub fn make_keeps_chain()
     ensures { (store : Store) (next : Machine) (seed rows cycles : ℕ) (answer : Reply) (chain : Chain)
         → seed ≤ 999999 → cycles ≤ 1000 → Makes store seed rows cycles answer next → KeepsChain store chain
-        → (after : Chain) × GrowsByMake store seed rows cycles chain next after × KeepsChain next.store after × IsProducerOf after next.producer }
+        → (after : Chain) × GrowsByMake store seed rows cycles chain next after × KeepsChain next.store after × IsProducerOf after next.producer × IsReaderOf after next }
 {
     film_script::laws::films_model();
 }
@@ -107,32 +111,33 @@ pub fn stopped_make_keeps_chain()
     film_script::laws::films_model();
 }
 
-/// A consumer without a state, or at one of the chain that the store keeps, is so after each line, over the chain that the line made. Its indexes are
-/// such as an order can ask for, and none is there twice.
+/// A consumer without a state, or at one of the chain that the store keeps, is so after each line, over the chain that the line made. The state is that of
+/// the version to which its last load or step led, and the older states that are kept of it are those of versions of the chain. Its indexes are such as an
+/// order can ask for, and none is there twice.
 pub fn line_keeps_consumer()
     ensures { (machine next : Machine) (line : List ℕ) (reply : Reply) (chain : Chain)
-        → LineStep machine line reply next → KeepsChain machine.store chain → IsProducerOf chain machine.producer → IsConsumerOf chain machine.consumer
-        → (after : Chain) × GrowsBy machine line reply chain after × KeepsChain next.store after × IsProducerOf after next.producer × IsConsumerOf after next.consumer }
+        → LineStep machine line reply next → KeepsChain machine.store chain → IsProducerOf chain machine.producer → IsReaderOf chain machine
+        → (after : Chain) × GrowsBy machine line reply chain after × KeepsChain next.store after × IsProducerOf after next.producer × IsReaderOf after next }
 {}
 
 /// So it is after the lines of a script. A run starts without a consumer, so the consumer has no state or one of the chain after any lines.
 pub fn script_keeps_consumer()
     ensures lines { (machine next : Machine) (lines : List (List ℕ)) (text : List ℕ) (refused : Bool) (chain : Chain)
-        → Script machine lines text refused next → KeepsChain machine.store chain → IsProducerOf chain machine.producer → IsConsumerOf chain machine.consumer
-        → (after : Chain) × GrowsAlong machine lines text chain next after × KeepsChain next.store after × IsProducerOf after next.producer × IsConsumerOf after next.consumer }
+        → Script machine lines text refused next → KeepsChain machine.store chain → IsProducerOf chain machine.producer → IsReaderOf chain machine
+        → (after : Chain) × GrowsAlong machine lines text chain next after × KeepsChain next.store after × IsProducerOf after next.producer × IsReaderOf after next }
     ensures run { (store : Store) (next : Machine) (lines : List (List ℕ)) (text : List ℕ) (refused : Bool) (chain : Chain)
         → Script (started store) lines text refused next → KeepsChain store chain
-        → (after : Chain) × GrowsAlong (started store) lines text chain next after × KeepsChain next.store after × IsProducerOf after next.producer × IsConsumerOf after next.consumer }
+        → (after : Chain) × GrowsAlong (started store) lines text chain next after × KeepsChain next.store after × IsProducerOf after next.producer × IsReaderOf after next }
 {}
 
 /// A step whose blob the store has, and that starts where the consumer stands, is taken and not refused: it leads to a state of the chain.
 pub fn chain_step_taken()
     ensures taken { (machine : Machine) (chain : Chain) (from to : ℕ) (now : Position)
         → HoldsChain machine.store chain → machine.consumer ≡ Some now → IsIn chain now → StartsAt machine.store (step_name from to) now.tag
-        → (position : Position) × Step machine (order.Step from to) (reply.Step position.tag) (moved_to machine to position) }
+        → (position : Position) × Step machine (order.Step from to) (reply.Step position.tag) (stepped_to machine to position) }
     ensures only { (machine next : Machine) (chain : Chain) (from to : ℕ) (now : Position) (answer : Reply)
         → HoldsChain machine.store chain → machine.consumer ≡ Some now → IsIn chain now → StartsAt machine.store (step_name from to) now.tag → Step machine (order.Step from to) answer next
-        → (position : Position) × IsIn chain position × (answer ≡ reply.Step position.tag) × (next ≡ moved_to machine to position) }
+        → (position : Position) × IsIn chain position × (answer ≡ reply.Step position.tag) × (next ≡ stepped_to machine to position) }
 {}
 
 /// A step whose blob starts at another tag than the consumer's is refused as such, and nothing changes, whatever else the store has.
@@ -150,13 +155,32 @@ pub fn other_origin_refused()
 pub fn chain_load_taken()
     ensures taken { (machine : Machine) (chain : Chain) (version : ℕ) (state : ChainState)
         → HoldsChain machine.store chain → HasVersion chain version state → IsThere machine.store (Snapshot version)
-        → (position : Position) × Step machine (order.Load version) (reply.Load state.tag) (moved_to machine version position) }
+        → (position : Position) × Step machine (order.Load version) (reply.Load state.tag) (loaded_to machine version position) }
     ensures only { (machine next : Machine) (chain : Chain) (version : ℕ) (state : ChainState) (answer : Reply)
         → HoldsChain machine.store chain → HasVersion chain version state → IsThere machine.store (Snapshot version) → Step machine (order.Load version) answer next
-        → (position : Position) × StandsAt state position × (position.indexes ≡ []) × (answer ≡ reply.Load state.tag) × (next ≡ moved_to machine version position) }
+        → (position : Position) × StandsAt state position × (position.indexes ≡ []) × (answer ≡ reply.Load state.tag) × (next ≡ loaded_to machine version position) }
     ensures fresh { (machine next : Machine) (chain : Chain) (version : ℕ) (state : ChainState) (now : Position) (answer : Reply)
         → HoldsChain machine.store chain → HasVersion chain version state → IsThere machine.store (Snapshot version) → machine.consumer ≡ Some now → now.tag ≡ state.tag
         → now.indexes ≡ [] → Step machine (order.Load version) answer next → Fresh chain machine next }
+{}
+
+/// Over a store that holds a chain no blob of the shortest list is refused, where the consumer has no state or is at a version of the chain: going to a
+/// version applies all of them, and the consumer stands at the version's state.
+pub fn chain_goto_arrives()
+    ensures { (machine next : Machine) (chain : Chain) (version : ℕ) (progress : Progress)
+        → HoldsChain machine.store chain → IsReaderOf chain machine → Step machine (order.Goto version) (reply.Goto progress) next → Arrives chain version progress next }
+{}
+
+/// What is kept of a consumer over a chain is that of the chain: the rows of a version are those of its state, which has the consumer's model. So what `was`
+/// answers of a version that is kept is what `row` answers where a consumer stands at that state, and what `wasget` answers is what `get` does, where an index
+/// by the primary key is kept.
+pub fn chain_old_rows()
+    ensures rows { (machine : Machine) (chain : Chain) (now : Position) (version : ℕ) (table : Table)
+        → IsReaderOf chain machine → machine.consumer ≡ Some now → rows_then now machine.version machine.past version ≡ Some table → IsOld chain now.schemas (version, table) }
+    ensures was { (machine next : Machine) (chain : Chain) (version : ℕ) (name : List ℕ) (ordinal : ℕ) (answer : Reply)
+        → IsReaderOf chain machine → Reaches machine version → Step machine (order.Was version name ordinal) answer next → IsRowThen chain version name ordinal answer }
+    ensures wasget { (machine next : Machine) (chain : Chain) (version : ℕ) (name : List ℕ) (values : Value) (answer : Reply)
+        → IsReaderOf chain machine → Reaches machine version → Step machine (order.WasGet version name values) answer next → IsGotThen chain version name (view values) answer }
 {}
 
 /// Where the store holds a chain, restoring its announced version is not refused, and makes the producer that of the state of this version.
@@ -237,13 +261,29 @@ pub fn one_look()
         → Step machine (order.Past name) answer next → Step machine (order.Past name) other after → SaysOne answer other × (next ≡ after) }
 {}
 
-/// A load and a step have one answer line and leave one machine. So it is whichever blobs the store has: of a step where the consumer's rows are
-/// those of a model, as they are wherever its blobs came from.
+/// A load, a step and a walk along the shortest list of blobs have one answer line and leave one machine. So it is whichever blobs the store has: of a step and
+/// a walk where the consumer's rows are those of a model, as they are wherever its blobs came from.
 pub fn one_move()
     ensures load { (machine next after : Machine) (version : ℕ) (answer other : Reply)
         → Step machine (order.Load version) answer next → Step machine (order.Load version) other after → SaysOne answer other × (next ≡ after) }
     ensures step { (machine next after : Machine) (from to : ℕ) (answer other : Reply) → IfSome machine.consumer IsPosition
         → Step machine (order.Step from to) answer next → Step machine (order.Step from to) other after → SaysOne answer other × (next ≡ after) }
+    ensures goto { (machine next after : Machine) (version : ℕ) (answer other : Reply) → IfSome machine.consumer IsPosition
+        → Step machine (order.Goto version) answer next → Step machine (order.Goto version) other after → SaysOne answer other × (next ≡ after) }
+{}
+
+/// The order `plan` has one answer: of the shortest lists of blobs that lead to a version one is the first.
+pub fn one_plan()
+    ensures { (machine next after : Machine) (version : ℕ) (answer other : Reply)
+        → Step machine (order.Plan version) answer next → Step machine (order.Plan version) other after → (answer ≡ other) × (next ≡ after) }
+{}
+
+/// What is asked of an older state of a consumer has one answer line, where the consumer's model is one, as it is wherever its blobs came from.
+pub fn one_old_look()
+    ensures was { (machine next after : Machine) (version : ℕ) (name : List ℕ) (ordinal : ℕ) (answer other : Reply) → IfSome machine.consumer IsPosition
+        → Step machine (order.Was version name ordinal) answer next → Step machine (order.Was version name ordinal) other after → SaysOne answer other × (next ≡ after) }
+    ensures wasget { (machine next after : Machine) (version : ℕ) (name : List ℕ) (values : Value) (answer other : Reply) → IfSome machine.consumer IsPosition
+        → Step machine (order.WasGet version name values) answer next → Step machine (order.WasGet version name values) other after → SaysOne answer other × (next ≡ after) }
 {}
 
 /// The order `index` has one answer line and leaves one machine, where the consumer's rows are those of a model.
@@ -306,9 +346,10 @@ pub fn one_script()
 }
 
 /// The headline: over a store of bytes that holds a chain, each line of a script is answered as is promised. A state that a cycle publishes follows in
-/// the chain; the consumer stands at a state of it behind each line; what `live`, `row`, `has`, `at`, `get` and `find` answer is what that state
-/// answers loaded afresh, with the same indexes; a step
-/// along a blob of the store is taken where it starts at the consumer's tag, and else refused for its origin, and then nothing changes.
+/// the chain; the consumer stands at a state of it behind each line, that of the version to which its last load or step led; what `live`, `row`, `has`, `at`,
+/// `get` and `find` answer is what that state answers loaded afresh, with the same indexes; a step along a blob of the store is taken where it starts at the
+/// consumer's tag, and else refused for its origin, and then nothing changes; going to a version applies all blobs of the shortest list, and comes to the
+/// version's state; and what `was` and `wasget` answer of a version that is kept is what `row` and `get` answer at its state.
 pub fn true_script()
     ensures { (store : Store) (next : Machine) (lines : List (List ℕ)) (text : List ℕ) (refused : Bool) (chain : Chain)
         → Script (started store) lines text refused next → HoldsChain store chain → HoldsBytes store

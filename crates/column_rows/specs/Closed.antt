@@ -5,7 +5,7 @@ use Rattle.schema_model.specs.declared.schema.Schema.{Schema}
 use Rattle.schema_model.specs.declared.schema.Shape.{Shape}
 use Rattle.row_model.specs.declared.row.Row.{Row}
 use Rattle.row_model.specs.declared.row.Value.{Value}
-use Rattle.row_model.specs.Dangling.{AreLive, NamesLive}
+use Rattle.closed_rows.specs.Dangling.{AreLive, NamesLive}
 use Rattle.row_model.specs.Row.{references_of_value}
 use Rattle.row_model.specs.Table.{Table, row_at, IsLive}
 use Rattle.object_codec.specs.Stored.{values_of_row}

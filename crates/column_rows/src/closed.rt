@@ -1,7 +1,7 @@
 //! Whether the rows of a type name live rows alone, with no row made.
 ghost use Rattle.std.specs.Prelude.{ℕ, ◌≡◌, ◌<◌, All, IsTrue, length};
 ghost use Rattle.schema_model.specs.declared.schema.Shape.{Shape as ShapeOf};
-ghost use Rattle.row_model.specs.Dangling.{IsClosedAt};
+ghost use Rattle.closed_rows.specs.Dangling.{IsClosedAt};
 ghost use Rattle.column_rows.specs.Closed.{ShapeNamesLive};
 ghost use Rattle.column_rows.specs.Looked.{IsLooked};
 

@@ -1,11 +1,11 @@
 //! The first row that names an ordinal that is not live: a type that is closed where it stands packed is passed over, and any other is gone through
 //! row by row.
 ghost use Rattle.std.specs.Prelude.{◌<◌, IfOk, length};
-ghost use Rattle.row_model.specs.Dangling.{TellsDangling, TellsType};
+ghost use Rattle.closed_rows.specs.Dangling.{TellsDangling, TellsType};
 
 use crate::ColumnRows;
 use crate::closed::are_closed;
-use row_model::Dangling;
+use closed_rows::Dangling;
 use std::alloc::{AllocError, Global};
 
 /// The first row that names an ordinal that is not live, in the order of the types and then of the ordinals; `None`
@@ -40,5 +40,5 @@ pub fn dangling_in<R: ColumnRows>(
     if are_closed(rows, type_index) {
         return Ok(None);
     }
-    row_model::dangling_in(alloc, rows, type_index)
+    closed_rows::dangling_in(alloc, rows, type_index)
 }

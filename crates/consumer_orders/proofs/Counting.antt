@@ -1,8 +1,7 @@
 -- What is counted of each type.
-use Rattle.std.proofs.Common.{◌≡◌, ◌↔◌, ℕ, zero, suc, ◌+◌, ◌<◌, ◌≤◌, List, [], ◌∷◌, ◌++◌, Option, Some, None, length, map, take, refl, sym, ap, subst, ◌∙◌, arith}
-use Rattle.std.specs.Prelude.{All, Contains, ℤ, IsSome, IsSomeAnd, slice_get}
+use Rattle.std.proofs.Common.{◌≡◌, ℕ, zero, suc, ◌+◌, ◌<◌, ◌≤◌, List, [], ◌∷◌, ◌++◌, Option, Some, None, length, take, refl, sym, ap, subst, ◌∙◌, arith}
+use Rattle.std.specs.Prelude.{ℤ, IsSome, IsSomeAnd, slice_get}
 use Rattle.std.specs.FinMap.{get, keys, values}
-use Rattle.std.specs.List.{zip}
 use Rattle.std.specs.List.Sorted.{IsStrictlyIncreasing}
 use Rattle.std.specs.Option.{option_and_then, option_map}
 use Rattle.std.proofs.lemmas.Bool.{false≢true}
@@ -11,7 +10,6 @@ use Rattle.std.proofs.lemmas.Option.{slice_get-map}
 use Rattle.ordinal_set.proofs.Members.{no_member, same_rising}
 use Rattle.schema_model.specs.declared.schema.Schema.{Schema}
 use Rattle.schema_model.specs.declared.schema.name.Name.{Name}
-use Rattle.row_model.specs.Row.{Rises}
 use Rattle.row_model.specs.Table.{IsBound, IsLive, RowMap, Table, row_at}
 use Rattle.type_rows.specs.WordsHeld.{bytes_held}
 use Rattle.type_state.specs.State.{Half}
@@ -21,7 +19,6 @@ use Rattle.read_engine.specs.Position.{IsOfType, IsPosition, Position, rows_now}
 use Rattle.hol_answers.specs.declared.refusal.Refusal.TheVariants.{NoState}
 use Rattle.hol_answers.specs.declared.reply.Reply.TheVariants.{Refused, Stat}
 use Rattle.hol_answers.specs.declared.stat.TypeCounts.{TypeCounts}
-use Rattle.hollow_machine.specs.RowOrders.{AreLive}
 use Rattle.hollow_machine.specs.StatOrder.{StatReply, counts_of, counts_of_types}
 use Rattle.consumer_orders.specs.Counted.{AreCountsAt, CountsLive}
 use Rattle.consumer_orders.proofs.LiveLists.{AreLiveBelow, all_listed, one_listed, one_passed}

@@ -2,11 +2,12 @@ mod Asking
 mod Counting
 mod Indexing
 mod KeyTexts
-mod KeyWays
+pub mod KeyWays
 mod LiveLists
 pub mod Loading
 mod LookingUp
 mod Naming
 mod PastRows
+pub mod Reading
 mod ShownRows
 pub mod Stepping

@@ -1,7 +1,6 @@
 -- The kept index that the texts of a key name.
 use Rattle.std.proofs.Common.{◌≡◌, ◌∙◌, ◌+◌, ◌<◌, ◌≤◌, ℕ, suc, List, [], ◌∷◌, ◌++◌, length, take, get_or, Option, Some, None, Result, Ok, Err, IfOk, refl, sym, ap, subst, arith}
 use Rattle.std.specs.Prelude.{All, IsSomeAnd, slice_get}
-use Rattle.std.specs.List.{AllZip}
 use Rattle.std.proofs.lemmas.List.{take_all, take_more}
 use Rattle.std.proofs.lemmas.Slice.Zip.{all_zipped_more}
 use Rattle.serde_json.specs.Data.{Data}
@@ -12,7 +11,7 @@ use Rattle.schema_model.specs.declared.schema.Field.{Field}
 use Rattle.schema_model.specs.declared.schema.Schema.{Schema}
 use Rattle.schema_model.specs.declared.schema.Shape.{Shape}
 use Rattle.schema_model.specs.Parts.{shape_fields}
-use Rattle.schema_model.specs.Path.{Leads, Resolves, path_names}
+use Rattle.schema_model.specs.Path.{Leads, Resolves}
 use Rattle.schema_model.proofs.Ways.{lead_field, no_fields, some_name}
 use Rattle.row_model.specs.Key.{IsResolved}
 use Rattle.read_engine.specs.Indexes.{index_by}

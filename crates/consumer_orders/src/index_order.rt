@@ -2,8 +2,9 @@
 ghost use Rattle.std.specs.Prelude.{◌≡◌, ◌<◌, ℕ, IfErr, IfOk, IsSomeAnd, OnErr, Option, length};
 ghost use Rattle.serde_json.specs.View.{view};
 ghost use Rattle.hol_io.specs.Store.{Store};
+ghost use Rattle.hol_history.specs.History.{PastSteps};
 ghost use Rattle.hollow_machine.specs.IndexOrder.{IndexStep};
-ghost use Rattle.hollow_machine.specs.Kept.{MovesReader, reader_of};
+ghost use Rattle.hollow_machine.specs.Kept.{IsReader, MovesReader, reader_of};
 ghost use Rattle.hollow_machine.specs.KeyPaths.{texts_of_array};
 ghost use Rattle.consumer_orders.specs.Sought.{TellsKept};
 
@@ -28,8 +29,9 @@ pub fn index(
     name: &Name,
     paths: &Value,
 ) -> Result<Reply, OrderStop>
-    ensures step { (held : Option Store) (version : Option ℕ) → MovesReader (λ machine reply next. IndexStep machine name.now (texts_of_array (view paths.now)) reply next) held
-        (reader_of consumer.old version) (reader_of consumer.new version) result }
+    ensures step { (held : Option Store) (version : Option ℕ) (history : PastSteps) → MovesReader (λ machine reply next. IndexStep machine name.now (texts_of_array (view paths.now)) reply next) held
+        (reader_of consumer.old version history) (reader_of consumer.new version history) result }
+    ensures reading { (version : Option ℕ) (history : PastSteps) → IsReader (reader_of consumer.old version history) → IsReader (reader_of consumer.new version history) }
     ensures stopped { OnErr result (consumer.new ≡ consumer.old) }
     ensures stop { IfErr result (λ stop. stop ≡ OrderStop.Memory) }
 {

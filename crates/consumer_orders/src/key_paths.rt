@@ -6,13 +6,14 @@ ghost use Rattle.consumer_orders.specs.Sought.{TellsKeyPaths, TellsResolved};
 
 use hol_answers::Refusal;
 use hol_varint::Duplicate;
-use schema_model::{Model, Name, Names, PathFault, Paths, Shape, resolve};
+use model_paths::resolve;
+use schema_model::{Model, Name, Names, PathFault, Paths, Shape};
 use serde_json::Value;
 use std::alloc::{AllocError, Global};
 
 /// What the paths of a key lead to.
 #[derive(Drop)]
-pub(crate) enum KeyPaths {
+pub enum KeyPaths {
     /// To values: the resolved paths.
     Resolved(Paths),
     /// There is no such key.
@@ -60,7 +61,7 @@ fn push_text(alloc: Global, texts: &mut Names, value: &Value) -> Result<(), Allo
 /// The paths of a key of the type at an index, which has this name: those of the texts, and where there is none those of its primary key. Refused with
 /// `WrongKind` where the rows of the type are no records, and else with `BadPath`: of the first text that leads to no value, and of an empty one where
 /// there is no primary key to ask for.
-pub(crate) fn key_paths(
+pub fn key_paths(
     alloc: Global,
     model: &Model,
     name: &Name,

@@ -4,8 +4,9 @@ ghost use Rattle.serde_json.specs.View.{items_view, view};
 ghost use Rattle.hollow_machine.specs.KeyPaths.{text_in, texts_in};
 ghost use Rattle.consumer_orders.specs.Named.{AreNamed, IsNamedIndex, NamesPath};
 
+use model_paths::resolves_to;
 use read_engine::Consumer;
-use schema_model::{MAX_INDEXES, Model, Path, Paths, resolves_to};
+use schema_model::{MAX_INDEXES, Model, Path, Paths};
 use serde_json::Value;
 
 /// An index that a consumer keeps: its number, and its paths, lent.

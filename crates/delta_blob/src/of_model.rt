@@ -17,7 +17,9 @@ use crate::patch::{PatchPart, PatchParts};
 use blob_faults::counts_fault;
 use blob_frame::BlobFault;
 use hol_varint::{Duplicate, Ordinals};
-use schema_model::{Model, ModelFault, Reason, Rule, Schema, Schemas, model_of, same_schema};
+use model_rules::model_of;
+use schema_growth::same_schema;
+use schema_model::{Model, ModelFault, Reason, Rule, Schema, Schemas};
 use std::alloc::{AllocError, Global};
 
 /// The types of a delta as those of a model, within the limits.

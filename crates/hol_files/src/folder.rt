@@ -19,8 +19,9 @@ const NEW: &str = "hollow.new";
 /// When a put answers, the blob and its name are durable: the system said so of the file before it took its name, and
 /// then of the folder. Where it does not say so of the folder, the put has failed, though the name may have the blob.
 ///
-/// Who publishes asks what is announced, lists the names or puts. From the first such call on this store keeps a lock on
-/// the folder, which ends with it and with the process. While another one keeps it, these calls fail.
+/// Who publishes asks what is announced, or puts. From the first such call on this store keeps a lock on the folder, which
+/// ends with it and with the process. While another one keeps it, these calls fail. Who reads blobs or lists the names
+/// needs no lock.
 #[derive(Drop)]
 pub struct FolderStore {
     folder: Folder,
@@ -195,7 +196,7 @@ impl Folder {
 
     // The names of the folder's files, in order.
     fn names(&mut self) -> io::Result<Vec<BlobName>> {
-        self.claimed()?;
+        self.at = None;
         let mut names = Vec::new(self.alloc);
         for entry in fs::read_dir(&self.rt, self.path.as_str())? {
             match entry {

@@ -1,5 +1,5 @@
 -- Which rows the steps of a history touched: those that came, and those that left.
-use Rattle.std.specs.Prelude.{◌≡◌, ◌==◌, ◌<◌, ◌≤◌, ◌+◌, ◌&&◌, ◌||◌, ℕ, Bool, false, List, Option, Some, None, length, slice_get}
+use Rattle.std.specs.Prelude.{◌≡◌, ◌==◌, ◌<◌, ◌≤◌, ◌+◌, ◌&&◌, ◌||◌, ◌++◌, ℕ, Bool, false, List, [], Option, Some, None, flat_map, length, slice_get, take}
 use Rattle.std.specs.BTreeSet.{BTreeSet}
 use Rattle.std.specs.List.Sorted.{IsStrictlyIncreasing}
 use Rattle.row_model.specs.Before.{PastPart}
@@ -56,3 +56,13 @@ abbrev pub IsPlaceOf : List PastStep → ℕ → Option ℕ → Type 0
 IsPlaceOf steps version None = (place : ℕ) (step : PastStep) → slice_get steps place ≡ Some step → ¬ (step.from ≡ version)
 IsPlaceOf steps version (Some place) =
     ((step : PastStep) × (slice_get steps place ≡ Some step) × (step.from ≡ version)) × ((newer : ℕ) (step : PastStep) → newer < place → slice_get steps newer ≡ Some step → ¬ (step.from ≡ version))
+
+-- the ordinals that came and those that left, where this is what a step changed of a type
+abbrev pub touched_in : Option PastPart → List ℕ
+touched_in (Some part) = part.came ++ part.gone
+touched_in None = []
+
+-- These are the ordinals under which the newest step from a version and those behind it touched a row of a type, step by step, the newest first.
+abbrev pub AreTouched : List PastStep → ℕ → ℕ → List ℕ → Type 0
+AreTouched steps version type_index ordinals =
+    (place : ℕ) × IsPlaceOf steps version (Some place) × (ordinals ≡ flat_map (λ step. touched_in (slice_get step.past type_index)) (take (place + 1) steps))

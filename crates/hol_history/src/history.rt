@@ -1,9 +1,9 @@
 //! The last steps of a consumer, and what they took away.
-ghost use Rattle.std.specs.Prelude.{◌≡◌, ◌<◌, ◌≤◌, ◌+◌, ◌-◌, ◌^◌, ◌↔◌, ℕ, [], ◌∷◌, Some, None, true, Contains, IsTrue, MatchOption, OnErr, OnOk, length, min, option_map, slice_get, take};
+ghost use Rattle.std.specs.Prelude.{◌≡◌, ◌<◌, ◌≤◌, ◌+◌, ◌-◌, ◌^◌, ◌↔◌, ℕ, [], ◌∷◌, Some, None, true, Contains, IfOk, IsTrue, MatchOption, OnErr, OnOk, length, min, option_map, slice_get, take};
 ghost use Rattle.row_model.specs.Before.{HasBefore, table_before};
 ghost use Rattle.hol_history.specs.History.{StandsOn, pushed, rows_left, table_then, tables_of, versions};
 ghost use Rattle.hol_history.specs.Kept.{TellsKept};
-ghost use Rattle.hol_history.specs.Steps.{AreSpots, IsPlaceOf, touches_at};
+ghost use Rattle.hol_history.specs.Steps.{AreSpots, AreTouched, IsPlaceOf, touches_at};
 
 use crate::old_state::Then;
 use crate::spots::{Spots, first_touch, greatest_touched};
@@ -184,6 +184,28 @@ impl History {
     {
         let place = self.place_of(version).unwrap();
         Then::new(self, now, place)
+    }
+
+    /// The ordinals under which the newest step from a version, or a step behind it, touched a row of a type: it came, or it left. Some may stand there more
+    /// than once. Under any other ordinal the version has what is there now.
+    pub fn touched(
+        &self,
+        alloc: Global,
+        version: u64,
+        type_index: u32,
+    ) -> Result<Vec<u32>, AllocError>
+        requires { Contains (versions self.now.steps) version }
+        ensures { IfOk result (λ ordinals. AreTouched self.now.steps version type_index ordinals.items) }
+    {
+        let mut ordinals = Vec::new(alloc);
+        for place in 0..self.steps.len() {
+            let step = &self.steps[place];
+            step.add_touched(type_index, &mut ordinals)?;
+            if step.version() == version {
+                return Ok(ordinals);
+            }
+        }
+        unreachable!()
     }
 
     /// How many rows are kept: those that left in the steps, at most 2^64 - 1.

@@ -1,5 +1,5 @@
 //! What a step changed of a type.
-ghost use Rattle.std.specs.Prelude.{◌≡◌, ◌<◌, Some, None, false, true, length, slice_get, IfOk, IsSomeAnd, MatchOption, OnErr, OnOk};
+ghost use Rattle.std.specs.Prelude.{◌≡◌, ◌<◌, ◌++◌, Some, None, false, true, length, slice_get, IfOk, IsSomeAnd, MatchOption, OnErr, OnOk};
 ghost use Rattle.std.specs.FinMap.{find};
 ghost use Rattle.std.specs.Ordering.{nat_cmp};
 ghost use Rattle.row_model.specs.Before.{left_rows};
@@ -108,6 +108,14 @@ impl Part {
             Ok(place) => Some(self.rows.get(place)),
             Err(_) => None,
         }
+    }
+
+    /// Adds the ordinals that came, and those that left. Where memory is refused some of them may be added.
+    pub(crate) fn add_touched(&self, ordinals: &mut Vec<u32>) -> Result<(), AllocError>
+        ensures { OnOk result (ordinals.new.items ≡ ordinals.old.items ++ self.now.came ++ self.now.gone) }
+    {
+        ordinals.extend_from_slice(self.came.as_slice())?;
+        ordinals.extend_from_slice(self.gone.as_slice())
     }
 
     /// How many rows left.

@@ -1,8 +1,8 @@
 //! A step: the version that it led from, and what it changed.
-ghost use Rattle.std.specs.Prelude.{◌≡◌, ◌<◌, ◌≤◌, ◌-◌, ◌^◌, ℕ, true, false, length, min, slice_get, Some, IfOk, IsSomeAnd, OnErr, OnOk};
+ghost use Rattle.std.specs.Prelude.{◌≡◌, ◌<◌, ◌++◌, ◌≤◌, ◌-◌, ◌^◌, ℕ, true, false, length, min, slice_get, Some, IfOk, IsSomeAnd, OnErr, OnOk};
 ghost use Rattle.hol_history.specs.History.{rows_left_in};
 ghost use Rattle.hol_history.specs.Spots.{KeepsOthers, Sets};
-ghost use Rattle.hol_history.specs.Steps.{IsPart, step_names};
+ghost use Rattle.hol_history.specs.Steps.{IsPart, step_names, touched_in};
 
 use crate::part::Part;
 use crate::spots::Spots;
@@ -83,6 +83,20 @@ impl Step {
     {
         for type_index in 0..self.parts.len() as u32 {
             self.part(type_index).take_from(spots, type_index, number);
+        }
+    }
+
+    /// Adds the ordinals under which the step touched a row of a type. Where memory is refused some of them may be added.
+    pub(crate) fn add_touched(
+        &self,
+        type_index: u32,
+        ordinals: &mut Vec<u32>,
+    ) -> Result<(), AllocError>
+        ensures { OnOk result (ordinals.new.items ≡ ordinals.old.items ++ touched_in (slice_get self.now.past type_index)) }
+    {
+        match self.parts.as_slice().get(type_index as usize) {
+            Some(part) => part.add_touched(ordinals),
+            None => Ok(()),
         }
     }
 

@@ -5,31 +5,35 @@
 //! A producer takes the records of the next state and publishes it; a consumer loads a state, steps to the next one and shows its rows:
 //!
 //! ```text
-//! producer.add(0, &record)?;
+//! producer.add(product, &record)?;
 //! let closed = producer.close()?;
 //! let blobs = write_blobs(alloc, producer, version, tag)?;
 //! publish(alloc, store, version, &blobs)?;
 //! producer.advance(tag, version);
 //!
-//! let mut consumer = Consumer::new(alloc);
+//! let mut consumer = Consumer::new(rt.alloc());
 //! consumer.load(store, 1)?;
 //! consumer.step(store, &BlobName::Delta(1, 2), &mut steps)?;
 //! let rows = consumer.now();
-//! let row = rows.row(alloc, 0, ordinal)?;
+//! let record = tree_value(rt.alloc(), rows, type_index, ordinal, &mut nodes)?;
 //! ```
 //!
-//! The crate library_cases runs these calls, each where what it asks for is proved. Contracts name definitions of the crates below; `specs` passes
+//! The program library_example has these calls, each where what it asks for is proved. Contracts name definitions of the crates below; `specs` passes
 //! those of each crate on under the crate's name, as `Rattle.hollow.specs.write_engine.Cycle`.
 
 // Models and their rules.
+pub use model_paths::resolve;
+pub use model_rules::model_of;
+pub use schema_growth::grows;
 pub use schema_model::{
     Field, FieldKind, Fields, Limit, Model, ModelFault, Name, Names, Path, PathFault, Paths,
-    Reason, Rule, Schema, Schemas, Shape, model_of, resolve,
+    Reason, Rule, Schema, Schemas, Shape,
 };
 
 // Values, rows and records with all that they refer to, and the lists that they are made of.
 pub use hol_varint::{List, Octets, Ordinals, Units, text_of, units_of};
-pub use row_model::{Pairs, Row, Rows, Tree, TreePairs, Trees, Value, Values};
+pub use record_trees::{Tree, TreePairs, Trees};
+pub use row_model::{Pairs, Row, Rows, Value, Values};
 
 // Stores of blobs: the trait, in memory, a folder.
 pub use hol_files::FolderStore;

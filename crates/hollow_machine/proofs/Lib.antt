@@ -1,3 +1,4 @@
+pub mod ClosedPast
 pub mod LinePuts
 pub mod Refusals
 pub mod Scripts

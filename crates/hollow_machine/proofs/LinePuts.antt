@@ -1,12 +1,12 @@
 -- What a line leaves of the store that is answered: the store as it was, or with all of its puts.
-use Rattle.std.proofs.Common.{◌≡◌, ◌≤◌, ◌⊎◌, inl, inr, ℕ, List, [], ◌∷◌, ◌++◌, true, false, Option, Some, None, length, length-append, take, refl, sym, ap, ◌∙◌, arith, subst}
+use Rattle.std.proofs.Common.{◌≡◌, inl, inr, ℕ, List, [], ◌∷◌, true, false, Option, Some, None, length, length-append, refl, sym, ap, ◌∙◌, arith, subst}
 use Rattle.std.specs.Prelude.{Bool, IsSomeAnd}
 use Rattle.std.specs.Fmt.{decimal}
 use Rattle.std.proofs.lemmas.List.{take_all}
 use Rattle.serde_json.specs.Data.{Data}
 use Rattle.hol_io.specs.Store.{Store}
 use Rattle.hol_io.specs.declared.name.BlobName.{BlobName}
-use Rattle.hol_io.specs.declared.name.BlobName.TheVariants.{Announced}
+use Rattle.hol_io.specs.declared.name.BlobName.TheVariants.{Announced, Delta, Reverse, Snapshot}
 use Rattle.schema_model.specs.declared.model.path.Path.{Path}
 use Rattle.schema_model.specs.declared.schema.name.Name.{Name}
 use Rattle.schema_model.specs.Parts.{index_of_type}
@@ -17,13 +17,16 @@ use Rattle.state_blobs.specs.Puts.{Put, put_all, puts_of}
 use Rattle.hol_orders.specs.declared.order.Order.{Order}
 use Rattle.hol_orders.specs.declared.order.Order.TheVariants as order
 use Rattle.hol_orders.specs.Parts.{asked_state}
+use Rattle.hol_answers.specs.declared.refusal.Refusal.{Refusal}
 use Rattle.hol_answers.specs.declared.reply.Reply.{Reply}
 use Rattle.hol_answers.specs.declared.reply.Reply.TheVariants as reply
 use Rattle.hollow_machine.specs.CycleOrder.{CycleStep, SucceedsAfter}
+use Rattle.hollow_machine.specs.HistoryOrders.{HistoryStep}
 use Rattle.hollow_machine.specs.IndexOrder.{IndexStep}
 use Rattle.hollow_machine.specs.KeyPaths.{AreKeyPaths, HasShape, IsObject}
 use Rattle.hollow_machine.specs.LoadOrder.{LoadStep}
 use Rattle.hollow_machine.specs.ModelOrder.{ModelStep}
+use Rattle.hollow_machine.specs.PlanOrders.{Applies, Goes, GotoStep}
 use Rattle.hollow_machine.specs.Records.{AskedCycle, asked_cycle}
 use Rattle.hollow_machine.specs.RestoreOrder.{RestoreStep}
 use Rattle.hollow_machine.specs.Script.{LineStep}
@@ -80,6 +83,27 @@ index_stays machine next name texts (reply.Index keys) is =
 index_stays machine next name texts (reply.Refused refusal) is = same_store machine next machine is.1 refl
 index_stays machine next name texts _ is = absurd is
 
+applied_stays : (machine next : Machine) (name : BlobName) (answer : Reply) → Applies machine name answer next → next.store ≡ machine.store
+applied_stays machine next (Snapshot version) answer is = load_stays machine next version answer is
+applied_stays machine next (Delta from to) answer is = step_stays machine next (Delta from to) to answer is
+applied_stays machine next (Reverse from to) answer is = step_stays machine next (Reverse from to) to answer is
+applied_stays machine next Announced answer is = absurd is
+
+gone_stays : (names : List BlobName) (machine next : Machine) (applied : ℕ) (refused : Option Refusal) → Goes machine names applied refused next → next.store ≡ machine.store
+gone_stays [] machine next applied refused is = same_store machine next machine is.2 refl
+gone_stays (name ∷ names) machine next applied refused (inl (refusal, applies, none, why)) = applied_stays machine next name (reply.Refused refusal) applies
+gone_stays (name ∷ names) machine next applied refused (inr (answer, between, behind, applies, taken, count, goes)) =
+    gone_stays names between next behind refused goes ∙ applied_stays machine between name answer applies
+
+goto_stays : (machine next : Machine) (wanted : ℕ) (answer : Reply) → GotoStep machine wanted answer next → next.store ≡ machine.store
+goto_stays machine next wanted (reply.Goto progress) (plan, is_plan, count, goes, tag) = gone_stays plan machine next progress.applied progress.refused goes
+goto_stays machine next wanted (reply.Refused refusal) is = same_store machine next machine is.1 refl
+goto_stays machine next wanted _ is = absurd is
+
+history_stays : (machine next : Machine) (bound : ℕ) (answer : Reply) → HistoryStep machine bound answer next → next.store ≡ machine.store
+history_stays machine next bound (reply.History kept) is = same_store machine next _ is.1 refl
+history_stays machine next bound _ is = absurd is
+
 -- ---- a cycle
 
 -- all of some puts
@@ -132,6 +156,8 @@ order_puts (order.Restore version) machine next answer is = inl (restore_stays m
 order_puts (order.Load version) machine next answer is = inl (load_stays machine next version answer is)
 order_puts (order.Step from to) machine next answer is = inl (step_stays machine next _ to answer is)
 order_puts (order.Index name paths) machine next answer is = inl (index_stays machine next name _ answer is)
+order_puts (order.Goto version) machine next answer is = inl (goto_stays machine next version answer is)
+order_puts (order.History bound) machine next answer is = inl (history_stays machine next bound answer is)
 order_puts _ machine next answer is = inl (same_store machine next machine is.1 refl)
 
 pub line_puts : (machine next : Machine) (line : List ℕ) (answer : Reply) → LineStep machine line answer next → HasAll (LinePuts line machine) machine.store next.store

@@ -15,6 +15,7 @@ use Rattle.hollow_machine.specs.Step.{Step, form}
 -- an order that is refused changes nothing
 kind_unchanged : (kind : Kind) (machine next : Machine) (asked : (shape kind).Asked) (refusal : Refusal) → StepBy (form kind) machine asked (Refused refusal) next → next ≡ machine
 kind_unchanged Kind.Model machine next asked refusal is = is.1
+kind_unchanged Kind.History machine next asked refusal is = absurd is
 kind_unchanged _ machine next asked refusal is = is.1
 
 order_unchanged : (machine next : Machine) (order : Order) (refusal : Refusal) → Step machine order (Refused refusal) next → next ≡ machine

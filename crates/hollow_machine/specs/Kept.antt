@@ -1,31 +1,57 @@
 -- What a program keeps of the machine: its store, its producer and its consumer, and what a call that answers an order means for them.
-use Rattle.std.specs.Prelude.{◌≡◌, ℕ, [], length, false, Option, Some, None, Result, IfOk, IfSome}
+use Rattle.std.specs.Prelude.{◌≡◌, ℕ, List, [], All, length, false, Option, Some, None, Result, IfOk, IfSome, IsSome}
 use Rattle.std.specs.Option.{option_map}
 use Rattle.hol_io.specs.Store.{Store}
+use Rattle.schema_model.specs.declared.schema.Schema.{Schema}
+use Rattle.row_model.specs.Table.{IsClosed, Table}
+use Rattle.hol_history.specs.History.{PastStep, PastSteps, StandsOn, tables_of}
 use Rattle.write_engine.specs.Cycle.{no_rows}
 use Rattle.write_engine.specs.Production.{Production}
-use Rattle.read_engine.specs.Position.{Position}
+use Rattle.read_engine.specs.Position.{Position, rows_now}
 use Rattle.hol_answers.specs.declared.reply.Reply.{Reply}
 use Rattle.hollow_machine.specs.State.{Machine}
 use Rattle.state_blobs.specs.Published.{published_of}
 
--- What is kept of a consumer from line to line: where it stands, once it has a state, and the version to which its last load or step that was not refused
--- led.
+-- What is kept of a consumer from line to line: where it stands, once it has a state, the version to which its last load or step that was not refused led,
+-- and the history of its steps since that load.
 pub record Reader : Type 0 where
   pub consumer : Option Position
   pub version : Option ℕ
+  pub history : PastSteps
 
-abbrev pub reader_of : Option Position → Option ℕ → Reader
-reader_of consumer version = record { consumer = consumer; version = version }
+abbrev pub reader_of : Option Position → Option ℕ → PastSteps → Reader
+reader_of consumer version history = record { consumer = consumer; version = version; history = history }
+
+-- The rows of each of some versions are closed.
+abbrev pub AreClosed : List Schema → List (ℕ × Table) → Type 0
+AreClosed schemas past = All (λ pair. IsClosed schemas pair.1) past
+
+-- The history leads to where the consumer stands, which has a version then, and the rows before each of its steps are closed; without a state there are no
+-- steps.
+abbrev pub LeadsHere : Option Position → Option ℕ → List PastStep → Type 0
+LeadsHere None version steps = (version ≡ None) × (steps ≡ [])
+LeadsHere (Some now) version steps = IsSome version × StandsOn now.schemas (rows_now now) steps × AreClosed now.schemas (tables_of (rows_now now) steps)
+
+abbrev pub IsReader : Reader → Type 0
+IsReader reader = LeadsHere reader.consumer reader.version reader.history.steps
+
+-- The versions and rows that the steps of a history led from, the newest first, where a consumer stands behind the last one.
+abbrev pub past_of : Option Position → List PastStep → List (ℕ × Table)
+past_of None steps = []
+past_of (Some now) steps = tables_of (rows_now now) steps
 
 -- What is kept from line to line beside the store: a producer, where there is one, and what is kept of the consumer.
 pub record Kept : Type 0 where
   pub producer : Option Production
   pub reader : Reader
 
+-- A history of no steps, which keeps none.
+abbrev pub no_history : PastSteps
+no_history = record { bound = 0; steps = [] }
+
 -- A consumer without a state; and it, without a producer.
 abbrev pub new_reader : Reader
-new_reader = reader_of None None
+new_reader = reader_of None None no_history
 
 abbrev pub nothing_kept : Kept
 nothing_kept = record { producer = None; reader = new_reader }
@@ -37,15 +63,15 @@ kept_with_producer kept producer = record kept { producer = producer }
 abbrev pub kept_with_reader : Kept → Reader → Kept
 kept_with_reader kept reader = record kept { reader = reader }
 
--- The machine over a store whose producer is the one that is kept, and whose consumer stands where the one that is kept does. No older states are kept.
+-- The machine over a store whose producer is the one that is kept, and whose consumer and older states are those that are kept.
 abbrev pub machine_of : Store → Kept → Machine
 machine_of store kept = record {
   store = store;
   producer = option_map published_of kept.producer;
   consumer = kept.reader.consumer;
   version = kept.reader.version;
-  bound = 0;
-  past = [];
+  bound = kept.reader.history.bound;
+  past = past_of kept.reader.consumer kept.reader.history.steps;
 }
 
 -- A producer between two cycles: the next one is open, and has no rows.

@@ -3,6 +3,7 @@ pub mod CheckOrder
 pub mod CycleOrder
 pub mod Follow
 pub mod Forms
+pub mod HistoryOrders
 pub mod IndexOrder
 pub mod Kept
 pub mod KeyOrders
@@ -13,6 +14,7 @@ pub mod Made
 pub mod MakeCommand
 pub mod MemberOrders
 pub mod ModelOrder
+pub mod PlanOrders
 pub mod Puts
 pub mod Records
 pub mod RestoreOrder

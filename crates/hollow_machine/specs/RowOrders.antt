@@ -1,6 +1,7 @@
 -- The orders `live`, `row` and `past`: what each answers of where the consumer stands. They change nothing.
 use Rattle.std.specs.Prelude.{◌≡◌, ◌≤◌, ◌<◌, ◌↔◌, ℕ, List, Option, Some, None, Contains, sum_by, true, false}
 use Rattle.std.specs.List.{AllZip}
+use Rattle.serde_json.specs.Data.{Data}
 use Rattle.serde_json.specs.View.{view}
 use Rattle.serde_json.specs.declared.value.Value.{Value}
 use Rattle.schema_model.specs.declared.limit.Limit.TheVariants.{Nodes}
@@ -48,17 +49,24 @@ LiveReply consumer name answer = AnswersOf consumer name ListsLive answer
 abbrev pub record_at : Position → Table → ℕ → ℕ → PlainTree
 record_at now table t ordinal = unfold_row now.schemas table t ordinal
 
--- Why a row is not shown: its ordinal is not live, or its record has too many nodes.
+-- The JSON is the record that a row of a table has, which is live and has not too many nodes.
+abbrev pub ShowsRowIn : Table → ℕ → Position → ℕ → Data → Type 0
+ShowsRowIn table ordinal now t json =
+    IsLive table t ordinal × (node_count (record_at now table t ordinal) ≤ number_of_limit Nodes) × PrintsTree now.schemas t (record_at now table t ordinal) json
+
+-- Why a row of a table is not shown: its ordinal is not live, or its record has too many nodes.
+abbrev pub RowRefusalIn : Table → Name → ℕ → Position → ℕ → Refusal → Type 0
+RowRefusalIn table name ordinal now t (NoRow row) = (row.type_name ≡ name) × (row.ordinal ≡ ordinal) × ¬ IsLive table t ordinal
+RowRefusalIn table name ordinal now t (TooLarge Nodes) = IsLive table t ordinal × (number_of_limit Nodes < node_count (record_at now table t ordinal))
+RowRefusalIn table name ordinal now t _ = ⊥
+
+-- Why a row of the consumer's state is not shown.
 abbrev pub RowRefusal : Name → ℕ → Position → ℕ → Refusal → Type 0
-RowRefusal name ordinal now t (NoRow row) = (row.type_name ≡ name) × (row.ordinal ≡ ordinal) × ¬ IsLive (rows_now now) t ordinal
-RowRefusal name ordinal now t (TooLarge Nodes) = IsLive (rows_now now) t ordinal × (number_of_limit Nodes < node_count (record_at now (rows_now now) t ordinal))
-RowRefusal name ordinal now t _ = ⊥
+RowRefusal name ordinal now t refusal = RowRefusalIn (rows_now now) name ordinal now t refusal
 
 -- What `row` answers of a type: the record under an ordinal.
 abbrev pub ShowsRow : Name → ℕ → Position → ℕ → Reply → Type 0
-ShowsRow name ordinal now t (reply.Row value) =
-    IsLive (rows_now now) t ordinal × (node_count (record_at now (rows_now now) t ordinal) ≤ number_of_limit Nodes)
-    × PrintsTree now.schemas t (record_at now (rows_now now) t ordinal) (view value)
+ShowsRow name ordinal now t (reply.Row value) = ShowsRowIn (rows_now now) ordinal now t (view value)
 ShowsRow name ordinal now t (reply.Refused refusal) = RowRefusal name ordinal now t refusal
 ShowsRow name ordinal now t _ = ⊥
 

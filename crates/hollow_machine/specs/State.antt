@@ -1,8 +1,8 @@
 -- The state of the machine that orders move: what the store holds, the producer, and the consumer.
-use Rattle.std.specs.Prelude.{ℕ, List, [], Option, Some, None}
+use Rattle.std.specs.Prelude.{ℕ, List, [], ◌∷◌, Option, Some, None, take}
 use Rattle.hol_io.specs.Store.{Store}
 use Rattle.row_model.specs.Table.{Table}
-use Rattle.read_engine.specs.Position.{Position}
+use Rattle.read_engine.specs.Position.{Position, rows_now}
 use Rattle.state_blobs.specs.Published.{Published}
 
 -- The machine: the store's names and their contents, a producer, where there is one, and where the consumer stands, once it has a state. With it goes the
@@ -29,9 +29,23 @@ with_consumer machine consumer = record machine { consumer = consumer }
 abbrev pub with_reader : Machine → Option Position → Option ℕ → Machine
 with_reader machine consumer version = record machine { consumer = consumer; version = version }
 
--- The machine behind a load or a step that led to a version, where its consumer stands so.
-abbrev pub moved_to : Machine → ℕ → Position → Machine
-moved_to machine version position = with_reader machine (Some position) (Some version)
+-- What is kept of older states behind a step: the version and the rows from before it in front, and so many at most.
+abbrev pub past_behind : ℕ → Option Position → Option ℕ → List (ℕ × Table) → List (ℕ × Table)
+past_behind bound (Some now) (Some version) past = take bound ((version, rows_now now) ∷ past)
+past_behind bound consumer version past = past
+
+-- The machine behind a load of a version, where its consumer stands so: no older states are kept.
+abbrev pub loaded_to : Machine → ℕ → Position → Machine
+loaded_to machine version position = record machine { consumer = Some position; version = Some version; past = [] }
+
+-- The machine behind a step that led to a version, where its consumer stands so: the state from before it is kept.
+abbrev pub stepped_to : Machine → ℕ → Position → Machine
+stepped_to machine version position =
+    record machine { consumer = Some position; version = Some version; past = past_behind machine.bound machine.consumer machine.version machine.past }
+
+-- The machine that keeps so many older states at most, and none of those so far.
+abbrev pub with_bound : Machine → ℕ → Machine
+with_bound machine bound = record machine { bound = bound; past = [] }
 
 -- The machine at the begin of a run.
 abbrev pub started : Store → Machine

@@ -1,7 +1,7 @@
 -- What the machine answers to an order, and the machine behind it.
 use Rattle.std.specs.Prelude.{Option}
 use Rattle.hol_orders.specs.declared.kind.Kind.{Kind}
-use Rattle.hol_orders.specs.declared.kind.Kind.TheVariants.{Model, Cycle, Restore, Load, Step as StepKind, Index, Get, Find, Live, Row, Has, At, Past, Check, Stat}
+use Rattle.hol_orders.specs.declared.kind.Kind.TheVariants.{Model, Cycle, Restore, Load, Step as StepKind, Index, Get, Find, Live, Row, Has, At, Past, Check, Stat, Plan, Goto, History, Was, WasGet}
 use Rattle.hol_orders.specs.declared.order.Order.{Order}
 use Rattle.hol_orders.specs.Kind.{shape}
 use Rattle.hol_orders.specs.Order.{asked_of, kind_of}
@@ -10,11 +10,13 @@ use Rattle.read_engine.specs.Position.{Position}
 use Rattle.hollow_machine.specs.CheckOrder.{check_form}
 use Rattle.hollow_machine.specs.CycleOrder.{cycle_form}
 use Rattle.hollow_machine.specs.Forms.{IsLooking, LooksBy, OrderForm, StepBy, unbuilt}
+use Rattle.hollow_machine.specs.HistoryOrders.{history_form, was_form, wasget_form}
 use Rattle.hollow_machine.specs.IndexOrder.{index_form}
 use Rattle.hollow_machine.specs.KeyOrders.{find_form, get_form}
 use Rattle.hollow_machine.specs.LoadOrder.{load_form}
 use Rattle.hollow_machine.specs.MemberOrders.{at_form, has_form}
 use Rattle.hollow_machine.specs.ModelOrder.{model_form}
+use Rattle.hollow_machine.specs.PlanOrders.{goto_form, plan_form}
 use Rattle.hollow_machine.specs.RestoreOrder.{restore_form}
 use Rattle.hollow_machine.specs.RowOrders.{live_form, past_form, row_form}
 use Rattle.hollow_machine.specs.State.{Machine}
@@ -38,6 +40,11 @@ form At = at_form
 form Past = past_form
 form Check = check_form
 form Stat = stat_form
+form Plan = plan_form
+form Goto = goto_form
+form History = history_form
+form Was = was_form
+form WasGet = wasget_form
 form _ = unbuilt
 
 -- What an order is answered.

@@ -12,7 +12,7 @@ use Rattle.hol_answers.specs.declared.refusal.Refusal.TheVariants.{NoState}
 use Rattle.hol_answers.specs.declared.reply.Reply.{Reply}
 use Rattle.hol_answers.specs.declared.reply.Reply.TheVariants.{Refused, Step}
 use Rattle.hollow_machine.specs.Blobs.{TellsOf}
-use Rattle.hollow_machine.specs.State.{Machine, moved_to}
+use Rattle.hollow_machine.specs.State.{Machine, stepped_to}
 use Rattle.hollow_machine.specs.Forms.{OrderForm, moving}
 
 -- The blob that leads from one version to another one: the delta where versions rise, and else the reverse delta.
@@ -28,11 +28,12 @@ abbrev pub StepRefusal : BlobName → Option (List ℕ) → Option Position → 
 StepRefusal name content None refusal = refusal ≡ NoState
 StepRefusal name content (Some now) refusal = DeltaRefusal name content now refusal
 
--- The consumer moves along the blob, to the tag of its destination and to this version, or the order is refused and all stays.
+-- The consumer moves along the blob, to the tag of its destination and to this version, and the state from before is kept with the older ones; or the order
+-- is refused and all stays.
 abbrev pub StepStep : Machine → BlobName → ℕ → Reply → Machine → Type 0
 StepStep machine name version (Step tag) next =
     IsSomeAnd machine.consumer (λ now. (blob : List ℕ) × (to : Position) × (told (Some machine.store) name ≡ Some blob) × StepsBy blob now to × (tag ≡ to.tag)
-    × (next ≡ moved_to machine version to))
+    × (next ≡ stepped_to machine version to))
 StepStep machine name version (Refused refusal) next = StepRefusal name (told (Some machine.store) name) machine.consumer refusal × (next ≡ machine)
 StepStep machine name version _ next = ⊥
 

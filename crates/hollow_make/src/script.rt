@@ -15,7 +15,8 @@ use film_script::{film_schemas, laws};
 use hol_answers::Reply;
 use hol_io::BlobStore;
 use hol_orders::{OrderStop, Versions};
-use schema_model::{Model, ModelFault, model_of};
+use model_rules::model_of;
+use schema_model::{Model, ModelFault};
 use std::alloc::Global;
 use write_engine::Producer;
 

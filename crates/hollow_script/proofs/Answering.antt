@@ -213,7 +213,7 @@ none_has first before waiting machine at_start nothing = record {
 }
 
 at_start : (first : Store) (kept : Keep) → KeepsNothing kept → machine_with first kept ≡ started first
-at_start first kept none = (λ i. machine_of first (record { producer = none.producer i; reader = reader_of (none.consumer i) (none.version i) }))
+at_start first kept none = (λ i. machine_of first (record { producer = none.producer i; reader = reader_of (none.consumer i) (none.version i) (none.history i) }))
 
 pub starts_answered : (left : Option (List ℕ)) (held : Option Store) (reading : Reading) (kept : Keep) (before : Option (List ℕ)) (waiting : List ℕ) → KeepsNothing kept → waiting ≡ [] →
     ((bytes : List ℕ) → IsAhead reading bytes bytes longest_input) → reading.line_max ≡ longest_line →

@@ -5,3 +5,4 @@ mod Ordering
 mod Asking
 mod Replying
 mod Answering
+pub mod Keeping

@@ -1,4 +1,4 @@
--- What an order that looks is answered.
+-- Which orders look, and what they are answered.
 use Rattle.std.proofs.Common.{◌≡◌, ℕ, List, Option, Result, IfOk, refl, sym, subst}
 use Rattle.std.specs.Prelude.{◌≢◌}
 use Rattle.serde_json.specs.declared.value.Value.{Value}
@@ -11,20 +11,40 @@ use Rattle.hol_answers.specs.declared.refusal.Refusal.TheVariants.{BadOrder}
 use Rattle.hol_answers.specs.declared.reply.Reply.{Reply}
 use Rattle.hol_answers.specs.declared.reply.Reply.TheVariants.{Refused}
 use Rattle.hollow_machine.specs.Step.{IsLook, LooksAt}
+use Rattle.hollow_script.specs.Orders.{IsLookBack, IsOfReader}
 use Rattle.read_engine.specs.Position.{Position}
 
--- an order that is none of those that move the machine, or check the store, looks
-pub is_look : (asked : Order) → ((schemas : Value) → asked ≢ order.Model schemas) → ((next : NextState) → asked ≢ order.Cycle next) → ((version : ℕ) → asked ≢ order.Restore version) →
-    ((version : ℕ) → asked ≢ order.Load version) → ((from to : ℕ) → asked ≢ order.Step from to) → ((name : Name) (paths : Value) → asked ≢ order.Index name paths) →
-    ((versions : List ℕ) → asked ≢ order.Check versions) → IsLook asked
-is_look (order.Model schemas) not_model not_cycle not_restore not_load not_step not_index not_check = absurd (not_model schemas refl)
-is_look (order.Cycle next) not_model not_cycle not_restore not_load not_step not_index not_check = absurd (not_cycle next refl)
-is_look (order.Restore version) not_model not_cycle not_restore not_load not_step not_index not_check = absurd (not_restore version refl)
-is_look (order.Load version) not_model not_cycle not_restore not_load not_step not_index not_check = absurd (not_load version refl)
-is_look (order.Step from to) not_model not_cycle not_restore not_load not_step not_index not_check = absurd (not_step from to refl)
-is_look (order.Index name paths) not_model not_cycle not_restore not_load not_step not_index not_check = absurd (not_index name paths refl)
-is_look (order.Check versions) not_model not_cycle not_restore not_load not_step not_index not_check = absurd (not_check versions refl)
-is_look _ not_model not_cycle not_restore not_load not_step not_index not_check = tt
+-- an order that is none of a producer, and does not check the store
+pub of_reader : (asked : Order) → ((schemas : Value) → asked ≢ order.Model schemas) → ((next : NextState) → asked ≢ order.Cycle next) → ((version : ℕ) → asked ≢ order.Restore version) →
+    ((versions : List ℕ) → asked ≢ order.Check versions) → IsOfReader asked
+of_reader (order.Model schemas) not_model not_cycle not_restore not_check = absurd (not_model schemas refl)
+of_reader (order.Cycle next) not_model not_cycle not_restore not_check = absurd (not_cycle next refl)
+of_reader (order.Restore version) not_model not_cycle not_restore not_check = absurd (not_restore version refl)
+of_reader (order.Check versions) not_model not_cycle not_restore not_check = absurd (not_check versions refl)
+of_reader _ not_model not_cycle not_restore not_check = tt
+
+-- an order of the consumer that is none of those that move the machine, or ask for a plan, looks
+pub looks_back : (asked : Order) → IsOfReader asked → ((version : ℕ) → asked ≢ order.Load version) → ((from to : ℕ) → asked ≢ order.Step from to) →
+    ((version : ℕ) → asked ≢ order.Plan version) → ((version : ℕ) → asked ≢ order.Goto version) → ((name : Name) (paths : Value) → asked ≢ order.Index name paths) →
+    ((bound : ℕ) → asked ≢ order.History bound) → IsLookBack asked
+looks_back (order.Model schemas) of not_load not_step not_plan not_goto not_index not_history = absurd of
+looks_back (order.Cycle next) of not_load not_step not_plan not_goto not_index not_history = absurd of
+looks_back (order.Restore version) of not_load not_step not_plan not_goto not_index not_history = absurd of
+looks_back (order.Check versions) of not_load not_step not_plan not_goto not_index not_history = absurd of
+looks_back (order.Load version) of not_load not_step not_plan not_goto not_index not_history = absurd (not_load version refl)
+looks_back (order.Step from to) of not_load not_step not_plan not_goto not_index not_history = absurd (not_step from to refl)
+looks_back (order.Plan version) of not_load not_step not_plan not_goto not_index not_history = absurd (not_plan version refl)
+looks_back (order.Goto version) of not_load not_step not_plan not_goto not_index not_history = absurd (not_goto version refl)
+looks_back (order.Index name paths) of not_load not_step not_plan not_goto not_index not_history = absurd (not_index name paths refl)
+looks_back (order.History bound) of not_load not_step not_plan not_goto not_index not_history = absurd (not_history bound refl)
+looks_back _ of not_load not_step not_plan not_goto not_index not_history = tt
+
+-- one that does not look at a version looks at where the consumer stands
+pub looks_here : (asked : Order) → IsLookBack asked → ((version : ℕ) (name : Name) (ordinal : ℕ) → asked ≢ order.Was version name ordinal) →
+    ((version : ℕ) (name : Name) (values : Value) → asked ≢ order.WasGet version name values) → IsLook asked
+looks_here (order.Was version name ordinal) back not_was not_wasget = absurd (not_was version name ordinal refl)
+looks_here (order.WasGet version name values) back not_was not_wasget = absurd (not_wasget version name values refl)
+looks_here _ back not_was not_wasget = back
 
 -- as one look is answered, so is an order that is this one
 pub look_is : (asked other : Order) (consumer : Option Position) (r : Result Reply OrderStop) → asked ≡ other → IfOk r (LooksAt other consumer) → IfOk r (LooksAt asked consumer)
@@ -44,12 +64,7 @@ unbuilt_looks (order.At name ordinal key) consumer look not_get not_find not_liv
 unbuilt_looks (order.Past name) consumer look not_get not_find not_live not_row not_has not_at not_past not_stat = absurd (not_past name refl)
 unbuilt_looks order.Stat consumer look not_get not_find not_live not_row not_has not_at not_past not_stat = absurd (not_stat refl)
 unbuilt_looks (order.Grow schemas) consumer look not_get not_find not_live not_row not_has not_at not_past not_stat = refl
-unbuilt_looks (order.Plan version) consumer look not_get not_find not_live not_row not_has not_at not_past not_stat = refl
-unbuilt_looks (order.Goto version) consumer look not_get not_find not_live not_row not_has not_at not_past not_stat = refl
 unbuilt_looks (order.Change change) consumer look not_get not_find not_live not_row not_has not_at not_past not_stat = refl
 unbuilt_looks (order.WalkIndex name path) consumer look not_get not_find not_live not_row not_has not_at not_past not_stat = refl
 unbuilt_looks (order.WalkFind name path value) consumer look not_get not_find not_live not_row not_has not_at not_past not_stat = refl
-unbuilt_looks (order.History bound) consumer look not_get not_find not_live not_row not_has not_at not_past not_stat = refl
-unbuilt_looks (order.Was version name ordinal) consumer look not_get not_find not_live not_row not_has not_at not_past not_stat = refl
-unbuilt_looks (order.WasGet version name values) consumer look not_get not_find not_live not_row not_has not_at not_past not_stat = refl
 unbuilt_looks _ consumer look not_get not_find not_live not_row not_has not_at not_past not_stat = absurd look

@@ -5,6 +5,7 @@ use Rattle.std.specs.Prelude.{IfSome}
 use Rattle.serde_json.specs.View.{view}
 use Rattle.serde_json.specs.declared.value.Value.{Value}
 use Rattle.hol_io.specs.Store.{Store}
+use Rattle.schema_model.specs.declared.schema.name.Name.{Name}
 use Rattle.write_engine.specs.Production.{Production}
 use Rattle.hol_orders.specs.declared.order.Order.{Order}
 use Rattle.hol_orders.specs.declared.order.Order.TheVariants as order
@@ -14,7 +15,8 @@ use Rattle.hol_orders.specs.Parts.{asked_state}
 use Rattle.hollow_machine.specs.Records.{asked_cycle}
 use Rattle.hollow_machine.specs.CycleOrder.{CycleStep}
 use Rattle.hollow_machine.specs.Forms.{LooksBy, OrderForm, StepBy, looking, moving}
-use Rattle.hollow_machine.specs.Kept.{Kept, Moves, MovesProducer, MovesReader, Reader, kept_with_producer, kept_with_reader, machine_of}
+use Rattle.hollow_machine.specs.HistoryOrders.{WasGetReply, WasReply}
+use Rattle.hollow_machine.specs.Kept.{Kept, Moves, MovesProducer, MovesReader, Reader, kept_with_producer, kept_with_reader, machine_of, past_of}
 use Rattle.hollow_machine.specs.Left.{Halts, HaltsProducer}
 use Rattle.hollow_machine.specs.ModelOrder.{ModelStep}
 use Rattle.hollow_machine.specs.RestoreOrder.{RestoreStep}
@@ -26,6 +28,7 @@ use Rattle.hol_orders.specs.Order.{asked_of, kind_of}
 use Rattle.state_blobs.specs.Published.{published_of}
 use Rattle.state_blobs.specs.Puts.{Put}
 use Rattle.hol_orders.specs.declared.order_stop.OrderStop.{OrderStop}
+use Rattle.hollow_script.specs.Orders.{StaysSo}
 
 -- an order that moves the machine in a way that is that of its kind
 pub asked_moves : (held held' : Option Store) (kept kept' : Kept) (asked other : Order) (r : Result Reply OrderStop) → asked ≡ other →
@@ -58,24 +61,45 @@ pub restore_moves : (held held' : Option Store) (kept : Kept) (producer : Option
     Moves (λ machine reply next. Step machine asked reply next) held kept held' (kept_with_producer kept producer) r
 restore_moves held held' kept producer asked r version is moves = asked_moves held held' kept (kept_with_producer kept producer) asked (order.Restore version) r is (moves kept)
 
--- the orders of a consumer, which leave the store and the producer
-module _ (held held' : Option Store) (kept : Kept) (reader : Reader) (asked other : Order) (r : Result Reply OrderStop) where
-  pub reader_moves : asked ≡ other → held' ≡ held → MovesReader (λ machine reply next. Step machine other reply next) held kept.reader reader r →
+-- the orders of the consumer, which leave the store and the producer
+module _ (held held' : Option Store) (kept : Kept) (reader : Reader) (asked : Order) (r : Result Reply OrderStop) where
+  pub reader_moves : held' ≡ held → MovesReader (λ machine reply next. Step machine asked reply next) held kept.reader reader r →
       Moves (λ machine reply next. Step machine asked reply next) held kept held' (kept_with_reader kept reader) r
-  reader_moves is same moves =
-      asked_moves held held' kept (kept_with_reader kept reader) asked other r is
-      (subst (λ (h : Option Store). Moves (λ machine reply next. Step machine other reply next) held kept h (kept_with_reader kept reader) r) (sym same) (moves kept))
+  reader_moves same moves =
+      subst (λ (h : Option Store). Moves (λ machine reply next. Step machine asked reply next) held kept h (kept_with_reader kept reader) r) (sym same) (moves kept)
+
+-- as one of them moves the machine, so does an order that is this one
+pub reads_as : (held : Option Store) (reader reader' : Reader) (asked other : Order) (r : Result Reply OrderStop) → asked ≡ other →
+    MovesReader (λ machine reply next. Step machine other reply next) held reader reader' r → MovesReader (λ machine reply next. Step machine asked reply next) held reader reader' r
+reads_as held reader reader' asked other r is moves = subst (λ order. MovesReader (λ machine reply next. Step machine order reply next) held reader reader' r) (sym is) moves
+
+-- what is answered wherever this is kept of the consumer, and changes nothing, leaves the machine
+pub stays : (held : Option Store) (reader : Reader) (asked : Order) (r : Result Reply OrderStop) → IfOk r (StaysSo asked reader) →
+    MovesReader (λ machine reply next. Step machine asked reply next) held reader reader r
+stays None reader asked r so = λ kept. tt
+stays (Some store) reader asked (Err stop) so = λ kept. tt
+stays (Some store) reader asked (Ok reply) so = λ kept. (store, refl, so store kept)
 
 -- what a look is answered is what the machine answers, which stays
 form_steps : {Asked : Type 0} (form : OrderForm Asked) (machine : Machine) (asked : Asked) (reply : Reply) → LooksBy form machine.consumer asked reply → StepBy form machine asked reply machine
 form_steps (looking Answers of_state) machine asked reply is = (is, refl)
 form_steps (moving Leads) machine asked reply is = absurd is
 
-pub looks : (held : Option Store) (kept : Kept) (asked : Order) (r : Result Reply OrderStop) → IfOk r (LooksAt asked kept.reader.consumer) →
-    Moves (λ machine reply next. Step machine asked reply next) held kept held kept r
-looks None kept asked r answers = tt
-looks (Some store) kept asked (Err stop) answers = tt
-looks (Some store) kept asked (Ok reply) answers = (store, refl, form_steps (form (kind_of asked)) (machine_of store kept) (asked_of asked) reply answers)
+pub looks : (asked : Order) (reader : Reader) (r : Result Reply OrderStop) → IfOk r (LooksAt asked reader.consumer) → IfOk r (StaysSo asked reader)
+looks asked reader (Err stop) answers = tt
+looks asked reader (Ok reply) answers = λ store kept.
+    form_steps (form (kind_of asked)) (machine_of store (kept_with_reader kept reader)) (asked_of asked) reply answers
+
+-- so is what is answered of a version
+pub was_stays : (asked : Order) (reader : Reader) (r : Result Reply OrderStop) (version : ℕ) (name : Name) (ordinal : ℕ) → asked ≡ order.Was version name ordinal →
+    IfOk r (WasReply reader.consumer reader.version (past_of reader.consumer reader.history.steps) version name ordinal) → IfOk r (StaysSo asked reader)
+was_stays asked reader (Err stop) version name ordinal is answers = tt
+was_stays asked reader (Ok reply) version name ordinal is answers = subst (λ o. StaysSo o reader reply) (sym is) (λ store kept. (answers, refl))
+
+pub wasget_stays : (asked : Order) (reader : Reader) (r : Result Reply OrderStop) (version : ℕ) (name : Name) (values : Value) → asked ≡ order.WasGet version name values →
+    IfOk r (WasGetReply reader.consumer reader.version (past_of reader.consumer reader.history.steps) version name (view values)) → IfOk r (StaysSo asked reader)
+wasget_stays asked reader (Err stop) version name values is answers = tt
+wasget_stays asked reader (Ok reply) version name values is answers = subst (λ o. StaysSo o reader reply) (sym is) (λ store kept. (answers, refl))
 
 -- what a check is answered of the store is what the machine answers, which stays
 pub checks : (held held' : Option Store) (kept : Kept) (asked : Order) (versions : List ℕ) (r : Result Reply OrderStop) → asked ≡ order.Check versions → held' ≡ held →

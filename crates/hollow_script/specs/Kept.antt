@@ -1,27 +1,34 @@
 -- What a run keeps from one order to the next, and the machine that it stands for.
-use Rattle.std.specs.Prelude.{◌≡◌, ◌⊎◌, ℕ, List, [], ◌∷◌, Option, None, Result}
+use Rattle.std.specs.Prelude.{◌≡◌, ◌⊎◌, ℕ, List, [], ◌∷◌, Option, None, Result, IfSome, map}
 use Rattle.std.specs.Option.{option_map}
 use Rattle.hol_io.specs.Store.{Store}
+use Rattle.hol_history.specs.History.{StandsOn, tables_of, versions}
+use Rattle.read_engine.specs.Position.{rows_now}
 use Rattle.state_blobs.specs.Published.{published_of}
 use Rattle.state_blobs.specs.Puts.{Put}
 use Rattle.hol_answers.specs.declared.reply.Reply.{Reply}
-use Rattle.hollow_machine.specs.Kept.{Kept, Moves, machine_of, reader_of}
+use Rattle.hollow_machine.specs.Kept.{IsReader, Kept, Moves, machine_of, no_history, reader_of}
 use Rattle.hollow_machine.specs.Left.{Halts}
 use Rattle.hollow_machine.specs.Script.{LineStep}
 use Rattle.hollow_machine.specs.State.{Machine}
 use Rattle.hollow_script.specs.declared.keep.Keep.{Keep}
 
--- There is no producer, and the consumer has no state and no version.
+-- There is no producer, the consumer has no state and no version, and no older states are kept.
 pub record KeepsNothing (keep : Keep) : Type 0 where
   pub producer : keep.producer ≡ None
   pub consumer : keep.consumer ≡ None
   pub version : keep.version ≡ None
+  pub history : keep.history ≡ no_history
 
 -- What is kept of the machine.
 abbrev pub kept_of : Keep → Kept
-kept_of keep = record { producer = keep.producer; reader = reader_of keep.consumer keep.version }
+kept_of keep = record { producer = keep.producer; reader = reader_of keep.consumer keep.version keep.history }
 
--- The machine over a store whose producer and consumer are those that are kept.
+-- The history that is kept leads to where the consumer stands.
+abbrev pub KeepsReader : Keep → Type 0
+KeepsReader keep = IsReader (kept_of keep).reader
+
+-- The machine over a store whose producer, consumer and older states are those that are kept.
 abbrev pub machine_with : Store → Keep → Machine
 machine_with store keep = machine_of store (kept_of keep)
 
@@ -49,3 +56,11 @@ LosesAnswer keep machine (line ∷ lines) = (reply : Reply) × (next : Machine) 
 -- It is that of the machine, or behind the first of these lines.
 abbrev pub KeepsAhead : Keep → Machine → List (List ℕ) → Type 0
 KeepsAhead keep machine ahead = KeepsProducer keep machine ⊎ LosesAnswer keep machine ahead
+
+-- The history that is kept is that of the machine: it keeps so many steps, reaches just the versions of the machine's older states, and leads to where the
+-- consumer stands, whose rows before each step are those states.
+pub record KeepsHistory (keep : Keep) (machine : Machine) : Type 0 where
+  pub bound : keep.history.bound ≡ machine.bound
+  pub reached : versions keep.history.steps ≡ map (λ pair. pair.0) machine.past
+  pub stands : IfSome keep.consumer (λ now. StandsOn now.schemas (rows_now now) keep.history.steps)
+  pub states : IfSome keep.consumer (λ now. tables_of (rows_now now) keep.history.steps ≡ machine.past)

@@ -2,17 +2,21 @@
 ghost use Rattle.std.specs.Prelude.{◌≡◌, ◌≤◌, true, IfErr, IfOk, IfSome, IsErrOf, OnErr};
 ghost use Rattle.hol_io.specs.Causes.{Rose};
 ghost use Rattle.hol_orders.specs.Order.{IsOrder};
-ghost use Rattle.hollow_machine.specs.Kept.{IsResting};
+ghost use Rattle.hollow_machine.specs.Kept.{IsReader, IsResting, MovesReader, reader_of};
 ghost use Rattle.hollow_machine.specs.Puts.{MayPut, OrderPuts};
 ghost use Rattle.hollow_machine.specs.Step.{IsLook, LooksAt, Step};
-ghost use Rattle.hollow_script.specs.Kept.{HaltsKept, MovesKept, SameProducer};
+ghost use Rattle.hollow_script.specs.Kept.{HaltsKept, KeepsReader, MovesKept, SameProducer};
+ghost use Rattle.hollow_script.specs.Orders.{IsLookBack, IsOfReader, StaysSo};
 
 use crate::keep::Keep;
 use chain_orders::{check, restore};
 use consumer_orders::{at, find, get, has, index, live, load, past, row, stat, step};
+use history_orders::{was, was_get};
 use hol_answers::{Refusal, Reply};
+use hol_history::History;
 use hol_io::BlobStore;
 use hol_orders::{Order, OrderStop};
+use plan_orders::{goto, plan};
 use producer_orders::{cycle, model};
 use read_engine::Consumer;
 use std::alloc::Global;
@@ -33,12 +37,14 @@ pub fn answer<S: BlobStore>(
 ) -> Result<Reply, OrderStop>
     requires order { IsOrder order.now }
     requires resting { IfSome keep.old.producer IsResting }
+    requires reading { KeepsReader keep.old }
     ensures step { MovesKept (λ machine reply next. Step machine order.now reply next)
         (S.seen store.old).held keep.old (S.seen store.new).held keep.new result }
     ensures halts { HaltsKept (OrderPuts order.now) (S.seen store.old).held keep.old (S.seen store.new).held result }
     ensures undone { OnErr result (SameProducer keep.old keep.new) }
     ensures quiet { (MayPut order.now → ⊥) → (S.seen store.new).held ≡ (S.seen store.old).held }
     ensures resting { IfSome keep.new.producer IsResting }
+    ensures reading { KeepsReader keep.new }
     ensures store_fault { IsErrOf result OrderStop.Store → Rose (S.seen store.old).faults (S.seen store.new).faults }
     ensures later { (S.seen store.old).faults ≤ (S.seen store.new).faults }
 {
@@ -46,11 +52,77 @@ pub fn answer<S: BlobStore>(
         Order::Model(schemas) => model(alloc, schemas, &mut keep.producer),
         Order::Cycle(next) => cycle(alloc, store, &mut keep.producer, next),
         Order::Restore(version) => restore(alloc, store, &mut keep.producer, *version),
-        Order::Load(version) => load(store, &mut keep.consumer, &mut keep.version, *version),
-        Order::Step { from, to } => step(store, &mut keep.consumer, &mut keep.version, *from, *to),
-        Order::Index { type_name, paths } => index(alloc, &mut keep.consumer, type_name, paths),
         Order::Check(versions) => check(alloc, store, versions),
-        _ => look(alloc, order, &keep.consumer),
+        _ => answer_reader(
+            alloc,
+            order,
+            store,
+            &mut keep.consumer,
+            &mut keep.version,
+            &mut keep.history,
+        ),
+    }
+}
+
+// Answers an order of the consumer, which leaves the store.
+fn answer_reader<S: BlobStore>(
+    alloc: Global,
+    order: &Order,
+    store: &mut S,
+    consumer: &mut Consumer,
+    version: &mut Option<u64>,
+    history: &mut History,
+) -> Result<Reply, OrderStop>
+    requires order { IsOrder order.now }
+    requires reader { IsOfReader order.now }
+    requires reading { IsReader (reader_of consumer.old version.old history.old) }
+    ensures step { MovesReader (λ machine reply next. Step machine order.now reply next) (S.seen store.old).held
+        (reader_of consumer.old version.old history.old) (reader_of consumer.new version.new history.new) result }
+    ensures held { (S.seen store.new).held ≡ (S.seen store.old).held }
+    ensures reading { IsReader (reader_of consumer.new version.new history.new) }
+    ensures store_fault { IsErrOf result OrderStop.Store → Rose (S.seen store.old).faults (S.seen store.new).faults }
+    ensures later { (S.seen store.old).faults ≤ (S.seen store.new).faults }
+{
+    match order {
+        Order::Load(wanted) => load(store, consumer, version, history, *wanted),
+        Order::Step { from, to } => step(store, consumer, version, history, *from, *to),
+        Order::Plan(wanted) => plan(alloc, store, *version, *wanted),
+        Order::Goto(wanted) => goto(alloc, store, consumer, version, history, *wanted),
+        Order::Index { type_name, paths } => index(alloc, consumer, type_name, paths),
+        Order::History(bound) => Ok(history_orders::history(alloc, history, *bound)),
+        _ => look_back(alloc, order, consumer, *version, history),
+    }
+}
+
+// Answers an order that looks at a version, or at where the consumer stands.
+fn look_back(
+    alloc: Global,
+    order: &Order,
+    consumer: &Consumer,
+    version: Option<u64>,
+    history: &History,
+) -> Result<Reply, OrderStop>
+    requires order { IsLookBack order.now }
+    requires reading { IsReader (reader_of consumer.now version history.now) }
+    ensures reply { IfOk result (StaysSo order.now (reader_of consumer.now version history.now)) }
+    ensures stop { IfErr result (λ stop. stop ≡ OrderStop.Memory) }
+{
+    match order {
+        Order::Was {
+            version: wanted,
+            type_name,
+            ordinal,
+        } => was(
+            alloc, consumer, version, history, *wanted, type_name, *ordinal,
+        ),
+        Order::WasGet {
+            version: wanted,
+            type_name,
+            values,
+        } => was_get(
+            alloc, consumer, version, history, *wanted, type_name, values,
+        ),
+        _ => look(alloc, order, consumer),
     }
 }
 

@@ -10,7 +10,7 @@ use Rattle.std.specs.Io.KnownBytes.{Appends}
 use Rattle.hollow_machine.specs.MakeCommand.{Makes}
 use Rattle.hollow_machine.specs.State.{Machine}
 use Rattle.hollow_make.specs.Parts.{TellsMake, machine_at}
-use Rattle.hollow_machine.specs.Kept.{machine_of, reader_of}
+use Rattle.hollow_machine.specs.Kept.{machine_of, no_history, reader_of}
 use Rattle.hollow_machine.specs.State.{started}
 use Rattle.hollow_script.specs.Kept.{KeepsNothing, machine_with}
 use Rattle.hollow_script.specs.Scripted.{AllWritten}
@@ -69,7 +69,7 @@ pub finishes : (words : List (List ℕ)) (input : Option (List ℕ)) (held after
     IfSome held (λ store. Finishes words input store after_held kept before after status)
 finishes words input None after_held kept command before after refused status none asked is served = tt
 finishes words input (Some store) after_held kept command before after refused status none asked is (text, next, writes, same, gained) =
-    (text, refused, next, (command, asked, subst (λ machine. Writes input store command text refused machine) (λ i. machine_of next (record { producer = sym none.producer i; reader = reader_of (sym none.consumer i) (sym none.version i) })) writes), same, gained, is)
+    (text, refused, next, (command, asked, subst (λ machine. Writes input store command text refused machine) (λ i. machine_of next (record { producer = sym none.producer i; reader = reader_of (sym none.consumer i) (sym none.version i) (sym none.history i) })) writes), same, gained, is)
 
 -- what only reads leaves the store
 reading_stays : (input : Option (List ℕ)) (store : Store) (command : Command) (text : List ℕ) (refused : Bool) (next : Machine) → IsReading command → Writes input store command text refused next → next.store ≡ store
@@ -122,12 +122,13 @@ script_finishes words (Some bytes) (Some first) after_held kept before after sta
 
 -- the line of its reply is written
 pub made_line : (seed rows cycles : ℕ) (held after_held : Option Store) (kept : Keep) (reply : Reply) (before after : Option (List ℕ)) (r : Result Bool Stop) →
-    kept.consumer ≡ None → kept.version ≡ None → TellsMake {E = OrderStop} seed rows cycles held after_held kept.producer (Ok reply) → Leaves (IsLineOf (λ answer. answer ≡ reply)) before after r →
+    kept.consumer ≡ None → kept.version ≡ None → kept.history ≡ no_history → TellsMake {E = OrderStop} seed rows cycles held after_held kept.producer (Ok reply) →
+    Leaves (IsLineOf (λ answer. answer ≡ reply)) before after r →
     IfOk r (λ refused. IfSome held (λ first. (text : List ℕ) × (next : Store) × WritesMade seed rows cycles first text refused (machine_with next kept) × (after_held ≡ Some next) × Appends before after text))
-made_line seed rows cycles held after_held kept reply before after (Err stop) none unmoved tells left = tt
-made_line seed rows cycles None after_held kept reply before after (Ok refused) none unmoved tells left = tt
-made_line seed rows cycles (Some first) after_held kept reply before after (Ok refused) none unmoved (next, told, makes) (text, (answer, answer_is, text_is, verdict), gained) =
-    let machine_is : machine_at next kept.producer ≡ machine_with next kept = λ i. machine_of next (record { producer = kept.producer; reader = reader_of (sym none i) (sym unmoved i) }) in
+made_line seed rows cycles held after_held kept reply before after (Err stop) none unmoved empty tells left = tt
+made_line seed rows cycles None after_held kept reply before after (Ok refused) none unmoved empty tells left = tt
+made_line seed rows cycles (Some first) after_held kept reply before after (Ok refused) none unmoved empty (next, told, makes) (text, (answer, answer_is, text_is, verdict), gained) =
+    let machine_is : machine_at next kept.producer ≡ machine_with next kept = λ i. machine_of next (record { producer = kept.producer; reader = reader_of (sym none i) (sym unmoved i) (sym empty i) }) in
     let made = subst (λ (m : Machine). Makes first seed rows cycles reply m) machine_is makes in
     (text, next, (answer, subst (λ (a : Reply). Makes first seed rows cycles a (machine_with next kept)) (sym answer_is) made, text_is, verdict), told, gained)
 

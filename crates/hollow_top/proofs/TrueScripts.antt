@@ -1,5 +1,5 @@
 -- Where a store held a chain, a script that ends leaves what the headline promises, and so does the command `make`.
-use Rattle.std.proofs.Common.{◌≡◌, ◌≤◌, ◌∙◌, ℕ, List, Bool, Option, Some, None, IfSome, sym, subst}
+use Rattle.std.proofs.Common.{◌≡◌, ◌≤◌, ◌∙◌, ℕ, List, Bool, Option, Some, None, IfSome, subst}
 use Rattle.hol_io.specs.Store.{Store}
 use Rattle.hol_answers.specs.declared.reply.Reply.{Reply}
 use Rattle.hollow_machine.specs.MakeCommand.{Makes}
@@ -11,7 +11,7 @@ use Rattle.hollow_script.specs.declared.keep.Keep.{Keep}
 use Rattle.written_laws.specs.Chain.{Chain}
 use Rattle.written_laws.specs.HoldsChain.{HoldsChain}
 use Rattle.chain_laws.specs.Headline.{AreTrueLines, StandsOn}
-use Rattle.chain_laws.specs.Consumers.{IsConsumerOf}
+use Rattle.chain_laws.specs.Consumers.{IsReaderOf}
 use Rattle.chain_laws.specs.Growth.{GrowsByMake}
 use Rattle.chain_laws.specs.Producers.{HoldsBytes, IsProducerOf, KeepsChain}
 use Rattle.hollow_top.specs.declared.words.Command.{Command}
@@ -40,16 +40,15 @@ AreKept = (store : Store) (chain : Chain) → HoldsChain store chain → HoldsBy
 -- the command keeps a chain
 abbrev pub MakesLonger : Type 0
 MakesLonger = (store : Store) (next : Machine) (seed rows cycles : ℕ) (answer : Reply) (chain : Chain) → seed ≤ 999999 → cycles ≤ 1000 → Makes store seed rows cycles answer next → KeepsChain store chain
-    → (after : Chain) × GrowsByMake store seed rows cycles chain next after × KeepsChain next.store after × IsProducerOf after next.producer
+    → (after : Chain) × GrowsByMake store seed rows cycles chain next after × KeepsChain next.store after × IsProducerOf after next.producer × IsReaderOf after next
 
 pub makes_chain : AreKept → MakesLonger → (seed rows cycles : ℕ) (held after_held : Option Store) (kept : Keep) (before after : Option (List ℕ)) (status : ℕ) → seed ≤ 999999 → cycles ≤ 1000 →
-    kept.consumer ≡ None → IfSome held HoldsBytes → IfSome held (λ first. EndsMake seed rows cycles first after_held kept before after status) →
+    IfSome held HoldsBytes → IfSome held (λ first. EndsMake seed rows cycles first after_held kept before after status) →
     IfSome held (λ first. (chain : Chain) → HoldsChain first chain → MakesChain seed rows cycles first chain after_held kept)
-makes_chain keeps longer seed rows cycles None after_held kept before after status small few none of_bytes ends = tt
-makes_chain keeps longer seed rows cycles (Some first) after_held kept before after status small few none of_bytes (text, refused, next, (answer, makes, text_is, verdict), told, gained, is) = λ chain holds.
+makes_chain keeps longer seed rows cycles None after_held kept before after status small few of_bytes ends = tt
+makes_chain keeps longer seed rows cycles (Some first) after_held kept before after status small few of_bytes (text, refused, next, (answer, makes, text_is, verdict), told, gained, is) = λ chain holds.
     let machine = machine_with next kept in
-    let (last, grows, still, there) = longer first machine seed rows cycles answer chain small few makes (keeps first chain holds of_bytes) in
-    let nowhere = subst (IsConsumerOf last) (sym none) tt in
+    let (last, grows, still, there, nowhere) = longer first machine seed rows cycles answer chain small few makes (keeps first chain holds of_bytes) in
     (next, last, grows, record { kept = still; producer = there; consumer = nowhere }, told)
 
 -- words that ask for other numbers ask for another command

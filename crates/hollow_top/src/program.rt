@@ -5,7 +5,7 @@ ghost use Rattle.hol_io.specs.Causes.{Rose};
 ghost use Rattle.std.specs.Io.KnownBytes.{Appends};
 ghost use Rattle.hol_io.specs.Store.{Store};
 ghost use Rattle.hollow_machine.specs.State.{Machine};
-ghost use Rattle.hollow_script.specs.Kept.{KeepsNothing, machine_with};
+ghost use Rattle.hollow_script.specs.Kept.{KeepsHistory, KeepsNothing, KeepsReader, machine_with};
 ghost use Rattle.hollow_script.specs.Scripted.{AllWritten, TakesPast};
 ghost use Rattle.written_laws.specs.Chain.{Chain};
 ghost use Rattle.written_laws.specs.HoldsChain.{HoldsChain};
@@ -40,7 +40,7 @@ use std::alloc::Global;
 /// | 6 | memory was refused; of the rows that `show` writes the sink may have the front |
 /// | 7 | a byte past the first 2^32 bytes of the input came, which comes only for `run` |
 ///
-/// `run` answers each line of the input, and what it keeps are the producer and the consumer behind the last of them. `head` and `show` read
+/// `run` answers each line of the input, and what it keeps are the producer, the consumer and its history behind the last of them. `head` and `show` read
 /// the store alone, and put nothing. `make` publishes a chain, checks it and keeps its producer; it reads no input, and it alone tells
 /// its progress. The condition is that nothing is kept.
 ///
@@ -87,6 +87,9 @@ pub fn run<I: Source, O: Sink, S: BlobStore, P: Progress>(
     ensures ended { result < 2 → AskScript (map string_bytes words.now) → IsAtEnd (I.left input.new) }
     ensures part { result ≡ 4 → ¬ AskScript (map string_bytes words.now) → IfSome (S.seen store.old).held
         (λ held. WritesPart (map string_bytes words.now) (I.left input.old) held (S.seen store.new).held (O.taken out.old) (O.taken out.new)) }
+
+    // The history that is kept is that of the machine, and leads to where the consumer stands: the machine's older states are read from both.
+    ensures history { (held : Store) → KeepsHistory keep.new (machine_with held keep.new) }
 
     // What is written, and what the store then holds, where `run` and `make` stop.
     ensures script_stopped { AskScript (map string_bytes words.now) → IfSome (I.left input.old) (λ bytes. IfSome (S.seen store.old).held (λ first.
@@ -156,6 +159,7 @@ fn serve_script<I: Source, O: Sink, S: BlobStore>(
         → AnswersTruly bytes first chain (S.seen store.new).held keep.new (O.taken out.old) (O.taken out.new))) }
     ensures verdict { result < 2 → OnSome (O.taken out.old)
         ((result ≡ 1) ↔ GainsRefusalLine (O.taken out.old) (O.taken out.new)) }
+    ensures reading { KeepsReader keep.new }
     ensures ended { result < 2 → IsAtEnd (I.left input.new) }
     ensures stopped { IfSome (I.left input.old) (λ bytes. IfSome (S.seen store.old).held (λ first.
         StopsScript bytes first (I.left input.new) (S.seen store.new).held keep.new (O.taken out.old) (O.taken out.new) result)) }
@@ -201,6 +205,7 @@ fn serve_make<O: Sink, S: BlobStore, P: Progress>(
         (S.seen store.new).held keep.new (O.taken out.old) (O.taken out.new) result) }
     ensures chain { result < 2 → IfSome (S.seen store.old).held (λ first. (chain : Chain) → HoldsChain first chain
         → MakesChain seed rows cycles first chain (S.seen store.new).held keep.new) }
+    ensures reading { KeepsReader keep.new }
     ensures verdict { result < 2 → OnSome (O.taken out.old) ((result ≡ 1) ↔ GainsRefusal (O.taken out.old) (O.taken out.new)) }
     ensures part { result ≡ 4 → IfSome (S.seen store.old).held
         (λ first. MakesPart seed rows cycles first (S.seen store.new).held (O.taken out.old) (O.taken out.new)) }
@@ -242,7 +247,7 @@ fn make_line<O: Sink, S: BlobStore, P: Progress>(
     ensures made { IfOk result (λ refused. IfSome (S.seen store.old).held (λ first. (text : List ℕ) × (next : Store)
         × WritesMade seed rows cycles first text refused (machine_with next keep.new) × ((S.seen store.new).held ≡ Some next)
         × Appends (O.taken out.old) (O.taken out.new) text)) }
-    ensures consumer { keep.new.consumer ≡ None }
+    ensures reading { KeepsReader keep.new }
     ensures verdict { Leaves IsVerdict (O.taken out.old) (O.taken out.new) result }
     ensures part { IsErrOf result Stop.Sink → IfSome (S.seen store.old).held
         (λ first. MakesPart seed rows cycles first (S.seen store.new).held (O.taken out.old) (O.taken out.new)) }
@@ -256,6 +261,7 @@ fn make_line<O: Sink, S: BlobStore, P: Progress>(
         producer,
         consumer: _,
         version: _,
+        history: _,
     } = keep;
     let reply = make(alloc, store, producer, seed, rows, cycles, progress)?;
     write_reply(alloc, reply, out)

@@ -13,7 +13,7 @@ use Rattle.schema_model.specs.declared.schema.Field.{Field}
 use Rattle.schema_model.specs.declared.schema.FieldKind.{FieldKind}
 use Rattle.schema_model.specs.declared.schema.Schema.{Schema}
 use Rattle.row_model.specs.declared.row.Value.{Value}
-use Rattle.row_model.specs.Dangling.{IsPlain}
+use Rattle.closed_rows.specs.Dangling.{IsPlain}
 use Rattle.row_model.specs.Key.{IsResolved, kind_along, kind_in, type_behind, with_first}
 use Rattle.schema_model.specs.Parts.{referenced}
 use Rattle.schema_model.specs.Path.{HasField, RefersTo, GoesOn, Leads, path_names}

@@ -6,7 +6,7 @@ use Rattle.std.proofs.lemmas.Bool.{cases_order}
 use Rattle.hol_varint.specs.Yields.{Yields}
 use Rattle.serde_json.specs.Data.{Data, null, boolean, number, string, array, object, Items, no_items, item}
 use Rattle.serde_json.specs.Find.{at, get_item}
-use Rattle.row_model.specs.Dangling.{IsPlain}
+use Rattle.closed_rows.specs.Dangling.{IsPlain}
 use Rattle.schema_model.specs.Schema.{kind_name}
 use Rattle.schema_model.specs.Model.{rule_place}
 use Rattle.schema_model.specs.declared.schema.name.Name.{Name}

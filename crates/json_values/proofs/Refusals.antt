@@ -8,7 +8,7 @@ use Rattle.schema_model.specs.declared.schema.Schema.{Schema}
 use Rattle.schema_model.specs.declared.schema.Shape.{Shape}
 use Rattle.schema_model.specs.declared.model.rule.Rule.{Rule}
 use Rattle.schema_model.specs.Model.{BreaksAt, IsFirstBroken, IsModel, rule_place}
-use Rattle.schema_model.proofs.RuleTests.{few_types}
+use Rattle.schema_model.proofs.BrokenRules.{few_types}
 use Rattle.json_values.specs.declared.fault.SchemasFault.{SchemasFault}
 use Rattle.json_values.specs.SchemaJson.{HasParts, HasText, shape_name, IsArrayOf, IsField, IsKindName, IsKindOrFloat, IsSchema, ItemsAre}
 use Rattle.json_values.specs.SchemasFrom.{BreaksWithFloats, HasFloat, IsFloatField, KeepsFirstRules, TellsFloat, TellsRefusal, TellsSchemas}

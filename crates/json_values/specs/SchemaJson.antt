@@ -11,7 +11,7 @@ use Rattle.schema_model.specs.declared.schema.FieldKind.{FieldKind}
 use Rattle.schema_model.specs.declared.schema.Schema.{Schema}
 use Rattle.schema_model.specs.declared.schema.Shape.{Shape}
 use Rattle.schema_model.specs.Schema.{kind_name}
-use Rattle.row_model.specs.Dangling.{IsPlain}
+use Rattle.closed_rows.specs.Dangling.{IsPlain}
 
 -- how many members there are
 abbrev pub count_members : Members → ℕ

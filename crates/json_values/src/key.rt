@@ -2,7 +2,7 @@
 ghost use Rattle.std.specs.Prelude.{◌≡◌, All, IsSomeAnd, Some};
 ghost use Rattle.serde_json.specs.Data.{array};
 ghost use Rattle.serde_json.specs.View.{view, items_view};
-ghost use Rattle.row_model.specs.Dangling.{IsPlain};
+ghost use Rattle.closed_rows.specs.Dangling.{IsPlain};
 ghost use Rattle.row_model.specs.Key.{IsResolved, kind_along};
 ghost use Rattle.row_model.specs.Row.{stored_value};
 ghost use Rattle.json_values.specs.KeyFrom.{TellsKey, TellsPart, if_stored, key_part};

@@ -1,7 +1,7 @@
 //! Which JSON values are lists of schemas.
 ghost use Rattle.std.specs.Prelude.{◌≡◌, ◌↔◌, ℕ, List, Option, IsTrue, option_map, codes};
 ghost use Rattle.serde_json.specs.View.{view};
-ghost use Rattle.row_model.specs.Dangling.{IsPlain};
+ghost use Rattle.closed_rows.specs.Dangling.{IsPlain};
 ghost use Rattle.schema_model.specs.declared.schema.name.Name.{Name};
 ghost use Rattle.schema_model.specs.declared.schema.Field.{Field};
 ghost use Rattle.schema_model.specs.declared.schema.FieldKind.{FieldKind};

@@ -13,7 +13,8 @@ use crate::SchemasFault;
 use crate::floats::first_float;
 use crate::json_form::all_from_forms;
 use crate::schema_shape::are_schemas;
-use schema_model::{ModelFault, Rule, Schemas, model_of};
+use model_rules::model_of;
+use schema_model::{ModelFault, Rule, Schemas};
 use serde_json::Value;
 use std::alloc::Global;
 

@@ -1,7 +1,7 @@
 //! The values of fields from their JSON.
 ghost use Rattle.std.specs.Prelude.{◌≡◌};
 ghost use Rattle.serde_json.specs.View.{view, items_view};
-ghost use Rattle.row_model.specs.Dangling.{IsPlain};
+ghost use Rattle.closed_rows.specs.Dangling.{IsPlain};
 ghost use Rattle.json_values.specs.ReadValue.{Tells, read_bytes, read_flag, read_kind, read_number, read_text, read_each, read_unit, read_value};
 
 use crate::ValueFault;

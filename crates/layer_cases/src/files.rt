@@ -48,6 +48,7 @@ fn failure_told(alloc: Global, store: &FolderStore) -> Result<String, AllocError
 fn other_told(rt: HostRuntime) -> Result<String, AllocError> {
     let mut other = FolderStore::new(rt, rt.alloc(), "blobs")?;
     let mut told = step_told(rt.alloc(), &mut other, b'l')?;
+    told.push_str(step_told(rt.alloc(), &mut other, b's')?.as_str())?;
     told.push_str(failure_told(rt.alloc(), &other)?.as_str())?;
     Ok(told)
 }
@@ -63,7 +64,7 @@ fn a_folder(rt: HostRuntime) -> Result<(), AllocError> {
     assert!(rt;
         told.as_str()
             == "true;none;true;Ok(());Ok(());Ok(());Ok(()) [Snapshot(1), Delta(1, 2)];\
-                Err(Failed) [];blobs: another run publishes there;Ok(Some(5));Ok(None);\
+                Ok(()) [Snapshot(1), Delta(1, 2)];Err(Failed);blobs: another run publishes there;Ok(Some(5));Ok(None);\
                 Ok(3) [97, 98, 99];Ok(2) [100, 101, 0];Ok(0) [0, 0, 0];"
     );
     let next = steps_told(rt, b"lxmeq")?;

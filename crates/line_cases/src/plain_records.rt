@@ -1,9 +1,10 @@
 //! Which records are read as trees straight from their tokens.
 use json::Scratch;
 use json_values::schemas_from;
+use model_rules::model_of;
 use record_stream::split_cycle;
 use record_tokens::{NextTree, next_tree};
-use schema_model::{Model, model_of};
+use schema_model::Model;
 use serde_json::Value;
 use std::alloc::Global;
 

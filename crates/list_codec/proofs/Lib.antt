@@ -1,5 +1,4 @@
-pub mod Elements
-pub mod Spreads
+pub mod ElementRuns
 pub mod Written
 pub mod Places
 pub mod OnePacking

@@ -11,7 +11,7 @@ use Rattle.bit_array.specs.Element.{element_of, number_of, SetsBlock}
 use Rattle.bit_array.proofs.Blocks.{block_bits}
 use Rattle.list_codec.specs.ListPlace.{pointer_width, element_width, pointer_at, pointer_before, start_at, end_at, elements_between, elements_at, SpellsList}
 use Rattle.list_codec.specs.Packing.{HasRoom}
-use Rattle.list_codec.proofs.Elements.{elements_more}
+use Rattle.list_codec.proofs.ElementRuns.{elements_more}
 
 -- an element before a limit ends before it
 pub ends_before : (index limit width : ℕ) → index < limit → index * width + width ≤ limit * width

@@ -6,7 +6,7 @@ ghost use Rattle.row_model.specs.Lent.{lent_row};
 ghost use Rattle.list_codec.specs.ListPlace.{pointer_width, element_width, end_at, elements_between, SpellsList};
 ghost use Rattle.list_codec.specs.Packing.{HasRoom, CanPack, IsPacked, WordsOf, elements_of_place, elements_of_places};
 
-use crate::chosen::elements_of;
+use crate::elements::elements_of;
 use bit_array::{set_element, words_for};
 use row_model::{Areas, LentRow, Packed, PlacedRows, Widths, Words};
 use schema_model::Schema;

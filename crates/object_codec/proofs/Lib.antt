@@ -1,12 +1,11 @@
+pub mod ByteCounts
 pub mod FieldWidths
 pub mod FieldParts
 pub mod Fields
-pub mod LiveBytes
 pub mod Places
 pub mod PlacesPacked
 pub mod RowPuts
 pub mod Rows
-pub mod Spreads
 pub mod ValueElements
 pub mod Values
 pub mod SameParts

@@ -25,7 +25,7 @@ use Rattle.object_codec.specs.Stored.{value_at, value_bytes, values_bytes, colum
 use Rattle.object_codec.proofs.FieldParts.{zip_all, areas_from}
 use Rattle.object_codec.proofs.FieldWidths.{fields_small}
 use Rattle.object_codec.proofs.RowPuts.{fits_at}
-use Rattle.object_codec.proofs.Spreads.{byte_count-append}
+use Rattle.object_codec.proofs.ByteCounts.{byte_count-append}
 
 abbrev pub Place : Type 0
 Place = Option Row

@@ -3,6 +3,5 @@ pub mod Encoded
 pub mod ObjectPlace
 pub mod Packing
 pub mod Part
-pub mod Spread
 pub mod Stored
 pub mod Widths

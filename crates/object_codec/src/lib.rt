@@ -2,7 +2,6 @@
 #![tactic(auto)]
 
 mod cell;
-mod chosen;
 mod encoded;
 mod fixed;
 pub mod laws;
@@ -12,6 +11,6 @@ mod span;
 mod stored;
 mod value;
 
-pub use chosen::{bytes, widths};
 pub use packing::{pack, put_row};
 pub use record::read;
+pub use stored::{stored_number, value_bytes, values_of};

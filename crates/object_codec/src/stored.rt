@@ -7,7 +7,7 @@ use hol_varint::{units_len, zigzag32, zigzag64};
 use row_model::{Row, Value};
 
 /// The values of a record, none of a row of another kind.
-pub(crate) fn values_of(row: &Row) -> &[Value]
+pub fn values_of(row: &Row) -> &[Value]
     ensures { result.now ≡ values_of_row row.now }
 {
     match row {
@@ -17,7 +17,7 @@ pub(crate) fn values_of(row: &Row) -> &[Value]
 }
 
 /// The number that an element holds for a value; none for null, which the least INT and the least LONG are too, and for a value with bytes.
-pub(crate) fn stored_number(value: &Value) -> Option<u64>
+pub fn stored_number(value: &Value) -> Option<u64>
     ensures is { result ≡ number_of_stored value.now }
     ensures below { IfSome result (λ number. number ≤ greatest_number value.now) }
 {
@@ -53,7 +53,7 @@ fn long_number(number: i64) -> Option<u64>
 }
 
 /// How many variable bytes a value has, up to the greatest number.
-pub(crate) fn value_bytes(value: &Value) -> u64
+pub fn value_bytes(value: &Value) -> u64
     ensures { result ≡ min (length (bytes_of_value value.now)) (2 ^ 64 - 1) }
 {
     match value {

@@ -20,7 +20,7 @@ use Rattle.object_codec.specs.Packing.{CanPack, HasBytes, HasRoom, HoldsValue, I
 use Rattle.object_codec.specs.Stored.{values_of_row, value_at, column, element_number, values_bytes, value_bytes as bytes_of_value}
 use Rattle.object_codec.specs.Widths.{byte_count}
 use Rattle.object_codec.proofs.PlacesPacked.{PackedSoFar, packed_none, place_room, packed_more, packed_all}
-use Rattle.object_codec.proofs.Spreads.{byte_count-append}
+use Rattle.object_codec.proofs.ByteCounts.{byte_count-append}
 use Rattle.type_rows.specs.Holds.{FitsWidth, FitsRow, HoldsRow}
 use Rattle.type_rows.specs.Layout.{places_of}
 use Rattle.type_rows.specs.WellFormed.{IsWidth}

@@ -9,8 +9,8 @@ use Rattle.row_model.specs.PlainTree.{PlainTree}
 use Rattle.row_model.specs.Table.{Table}
 use Rattle.schema_model.specs.declared.reason.Reason.{Reason}
 use Rattle.schema_model.specs.declared.schema.Schema.{Schema}
-use Rattle.row_model.specs.Tree.{plain}
-use Rattle.row_model.specs.declared.tree.Tree.{Tree}
+use Rattle.record_trees.specs.Tree.{plain}
+use Rattle.record_trees.specs.declared.tree.Tree.{Tree}
 use Rattle.json_values.specs.declared.fault.ValueFault.{ValueFault}
 use Rattle.json_values.specs.declared.fault.ValueFault.TheVariants as field_fault
 use Rattle.record_json.specs.ReadTree.{TellsAs, read_tree}

@@ -9,7 +9,8 @@ ghost use Rattle.hollow_machine.specs.ModelOrder.{BreaksRule, IsNamed, ModelStep
 use hol_answers::{Refusal, Reply};
 use hol_orders::OrderStop;
 use json_values::{SchemasFault, schemas_from};
-use schema_model::{ModelFault, Name, Rule, model_of};
+use model_rules::model_of;
+use schema_model::{ModelFault, Name, Rule};
 use serde_json::Value;
 use std::alloc::Global;
 use write_engine::Producer;

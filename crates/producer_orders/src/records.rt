@@ -3,7 +3,7 @@ ghost use Rattle.std.specs.Prelude.{◌≡◌, ◌<◌, ◌++◌, ◌∷◌, [],
 ghost use Rattle.serde_json.specs.Data.{Data};
 ghost use Rattle.serde_json.specs.View.{view};
 ghost use Rattle.row_model.specs.PlainTree.{PlainTree};
-ghost use Rattle.row_model.specs.Tree.{plain};
+ghost use Rattle.record_trees.specs.Tree.{plain};
 ghost use Rattle.schema_model.specs.declared.schema.Schema.{Schema};
 ghost use Rattle.schema_model.specs.Model.{IsModel};
 ghost use Rattle.write_engine.specs.Agreement.{HoldsOnce};
@@ -21,7 +21,8 @@ use json_values::ValueFault;
 use ordinal_map::PutRowFault;
 use record_json::{laws, tree_from};
 use record_tokens::Record;
-use row_model::{Row, Tree};
+use record_trees::Tree;
+use row_model::Row;
 use schema_model::Model;
 use serde_json::Value;
 use std::alloc::Global;

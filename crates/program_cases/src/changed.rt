@@ -6,10 +6,11 @@
 //! | `bits` | `show` prints rows, tells a fault at a place, or a limit, of each blob in which bits of one byte are turned |
 //! | `turned KINDS` | what a load, and a step along the blob as delta-1-2 with a bit turned, come to: a letter a bit, the least of each byte first |
 //! | `fronts KINDS` | the same of each front of the blob, from none of its bytes on |
-//! | `readings N STATUS` | `run` over the input and an emptied store ends with 5 and whole lines where a call of the store fails, call by call, of N or more, and else with this status |
+//! | `readings N STATUS` | `run` over the input, and over a store that holds what the store holds, ends with 5 and whole lines where a call of that fails, call by call, of N or more, and else with this status |
 //!
 //! The letters are `h`, a fault at a place; `o`, another origin; `m`, another model; `k`, a step. But for `k` all stays as it was.
 use crate::scene::Scene;
+use hol_io::BlobStore;
 use hol_memory::MemStore;
 
 /// The orders over each changed delta.
@@ -115,11 +116,12 @@ impl Scene {
         let (least, status) = rest.split_once(' ').unwrap_or((rest, ""));
         let (least, status) = (least.parse::<u64>()?, status.parse::<u8>()?);
         let input = self.bench.take_input();
-        let mut all = self.status_of(input.as_slice(), MOST_CALLS)? == status;
+        let mut held = self.take_store();
+        let mut all = self.status_of(&mut held, input.as_slice(), MOST_CALLS)? == status;
         let whole = Vec::from_slice(self.alloc, self.bench.text())?;
         let mut tried = 0;
         for call in 1..MOST_CALLS {
-            let ended = self.status_of(input.as_slice(), call)?;
+            let ended = self.status_of(&mut held, input.as_slice(), call)?;
             all &= is_front(self.bench.text(), whole.as_slice());
             if ended != 5 {
                 all &= ended == status && self.bench.text() == whole.as_slice();
@@ -127,16 +129,41 @@ impl Scene {
             }
             tried = call;
         }
+        self.store = held;
         self.bench.settle();
         Ok(all && least <= tried)
     }
 
-    // The status of a run over an emptied store of which this call fails.
-    fn status_of(&mut self, input: &[u8], call: u64) -> anyhow::Result<u8> {
+    // The status of a run over a store that holds the same as another one, and of which this call fails.
+    fn status_of(&mut self, held: &mut MemStore, input: &[u8], call: u64) -> anyhow::Result<u8> {
         let fails = vec![in self.alloc; call; 1]?;
         self.store = MemStore::new(self.alloc, fails, Vec::new(self.alloc));
+        if !self.fill_from(held)? {
+            return Err(anyhow::anyhow!("the store takes no blobs"));
+        }
         self.bench.ask(std::str::from_utf8(input)?, "")?;
         self.bench.answer_over("run", &mut self.store)
+    }
+
+    // The store; an empty one stands in its place.
+    fn take_store(&mut self) -> MemStore {
+        let empty = MemStore::new(self.alloc, Vec::new(self.alloc), Vec::new(self.alloc));
+        std::mem::replace(&mut self.store, empty)
+    }
+
+    // The store gets all that another one holds. Whether it did.
+    fn fill_from(&mut self, held: &mut MemStore) -> anyhow::Result<bool> {
+        let mut names = Vec::new(self.alloc);
+        let mut all = held.list(&mut names).is_ok();
+        for name in &names {
+            let Ok(Some(size)) = held.size(name) else {
+                return Ok(false);
+            };
+            let mut bytes = vec![in self.alloc; 0; usize::try_from(size)?]?;
+            all &= held.read_at(name, 0, bytes.as_mut_slice()).is_ok();
+            all &= self.store.put(name, bytes.as_slice()).is_ok();
+        }
+        Ok(all)
     }
 }
 

@@ -1,6 +1,6 @@
 -- What a step tells, of a consumer by the tag and the model that it shows: those of its position, where it has one.
-use Rattle.std.proofs.Common.{◌≡◌, ◌⊎◌, inl, inr, ℕ, ℤ, List, [], ◌∷◌, Option, Some, None, Result, Ok, Err, IfErr, IfSome, subst, sym}
-use Rattle.std.specs.Prelude.{All, IsSomeAnd, OnErr}
+use Rattle.std.proofs.Common.{◌≡◌, ◌⊎◌, inl, inr, ℕ, ℤ, List, [], ◌∷◌, Option, Some, None, Result, Ok, Err, IfErr, IfSome, refl, subst, sym}
+use Rattle.std.specs.Prelude.{All, IsSomeAnd, OnErr, OnOk}
 use Rattle.hol_io.specs.declared.name.BlobName.{BlobName}
 use Rattle.hol_io.specs.Store.{Store, told}
 use Rattle.schema_model.specs.declared.schema.Schema.{Schema}
@@ -24,7 +24,7 @@ use Rattle.type_rows.specs.declared.fault.RowFault.{RowFault}
 use Rattle.type_rows.specs.declared.patch.PatchSection.{PatchSection}
 use Rattle.read_engine.specs.Position.{IsPosition, Position, rows_now}
 use Rattle.read_engine.specs.Taken.{BlamesParts, CountsTaken, IsTaken, TellsTaken}
-use Rattle.read_engine.specs.Taking.{CountsPart, IsStepFault, TellsStep}
+use Rattle.read_engine.specs.Taking.{CountsPart, FollowsFrom, IsStepFault, TellsStep}
 use Rattle.read_engine.specs.Walking.{schemas_at, tag_at}
 use Rattle.read_engine.proofs.StepsTold.{part_counted, refused_told, taken_told, untaken_told}
 
@@ -90,6 +90,19 @@ module _ (name : BlobName) (held : Option Store) (tag : ℤ) (schemas : List Sch
         → OnErr answer (IfSome held (λ store. IfSome old (λ from. (after ≡ before) ⊎ CountsPart (told held name) from before after)))
     counted_told old position tag_is schemas_are before after (Ok done) counts = tt
     counted_told old position tag_is schemas_are before after (Err found) counts = counted old position tag_is schemas_are before after counts
+
+-- ---- what is so of every step
+
+taken_follows : (tag : ℤ) (parts : List PatchPart) (from : Position) (now : Option Position) → IsSomeAnd now (IsTaken tag parts from) → IsSomeAnd now (FollowsFrom from)
+taken_follows tag parts from None none = absurd none
+taken_follows tag parts from (Some to) taken =
+    subst (FollowsFrom from) (sym taken.is) record { model = refl; before = refl; indexes = refl }
+
+pub step_follows : (size : ℕ) (tag : ℤ) (parts : List PatchPart) (old now : Option Position) (answer : Result (Unit {0}) BlobFault)
+    → IfSome old (λ from. TellsTaken size tag parts from now answer) → OnOk answer (IfSome old (λ from. IsSomeAnd now (FollowsFrom from)))
+step_follows size tag parts None now (Ok done) tells = tt
+step_follows size tag parts (Some from) now (Ok done) tells = taken_follows tag parts from now tells
+step_follows size tag parts old now (Err found) tells = tt
 
 -- ---- which faults come
 

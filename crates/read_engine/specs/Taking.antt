@@ -53,6 +53,12 @@ pub record StepsBy (blob : List ℕ) (from to : Position) : Type 0 where
   pub before : to.before ≡ rows_now from
   pub indexes : to.indexes ≡ from.indexes
 
+-- What is so behind every step, wherever its blob came from: the model and the indexes stay, and the rows before are those that the consumer had.
+pub record FollowsFrom (from to : Position) : Type 0 where
+  pub model : to.schemas ≡ from.schemas
+  pub before : to.before ≡ rows_now from
+  pub indexes : to.indexes ≡ from.indexes
+
 -- The name is that of a delta or of a reverse delta.
 abbrev pub IsStepName : BlobName → Type 0
 IsStepName (Delta from to) = Unit {0}

@@ -13,10 +13,10 @@ ghost use Rattle.type_state.specs.WordsHeld.{words_held};
 ghost use Rattle.type_rows.specs.WordsHeld.{bytes_held};
 ghost use Rattle.snapshot_blob.specs.Snapshot.{IsSnapshotFault};
 ghost use Rattle.state_moves.specs.Halves.{current_halves};
-ghost use Rattle.read_engine.specs.Gone.{AreGone};
+ghost use Rattle.read_engine.specs.Gone.{AreGone, HasLeft};
 ghost use Rattle.read_engine.specs.Indexes.{CountsStep};
 ghost use Rattle.read_engine.specs.Position.{IsOfType, IsPosition, Position, rows_now};
-ghost use Rattle.read_engine.specs.Taking.{CountsPart, IsStepFault, IsStepName, LoadsExactly, StepsExactly, TellsLoad, TellsStep};
+ghost use Rattle.read_engine.specs.Taking.{CountsPart, FollowsFrom, IsStepFault, IsStepName, LoadsExactly, StepsExactly, TellsLoad, TellsStep};
 ghost use Rattle.read_engine.specs.Walking.{schemas_at, table_at, tag_at};
 
 use crate::indexes::KeyIndexes;
@@ -27,7 +27,7 @@ use blob_frame::BlobFault;
 use hol_io::{BlobName, BlobStore, Steps};
 use hol_varint::Ordinals;
 use schema_model::Model;
-use state_moves::{Before, Now, PastParts, before_of, now_of};
+use state_moves::{Before, Left, Now, PastParts, before_of, now_of};
 use std::alloc::Global;
 use std::sync::ledger::Ledger;
 use type_state::{TypeState, TypeStates};
@@ -129,6 +129,7 @@ impl Consumer {
             (λ held. IfSome self.old (λ from. TellsStep name.now (told (S.seen store.old).held name.now) from self.new result)) }
         ensures exact { IfSome (S.seen store.old).held
             (λ held. IfSome self.old (λ from. StepsExactly name.now (told (S.seen store.old).held name.now) from self.new result)) }
+        ensures follows { OnOk result (IfSome self.old (λ from. IsSomeAnd self.new (FollowsFrom from))) }
         ensures kind { IfErr result (λ fault. IfSome self.old (λ from. IsStepFault name.now from.tag fault)) }
         ensures state { IsSome self.new }
         ensures refused { OnErr result (self.new ≡ self.old) }
@@ -181,6 +182,16 @@ impl Consumer {
         let states = self.states.as_slice();
         let past = self.past.as_slice();
         before_of(&self.model, states, past)
+    }
+
+    /// What its last step changed of each type; nothing after a load.
+    pub fn left(&self) -> Left<'_>
+        requires { IsSome self.now }
+        ensures { IsSomeAnd self.now (HasLeft result.parts.now) }
+    {
+        Left {
+            parts: self.past.as_slice(),
+        }
     }
 
     /// The ordinals of a type that left in its last step, rising.

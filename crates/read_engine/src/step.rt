@@ -13,7 +13,7 @@ ghost use Rattle.read_engine.specs.Indexes.{CountsStep};
 ghost use Rattle.read_engine.specs.Kept.{IsKept, count_came, index_kept};
 ghost use Rattle.read_engine.specs.Position.{IsPosition};
 ghost use Rattle.read_engine.specs.Taken.{CountsTaken, ReadsSome, TakesParts, TellsTaken};
-ghost use Rattle.read_engine.specs.Taking.{CountsPart, IsStepFault, TellsStep};
+ghost use Rattle.read_engine.specs.Taking.{CountsPart, FollowsFrom, IsStepFault, TellsStep};
 
 use crate::Consumer;
 use crate::indexes::KeyIndexes;
@@ -39,6 +39,7 @@ pub(crate) fn step<S: BlobStore, L: Ledger>(
     requires standing { IsSome consumer.old }
     ensures tells { IfSome (S.seen store.old).held
         (λ held. IfSome consumer.old (λ from. TellsStep name.now (told (S.seen store.old).held name.now) from consumer.new result)) }
+    ensures follows { OnOk result (IfSome consumer.old (λ from. IsSomeAnd consumer.new (FollowsFrom from))) }
     ensures position { IfSome consumer.old IsPosition }
     ensures state { IsSome consumer.new }
     ensures refused { OnErr result (consumer.new ≡ consumer.old) }

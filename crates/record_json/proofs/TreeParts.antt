@@ -11,12 +11,12 @@ use Rattle.schema_model.specs.declared.schema.Field.{Field}
 use Rattle.schema_model.specs.declared.reason.Reason.{Reason}
 use Rattle.schema_model.specs.declared.schema.Schema.{Schema}
 use Rattle.schema_model.specs.declared.schema.Shape.{Shape}
-use Rattle.row_model.specs.declared.tree.Tree
-use Rattle.row_model.specs.declared.tree.Tree.{Tree}
-use Rattle.row_model.specs.declared.tree.Trees.{Trees}
-use Rattle.row_model.specs.declared.tree.TreePairs.{TreePairs}
+use Rattle.record_trees.specs.declared.tree.Tree
+use Rattle.record_trees.specs.declared.tree.Tree.{Tree}
+use Rattle.record_trees.specs.declared.tree.Trees.{Trees}
+use Rattle.record_trees.specs.declared.tree.TreePairs.{TreePairs}
 use Rattle.row_model.specs.PlainTree.{PlainTree, PlainPairs, object, list, set, map as map_tree, trees_of_list, pairs_of_list}
-use Rattle.row_model.specs.Tree.{plain, plain_pair, plain_trees, plain_pairs}
+use Rattle.record_trees.specs.Tree.{plain, plain_pair, plain_trees, plain_pairs}
 use Rattle.record_trees.proofs.Arms.{object_plain, list_plain, set_plain, map_plain}
 use Rattle.record_trees.proofs.Deciding.{keys_apart_or_not}
 use Rattle.record_trees.proofs.Passing.{refuted}

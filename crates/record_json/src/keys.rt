@@ -1,11 +1,10 @@
 //! Whether the keys of a map are apart.
 ghost use Rattle.std.specs.Prelude.{◌↔◌, Any, IsTrue, map};
 ghost use Rattle.row_model.specs.PlainTree.{SameTree, pairs_of_list};
-ghost use Rattle.row_model.specs.Tree.{plain, plain_pair};
+ghost use Rattle.record_trees.specs.Tree.{plain, plain_pair};
 ghost use Rattle.record_trees.specs.FitsTree.{AreKeysApart};
 
-use record_trees::same_tree;
-use row_model::Tree;
+use record_trees::{Tree, same_tree};
 
 /// Whether no two keys are the same record. Each key is compared with those of the pairs behind it.
 pub(crate) fn are_keys_apart(pairs: &[(Tree, Tree)]) -> bool

@@ -1,13 +1,13 @@
 //! Trees made of parts that were read.
 ghost use Rattle.std.specs.Prelude.{List, Ok, Result};
 ghost use Rattle.row_model.specs.PlainTree.{PlainTree, list, object, set, trees_of_list};
-ghost use Rattle.row_model.specs.Tree.{plain, plain_pair, plain_pairs, plain_trees};
+ghost use Rattle.record_trees.specs.Tree.{plain, plain_pair, plain_pairs, plain_trees};
 ghost use Rattle.schema_model.specs.declared.reason.Reason.{Reason};
 ghost use Rattle.record_json.specs.ReadTree.{TellsAs, key_then, made, read_map};
 
 use crate::keys::are_keys_apart;
 use json_values::ValueFault;
-use row_model::{Tree, TreePairs, Trees};
+use record_trees::{Tree, TreePairs, Trees};
 use schema_model::Reason;
 
 /// The record with these parts.

@@ -1,14 +1,15 @@
 //! The members of a record that are values, and which members are fields.
 ghost use Rattle.std.specs.Prelude.{◌≡◌, Ok};
 ghost use Rattle.serde_json.specs.View.{view, members_view};
-ghost use Rattle.row_model.specs.Dangling.{IsPlain};
+ghost use Rattle.closed_rows.specs.Dangling.{IsPlain};
 ghost use Rattle.row_model.specs.PlainTree.{leaf};
-ghost use Rattle.row_model.specs.Tree.{plain};
+ghost use Rattle.record_trees.specs.Tree.{plain};
 ghost use Rattle.record_json.specs.ReadTree.{TellsAs, are_fields, is_field, made};
 ghost use Rattle.json_values.specs.ReadValue.{read_value};
 
 use json_values::{ValueFault, value_from};
-use row_model::{Tree, Value as FieldValue};
+use record_trees::Tree;
+use row_model::Value as FieldValue;
 use schema_model::{Field, FieldKind};
 use serde_json::{Map, Value};
 use std::alloc::Global;

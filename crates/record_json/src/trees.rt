@@ -2,14 +2,14 @@
 ghost use Rattle.std.specs.Prelude.{◌≡◌, ◌<◌, Some, None, Ok, length, option_map};
 ghost use Rattle.serde_json.specs.View.{view, items_view, members_view};
 ghost use Rattle.row_model.specs.PlainTree.{leaf};
-ghost use Rattle.row_model.specs.Tree.{plain, plain_pair, plain_pairs, plain_trees};
+ghost use Rattle.record_trees.specs.Tree.{plain, plain_pair, plain_pairs, plain_trees};
 ghost use Rattle.record_json.specs.ReadTree.{TellsAs, read_field, read_fields, read_named, read_both, read_pair, read_tree, read_within};
 ghost use Rattle.json_values.specs.ReadValue.{read_each, read_kind};
 
 use crate::tree_parts::{list_of, map_of, object_of, pair_of, set_of};
 use crate::tree_values::{are_all_fields, value_tree};
 use json_values::ValueFault;
-use row_model::{Tree, TreePairs, Trees};
+use record_trees::{Tree, TreePairs, Trees};
 use schema_model::{Field, FieldKind, Model, Name, Reason, Shape};
 use serde_json::Value;
 use std::alloc::Global;

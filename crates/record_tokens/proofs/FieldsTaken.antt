@@ -19,8 +19,8 @@ use Rattle.schema_model.specs.declared.schema.Field.{Field}
 use Rattle.schema_model.specs.declared.schema.name.Name.{Name}
 use Rattle.schema_model.specs.Parts.{field_names}
 use Rattle.row_model.specs.declared.row.Value.{Value}
-use Rattle.row_model.specs.declared.tree.Tree.{Tree}
-use Rattle.row_model.specs.Tree.{plain}
+use Rattle.record_trees.specs.declared.tree.Tree.{Tree}
+use Rattle.record_trees.specs.Tree.{plain}
 use Rattle.row_model.specs.PlainTree.{PlainTree, leaf, object, trees_of_list}
 use Rattle.record_json.specs.ReadTree.{are_fields, is_field, made, read_field, read_fields, read_members, read_present}
 use Rattle.record_json.proofs.FieldsBack.{is_own, put_known}

@@ -13,7 +13,7 @@ use Rattle.schema_model.specs.declared.schema.name.Name.{Name}
 use Rattle.schema_model.specs.Parts.{field_names}
 use Rattle.row_model.specs.declared.row.Row.{Row}
 use Rattle.row_model.specs.declared.row.Value.{Value}
-use Rattle.row_model.specs.Dangling.{IsPlain}
+use Rattle.closed_rows.specs.Dangling.{IsPlain}
 use Rattle.row_model.specs.PlainTree.{PlainTree, leaf, list_of_trees, object, trees_of_list}
 use Rattle.row_model.specs.Row.{IsValueInRange, stored_value}
 use Rattle.json_values.specs.ReadValue.{read_value}

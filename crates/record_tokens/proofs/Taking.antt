@@ -14,10 +14,10 @@ use Rattle.schema_model.specs.declared.schema.Schema.{Schema}
 use Rattle.schema_model.specs.declared.schema.Shape.{Shape}
 use Rattle.schema_model.specs.Parts.{index_of_type}
 use Rattle.row_model.specs.declared.row.Value.{Value}
-use Rattle.row_model.specs.Dangling.{IsPlain}
+use Rattle.closed_rows.specs.Dangling.{IsPlain}
 use Rattle.row_model.specs.PlainTree.{PlainTree, leaf, list, set, trees_of_list}
-use Rattle.row_model.specs.Tree.{plain}
-use Rattle.row_model.specs.declared.tree.Tree.{Tree}
+use Rattle.record_trees.specs.Tree.{plain}
+use Rattle.record_trees.specs.declared.tree.Tree.{Tree}
 use Rattle.json_values.specs.ReadValue.{read_each, read_value}
 use Rattle.record_json.specs.ReadTree.{made, read_at, read_members, read_named, read_present, read_shape, read_typed, read_within}
 use Rattle.record_json.proofs.TreeParts.{opened}

@@ -4,7 +4,7 @@ use Rattle.json.specs.Token.{Token}
 use Rattle.serde_json.specs.Data.{Data}
 use Rattle.schema_model.specs.declared.schema.Schema.{Schema}
 use Rattle.row_model.specs.PlainTree.{PlainTree}
-use Rattle.row_model.specs.Tree.{plain}
+use Rattle.record_trees.specs.Tree.{plain}
 use Rattle.record_json.specs.ReadTree.{read_tree}
 use Rattle.record_stream.specs.Records.{AreAhead, record_depth}
 use Rattle.record_trees.specs.Rows.{IsRowOf}

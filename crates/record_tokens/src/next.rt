@@ -9,9 +9,11 @@ ghost use Rattle.record_tokens.specs.Next.{TakesRecord, TellsTree};
 use crate::row::values_ahead;
 use crate::tree::tree_behind;
 use crate::unread::Unread;
+use closed_rows::is_plain_type;
 use json::{Reader, Token};
 use record_stream::RECORD_DEPTH;
-use row_model::{Row, Tree, is_plain_type};
+use record_trees::Tree;
+use row_model::Row;
 use schema_model::{Model, Shape};
 use std::alloc::{AllocError, Global};
 

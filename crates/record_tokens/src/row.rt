@@ -5,7 +5,7 @@ ghost use Rattle.serde_json.specs.Data.{Data};
 ghost use Rattle.schema_model.specs.Parts.{field_names};
 ghost use Rattle.schema_model.specs.declared.reason.Reason.{Reason};
 ghost use Rattle.schema_model.specs.declared.schema.name.Name.{Name as SpecName};
-ghost use Rattle.row_model.specs.Dangling.{IsPlain};
+ghost use Rattle.closed_rows.specs.Dangling.{IsPlain};
 ghost use Rattle.row_model.specs.PlainTree.{PlainTree, object, trees_of_list};
 ghost use Rattle.row_model.specs.Row.{IsValueInRange, stored_value};
 ghost use Rattle.row_model.specs.declared.row.Value.{Value as RowValue};

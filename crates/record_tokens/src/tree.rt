@@ -2,8 +2,8 @@
 ghost use Rattle.std.specs.Prelude.{◌≡◌, ◌≤◌, ◌<◌, ◌∷◌, ◌++◌, ◌-◌, [], length, replicate, slice_get, IfOk, IfSome, IsSomeAnd, OnOk};
 ghost use Rattle.json.specs.Reads.{token_of};
 ghost use Rattle.row_model.specs.PlainTree.{object, trees_of_list};
-ghost use Rattle.row_model.specs.Tree.{plain, plain_trees, trees};
-ghost use Rattle.row_model.specs.declared.tree.Tree.{Tree as RowTree};
+ghost use Rattle.record_trees.specs.Tree.{plain, plain_trees, trees};
+ghost use Rattle.record_trees.specs.declared.tree.Tree.{Tree as RowTree};
 ghost use Rattle.schema_model.specs.Parts.{field_names};
 ghost use Rattle.record_json.specs.ReadTree.{read_members, read_named, read_present, read_within};
 ghost use Rattle.record_json.specs.NamesApart.{AreNamesApart};
@@ -12,7 +12,7 @@ ghost use Rattle.record_tokens.specs.Taken.{Takes, TakesItems, TakesMembers};
 use crate::leaf::leaf_tree;
 use crate::unread::Unread;
 use json::{Reader, Token};
-use row_model::{Tree, Trees};
+use record_trees::{Tree, Trees};
 use schema_model::{Field, FieldKind, Model, Name, Shape};
 use std::alloc::{AllocError, Global};
 

@@ -2,13 +2,13 @@
 use Rattle.std.proofs.Common.{◌≡◌, ◌↔◌, inl, inr, suc, List, [], ◌∷◌, length, map, Bool, IsTrue, refl, sym, ap, subst, ◌∙◌}
 use Rattle.std.specs.Prelude.{All, Any}
 use Rattle.row_model.specs.PlainTree.{PlainTree, PlainTrees, PlainPairs, object, list, set, map as map_tree, SameTree, SameTrees, EachAmong, IsAmongTrees, EachPairAmong, IsAmongPairs, trees_of_list, pairs_of_list, list_of_trees, list_of_pairs}
-use Rattle.row_model.specs.declared.tree.Tree
-use Rattle.row_model.specs.declared.tree.Tree.TheFolds.{fold-roll-Tree}
-use Rattle.row_model.specs.declared.tree.Trees.{fold-Trees, fold_out-Trees, Trees}
-use Rattle.row_model.specs.declared.tree.TreePairs.{fold-TreePairs, fold_out-TreePairs, TreePairs}
-use Rattle.row_model.specs.declared.tree.Tree.TheVariants.{rolls-Object, rolls-List, rolls-Set, rolls-Map}
-use Rattle.row_model.specs.declared.tree.Tree.{Tree}
-use Rattle.row_model.specs.Tree.{plain_layer, plain, plain_pair, trees, tree_pairs}
+use Rattle.record_trees.specs.declared.tree.Tree
+use Rattle.record_trees.specs.declared.tree.Tree.TheFolds.{fold-roll-Tree}
+use Rattle.record_trees.specs.declared.tree.Trees.{fold-Trees, fold_out-Trees, Trees}
+use Rattle.record_trees.specs.declared.tree.TreePairs.{fold-TreePairs, fold_out-TreePairs, TreePairs}
+use Rattle.record_trees.specs.declared.tree.Tree.TheVariants.{rolls-Object, rolls-List, rolls-Set, rolls-Map}
+use Rattle.record_trees.specs.declared.tree.Tree.{Tree}
+use Rattle.record_trees.specs.Tree.{plain_layer, plain, plain_pair, trees, tree_pairs}
 use Rattle.record_trees.proofs.Passing.{IsEach, IsSome}
 
 of_parts : (parts : Trees) → fold-Trees PlainTree PlainPairs PlainTrees plain_layer (λ ps. pairs_of_list ps.items.items) (λ ps. trees_of_list ps.items.items) parts ≡ trees_of_list (map plain (trees parts))

@@ -1,3 +1,4 @@
 pub mod FitsTree
 pub mod Rows
+pub mod Tree
 pub mod Types

@@ -1,10 +1,10 @@
 //! When two trees are the same record.
 ghost use Rattle.std.specs.Prelude.{◌↔◌, All, IsTrue, map};
 ghost use Rattle.row_model.specs.PlainTree.{SameTree, SameTrees, EachAmong, IsAmongTrees, EachPairAmong, IsAmongPairs, trees_of_list, pairs_of_list};
-ghost use Rattle.row_model.specs.Tree.{plain, plain_pair};
+ghost use Rattle.record_trees.specs.Tree.{plain, plain_pair};
 
+use crate::Tree;
 use crate::values::same_value;
-use row_model::Tree;
 
 /// Whether two trees are the same record: the least INT and LONG count as null, sets are compared without order and
 /// repeats, and maps without order. It takes no memory. Each element of a set, and each pair of a map, is compared with

@@ -2,10 +2,10 @@
 ghost use Rattle.std.specs.Prelude.{◌≡◌, ◌↔◌, IsTrue};
 ghost use Rattle.row_model.specs.PlainTree.{IsLeafAnd};
 ghost use Rattle.row_model.specs.Row.{stored_value};
-ghost use Rattle.row_model.specs.Tree.{plain};
+ghost use Rattle.record_trees.specs.Tree.{plain};
 ghost use Rattle.row_model.specs.declared.row.Value.{Value};
 
-use row_model::Tree;
+use crate::Tree;
 
 /// Whether both are values, and the same once the least INT and LONG count as null.
 pub(crate) fn same_value(tree: &Tree, other: &Tree) -> bool

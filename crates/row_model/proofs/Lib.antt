@@ -1,12 +1,3 @@
-pub mod Danglings
-pub mod RowEntries
 pub mod NamedTypes
-pub mod NamedValues
+pub mod RowEntries
 pub mod RowsFrom
-pub mod Steps
-pub mod ViewClosed
-pub mod ViewFits
-pub mod ViewOnce
-pub mod ViewPlaces
-pub mod ViewTwice
-pub mod Views

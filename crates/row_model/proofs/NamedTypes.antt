@@ -1,17 +1,13 @@
 -- What holds of the types that a shape names holds of those that its rows name.
-use Rattle.std.proofs.Common.{◌≡◌, ℕ, List, [], ◌∷◌, Option, Some, None, map, flat_map, refl, ap, ◌∙◌, sym, slice_index_or, ◌<◌, length}
-use Rattle.std.specs.Prelude.{All, Any, IfSome, IsSome, is_some, slice_get, zip}
+use Rattle.std.proofs.Common.{ℕ, List, [], ◌∷◌, Option, Some, None, flat_map}
+use Rattle.std.specs.Prelude.{All, IfSome, zip}
 use Rattle.std.specs.List.{cons_option}
 use Rattle.std.proofs.lemmas.List.Elements.{All-append, All-cons, All-head, All-map, All-nil, All-tail}
-use Rattle.schema_model.specs.Model.{IsModel}
-use Rattle.schema_model.specs.Parts.{index_of_type, named_types, referenced, referenced_names, shape_names}
-use Rattle.schema_model.specs.declared.model.rule.Rule.TheVariants.{UnknownType}
+use Rattle.schema_model.specs.Parts.{referenced, referenced_names, shape_names}
 use Rattle.schema_model.specs.declared.schema.name.Name.{Name}
 use Rattle.schema_model.specs.declared.schema.Field.{Field}
 use Rattle.schema_model.specs.declared.schema.FieldKind.{FieldKind}
-use Rattle.schema_model.specs.declared.schema.Schema.{Schema}
 use Rattle.schema_model.specs.declared.schema.Shape.{Shape}
-use Rattle.schema_model.proofs.Growths.{any_default}
 use Rattle.row_model.specs.declared.row.Row.{Row}
 use Rattle.row_model.specs.declared.row.Value.{Value}
 use Rattle.row_model.specs.Row.{references_of_row, references_of_value}
@@ -72,17 +68,3 @@ module _ (P : Name → Type 0) where
   row_named (Shape.List element) _ all = All-nil OfType
   row_named (Shape.Set element) _ all = All-nil OfType
   row_named (Shape.Map key value) _ all = All-nil OfType
-
-known_here : {X Y : Type 0} (find : X → Option Y) (x : X) (o : Option Y) → find x ≡ o → (o ≡ None → ⊥) → IsSome (find x)
-known_here find x None is some = absurd (some refl)
-known_here find x (Some y) is some = ap is_some is
-
-all_known : {X Y : Type 0} (find : X → Option Y) (xs : List X) → (Any (λ x. find x ≡ None) xs → ⊥) → All (λ x. IsSome (find x)) xs
-all_known find xs none k d below =
-    let x = slice_index_or xs k d in known_here find x (find x) refl (λ unknown. none (k, x, below, any_default xs k x d below, unknown))
-
--- a model has each type that its rows name
-pub types_known : (schemas : List Schema) (t : ℕ) (schema : Schema) (row : Row) → IsModel schemas → slice_get schemas t ≡ Some schema
-    → All (λ (named : Name × ℕ). IsSome (index_of_type schemas named.0)) (references_of_row schema.shape row)
-types_known schemas t schema row model at =
-    row_named (λ name. IsSome (index_of_type schemas name)) schema.shape row (all_known (index_of_type schemas) (named_types schema) (λ unknown. model UnknownType t (schema, at, unknown)))

@@ -1,10 +1,9 @@
 -- The rows of a type in two states: those of the old one, and those of the new one under ordinals that the old one lacks.
-use Rattle.std.specs.Prelude.{◌≡◌, ◌<◌, ◌≤◌, ◌-◌, ◌^◌, ℕ, List, [], ◌∷◌, ◌++◌, map, filter, not, is_some, nat_le, if◌then◌else◌, Option, Some, None, slice_get, unwrap_or}
+use Rattle.std.specs.Prelude.{ℕ, List, ◌++◌, map, filter, not, is_some, nat_le, slice_get, unwrap_or}
 use Rattle.std.specs.Ordering.{nat_cmp}
 use Rattle.std.specs.FinMap.{entries, empty, retain_keys}
 use Rattle.row_model.specs.declared.row.Row.{Row}
-use Rattle.row_model.specs.Table.{RowMap, Table, IsLive, row_at}
-use Rattle.row_model.specs.declared.row_walk.RowWalk.{RowWalk}
+use Rattle.row_model.specs.Table.{RowMap, Table, row_at}
 
 -- The rows of a type, none where the table has no such type.
 abbrev pub rows_in : Table → ℕ → RowMap
@@ -21,20 +20,3 @@ rows_from ordinal rows = map (λ entry. entry.1) (filter (λ entry. nat_le ordin
 -- The rows of both states: those of the old one, and those that the new one adds. A row that both have counts once.
 abbrev pub rows_of_both : Table → Table → ℕ → List Row
 rows_of_both old new type_index = rows_from 0 (rows_in old type_index) ++ rows_from 0 (rows_added old new type_index)
-
--- The rows that a walk has before it.
-abbrev pub rows_left : Table → Table → ℕ → RowWalk → List Row
-rows_left old new type_index walk =
-    (if walk.in_new then rows_from walk.ordinal (rows_added old new type_index)
-    else rows_from walk.ordinal (rows_in old type_index) ++ rows_from 0 (rows_added old new type_index))
-
--- A step of a walk takes the first of the rows before it, and none where there is none.
-abbrev pub Takes : List Row → Option Row → List Row → Type 0
-Takes before None after = before ≡ []
-Takes before (Some row) after = before ≡ row ∷ after
-
--- What each answer of a look-up of the next live ordinal tells: the rows from the first ordinal on are those from the found one on, and it is live.
-abbrev pub TellsLive : Table → ℕ → ℕ → Option ℕ → Type 0
-TellsLive table type_index from None = (ordinal : ℕ) → from ≤ ordinal → row_at table type_index ordinal ≡ None
-TellsLive table type_index from (Some next) =
-    IsLive table type_index next × (from ≤ next) × (next < 2 ^ 32 - 1) × ((ordinal : ℕ) → from ≤ ordinal → ordinal < next → row_at table type_index ordinal ≡ None)

@@ -1,14 +1,11 @@
 pub mod Areas
-pub mod Dangling
+pub mod Before
+pub mod BothStates
 pub mod Key
 pub mod Lent
 pub mod PlainTree
 pub mod Reach
 pub mod Row
-pub mod Seen
 pub mod Table
-pub mod Tree
 pub mod Unfold
 pub mod View
-pub mod BothStates
-pub mod Before

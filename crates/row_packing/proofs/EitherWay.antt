@@ -17,7 +17,7 @@ use Rattle.row_model.specs.BothStates.{rows_in, rows_added, rows_from, rows_of_b
 use Rattle.row_model.proofs.RowsFrom.{get_in, added_some, added_none, added_live}
 use Rattle.object_codec.specs.Stored.{values_of_row, value_at, column}
 use Rattle.object_codec.specs.Widths.{value_bits, most_bits, byte_count, width_for, records_of}
-use Rattle.object_codec.proofs.Spreads.{widths_from}
+use Rattle.row_widths.proofs.RecordSpreads.{widths_from}
 use Rattle.type_rows.specs.WordsHeld.{part_bytes}
 use Rattle.list_codec.specs.Widths.{elements_of_row, greatest, widths_for as list_widths}
 use Rattle.bucket_codec.specs.Packed.{pairs_of}

@@ -21,7 +21,7 @@ use Rattle.object_codec.specs.ObjectPlace.{IsKindWidth, IsFieldWidth}
 use Rattle.object_codec.specs.Packing.{CanPack, HasBytes, HoldsValue, IsWidthFor, values_of_place}
 use Rattle.object_codec.specs.Stored.{values_of_row, value_at, column, element_number, stored_number}
 use Rattle.object_codec.specs.Widths.{value_bits, most_bits, byte_count, width_for, widths_for, records_of}
-use Rattle.object_codec.proofs.Spreads.{widths_from}
+use Rattle.row_widths.proofs.RecordSpreads.{widths_from}
 use Rattle.type_rows.specs.WordsHeld.{part_bytes, field_bytes, bytes_held}
 use Rattle.row_packing.specs.Chosen.{IsRowOf}
 use Rattle.row_packing.specs.Places.{places_under, Agree}

@@ -9,7 +9,7 @@ use Rattle.row_model.specs.declared.row.Value.{Value}
 use Rattle.object_codec.specs.Packing.{values_of_place}
 use Rattle.object_codec.specs.Stored.{values_of_row, value_at, column, values_bytes, value_bytes as bytes_of_value}
 use Rattle.object_codec.specs.Widths.{byte_count, records_of, rows_bytes}
-use Rattle.object_codec.proofs.Spreads.{byte_count-append}
+use Rattle.object_codec.proofs.ByteCounts.{byte_count-append}
 use Rattle.type_rows.specs.WordsHeld.{value_bytes, row_bytes, part_bytes, field_bytes, bytes_held}
 use Rattle.row_packing.proofs.Greatest.{sum_same}
 use Rattle.row_packing.proofs.RowsUnder.{at_place}

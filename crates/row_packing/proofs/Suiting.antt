@@ -16,7 +16,7 @@ use Rattle.row_model.specs.declared.row.Row.{Row}
 use Rattle.schema_model.specs.declared.schema.Field.{Field}
 use Rattle.schema_model.specs.declared.schema.Schema.{Schema}
 use Rattle.schema_model.specs.declared.schema.Shape.{Shape}
-use Rattle.schema_model.proofs.RuleTests.{few_fields}
+use Rattle.schema_model.proofs.BrokenRules.{few_fields}
 use Rattle.row_model.specs.BothStates.{rows_in, rows_from, rows_of_both}
 use Rattle.row_model.proofs.RowsFrom.{get_in}
 use Rattle.object_codec.specs.Widths.{fields_at, rows_bytes, widths_for as object_widths}

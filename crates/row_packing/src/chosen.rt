@@ -4,6 +4,7 @@ ghost use Rattle.row_model.specs.BothStates.{rows_of_both};
 ghost use Rattle.row_packing.specs.Chosen.{shape_at, chosen_widths, chosen_total, IsGreatestOrdinal, KeepsCounts, IsChosen};
 
 use row_model::{Rows, Widths};
+use row_widths::{buckets, lists, records};
 use schema_model::Shape;
 use std::alloc::{AllocError, Global};
 
@@ -62,9 +63,9 @@ fn widths<A: Rows, B: Rows>(
     ensures { IfOk result (λ widths. widths ≡ chosen_widths (shape_at (B.schemas new.now) type_index) (rows_of_both (A.table old.now) (B.table new.now) type_index)) }
 {
     match &new.model().schema(type_index).shape {
-        Shape::Object(_, _) => object_codec::widths(alloc, old, new, type_index),
-        Shape::List(_) => list_codec::widths(alloc, old, new, type_index),
-        _ => bucket_codec::widths(alloc, old, new, type_index),
+        Shape::Object(_, _) => records::widths(alloc, old, new, type_index),
+        Shape::List(_) => lists::widths(alloc, old, new, type_index),
+        _ => buckets::widths(alloc, old, new, type_index),
     }
 }
 
@@ -80,7 +81,7 @@ pub(crate) fn total<A: Rows, B: Rows>(
 {
     match &new.model().schema(type_index).shape {
         Shape::Object(_, _) => Ok(0),
-        Shape::List(_) => list_codec::total(alloc, old, new, type_index),
-        _ => bucket_codec::total(alloc, old, new, type_index),
+        Shape::List(_) => lists::total(alloc, old, new, type_index),
+        _ => buckets::total(alloc, old, new, type_index),
     }
 }

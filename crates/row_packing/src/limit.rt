@@ -11,6 +11,7 @@ ghost use Rattle.row_packing.specs.TypeLimit.{TellsLimit};
 use crate::chosen::{Chosen, choose, total};
 use bit_array::words_for;
 use row_model::Rows;
+use row_widths::records;
 use schema_model::{Limit, MAX_BYTES, MAX_ITEMS, MAX_WORDS, Shape};
 use std::alloc::{AllocError, Global};
 use type_rows::words_needed;
@@ -35,8 +36,8 @@ pub fn type_limit<A: Rows, B: Rows>(
     if total(alloc, old, new, type_index)? > MAX_ITEMS {
         return Ok(Some(Limit::Items));
     }
-    let old_bytes = object_codec::bytes(alloc, old, type_index)?;
-    let new_bytes = object_codec::bytes(alloc, new, type_index)?;
+    let old_bytes = records::bytes(alloc, old, type_index)?;
+    let new_bytes = records::bytes(alloc, new, type_index)?;
     if old_bytes.max(new_bytes) > MAX_BYTES {
         return Ok(Some(Limit::Bytes));
     }

@@ -12,7 +12,7 @@ use Rattle.schema_model.specs.declared.model.rule.Rule.TheVariants.{TooMany, Dup
 use Rattle.schema_model.specs.declared.schema.Schema.{Schema}
 use Rattle.schema_model.specs.declared.schema.Shape.TheVariants.{Set}
 use Rattle.schema_model.proofs.Indexing.{name_found, name_missing, contained, not_contained}
-use Rattle.schema_model.proofs.RuleTests.{few_types}
+use Rattle.schema_model.proofs.BrokenRules.{few_types}
 
 -- a model has at most 512 types
 pub few_schemas : (schemas : List Schema) → IsKept schemas TooMany → length schemas ≤ 512

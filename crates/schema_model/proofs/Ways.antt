@@ -24,9 +24,9 @@ use Rattle.schema_model.specs.declared.schema.Shape.{Shape}
 use Rattle.schema_model.specs.declared.schema.Shape.TheVariants.{Object, Set, List as ListShape, Map}
 use Rattle.schema_model.specs.declared.model.faults.PathFault.{PathFault}
 use Rattle.schema_model.specs.declared.model.faults.PathFault.TheVariants.{BadPath, Memory}
-use Rattle.schema_model.specs.Checked.{TellsField, TellsFields, TellsWay}
+use Rattle.schema_model.specs.Ways.{TellsField, TellsFields, TellsWay}
 use Rattle.schema_model.proofs.Indexing.{item_name, name_found}
-use Rattle.schema_model.proofs.RuleTests.{same_schema}
+use Rattle.schema_model.proofs.BrokenRules.{same_schema}
 
 filtered_at : {X Y : Type 0} (h : X → Option Y) (xs : List X) (i : ℕ) (x : X) (y : Y) → slice_get xs i ≡ Some x → h x ≡ Some y → (k : ℕ) × (slice_get (filter_map h xs) k ≡ Some y)
 filtered_at h [] i x y at e = absurd cc

@@ -1,11 +1,12 @@
-pub mod Checked
 pub mod Faults
 pub mod Growth
 pub mod Limit
 pub mod Model
+pub mod NameIndex
 pub mod Parts
 pub mod Path
 pub mod Reason
 pub mod Rule
 pub mod Schema
 pub mod WalkPath
+pub mod Ways

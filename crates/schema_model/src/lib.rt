@@ -1,7 +1,6 @@
-//! Schemas, models and paths, and the limits: the vocabulary of the layers above, and what it means.
+//! Names, schemas and models, paths, the limits and the reasons: the vocabulary of the layers above, and what it means.
 #![tactic(auto)]
 
-pub mod laws;
 mod limit;
 mod lists;
 mod model;
@@ -13,15 +12,12 @@ pub use limit::{
     MAX_NAME_BYTES, MAX_NODES, MAX_ORDINALS, MAX_TYPES, MAX_WALKS, MAX_WORDS,
 };
 pub use lists::{Fields, NamePairs, Names, Paths, Schemas, WalkParts};
+pub use model::Model;
 pub use model::faults::{ModelFault, PathFault};
-pub use model::growth::grows;
+pub use model::name_index::{NameIndex, find_name};
 pub use model::path::Path;
 pub use model::rule::Rule;
 pub use model::walk_path::{WalkPart, WalkPath};
-pub use model::{Model, first_too_deep, model_of, resolve, resolve_walk, resolves_to};
 pub use reason::Reason;
-pub use schema::agree::agree;
 pub use schema::name::Name;
-pub use schema::put::put_schema;
-pub use schema::same::same_schema;
 pub use schema::{Field, FieldKind, Schema, Shape};

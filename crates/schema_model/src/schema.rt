@@ -1,8 +1,5 @@
 //! Schemas: the types of a model and their fields.
-pub(crate) mod agree;
 pub(crate) mod name;
-pub(crate) mod put;
-pub(crate) mod same;
 
 use crate::{Fields, Name, Names};
 use hol_varint::Duplicate;

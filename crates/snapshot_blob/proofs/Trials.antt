@@ -8,8 +8,8 @@ use Rattle.schema_model.specs.declared.reason.Reason.TheVariants.{Dangling as da
 use Rattle.schema_model.specs.declared.schema.name.Name.{Name}
 use Rattle.schema_model.specs.declared.schema.Schema.{Schema}
 use Rattle.schema_model.specs.Model.{IsModel}
-use Rattle.row_model.specs.declared.dangling.Dangling.{Dangling}
-use Rattle.row_model.specs.Dangling.{TellsDangling}
+use Rattle.closed_rows.specs.declared.dangling.Dangling.{Dangling}
+use Rattle.closed_rows.specs.Dangling.{TellsDangling}
 use Rattle.row_model.specs.Table.{RowMap, Table, IsClosed}
 use Rattle.type_rows.specs.declared.fault.RowFault.{RowFault}
 use Rattle.type_rows.specs.declared.section.Section.{Section}

@@ -12,7 +12,7 @@ use Rattle.schema_model.specs.declared.schema.Schema.{Schema}
 use Rattle.schema_model.specs.declared.schema.Shape.{Shape}
 use Rattle.row_model.specs.declared.row.Row.{Row}
 use Rattle.row_model.specs.declared.row.Value.{Value}
-use Rattle.row_model.specs.Dangling.{IsClosedAt, TellsType}
+use Rattle.closed_rows.specs.Dangling.{IsClosedAt, TellsType}
 use Rattle.schema_model.specs.Parts.{index_of_type, referenced, referenced_names, shape_names}
 use Rattle.row_model.proofs.NamedTypes.{EachReferred, fields_named, named_fields, row_named}
 use Rattle.row_model.specs.Row.{references_of_row}

@@ -7,8 +7,8 @@ use Rattle.std.proofs.lemmas.List.{take_more}
 use Rattle.std.proofs.lemmas.Option.{get_or_from_slice_get, slice_get_within, slice_get-get_or}
 use Rattle.schema_model.specs.declared.reason.Reason.TheVariants.{Dangling as dangles}
 use Rattle.schema_model.specs.declared.schema.Schema.{Schema}
-use Rattle.row_model.specs.declared.dangling.Dangling.{Dangling}
-use Rattle.row_model.specs.Dangling.{TellsDangling}
+use Rattle.closed_rows.specs.declared.dangling.Dangling.{Dangling}
+use Rattle.closed_rows.specs.Dangling.{TellsDangling}
 use Rattle.row_model.specs.Table.{IsClosed, RowMap, Table}
 use Rattle.type_rows.specs.declared.fault.RowFault.{RowFault}
 use Rattle.type_rows.specs.declared.patch.PatchSection.{PatchSection}

@@ -3,7 +3,7 @@ use Rattle.std.specs.Prelude.{◌≡◌, ℕ, List, [], All, IfSome, slice_get}
 use Rattle.schema_model.specs.declared.schema.name.Name.{Name}
 use Rattle.schema_model.specs.declared.schema.Schema.{Schema}
 use Rattle.schema_model.specs.declared.schema.Shape.{Shape}
-use Rattle.row_model.specs.Dangling.{IsClosedAt}
+use Rattle.closed_rows.specs.Dangling.{IsClosedAt}
 use Rattle.schema_model.specs.Parts.{index_of_type, shape_names}
 use Rattle.row_model.specs.Table.{Table}
 use Rattle.row_model.specs.Before.{PastPart}

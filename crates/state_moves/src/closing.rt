@@ -2,7 +2,7 @@
 //! names; and each row that came is tried.
 ghost use Rattle.std.specs.Prelude.{◌≡◌, ◌↔◌, ◌<◌, ◌⊎◌, All, IfOk, IfSome, IsSomeAnd, IsTrue, MatchResult, length, slice_get};
 ghost use Rattle.std.specs.List.{AllZip};
-ghost use Rattle.row_model.specs.Dangling.{IsClosedAt};
+ghost use Rattle.closed_rows.specs.Dangling.{IsClosedAt};
 ghost use Rattle.schema_model.specs.Parts.{referenced};
 ghost use Rattle.row_model.specs.Table.{IsClosed};
 ghost use Rattle.blob_faults.specs.Blame.{BlamesRow};
@@ -16,9 +16,10 @@ use crate::coming::Coming;
 use crate::past::{PastPart, part_at};
 use blob_faults::blame_rows;
 use blob_frame::BlobFault;
+use closed_rows::{Dangling, is_closed_at};
 use column_rows::{are_closed_at, dangling_in, first_dangling};
 use delta_blob::PatchPart;
-use row_model::{Dangling, Rows, is_closed_at};
+use row_model::Rows;
 use schema_model::{Field, FieldKind, Model, Name, Reason, Shape};
 use std::alloc::{AllocError, Global};
 use type_rows::RowFault;

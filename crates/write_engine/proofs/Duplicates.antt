@@ -27,7 +27,7 @@ module _ (table : Table) where
       one t a b row here there (inr (inl below)) = absurd (distinct t a b (row, below, here, there))
       one t a b row here there (inr (inr above)) = absurd (distinct t b a (row, above, there, here))
 
-  once_distinct : HoldsOnce table → (t first second : ℕ) → ¬ AreEqualRows table t first second
+  pub once_distinct : HoldsOnce table → (t first second : ℕ) → ¬ AreEqualRows table t first second
   once_distinct once t first second equal =
       let same = once.once t first second equal.0 (get_in table t first ∙ equal.2) (get_in table t second ∙ equal.3) in
       omega (arith, same, equal.1)

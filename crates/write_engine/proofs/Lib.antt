@@ -4,6 +4,9 @@ pub mod Dropping
 pub mod Duplicates
 pub mod Filling
 pub mod Gathering
+pub mod GrownRows
+pub mod GrownStates
+pub mod GrownTypes
 pub mod Members
 pub mod NextStates
 pub mod NoRoom

@@ -19,7 +19,7 @@ use Rattle.write_engine.specs.RestoredRows.{HasRowsBelow, HasRowsOf, HasTypesBel
 use Rattle.write_engine.specs.declared.restoring.RestoreFault.{RestoreFault}
 use Rattle.write_engine.specs.declared.restoring.RestoreFault.TheVariants.{Duplicate, Memory}
 
-not_live : (row : Option Row) → (IsSome row → ⊥) → row ≡ None
+pub not_live : (row : Option Row) → (IsSome row → ⊥) → row ≡ None
 not_live None dead = refl
 not_live (Some row) dead = absurd (dead refl)
 

@@ -1,6 +1,7 @@
 pub mod Agreement
 pub mod Cycle
 pub mod CycleLimit
+pub mod Grown
 pub mod Leaf
 pub mod Production
 pub mod RestoredRows

@@ -2,7 +2,7 @@
 ghost use Rattle.std.specs.Prelude.{◌≡◌, ◌<◌, ℕ, List, length, map, Err, IfOk, Some, IsSome};
 ghost use Rattle.schema_model.specs.Parts.{index_of_type};
 ghost use Rattle.row_model.specs.PlainTree.{trees_of_list, pairs_of_list};
-ghost use Rattle.row_model.specs.Tree.{plain, plain_pair};
+ghost use Rattle.record_trees.specs.Tree.{plain, plain_pair};
 ghost use Rattle.row_model.specs.declared.row.Value.{Value as RowValue};
 ghost use Rattle.row_model.specs.Table.{Table};
 ghost use Rattle.write_engine.specs.Agreement.{TablesAgree};
@@ -16,7 +16,8 @@ use crate::gather::{map_of, set_of};
 use crate::leaf::leaf_value;
 use hol_varint::Ordinals;
 use ordinal_map::{OrdinalMap, PutRowFault};
-use row_model::{Pairs, Row, Tree, Value, Values};
+use record_trees::Tree;
+use row_model::{Pairs, Row, Value, Values};
 use schema_model::{Field, FieldKind, Model, Name, Shape};
 use std::alloc::Global;
 

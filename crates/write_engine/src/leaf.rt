@@ -1,11 +1,12 @@
 //! The values of a record's fields.
 ghost use Rattle.std.specs.Prelude.{◌≡◌, ◌<◌, ◌^◌, All, IfOk};
 ghost use Rattle.row_model.specs.Row.{IsValueInRange, stored_value};
-ghost use Rattle.row_model.specs.Tree.{plain};
+ghost use Rattle.record_trees.specs.Tree.{plain};
 ghost use Rattle.write_engine.specs.Leaf.{TellsLeaf};
 
 use hol_varint::{Duplicate, Units};
-use row_model::{Tree, Value};
+use record_trees::Tree;
+use row_model::Value;
 use std::alloc::{AllocError, Global};
 
 /// The value that a tree is, as a blob holds it: the least INT and LONG are null. `None` where the tree is a row.

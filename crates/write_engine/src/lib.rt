@@ -3,6 +3,7 @@
 
 mod adding;
 mod gather;
+mod growing;
 pub mod laws;
 mod leaf;
 mod limits;

@@ -1,13 +1,15 @@
 //! A producer: the previous state, and the cycle that makes the next one.
 ghost use Rattle.std.specs.Prelude.{◌≡◌, ◌↔◌, ◌<◌, ◌^◌, ℕ, Ok, Err, IfOk, IsTrue, OnErr, OnOk, true, false, length};
 ghost use Rattle.hol_varint.specs.Yields.{Yields};
+ghost use Rattle.schema_model.specs.Growth.{Grows};
 ghost use Rattle.row_model.specs.Table.{Table, IsClosed, IsLive};
 ghost use Rattle.row_model.specs.PlainTree.{PlainTree};
-ghost use Rattle.row_model.specs.Tree.{plain};
+ghost use Rattle.record_trees.specs.Tree.{plain};
 ghost use Rattle.ordinal_map.specs.Assign.{IsFreePut, IsPut};
 ghost use Rattle.write_engine.specs.Agreement.{HoldsOnce, TablesAgree};
 ghost use Rattle.write_engine.specs.Cycle.{Adds, PutsRow, no_rows, rows_in, with_row};
 ghost use Rattle.write_engine.specs.CycleLimit.{TellsCycle};
+ghost use Rattle.write_engine.specs.Grown.{grown_to};
 ghost use Rattle.record_trees.specs.FitsTree.{FitsTree};
 ghost use Rattle.record_trees.specs.Rows.{IsRowOf};
 ghost use Rattle.write_engine.specs.Production.{AreChanged, IsProducing, IsStart, advanced_to, current_of, previous_of, without_rows};
@@ -17,13 +19,16 @@ ghost use Rattle.write_engine.specs.RowPuts.{FitsRow, TellsRowPut};
 ghost use Rattle.write_engine.specs.Soundness.{IsClosedTableOf};
 
 use crate::adding::{add_tree, put_row};
+use crate::growing::grow_maps;
 use crate::limits::cycle_limit;
 use crate::restoring::{RestoreFault, restore_states};
 use crate::states::{advance_all, changed_types, drop_row, keep_all, make_states, undo_all};
 use crate::views::{Current, Previous};
 use hol_varint::Ordinals;
+use model_rules::copy_model;
 use ordinal_map::{OrdinalMap, PutRowFault};
-use row_model::{Row, Rows, Tree};
+use record_trees::Tree;
+use row_model::{Row, Rows};
 use schema_model::{Limit, Model};
 use std::alloc::{AllocError, Global};
 
@@ -190,7 +195,7 @@ impl Producer {
         ensures duplicate { (type_index first second : ℕ) → Yields IsFreeRestore result (Err (RestoreFault.Duplicate type_index first second)) (IsFirstDuplicate (R.table rows.now) type_index first second) }
     {
         let maps = restore_states(alloc, rows)?;
-        let model = rows.model().copy(alloc)?;
+        let model = copy_model(alloc, rows.model())?;
         Ok(Producer {
             alloc,
             model,
@@ -307,6 +312,23 @@ impl Producer {
         ensures { self.new ≡ record self.old { current = without_row self.old.current type_index ordinal } }
     {
         drop_unnamed(&self.model, &mut self.maps, type_index, ordinal);
+    }
+
+    /// Gives the producer a model that grows its own, where no cycle is open. Its previous rows are then those that are seen through that model: each
+    /// type has the rows that it had, with null in the fields that are new, under the same ordinals, and a new type has none. The tag and the version
+    /// stay, and so the next cycle is the first one that is of the new model.
+    ///
+    /// Types that stay keep their rows where they are; of a type that has more fields each row is copied once. After a refusal the producer is as it was.
+    pub fn grow(&mut self, model: Model) -> Result<(), AllocError>
+        requires grows { Grows self.old.schemas model }
+        requires none { self.old.current ≡ no_rows (length self.old.schemas) }
+        requires open { self.old.closed ≡ false }
+        ensures grown { OnOk result (self.new ≡ grown_to model self.old) }
+        ensures refused { OnErr result (self.new ≡ self.old) }
+    {
+        grow_maps(self.alloc, &self.model, &mut self.maps, &model)?;
+        self.model = model;
+        Ok(())
     }
 
     /// Closes the cycle, tells which types it has changed, and finds the limit that it passes. After a refusal the cycle is open, with its rows.

@@ -14,8 +14,8 @@ use Rattle.std.proofs.lemmas.List.{length-map}
 use Rattle.std.proofs.lemmas.List.FromFn.{length-enumerate_from}
 use Rattle.schema_model.specs.Schema.{EachName, IsSpellable}
 use Rattle.row_model.specs.Table.{Table}
-use Rattle.schema_model.proofs.RuleTests.{few_fields, few_types}
-use Rattle.schema_model.proofs.Spellable.{model_is_spellable}
+use Rattle.schema_model.proofs.BrokenRules.{few_fields, few_types}
+use Rattle.schema_bytes.proofs.Spellable.{model_is_spellable}
 use Rattle.row_model.specs.BothStates.{rows_in, rows_of_both}
 use Rattle.object_codec.specs.Widths.{live_rows}
 use Rattle.type_rows.specs.Holds.{KeepsLimits}

@@ -2,8 +2,8 @@ use Rattle.std.proofs.Common.{◌≡◌, ◌∙◌, ◌<◌, ◌+◌, ◌^◌, �
 use Rattle.std.specs.List.{All}
 use Rattle.std.proofs.lemmas.List.{take_all, take_more}
 use Rattle.std.proofs.lemmas.List.Elements.{All-push}
-use Rattle.schema_model.proofs.Fronts.{kept_append, kept_on}
-use Rattle.schema_model.proofs.Images.{piece_pushed}
+use Rattle.schema_bytes.proofs.Fronts.{kept_append, kept_on}
+use Rattle.schema_bytes.proofs.Pieces.{piece_pushed}
 use Rattle.blob_writing.specs.Written.{area_bytes}
 use Rattle.blob_writing.proofs.items.push_areas.Goals as goal
 

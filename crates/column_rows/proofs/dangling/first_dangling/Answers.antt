@@ -1,6 +1,6 @@
 use Rattle.std.proofs.Common.{arith, subst, ap, ◌∙◌, length}
-use Rattle.row_model.specs.Dangling.{TellsType}
-use Rattle.row_model.proofs.Danglings.{types_done, types_more}
+use Rattle.closed_rows.specs.Dangling.{TellsType}
+use Rattle.closed_rows.proofs.Danglings.{types_done, types_more}
 use Rattle.column_rows.proofs.dangling.first_dangling.Goals as goal
 
 pub loop-type_index-init : goal.loop-type_index-init

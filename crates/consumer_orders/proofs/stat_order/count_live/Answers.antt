@@ -1,4 +1,4 @@
-use Rattle.std.proofs.Common.{◌≡◌, ◌+◌, ℕ, sym, subst, arith}
+use Rattle.std.proofs.Common.{◌≡◌, ◌+◌, sym, subst, arith}
 use Rattle.row_model.specs.Table.{IsBound}
 use Rattle.consumer_orders.proofs.Counting.{CountsBelow, all_counted, none_more, none_counted, one_counted}
 use Rattle.consumer_orders.proofs.stat_order.count_live.Goals.{then-is_live, else-is_live}

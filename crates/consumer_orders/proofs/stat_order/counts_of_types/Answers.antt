@@ -1,4 +1,4 @@
-use Rattle.std.proofs.Common.{◌≡◌, ◌<◌, ℕ, List, length, ap, sym, ◌∙◌, arith, rules}
+use Rattle.std.proofs.Common.{◌≡◌, List, length, ap, ◌∙◌, arith, rules}
 use Rattle.schema_model.specs.declared.schema.Schema.{Schema}
 use Rattle.consumer_orders.proofs.Counting.{none_yet, type_in, types_all, types_more}
 use Rattle.consumer_orders.proofs.stat_order.counts_of_types.Goals as goal

@@ -1,10 +1,9 @@
 use Rattle.std.proofs.Common.{refl, subst, sym}
-use Rattle.hol_orders.specs.declared.order.Order.TheVariants as order
 use Rattle.hol_orders.specs.Order.{IsOrder}
 use Rattle.hollow_machine.specs.Kept.{reader_of}
 use Rattle.hollow_machine.specs.Puts.{MayPut, OrderPuts}
-use Rattle.hollow_script.proofs.Looking.{is_look}
-use Rattle.hollow_script.proofs.Ordering.{checks, cycle_halts, cycle_moves, looks, model_moves, reader_moves, restore_moves, same_published, stays_halts, still_published}
+use Rattle.hollow_script.proofs.Looking.{of_reader}
+use Rattle.hollow_script.proofs.Ordering.{checks, cycle_halts, cycle_moves, model_moves, reader_moves, restore_moves, same_published, stays_halts, still_published}
 use Rattle.hollow_script.specs.Kept.{kept_of}
 use Rattle.hollow_script.proofs.order.answer.Goals as goal
 
@@ -23,22 +22,6 @@ returns-in-Cycle-clause-step g c =
     cycle_moves (g.S.BlobStore.seen c.args.store.now).held (kept_of c.args.keep.now) c.cycle.new.producer c.args.order.now c.cycle.result
     (g.S.BlobStore.seen c.cycle.new.store).held c.in-Cycle.next c.in-Cycle.is c.cycle.ensures.step
 
-pub returns-in-Load-clause-step : goal.returns-in-Load-clause-step
-returns-in-Load-clause-step g c =
-    reader_moves (g.S.BlobStore.seen c.args.store.now).held (g.S.BlobStore.seen c.load.new.store).held (kept_of c.args.keep.now) (reader_of c.load.new.consumer c.load.new.version) c.args.order.now
-    (order.Load c.in-Load.version) c.load.result c.in-Load.is c.load.ensures.held c.load.ensures.step
-
-pub returns-in-Step-clause-step : goal.returns-in-Step-clause-step
-returns-in-Step-clause-step g c =
-    reader_moves (g.S.BlobStore.seen c.args.store.now).held (g.S.BlobStore.seen c.step.new.store).held (kept_of c.args.keep.now) (reader_of c.step.new.consumer c.step.new.version) c.args.order.now
-    (order.Step c.in-Step.from c.in-Step.to) c.step.result c.in-Step.is c.step.ensures.held c.step.ensures.step
-
-pub returns-in-Index-clause-step : goal.returns-in-Index-clause-step
-returns-in-Index-clause-step g c =
-    let held = (g.S.BlobStore.seen c.args.store.now).held in
-    reader_moves held held (kept_of c.args.keep.now) (reader_of c.index.new.consumer c.args.keep.now.version) c.args.order.now (order.Index c.in-Index.type_name c.in-Index.paths) c.index.result c.in-Index.is refl
-    (c.index.ensures.step held c.args.keep.now.version)
-
 pub restore-requires-clause-order : goal.restore-requires-clause-order
 restore-requires-clause-order g c = subst IsOrder c.in-Restore.is c.requires.order
 
@@ -55,14 +38,14 @@ returns-in-Check-clause-step g c =
     checks (g.S.BlobStore.seen c.args.store.now).held (g.S.BlobStore.seen c.check.new.store).held (kept_of c.args.keep.now) c.args.order.now c.in-Check.versions c.check.result
     c.in-Check.is c.check.ensures.held c.check.ensures.reply
 
-pub look-requires : goal.look-requires
-look-requires g c =
-    is_look c.args.order.now c.in_default.not-Model c.in_default.not-Cycle c.in_default.not-Restore c.in_default.not-Load c.in_default.not-Step c.in_default.not-Index
-    c.in_default.not-Check
+pub answer_reader-requires-clause-reader : goal.answer_reader-requires-clause-reader
+answer_reader-requires-clause-reader g c =
+    of_reader c.args.order.now c.in_default.not-Model c.in_default.not-Cycle c.in_default.not-Restore c.in_default.not-Check
 
 pub returns-in_default-clause-step : goal.returns-in_default-clause-step
 returns-in_default-clause-step g c =
-    looks (g.S.BlobStore.seen c.args.store.now).held (kept_of c.args.keep.now) c.args.order.now c.look.result c.look.ensures.reply
+    reader_moves (g.S.BlobStore.seen c.args.store.now).held (g.S.BlobStore.seen c.answer_reader.new.store).held (kept_of c.args.keep.now)
+    (reader_of c.answer_reader.new.consumer c.answer_reader.new.version c.answer_reader.new.history) c.args.order.now c.answer_reader.result c.answer_reader.ensures.held c.answer_reader.ensures.step
 
 -- ---- where it stops
 
@@ -76,21 +59,6 @@ returns-in-Restore-clause-halts g c =
     let held = (g.S.BlobStore.seen c.args.store.now).held in
     stays_halts (OrderPuts c.args.order.now) held (g.S.BlobStore.seen c.restore.new.store).held (kept_of c.args.keep.now) c.restore.result c.restore.ensures.held
 
-pub returns-in-Load-clause-halts : goal.returns-in-Load-clause-halts
-returns-in-Load-clause-halts g c =
-    let held = (g.S.BlobStore.seen c.args.store.now).held in
-    stays_halts (OrderPuts c.args.order.now) held (g.S.BlobStore.seen c.load.new.store).held (kept_of c.args.keep.now) c.load.result c.load.ensures.held
-
-pub returns-in-Step-clause-halts : goal.returns-in-Step-clause-halts
-returns-in-Step-clause-halts g c =
-    let held = (g.S.BlobStore.seen c.args.store.now).held in
-    stays_halts (OrderPuts c.args.order.now) held (g.S.BlobStore.seen c.step.new.store).held (kept_of c.args.keep.now) c.step.result c.step.ensures.held
-
-pub returns-in-Index-clause-halts : goal.returns-in-Index-clause-halts
-returns-in-Index-clause-halts g c =
-    let held = (g.S.BlobStore.seen c.args.store.now).held in
-    stays_halts (OrderPuts c.args.order.now) held held (kept_of c.args.keep.now) c.index.result refl
-
 pub returns-in-Check-clause-halts : goal.returns-in-Check-clause-halts
 returns-in-Check-clause-halts g c =
     let held = (g.S.BlobStore.seen c.args.store.now).held in
@@ -99,7 +67,7 @@ returns-in-Check-clause-halts g c =
 pub returns-in_default-clause-halts : goal.returns-in_default-clause-halts
 returns-in_default-clause-halts g c =
     let held = (g.S.BlobStore.seen c.args.store.now).held in
-    stays_halts (OrderPuts c.args.order.now) held held (kept_of c.args.keep.now) c.look.result refl
+    stays_halts (OrderPuts c.args.order.now) held (g.S.BlobStore.seen c.answer_reader.new.store).held (kept_of c.args.keep.now) c.answer_reader.result c.answer_reader.ensures.held
 
 pub returns-in-Cycle-clause-halts : goal.returns-in-Cycle-clause-halts
 returns-in-Cycle-clause-halts g c =
@@ -117,17 +85,8 @@ returns-in-Model-clause-undone g c = still_published c.args.keep.now.producer c.
 pub returns-in-Restore-clause-undone : goal.returns-in-Restore-clause-undone
 returns-in-Restore-clause-undone g c = still_published c.args.keep.now.producer c.restore.new.producer c.restore.result c.restore.ensures.stopped
 
-pub returns-in-Load-clause-undone : goal.returns-in-Load-clause-undone
-returns-in-Load-clause-undone g c = same_published c.args.keep.now.producer c.load.result
-
-pub returns-in-Step-clause-undone : goal.returns-in-Step-clause-undone
-returns-in-Step-clause-undone g c = same_published c.args.keep.now.producer c.step.result
-
-pub returns-in-Index-clause-undone : goal.returns-in-Index-clause-undone
-returns-in-Index-clause-undone g c = same_published c.args.keep.now.producer c.index.result
-
 pub returns-in-Check-clause-undone : goal.returns-in-Check-clause-undone
 returns-in-Check-clause-undone g c = same_published c.args.keep.now.producer c.check.result
 
 pub returns-in_default-clause-undone : goal.returns-in_default-clause-undone
-returns-in_default-clause-undone g c = same_published c.args.keep.now.producer c.look.result
+returns-in_default-clause-undone g c = same_published c.args.keep.now.producer c.answer_reader.result

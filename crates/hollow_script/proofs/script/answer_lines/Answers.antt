@@ -3,6 +3,7 @@ use Rattle.hollow_machine.specs.Kept.{IsResting}
 use Rattle.hollow_script.proofs.Answering.{handed_on, reader_starts, starts_answered, stops_at_start, takes_none, takes_past, takes_then, told_both, told_next}
 use Rattle.std.proofs.lemmas.Result.{err_from_is_err_and}
 use Rattle.hollow_script.proofs.Halting.{stays_stopped}
+use Rattle.hollow_script.proofs.Keeping.{nothing_read}
 use Rattle.hollow_script.specs.Scripted.{HasStopped, IsAnswered}
 use Rattle.hollow_script.specs.declared.script_stop.ScriptStop.TheVariants as stop
 use Rattle.hollow_script.proofs.Replying.{end_replied, next_replied, none_replied}
@@ -17,6 +18,7 @@ loop-turn-init g c =
           c.in_ok-lines.ensures.ahead at_start.0;
       replied = none_replied (g.O.Sink.taken c.args.out.now) c.args.waiting.now.items c.requires.none_waits;
       resting = subst (λ kept. IfSome kept IsResting) (sym c.requires.fresh.producer) tt;
+      reading = nothing_read c.args.keep.now c.requires.fresh;
       later = omega arith;
       source_later = omega arith;
       store_later = omega arith;
@@ -44,6 +46,7 @@ loop-turn-preserved g c = record {
   replied = next_replied (g.O.Sink.taken c.args.out.now) (g.O.Sink.taken c.serve_next.new.out) c.serve_next.new.waiting.items c.loop-turn.refused c.in-Some.also _ c.in_ok-also.field-0 c.in-Some.is (search rules)
       (c.in_ok-also.ensures.replied (g.O.Sink.taken c.args.out.now) c.loop-turn.refused c.loop-turn.invariant.replied);
   resting = c.in_ok-also.ensures.resting;
+  reading = c.in_ok-also.ensures.reading;
   later = omega (arith, c.loop-turn.invariant.later, c.in_ok-also.ensures.later);
   source_later = omega (arith, c.loop-turn.invariant.source_later, c.in_ok-also.ensures.source_later);
   store_later = omega (arith, c.loop-turn.invariant.store_later, c.in_ok-also.ensures.store_later);
@@ -59,6 +62,9 @@ returns-in_default-clause-replied g c =
     (c.in_ok-also.ensures.replied (g.O.Sink.taken c.args.out.now) c.loop-turn.refused c.loop-turn.invariant.replied)
 
 -- ---- where it stops
+
+pub returns-in_err-lines-clause-reading : goal.returns-in_err-lines-clause-reading
+returns-in_err-lines-clause-reading g c = nothing_read c.args.keep.now c.requires.fresh
 
 pub returns-in_err-lines-clause-stops : goal.returns-in_err-lines-clause-stops
 returns-in_err-lines-clause-stops g c =

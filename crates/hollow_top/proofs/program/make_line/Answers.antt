@@ -1,4 +1,5 @@
 use Rattle.std.proofs.Common.{refl}
+use Rattle.hollow_script.proofs.Keeping.{nothing_read}
 use Rattle.hollow_script.specs.declared.keep.Keep.{Keep}
 use Rattle.hollow_top.proofs.Serving.{made_line, made_part}
 use Rattle.hollow_top.proofs.Stopped.{reply_silent, stays_silent, stops_behind}
@@ -10,7 +11,7 @@ pub returns-clause-made : goal.returns-clause-made
 returns-clause-made g c =
     let kept : Keep = record c.args.keep.now { producer = c.make.new.producer } in
     made_line c.args.seed c.args.rows c.args.cycles (g.S.BlobStore.seen c.args.store.now).held (g.S.BlobStore.seen c.make.new.store).held kept c.in_ok-reply.reply
-    (g.O.Sink.taken c.args.out.now) (g.O.Sink.taken c.write_reply.new.out) c.write_reply.result c.requires.nothing.consumer c.requires.nothing.version c.in_ok-reply.ensures.reply c.write_reply.ensures.written
+    (g.O.Sink.taken c.args.out.now) (g.O.Sink.taken c.write_reply.new.out) c.write_reply.result c.requires.nothing.consumer c.requires.nothing.version c.requires.nothing.history c.in_ok-reply.ensures.reply c.write_reply.ensures.written
 
 pub returns-clause-part : goal.returns-clause-part
 returns-clause-part g c = λ failed.
@@ -32,3 +33,9 @@ returns-in_err-reply-clause-silent g c = stays_silent c.from_residual.result Sin
 
 pub returns-clause-silent : goal.returns-clause-silent
 returns-clause-silent g c = reply_silent c.write_reply.result _ c.write_reply.ensures.no_store c.write_reply.ensures.silent
+
+pub returns-in_err-reply-clause-reading : goal.returns-in_err-reply-clause-reading
+returns-in_err-reply-clause-reading g c = nothing_read c.args.keep.now c.requires.nothing
+
+pub returns-clause-reading : goal.returns-clause-reading
+returns-clause-reading g c = nothing_read c.args.keep.now c.requires.nothing

@@ -3,6 +3,7 @@ use Rattle.written_laws.specs.Chain.{Chain}
 use Rattle.written_laws.specs.HoldsChain.{HoldsChain}
 use Rattle.hollow_top.specs.Headline.{LeavesMadeChain}
 use Rattle.hollow_top.specs.Run.{StopsMade}
+use Rattle.hollow_script.proofs.Keeping.{keeps_history, nothing_read}
 use Rattle.hollow_top.proofs.Stopped.{made_numbers}
 use Rattle.hollow_top.proofs.Serving.{asks_script, cast_status, finishes, make_finishes, make_part, part_written, script_finishes}
 use Rattle.hollow_top.proofs.TrueScripts.{one_made}
@@ -59,3 +60,26 @@ returns-in-Make-clause-made_chain g c = λ past seed rows cycles asked.
     made_numbers (map string_bytes c.args.words.now) c.in-Some.command c.in-Make.seed c.in-Make.rows c.in-Make.cycles seed rows cycles
     (λ s r n. IfSome (g.S.BlobStore.seen c.args.store.now).held (λ first. (chain : Chain) → HoldsChain first chain → LeavesMadeChain s r n first chain (g.S.BlobStore.seen c.serve_make.new.store).held))
     c.in-Some.ensures.1 c.in-Make.is asked (c.serve_make.ensures.left_chain past)
+
+-- ---- the history that is kept
+
+pub returns-in_default-clause-history : goal.returns-in_default-clause-history
+returns-in_default-clause-history g c = λ held. keeps_history c.args.keep.now held (nothing_read c.args.keep.now c.requires)
+
+pub returns-in-Run-clause-history : goal.returns-in-Run-clause-history
+returns-in-Run-clause-history g c = λ held. keeps_history c.serve_script.new.keep held c.serve_script.ensures.reading
+
+pub returns-in-Make-clause-history : goal.returns-in-Make-clause-history
+returns-in-Make-clause-history g c = λ held. keeps_history c.serve_make.new.keep held c.serve_make.ensures.reading
+
+pub returns-in-Ok-clause-history : goal.returns-in-Ok-clause-history
+returns-in-Ok-clause-history g c = λ held. keeps_history c.args.keep.now held (nothing_read c.args.keep.now c.requires)
+
+pub returns-in-Err-Sink-clause-history : goal.returns-in-Err-Sink-clause-history
+returns-in-Err-Sink-clause-history g c = λ held. keeps_history c.args.keep.now held (nothing_read c.args.keep.now c.requires)
+
+pub returns-in-Err-Store-clause-history : goal.returns-in-Err-Store-clause-history
+returns-in-Err-Store-clause-history g c = λ held. keeps_history c.args.keep.now held (nothing_read c.args.keep.now c.requires)
+
+pub returns-in-Err-Memory-clause-history : goal.returns-in-Err-Memory-clause-history
+returns-in-Err-Memory-clause-history g c = λ held. keeps_history c.args.keep.now held (nothing_read c.args.keep.now c.requires)

@@ -17,7 +17,7 @@ pub returns-in-Ok-clause-chain : goal.returns-in-Ok-clause-chain
 returns-in-Ok-clause-chain g c = λ ended.
     makes_chain c.chain_is_kept.ensures c.make_keeps_chain.ensures c.args.seed c.args.rows c.args.cycles (g.S.BlobStore.seen c.args.store.now).held
     (g.S.BlobStore.seen c.make_line.new.store).held c.make_line.new.keep (g.O.Sink.taken c.args.out.now) (g.O.Sink.taken c.make_line.new.out) c.from.result
-    c.requires.seed c.requires.cycles c.in-Ok.ensures.consumer c.told_bytes.ensures (returns-in-Ok-clause-ends g c ended)
+    c.requires.seed c.requires.cycles c.told_bytes.ensures (returns-in-Ok-clause-ends g c ended)
 
 pub returns-in-Err-Sink-clause-left_chain : goal.returns-in-Err-Sink-clause-left_chain
 returns-in-Err-Sink-clause-left_chain g c = λ past.

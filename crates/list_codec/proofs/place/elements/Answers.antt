@@ -1,5 +1,5 @@
 use Rattle.std.proofs.Common.{◌+◌, ◌≤◌, refl, sym, subst, arith}
-use Rattle.list_codec.proofs.Elements.{ReadSoFar, read_more, read_all, past_ordinals}
+use Rattle.list_codec.proofs.ElementRuns.{ReadSoFar, read_more, read_all, past_ordinals}
 use Rattle.list_codec.proofs.place.elements.Goals as goal
 
 pub returns-then-element-from : goal.returns-then-element-from

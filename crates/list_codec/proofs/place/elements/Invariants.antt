@@ -1,4 +1,4 @@
-use Rattle.list_codec.proofs.Elements.{ReadSoFar}
+use Rattle.list_codec.proofs.ElementRuns.{ReadSoFar}
 use Rattle.list_codec.proofs.place.elements.Given as goal
 
 abbrev pub invariant-loop-index : goal.invariant-loop-index

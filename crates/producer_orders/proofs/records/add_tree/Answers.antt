@@ -1,5 +1,5 @@
 use Rattle.std.proofs.Common.{Err, ap}
-use Rattle.row_model.specs.Tree.{plain}
+use Rattle.record_trees.specs.Tree.{plain}
 use Rattle.producer_orders.proofs.AddingRecords.{value_added, value_passed, value_too_many}
 use Rattle.producer_orders.proofs.records.add_tree.Goals as goal
 

@@ -1,6 +1,6 @@
 use Rattle.std.proofs.Common.{Ok, Err}
 use Rattle.serde_json.specs.View.{view}
-use Rattle.row_model.specs.Tree.{plain}
+use Rattle.record_trees.specs.Tree.{plain}
 use Rattle.producer_orders.proofs.AddingRecords.{bad_reads, same_reads, value_bad}
 use Rattle.producer_orders.proofs.records.add_value.Goals as goal
 

@@ -3,7 +3,7 @@ use Rattle.std.proofs.lemmas.Int.{ints, to_z-of_z}
 use Rattle.delta_blob.specs.declared.patch.PatchPart.{PatchPart}
 use Rattle.read_engine.specs.Taken.{CountsTaken, TellsTaken}
 use Rattle.std.specs.Prelude.{OnErr}
-use Rattle.read_engine.proofs.ConsumerSteps.{by_same, counted_told, delta_kind, moved_kind, moved_told, unread, whole_parts}
+use Rattle.read_engine.proofs.ConsumerSteps.{by_same, counted_told, delta_kind, moved_kind, moved_told, step_follows, unread, whole_parts}
 use Rattle.read_engine.proofs.step.step.Goals as goal
 
 pub take-requires-clause-whole : goal.take-requires-clause-whole
@@ -29,6 +29,9 @@ returns-clause-tells g c =
     c.types.ensures.position (same ∙ c.tag_or_zero-current.ensures) c.types.ensures.schemas c.take.result
     (by_same c.args.consumer.now (λ parts from. TellsTaken size c.in_ok-patch.patch.destination parts from c.take.new.consumer c.take.result) c.in_ok-patch.patch.parts c.as_slice-parts.result.now c.as_slice-parts.ensures
     (subst (λ (tag : ℤ). IfSome c.args.consumer.now (λ from. TellsTaken size tag c.as_slice-parts.result.now from c.take.new.consumer c.take.result)) destination c.take.ensures.tells))
+
+pub returns-clause-follows : goal.returns-clause-follows
+returns-clause-follows g c = step_follows c.in_ok-patch.patch.length _ c.as_slice-parts.result.now c.args.consumer.now c.take.new.consumer c.take.result c.take.ensures.tells
 
 pub returns-clause-kind : goal.returns-clause-kind
 returns-clause-kind g c = moved_kind c.args.name.now c.args.consumer.now c.take.new.consumer c.in_ok-patch.patch.length _ c.as_slice-parts.result.now c.take.result c.take.ensures.tells

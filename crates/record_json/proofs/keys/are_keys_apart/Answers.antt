@@ -1,6 +1,6 @@
 use Rattle.std.proofs.Common.{◌+◌, length, arith}
 use Rattle.std.proofs.lemmas.Slice.{between_to_end}
-use Rattle.row_model.specs.Tree.{plain_pair}
+use Rattle.record_trees.specs.Tree.{plain_pair}
 use Rattle.record_trees.proofs.Passing.{refuted}
 use Rattle.record_json.proofs.ApartKeys.{key_passed, key_repeated, keys_passed}
 use Rattle.record_json.proofs.keys.are_keys_apart.Goals as goal

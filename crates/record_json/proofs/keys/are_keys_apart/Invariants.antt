@@ -1,7 +1,7 @@
 -- Whether all keys are apart is whether those that are left are.
 use Rattle.std.proofs.Common.{◌↔◌, map, drop}
 use Rattle.row_model.specs.PlainTree.{pairs_of_list}
-use Rattle.row_model.specs.Tree.{plain_pair}
+use Rattle.record_trees.specs.Tree.{plain_pair}
 use Rattle.record_trees.specs.FitsTree.{AreKeysApart}
 use Rattle.record_json.proofs.keys.are_keys_apart.Given as goal
 

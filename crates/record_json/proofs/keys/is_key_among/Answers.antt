@@ -1,5 +1,5 @@
 use Rattle.row_model.specs.PlainTree.{SameTree}
-use Rattle.row_model.specs.Tree.{plain, plain_pair}
+use Rattle.record_trees.specs.Tree.{plain, plain_pair}
 use Rattle.record_trees.proofs.Passing.{any_is_some, refuted, some_found, some_passed, yes}
 use Rattle.record_json.proofs.keys.is_key_among.Goals as goal
 

@@ -1,7 +1,7 @@
 -- Whether some key is the same is whether one of those that are left is.
 use Rattle.std.proofs.Common.{◌↔◌, Any, map, drop}
 use Rattle.row_model.specs.PlainTree.{SameTree}
-use Rattle.row_model.specs.Tree.{plain, plain_pair}
+use Rattle.record_trees.specs.Tree.{plain, plain_pair}
 use Rattle.record_json.proofs.keys.is_key_among.Given as goal
 
 abbrev pub invariant-loop-pair : goal.invariant-loop-pair

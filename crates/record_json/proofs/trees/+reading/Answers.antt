@@ -3,7 +3,7 @@ use Rattle.serde_json.proofs.Views.{view-Array, view-Object}
 use Rattle.serde_json.specs.Data.{array}
 use Rattle.serde_json.specs.View.{view, items_view, members_view}
 use Rattle.schema_model.specs.declared.schema.Shape.{Shape}
-use Rattle.row_model.specs.Tree.{plain_pair}
+use Rattle.record_trees.specs.Tree.{plain_pair}
 use Rattle.json_values.specs.ReadValue.{read_each}
 use Rattle.record_json.specs.ReadTree.{TellsAs, key_then, read_fields, read_named, read_pair}
 use Rattle.record_json.proofs.TreeParts.{arm, object_arm, both_read, both_stops, other_length}

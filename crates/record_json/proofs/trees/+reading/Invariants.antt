@@ -1,7 +1,7 @@
 -- The parts of a record are those that were passed; each call goes to a type less deep, or from a list of parts to one of them.
 use Rattle.std.proofs.Common.{◌+◌, ◌*◌}
 use Rattle.serde_json.specs.View.{view}
-use Rattle.row_model.specs.Tree.{plain_trees, plain_pairs}
+use Rattle.record_trees.specs.Tree.{plain_trees, plain_pairs}
 use Rattle.record_json.specs.ReadTree.{read_named, read_pair}
 use Rattle.json_values.proofs.ReadingEach.{WasRead}
 use Rattle.record_json.proofs.ReadingTrees.{WasReadOf}

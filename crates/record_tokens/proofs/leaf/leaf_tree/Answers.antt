@@ -2,9 +2,9 @@ use Rattle.std.proofs.Common.{◌≡◌, ◌∙◌, Ok, sym, ap, rules}
 use Rattle.json.specs.Reads.{token_of}
 use Rattle.serde_json.specs.Data.{string}
 use Rattle.row_model.specs.declared.row.Value.{Value}
-use Rattle.row_model.specs.declared.tree.Tree.{Tree as RowTree, the_lemmas}
+use Rattle.record_trees.specs.declared.tree.Tree.{Tree as RowTree, the_lemmas}
 use Rattle.row_model.specs.PlainTree.{leaf}
-use Rattle.row_model.specs.Tree.{plain}
+use Rattle.record_trees.specs.Tree.{plain}
 use Rattle.json_values.specs.ReadValue.{read_value}
 use Rattle.record_json.specs.ReadTree.{made}
 use Rattle.record_tokens.specs.Taken.{scalar}

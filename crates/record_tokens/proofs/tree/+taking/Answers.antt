@@ -9,10 +9,10 @@ use Rattle.json.proofs.Grammar.{read_key-shorter}
 use Rattle.serde_json.specs.Data.{null}
 use Rattle.schema_model.specs.declared.schema.Field.{Field}
 use Rattle.row_model.specs.declared.row.Value.{Value}
-use Rattle.row_model.specs.declared.tree.Tree
-use Rattle.row_model.specs.declared.tree.Tree.{Tree, the_lemmas}
+use Rattle.record_trees.specs.declared.tree.Tree
+use Rattle.record_trees.specs.declared.tree.Tree.{Tree, the_lemmas}
 use Rattle.row_model.specs.PlainTree.{leaf, list, object, set, trees_of_list}
-use Rattle.row_model.specs.Tree.{plain, plain_trees, trees}
+use Rattle.record_trees.specs.Tree.{plain, plain_trees, trees}
 use Rattle.schema_model.specs.Parts.{field_names}
 use Rattle.record_trees.proofs.Arms.{list_plain, object_plain, set_plain}
 use Rattle.record_json.specs.NamesApart.{AreNamesApart}

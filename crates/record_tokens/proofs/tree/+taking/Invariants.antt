@@ -1,6 +1,6 @@
 -- The parts of a record are those whose tokens were passed; each call goes to a type less deep, or from a list of parts to one of them.
 use Rattle.std.proofs.Common.{◌+◌, ◌*◌, length}
-use Rattle.row_model.specs.Tree.{plain_trees}
+use Rattle.record_trees.specs.Tree.{plain_trees}
 use Rattle.record_json.specs.ReadTree.{read_named}
 use Rattle.record_tokens.proofs.FieldsTaken.{AreBeingTaken}
 use Rattle.record_tokens.proofs.ItemsTaken.{AreTaken}

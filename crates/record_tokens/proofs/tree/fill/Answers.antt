@@ -1,7 +1,7 @@
 use Rattle.std.proofs.Common.{◌≡◌, ◌∙◌, ◌-◌, ◌+◌, ◌++◌, ◌∷◌, [], length, replicate, sym, ap, arith, append_assoc, append-nil}
 use Rattle.std.proofs.lemmas.List.{length-append, length-replicate, replicate_more}
-use Rattle.row_model.specs.Tree.{trees}
-use Rattle.row_model.specs.declared.tree.Tree.{Tree as RowTree}
+use Rattle.record_trees.specs.Tree.{trees}
+use Rattle.record_trees.specs.declared.tree.Tree.{Tree as RowTree}
 use Rattle.record_tokens.proofs.tree.fill.Goals as goal
 
 pub filling-init : goal.filling-init

@@ -1,6 +1,6 @@
 use Rattle.std.proofs.Common.{◌≡◌, ℕ, ◌-◌, ◌≤◌, ◌++◌, length, replicate}
-use Rattle.row_model.specs.Tree.{trees}
-use Rattle.row_model.specs.declared.tree.Tree.{Tree as RowTree}
+use Rattle.record_trees.specs.Tree.{trees}
+use Rattle.record_trees.specs.declared.tree.Tree.{Tree as RowTree}
 use Rattle.record_tokens.proofs.tree.fill.Given as goal
 
 abbrev pub invariant-filling : goal.invariant-filling

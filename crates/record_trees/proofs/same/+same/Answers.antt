@@ -1,7 +1,7 @@
 use Rattle.std.proofs.Common.{map, sym, subst, ◌∙◌}
 use Rattle.std.proofs.lemmas.List.{length-map}
 use Rattle.row_model.specs.PlainTree.{SameTree, EachAmong, IsAmongTrees, EachPairAmong, IsAmongPairs, trees_of_list, pairs_of_list}
-use Rattle.row_model.specs.Tree.{plain, plain_pair}
+use Rattle.record_trees.specs.Tree.{plain, plain_pair}
 use Rattle.record_trees.proofs.Passing.{all_is_each, any_is_some, each_passed, each_failed, each_done, some_passed, some_found, some_gone, no, no_at, refuted}
 use Rattle.record_trees.proofs.Arms.{object_image, list_image, set_image, map_image, moved, objects, lists, sets, sets_not, maps, maps_not, among_is_some, each_pair_is_each, among_pairs_is_some, as_many}
 use Rattle.record_trees.proofs.same.+same.Goals.{each_pair_among-else-same_tree-via-then-same_tree+else-same_tree-2, each_pair_among-else-same_tree-via-else-same_tree}

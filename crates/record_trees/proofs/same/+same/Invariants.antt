@@ -1,7 +1,7 @@
 -- Whether the whole holds is whether what is left holds.
 use Rattle.std.proofs.Common.{◌↔◌, Any, map, drop, All}
 use Rattle.row_model.specs.PlainTree.{SameTree, SameTrees, EachAmong, IsAmongTrees, EachPairAmong, IsAmongPairs, trees_of_list, pairs_of_list}
-use Rattle.row_model.specs.Tree.{plain, plain_pair}
+use Rattle.record_trees.specs.Tree.{plain, plain_pair}
 use Rattle.record_trees.proofs.same.+same.Given as goal
 
 abbrev pub invariant-same_trees-loop-place : goal.invariant-same_trees-loop-place

@@ -2,7 +2,7 @@ use Rattle.std.proofs.Common.{refl, ap, ◌∙◌, subst, take, length, arith, �
 use Rattle.std.specs.Prelude.{All}
 use Rattle.std.proofs.Math.Seq.{take-length}
 use Rattle.std.proofs.lemmas.List.Elements.{All-more}
-use Rattle.row_model.specs.Dangling.{IsClosedAt}
+use Rattle.closed_rows.specs.Dangling.{IsClosedAt}
 use Rattle.state_moves.proofs.closing.are_closed.Goals as goal
 
 pub loop-ordinal-preserved : goal.loop-ordinal-preserved

@@ -1,6 +1,6 @@
 use Rattle.std.proofs.Common.{take}
 use Rattle.std.specs.Prelude.{All}
-use Rattle.row_model.specs.Dangling.{IsClosedAt}
+use Rattle.closed_rows.specs.Dangling.{IsClosedAt}
 use Rattle.state_moves.proofs.closing.are_closed.Given as goal
 
 abbrev pub invariant-loop-ordinal : goal.invariant-loop-ordinal

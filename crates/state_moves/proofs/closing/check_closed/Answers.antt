@@ -1,7 +1,7 @@
 use Rattle.std.proofs.Common.{◌⊎◌, List, Option, subst}
 use Rattle.schema_model.specs.declared.schema.Schema.{Schema}
-use Rattle.row_model.specs.declared.dangling.Dangling.{Dangling}
-use Rattle.row_model.specs.Dangling.{TellsDangling}
+use Rattle.closed_rows.specs.declared.dangling.Dangling.{Dangling}
+use Rattle.closed_rows.specs.Dangling.{TellsDangling}
 use Rattle.blob_faults.specs.Blame.{BlamesRow}
 use Rattle.state_moves.specs.Judged.{IsFreeMove, offsets_among}
 use Rattle.state_moves.proofs.Judging.{blames_dangling}

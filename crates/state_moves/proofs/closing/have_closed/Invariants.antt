@@ -1,5 +1,5 @@
 use Rattle.std.proofs.Common.{ℕ, ◌<◌}
-use Rattle.row_model.specs.Dangling.{IsClosedAt}
+use Rattle.closed_rows.specs.Dangling.{IsClosedAt}
 use Rattle.state_moves.proofs.closing.have_closed.Given as goal
 
 abbrev pub invariant-loop-type_index : goal.invariant-loop-type_index

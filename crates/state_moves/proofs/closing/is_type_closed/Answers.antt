@@ -1,7 +1,7 @@
 use Rattle.std.proofs.Common.{◌≡◌, ℕ, List, Some, arith, subst, sym, ◌∙◌}
 use Rattle.std.specs.Prelude.{All, slice_get, ◌↔◌}
 use Rattle.schema_model.specs.declared.schema.Schema.{Schema}
-use Rattle.row_model.specs.Dangling.{IsClosedAt}
+use Rattle.closed_rows.specs.Dangling.{IsClosedAt}
 use Rattle.state_moves.specs.Closing.{IsTypeClosed, NamesKept}
 use Rattle.state_moves.proofs.Closed.{came_closed, searched_closed, tells_same}
 use Rattle.state_moves.proofs.Tables.{past_length}

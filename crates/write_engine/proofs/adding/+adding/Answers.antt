@@ -1,8 +1,8 @@
 use Rattle.row_model.specs.PlainTree.{trees_of_list, pairs_of_list}
 use Rattle.std.proofs.Common.{rules, refl, ◌∙◌, ap, sym, subst, arith, map, max, ◌≡◌, ◌+◌, ◌*◌}
 use denote.Param.Weighed.{at_most, most}
-use Rattle.row_model.proofs.tree.Tree.TheLaws.{the_size}
-use Rattle.row_model.specs.Tree.{plain, plain_pair}
+use Rattle.record_trees.proofs.tree.Tree.TheLaws.{the_size}
+use Rattle.record_trees.specs.Tree.{plain, plain_pair}
 use Rattle.write_engine.specs.Production.{previous_of, current_of}
 use Rattle.std.specs.Prelude.{IsSome, Some, IfOk}
 use Rattle.write_engine.specs.Cycle.{Adds, AddsFields, AddsPairs, IsMapOf, IsSetOf}

@@ -1,7 +1,7 @@
 use Rattle.std.proofs.Common.{◌≡◌, ◌+◌, ◌*◌, ◌++◌, List, ℕ, drop, map}
 use Rattle.row_model.specs.PlainTree.{trees_of_list, pairs_of_list}
 use Rattle.row_model.specs.Table.{Table}
-use Rattle.row_model.specs.Tree.{plain, plain_pair}
+use Rattle.record_trees.specs.Tree.{plain, plain_pair}
 use Rattle.row_model.specs.declared.row.Value.{Value}
 use Rattle.write_engine.specs.Cycle.{AddsFields, AddsAll, AddsPairs}
 use Rattle.record_trees.specs.FitsTree.{FitFields, FitAll, FitPairs}

@@ -1,6 +1,6 @@
 use Rattle.std.proofs.Common.{◌∙◌, ap, sym, subst}
 use Rattle.write_engine.specs.Production.{IsProducing, current_of, previous_of}
-use Rattle.row_model.specs.Tree.{plain}
+use Rattle.record_trees.specs.Tree.{plain}
 use Rattle.write_engine.proofs.Producing.{added_producing, count_types, failed_producing, failed_current, undone_previous}
 use Rattle.write_engine.proofs.producer.add_or_undo.Goals as goal
 

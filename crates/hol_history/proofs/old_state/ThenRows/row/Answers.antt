@@ -2,7 +2,7 @@ use Rattle.std.proofs.Common.{◌≡◌, Some, sym, subst, ap, ◌∙◌}
 use Rattle.std.specs.Prelude.{IfOk, IsSome}
 use Rattle.std.proofs.lemmas.Bool.{false≢true}
 use Rattle.row_model.specs.Table.{IsLive, row_at}
-use Rattle.row_model.proofs.ViewPlaces.{ok_weaker}
+use Rattle.seen_rows.proofs.ViewPlaces.{ok_weaker}
 use Rattle.hol_history.specs.Then.{table_at}
 use Rattle.hol_history.proofs.KeptRows.{absent_row, left_row, same_row}
 use Rattle.hol_history.proofs.old_state.ThenRows.row.Goals as goal

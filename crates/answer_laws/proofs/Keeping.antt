@@ -1,0 +1,172 @@
+-- What is known of a machine that is asked is known of the machine behind each line that puts bytes.
+use Rattle.std.proofs.Common.{◌≡◌, ◌∙◌, ℕ, List, [], ◌∷◌, length, Bool, true, false, Option, None, Some, IfSome, inl, inr, sym, subst}
+use Rattle.std.specs.Prelude.{IsSomeAnd}
+use Rattle.std.specs.FinMap.{empty}
+use Rattle.std.specs.Ordering.{nat_cmp}
+use Rattle.std.proofs.lemmas.List.{length-map, length-replicate}
+use Rattle.serde_json.specs.Data.{Data}
+use Rattle.hol_io.specs.declared.name.BlobName.{BlobName}
+use Rattle.hol_io.specs.declared.name.BlobName.TheVariants.{Snapshot, Delta, Reverse, Announced}
+use Rattle.schema_model.specs.declared.schema.name.Name.{Name}
+use Rattle.schema_model.specs.declared.schema.Schema.{Schema}
+use Rattle.schema_model.specs.Parts.{index_of_type}
+use Rattle.row_model.specs.Table.{RowMap}
+use Rattle.type_state.specs.State.{Half}
+use Rattle.read_engine.specs.Indexes.{CountsKeyed, KeepsIndex, index_by}
+use Rattle.read_engine.specs.Position.{Index, Position}
+use Rattle.step_laws.specs.Typed.{HasTypes}
+use Rattle.step_laws.proofs.Typing.{load_typed, step_typed}
+use Rattle.schema_model.specs.declared.model.path.Path.{Path}
+use Rattle.hol_orders.specs.declared.order.Order.{Order}
+use Rattle.hol_orders.specs.declared.order.Order.TheVariants as order
+use Rattle.hol_orders.specs.Parts.{asked_state}
+use Rattle.hol_answers.specs.declared.refusal.Refusal.{Refusal}
+use Rattle.hol_answers.specs.declared.reply.Reply.{Reply}
+use Rattle.hol_answers.specs.declared.reply.Reply.TheVariants as reply
+use Rattle.state_blobs.specs.Published.{Published, new_producer}
+use Rattle.hollow_machine.specs.CycleOrder.{CycleStep, SucceedsAfter}
+use Rattle.hollow_machine.specs.HistoryOrders.{HistoryStep}
+use Rattle.hollow_machine.specs.IndexOrder.{IndexStep}
+use Rattle.hollow_machine.specs.KeyPaths.{AreKeyPaths, HasShape, IsObject}
+use Rattle.hollow_machine.specs.LoadOrder.{LoadStep}
+use Rattle.hollow_machine.specs.ModelOrder.{ModelStep}
+use Rattle.hollow_machine.specs.PlanOrders.{Applies, Goes, GotoStep}
+use Rattle.hollow_machine.specs.Records.{AskedCycle, asked_cycle}
+use Rattle.hollow_machine.specs.RestoreOrder.{RestoreStep, producer_at}
+use Rattle.hollow_machine.specs.Script.{LineStep}
+use Rattle.hollow_machine.specs.State.{Machine, loaded_to, stepped_to, with_bound, with_consumer, with_producer}
+use Rattle.hollow_machine.specs.Step.{Step}
+use Rattle.hollow_machine.specs.StepOrder.{StepStep}
+use Rattle.answer_laws.specs.Answered.{HasRows, IsSound}
+use Rattle.answer_laws.specs.Scripts.{PutsBytes}
+use Rattle.answer_laws.proofs.Storing.{line_bytes}
+use Rattle.answer_laws.proofs.Cycling.{cycle_rows}
+
+-- Producer and consumer have what is known of them.
+abbrev AreTyped : Machine → Type 0
+AreTyped machine = IfSome machine.producer HasRows × IfSome machine.consumer HasTypes
+
+-- so it is of a machine that is another one
+same_typed : (machine next : Machine) → AreTyped machine → next ≡ machine → AreTyped next
+same_typed machine next typed is = subst AreTyped (sym is) typed
+
+-- ---- the orders
+
+new_rows : (schemas : List Schema) → HasRows (new_producer schemas)
+new_rows schemas = length-replicate {A = RowMap} (length schemas) (empty {R = nat_cmp})
+
+model_typed : (machine next : Machine) → AreTyped machine → (value : Data) (answer : Reply) → ModelStep machine value answer next → AreTyped next
+model_typed machine next typed value (reply.Model types) (schemas, none, stands, is, count, next_is) =
+    same_typed (with_producer machine (Some (new_producer schemas))) next (new_rows schemas, typed.1) next_is
+model_typed machine next typed value (reply.Refused refusal) is = same_typed machine next typed is.1
+model_typed machine next typed value _ is = absurd is
+
+restored_rows : (position : Position) (version : ℕ) → HasTypes position → HasRows (producer_at position version)
+restored_rows position version typed = length-map position.halves (λ (h : Half). h.rows) ∙ typed.types
+
+restore_typed : (machine next : Machine) → AreTyped machine → (version : ℕ) (answer : Reply) → RestoreStep machine version answer next → AreTyped next
+restore_typed machine next typed version (reply.Restore tag restored) (same, last, (position, (blob, there, loads), once, tag_is, next_is)) =
+    same_typed (with_producer machine (Some (producer_at position version))) next (restored_rows position version (load_typed blob position loads), typed.1) next_is
+restore_typed machine next typed version (reply.Refused refusal) is = same_typed machine next typed is.1
+restore_typed machine next typed version _ is = absurd is
+
+load_leaves_typed : (machine next : Machine) → AreTyped machine → (version : ℕ) (answer : Reply) → LoadStep machine version answer next → AreTyped next
+load_leaves_typed machine next typed version (reply.Load tag) (blob, position, at, loads, tag_is, next_is) =
+    same_typed (loaded_to machine version position) next (typed.0, load_typed blob position loads) next_is
+load_leaves_typed machine next typed version (reply.Refused refusal) is = same_typed machine next typed is.1
+load_leaves_typed machine next typed version _ is = absurd is
+
+module _ (machine next : Machine) (typed : AreTyped machine) where
+  -- of what stands in the machine, what is known of it, and what it leads to
+  of_consumer : (found : Option Position) → IfSome found HasTypes → (P : Position → Type 0) → IsSomeAnd found P → ((now : Position) → HasTypes now → P now → AreTyped next) → AreTyped next
+  of_consumer None known P is gives = absurd is
+  of_consumer (Some now) known P is gives = gives now known is
+
+  step_leaves_typed : (name : BlobName) (version : ℕ) (answer : Reply) → StepStep machine name version answer next → AreTyped next
+  step_leaves_typed name version (reply.Step tag) is = of_consumer machine.consumer typed.1 _ is (λ now known moved.
+      same_typed (stepped_to machine version moved.1) next (typed.0, step_typed moved.0 now moved.1 known moved.3) moved.5)
+  step_leaves_typed name version (reply.Refused refusal) is = same_typed machine next typed is.1
+  step_leaves_typed name version _ is = absurd is
+
+  -- the consumer keeps the index of a type
+  abbrev KeepsAt : List (List ℕ) → ℕ → Position → ℕ → Type 0
+  KeepsAt texts keys now t =
+      HasShape IsObject now.schemas t
+      × ((paths : List Path) × AreKeyPaths now.schemas t texts paths × CountsKeyed now (index_by t paths) keys
+      × ((after : List Index) × KeepsIndex now.indexes (index_by t paths) after × (next ≡ with_consumer machine (Some (record now { indexes = after })))))
+
+  kept_typed : (texts : List (List ℕ)) (keys : ℕ) (now : Position) → HasTypes now → (t : ℕ) → KeepsAt texts keys now t → AreTyped next
+  kept_typed texts keys now known t (shape, (paths, are, counts, (after, keeps, next_is))) =
+      same_typed (with_consumer machine (Some (record now { indexes = after }))) next (typed.0, record { model = known.model; types = known.types }) next_is
+
+  of_index : (found : Option ℕ) (P : ℕ → Type 0) → IsSomeAnd found P → ((t : ℕ) → P t → AreTyped next) → AreTyped next
+  of_index None P is gives = absurd is
+  of_index (Some t) P is gives = gives t is
+
+  index_typed : (name : Name) (texts : List (List ℕ)) (answer : Reply) → IndexStep machine name texts answer next → AreTyped next
+  index_typed name texts (reply.Index keys) is = of_consumer machine.consumer typed.1 _ is (λ now known of_type.
+      of_index (index_of_type now.schemas name) (KeepsAt texts keys now) of_type (λ t kept. kept_typed texts keys now known t kept))
+  index_typed name texts (reply.Refused refusal) is = same_typed machine next typed is.1
+  index_typed name texts _ is = absurd is
+
+  applied_typed : (name : BlobName) (answer : Reply) → Applies machine name answer next → AreTyped next
+  applied_typed (Snapshot version) answer is = load_leaves_typed machine next typed version answer is
+  applied_typed (Delta from to) answer is = step_leaves_typed (Delta from to) to answer is
+  applied_typed (Reverse from to) answer is = step_leaves_typed (Reverse from to) to answer is
+  applied_typed Announced answer is = absurd is
+
+  history_typed : (bound : ℕ) (answer : Reply) → HistoryStep machine bound answer next → AreTyped next
+  history_typed bound (reply.History kept) is = same_typed (with_bound machine bound) next typed is.1
+  history_typed bound _ is = absurd is
+
+gone_typed : (names : List BlobName) (machine next : Machine) → AreTyped machine → (applied : ℕ) (refused : Option Refusal) → Goes machine names applied refused next → AreTyped next
+gone_typed [] machine next typed applied refused is = same_typed machine next typed is.2
+gone_typed (name ∷ names) machine next typed applied refused (inl (refusal, applies, none, why)) = applied_typed machine next typed name (reply.Refused refusal) applies
+gone_typed (name ∷ names) machine next typed applied refused (inr (answer, between, behind, applies, taken, count, goes)) =
+    gone_typed names between next (applied_typed machine between typed name answer applies) behind refused goes
+
+goto_typed : (machine next : Machine) → AreTyped machine → (wanted : ℕ) (answer : Reply) → GotoStep machine wanted answer next → AreTyped next
+goto_typed machine next typed wanted (reply.Goto progress) (plan, is_plan, count, goes, tag) = gone_typed plan machine next typed progress.applied progress.refused goes
+goto_typed machine next typed wanted (reply.Refused refusal) is = same_typed machine next typed is.1
+goto_typed machine next typed wanted _ is = absurd is
+
+-- ---- a cycle
+
+succeeds_typed : (machine next : Machine) → AreTyped machine → (last : Published) (asked : AskedCycle) (names : List (List ℕ)) (published : Bool) → SucceedsAfter machine last asked names published next → AreTyped next
+succeeds_typed machine next typed last asked names false (follows, (trees, gives, (rows, changed, makes, named, leaves))) = same_typed machine next typed leaves.2
+succeeds_typed machine next typed last asked names true (follows, (trees, gives, (rows, changed, makes, named, leaves))) =
+    subst AreTyped (sym leaves.2.3) (cycle_rows last trees rows changed makes, typed.1)
+
+of_producer : (machine next : Machine) → AreTyped machine → (found : Option Published) (asked : AskedCycle) (names : List (List ℕ)) (published : Bool)
+    → IsSomeAnd found (λ last. SucceedsAfter machine last asked names published next) → AreTyped next
+of_producer machine next typed None asked names published is = absurd is
+of_producer machine next typed (Some last) asked names published is = succeeds_typed machine next typed last asked names published is
+
+cycle_typed : (machine next : Machine) → AreTyped machine → (asked : AskedCycle) (answer : Reply) → CycleStep machine asked answer next → AreTyped next
+cycle_typed machine next typed asked (reply.Cycle names published version) is = of_producer machine next typed machine.producer asked names published is.1
+cycle_typed machine next typed asked (reply.Refused refusal) is = same_typed machine next typed is.1
+cycle_typed machine next typed asked _ is = absurd is
+
+-- ---- lines
+
+order_typed : (asked : Order) (machine next : Machine) → AreTyped machine → (answer : Reply) → Step machine asked answer next → AreTyped next
+order_typed (order.Cycle next_state) machine next typed answer is = cycle_typed machine next typed (asked_cycle (asked_state next_state)) answer is
+order_typed (order.Model schemas) machine next typed answer is = model_typed machine next typed _ answer is
+order_typed (order.Restore version) machine next typed answer is = restore_typed machine next typed version answer is
+order_typed (order.Load version) machine next typed answer is = load_leaves_typed machine next typed version answer is
+order_typed (order.Step from to) machine next typed answer is = step_leaves_typed machine next typed _ to answer is
+order_typed (order.Index name paths) machine next typed answer is = index_typed machine next typed name _ answer is
+order_typed (order.Goto version) machine next typed answer is = goto_typed machine next typed version answer is
+order_typed (order.History bound) machine next typed answer is = history_typed machine next typed bound answer is
+order_typed _ machine next typed answer is = same_typed machine next typed is.1
+
+line_typed : (machine next : Machine) → AreTyped machine → (line : List ℕ) (answer : Reply) → LineStep machine line answer next → AreTyped next
+line_typed machine next typed line answer (inl long) = same_typed machine next typed long.1.1
+line_typed machine next typed line answer (inr (short, inl none)) = same_typed machine next typed none.1.1
+line_typed machine next typed line answer (inr (short, inr (asked, orders, step))) = order_typed asked machine next typed answer step
+
+-- the machine behind a line is sound, where what the line puts are bytes
+pub line_keeps : (machine next : Machine) (line : List ℕ) (answer : Reply) → IsSound machine → PutsBytes line machine → LineStep machine line answer next → IsSound next
+line_keeps machine next line answer sound puts step =
+    let typed = line_typed machine next (sound.producer, sound.consumer) line answer step in
+    record { bytes = line_bytes machine next line answer sound.bytes puts step; producer = typed.0; consumer = typed.1 }

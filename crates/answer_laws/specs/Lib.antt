@@ -1,0 +1,3 @@
+pub mod Answered
+pub mod Scripts
+pub mod Shown

@@ -1,0 +1,10 @@
+pub mod Candidates
+pub mod Among
+pub mod Bounding
+pub mod Following
+pub mod Matching
+pub mod Showing
+pub mod Sought
+pub mod Typed
+pub mod Unmoved
+pub mod Versions

@@ -1,6 +1,0 @@
-use Rattle.library_cases.proofs.Numbers.{closed_tells}
-use Rattle.library_cases.proofs.library.publish_numbers.Goals as goal
-
-pub publish_cycle-requires-clause-over : goal.publish_cycle-requires-clause-over
-publish_cycle-requires-clause-over c =
-    closed_tells c.add_numbers.new.producer c.close.new.self c.in_ok-closed.closed.changed c.in_ok-closed.ensures.ok c.in_ok-closed.ensures.over

@@ -1,0 +1,2 @@
+pub mod LookingUp
+pub mod Publishing

@@ -1,0 +1,25 @@
+use Rattle.std.proofs.Common.{◌≡◌, ◌∙◌, sym, refl, arith, length, false, true}
+use Rattle.std.proofs.lemmas.Option.{slice_get_read, slice_get_within}
+use Rattle.std.proofs.lemmas.Slice.Eq.{bytes_eq-Decides}
+use Rattle.schema_model.proofs.Ways.{no_field_more}
+use Rattle.model_paths.proofs.path_walk.field_of.Goals as goal
+
+pub returns-then-eq : goal.returns-then-eq
+returns-then-eq c =
+    let fields = c.args.fields.now in (
+      c.index-fields-i.result,
+      slice_get_read fields (length fields) c.loop-i.i c.index-fields-i.result refl (omega arith) c.index-fields-i.is,
+      sym c.text.ensures ∙ (bytes_eq-Decides c.text.result.now c.args.name.now).0 (sym c.eq.ensures ∙ c.if-eq.true),
+    )
+
+pub loop-i-preserved : goal.loop-i-preserved
+loop-i-preserved c =
+    let fields = c.args.fields.now in
+    no_field_more fields c.args.name.now c.loop-i.i c.index-fields-i.result
+    (slice_get_read fields (length fields) c.loop-i.i c.index-fields-i.result refl (omega arith) c.index-fields-i.is)
+    (λ same. let good = (bytes_eq-Decides c.text.result.now c.args.name.now).1 (c.text.ensures ∙ same) in
+    let bad : false ≡ true = sym (sym c.eq.ensures ∙ c.if-eq.false) ∙ good in cc)
+    c.loop-i.invariant
+
+pub returns : goal.returns
+returns c = λ i f at same. c.loop-i.invariant i f (let inside = slice_get_within c.args.fields.now i f at in omega arith) at same

@@ -1,0 +1,6 @@
+pub mod FirstBroken
+pub mod Images
+pub mod JavaSizes
+pub mod NamedTypes
+pub mod ReferenceChains
+pub mod RuleTests

@@ -1,0 +1,8 @@
+use Rattle.std.proofs.Common.{ℕ, ◌<◌, ◌≤◌}
+use Rattle.schema_model.specs.Model.{BreaksAt}
+use Rattle.schema_model.specs.declared.model.rule.Rule.TheVariants.{TooMany}
+use Rattle.model_rules.proofs.rules.check_sizes.Given as goal
+
+-- none of the first types breaks the rule
+abbrev pub invariant-loop-type_index : goal.invariant-loop-type_index
+invariant-loop-type_index l = (l.type_index ≤ 512) × ((u : ℕ) → u < l.type_index → ¬ BreaksAt l.schemas TooMany u)

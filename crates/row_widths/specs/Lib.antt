@@ -1,0 +1,3 @@
+pub mod BucketSpread
+pub mod RecordSpread
+pub mod Walk

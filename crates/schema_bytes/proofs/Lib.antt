@@ -1,0 +1,5 @@
+pub mod Fronts
+pub mod KindNames
+pub mod Pieces
+pub mod Spellable
+pub mod Spellings

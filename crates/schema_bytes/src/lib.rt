@@ -1,0 +1,7 @@
+//! Schemas as the bytes of a blob.
+#![tactic(auto)]
+
+pub mod laws;
+mod put;
+
+pub use put::put_schema;

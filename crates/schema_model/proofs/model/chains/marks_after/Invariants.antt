@@ -1,7 +1,0 @@
-use Rattle.std.proofs.Common.{◌≡◌}
-use Rattle.schema_model.specs.Checked.{chained}
-use Rattle.schema_model.proofs.model.chains.marks_after.Given as goal
-
--- the marks after the rounds so far
-abbrev pub invariant-loop-round : goal.invariant-loop-round
-invariant-loop-round l = l.marks.items ≡ chained l.graph l.round

@@ -1,5 +1,0 @@
-use Rattle.std.proofs.Common.{length}
-use Rattle.schema_model.proofs.model.path_walk.+follow_names.Given as goal
-
-abbrev pub decreases-follow_names : goal.decreases-follow_names
-decreases-follow_names l = length l.text.now

@@ -1,5 +1,0 @@
-use Rattle.std.proofs.Common.{length}
-use Rattle.schema_model.proofs.model.path_walk.+leads.Given as goal
-
-abbrev pub decreases-leads : goal.decreases-leads
-decreases-leads l = length l.fields.now

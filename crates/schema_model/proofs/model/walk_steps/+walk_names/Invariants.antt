@@ -1,5 +1,0 @@
-use Rattle.std.proofs.Common.{length}
-use Rattle.schema_model.proofs.model.walk_steps.+walk_names.Given as goal
-
-abbrev pub decreases-walk_names : goal.decreases-walk_names
-decreases-walk_names l = length l.text.now

@@ -1,6 +1,0 @@
-use Rattle.std.proofs.Common.{◌≡◌, take}
-use Rattle.schema_model.proofs.schema.same.same_names.Given as goal
-
--- the first ones are the same
-abbrev pub invariant-loop-place : goal.invariant-loop-place
-invariant-loop-place l = take l.place l.names ≡ take l.place l.others

@@ -1,0 +1,11 @@
+mod DeltaValues
+mod MovedHalves
+mod MovedOnce
+mod Passing
+pub mod Positions
+mod RowRanges
+mod SettledDelta
+pub mod SettledSteps
+mod SteppedParts
+mod Stepping
+pub mod Typing
