@@ -168,8 +168,14 @@ class Schema:
             self.fields.append(read_field(cursor))
         self.named = [to for _, _, to in self.fields if to is not None]
 
-    def same(self):
-        return (self.kind, self.name, self.key, self.fields, self.named)
+    def agrees(self, other):
+        """Whether it agrees with another schema of its name."""
+        if (self.kind, self.key) != (other.kind, other.key):
+            return False
+        if self.kind != OBJECT:
+            return self.named == other.named
+        theirs = {name: field for name, *field in other.fields}
+        return all(theirs.get(name, field) == field for name, *field in self.fields)
 
 
 def read_field(cursor):
@@ -209,7 +215,7 @@ class Section:
 
     def __init__(self, cursor, is_delta):
         self.schema = Schema(cursor)
-        self.kind = self.schema.kind
+        self.kind, self.at = self.schema.kind, self.schema.at
         if cursor.number(32):
             cursor.take(cursor.number(32))
             start = cursor.at
@@ -225,6 +231,9 @@ class Section:
             self.widths = [self.width(cursor, kind) for _, kind, _ in self.schema.fields]
             self.first = cursor.word_array(-(-places * sum(self.widths) // 64))
             self.areas = [cursor.take(cursor.number(64)) for _ in self.widths]
+            self.size = self.own = sum(self.widths)
+            starts = [sum(self.widths[:i]) for i in range(len(self.widths))]
+            self.columns = list(zip(starts, self.widths, self.areas))
         else:
             self.widths = [self.width(cursor) for _ in range({LIST: 2, SET: 3, MAP: 4}[self.kind])]
             self.place_parts = 1 if self.kind == LIST else 2
@@ -246,16 +255,32 @@ class Section:
         words = cursor.words(cursor.fixed(4))
         return [64 * i + bit for i, word in enumerate(words) if word for bit in range(64) if word >> bit & 1]
 
+    def see(self, schema):
+        """Takes the reader's schema of the type, whose fields are found by their names; one that the blob has not is null."""
+        if self.kind == OBJECT:
+            columns = {name: column for (name, _, _), column in zip(self.schema.fields, self.columns)}
+            self.columns = [columns.get(name) for name, _, _ in schema.fields]
+            self.own = sum(column[1] for column in self.columns if column)
+            nulls = [(None, 2 if kind == "BOOLEAN" else 1, b"") for _, kind, _ in schema.fields]
+            self.widths = [(column or null)[1] for column, null in zip(self.columns, nulls)]
+            self.areas = [(column or null)[2] for column, null in zip(self.columns, nulls)]
+        self.schema = schema
+
     def row(self, place):
         return self.record(place) if self.kind == OBJECT else self.listed(place)
 
     def record(self, place):
         """The values of a record, numbers as they are packed, or the reason of the first field at fault."""
-        row, bit = [], place * sum(self.widths)
-        for (_, kind, _), width, area in zip(self.schema.fields, self.widths, self.areas):
+        row = []
+        for (_, kind, _), column in zip(self.schema.fields, self.columns):
+            if column is None:
+                row.append(None)
+                continue
+            start, width, area = column
+            bit = place * self.size + start
             value = element(self.first, bit, width)
             if kind in ("STRING", "BYTES"):
-                before = element(self.first, bit - sum(self.widths), width) if place else 0
+                before = element(self.first, bit - self.size, width) if place else 0
                 top = 1 << (width - 1)
                 start, end = before & (top - 1), value & (top - 1)
                 if start > end or end > len(area) or value & top and start != end:
@@ -270,7 +295,6 @@ class Section:
             elif kind == "INT" and value > 2**32 - 2 or kind == "REFERENCE" and value > 2**32 - 1:
                 return 52
             row.append(value)
-            bit += width
         return row
 
     def listed(self, place):
@@ -420,7 +444,7 @@ def first_not_held(section, rows):
 def rows_of(section, before):
     """The rows of a type behind a blob: of a snapshot its own, of a delta those before without the removed and with the added."""
     def fault(reason, ordinal):
-        return bad(reason, section.schema.at, ordinal=ordinal, type=section.schema.name)
+        return bad(reason, section.at, ordinal=ordinal, type=section.schema.name)
 
     stays = section.live if before is None else before.keys() - set(section.removed)
     ordinal = test_ordinals(section, stays, before or {})
@@ -435,8 +459,8 @@ def rows_of(section, before):
     ordinal, items, size = first_not_held(section, rows)
     if ordinal is not None:
         raise fault(48, ordinal)
-    wide = section.widths if section.kind == OBJECT else section.widths[: section.place_parts]
-    words = -(-(section.max + 1) * sum(wide) // 64) + -(-items * (sum(section.widths) - sum(wide)) // 64)
+    wide = section.own if section.kind == OBJECT else sum(section.widths[: section.place_parts])
+    words = -(-(section.max + 1) * wide // 64) + -(-items * (sum(section.widths) - wide) // 64)
     if words > LIMITS["words"]:
         raise too_large("words")
     if size > LIMITS["bytes"]:
@@ -474,21 +498,26 @@ class State:
         if cursor.at < len(cursor.data):
             raise bad(50, cursor.at)
         test_model(sections, is_delta)
-        for section in sections if is_delta else []:
-            if section.schema.same() not in [schema.same() for schema in self.schemas]:
-                raise Refused(dict(error=30, name="OtherModel", type=section.schema.name))
+        if is_delta:
+            own = {schema.name: schema for schema in self.schemas}
+            for section in sections:
+                if not own.get(section.schema.name, section.schema).agrees(section.schema):
+                    raise Refused(dict(error=30, name="OtherModel", type=section.schema.name))
+            sections = [section for section in sections if section.schema.name in own]
         for section in sections:
             if section.max >= LIMITS["ordinals"]:
                 raise too_large("ordinals")
             if section.total > LIMITS["items"]:
                 raise too_large("items")
+        for section in sections if is_delta else []:
+            section.see(own[section.schema.name])
         return sections
 
     def take(self, data, sections, before):
         rows, at = dict(before), {}
         for section in sections:
             rows[section.schema.name] = rows_of(section, before[section.schema.name])
-            at[section.schema.name] = section.schema.at
+            at[section.schema.name] = section.at
         for schema in self.schemas:
             for ordinal in sorted(rows[schema.name]):
                 if any(o not in rows[to] for to, o in names_in(schema, rows[schema.name][ordinal])):

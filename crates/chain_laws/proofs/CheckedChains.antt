@@ -14,7 +14,7 @@ use Rattle.read_engine.specs.Taking.{StepsBy}
 use Rattle.hollow_machine.specs.CheckOrder.{WalkLoads, WalkSteps, both_new, state_at, walk_calls}
 use Rattle.written_laws.specs.Chain.{Chain, ChainState, HasVersion}
 use Rattle.written_laws.specs.HoldsChain.{HoldsChain}
-use Rattle.written_laws.proofs.PatchOnce.{tags_once}
+use Rattle.delta_blob.proofs.OnePatch.{tags_once}
 use Rattle.chain_laws.specs.Consumers.{IsIn, StandsAt}
 use Rattle.chain_laws.proofs.ConsumerMoves.{loads_in, loads_state, steps_in}
 use Rattle.chain_laws.proofs.ConsumerOrders.{step_named}

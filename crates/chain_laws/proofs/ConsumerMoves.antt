@@ -21,7 +21,7 @@ use Rattle.written_laws.specs.Chain.{Chain, ChainState, HasVersion}
 use Rattle.written_laws.specs.HoldsChain.{HoldsChain, IsStep, LeadsOn}
 use Rattle.written_laws.proofs.ChainSteps.{same_model, step_leads}
 use Rattle.written_laws.proofs.MovedOnce.{moved_once}
-use Rattle.written_laws.proofs.PatchOnce.{parts_once, tags_once}
+use Rattle.delta_blob.proofs.OnePatch.{parts_once, tags_once}
 use Rattle.chain_laws.specs.Consumers.{IsIn, StandsAt}
 use Rattle.chain_laws.specs.KeptIndexes.{AreIndexes}
 use Rattle.chain_laws.proofs.AddedIndexes.{no_indexes}
@@ -164,8 +164,8 @@ module _ (store : Store) (chain : Chain) (holds : HoldsChain store chain) where
       let old_types : length (rows_now now) ≡ length now.schemas = ap (λ (t : Table). length t) rows ∙ rows_are is.version is.state is.there ∙ ap (λ (m : List Schema). length m) (sym model) in
       let types : length leads.next.table ≡ length now.schemas = moved.types ∙ old_types in
       let count : length now.halves ≡ length now.schemas = sym (length-map now.halves (λ (half : Half). half.rows)) ∙ old_types in
-      let halves = next_halves now.schemas now.halves delta.parts patch delta.items.once delta.types leads.next.table types count in
-      let table : table_of halves ≡ leads.next.table = next_table now.schemas now.halves delta.parts patch delta.items.once delta.types leads.next.table types count in (
+      let halves = next_halves now.schemas now.halves delta.parts patch delta.items.once delta.sees leads.next.table types count in
+      let table : table_of halves ≡ leads.next.table = next_table now.schemas now.halves delta.parts patch delta.items.once delta.sees leads.next.table types count in (
         record { tag = destination; schemas = now.schemas; halves = halves; before = rows_now now; indexes = now.indexes },
         record {
           patch = patch;
@@ -173,12 +173,12 @@ module _ (store : Store) (chain : Chain) (holds : HoldsChain store chain) where
           fits = fits;
           moved = subst (λ (t : Table). Moved patch (rows_now now) t) (sym table) moved;
           within = subst (λ (t : Table). Within t patch) (sym table) leads.within;
-          items = subst KeepItems parts leads.items;
+          items = subst (λ (m : List Schema). KeepItems m delta.parts) (sym model) (subst (KeepItems is.state.model) parts leads.items);
           short = leads.short;
           model = refl;
-          types = next_count now.schemas now.halves delta.parts patch delta.items.once delta.types leads.next.table types count;
-          layouts = next_named now.schemas now.halves delta.parts patch delta.items.once delta.types leads.next.table types count;
-          others = next_others now.schemas now.halves delta.parts patch delta.items.once delta.types leads.next.table types count;
+          types = next_count now.schemas now.halves delta.parts patch delta.items.once delta.sees leads.next.table types count;
+          layouts = next_named now.schemas now.halves delta.parts patch delta.items.once delta.sees leads.next.table types count;
+          others = next_others now.schemas now.halves delta.parts patch delta.items.once delta.sees leads.next.table types count;
           before = refl;
           indexes = refl;
         },

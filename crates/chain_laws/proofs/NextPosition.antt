@@ -1,12 +1,10 @@
 -- Where a consumer stands behind a step: there is a position with the table that a patch moves to, the layouts of the patch in the types that it
 -- names, and the others as they were.
-use Rattle.std.proofs.Common.{◌≡◌, ◌<◌, ◌⊎◌, ◌+◌, ℕ, zero, suc, List, [], ◌∷◌, length, get_or, Some, None, inl, inr, refl, sym, ap, subst, ◌∙◌, arith}
+use Rattle.std.proofs.Common.{◌≡◌, ◌<◌, ◌⊎◌, ◌+◌, ℕ, zero, suc, List, [], ◌∷◌, length, get_or, Some, None, inl, inr, refl, sym, ap, ◌∙◌, arith}
 use Rattle.std.specs.Prelude.{slice_get, unwrap_or}
-use Rattle.std.specs.Option.{option_map}
-use Rattle.std.specs.List.{AllZip}
 use Rattle.std.proofs.lemmas.Bool.{cases_eq}
 use Rattle.std.proofs.lemmas.List.Elements.{All-head, All-tail}
-use Rattle.std.proofs.lemmas.Option.{slice_get-get_or, slice_get-map}
+use Rattle.std.proofs.lemmas.Option.{slice_get-get_or, slice_get_within}
 use Rattle.schema_model.specs.declared.schema.Schema.{Schema}
 use Rattle.row_model.specs.Table.{Table}
 use Rattle.type_rows.specs.Layout.{Layout}
@@ -14,9 +12,10 @@ use Rattle.type_state.specs.State.{Half}
 use Rattle.type_state.specs.Views.{table_of}
 use Rattle.delta_blob.specs.declared.part.DeltaPart.{DeltaPart}
 use Rattle.delta_blob.specs.Moved.{EachNamed, IsUnnamed}
-use Rattle.delta_blob.specs.Patch.{Means, NamesOnce, PartIs, TypePatch, schemas_in}
+use Rattle.delta_blob.specs.Patch.{NamesOnce, PartIs, SeesParts, TypePatch, parts_for}
 use Rattle.read_engine.specs.Taking.{layout_at}
-use Rattle.delta_blob.proofs.Indexed.{one_index, one_name, type_inside, zip_beside}
+use Rattle.delta_blob.proofs.Indexed.{zip_beside}
+use Rattle.delta_blob.proofs.SeenParts.{one_name, there_apart}
 
 -- ---- the layouts
 
@@ -55,16 +54,13 @@ module _ (base : ℕ → Layout) where
       ∙ layouts_named patch t k named at is (λ j other at_other of_other. (let next = one (suc j) other at_other of_other in omega (arith, next)))
 
 -- of one type a patch has one part
-pub one_part : (schemas : List Schema) (parts : List DeltaPart) (patch : List TypePatch) → NamesOnce parts → AllZip (PartIs schemas) parts patch → (t j k : ℕ) (a b : TypePatch)
+pub one_part : (schemas : List Schema) (parts : List DeltaPart) (patch : List TypePatch) → NamesOnce parts → SeesParts schemas parts patch → (t j k : ℕ) (a b : TypePatch)
     → slice_get patch j ≡ Some a → slice_get patch k ≡ Some b → a.type_index ≡ t → b.type_index ≡ t → j ≡ k
 one_part schemas parts patch once are t j k a b at_a at_b of_a of_b =
-    let (x, at_x, is_x) = zip_beside (PartIs schemas) parts patch j a are at_a in
-    let (y, at_y, is_y) = zip_beside (PartIs schemas) parts patch k b are at_b in
-    one_index (schemas_in parts) once j k x.schema y.schema (in_parts parts j x at_x) (in_parts parts k y at_y)
-    (one_name schemas t x.schema y.schema (subst (Means schemas x.schema) of_a is_x.means) (subst (Means schemas y.schema) of_b is_y.means))
-  where
-    in_parts : (all : List DeltaPart) (i : ℕ) (part : DeltaPart) → slice_get all i ≡ Some part → slice_get (schemas_in all) i ≡ Some part.schema
-    in_parts all i part at = slice_get-map (λ (p : DeltaPart). p.schema) all i ∙ ap (option_map (λ (p : DeltaPart). p.schema)) at
+    let known = parts_for schemas parts in
+    let (x, at_x, is_x) = zip_beside (PartIs schemas) known patch j a are at_a in
+    let (y, at_y, is_y) = zip_beside (PartIs schemas) known patch k b are at_b in
+    there_apart schemas parts once j k x y at_x at_y (one_name schemas x.schema y.schema a.schema b.schema a.type_index b.type_index (of_a ∙ sym of_b) is_x.means is_y.means)
 
 -- ---- the halves
 
@@ -99,7 +95,7 @@ layout_there [] t inside = absurd (omega (arith, inside))
 layout_there (half ∷ halves) zero inside = refl
 layout_there (half ∷ halves) (suc t) inside = layout_there halves t (omega (arith, inside))
 
-module _ (schemas : List Schema) (halves : List Half) (parts : List DeltaPart) (patch : List TypePatch) (names : NamesOnce parts) (are : AllZip (PartIs schemas) parts patch) (table : Table)
+module _ (schemas : List Schema) (halves : List Half) (parts : List DeltaPart) (patch : List TypePatch) (names : NamesOnce parts) (are : SeesParts schemas parts patch) (table : Table)
     (types : length table ≡ length schemas) (count : length halves ≡ length schemas) where
   abbrev layout : ℕ → Layout
   layout = layouts (layout_of halves) patch
@@ -126,8 +122,8 @@ module _ (schemas : List Schema) (halves : List Half) (parts : List DeltaPart) (
   next_named k d within =
       let named = get_or patch k d in
       let there : slice_get patch k ≡ Some named = slice_get-get_or patch k d within in
-      let (part, at, is) = zip_beside (PartIs schemas) parts patch k named are there in
-      next_layout named.type_index (type_inside schemas part.schema.name named.type_index is.means.named)
+      let (part, at, is) = zip_beside (PartIs schemas) (parts_for schemas parts) patch k named are there in
+      next_layout named.type_index (slice_get_within schemas named.type_index named.schema is.means.stands)
       ∙ ap (λ (l : Layout). Some l)
       (layouts_named (layout_of halves) patch named.type_index k named there refl
       (λ j other at_other of_other. one_part schemas parts patch names are named.type_index j k other named at_other there of_other refl))

@@ -23,7 +23,7 @@ use Rattle.hollow_machine.specs.LoadOrder.{LoadStep}
 use Rattle.hollow_machine.specs.State.{Machine, loaded_to, stepped_to}
 use Rattle.hollow_machine.specs.StepOrder.{StepRefusal, StepStep}
 use Rattle.written_laws.proofs.MovedOnce.{moved_once}
-use Rattle.written_laws.proofs.PatchOnce.{patch_once, tags_once}
+use Rattle.delta_blob.proofs.OnePatch.{patch_once, tags_once}
 use Rattle.chain_laws.proofs.ConsumerOrders.{no_load_refusal, no_refusal}
 use Rattle.chain_laws.proofs.StoreNames.{found_with}
 use Rattle.chain_laws.proofs.TypedConsumers.{IsTyped}

@@ -1,6 +1,6 @@
 -- A consumer whose rows are of its model: it is so behind each load, and behind each step from one that is so.
 use Rattle.std.proofs.Common.{◌≡◌, ◌<◌, ◌⊎◌, ℕ, zero, suc, List, [], ◌∷◌, length, Option, Some, None, inl, inr, refl, sym, ap, subst, ◌∙◌}
-use Rattle.std.specs.Prelude.{IfSome, slice_get}
+use Rattle.std.specs.Prelude.{All, IfSome, slice_get}
 use Rattle.std.specs.FinMap.{get}
 use Rattle.std.specs.List.{AllZip}
 use Rattle.std.proofs.lemmas.Bool.{cases_eq}
@@ -20,11 +20,15 @@ use Rattle.type_state.specs.State.{Half}
 use Rattle.type_state.specs.Views.{table_of}
 use Rattle.type_rows.proofs.MovedRows.{moved_all}
 use Rattle.type_rows.proofs.SectionRows.{row_fits, rows_fit}
+use Rattle.seen_patches.proofs.Patched.{ordinals_kept, rows_seen}
+use Rattle.seen_patches.proofs.SomeSeen.{each_seen}
 use Rattle.snapshot_blob.specs.declared.part.TypePart.{TypePart}
 use Rattle.snapshot_blob.specs.Stated.{TypeIs, schemas_of}
 use Rattle.delta_blob.specs.declared.part.DeltaPart.{DeltaPart}
 use Rattle.delta_blob.specs.Moved.{EachNamed, IsUnnamed, MovesType}
-use Rattle.delta_blob.specs.Patch.{PartIs, TypePatch}
+use Rattle.delta_blob.specs.Patch.{PartIs, TypePatch, parts_for}
+use Rattle.delta_blob.proofs.OnePatch.{delta_given}
+use Rattle.delta_blob.proofs.SeenParts.{IsPlainPart, there_plain}
 use Rattle.read_engine.specs.Position.{IsPosition, Position, rows_now}
 use Rattle.read_engine.specs.Taking.{LoadsFrom, StepsBy}
 use Rattle.written_laws.specs.Chain.{Chain, IsChain}
@@ -92,14 +96,15 @@ module _ (schemas : List Schema) (old new : Table) (t : ℕ) where
   -- the part of a delta that moves the type
   record IsMovedBy (part : DeltaPart) (named : TypePatch) : Type 0 where
     is : PartIs schemas part named
+    plain : IsPlainPart part
     at : named.type_index ≡ t
     moves : MovesType old new t named
 
-  moved_or_unnamed : (parts : List DeltaPart) (patch : List TypePatch) → AllZip (PartIs schemas) parts patch → EachNamed patch (MovesType old new)
+  moved_or_unnamed : (parts : List DeltaPart) (patch : List TypePatch) → AllZip (PartIs schemas) parts patch → All IsPlainPart parts → EachNamed patch (MovesType old new)
       → ((part : DeltaPart) × (named : TypePatch) × IsMovedBy part named) ⊎ IsUnnamed patch t
-  moved_or_unnamed parts [] are each = inr (All-nil (λ named. named.type_index ≡ t → ⊥))
-  moved_or_unnamed [] (named ∷ patch) are each = absurd are
-  moved_or_unnamed (part ∷ parts) (named ∷ patch) are each =
+  moved_or_unnamed parts [] are plain each = inr (All-nil (λ named. named.type_index ≡ t → ⊥))
+  moved_or_unnamed [] (named ∷ patch) are plain each = absurd are
+  moved_or_unnamed (part ∷ parts) (named ∷ patch) are plain each =
       elim (cases_eq named.type_index t) [
         | inl here ↦
             inl (
@@ -107,12 +112,13 @@ module _ (schemas : List Schema) (old new : Table) (t : ℕ) where
               named,
               record {
                 is = are.0;
+                plain = All-head IsPlainPart part parts plain;
                 at = here;
                 moves = subst (λ (k : ℕ). MovesType old new k named) here (All-head (λ n. MovesType old new n.type_index n) named patch each);
               },
             )
         | inr apart ↦
-            elim (moved_or_unnamed parts patch are.1 (All-tail (λ n. MovesType old new n.type_index n) named patch each)) [
+            elim (moved_or_unnamed parts patch are.1 (All-tail IsPlainPart part parts plain) (All-tail (λ n. MovesType old new n.type_index n) named patch each)) [
               | inl found ↦ inl found
               | inr none ↦ inr (All-cons (λ n. n.type_index ≡ t → ⊥) named patch apart none)
             ]
@@ -120,23 +126,26 @@ module _ (schemas : List Schema) (old new : Table) (t : ℕ) where
 
   -- the schema of its patch is that of the type
   its_schema : (part : DeltaPart) (named : TypePatch) → IsMovedBy part named → slice_get schemas t ≡ Some named.schema
-  its_schema part named moved = subst (λ (k : ℕ). slice_get schemas k ≡ Some named.schema) moved.at (moved.is.means.equal ∙ ap Some (sym moved.is.schema))
+  its_schema part named moved = subst (λ (k : ℕ). slice_get schemas k ≡ Some named.schema) moved.at moved.is.means.stands
 
   moved_fit : (part : DeltaPart) (named : TypePatch) → IsMovedBy part named → ((ordinal : ℕ) (row : Row) → row_at old t ordinal ≡ Some row → FitsShape named.schema.shape row) → (ordinal : ℕ) (row : Row) → row_at new t ordinal ≡ Some row
       → FitsShape named.schema.shape row
   moved_fit part named moved before ordinal row at =
-      let section = part.section in
       let shape = named.schema.shape in
-      let adds : AddsRows shape section named.rows = subst (λ (s : Schema). AddsRows s.shape section named.rows) (sym moved.is.schema) moved.is.spelled in
+      let (section, is) = each_seen shape part.schema.shape part.section moved.is.means.agree in
+      let ordinals = ordinals_kept shape part.schema.shape part.section section is in
+      let adds : AddsRows shape section named.rows = (rows_seen shape part.schema.shape part.section section named.rows moved.is.means.agree moved.plain.apart moved.plain.given.columns is).1 moved.is.spelled in
       let moves : MovesRows (rows_in old t) (rows_in new t) section.removed section.added named.rows =
-      subst (λ (xs : List ℕ). MovesRows (rows_in old t) (rows_in new t) xs section.added named.rows) moved.is.removed
-      (subst (λ (xs : List ℕ). MovesRows (rows_in old t) (rows_in new t) named.removed xs named.rows) moved.is.added moved.moves) in
+      subst (λ (xs : List ℕ). MovesRows (rows_in old t) (rows_in new t) xs section.added named.rows) (moved.is.removed ∙ sym ordinals.removed)
+      (subst (λ (xs : List ℕ). MovesRows (rows_in old t) (rows_in new t) named.removed xs named.rows) (moved.is.added ∙ sym ordinals.added) moved.moves) in
       moved_all (FitsShape shape) shape section (rows_in old t) (rows_in new t) named.rows adds moves (λ o r is. before o r (sym (get_in old t o) ∙ is))
       (λ place r inside spelled. row_fits shape _ place r spelled) ordinal row (get_in new t ordinal ∙ at)
 
 steps_fit : (blob : List ℕ) (now to : Position) → IsTyped now → StepsBy blob now to → FitTypes now.schemas (rows_now to)
 steps_fit blob now to typed steps t ordinal schema row is at =
-    elim (moved_or_unnamed now.schemas (rows_now now) (rows_now to) t steps.is.parts steps.patch steps.is.types steps.moved.named) [
+    let parts = steps.is.parts in
+    let plain = there_plain now.schemas parts steps.is.items.once (delta_given blob now.schemas now.tag to.tag steps.patch steps.is) in
+    elim (moved_or_unnamed now.schemas (rows_now now) (rows_now to) t (parts_for now.schemas parts) steps.patch steps.is.sees plain steps.moved.named) [
       | inl (part, named, moved) ↦
           (let there = its_schema now.schemas (rows_now now) (rows_now to) t part named moved in
           let both : Some named.schema ≡ Some schema = sym there ∙ is in

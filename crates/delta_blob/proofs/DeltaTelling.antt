@@ -20,7 +20,7 @@ use Rattle.blob_faults.specs.Reading.{short, standing, starts}
 use Rattle.delta_blob.specs.declared.patch.Patch.{Patch}
 use Rattle.delta_blob.specs.declared.patch.PatchPart.{PatchPart}
 use Rattle.delta_blob.specs.Judged.{delta_of, patch_of}
-use Rattle.delta_blob.specs.Reads.{FailsDelta, FindsDelta, IsPatchAt, TellsDelta, TellsPatch}
+use Rattle.delta_blob.specs.Reads.{FailsDelta, FindsDelta, TellsDelta, TellsPatch}
 use Rattle.delta_blob.proofs.PatchTelling.{blames_once, patch_passes}
 
 -- ---- what is tried

@@ -1,10 +1,15 @@
 pub mod AddedItems
-pub mod AmongModel
 pub mod DeltaTelling
+pub mod GivenParts
 pub mod Indexed
 pub mod JudgedTypes
 pub mod Meant
+pub mod NameTelling
 pub mod NamedParts
+pub mod NamingParts
+pub mod OnePatch
+pub mod OwnParts
 pub mod PatchTelling
+pub mod SeenParts
 pub mod SpelledParts
 pub mod WholeDeltas

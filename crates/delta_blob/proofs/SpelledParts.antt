@@ -10,7 +10,7 @@ use Rattle.delta_blob.specs.OfModel.{AreSpelled}
 use Rattle.delta_blob.specs.Parts.{body, patch_part}
 use Rattle.delta_blob.specs.Patch.{schemas_in}
 
-head_spelled : (bytes : List ℕ) (at : ℕ) (head : TypeHead) (next : ℕ) → type_head.Stands bytes at head next → IsSpelled head.schema
+pub head_spelled : (bytes : List ℕ) (at : ℕ) (head : TypeHead) (next : ℕ) → type_head.Stands bytes at head next → IsSpelled head.schema
 unfolding type_head ◌>>=◌ nothing here
 head_spelled bytes at head next (offset, from, placed, (of_type, mid, stands, (u, end, enveloped, is))) =
     subst IsSpelled (ap (λ (h : TypeHead). h.schema) (sym is.0)) (schema_spelled bytes from of_type mid stands)

@@ -8,6 +8,7 @@ use Rattle.schema_model.specs.declared.schema.Schema.{Schema}
 use Rattle.schema_model.specs.Limit.{number_of_limit}
 use Rattle.type_rows.specs.Layout.{places_of}
 use Rattle.type_rows.specs.Patches.{IsReadablePatch}
+use Rattle.seen_patches.specs.Seen.{IsSeen}
 use Rattle.blob_frame.specs.declared.fault.BlobFault.{BlobFault}
 use Rattle.blob_frame.specs.declared.fault.BlobFault.TheVariants as fault
 use Rattle.blob_frame.specs.declared.header.Header.{Header}
@@ -19,25 +20,27 @@ use Rattle.delta_blob.specs.declared.patch.Patch.{Patch}
 use Rattle.delta_blob.specs.declared.patch.PatchPart.{PatchPart}
 use Rattle.delta_blob.specs.Judged.{delta_of, patch_of}
 use Rattle.delta_blob.specs.Parts.{body}
-use Rattle.delta_blob.specs.Patch.{Means, NamesOnce}
+use Rattle.delta_blob.specs.Patch.{AgreesWith, Means, NamesOnce, parts_for}
 
 -- The limits on a type's ordinals, and on its elements or buckets, are kept.
 pub record KeepsCounts (part : DeltaPart) : Type 0 where
   pub ordinals : places_of part.section.max ≤ number_of_limit Ordinals
   pub items : part.section.total ≤ number_of_limit Items
 
--- A type of the delta is this type of the model: its schema means it, and this is its offset and its section.
+-- A type of the delta is this type of the model: its schema means it, and this is its offset and its section, as the model's schema sees it.
 pub record IsOfModel (schemas : List Schema) (part : DeltaPart) (named : PatchPart) : Type 0 where
-  pub means : Means schemas part.schema named.type_index
+  pub mine : Schema
+  pub means : Means schemas part.schema named.type_index mine
   pub at : named.at ≡ part.at
-  pub section : named.section ≡ part.section
+  pub section : IsSeen mine.shape part.schema.shape part.section named.section
 
--- The types of the delta are these of the model: no two have one name, the schema of each means its type, and they keep the limits on ordinals
--- and items.
+-- The types of the delta that the model has are these: no two of the delta have one name, each agrees with the model's of its name, if there is one, and
+-- those that the model has keep the limits on ordinals and items.
 pub record AreOfModel (schemas : List Schema) (parts : List DeltaPart) (named : List PatchPart) : Type 0 where
   pub once : NamesOnce parts
-  pub each : AllZip (IsOfModel schemas) parts named
-  pub counts : All KeepsCounts parts
+  pub agree : All (AgreesWith schemas) parts
+  pub each : AllZip (IsOfModel schemas) (parts_for schemas parts) named
+  pub counts : All KeepsCounts (parts_for schemas parts)
 
 -- From this place on the types of a delta stand up to the end of the blob, and they are these of the model.
 abbrev pub IsPatchAt : List ℕ → ℕ → List Schema → List PatchPart → Type 0

@@ -47,7 +47,7 @@ pub fn header_and_body()
 /// them.
 pub fn parts_of_model()
     ensures { (schemas : List Schema) (blob : List ℕ) (origin destination : ℤ) (patch : List TypePatch) (table : Table) → (is : DeltaIs schemas blob origin destination patch)
-        → Within table patch → KeepItems is.parts → (n : ℕ) × HeaderIs blob n is.head × ((named : List PatchPart) × IsPatchAt blob n schemas named) }
+        → Within table patch → KeepItems schemas is.parts → (n : ℕ) × HeaderIs blob n is.head × ((named : List PatchPart) × IsPatchAt blob n schemas named) }
 {}
 
 /// Types that stand in a blob are those of a model exactly where what is tried of them passes.

@@ -3,6 +3,7 @@
 
 mod added;
 pub mod laws;
+mod names;
 mod of_model;
 mod ordinals;
 mod part;

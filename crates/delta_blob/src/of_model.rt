@@ -1,31 +1,43 @@
 //! The types of a delta, as they stand in the blob, against a model.
-ghost use Rattle.std.specs.Prelude.{◌≡◌, ◌↔◌, ℕ, All, Contains, IfErr, IfOk, IsTrue, MatchOption, MatchResult, length, map};
+ghost use Rattle.std.specs.Prelude.{◌≡◌, ◌++◌, All, IfErr, IfOk, MatchResult, OnOk};
 ghost use Rattle.std.specs.List.{AllZip};
-ghost use Rattle.schema_model.specs.Faults.{TellsFault};
+ghost use Rattle.std.specs.Option.{option_to_list};
 ghost use Rattle.schema_model.specs.Model.{IsModel};
 ghost use Rattle.blob_cursor.specs.Scene.{IsFree};
-ghost use Rattle.blob_faults.specs.Judge.{Blames};
-ghost use Rattle.delta_blob.specs.Judged.{parts_in};
-ghost use Rattle.delta_blob.specs.OfModel.{AreAmong, AreSpelled, IsTaken, IsTypesFault, IsUnlike, counts_in, names_in};
+ghost use Rattle.blob_faults.specs.Judge.{Blames, each_of};
+ghost use Rattle.delta_blob.specs.Judged.{of_model, parts_in};
+ghost use Rattle.delta_blob.specs.Meant.{IsSeenPart};
+ghost use Rattle.delta_blob.specs.OfModel.{AreNamed, AreSpelled, CanBeSeen, IsTypesFault, KeepsNamed, TellsIndex, counts_in, named_at};
 ghost use Rattle.delta_blob.specs.Parts.{IsWellFormedPart};
-ghost use Rattle.delta_blob.specs.Patch.{Means, NamesOnce, schemas_in};
-ghost use Rattle.delta_blob.specs.Reads.{AreOfModel, IsWholePart, KeepsCounts};
-ghost use Rattle.delta_blob.specs.declared.patch.PatchPart.{PatchPart};
+ghost use Rattle.delta_blob.specs.Reads.{AreOfModel, IsWholePart};
 
+use crate::names::check_names;
 use crate::part::{DeltaPart, DeltaParts};
 use crate::patch::{PatchPart, PatchParts};
 use blob_faults::counts_fault;
 use blob_frame::BlobFault;
-use hol_varint::{Duplicate, Ordinals};
-use model_rules::model_of;
-use schema_growth::same_schema;
-use schema_model::{Model, ModelFault, Reason, Rule, Schema, Schemas};
+use hol_varint::{Duplicate, List};
+use schema_growth::agree;
+use schema_model::{Model, Schema};
+use seen_patches::seen_section;
 use std::alloc::{AllocError, Global};
 
-/// The types of a delta as those of a model, within the limits.
+/// A type of a delta that a model has.
+#[derive(Drop)]
+pub(crate) struct NamedPart {
+    /// The index of the type in the model.
+    pub(crate) type_index: u32,
+    /// The type as it stands in the delta.
+    pub(crate) part: DeltaPart,
+}
+
+/// The types of a delta that a model has, in the order of the blob.
+type NamedParts = List<NamedPart>;
+
+/// The types of a delta that a model has, as its schemas see them, within the limits. Those that it has not are passed over.
 ///
 /// `Bad` with `BadSchema` names the first type whose name stands earlier or that has a field twice. Where there is none `OtherModel` names the
-/// first type whose schema is not the model's of its name, and else `Large` the first limit that is passed.
+/// first type whose schema does not agree with the model's of its name, and else `Large` the first limit that is passed.
 pub(crate) fn parts_of(
     alloc: Global,
     parts: DeltaParts,
@@ -35,135 +47,97 @@ pub(crate) fn parts_of(
     ensures found { IfOk result (AreOfModel model.now parts) }
     ensures blames { AreSpelled parts → IfErr result (Blames (parts_in model.now parts) IsFree) }
     ensures kind { IfErr result IsTypesFault }
-    ensures model { IsModel model.now }
+    ensures model { OnOk result (IsModel model.now) }
     ensures whole { IfOk result (All (IsWholePart model.now)) }
 {
-    let indexes = indexes_of(alloc, parts.as_slice(), model)?;
-    check_counts(parts.as_slice())?;
-    Ok(named_parts(alloc, parts, &indexes)?)
+    check_names(alloc, parts.as_slice(), model)?;
+    let named = named_parts(alloc, parts, model)?;
+    check_counts(named.as_slice())?;
+    Ok(seen_parts(alloc, named, model)?)
 }
 
-// The index in the model of each type. No two types have one name, and each has the schema of the model.
-fn indexes_of(alloc: Global, parts: &[DeltaPart], model: &Model) -> Result<Ordinals, BlobFault>
-    ensures found { IfOk result (AreAmong model.now parts.now) }
-    ensures blames { AreSpelled parts.now → IfErr result (Blames (parts_in model.now parts.now) IsFree) }
+// The types that the model has, under their indexes.
+fn named_parts(alloc: Global, parts: DeltaParts, model: &Model) -> Result<NamedParts, BlobFault>
+    ensures found { IfOk result (AreNamed model.now parts) }
+    ensures blames { IfErr result (Blames (each_of (of_model model.now) parts) IsFree) }
     ensures kind { IfErr result IsTypesFault }
-    ensures model { IsModel model.now }
+    ensures model { OnOk result (IsModel model.now) }
 {
-    let mut indexes = Ordinals::with_capacity(alloc, model.len() as usize)?;
-    for part in parts {
-        let Some(type_index) = new_index(model, &part.schema, indexes.as_slice()) else {
-            return Err(unlike(alloc, parts, &part.schema));
-        };
-        indexes.push(type_index)?;
+    let most = parts.len().min(model.len() as usize);
+    let mut named = NamedParts::with_capacity(alloc, most)?;
+    for part in parts.into_vec() {
+        let index = index_for(alloc, model, &part.schema)?;
+        push_named(&mut named, index, part)?;
     }
-    Ok(indexes)
+    Ok(named)
 }
 
-// The index of the type of a model that a schema means, unless it was taken.
-fn new_index(model: &Model, schema: &Schema, taken: &[u32]) -> Option<u32>
-    ensures { MatchOption result ((index : ℕ) → Means model.now schema.now index → Contains taken.now index)
-        (λ index. Means model.now schema.now index × (Contains taken.now index → ⊥)) }
-{
-    let type_index = model.index_of(schema.name.text())?;
-    if same_schema(model.schema(type_index), schema) && !has_number(taken, type_index) {
-        Some(type_index)
-    } else {
-        None
-    }
-}
-
-// Whether a number is among others.
-fn has_number(numbers: &[u32], number: u32) -> bool
-    ensures { IsTrue result ↔ Contains numbers.now number }
-{
-    numbers.contains(&number)
-}
-
-// The fault of types of which this schema is not that of the model, or stands twice.
-fn unlike(alloc: Global, parts: &[DeltaPart], schema: &Schema) -> BlobFault
-    ensures tells { AreSpelled parts.now → IsUnlike parts.now schema.now.name result }
-    ensures kind { IsTypesFault result }
-{
-    if let Err(fault) = check_names(alloc, parts) {
-        return fault;
-    }
-    match schema.name.copy(alloc) {
-        Ok(name) => BlobFault::OtherModel(name),
-        Err(_) => BlobFault::Memory,
-    }
-}
-
-// Tries the names of the types and of their fields, where there are few enough types and fields and no name is too long, as in a blob.
-fn check_names(alloc: Global, parts: &[DeltaPart]) -> Result<(), BlobFault>
-    ensures tells { AreSpelled parts.now → MatchResult result (λ done. NamesOnce parts.now) (Blames (names_in parts.now) IsFree) }
+// The index of the type of a model that a schema means; none where the model has no type of its name.
+fn index_for(alloc: Global, model: &Model, schema: &Schema) -> Result<Option<u32>, BlobFault>
+    ensures tells { TellsIndex model.now schema.now result }
     ensures kind { IfErr result IsTypesFault }
 {
-    let mut schemas = Schemas::new(alloc);
-    for part in parts {
-        schemas.push(part.schema.copy(alloc)?)?;
+    let Some(type_index) = model.index_of(schema.name.text()) else {
+        return Ok(None);
+    };
+    if agree(schema, model.schema(type_index)) {
+        return Ok(Some(type_index));
     }
-    match model_of(alloc, schemas) {
-        Ok(_) => Ok(()),
-        Err(fault) => names_fault(parts, fault),
-    }
+    let name = schema.name.copy(alloc)?;
+    Err(BlobFault::OtherModel(name))
 }
 
-// What a fault of the model of all schemas says of their names. The other rules are not those of a delta.
-fn names_fault(parts: &[DeltaPart], fault: ModelFault) -> Result<(), BlobFault>
-    requires { TellsFault (schemas_in parts.now) fault }
-    ensures tells { AreSpelled parts.now → MatchResult result (λ done. NamesOnce parts.now) (Blames (names_in parts.now) IsFree) }
-    ensures kind { IfErr result IsTypesFault }
+// Adds a type that the model has at the end. Any other is passed over.
+fn push_named(named: &mut NamedParts, index: Option<u32>, part: DeltaPart) -> Result<(), AllocError>
+    ensures { OnOk result (named.new ≡ named.old ++ option_to_list (named_at index part)) }
 {
-    match fault {
-        ModelFault::Broken(rule, type_index) => match rule {
-            Rule::DuplicateName => {
-                Err(BlobFault::Bad(parts[type_index as usize].at, Reason::BadSchema))
-            }
-            _ => Ok(()),
-        },
-        ModelFault::Memory => Err(BlobFault::Memory),
+    match index {
+        Some(type_index) => named.push(NamedPart { type_index, part }),
+        None => Ok(()),
     }
 }
 
 // Tries in each type the limit on ordinals, and then that on elements or buckets.
-fn check_counts(parts: &[DeltaPart]) -> Result<(), BlobFault>
-    ensures { MatchResult result (λ done. All KeepsCounts parts.now) (counts_in parts.now).Fails }
+fn check_counts(parts: &[NamedPart]) -> Result<(), BlobFault>
+    ensures { MatchResult result (λ done. All KeepsNamed parts.now) (counts_in parts.now).Fails }
 {
-    for part in parts {
-        if let Some(fault) = counts_fault(part.section.max, part.section.total) {
+    for named in parts {
+        let section = &named.part.section;
+        if let Some(fault) = counts_fault(section.max, section.total) {
             return Err(fault);
         }
     }
     Ok(())
 }
 
-// The types under their indexes.
-fn named_parts(
-    alloc: Global,
-    parts: DeltaParts,
-    indexes: &Ordinals,
-) -> Result<PatchParts, AllocError>
-    requires { length indexes.now ≡ length parts }
-    ensures taken { IfOk result (AllZip IsTaken parts) }
-    ensures indexes { IfOk result (λ named. map (λ part. part.type_index) named ≡ indexes.now) }
+// The types as the model's schemas see them.
+fn seen_parts(alloc: Global, parts: NamedParts, model: &Model) -> Result<PatchParts, AllocError>
+    requires { All (CanBeSeen model.now) parts }
+    ensures { IfOk result (AllZip (IsSeenPart model.now) parts) }
 {
-    let mut named = PatchParts::with_capacity(alloc, parts.len())?;
-    for part in parts.into_vec() {
-        let type_index = *indexes.get(named.len());
-        named.push(named_part(part, type_index))?;
+    let mut seen = PatchParts::with_capacity(alloc, parts.len())?;
+    for named in parts.into_vec() {
+        seen.push(seen_part(alloc, named, model)?)?;
     }
-    Ok(named)
+    Ok(seen)
 }
 
-// The type under its index.
-fn named_part(part: DeltaPart, type_index: u32) -> PatchPart
-    ensures taken { IsTaken part result }
-    ensures index { result.type_index ≡ type_index }
+// The type as the model's schema sees it.
+fn seen_part(alloc: Global, named: NamedPart, model: &Model) -> Result<PatchPart, AllocError>
+    requires { CanBeSeen model.now named }
+    ensures { IfOk result (IsSeenPart model.now named) }
 {
-    PatchPart {
+    let NamedPart { type_index, part } = named;
+    let DeltaPart {
+        at,
+        schema,
+        section,
+    } = part;
+    let mine = model.schema(type_index);
+    let section = seen_section(alloc, &mine.shape, &schema.shape, section)?;
+    Ok(PatchPart {
         type_index,
-        at: part.at,
-        section: part.section,
-    }
+        at,
+        section,
+    })
 }

@@ -9,11 +9,11 @@ pub struct PatchPart {
     pub type_index: u32,
     /// The offset of its schema in the blob, in bytes.
     pub at: u64,
-    /// What changes of its rows.
+    /// What changes of its rows, as the model's schema sees it.
     pub section: PatchSection,
 }
 
-/// What a delta changes of each type that it names, in the order of the blob.
+/// What a delta changes of each type that it names and a model has, in the order of the blob.
 pub type PatchParts = List<PatchPart>;
 
 /// A delta that was read against a model.
@@ -23,6 +23,6 @@ pub struct Patch {
     pub destination: i64,
     /// How many bytes the blob has.
     pub length: u64,
-    /// The types that it names.
+    /// The types that it names and the model has.
     pub parts: PatchParts,
 }

@@ -15,12 +15,13 @@ use hol_io::{BlobName, BlobStore};
 use schema_model::Model;
 use std::alloc::Global;
 
-/// Reads the types of a delta, from where the cursor stands behind the header up to the end of the blob, as types of a model.
+/// Reads the types of a delta, from where the cursor stands behind the header up to the end of the blob, as types of a model: each as the model's schema
+/// of its name sees it.
 ///
 /// The fault is that of the first which fails of what is tried in turn: `Bad` comes at the first item that cannot be read, then with `BadSchema` at
-/// the first schema whose name stands earlier or has a field twice; `OtherModel` names the first type whose schema is not the model's of its name;
-/// `Large` comes for the first type of which the max ordinal is 2^22 or more, or the total over 2^25. `Store` comes only where the store's count of
-/// faults rose.
+/// the first schema whose name stands earlier or has a field twice; `OtherModel` names the first type whose schema does not agree with the model's of its
+/// name; `Large` comes for the first type that the model has of which the max ordinal is 2^22 or more, or the total over 2^25. Types that the model has not
+/// are passed over. `Store` comes only where the store's count of faults rose.
 pub fn read_patch<S: BlobStore>(
     alloc: Global,
     cursor: &mut Cursor,

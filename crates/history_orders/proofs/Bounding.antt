@@ -1,5 +1,5 @@
 -- The order `history`: a history of no steps, which keeps so many at most.
-use Rattle.std.proofs.Common.{◌≡◌, ℕ, [], Option, Some, None, Ok, refl}
+use Rattle.std.proofs.Common.{ℕ, [], Option, Some, None, Ok, refl}
 use Rattle.hol_io.specs.Store.{Store}
 use Rattle.hol_history.specs.History.{PastSteps, StandsOn, tables_of}
 use Rattle.read_engine.specs.Position.{Position}

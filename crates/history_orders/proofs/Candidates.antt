@@ -1,6 +1,6 @@
 -- The rows of an older version that have a key are among those that steps touched since and those that have the key now.
-use Rattle.std.proofs.Common.{◌≡◌, ◌+◌, ◌<◌, ◌≤◌, inl, inr, ℕ, zero, suc, List, [], ◌∷◌, take, Bool, true, false, Option, Some, None, refl, sym, ap, ◌∙◌, subst, arith}
-use Rattle.std.specs.Prelude.{Contains, IsSomeAnd, flat_map, slice_get}
+use Rattle.std.proofs.Common.{Global, Vec, ◌≡◌, ◌+◌, ◌<◌, ◌≤◌, inl, inr, ℕ, zero, suc, List, [], ◌∷◌, take, Bool, true, false, Option, Some, None, refl, sym, ap, ◌∙◌, subst, arith}
+use Rattle.std.specs.Prelude.{Contains, IfSome, IsSomeAnd, flat_map, slice_get}
 use Rattle.std.proofs.lemmas.Bool.{false≢true, or_cases}
 use Rattle.std.proofs.lemmas.List.{get_or_default}
 use Rattle.std.proofs.lemmas.List.Elements.{Contains-append_left, Contains-append_right}
@@ -19,7 +19,7 @@ use Rattle.hol_history.proofs.Pushes.{place_within}
 use Rattle.hol_history.proofs.RowsBefore.{among_at, place_among}
 use Rattle.read_engine.specs.Position.{Position, rows_now}
 use Rattle.hollow_machine.specs.Kept.{AreClosed}
-use Rattle.history_orders.specs.Older.{HasCandidates, HasMatches, IsOlder}
+use Rattle.history_orders.specs.Older.{HasCandidates, HasMatches, HasMatchesNow, IsOlder}
 use Rattle.history_orders.proofs.Unmoved.{key_now}
 
 -- ---- the ordinals that steps touched
@@ -67,7 +67,7 @@ module _ (now : Position) (steps : List PastStep) (wanted t : ℕ) (schemas : Li
           let moved = key_now schemas t o paths (rows_now now) steps place older.closed older.stands older.past_closed (place_within steps wanted place is_place) (untouched steps place t o touched are none)
           (subst (λ (rows : Table). IsLive rows t o) then_table live) in
           let has_now : key_of schemas (rows_now now) t paths o ≡ Some key = moved.1 ∙ ap (λ (rows : Table). key_of schemas rows t paths o) (sym then_table) ∙ has in
-          (matches.are o).1 (moved.0, ap (λ (s : List Schema). key_of s (rows_now now) t paths o) older.same ∙ has_now)
+          matches o moved.0 (ap (λ (s : List Schema). key_of s (rows_now now) t paths o) older.same ∙ has_now)
 
       by : (o : ℕ) → IsLive table t o → key_of schemas table t paths o ≡ Some key → (b : Bool) → is_among touched o ≡ b → Contains among o
       by o live has true there = subst (λ (xs : List ℕ). Contains xs o) (sym both) (Contains-append_left touched kept o (listed touched o there))
@@ -78,6 +78,22 @@ pub has_matches : (consumer : Option Position) (steps : List PastStep) (wanted t
     IsSomeAnd consumer (λ now. IsOlder now steps wanted schemas table) → IsSomeAnd consumer (HasCandidates steps wanted t paths key among) → HasMatches schemas table t paths key among
 has_matches None steps wanted t schemas table paths key among older has = absurd older
 has_matches (Some now) steps wanted t schemas table paths key among older has = whole now steps wanted t schemas table paths key among older has
+
+-- The same of those that are found.
+pub found_then : (consumer : Option Position) (steps : List PastStep) (wanted t : ℕ) (schemas : List Schema) (table : Table) (paths : List Path) (key : List Value) (found : Option (Vec ℕ Global)) →
+    IsSomeAnd consumer (λ now. IsOlder now steps wanted schemas table) → IfSome found (λ among. IsSomeAnd consumer (HasCandidates steps wanted t paths key among.items)) →
+    IfSome found (λ among. HasMatches schemas table t paths key among.items)
+found_then consumer steps wanted t schemas table paths key None older has = tt
+found_then consumer steps wanted t schemas table paths key (Some among) older has = has_matches consumer steps wanted t schemas table paths key among.items older has
+
+-- The same where the consumer stands.
+pub found_now : (consumer : Option Position) (t : ℕ) (schemas : List Schema) (table : Table) (paths : List Path) (key : List Value) (found : Option (Vec ℕ Global)) →
+    IsSomeAnd consumer (λ now. (now.schemas ≡ schemas) × (rows_now now ≡ table)) → IfSome found (λ among. IsSomeAnd consumer (HasMatchesNow t paths key among.items)) →
+    IfSome found (λ among. HasMatches schemas table t paths key among.items)
+found_now consumer t schemas table paths key None here has = tt
+found_now None t schemas table paths key (Some among) here has = absurd here
+found_now (Some now) t schemas table paths key (Some among) here has =
+    subst (λ (s : List Schema). HasMatches s table t paths key among.items) here.0 (subst (λ (r : Table). HasMatches now.schemas r t paths key among.items) here.1 has)
 
 -- The rows of a version that is reached are older ones.
 pub is_older : (consumer : Option Position) (steps : List PastStep) (wanted : ℕ) (schemas model : List Schema) (table old : Table) → IsSomeAnd consumer (λ now. (now.schemas ≡ schemas) × (rows_now now ≡ table)) →

@@ -7,4 +7,5 @@ pub mod Showing
 pub mod Sought
 pub mod Typed
 pub mod Unmoved
+pub mod Valued
 pub mod Versions

@@ -3,7 +3,7 @@ use Rattle.std.specs.Prelude.{◌≡◌, ◌++◌, ℕ, List, Some, Contains, Is
 use Rattle.schema_model.specs.declared.model.path.Path.{Path}
 use Rattle.schema_model.specs.declared.schema.Schema.{Schema}
 use Rattle.row_model.specs.declared.row.Value.{Value}
-use Rattle.row_model.specs.Key.{AreMatches, key_of}
+use Rattle.row_model.specs.Key.{key_of}
 use Rattle.row_model.specs.Table.{IsClosed, IsLive, Table}
 use Rattle.hol_history.specs.History.{PastStep, StandsOn, table_then, tables_of, versions}
 use Rattle.hol_history.specs.Steps.{AreTouched}
@@ -16,6 +16,10 @@ use Rattle.history_orders.specs.declared.key_seek.KeySeek.TheVariants as seek
 abbrev pub HasMatches : List Schema → Table → ℕ → List Path → List Value → List ℕ → Type 0
 HasMatches schemas table t paths key among = (ordinal : ℕ) → IsLive table t ordinal → key_of schemas table t paths ordinal ≡ Some key → Contains among ordinal
 
+-- The same of the rows where a consumer stands.
+abbrev pub HasMatchesNow : ℕ → List Path → List Value → List ℕ → Position → Type 0
+HasMatchesNow t paths key among now = HasMatches now.schemas (rows_now now) t paths key among
+
 -- The rows of a model are those of a version from which the steps led to where the consumer stands.
 pub record IsOlder (now : Position) (steps : List PastStep) (wanted : ℕ) (schemas : List Schema) (table : Table) : Type 0 where
   pub same : now.schemas ≡ schemas
@@ -27,10 +31,10 @@ pub record IsOlder (now : Position) (steps : List PastStep) (wanted : ℕ) (sche
 
 -- The way to find rows with a key is one of these rows.
 abbrev pub SeeksIn : KeySeek → List Schema → Table → Type 0
-SeeksIn seek.All schemas table = Unit {0}
+SeeksIn (seek.Now consumer) schemas table = IsSomeAnd consumer.now (λ now. (now.schemas ≡ schemas) × (rows_now now ≡ table))
 SeeksIn (seek.Older consumer history wanted) schemas table = IsSomeAnd consumer.now (λ now. IsOlder now history.now.steps wanted schemas table)
 
--- These are the ordinals that the steps since a version touched of a type, and those whose rows have a key where the consumer stands.
+-- These are the ordinals that the steps since a version touched of a type, and others among which those are whose rows have a key where the consumer stands.
 abbrev pub HasCandidates : List PastStep → ℕ → ℕ → List Path → List Value → List ℕ → Position → Type 0
 HasCandidates steps wanted t paths key among now =
-    (touched kept : List ℕ) × AreTouched steps wanted t touched × AreMatches now.schemas (rows_now now) t paths key kept × (among ≡ touched ++ kept)
+    (touched kept : List ℕ) × AreTouched steps wanted t touched × HasMatchesNow t paths key kept now × (among ≡ touched ++ kept)

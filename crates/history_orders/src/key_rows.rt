@@ -184,8 +184,8 @@ fn is_value(found: &Value, value: &Value) -> bool
     }
 }
 
-// The type to which a field of a type leads.
-fn type_behind(model: &Model, type_index: u32, field: u32) -> Option<u32>
+/// The type to which a field of a type leads.
+pub(crate) fn type_behind(model: &Model, type_index: u32, field: u32) -> Option<u32>
     requires { type_index < length model.now }
     ensures { result ≡ type_led_to model.now type_index field }
 {

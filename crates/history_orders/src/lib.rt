@@ -2,6 +2,7 @@
 #![tactic(auto)]
 
 mod history_order;
+mod key_columns;
 mod key_rows;
 mod key_seek;
 mod keyed;

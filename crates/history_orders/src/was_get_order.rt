@@ -34,7 +34,8 @@ use std::alloc::Global;
 /// Shows the one record of a type that has a primary key in a version, the consumer's own one or the newest that the history keeps of it, and tells its
 /// ordinal. Refused with `NoState`, `NotKept`, `NoType`, `WrongKind`, `BadPath`, `BadKey`, `NoMatch`, `Ambiguous` and `TooLarge`, in this order: the last where
 /// the record has more than `MAX_NODES` nodes. Where an index is kept on the primary key it looks at the rows that this finds and at those that steps touched
-/// since the version, and else at all rows of the type.
+/// since the version. Else it goes along the column of the key's first field for the former, and looks at all rows of the type where this is reached through a
+/// reference or does not stand packed.
 pub fn was_get(
     alloc: Global,
     consumer: &Consumer,
@@ -82,7 +83,10 @@ fn was_get_own(
         _ => unreachable!(),
     };
     match refusal {
-        Refusal::NoIndex => was_get_in(alloc, &KeySeek::All, &consumer.now(), name, values),
+        Refusal::NoIndex => {
+            let seek = KeySeek::Now(consumer);
+            was_get_in(alloc, &seek, &consumer.now(), name, values)
+        }
         refusal => Ok(Reply::Refused(refusal)),
     }
 }

@@ -17,22 +17,25 @@ use Rattle.schema_model.specs.Model.{IsKept}
 use Rattle.row_model.specs.Table.{IsClosed, RowMap, Table}
 use Rattle.row_model.specs.BothStates.{rows_in}
 use Rattle.type_rows.specs.Holds.{Holds, KeepsLimits}
-use Rattle.type_rows.specs.Layout.{places_of}
+use Rattle.type_rows.specs.Layout.{Layout, places_of}
 use Rattle.type_rows.specs.Patches.{AddsRows, FitsOrdinals, MovesRows, patch_layout}
 use Rattle.type_state.specs.State.{Half, State}
 use Rattle.type_state.specs.Views.{table_of}
+use Rattle.seen_patches.proofs.Patched.{ordinals_kept}
 use Rattle.delta_blob.specs.declared.part.DeltaPart.{DeltaPart}
 use Rattle.delta_blob.specs.declared.patch.PatchPart.{PatchPart}
 use Rattle.delta_blob.specs.Fits.{Fits, FitsTable, HoldsTable}
 use Rattle.delta_blob.specs.Moved.{EachNamed, IsUnnamed, Moved, MovesType}
-use Rattle.delta_blob.specs.Patch.{Means, PartIs, TypePatch, schemas_in}
-use Rattle.delta_blob.specs.Reads.{AreOfModel, IsOfModel}
+use Rattle.delta_blob.specs.Patch.{PartIs, SeesParts, TypePatch, parts_for}
+use Rattle.delta_blob.specs.Reads.{AreOfModel, IsOfModel, KeepsCounts}
 use Rattle.delta_blob.specs.Within.{IsTypeWithin, Within}
 use Rattle.row_model.specs.Before.{PastPart, no_part}
 use Rattle.state_moves.specs.Moving.{AreMoved, MovesState, TypeIs, coming_half, coming_halves}
 use Rattle.state_moves.specs.Halves.{current_halves}
 use Rattle.read_engine.specs.Taking.{layout_at}
-use Rattle.delta_blob.proofs.Indexed.{one_index, one_name}
+use Rattle.delta_blob.proofs.GivenParts.{IsGivenPart}
+use Rattle.delta_blob.proofs.Meant.{all_at}
+use Rattle.delta_blob.proofs.SeenParts.{IsPlainPart, one_name, part_is, patch_of_rows, there_apart, there_plain}
 use Rattle.state_moves.proofs.Changed.{comes_named, comes_unnamed, coming_long, state_there, zip_from}
 use Rattle.state_moves.proofs.Comings.{coming_at, half_at}
 use Rattle.state_moves.proofs.Tables.{current_at}
@@ -60,7 +63,14 @@ some_schema = record { name = []; shape = Shape.Set [] }
 -- ---- what a step took
 
 module _ (schemas : List Schema) (mid : List State) (flags : List Bool) (past : List PastPart) (named : List PatchPart) (parts : List DeltaPart) (apart : IsKept schemas DuplicateName) (of : AreOfModel schemas parts named)
-    (moved : AreMoved named mid flags past) (are : map (λ (s : State). s.schema) mid ≡ schemas) where
+    (moved : AreMoved named mid flags past) (are : map (λ (s : State). s.schema) mid ≡ schemas) (given : All IsGivenPart parts) where
+  -- the parts of the types that the model has
+  abbrev pub known : List DeltaPart
+  known = parts_for schemas parts
+
+  plain_at : (k : ℕ) (d : DeltaPart) → slice_get known k ≡ Some d → IsPlainPart d
+  plain_at k d at = all_at IsPlainPart known k d (there_plain schemas parts of.once given) at
+
   abbrev pub old : Table
   old = table_of (current_halves mid)
 
@@ -70,12 +80,9 @@ module _ (schemas : List Schema) (mid : List State) (flags : List Bool) (past : 
   -- no two parts are of one type
   pub one_place : (i j : ℕ) (a b : PatchPart) → slice_get named i ≡ Some a → slice_get named j ≡ Some b → a.type_index ≡ b.type_index → i ≡ j
   one_place i j a b one other same =
-      let (c, at_c, is_c) = zip_at (IsOfModel schemas) parts named of.each i a one in
-      let (d, at_d, is_d) = zip_at (IsOfModel schemas) parts named of.each j b other in
-      let name : c.schema.name ≡ d.schema.name = one_name schemas b.type_index c.schema d.schema (subst (Means schemas c.schema) same is_c.means) is_d.means in
-      let here : slice_get (schemas_in parts) i ≡ Some c.schema = slice_get-map (λ (p : DeltaPart). p.schema) parts i ∙ ap (option_map (λ (p : DeltaPart). p.schema)) at_c in
-      let there : slice_get (schemas_in parts) j ≡ Some d.schema = slice_get-map (λ (p : DeltaPart). p.schema) parts j ∙ ap (option_map (λ (p : DeltaPart). p.schema)) at_d in
-      one_index (schemas_in parts) of.once i j c.schema d.schema here there name
+      let (c, at_c, is_c) = zip_at (IsOfModel schemas) known named of.each i a one in
+      let (d, at_d, is_d) = zip_at (IsOfModel schemas) known named of.each j b other in
+      there_apart schemas parts of.once i j c d at_c at_d (one_name schemas c.schema d.schema is_c.mine is_d.mine a.type_index b.type_index same is_c.means is_d.means)
 
   -- What one part did.
   pub record PatchOf (part : DeltaPart) (t : ℕ) (patch : TypePatch) : Type 0 where
@@ -96,23 +103,23 @@ module _ (schemas : List Schema) (mid : List State) (flags : List Bool) (past : 
     type_is = moved.types t state (get_or flags t false) (get_or past t no_part) there flag_there (slice_get-get_or past t no_part (omega (arith, slice_get_within mid t state there, moved.past_long)))
 
   -- What a part did to a type.
-  pub record MovedBy (n : PatchPart) (d : DeltaPart) : Type 0 where
+  pub record MovedBy (n : PatchPart) (d : DeltaPart) (is : IsOfModel schemas d n) : Type 0 where
     pub state : State
     pub flag : Bool
     pub part : PastPart
     pub there : slice_get mid n.type_index ≡ Some state
     pub flagged : slice_get flags n.type_index ≡ Some flag
     pub is_named : flag ≡ true
-    pub schema : state.schema ≡ d.schema
+    pub schema : state.schema ≡ is.mine
     pub moves : MovesState n.section state part
 
   -- the type that a part moved
-  moved_by : (k : ℕ) (d : DeltaPart) (n : PatchPart) → slice_get named k ≡ Some n → IsOfModel schemas d n → MovedBy n d
+  moved_by : (k : ℕ) (d : DeltaPart) (n : PatchPart) → slice_get named k ≡ Some n → (is : IsOfModel schemas d n) → MovedBy n d is
   moved_by k d n at is =
-      let (state, there, schema) = state_there mid schemas n.type_index d.schema are is.means.equal in
+      let (state, there, schema) = state_there mid schemas n.type_index is.mine are is.means.stands in
       by_type state (get_or flags n.type_index false) (get_or past n.type_index no_part) there (flag_there n.type_index state there) schema (type_is n.type_index state there)
     where
-      by_type : (state : State) (flag : Bool) (part : PastPart) → slice_get mid n.type_index ≡ Some state → slice_get flags n.type_index ≡ Some flag → state.schema ≡ d.schema → TypeIs named n.type_index state flag part → MovedBy n d
+      by_type : (state : State) (flag : Bool) (part : PastPart) → slice_get mid n.type_index ≡ Some state → slice_get flags n.type_index ≡ Some flag → state.schema ≡ is.mine → TypeIs named n.type_index state flag part → MovedBy n d is
       by_type state flag part there flagged schema (TypeIs.Unnamed unnamed none all) =
           absurd (subst (λ (p : PatchPart). p.type_index ≡ n.type_index → ⊥) (get_or_from_slice_get named k n n at) (all k n (slice_get_within named k n at)) refl)
       by_type state flag part there flagged schema (TypeIs.Named is_named place other at_place same moves) =
@@ -130,57 +137,46 @@ module _ (schemas : List Schema) (mid : List State) (flags : List Bool) (past : 
             moves = subst (λ (p : PatchPart). MovesState p.section state part) is_same moves;
           }
 
-  patch_at : (k : ℕ) (d : DeltaPart) (n : PatchPart) → slice_get parts k ≡ Some d → slice_get named k ≡ Some n → IsOfModel schemas d n → (patch : TypePatch) × PatchOf d n.type_index patch
+  patch_at : (k : ℕ) (d : DeltaPart) (n : PatchPart) → slice_get known k ≡ Some d → slice_get named k ≡ Some n → IsOfModel schemas d n → (patch : TypePatch) × PatchOf d n.type_index patch
   patch_at k d n at_d at is =
-      let by : MovedBy n d = moved_by k d n at is in
+      let by : MovedBy n d is = moved_by k d n at is in
       let state : State = by.state in
       let flag : Bool = by.flag in
       let there : slice_get mid n.type_index ≡ Some state = by.there in
       let flagged : slice_get flags n.type_index ≡ Some flag = by.flagged in
-      let schema : state.schema ≡ d.schema = by.schema in
+      let schema : state.schema ≡ is.mine = by.schema in
       let moves : MovesState n.section state by.part = by.moves in
       let rows = moves.moved.added in
-      let patch : TypePatch = record { type_index = n.type_index; schema = state.schema; layout = patch_layout n.section; own = n.section.own; removed = n.section.removed; added = n.section.added; rows = rows } in
+      let layout : Layout = patch_layout n.section in
       let was : rows_in old n.type_index ≡ state.current.rows = rows_at old n.type_index state.current.rows (current_at mid n.type_index state there) in
       let half : coming_half state flag ≡ state.other = comes_named state flag by.is_named in
       let is_new : rows_in new n.type_index ≡ state.other.rows = rows_at new n.type_index (coming_half state flag).rows (coming_at mid flags n.type_index state flag there flagged) ∙ ap (λ (h : Half). h.rows) half in
-      let within : KeepsLimits state.schema.shape n.section.own (patch_layout n.section) (rows_in new n.type_index) = subst (KeepsLimits state.schema.shape n.section.own (patch_layout n.section)) (sym is_new) moves.moved.within in (
-        patch,
+      let max : n.section.max ≡ d.section.max = (ordinals_kept is.mine.shape d.schema.shape d.section n.section is.section).max in (
+        patch_of_rows schemas d (plain_at k d at_d) n is rows,
         record {
-          is = record {
-            means = is.means;
-            schema = schema;
-            layout = ap patch_layout is.section;
-            own = ap (λ s. s.own) is.section;
-            removed = ap (λ s. s.removed) is.section;
-            added = ap (λ s. s.added) is.section;
-            spelled = subst (λ (s : Schema). AddsRows s.shape d.section rows) schema (subst (λ s. AddsRows state.schema.shape s rows) is.section moves.moved.adds);
-          };
+          is = part_is schemas d (plain_at k d at_d) n is rows (subst (λ (s : Schema). AddsRows s.shape n.section rows) schema moves.moved.adds);
           index = refl;
-          fits = subst (λ (r : RowMap). FitsOrdinals r (patch_layout n.section) n.section.removed n.section.added) (sym was) moves.moved.ordinals;
-          holds = subst (Holds state.schema.shape (patch_layout n.section)) (sym is_new) moves.moved.held;
+          fits = subst (λ (r : RowMap). FitsOrdinals r layout n.section.removed n.section.added) (sym was) moves.moved.ordinals;
+          holds = subst (λ (s : Schema). Holds s.shape layout (rows_in new n.type_index)) schema (subst (Holds state.schema.shape layout) (sym is_new) moves.moved.held);
           moves = subst (λ (r : RowMap). MovesRows r (rows_in new n.type_index) n.section.removed n.section.added rows) (sym was) (subst (λ (r : RowMap). MovesRows state.current.rows r n.section.removed n.section.added rows) (sym is_new) moves.moved.moves);
           within = record {
-            ordinals = subst (λ s. places_of s.max ≤ number_of_limit Ordinals) (sym is.section) (counts k d at_d);
-            kept = within;
+            ordinals = subst (λ (m : Option ℕ). places_of m ≤ number_of_limit Ordinals) (sym max) (all_at KeepsCounts known k d of.counts at_d).ordinals;
+            kept = subst (λ (s : Schema). KeepsLimits s.shape n.section.own layout (rows_in new n.type_index)) schema (subst (KeepsLimits state.schema.shape n.section.own layout) (sym is_new) moves.moved.within);
           };
           layout = ap (option_map (λ (h : Half). h.layout)) (half_at mid flags n.type_index state flag there flagged) ∙ ap (λ (h : Half). Some h.layout) half ∙ ap Some moves.layout;
         },
       )
-    where
-      counts : (k : ℕ) (d : DeltaPart) → slice_get parts k ≡ Some d → places_of d.section.max ≤ number_of_limit Ordinals
-      counts k d at_d = subst (λ (p : DeltaPart). places_of p.section.max ≤ number_of_limit Ordinals) (get_or_from_slice_get parts k d d at_d) (of.counts k d (slice_get_within parts k d at_d)).ordinals
 
   -- each part has its patch
   abbrev pub Chosen : DeltaPart → PatchPart → Type 0
   Chosen d n = (patch : TypePatch) × PatchOf d n.type_index patch
 
-  all_chosen : AllZip Chosen parts named
-  all_chosen = zip_from Chosen parts named (zipped_long (IsOfModel schemas) parts named of.each) (λ k d n at_d at. patch_at k d n at_d at (beside k d n at_d at))
+  all_chosen : AllZip Chosen known named
+  all_chosen = zip_from Chosen known named (zipped_long (IsOfModel schemas) known named of.each) (λ k d n at_d at. patch_at k d n at_d at (beside k d n at_d at))
     where
-      beside : (k : ℕ) (d : DeltaPart) (n : PatchPart) → slice_get parts k ≡ Some d → slice_get named k ≡ Some n → IsOfModel schemas d n
+      beside : (k : ℕ) (d : DeltaPart) (n : PatchPart) → slice_get known k ≡ Some d → slice_get named k ≡ Some n → IsOfModel schemas d n
       beside k d n at_d at =
-          let (other, at_other, is) = zip_at (IsOfModel schemas) parts named of.each k n at in
+          let (other, at_other, is) = zip_at (IsOfModel schemas) known named of.each k n at in
           let alike : Some other ≡ Some d = sym at_other ∙ at_d in
           let same : other ≡ d = cc in
           subst (λ (p : DeltaPart). IsOfModel schemas p n) same is
@@ -218,15 +214,15 @@ module _ (schemas : List Schema) (mid : List State) (flags : List Bool) (past : 
       (none_named t ds ns all.1 (All-tail (λ p. p.type_index ≡ t → ⊥) all.0.0 (patches ds ns all.1) none))
 
   pub patch : List TypePatch
-  patch = patches parts named all_chosen
+  patch = patches known named all_chosen
 
-  pub is_patch : AllZip (PartIs schemas) parts patch
+  pub is_patch : SeesParts schemas parts patch
   unfolding patch
-  is_patch = parts_are parts named all_chosen
+  is_patch = parts_are known named all_chosen
 
   pub each_of_patch : (Q : ℕ → TypePatch → Type 0) → ((d : DeltaPart) (t : ℕ) (p : TypePatch) → PatchOf d t p → Q p.type_index p) → EachNamed patch Q
   unfolding patch
-  each_of_patch Q gives = each_named Q gives parts named all_chosen
+  each_of_patch Q gives = each_named Q gives known named all_chosen
 
   -- a type that the patch does not name keeps its half
   pub half_stays : (t : ℕ) → t < length schemas → IsUnnamed patch t → slice_get (coming_halves mid flags) t ≡ slice_get (current_halves mid) t
@@ -238,7 +234,7 @@ module _ (schemas : List Schema) (mid : List State) (flags : List Bool) (past : 
       ∙ sym (slice_get-map (λ (s : State). s.current) mid t ∙ ap (option_map (λ (s : State). s.current)) there)
     where
       none_of : All (λ n. n.type_index ≡ t → ⊥) named
-      none_of = none_named t parts named all_chosen none
+      none_of = none_named t known named all_chosen none
 
       by_type : (state : State) (flag : Bool) (part : PastPart) → TypeIs named t state flag part → coming_half state flag ≡ state.current
       by_type state flag part (TypeIs.Unnamed unnamed none all) = comes_unnamed state flag unnamed

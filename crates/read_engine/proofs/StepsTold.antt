@@ -1,5 +1,6 @@
 -- What a step tells of a blob: that it leads to a position, or the fault of it.
 use Rattle.std.proofs.Common.{◌≡◌, ◌≤◌, ◌⊎◌, inl, inr, ℕ, ℤ, List, length, map, Option, Some, None, Result, Ok, Err, IfSome, refl, sym, ap, ◌∙◌, subst}
+use Rattle.std.specs.Prelude.{All}
 use Rattle.std.proofs.lemmas.List.{length-map}
 use Rattle.hol_io.specs.declared.name.BlobName.{BlobName}
 use Rattle.hol_io.specs.Store.{Store, told}
@@ -24,6 +25,7 @@ use Rattle.delta_blob.specs.Moved.{Moved}
 use Rattle.delta_blob.specs.Patch.{TypePatch}
 use Rattle.delta_blob.specs.Reads.{IsPatchAt, TellsDelta}
 use Rattle.delta_blob.proofs.DeltaTelling.{delta_passes}
+use Rattle.delta_blob.proofs.GivenParts.{IsGivenPart, body_given}
 use Rattle.delta_blob.proofs.PatchTelling.{patch_passes}
 use Rattle.delta_blob.proofs.WholeDeltas.{joined}
 use Rattle.state_moves.specs.Halves.{current_halves}
@@ -49,8 +51,11 @@ module _ (blob : List ℕ) (n : ℕ) (head : Header) (named : List PatchPart) (f
   abbrev pub are : map (λ (s : State). s.schema) mid ≡ from.schemas
   are = taken.moves.stays.schemas ∙ taken.at.schemas
 
+  abbrev pub given : All IsGivenPart read.0
+  given = body_given blob n read.0 (length blob) read.1
+
   abbrev pub patch : List TypePatch
-  patch = patches.patch from.schemas mid taken.named taken.past named read.0 apart read.2 taken.moves.moved are
+  patch = patches.patch from.schemas mid taken.named taken.past named read.0 apart read.2 taken.moves.moved are given
 
   old_is : table_of (current_halves mid) ≡ rows_now from
   old_is = ap table_of (taken.moves.stays.halves ∙ taken.at.halves)
@@ -71,18 +76,19 @@ module _ (blob : List ℕ) (n : ℕ) (head : Header) (named : List PatchPart) (f
       items = record { items = joined blob head n read.0 begins read.1; once = read.2.once };
       from_tag = origin;
       to_tag = refl;
-      types = patches.is_patch from.schemas mid taken.named taken.past named read.0 apart read.2 taken.moves.moved are;
+      agree = read.2.agree;
+      sees = patches.is_patch from.schemas mid taken.named taken.past named read.0 apart read.2 taken.moves.moved are given;
     };
-    fits = subst (λ (t : Table). Fits from.schemas t patch) old_is (patches.fits_patch from.schemas mid taken.named taken.past named read.0 apart read.2 taken.moves.moved are taken.moves.closed);
-    moved = subst (λ (t : Table). Moved patch t (table_of (coming_halves mid taken.named))) old_is (patches.moves_patch from.schemas mid taken.named taken.past named read.0 apart read.2 taken.moves.moved are);
-    within = patches.within_patch from.schemas mid taken.named taken.past named read.0 apart read.2 taken.moves.moved are;
+    fits = subst (λ (t : Table). Fits from.schemas t patch) old_is (patches.fits_patch from.schemas mid taken.named taken.past named read.0 apart read.2 taken.moves.moved are given taken.moves.closed);
+    moved = subst (λ (t : Table). Moved patch t (table_of (coming_halves mid taken.named))) old_is (patches.moves_patch from.schemas mid taken.named taken.past named read.0 apart read.2 taken.moves.moved are given);
+    within = patches.within_patch from.schemas mid taken.named taken.past named read.0 apart read.2 taken.moves.moved are given;
     items = λ k d inside. (read.2.counts k d inside).items;
     short = short;
     model = refl;
     types = lengths;
-    layouts = patches.layouts_of_patch from.schemas mid taken.named taken.past named read.0 apart read.2 taken.moves.moved are;
+    layouts = patches.layouts_of_patch from.schemas mid taken.named taken.past named read.0 apart read.2 taken.moves.moved are given;
     others = λ t inside none.
-        patches.other_layouts from.schemas mid taken.named taken.past named read.0 apart read.2 taken.moves.moved are t inside none
+        patches.other_layouts from.schemas mid taken.named taken.past named read.0 apart read.2 taken.moves.moved are given t inside none
         ∙ ap (λ (hs : List Half). layout_at hs t) (taken.moves.stays.halves ∙ taken.at.halves);
     before = refl;
     indexes = refl;

@@ -16,10 +16,9 @@ use Rattle.schema_model.specs.Model.{IsKept}
 use Rattle.row_model.specs.declared.row.Row.{Row}
 use Rattle.row_model.specs.Table.{RowMap, Table}
 use Rattle.row_model.specs.BothStates.{rows_in}
-use Rattle.type_rows.specs.declared.patch.PatchSection.{PatchSection}
 use Rattle.type_rows.specs.Holds.{Holds, KeepsLimits}
 use Rattle.type_rows.specs.Layout.{Layout}
-use Rattle.type_rows.specs.Patches.{AddsRows, FitsOrdinals, IsMovedBy, MovesRows, patch_layout}
+use Rattle.type_rows.specs.Patches.{FitsOrdinals, IsMovedBy, MovesRows, patch_layout}
 use Rattle.blob_frame.specs.declared.fault.BlobFault.{BlobFault}
 use Rattle.blob_frame.specs.declared.header.Header.{Header}
 use Rattle.blob_frame.specs.Header.{header, HeaderIs}
@@ -35,13 +34,16 @@ use Rattle.delta_blob.specs.Fits.{FitsTable, HoldsTable}
 use Rattle.delta_blob.specs.Judged.{patch_of}
 use Rattle.delta_blob.specs.Moved.{EachNamed, IsUnnamed, MovesType}
 use Rattle.delta_blob.specs.Parts.{body}
-use Rattle.delta_blob.specs.Patch.{PartIs, TypePatch}
+use Rattle.delta_blob.specs.Patch.{PartIs, SeesParts, TypePatch, parts_for}
 use Rattle.delta_blob.specs.Reads.{IsOfModel, IsPatchAt}
 use Rattle.delta_blob.specs.Within.{IsTypeWithin}
 use Rattle.delta_blob.proofs.DeltaTelling.{delta_passes}
-use Rattle.delta_blob.proofs.Indexed.{one_type, zip_at, zip_beside}
+use Rattle.delta_blob.proofs.GivenParts.{body_given}
+use Rattle.delta_blob.proofs.Indexed.{zip_at, zip_beside}
 use Rattle.delta_blob.proofs.JudgedTypes.{model_passes}
+use Rattle.delta_blob.proofs.Meant.{all_at}
 use Rattle.delta_blob.proofs.NamedParts.{stands_of_model}
+use Rattle.delta_blob.proofs.SeenParts.{HasSeen, IsPlainPart, has_seen, there_plain}
 use Rattle.delta_blob.proofs.WholeDeltas.{split}
 use Rattle.state_moves.specs.Judged.{moved_table, part_moves}
 use Rattle.state_moves.proofs.Changed.{any_place}
@@ -131,14 +133,20 @@ module _ (blob : List ℕ) (n : ℕ) (head : Header) (named : List PatchPart) (f
       let place = (header.decided.one blob 0 steps.is.head head m n other begins).1 in
       (body.decided.one blob n steps.is.parts read.0 (length blob) (length blob) (subst (λ (k : ℕ). body.Stands blob k steps.is.parts (length blob)) place stands) read.1).0
 
-  types : AllZip (PartIs from.schemas) read.0 steps.patch
-  types = subst (λ (ps : List DeltaPart). AllZip (PartIs from.schemas) ps steps.patch) same_parts steps.is.types
+  -- the parts of the types that the model has
+  abbrev known : List DeltaPart
+  known = parts_for from.schemas read.0
 
-  -- a type of the delta has one index
-  index : (part : PatchPart) (d : DeltaPart) (p : TypePatch) → IsOfModel from.schemas d part → PartIs from.schemas d p → p.type_index ≡ part.type_index
-  index part d p is_part is = one_type from.schemas apart p.type_index part.type_index d.schema d.schema is.means is_part.means refl
+  types : AllZip (PartIs from.schemas) known steps.patch
+  types = subst (λ (ps : List DeltaPart). SeesParts from.schemas ps steps.patch) same_parts steps.is.sees
 
-  module _ (k : ℕ) (part : PatchPart) (d : DeltaPart) (p : TypePatch) (is_part : IsOfModel from.schemas d part) (is : PartIs from.schemas d p) (there : slice_get steps.patch k ≡ Some p) where
+  plain_at : (k : ℕ) (d : DeltaPart) → slice_get known k ≡ Some d → IsPlainPart d
+  plain_at k d at = all_at IsPlainPart known k d (there_plain from.schemas read.0 read.2.once (body_given blob n read.0 (length blob) read.1)) at
+
+  module _ (k : ℕ) (part : PatchPart) (d : DeltaPart) (p : TypePatch) (plain : IsPlainPart d) (is_part : IsOfModel from.schemas d part) (is : PartIs from.schemas d p) (there : slice_get steps.patch k ≡ Some p) where
+    has : HasSeen from.schemas d plain part is_part p
+    has = has_seen from.schemas d plain part is_part apart p is
+
     abbrev pub t : ℕ
     t = part.type_index
 
@@ -149,19 +157,7 @@ module _ (blob : List ℕ) (n : ℕ) (head : Header) (named : List PatchPart) (f
     new = rows_in steps.fits.moved t
 
     at : p.type_index ≡ t
-    at = index part d p is_part is
-
-    layout : p.layout ≡ patch_layout part.section
-    layout = is.layout ∙ ap patch_layout (sym is_part.section)
-
-    removed : p.removed ≡ part.section.removed
-    removed = is.removed ∙ ap (λ (s : PatchSection). s.removed) (sym is_part.section)
-
-    own : p.own ≡ part.section.own
-    own = is.own ∙ ap (λ (s : PatchSection). s.own) (sym is_part.section)
-
-    added : p.added ≡ part.section.added
-    added = is.added ∙ ap (λ (s : PatchSection). s.added) (sym is_part.section)
+    at = has.index
 
     moves_here : MovesType (rows_now from) steps.fits.moved t p
     moves_here = at_named steps.patch (MovesType (rows_now from) steps.fits.moved) k t p steps.fits.moves.named there at
@@ -182,34 +178,36 @@ module _ (blob : List ℕ) (n : ℕ) (head : Header) (named : List PatchPart) (f
     within = (at_named steps.patch (IsTypeWithin (rows_now to)) k t p steps.within there at).kept
 
     -- the part moves the rows of its type
-    pub moved_by : IsMovedBy d.schema.shape part.section old new
-    moved_by = subst (λ (s : Schema). IsMovedBy s.shape part.section old new) is.schema record {
+    pub moved_by : IsMovedBy is_part.mine.shape part.section old new
+    moved_by = record {
       added = p.rows;
-      adds = subst (λ (s : Schema). AddsRows s.shape part.section p.rows) (sym is.schema) (subst (λ (s : PatchSection). AddsRows d.schema.shape s p.rows) (sym is_part.section) is.spelled);
-      ordinals = subst (λ (l : Layout). FitsOrdinals old l part.section.removed part.section.added) layout
-          (subst (λ (os : List ℕ). FitsOrdinals old p.layout os part.section.added) removed (subst (λ (os : List ℕ). FitsOrdinals old p.layout p.removed os) added fit));
-      moves = subst (λ (os : List ℕ). MovesRows old new os part.section.added p.rows) removed (subst (λ (os : List ℕ). MovesRows old new p.removed os p.rows) added moves_here);
-      held = subst (λ (l : Layout). Holds p.schema.shape l new) layout holds;
-      within = subst (λ (n : ℕ). KeepsLimits p.schema.shape n (patch_layout part.section) new) own
-          (subst (λ (l : Layout). KeepsLimits p.schema.shape p.own l new) layout (subst (KeepsLimits p.schema.shape p.own p.layout) same_rows within));
+      adds = has.adds;
+      ordinals = subst (λ (l : Layout). FitsOrdinals old l part.section.removed part.section.added) has.layout
+          (subst (λ (os : List ℕ). FitsOrdinals old p.layout os part.section.added) has.removed (subst (λ (os : List ℕ). FitsOrdinals old p.layout p.removed os) has.added fit));
+      moves = subst (λ (os : List ℕ). MovesRows old new os part.section.added p.rows) has.removed (subst (λ (os : List ℕ). MovesRows old new p.removed os p.rows) has.added moves_here);
+      held = subst (λ (s : Schema). Holds s.shape (patch_layout part.section) new) has.schema (subst (λ (l : Layout). Holds p.schema.shape l new) has.layout holds);
+      within = subst (λ (s : Schema). KeepsLimits s.shape part.section.own (patch_layout part.section) new) has.schema
+          (subst (λ (n : ℕ). KeepsLimits p.schema.shape n (patch_layout part.section) new) has.own
+          (subst (λ (l : Layout). KeepsLimits p.schema.shape p.own l new) has.layout (subst (KeepsLimits p.schema.shape p.own p.layout) same_rows within)));
     }
 
   -- so does each part
   pub each_moves : (k : ℕ) (part : PatchPart) → slice_get named k ≡ Some part → (schema : Schema) × (slice_get from.schemas part.type_index ≡ Some schema)
       × IsMovedBy schema.shape part.section (rows_in (rows_now from) part.type_index) (rows_in steps.fits.moved part.type_index)
   each_moves k part is =
-      let (d, at_d, is_part) = zip_beside (IsOfModel from.schemas) read.0 named k part read.2.each is in
-      let (p, there, is_patch) = zip_at (PartIs from.schemas) read.0 steps.patch k d types at_d in
-      (d.schema, is_part.means.equal, moved_by k part d p is_part is_patch there)
+      let (d, at_d, is_part) = zip_beside (IsOfModel from.schemas) known named k part read.2.each is in
+      let (p, there, is_patch) = zip_at (PartIs from.schemas) known steps.patch k d types at_d in
+      (is_part.mine, is_part.means.stands, moved_by k part d p (plain_at k d at_d) is_part is_patch there)
 
   -- a type that no part names is not named
   pub unnamed : (t : ℕ) → All (λ part. part.type_index ≡ t → ⊥) named → IsUnnamed steps.patch t
   unnamed t none k default inside =
       let p = get_or steps.patch k default in
       let there : slice_get steps.patch k ≡ Some p = slice_get-get_or steps.patch k default inside in
-      let (d, at_d, is) = zip_beside (PartIs from.schemas) read.0 steps.patch k p types there in
-      let (part, at_part, is_part) = zip_at (IsOfModel from.schemas) read.0 named k d read.2.each at_d in
-      λ at. none_at k part at_part (sym (index part d p is_part is) ∙ at)
+      let (d, at_d, is) = zip_beside (PartIs from.schemas) known steps.patch k p types there in
+      let (part, at_part, is_part) = zip_at (IsOfModel from.schemas) known named k d read.2.each at_d in
+      let index = (has_seen from.schemas d (plain_at k d at_d) part is_part apart p is).index in
+      λ at. none_at k part at_part (sym index ∙ at)
     where
       none_at : (k : ℕ) (part : PatchPart) → slice_get named k ≡ Some part → part.type_index ≡ t → ⊥
       none_at k part at_part = subst (λ (x : PatchPart). x.type_index ≡ t → ⊥) (get_or_from_slice_get named k part part at_part) (none k part (slice_get_within named k part at_part))

@@ -44,7 +44,7 @@ pub record StepsBy (blob : List ℕ) (from to : Position) : Type 0 where
   pub fits : Fits from.schemas (rows_now from) patch
   pub moved : Moved patch (rows_now from) (rows_now to)
   pub within : Within (rows_now to) patch
-  pub items : KeepItems is.parts
+  pub items : KeepItems from.schemas is.parts
   pub short : length blob ≤ number_of_limit Blob
   pub model : to.schemas ≡ from.schemas
   pub types : length to.halves ≡ length from.halves

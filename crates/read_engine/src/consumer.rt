@@ -110,7 +110,7 @@ impl Consumer {
     ///
     /// `NoBlob` comes exactly where the store has no such name, and any other fault exactly where it is that of the first thing which fails of
     /// what is tried of the blob: its length (`Large` with `Blob`), its header (`Bad`), the tag that it starts from (`OtherOrigin`), its items and
-    /// that no name stands twice (`Bad`), type by type that it is one of the model (`OtherModel`), then the limits on ordinals and items
+    /// that no name stands twice (`Bad`), type by type that it agrees with the model (`OtherModel`), then the limits on ordinals and items
     /// (`Large`), then that it moves the rows (`BadRow`, or `Large` with `Words` or `Bytes`), and at last whether the rows are closed (`BadRow`).
     /// But `Memory` may come in place of any answer, and `Store` comes only where the store's count of faults rose. After a fault everything is
     /// as before, the rows before the last step too.

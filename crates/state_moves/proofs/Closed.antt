@@ -1,19 +1,17 @@
 -- Which rows that come have to be tried for closedness: one that stays names what it named, and that was live.
-use Rattle.std.proofs.Common.{◌≡◌, ◌<◌, ℕ, inl, inr, List, [], ◌∷◌, length, flat_map, zip, get_or, Bool, true, false, Option, Some, None, Result, Ok, Err, refl, sym, ◌∙◌, subst, arith}
+use Rattle.std.proofs.Common.{◌≡◌, ◌<◌, ℕ, inl, inr, List, [], length, get_or, Bool, true, false, Option, Some, None, Result, Ok, Err, refl, sym, ◌∙◌, subst, arith}
 use Rattle.std.specs.Prelude.{All, Contains, IfOk, IfSome, IsSome, IsSomeAnd, IsTrue, is_some, not, slice_get, ◌↔◌}
-use Rattle.std.specs.List.{AllZip, cons_option}
+use Rattle.std.specs.List.{AllZip}
 use Rattle.std.specs.declared.alloc.AllocError.{AllocError}
 use Rattle.std.proofs.lemmas.Bool.{false≢true}
-use Rattle.std.proofs.lemmas.List.Elements.{All-append, All-cons, All-contains, All-head, All-map, All-nil, All-tail}
+use Rattle.std.proofs.lemmas.List.Elements.{All-contains}
 use Rattle.schema_model.specs.declared.schema.name.Name.{Name}
 use Rattle.schema_model.specs.declared.schema.Field.{Field}
-use Rattle.schema_model.specs.declared.schema.FieldKind.{FieldKind}
 use Rattle.schema_model.specs.declared.schema.Schema.{Schema}
 use Rattle.schema_model.specs.declared.schema.Shape.{Shape}
 use Rattle.row_model.specs.declared.row.Row.{Row}
-use Rattle.row_model.specs.declared.row.Value.{Value}
 use Rattle.closed_rows.specs.Dangling.{IsClosedAt, TellsType}
-use Rattle.schema_model.specs.Parts.{index_of_type, referenced, referenced_names, shape_names}
+use Rattle.schema_model.specs.Parts.{index_of_type, shape_names}
 use Rattle.row_model.proofs.NamedTypes.{EachReferred, fields_named, named_fields, row_named}
 use Rattle.row_model.specs.Row.{references_of_row}
 use Rattle.row_model.specs.Table.{IsClosed, IsLive, IsLiveByName, RowMap, Table, row_at}

@@ -1,9 +1,9 @@
-mod DeltaValues
 mod MovedHalves
 mod MovedOnce
 mod Passing
 pub mod Positions
 mod RowRanges
+mod SeenFields
 mod SettledDelta
 pub mod SettledSteps
 mod SteppedParts

@@ -9,7 +9,6 @@ use Rattle.schema_model.specs.Limit.{number_of_limit}
 use Rattle.schema_model.specs.Model.{IsModel}
 use Rattle.row_model.specs.BothStates.{rows_in}
 use Rattle.row_model.specs.Table.{IsClosed, RowMap, Table}
-use Rattle.type_rows.specs.declared.patch.PatchSection.{PatchSection}
 use Rattle.type_rows.specs.Patches.{IsMovedBy, places_in}
 use Rattle.blob_frame.specs.declared.header.Header.{Header}
 use Rattle.blob_frame.specs.Header.{HeaderIs}
@@ -20,10 +19,13 @@ use Rattle.blob_faults.proofs.SettledRows.{HasFields}
 use Rattle.delta_blob.specs.declared.part.DeltaPart.{DeltaPart}
 use Rattle.delta_blob.specs.declared.patch.PatchPart.{PatchPart}
 use Rattle.delta_blob.specs.Judged.{delta_of}
+use Rattle.delta_blob.specs.Patch.{parts_for}
 use Rattle.delta_blob.specs.Reads.{IsOfModel, IsPatchAt}
+use Rattle.delta_blob.proofs.GivenParts.{body_given}
 use Rattle.delta_blob.proofs.PatchTelling.{passes_patch}
+use Rattle.delta_blob.proofs.SeenParts.{IsPlainPart, there_plain}
 use Rattle.state_moves.specs.Judged.{moved_table, part_moves, state_moved}
-use Rattle.step_laws.proofs.DeltaValues.{IsPart, body_given}
+use Rattle.step_laws.proofs.SeenFields.{seen_fields}
 
 -- ---- a delta
 
@@ -56,18 +58,19 @@ passed_delta schemas model blob current head named (u, few, ((h, n), begins, (w,
 abbrev pub IsFilledPart : List Schema → PatchPart → Type 0
 IsFilledPart schemas part = (schema : Schema) × (slice_get schemas part.type_index ≡ Some schema) × HasFields schema.shape (places_in part.section)
 
-filled_parts : (schemas : List Schema) (parts : List DeltaPart) (named : List PatchPart) → AllZip (IsOfModel schemas) parts named → All IsPart parts → All (IsFilledPart schemas) named
-filled_parts schemas [] [] each filled = All-nil (IsFilledPart schemas)
-filled_parts schemas (part ∷ parts) (n ∷ named) each filled =
-    let own = subst (λ (section : PatchSection). HasFields part.schema.shape (places_in section)) (sym each.0.section) (All-head IsPart part parts filled) in
-    All-cons (IsFilledPart schemas) n named (part.schema, each.0.means.equal, own) (filled_parts schemas parts named each.1 (All-tail IsPart part parts filled))
-filled_parts schemas [] (n ∷ named) each filled = absurd each
-filled_parts schemas (part ∷ parts) [] each filled = absurd each
+filled_parts : (schemas : List Schema) (parts : List DeltaPart) (named : List PatchPart) → AllZip (IsOfModel schemas) parts named → All IsPlainPart parts → All (IsFilledPart schemas) named
+filled_parts schemas [] [] each plain = All-nil (IsFilledPart schemas)
+filled_parts schemas (part ∷ parts) (n ∷ named) each plain =
+    let is = each.0 in
+    let own = seen_fields is.mine part n.section (All-head IsPlainPart part parts plain) is.means.agree is.section in
+    All-cons (IsFilledPart schemas) n named (is.mine, is.means.stands, own) (filled_parts schemas parts named each.1 (All-tail IsPlainPart part parts plain))
+filled_parts schemas [] (n ∷ named) each plain = absurd each
+filled_parts schemas (part ∷ parts) [] each plain = absurd each
 
 pub delta_filled : (blob : List ℕ) (current : ℤ) (schemas : List Schema) (head : Header) (named : List PatchPart) → IsDelta blob current schemas head named → All (IsFilledPart schemas) named
 delta_filled blob current schemas head named is =
     let (parts, stands, are) = is.read in
-    filled_parts schemas parts named are.each (body_given blob is.start parts (length blob) stands)
+    filled_parts schemas (parts_for schemas parts) named are.each (there_plain schemas parts are.once (body_given blob is.start parts (length blob) stands))
 
 -- ---- the rows that they move
 

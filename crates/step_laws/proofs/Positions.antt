@@ -17,24 +17,30 @@ use Rattle.row_model.specs.Row.{FitsShape, IsRowInRange}
 use Rattle.row_model.specs.Table.{EachRow, IsClosed, IsTableOf, RowMap, Table, row_at}
 use Rattle.row_model.specs.BothStates.{rows_in}
 use Rattle.row_model.proofs.RowsFrom.{get_in}
+use Rattle.type_rows.specs.declared.patch.PatchSection.{PatchSection}
 use Rattle.type_rows.specs.Loads.{Spells}
-use Rattle.type_rows.specs.Patches.{MovesRows, places_in}
+use Rattle.type_rows.specs.Patches.{AddsRows, MovesRows, places_in}
 use Rattle.type_rows.proofs.MovedRows.{moved_all}
 use Rattle.type_rows.proofs.SectionRows.{row_fits, rows_fit}
+use Rattle.seen_patches.proofs.Patched.{ordinals_kept, rows_seen}
+use Rattle.seen_patches.proofs.SomeSeen.{each_seen}
 use Rattle.type_state.specs.State.{Half}
 use Rattle.type_state.specs.Views.{table_of}
+use Rattle.blob_faults.proofs.SettledRows.{HasFields}
 use Rattle.snapshot_blob.specs.declared.part.TypePart.{TypePart}
 use Rattle.snapshot_blob.specs.Stated.{TypeIs, schemas_of}
 use Rattle.snapshot_blob.proofs.PartValues as snapshot_values
 use Rattle.delta_blob.specs.declared.part.DeltaPart.{DeltaPart}
 use Rattle.delta_blob.specs.Moved.{EachNamed, IsUnnamed, MovesType}
-use Rattle.delta_blob.specs.Patch.{PartIs, TypePatch}
+use Rattle.delta_blob.specs.Patch.{PartIs, TypePatch, parts_for}
+use Rattle.delta_blob.proofs.OnePatch.{delta_given}
+use Rattle.delta_blob.proofs.SeenParts.{IsPlainPart, there_plain}
 use Rattle.read_engine.specs.Position.{Index, IsIndexOf, IsPosition, Position, rows_now}
 use Rattle.read_engine.specs.Taking.{LoadsFrom, StepsBy}
 use Rattle.step_laws.specs.Typed.{HasTypes}
-use Rattle.step_laws.proofs.DeltaValues.{IsPart, delta_given}
 use Rattle.step_laws.proofs.MovedOnce.{moved_once}
 use Rattle.step_laws.proofs.RowRanges.{row_ranges, rows_range}
+use Rattle.step_laws.proofs.SeenFields.{seen_fields}
 use Rattle.step_laws.proofs.Typing.{load_typed, position_typed, step_typed}
 
 -- a position has as many types as its model
@@ -84,66 +90,76 @@ load_position blob position loads =
 module _ (schemas : List Schema) (old new : Table) (t : ℕ) where
   -- the part of a delta that moves the type
   record IsMovedBy (part : DeltaPart) (named : TypePatch) : Type 0 where
-    given : IsPart part
+    plain : IsPlainPart part
     is : PartIs schemas part named
     at : named.type_index ≡ t
     moves : MovesType old new t named
 
-  moved_or_unnamed : (parts : List DeltaPart) (patch : List TypePatch) → All IsPart parts → AllZip (PartIs schemas) parts patch → EachNamed patch (MovesType old new)
+  moved_or_unnamed : (parts : List DeltaPart) (patch : List TypePatch) → All IsPlainPart parts → AllZip (PartIs schemas) parts patch → EachNamed patch (MovesType old new)
       → ((part : DeltaPart) × (named : TypePatch) × IsMovedBy part named) ⊎ IsUnnamed patch t
-  moved_or_unnamed parts [] given are each = inr (All-nil (λ named. named.type_index ≡ t → ⊥))
-  moved_or_unnamed [] (named ∷ patch) given are each = absurd are
-  moved_or_unnamed (part ∷ parts) (named ∷ patch) given are each =
+  moved_or_unnamed parts [] plain are each = inr (All-nil (λ named. named.type_index ≡ t → ⊥))
+  moved_or_unnamed [] (named ∷ patch) plain are each = absurd are
+  moved_or_unnamed (part ∷ parts) (named ∷ patch) plain are each =
       elim (cases_eq named.type_index t) [
         | inl here ↦
             inl (
               part,
               named,
               record {
-                given = All-head IsPart part parts given;
+                plain = All-head IsPlainPart part parts plain;
                 is = are.0;
                 at = here;
                 moves = subst (λ (k : ℕ). MovesType old new k named) here (All-head (λ n. MovesType old new n.type_index n) named patch each);
               },
             )
         | inr apart ↦
-            elim (moved_or_unnamed parts patch (All-tail IsPart part parts given) are.1 (All-tail (λ n. MovesType old new n.type_index n) named patch each)) [
+            elim (moved_or_unnamed parts patch (All-tail IsPlainPart part parts plain) are.1 (All-tail (λ n. MovesType old new n.type_index n) named patch each)) [
               | inl found ↦ inl found
               | inr none ↦ inr (All-cons (λ n. n.type_index ≡ t → ⊥) named patch apart none)
             ]
       ]
 
   -- the schema of its patch is that of the type
-  its_schema : (part : DeltaPart) (named : TypePatch) → IsMovedBy part named → slice_get schemas t ≡ Some part.schema
-  its_schema part named moved = subst (λ (k : ℕ). slice_get schemas k ≡ Some part.schema) moved.at moved.is.means.equal
+  its_schema : (part : DeltaPart) (named : TypePatch) → IsMovedBy part named → slice_get schemas t ≡ Some named.schema
+  its_schema part named moved = subst (λ (k : ℕ). slice_get schemas k ≡ Some named.schema) moved.at moved.is.means.stands
 
-  -- what holds of the old rows of the type, and of those that a part spells, holds of the new ones
-  moved_each : (P : Shape → Row → Type 0) → ((part : DeltaPart) → IsPart part → (place : ℕ) (row : Row) → Spells part.schema.shape (places_in part.section) place row → P part.schema.shape row) → (part : DeltaPart) (named : TypePatch)
-      → IsMovedBy part named → ((ordinal : ℕ) (row : Row) → row_at old t ordinal ≡ Some row → P part.schema.shape row) → (ordinal : ℕ) (row : Row) → row_at new t ordinal ≡ Some row → P part.schema.shape row
+  -- what holds of the old rows of the type, and of those that a section spells as it is seen, holds of the new ones
+  moved_each : (P : Shape → Row → Type 0) → ((shape : Shape) (seen : PatchSection) → HasFields shape (places_in seen) → (place : ℕ) (row : Row) → Spells shape (places_in seen) place row → P shape row)
+      → (part : DeltaPart) (named : TypePatch) → IsMovedBy part named → ((ordinal : ℕ) (row : Row) → row_at old t ordinal ≡ Some row → P named.schema.shape row) → (ordinal : ℕ) (row : Row) → row_at new t ordinal ≡ Some row
+      → P named.schema.shape row
   moved_each P each part named moved before ordinal row at =
-      let section = part.section in
-      let shape = part.schema.shape in
-      let moves : MovesRows (rows_in old t) (rows_in new t) section.removed section.added named.rows =
-      subst (λ (xs : List ℕ). MovesRows (rows_in old t) (rows_in new t) xs section.added named.rows) moved.is.removed
-      (subst (λ (xs : List ℕ). MovesRows (rows_in old t) (rows_in new t) named.removed xs named.rows) moved.is.added moved.moves) in
-      moved_all (P shape) shape section (rows_in old t) (rows_in new t) named.rows moved.is.spelled moves (λ o r is. before o r (sym (get_in old t o) ∙ is))
-      (λ place r inside spelled. each part moved.given place r spelled) ordinal row (get_in new t ordinal ∙ at)
+      let shape = named.schema.shape in
+      let theirs = part.schema.shape in
+      let agree = moved.is.means.agree in
+      let (seen, is) = each_seen shape theirs part.section agree in
+      let ordinals = ordinals_kept shape theirs part.section seen is in
+      let adds : AddsRows shape seen named.rows = (rows_seen shape theirs part.section seen named.rows agree moved.plain.apart moved.plain.given.columns is).1 moved.is.spelled in
+      let moves : MovesRows (rows_in old t) (rows_in new t) seen.removed seen.added named.rows =
+      subst (λ (xs : List ℕ). MovesRows (rows_in old t) (rows_in new t) xs seen.added named.rows) (moved.is.removed ∙ sym ordinals.removed)
+      (subst (λ (xs : List ℕ). MovesRows (rows_in old t) (rows_in new t) named.removed xs named.rows) (moved.is.added ∙ sym ordinals.added) moved.moves) in
+      let has = seen_fields named.schema part seen moved.plain agree is in
+      moved_all (P shape) shape seen (rows_in old t) (rows_in new t) named.rows adds moves (λ o r is. before o r (sym (get_in old t o) ∙ is)) (λ place r inside spelled. each shape seen has place r spelled) ordinal row
+      (get_in new t ordinal ∙ at)
 
 module _ (blob : List ℕ) (from to : Position) (position : IsPosition from) (steps : StepsBy blob from to) where
-  given : All IsPart steps.is.parts
-  given = (delta_given blob 0 (steps.is.head, steps.is.parts) (length blob) steps.is.items.items).1
+  -- the parts of the types that the model has
+  abbrev known : List DeltaPart
+  known = parts_for from.schemas steps.is.parts
+
+  plain : All IsPlainPart known
+  plain = there_plain from.schemas steps.is.parts steps.is.items.once (delta_given blob from.schemas from.tag to.tag steps.patch steps.is)
 
   -- what holds of the rows before holds of those behind
-  stepped_each : (P : Shape → Row → Type 0) → ((part : DeltaPart) → IsPart part → (place : ℕ) (row : Row) → Spells part.schema.shape (places_in part.section) place row → P part.schema.shape row)
+  stepped_each : (P : Shape → Row → Type 0) → ((shape : Shape) (seen : PatchSection) → HasFields shape (places_in seen) → (place : ℕ) (row : Row) → Spells shape (places_in seen) place row → P shape row)
       → EachRow from.schemas (rows_now from) (λ schema row. P schema.shape row) → EachRow from.schemas (rows_now to) (λ schema row. P schema.shape row)
   stepped_each P each before t ordinal schema row is at =
-      elim (moved_or_unnamed from.schemas (rows_now from) (rows_now to) t steps.is.parts steps.patch given steps.is.types steps.moved.named) [
+      elim (moved_or_unnamed from.schemas (rows_now from) (rows_now to) t known steps.patch plain steps.is.sees steps.moved.named) [
         | inl (part, named, moved) ↦
             (let there = its_schema from.schemas (rows_now from) (rows_now to) t part named moved in
-            let both : Some part.schema ≡ Some schema = sym there ∙ is in
-            let same : part.schema ≡ schema = cc in
+            let both : Some named.schema ≡ Some schema = sym there ∙ is in
+            let same : named.schema ≡ schema = cc in
             subst (λ (s : Schema). P s.shape row) same
-            (moved_each from.schemas (rows_now from) (rows_now to) t P each part named moved (λ o r was. before t o part.schema r there was) ordinal row at))
+            (moved_each from.schemas (rows_now from) (rows_now to) t P each part named moved (λ o r was. before t o named.schema r there was) ordinal row at))
         | inr unnamed ↦
             (let kept = steps.moved.others t (subst (λ (n : ℕ). t < n) (sym position.rows.types) (slice_get_within from.schemas t schema is)) unnamed in
             before t ordinal schema row is (sym (get_in (rows_now from) t ordinal) ∙ ap (λ (rows : RowMap). get rows ordinal) (sym kept) ∙ get_in (rows_now to) t ordinal ∙ at))
@@ -152,8 +168,8 @@ module _ (blob : List ℕ) (from to : Position) (position : IsPosition from) (st
   stepped_table : IsTableOf from.schemas (rows_now to)
   stepped_table = record {
     types = types_now to (step_typed blob from to (position_typed from position) steps) ∙ ap (λ (schemas : List Schema). length schemas) steps.model;
-    rows = stepped_each (λ shape row. FitsShape shape row) (λ part has place row spelled. row_fits part.schema.shape (places_in part.section) place row spelled) position.rows.rows;
-    ranges = stepped_each (λ shape row. IsRowInRange row) (λ part has place row spelled. row_ranges part.schema.shape (places_in part.section) place row has spelled) position.rows.ranges;
+    rows = stepped_each (λ shape row. FitsShape shape row) (λ shape seen has place row spelled. row_fits shape (places_in seen) place row spelled) position.rows.rows;
+    ranges = stepped_each (λ shape row. IsRowInRange row) (λ shape seen has place row spelled. row_ranges shape (places_in seen) place row has spelled) position.rows.ranges;
   }
 
   -- there is one table that the patch moves to, which is closed

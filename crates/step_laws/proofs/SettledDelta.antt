@@ -1,11 +1,16 @@
 -- No blob is such that its trial as a delta neither passes nor fails.
-use Rattle.std.proofs.Common.{◌≡◌, ◌≤◌, ℕ, ℤ, List, length, refl, sym, ◌∙◌, subst, arith, inl, inr}
+use Rattle.std.proofs.Common.{◌≡◌, ◌≤◌, ℕ, ℤ, List, Option, None, Some, length, refl, sym, ◌∙◌, subst, arith, inl, inr}
 use Rattle.std.specs.Prelude.{◌≢◌}
 use Rattle.std.proofs.lemmas.List.{length-map}
+use Rattle.std.proofs.lemmas.Option.{slice_get_cases}
 use Rattle.schema_model.specs.declared.model.rule.Rule.TheVariants.{DuplicateName}
 use Rattle.schema_model.specs.declared.reason.Reason.TheVariants.{BadSchema}
 use Rattle.schema_model.specs.declared.schema.Schema.{Schema}
+use Rattle.schema_model.specs.Growth.{Agree}
 use Rattle.schema_model.specs.Model.{BreaksAt}
+use Rattle.schema_model.specs.Parts.{index_of_type}
+use Rattle.schema_model.proofs.Ways.{type_inside}
+use Rattle.seen_patches.proofs.SomeSeen.{each_seen}
 use Rattle.blob_grammar.specs.Decided.{AreBytes}
 use Rattle.blob_grammar.specs.Form.{Form}
 use Rattle.blob_frame.specs.declared.fault.BlobFault.TheVariants as fault
@@ -13,15 +18,17 @@ use Rattle.blob_frame.specs.Header.{header}
 use Rattle.blob_faults.specs.Judge.{◌>>=◌, each_of, nothing}
 use Rattle.blob_faults.specs.Models.{names_once}
 use Rattle.blob_faults.specs.Reading.{short, standing, starts}
-use Rattle.blob_faults.specs.Rows.{counts}
 use Rattle.blob_faults.specs.Settles.{Settles}
 use Rattle.blob_faults.proofs.LeastNumber.{no_number}
 use Rattle.blob_faults.proofs.Settled.{settles_counts, settles_each, settles_nothing, settles_short, settles_standing, settles_test, settles_then}
 use Rattle.blob_faults.proofs.SettledModels.{offset_there}
 use Rattle.delta_blob.specs.declared.part.DeltaPart.{DeltaPart}
-use Rattle.delta_blob.specs.Judged.{delta_of, of_model, offsets_in, parts_in, patch_of}
+use Rattle.delta_blob.specs.Judged.{counts_of, delta_of, of_model, offsets_in, parts_in, patch_of, seen_of, those_there}
+use Rattle.delta_blob.specs.Meant.{IsMeant}
 use Rattle.delta_blob.specs.Parts.{body}
 use Rattle.delta_blob.specs.Patch.{schemas_in}
+use Rattle.delta_blob.proofs.JudgedTypes.{AgreesNamed, each_agrees}
+use Rattle.delta_blob.proofs.Meant.{all_at}
 
 -- ---- bytes
 
@@ -48,26 +55,43 @@ settles_names offsets schemas same no_pass no_fail =
     let at = offset_there offsets schemas t broken.0 same broken.1 in
     no_fail (fault.Bad at.0 BadSchema) (t, record { broken = broken; least = least }, (at.0, at.1, refl))))
 
--- a type is one of the model, or none
-settles_meant : (schemas : List Schema) (part : DeltaPart) → Settles (of_model schemas part)
+-- the model has a type at this index, which agrees or does not
+settles_index : (schemas : List Schema) (part : DeltaPart) (t : ℕ) → index_of_type schemas part.schema.name ≡ Some t → Settles (of_model schemas part)
 unfolding of_model
-settles_meant schemas part no_pass no_fail =
-    no_fail (fault.OtherModel part.schema.name)
-    ((λ t meant. no_pass (record { type_index = t; at = part.at; section = part.section }) (record { meant = meant; at = refl; section = refl })), refl)
+settles_index schemas part t first no_pass no_fail =
+    elim (slice_get_cases schemas t).1 [
+      | inl (mine, inside, stands, at) ↦
+          let meant : IsMeant schemas part.schema t mine = record { first = first; stands = stands } in
+          let differs : Agree mine part.schema → ⊥ = λ agree. no_pass (Some (record { type_index = t; part = part })) (record { agrees = record { mine = mine; meant = meant; agree = agree }; same = refl }) in
+          no_fail (fault.OtherModel part.schema.name) (record { index = t; mine = mine; meant = meant; differs = differs }, refl)
+      | inr (past, none) ↦ let within = type_inside schemas part.schema.name t first in omega (arith, past, within)
+    ]
 
--- the types that stand in a delta
+-- a type of the delta agrees with the model's of its name, or does not, where the model has one
+settles_named : (schemas : List Schema) (part : DeltaPart) (o : Option ℕ) → index_of_type schemas part.schema.name ≡ o → Settles (of_model schemas part)
+unfolding of_model
+settles_named schemas part None none no_pass no_fail = no_pass None none
+settles_named schemas part (Some t) first no_pass no_fail = settles_index schemas part t first no_pass no_fail
+
+-- the types that stand in a delta: those that agree are seen in some way
 settles_types : (schemas : List Schema) (parts : List DeltaPart) → Settles (parts_in schemas parts)
-unfolding parts_in
+unfolding parts_in seen_of
 settles_types schemas parts =
     let offsets = offsets_in parts in
     let stated = schemas_in parts in
-    let each_meant = each_of (of_model schemas) parts in
-    let each_count = each_of (λ (part : DeltaPart). counts part.section.max part.section.total) parts in
     let same : length offsets ≡ length stated = length-map parts (λ (part : DeltaPart). part.at) ∙ sym (length-map parts (λ (part : DeltaPart). part.schema)) in
-    settles_then (names_once offsets stated) (λ done. each_meant >>= λ named. each_count >>= λ counted. nothing named) (settles_names offsets stated same) (λ done once.
-    settles_then each_meant (λ named. each_count >>= λ counted. nothing named) (settles_each (of_model schemas) parts (λ index part at. settles_meant schemas part)) (λ named are.
-    settles_then each_count (λ counted. nothing named)
-    (settles_each (λ (part : DeltaPart). counts part.section.max part.section.total) parts (λ index part at. settles_counts part.section.max part.section.total)) (λ counted kept. settles_nothing named)))
+    settles_then (names_once offsets stated) (λ done. each_of (of_model schemas) parts >>= λ found. each_of counts_of (those_there found) >>= λ counted. each_of (seen_of schemas) (those_there found))
+    (settles_names offsets stated same) (λ done once.
+    settles_then (each_of (of_model schemas) parts) (λ found. each_of counts_of (those_there found) >>= λ counted. each_of (seen_of schemas) (those_there found))
+    (settles_each (of_model schemas) parts (λ index part at. settles_named schemas part (index_of_type schemas part.schema.name) refl)) (λ found are.
+    settles_then (each_of counts_of (those_there found)) (λ counted. each_of (seen_of schemas) (those_there found))
+    (settles_each counts_of (those_there found) (λ index named at. settles_counts named.part.section.max named.part.section.total)) (λ counted kept.
+    settles_each (seen_of schemas) (those_there found) (λ index named at no_pass no_fail.
+    let agrees = all_at (AgreesNamed schemas) (those_there found) index named (each_agrees schemas parts found are) at in
+    let mine = agrees.mine in
+    let (section, is) = each_seen mine.shape named.part.schema.shape named.part.section agrees.agree in
+    no_pass (record { type_index = named.type_index; at = named.part.at; section = section })
+    (record { mine = mine; stands = agrees.meant.stands; type_index = refl; at = refl; section = is })))))
 
 -- ---- a delta
 

@@ -14,22 +14,24 @@ use Rattle.schema_model.specs.declared.schema.Schema.{Schema}
 use Rattle.schema_model.specs.Limit.{number_of_limit}
 use Rattle.row_model.specs.BothStates.{rows_in}
 use Rattle.row_model.specs.Table.{IsClosed, RowMap, Table}
-use Rattle.type_rows.specs.declared.patch.PatchSection.{PatchSection}
 use Rattle.type_rows.specs.Holds.{Holds, KeepsLimits}
 use Rattle.type_rows.specs.Layout.{places_of}
 use Rattle.type_rows.specs.Patches.{AddsRows, IsMovedBy, MovesRows, patch_layout}
+use Rattle.seen_patches.proofs.Patched.{ordinals_kept}
 use Rattle.type_state.specs.State.{Half}
 use Rattle.type_state.specs.Views.{table_of}
-use Rattle.row_faults.proofs.LoadFaults.{holds_at}
 use Rattle.row_faults.proofs.OnceFirst.{some_once}
 use Rattle.delta_blob.specs.declared.part.DeltaPart.{DeltaPart}
 use Rattle.delta_blob.specs.declared.patch.PatchPart.{PatchPart}
 use Rattle.delta_blob.specs.Fits.{Fits, FitsTable, HoldsTable}
 use Rattle.delta_blob.specs.Moved.{EachNamed, IsUnnamed, Moved, MovesType}
-use Rattle.delta_blob.specs.Patch.{Means, PartIs, TypePatch, schemas_in}
+use Rattle.delta_blob.specs.Patch.{PartIs, SeesParts, TypePatch, parts_for}
 use Rattle.delta_blob.specs.Reads.{AreOfModel, IsOfModel, KeepsCounts}
 use Rattle.delta_blob.specs.Within.{IsTypeWithin, Within}
-use Rattle.delta_blob.proofs.Indexed.{one_index, one_name, zip_at, zip_beside}
+use Rattle.delta_blob.proofs.GivenParts.{IsGivenPart}
+use Rattle.delta_blob.proofs.Indexed.{zip_at, zip_beside}
+use Rattle.delta_blob.proofs.Meant.{all_at}
+use Rattle.delta_blob.proofs.SeenParts.{IsPlainPart, one_name, part_is, patch_of_rows, there_apart, there_plain}
 use Rattle.state_moves.proofs.Changed.{zip_from}
 use Rattle.read_engine.specs.Taking.{layout_at}
 use Rattle.step_laws.proofs.MovedHalves.{AreApart, IsOther, half_by, half_stays, half_there, moved_halves, moved_long}
@@ -39,7 +41,7 @@ rows_at : (halves : List Half) (t : ℕ) (half : Half) → slice_get halves t �
 rows_at halves t half is =
     ap (λ (o : Option RowMap). unwrap_or o (empty {R = nat_cmp})) (slice_get-map (λ (h : Half). h.rows) halves t ∙ ap (option_map (λ (h : Half). h.rows)) is)
 
-module _ (schemas : List Schema) (halves : List Half) (long : length halves ≡ length schemas) (parts : List DeltaPart) (named : List PatchPart) (of : AreOfModel schemas parts named) (rows : List RowMap)
+module _ (schemas : List Schema) (halves : List Half) (long : length halves ≡ length schemas) (parts : List DeltaPart) (named : List PatchPart) (of : AreOfModel schemas parts named) (given : All IsGivenPart parts) (rows : List RowMap)
     (each : AllZip (IsPartMoved schemas (table_of halves)) named rows) where
   abbrev pub old : Table
   old = table_of halves
@@ -50,15 +52,19 @@ module _ (schemas : List Schema) (halves : List Half) (long : length halves ≡ 
   abbrev pub new : Table
   new = table_of coming
 
+  -- the parts of the types that the model has
+  abbrev pub known : List DeltaPart
+  known = parts_for schemas parts
+
+  plain_at : (k : ℕ) (d : DeltaPart) → slice_get known k ≡ Some d → IsPlainPart d
+  plain_at k d at = all_at IsPlainPart known k d (there_plain schemas parts of.once given) at
+
   -- no two parts are of one type
   parts_apart : AreApart named
   parts_apart i j a b one other same =
-      let (c, at_c, is_c) = zip_beside (IsOfModel schemas) parts named i a of.each one in
-      let (d, at_d, is_d) = zip_beside (IsOfModel schemas) parts named j b of.each other in
-      let name : c.schema.name ≡ d.schema.name = one_name schemas b.type_index c.schema d.schema (subst (Means schemas c.schema) same is_c.means) is_d.means in
-      let here : slice_get (schemas_in parts) i ≡ Some c.schema = slice_get-map (λ (p : DeltaPart). p.schema) parts i ∙ ap (option_map (λ (p : DeltaPart). p.schema)) at_c in
-      let there : slice_get (schemas_in parts) j ≡ Some d.schema = slice_get-map (λ (p : DeltaPart). p.schema) parts j ∙ ap (option_map (λ (p : DeltaPart). p.schema)) at_d in
-      one_index (schemas_in parts) of.once i j c.schema d.schema here there name
+      let (c, at_c, is_c) = zip_beside (IsOfModel schemas) known named i a of.each one in
+      let (d, at_d, is_d) = zip_beside (IsOfModel schemas) known named j b of.each other in
+      there_apart schemas parts of.once i j c d at_c at_d (one_name schemas c.schema d.schema is_c.mine is_d.mine a.type_index b.type_index same is_c.means is_d.means)
 
   -- What one part did.
   pub record PatchOf (part : DeltaPart) (t : ℕ) (patch : TypePatch) : Type 0 where
@@ -70,33 +76,28 @@ module _ (schemas : List Schema) (halves : List Half) (long : length halves ≡ 
     pub within : IsTypeWithin new patch.type_index patch
     pub layout : layout_at coming patch.type_index ≡ Some patch.layout
 
-  patch_by : (k : ℕ) (d : DeltaPart) (n : PatchPart) (r : RowMap) (schema : Schema) → slice_get parts k ≡ Some d → slice_get named k ≡ Some n → IsOfModel schemas d n → slice_get rows k ≡ Some r
+  patch_by : (k : ℕ) (d : DeltaPart) (n : PatchPart) (r : RowMap) (schema : Schema) → slice_get known k ≡ Some d → slice_get named k ≡ Some n → IsOfModel schemas d n → slice_get rows k ≡ Some r
       → slice_get schemas n.type_index ≡ Some schema → IsMovedBy schema.shape n.section (rows_in old n.type_index) r → (patch : TypePatch) × PatchOf d n.type_index patch
   patch_by k d n r schema at_d at is at_r there moved =
-      let same : schema ≡ d.schema = some_once schema d.schema (sym there ∙ is.means.equal) in
-      let inside : n.type_index < length halves = omega (arith, slice_get_within schemas n.type_index d.schema is.means.equal, long) in
+      let mine = is.mine in
+      let plain = plain_at k d at_d in
+      let same : schema ≡ mine = some_once schema mine (sym there ∙ is.means.stands) in
+      let inside : n.type_index < length halves = omega (arith, slice_get_within schemas n.type_index mine is.means.stands, long) in
       let half : slice_get coming n.type_index ≡ Some (half_by n r) = half_there halves named rows k n r parts_apart at at_r inside in
       let are : rows_in new n.type_index ≡ r = rows_at coming n.type_index (half_by n r) half in
       let section = n.section in
-      let keeps : KeepsCounts d = holds_at KeepsCounts parts k d of.counts at_d in (
-        record { type_index = n.type_index; schema = d.schema; layout = patch_layout section; own = section.own; removed = section.removed; added = section.added; rows = moved.added },
+      let keeps : KeepsCounts d = all_at KeepsCounts known k d of.counts at_d in
+      let ordinals = ordinals_kept mine.shape d.schema.shape d.section section is.section in (
+        patch_of_rows schemas d plain n is moved.added,
         record {
-          is = record {
-            means = is.means;
-            schema = refl;
-            layout = ap patch_layout is.section;
-            own = ap (λ (s : PatchSection). s.own) is.section;
-            removed = ap (λ (s : PatchSection). s.removed) is.section;
-            added = ap (λ (s : PatchSection). s.added) is.section;
-            spelled = subst (λ (s : Schema). AddsRows s.shape d.section moved.added) same (subst (λ (s : PatchSection). AddsRows schema.shape s moved.added) is.section moved.adds);
-          };
+          is = part_is schemas d plain n is moved.added (subst (λ (s : Schema). AddsRows s.shape section moved.added) same moved.adds);
           index = refl;
           fits = moved.ordinals;
-          holds = subst (Holds d.schema.shape (patch_layout section)) (sym are) (subst (λ (s : Schema). Holds s.shape (patch_layout section) r) same moved.held);
+          holds = subst (Holds mine.shape (patch_layout section)) (sym are) (subst (λ (s : Schema). Holds s.shape (patch_layout section) r) same moved.held);
           moves = subst (λ (x : RowMap). MovesRows (rows_in old n.type_index) x section.removed section.added moved.added) (sym are) moved.moves;
           within = record {
-            ordinals = subst (λ (s : PatchSection). places_of s.max ≤ number_of_limit Ordinals) (sym is.section) keeps.ordinals;
-            kept = subst (KeepsLimits d.schema.shape section.own (patch_layout section)) (sym are) (subst (λ (s : Schema). KeepsLimits s.shape section.own (patch_layout section) r) same moved.within);
+            ordinals = subst (λ (max : Option ℕ). places_of max ≤ number_of_limit Ordinals) (sym ordinals.max) keeps.ordinals;
+            kept = subst (KeepsLimits mine.shape section.own (patch_layout section)) (sym are) (subst (λ (s : Schema). KeepsLimits s.shape section.own (patch_layout section) r) same moved.within);
           };
           layout = ap (option_map (λ (h : Half). h.layout)) half;
         },
@@ -106,9 +107,9 @@ module _ (schemas : List Schema) (halves : List Half) (long : length halves ≡ 
   abbrev pub Chosen : DeltaPart → PatchPart → Type 0
   Chosen d n = (patch : TypePatch) × PatchOf d n.type_index patch
 
-  all_chosen : AllZip Chosen parts named
-  all_chosen = zip_from Chosen parts named (AllZip-long (IsOfModel schemas) parts named of.each) (λ k d n at_d at.
-      let (other, at_other, is) = zip_at (IsOfModel schemas) parts named k d of.each at_d in
+  all_chosen : AllZip Chosen known named
+  all_chosen = zip_from Chosen known named (AllZip-long (IsOfModel schemas) known named of.each) (λ k d n at_d at.
+      let (other, at_other, is) = zip_at (IsOfModel schemas) known named k d of.each at_d in
       let alike : other ≡ n = some_once other n (sym at_other ∙ at) in
       let (r, at_r, moved) = zip_at (IsPartMoved schemas old) named rows k n each at in
       patch_by k d n r moved.0 at_d at (subst (IsOfModel schemas d) alike is) at_r moved.1 moved.2)
@@ -145,20 +146,20 @@ module _ (schemas : List Schema) (halves : List Half) (long : length halves ≡ 
       (none_named t ds ns all.1 (All-tail (λ p. p.type_index ≡ t → ⊥) all.0.0 (patches ds ns all.1) none))
 
   pub patch : List TypePatch
-  patch = patches parts named all_chosen
+  patch = patches known named all_chosen
 
-  pub is_patch : AllZip (PartIs schemas) parts patch
+  pub is_patch : SeesParts schemas parts patch
   unfolding patch
-  is_patch = parts_are parts named all_chosen
+  is_patch = parts_are known named all_chosen
 
   each_of_patch : (Q : ℕ → TypePatch → Type 0) → ((d : DeltaPart) (t : ℕ) (p : TypePatch) → PatchOf d t p → Q p.type_index p) → EachNamed patch Q
   unfolding patch
-  each_of_patch Q gives = each_named Q gives parts named all_chosen
+  each_of_patch Q gives = each_named Q gives known named all_chosen
 
   -- a type that the patch does not name keeps its half
   stays : (t : ℕ) → IsUnnamed patch t → slice_get coming t ≡ slice_get halves t
   unfolding patch
-  stays t none = half_stays halves named rows t (none_named t parts named all_chosen none)
+  stays t none = half_stays halves named rows t (none_named t known named all_chosen none)
 
   pub moves_patch : Moved patch old new
   moves_patch = record {

@@ -1,11 +1,13 @@
 -- What is tried of a step passes where it leads a position to another one.
 use Rattle.std.proofs.Common.{◌≡◌, ◌↔◌, ℕ, ℤ, List, length, refl, sym, ◌∙◌, subst}
+use Rattle.std.specs.Prelude.{All}
 use Rattle.schema_model.specs.declared.model.rule.Rule.TheVariants.{DuplicateName}
 use Rattle.row_model.specs.Table.{IsClosed, Table}
 use Rattle.type_state.specs.State.{Half}
 use Rattle.blob_frame.specs.declared.header.Header.{Header}
 use Rattle.blob_faults.specs.Judge.{◌>>=◌, nothing}
 use Rattle.delta_blob.specs.declared.patch.PatchPart.{PatchPart}
+use Rattle.delta_blob.proofs.GivenParts.{IsGivenPart, body_given}
 use Rattle.delta_blob.proofs.NamedParts.{stands_of_model}
 use Rattle.delta_blob.proofs.WholeDeltas.{joined}
 use Rattle.read_engine.specs.Judged.{step_of}
@@ -36,26 +38,30 @@ module _ (blob : List ℕ) (from : Position) (typed : HasTypes from) (head : Hea
   new_closed : IsClosed from.schemas (rows_now to)
   new_closed = subst (IsClosed from.schemas) (sym (halves_table from.halves named leads.rows)) leads.closed
 
+  given : All IsGivenPart delta.read.0
+  given = body_given blob delta.start delta.read.0 (length blob) delta.read.1
+
   steps : StepsBy blob from to
   steps = record {
-    patch = parts.patch from.schemas from.halves typed.types delta.read.0 named delta.read.2 leads.rows leads.each;
+    patch = parts.patch from.schemas from.halves typed.types delta.read.0 named delta.read.2 given leads.rows leads.each;
     is = record {
       head = head;
       parts = delta.read.0;
       items = record { items = joined blob head delta.start delta.read.0 delta.begins delta.read.1; once = delta.read.2.once };
       from_tag = delta.origin;
       to_tag = refl;
-      types = parts.is_patch from.schemas from.halves typed.types delta.read.0 named delta.read.2 leads.rows leads.each;
+      agree = delta.read.2.agree;
+      sees = parts.is_patch from.schemas from.halves typed.types delta.read.0 named delta.read.2 given leads.rows leads.each;
     };
-    fits = parts.fits_patch from.schemas from.halves typed.types delta.read.0 named delta.read.2 leads.rows leads.each new_closed;
-    moved = parts.moves_patch from.schemas from.halves typed.types delta.read.0 named delta.read.2 leads.rows leads.each;
-    within = parts.within_patch from.schemas from.halves typed.types delta.read.0 named delta.read.2 leads.rows leads.each;
+    fits = parts.fits_patch from.schemas from.halves typed.types delta.read.0 named delta.read.2 given leads.rows leads.each new_closed;
+    moved = parts.moves_patch from.schemas from.halves typed.types delta.read.0 named delta.read.2 given leads.rows leads.each;
+    within = parts.within_patch from.schemas from.halves typed.types delta.read.0 named delta.read.2 given leads.rows leads.each;
     items = λ k d inside. (delta.read.2.counts k d inside).items;
     short = delta.few;
     model = refl;
     types = moved_long from.halves named leads.rows;
-    layouts = parts.layouts_of_patch from.schemas from.halves typed.types delta.read.0 named delta.read.2 leads.rows leads.each;
-    others = λ t inside none. parts.other_layouts from.schemas from.halves typed.types delta.read.0 named delta.read.2 leads.rows leads.each t none;
+    layouts = parts.layouts_of_patch from.schemas from.halves typed.types delta.read.0 named delta.read.2 given leads.rows leads.each;
+    others = λ t inside none. parts.other_layouts from.schemas from.halves typed.types delta.read.0 named delta.read.2 given leads.rows leads.each t none;
     before = refl;
     indexes = refl;
   }

@@ -13,7 +13,7 @@ use Rattle.written_laws.specs.HoldsChain.{HoldsChain, IsStep, LeadsOn}
 use Rattle.delta_blob.specs.Moved.{Moved}
 use Rattle.delta_blob.specs.Patch.{TypePatch, DeltaIs}
 use Rattle.delta_blob.specs.Within.{KeepItems, Within}
-use Rattle.written_laws.proofs.PatchOnce.{patch_once, parts_once, tags_once}
+use Rattle.delta_blob.proofs.OnePatch.{parts_once, patch_once, tags_once}
 
 -- one state stands under a version
 one_state : (chain : Chain) (version : ℕ) (a b : ChainState) → HasVersion chain version a → HasVersion chain version b → a ≡ b
@@ -51,7 +51,8 @@ module _ (chain : Chain) (is_chain : IsChain chain) (blob : List ℕ) (origin de
         fits = subst (λ (p : List TypePatch). Fits state.model state.table p) patches (subst (λ t. Fits state.model t leads.patch) table (subst (λ (m : List Schema). Fits m from.table leads.patch) known leads.fits));
         moved = subst (λ (p : List TypePatch). Moved p state.table to.table) patches (subst (λ t. Moved leads.patch t to.table) table leads.moved);
         within = subst (λ (p : List TypePatch). Within to.table p) patches leads.within;
-        items = subst KeepItems (parts_once model state.model blob from.tag to.tag origin destination leads.patch patch leads.is is) leads.items;
+        items = subst (λ (m : List Schema). KeepItems m is.parts) known
+            (subst (KeepItems model) (parts_once model state.model blob from.tag to.tag origin destination leads.patch patch leads.is is) leads.items);
         short = leads.short;
       }
 

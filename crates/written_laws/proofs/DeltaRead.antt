@@ -1,6 +1,6 @@
 -- A delta that is written is read back as one of a patch that leads from the old state to the new one.
 use Rattle.std.proofs.Common.{◌≡◌, ◌≤◌, ◌<◌, ◌+◌, ◌^◌, ℕ, ℤ, List, length, map, Some, refl, ap, ◌∙◌, sym, subst, arith, length-append}
-use Rattle.std.specs.Prelude.{All, FitsSigned, slice_get, zip}
+use Rattle.std.specs.Prelude.{All, Contains, FitsSigned, slice_get, zip}
 use Rattle.std.specs.Int.{w64}
 use Rattle.std.specs.List.{AllZip}
 use Rattle.std.proofs.lemmas.List.Elements.{All-map}
@@ -26,12 +26,13 @@ use Rattle.blob_writing.proofs.SpelledDeltas.{delta_stands}
 use Rattle.written_laws.specs.Delta.{IsDeltaTo, LeadsTo}
 use Rattle.delta_blob.specs.Fits.{FitsTable, HoldsTable}
 use Rattle.delta_blob.specs.Moved.{EachNamed, IsUnnamed, Moved, MovesType}
-use Rattle.delta_blob.specs.Patch.{TypePatch, PartIs}
+use Rattle.delta_blob.specs.Patch.{NamesOwn, PartIs, TypePatch, parts_for}
+use Rattle.delta_blob.proofs.OwnParts.{all_own_agree, all_own_there}
 use Rattle.written_laws.specs.States.{AreStates}
 use Rattle.delta_blob.specs.Within.{IsTypeWithin}
 use Rattle.written_laws.proofs.Beside.{at_index, each_pair, placed_alike, placed_all, placed_beside, placed_seconds}
 use Rattle.written_laws.proofs.Carrying.{few_schemas}
-use Rattle.written_laws.proofs.DeltaTypes.{patch_of, change_carried, few_items, new_held, new_within, ordinals_fit, part_is, rows_move}
+use Rattle.written_laws.proofs.DeltaTypes.{patch_of, change_carried, few_items, new_held, new_within, ordinals_fit, part_is, part_own, rows_move}
 use Rattle.written_laws.proofs.Gone.{unchanged_rows}
 use Rattle.written_laws.proofs.NamedOnce.{few_rising, named_once}
 
@@ -98,6 +99,15 @@ module _ (schemas : List Schema) (old new : Table) (are : AreStates schemas old 
       subst (λ (ps : List DeltaPart). AllZip (PartIs schemas) ps patch) (placed_seconds (IsChangeOf schemas old new) change_bytes part_of types is.changes is.are.carried start)
       (placed_beside Changes (PartIs schemas) (λ entry. change_bytes entry.1) (λ entry at. part_of entry.1 at) (patch_of new) (λ entry at of. part_is schemas old new are entry of at) entries change start)
 
+  -- the schemas are the model's own
+  parts_own : NamesOwn schemas parts
+  parts_own =
+      subst (λ (ps : List DeltaPart). All (λ part. Contains schemas part.schema) ps) (placed_seconds (IsChangeOf schemas old new) change_bytes part_of types is.changes is.are.carried start)
+      (placed_all Changes (λ part. Contains schemas part.schema) (λ entry. change_bytes entry.1) (λ entry at. part_of entry.1 at) (λ entry at of. part_own schemas old new are entry of at) entries change start)
+
+  all_there : parts_for schemas parts ≡ parts
+  all_there = all_own_there schemas parts parts_own
+
   each_named : (P : ℕ → TypePatch → Type 0) → ((entry : ℕ × TypeChange) → Changes entry → P entry.0 (patch_of new entry)) → EachNamed patch P
   each_named P each =
       let Of = λ (named : TypePatch). P named.type_index named in
@@ -129,8 +139,10 @@ module _ (schemas : List Schema) (old new : Table) (are : AreStates schemas old 
       items = record { items = delta_stands blob origin destination is.changes written; once = once };
       from_tag = refl;
       to_tag = refl;
-      types = parts_are;
+      agree = all_own_agree schemas are.model.model parts parts_own;
+      sees = subst (λ (ps : List DeltaPart). AllZip (PartIs schemas) ps patch) (sym all_there) parts_are;
     };
+    own = parts_own;
     fits = record {
       ordinals = each_named (FitsTable old) (ordinals_fit schemas old new are);
       moved = new;
@@ -140,8 +152,9 @@ module _ (schemas : List Schema) (old new : Table) (are : AreStates schemas old 
     };
     moved = moved;
     within = each_named (IsTypeWithin new) (new_within schemas old new are);
-    items = placed_all (λ c. c.rows.total ≤ 2 ^ 25) (λ part. part.section.total ≤ 2 ^ 25) change_bytes part_of (λ c at few. few) is.changes
-        (zip_second (IsChangeOf schemas old new) (λ c. c.rows.total ≤ 2 ^ 25) (λ index c of. few_items schemas old new are (index, c) of) types is.changes is.are.carried) start;
+    items = subst (λ (ps : List DeltaPart). All (λ part. part.section.total ≤ 2 ^ 25) ps) (sym all_there)
+        (placed_all (λ c. c.rows.total ≤ 2 ^ 25) (λ part. part.section.total ≤ 2 ^ 25) change_bytes part_of (λ c at few. few) is.changes
+        (zip_second (IsChangeOf schemas old new) (λ c. c.rows.total ≤ 2 ^ 25) (λ index c of. few_items schemas old new are (index, c) of) types is.changes is.are.carried) start);
   }
 
 -- a short delta has a short list of schemas
@@ -156,4 +169,4 @@ pub delta_read : (schemas : List Schema) (old new : Table) → AreStates schemas
     → length blob ≤ 2 ^ 28 → IsDeltaBetween schemas old new origin destination blob → LeadsTo schemas old new origin destination blob
 delta_read schemas old new are origin destination blob from to short is =
     let read = delta_is schemas old new are origin destination blob from to is (short_list schemas old new origin destination blob is short) in
-    record { patch = read.patch; is = read.is; fits = read.fits; moved = read.moved; within = read.within; items = read.items; short = short }
+    record { patch = read.patch; is = read.is; own = read.own; fits = read.fits; moved = read.moved; within = read.within; items = read.items; short = short }

@@ -1,21 +1,27 @@
 -- Lemmas on a type of a delta that is written: it can be carried, it is read as its part, and the patch of that part leads from the old rows to the new ones.
-use Rattle.std.proofs.Common.{◌≡◌, ◌≤◌, ◌<◌, ◌*◌, ◌^◌, ℕ, List, length, None, refl, ap, ◌∙◌, sym, subst, inl, inr, arith}
+use Rattle.std.proofs.Common.{◌≡◌, ◌≤◌, ◌<◌, ◌*◌, ◌^◌, ℕ, List, length, None, Option, refl, ap, ◌∙◌, sym, subst, inl, inr, arith}
 use Rattle.std.specs.Prelude.{All, Contains, IsSome, is_some}
 use Rattle.std.specs.FinMap.{get}
-use Rattle.std.specs.Option.{option_map}
+use Rattle.std.proofs.lemmas.Bool.{cases_lt}
 use Rattle.std.proofs.lemmas.List.{length-map}
-use Rattle.std.proofs.lemmas.Option.{slice_get-map}
+use Rattle.std.proofs.lemmas.Option.{get_or_from_slice_get, slice_get_within}
 use Rattle.bit_array.specs.Element.{words_of}
 use Rattle.schema_model.specs.declared.schema.Schema.{Schema}
+use Rattle.schema_model.specs.declared.model.rule.Rule.TheVariants.{TooMany}
 use Rattle.schema_model.specs.declared.schema.Shape.{Shape}
+use Rattle.schema_model.specs.Parts.{shape_fields}
+use Rattle.schema_growth.proofs.Growths.{fields_apart}
 use Rattle.row_model.specs.Table.{Table, IsLive, row_at}
 use Rattle.row_model.specs.BothStates.{rows_in, rows_of_both}
 use Rattle.row_model.proofs.RowsFrom.{get_in}
 use Rattle.type_rows.specs.Holds.{Holds}
 use Rattle.type_rows.specs.Layout.{own_bits, place_bits, places_of}
-use Rattle.type_rows.specs.Patches.{places_in}
+use Rattle.type_rows.specs.Patches.{AddsRows, places_in}
 use Rattle.type_rows.specs.WellFormed.{AreWidths}
 use Rattle.type_rows.proofs.CountedWords.{own_words}
+use Rattle.seen_patches.specs.Patch.{HasColumns}
+use Rattle.seen_patches.proofs.Patched.{layout_seen, own_seen, rows_seen}
+use Rattle.blob_sections.specs.declared.section.PackedRows.{PackedRows}
 use Rattle.row_packing.specs.declared.chosen.Chosen.{Chosen}
 use Rattle.row_packing.specs.Chosen.{shape_at, chosen_total, chosen_widths}
 use Rattle.row_packing.specs.Packs.{PacksPlaces}
@@ -25,14 +31,16 @@ use Rattle.row_packing.proofs.Greatest.{all_gives}
 use Rattle.row_packing.proofs.Suiting.{places_few}
 use Rattle.row_packing.proofs.WrittenSections as law
 use Rattle.row_packing.proofs.WrittenSections.{AreBoth}
-use Rattle.blob_writing.specs.Carried.{AreCarried}
+use Rattle.blob_writing.specs.Carried.{AreCarried, HasParts}
 use Rattle.blob_writing.specs.Limits.{HasFewPaths}
 use Rattle.blob_writing.specs.Changes.{IsChangeOf, gone}
 use Rattle.blob_writing.specs.Delta.{TypeChange, AreGaps, IsCarried, part_of}
 use Rattle.blob_writing.proofs.OneDelta.{all_of, gone_live}
 use Rattle.delta_blob.specs.Fits.{FitsTable, HoldsTable}
 use Rattle.delta_blob.specs.Moved.{MovesType}
+use Rattle.delta_blob.specs.Parts.{patch_with}
 use Rattle.delta_blob.specs.Patch.{Means, PartIs, TypePatch}
+use Rattle.delta_blob.proofs.OwnParts.{own_agrees}
 use Rattle.written_laws.specs.States.{AreStates}
 use Rattle.delta_blob.specs.Within.{IsTypeWithin}
 use Rattle.written_laws.proofs.Carrying.{both_are, both_stored, can_write, has_parts, limits_kept, shape_here, small_max, spellable_at, texts_at}
@@ -65,6 +73,13 @@ patch_of new entry = record {
   added = entry.1.added;
   rows = rows_under new entry.0 entry.1.added;
 }
+
+-- packed rows that can be carried have a width and an area for each field
+columns_here : (shape : Shape) (max : Option ℕ) (removed added : List ℕ) (rows : PackedRows) → AreWidths shape max rows.widths → HasParts shape rows → HasColumns shape (patch_with shape max removed added rows)
+columns_here (Shape.Object key fields) max removed added rows wide parts = (wide, parts.0)
+columns_here (Shape.List element) max removed added rows wide parts = tt
+columns_here (Shape.Set element) max removed added rows wide parts = tt
+columns_here (Shape.Map key value) max removed added rows wide parts = tt
 
 module _ (schemas : List Schema) (old new : Table) (are : AreStates schemas old new) (entry : ℕ × TypeChange) (is : IsChangeOf schemas old new entry.0 entry.1) where
   abbrev shape : Shape
@@ -136,29 +151,41 @@ module _ (schemas : List Schema) (old new : Table) (are : AreStates schemas old 
   }
 
   -- the schema that it has means its type
-  its_type : Means schemas entry.1.schema entry.0
-  its_type = record {
-    named = slice_get-map (λ (s : Schema). s.name) schemas entry.0 ∙ ap (option_map (λ (s : Schema). s.name)) is.schema;
-    equal = is.schema;
+  its_type : Means schemas entry.1.schema entry.0 entry.1.schema
+  its_type = record { stands = is.schema; named = refl; agree = own_agrees schemas are.model.model entry.0 entry.0 entry.1.schema entry.1.schema is.schema is.schema refl }
+
+  few_fields : length (shape_fields shape) ≤ 1024
+  few_fields = elim (cases_lt 1024 (length (shape_fields shape))) [ inl many ↦ absurd (are.model.model TooMany entry.0 (entry.1.schema, is.schema, inr many)) | inr few ↦ few ]
+
+  adds : (at : ℕ) → AddsRows shape (part_of entry.1 at).section (rows_under new entry.0 entry.1.added)
+  adds at = record {
+    each = as_many_rows new entry.0 entry.1.added come.live;
+    spelled = λ place row there.
+        let (ordinal, listed, found) = ordinal_there new entry.0 entry.1.added come.live place row there in
+        let places = places_in (part_of entry.1 at).section in
+        let packed : ArePacked shape new entry.0 chosen entry.1.added places = record { widths = refl; total = refl; packed = packs } in
+        law.places_spell shape new entry.0 chosen entry.1.added places place ordinal row can come packed listed found;
   }
 
+  -- the section is seen as it stands, since the model's schema is the delta's
   pub part_is : (at : ℕ) → PartIs schemas (part_of entry.1 at) (patch_of new entry)
-  part_is at = record {
-    means = its_type;
-    schema = refl;
-    layout = refl;
-    own = refl;
-    removed = refl;
-    added = refl;
-    spelled = record {
-      each = as_many_rows new entry.0 entry.1.added come.live;
-      spelled = λ place row there.
-          let (ordinal, listed, found) = ordinal_there new entry.0 entry.1.added come.live place row there in
-          let places = places_in (part_of entry.1 at).section in
-          let packed : ArePacked shape new entry.0 chosen entry.1.added places = record { widths = refl; total = refl; packed = packs } in
-          law.places_spell shape new entry.0 chosen entry.1.added places place ordinal row can come packed listed found;
-    };
-  }
+  part_is at =
+      let section = (part_of entry.1 at).section in
+      let apart = fields_apart schemas entry.0 entry.1.schema are.model.model is.schema in
+      let columns = columns_here shape entry.1.max entry.1.removed entry.1.added entry.1.rows wide carried.parts in
+      let rows = rows_under new entry.0 entry.1.added in
+      record {
+        means = its_type;
+        layout = layout_seen shape shape section section its_type.agree apart columns (inl (refl, refl));
+        own = own_seen shape shape section section its_type.agree apart few_fields columns refl (inl (refl, refl));
+        removed = refl;
+        added = refl;
+        spelled = (rows_seen shape shape section section rows its_type.agree apart columns (inl (refl, refl))).0 (adds at);
+      }
+
+  -- and it is the model's own
+  pub part_own : (at : ℕ) → Contains schemas (part_of entry.1 at).schema
+  part_own at = (entry.0, slice_get_within schemas entry.0 entry.1.schema is.schema, get_or_from_slice_get schemas entry.0 entry.1.schema entry.1.schema is.schema)
 
   pub ordinals_fit : FitsTable old entry.0 (patch_of new entry)
   ordinals_fit = record {

@@ -9,7 +9,6 @@ pub mod FewGaps
 pub mod Gone
 pub mod MovedOnce
 pub mod NamedOnce
-pub mod PatchOnce
 pub mod SnapshotRead
 pub mod SnapshotTypes
 pub mod StatesBack

@@ -75,5 +75,5 @@ pub record LeadsOn (chain : Chain) (state : ChainState) (blob : List ℕ) (origi
   pub fits : Fits state.model state.table patch
   pub moved : Moved patch state.table next.table
   pub within : Within next.table patch
-  pub items : KeepItems is.parts
+  pub items : KeepItems state.model is.parts
   pub short : length blob ≤ number_of_limit Blob

@@ -18,11 +18,11 @@ returns-in_err-parts-clause-fails g c =
 
 pub returns-clause-fails : goal.returns-clause-fails
 returns-clause-fails g c =
-    told_fails (told (g.S.BlobStore.seen c.args.store.now).held c.args.cursor.now.name) c.args.cursor.now.at c.args.model.now c.parts_of.result (on_ok c.parts_of.result c.parts_of.ensures.model)
+    told_fails (told (g.S.BlobStore.seen c.args.store.now).held c.args.cursor.now.name) c.args.cursor.now.at c.args.model.now c.parts_of.result c.parts_of.ensures.model
     (returns-clause-tells g c)
 
 pub returns-clause-model : goal.returns-clause-model
-returns-clause-model g c = on_ok c.parts_of.result c.parts_of.ensures.model
+returns-clause-model g c = c.parts_of.ensures.model
 
 pub returns-clause-ends : goal.returns-clause-ends
 returns-clause-ends g c = on_ok c.parts_of.result (told_end (told (g.S.BlobStore.seen c.args.store.now).held c.args.cursor.now.name) c.args.cursor.now.at _ c.in_ok-parts.parts c.in_ok-parts.ensures.reads.tells)

@@ -1,0 +1,6 @@
+pub mod ByName
+pub mod Elements
+pub mod Nulls
+pub mod Patch
+pub mod Seen
+pub mod Spelling

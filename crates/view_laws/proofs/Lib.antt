@@ -1,0 +1,5 @@
+pub mod NamedItems
+pub mod SeenDeltas
+pub mod SeenMaps
+pub mod SeenRecords
+pub mod SeenSteps

@@ -1,0 +1,4 @@
+//! Laws of deltas that are read through other models.
+#![tactic(auto)]
+
+pub mod laws;
