@@ -1,16 +1,15 @@
--- The order `check` has an answer: the walk goes on up to the first version at which a call is refused or the states differ.
-use Rattle.std.proofs.Common.{◌≡◌, ◌∙◌, ℕ, List, [], ◌∷◌, ◌++◌, length, Option, None, Some, Ok, Err, IfSome, append_assoc, append-nil, inl, inr, refl, sym, subst}
+-- The order `check` has an answer: the walk goes on up to the first version at which a call is refused, or the states differ where the store has its snapshot.
+use Rattle.std.proofs.Common.{◌≡◌, ◌∙◌, ℕ, List, [], ◌∷◌, ◌++◌, length, Bool, true, false, Option, None, Some, Ok, Err, IfSome, is_some, append_assoc, append-nil, inl, inr, refl, sym, subst}
+use Rattle.std.specs.FinMap.{get}
 use Rattle.std.specs.List.{last_or}
 use Rattle.std.proofs.lemmas.List.{length-map}
 use Rattle.hol_io.specs.declared.name.BlobName.{BlobName}
 use Rattle.hol_io.specs.declared.name.BlobName.TheVariants.{Snapshot}
 use Rattle.hol_io.specs.Store.{Store, told}
-use Rattle.schema_model.specs.declared.model.rule.Rule.TheVariants.{DuplicateName}
 use Rattle.type_state.specs.State.{Half}
 use Rattle.blob_frame.specs.declared.fault.BlobFault.{BlobFault}
 use Rattle.blob_frame.specs.declared.fault.BlobFault.TheVariants as fault
-use Rattle.chain_check.specs.Compare.{Compare}
-use Rattle.chain_check.specs.Walk.{Arrives, Both, Comes, Goes, Passes, Stops, name_of_call, name_of_step}
+use Rattle.chain_check.specs.Walk.{Arrives, Both, Comes, Goes, HasSnapshot, Passes, Stops, Visits, compared_in, name_of_call, name_of_step}
 use Rattle.read_engine.specs.Position.{Position, rows_now}
 use Rattle.read_engine.specs.Taking.{StepsBy}
 use Rattle.step_laws.specs.Typed.{HasTypes}
@@ -56,10 +55,9 @@ step_plain name content (Some now) why (found, refuses, tells) difference is = n
 -- ---- one version further
 
 passes_more : (held : Option Store) (from : Option ℕ) (versions : List ℕ) (to : ℕ) (start before now : Both (Option Position)) → Passes walk_calls held from versions start before
-    → Arrives walk_calls held (last_or from versions) to before now → Compare (state_at now.walker) (state_at now.fresh) None → Passes walk_calls held from (versions ++ to ∷ []) start now
-passes_more held from [] to start before now same arrives agrees = (now, subst (λ (b : Both (Option Position)). Arrives walk_calls held from to b now) same arrives, agrees, refl)
-passes_more held from (v ∷ versions) to start before now passes arrives agrees =
-    (passes.0, passes.1, passes.2, passes_more held (Some v) versions to passes.0 before now passes.3 arrives agrees)
+    → Visits walk_calls held (last_or from versions) to before now → Passes walk_calls held from (versions ++ to ∷ []) start now
+passes_more held from [] to start before now same visits = (now, subst (λ (b : Both (Option Position)). Visits walk_calls held from to b now) same visits, refl)
+passes_more held from (v ∷ versions) to start before now passes visits = (passes.0, passes.1, passes_more held (Some v) versions to passes.0 before now passes.2 visits)
 
 -- a state has a table for its model
 long_table : (position : Position) → HasTypes position → length (rows_now position) ≡ length position.schemas
@@ -97,25 +95,44 @@ module _ (machine : Machine) (sound : IsSound machine) where
     stopped (refusal.Mismatch difference) plain name now stops = absurd (plain difference refl)
     stopped _ plain name now stops = (name, now, stops)
 
-    -- the walk goes on
-    goes_on : (rest passed : List ℕ) (now : Both (Option Position)) → versions ≡ passed ++ rest → Passes walk_calls held None passed both_new now → IfSome now.walker HasTypes → ⊥
-    goes_on [] passed now are passes typed =
-        none (reply.Check (length versions)) (refl, (now, subst (λ (vs : List ℕ). Passes walk_calls held None vs both_new now) (sym (are ∙ append-nil passed)) passes))
-    goes_on (to ∷ more) passed now are passes typed =
-        let from = last_or None passed in
-        let comes : Comes walk_calls held versions both_new from to now = record { passed = passed; more = more; versions_are = are; from_is = refl; passes = passes } in
-        going from to now.walker typed
-        (λ there there_typed goes. loading to now.fresh
+    -- The walk comes before a version.
+    abbrev ComesTo : Option ℕ → ℕ → Both (Option Position) → Type 0
+    ComesTo from to now = Comes walk_calls held versions both_new from to now
+
+    -- the walk is led to a version whose snapshot is there
+    arrives_there : (from : Option ℕ) (to : ℕ) (now : Both (Option Position)) → ComesTo from to now → HasSnapshot held to true → (there : Position) → HasTypes there
+        → Goes walk_calls held from to now.walker (Some there) (Ok tt) → ((behind : Both (Option Position)) → behind.walker ≡ Some there → Visits walk_calls held from to now behind → ⊥) → ⊥
+    arrives_there from to now comes has there typed goes visits = loading to now.fresh
         (λ other other_typed loads.
         let arrived : Both (Option Position) = record { walker = Some there; fresh = Some other } in
-        let arrives : Arrives walk_calls held from to now arrived = record { goes = goes; loads = loads } in
-        same_or_differ (state_at (Some there)) (state_at (Some other)) (there_typed.model DuplicateName) (other_typed.model DuplicateName) (long_table there there_typed) (long_table other other_typed)
-        (λ same. goes_on more (passed ++ to ∷ []) arrived (are ∙ sym (append_assoc passed (to ∷ []) more)) (passes_more held None passed to both_new now arrived passes arrives same) there_typed)
+        let arrives : Arrives walk_calls held from to now arrived = record { goes = goes; has = has; loads = loads } in
+        same_or_differ (state_at (Some there)) (state_at (Some other)) (long_table there typed)
+        (λ same. visits arrived refl (inl (arrives, same)))
         (λ place differs. none (reply.Refused (refusal.Mismatch (record { version = to; type_name = place.type_name; ordinal = place.ordinal })))
         (arrived, record { from = from; before = now; comes = comes; arrives = arrives; place = differs })))
         (λ why plain refused.
         let behind : Both (Option Position) = record { walker = Some there; fresh = now.fresh } in
-        none (reply.Refused why) (stopped why plain (Snapshot to) behind (record { from = from; to = to; before = now; comes = comes; refuses = inr (refl, goes, refused) }))))
+        none (reply.Refused why) (stopped why plain (Snapshot to) behind (record { from = from; to = to; before = now; comes = comes; refuses = inr (refl, goes, has, refused) })))
+
+    -- the walk is led to a version, whether its snapshot is there or not
+    visits_there : (from : Option ℕ) (to : ℕ) (now : Both (Option Position)) → ComesTo from to now → (has : Bool) → HasSnapshot held to has → (there : Position) → HasTypes there
+        → Goes walk_calls held from to now.walker (Some there) (Ok tt) → ((behind : Both (Option Position)) → behind.walker ≡ Some there → Visits walk_calls held from to now behind → ⊥) → ⊥
+    visits_there from to now comes true has there typed goes visits = arrives_there from to now comes has there typed goes visits
+    visits_there from to now comes false lacks there typed goes visits =
+        visits (record { walker = Some there; fresh = now.fresh }) refl (inr (record { goes = goes; lacks = lacks; still = refl }))
+
+    -- the walk goes on
+    goes_on : (rest passed : List ℕ) (now : Both (Option Position)) → versions ≡ passed ++ rest → Passes walk_calls held None passed both_new now → IfSome now.walker HasTypes → ⊥
+    goes_on [] passed now are passes typed =
+        none (reply.Check (compared_in machine.store versions) (length versions))
+        (refl, refl, (now, subst (λ (vs : List ℕ). Passes walk_calls held None vs both_new now) (sym (are ∙ append-nil passed)) passes))
+    goes_on (to ∷ more) passed now are passes typed =
+        let from = last_or None passed in
+        let comes : ComesTo from to now = record { passed = passed; more = more; versions_are = are; from_is = refl; passes = passes } in
+        going from to now.walker typed
+        (λ there there_typed goes. visits_there from to now comes (is_some (get machine.store (Snapshot to))) refl there there_typed goes
+        (λ behind is visits. goes_on more (passed ++ to ∷ []) behind (are ∙ sym (append_assoc passed (to ∷ []) more)) (passes_more held None passed to both_new now behind passes visits)
+        (subst (λ (c : Option Position). IfSome c HasTypes) (sym is) there_typed)))
         (λ why plain refused. none (reply.Refused why) (stopped why plain (name_of_call from to) now (record { from = from; to = to; before = now; comes = comes; refuses = inl (refl, refused, refl) })))
 
 -- that a walk over a store of bytes is neither answered nor refused cannot be

@@ -163,11 +163,11 @@ module _ (machine : Machine) (wanted : AskedCycle) (last : Published) (is : mach
   not_following _ tells = absurd tells
 
   -- trees that pass a limit
-  too_large : MayFollow machine.store last.version wanted.version wanted.tag → (trees : List (ℕ × PlainTree)) → GivesTrees last wanted.add trees → (passed : Limit) → PassesLimit last wanted.version wanted.tag trees passed → ⊥
+  too_large : MayFollow machine.store last.version wanted.version wanted.tag → (trees : List (ℕ × PlainTree)) → GivesTrees last wanted.add trees → (passed : Limit) → PassesLimit last wanted.version wanted.tag wanted.snapshot trees passed → ⊥
   too_large follows trees gives passed tells = refuses (refusal.TooLarge passed) (there (λ l. RefusesAfter machine.store l wanted (refusal.TooLarge passed)) (follows, (trees, gives, tells)))
 
   type_passes : (trees : List (ℕ × PlainTree)) (rows : Table) (changed : List ℕ) → Makes last trees rows changed → Publishes last changed → (passed : Limit) → IsTypeLimit passed
-      → TellsTypes last.model last.rows rows (Some passed) → PassesLimit last wanted.version wanted.tag trees passed
+      → TellsTypes last.model last.rows rows (Some passed) → PassesLimit last wanted.version wanted.tag wanted.snapshot trees passed
   type_passes trees rows changed makes publishes limit.Items of tells = (rows, changed, makes, publishes, tells)
   type_passes trees rows changed makes publishes limit.Bytes of tells = (rows, changed, makes, publishes, tells)
   type_passes trees rows changed makes publishes limit.Words of tells = (rows, changed, makes, publishes, tells)
@@ -188,7 +188,7 @@ module _ (machine : Machine) (wanted : AskedCycle) (last : Published) (is : mach
       all_named last.model changed (changed_inside rows changed are long) (λ names named.
       publishes_or_not last changed
       (λ publishes. types_or_limit last.model last.rows rows
-      (λ keeps. decide ((blobs : List Put) × AreBlobs last rows wanted.version wanted.tag blobs × All IsShort blobs) (λ either. elim either [
+      (λ keeps. decide ((blobs : List Put) × AreBlobs last rows wanted.version wanted.tag wanted.snapshot blobs × All IsShort blobs) (λ either. elim either [
         | inl (blobs, are_blobs, short) ↦
             let now : Published = record { model = last.model; rows = rows; tag = wanted.tag; version = wanted.version } in
             succeeds names true (with_producer (with_store machine (put_all machine.store (puts_of blobs wanted.version))) (Some now))

@@ -12,6 +12,7 @@ use Rattle.answer_laws.proofs.LookUps.{find_answered, index_answered}
 use Rattle.answer_laws.proofs.Checking.{check_answered}
 use Rattle.answer_laws.proofs.Cycling.{cycle_answered}
 use Rattle.answer_laws.proofs.Going.{goto_answered}
+use Rattle.answer_laws.proofs.Growing.{grow_answered}
 use Rattle.answer_laws.proofs.Models.{model_answered}
 use Rattle.answer_laws.proofs.Plans.{plan_answered}
 use Rattle.answer_laws.proofs.Restoring.{restore_answered}
@@ -31,6 +32,7 @@ answers Kind.Has settled machine sound asked fits = has_answered machine sound a
 answers Kind.At settled machine sound asked fits = at_answered machine sound asked
 answers Kind.Check settled machine sound asked fits = check_answered machine sound asked
 answers Kind.Stat settled machine sound asked fits = stat_answered machine sound asked
+answers Kind.Grow settled machine sound asked fits = grow_answered machine sound asked fits
 answers Kind.Plan settled machine sound asked fits = plan_answered machine sound asked
 answers Kind.Goto settled machine sound asked fits = goto_answered machine sound asked
 answers Kind.History settled machine sound asked fits = history_answered machine sound asked

@@ -44,14 +44,14 @@ module _ (machine : Machine) (sound : IsSound machine) where
       (moved machine.consumer (λ now. StepsBy blob now to)
       (λ now. (found : List ℕ) × (behind : Position) × (content ≡ Some found) × StepsBy found now behind × (to.tag ≡ behind.tag) × (stepped_to machine version to ≡ stepped_to machine version behind))
       (λ now by. (blob, to, there, by, refl, refl)) steps)
-      refl (record { bytes = sound.bytes; producer = sound.producer; consumer = stepped_typed machine.consumer sound.consumer blob to steps }))
+      refl (record { bytes = sound.bytes; producer = sound.producer; spelled = sound.spelled; consumer = stepped_typed machine.consumer sound.consumer blob to steps }))
       (λ refused tells. refuses refused (tells, refl))
 
   load_applies : (version : ℕ) → ((answer : Reply) (next : Machine) → Moves machine (Snapshot version) answer next → ⊥) → ((refused : Refusal) → Applies machine (Snapshot version) (reply.Refused refused) machine → ⊥) → ⊥
   load_applies version moves refuses =
       loads_or_refused (Snapshot version) (told (Some machine.store) (Snapshot version)) (sound.bytes (Snapshot version))
       (λ blob position there loads. moves (reply.Load position.tag) (loaded_to machine version position)
-      ((blob, position, there, loads, refl, refl), refl, record { bytes = sound.bytes; producer = sound.producer; consumer = load_typed blob position loads }))
+      ((blob, position, there, loads, refl, refl), refl, record { bytes = sound.bytes; producer = sound.producer; spelled = sound.spelled; consumer = load_typed blob position loads }))
       (λ refused tells. refuses refused (tells, refl))
 
   -- that a blob is neither applied nor refused cannot be

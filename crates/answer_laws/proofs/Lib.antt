@@ -6,6 +6,7 @@ mod Cycling
 mod Deciding
 mod EachKind
 mod Going
+mod Growing
 mod Keys
 mod Keeping
 mod Lines
@@ -16,6 +17,7 @@ mod Models
 mod Ordinals
 mod Plans
 mod Printing
+mod Putting
 mod Records
 mod Restoring
 mod Scripts

@@ -13,6 +13,8 @@ use Rattle.hol_answers.specs.declared.refusal.Refusal.{Refusal}
 use Rattle.hol_answers.specs.declared.reply.Made.{Made}
 use Rattle.hol_answers.specs.declared.reply.Reply.{Reply}
 use Rattle.hol_answers.specs.declared.reply.Reply.TheVariants as reply
+use Rattle.byte_laws.proofs.FilmBytes.{film_model, films_are}
+use Rattle.byte_laws.proofs.NextRows.{none_bytes}
 use Rattle.hollow_machine.specs.CheckOrder.{CheckReply}
 use Rattle.hollow_machine.specs.CycleOrder.{CycleStep}
 use Rattle.hollow_machine.specs.MakeCommand.{Makes, PassesCycles, RefusesOneOf, SumsUp, film_cycle, film_machine, row_count, there_and_back, versions_published}
@@ -20,6 +22,7 @@ use Rattle.hollow_machine.specs.State.{Machine, started}
 use Rattle.answer_laws.specs.Answered.{HasRows, IsSound}
 use Rattle.answer_laws.proofs.Checking.{check_or_not}
 use Rattle.answer_laws.proofs.Cycling.{cycle_keeps, cycle_or_not}
+use Rattle.answer_laws.proofs.Putting.{LeavesBytes, cycle_leaves}
 
 -- ---- cycles
 
@@ -28,23 +31,24 @@ if_there None some = absurd some
 if_there (Some last) some = some
 
 module _ (seed rows : ℕ) where
-  -- Where all cycles pass, a producer is behind them.
+  -- Where all cycles pass, a producer is behind them, and it and the store have bytes.
   abbrev Passes : List ℕ → Machine → List ℕ → Machine → Type 0
-  Passes cycles machine published next = PassesCycles seed rows machine cycles published next × IsSomeAnd next.producer HasRows
+  Passes cycles machine published next = PassesCycles seed rows machine cycles published next × IsSomeAnd next.producer HasRows × LeavesBytes next
 
   -- What is known of the cycles behind one.
   abbrev Behind : List ℕ → Type 0
-  Behind cycles = (machine : Machine) → IsSomeAnd machine.producer HasRows → ((published : List ℕ) (next : Machine) → Passes cycles machine published next → ⊥)
+  Behind cycles = (machine : Machine) → IsSomeAnd machine.producer HasRows → LeavesBytes machine → ((published : List ℕ) (next : Machine) → Passes cycles machine published next → ⊥)
       → ((why : Refusal) (next : Machine) → RefusesOneOf seed rows machine cycles why next → ⊥) → ⊥
 
-  module _ (machine : Machine) (typed : IsSomeAnd machine.producer HasRows) (cycle : ℕ) (cycles : List ℕ) (behind : Behind cycles) (passes : (published : List ℕ) (next : Machine) → Passes (cycle ∷ cycles) machine published next → ⊥)
+  module _ (machine : Machine) (typed : IsSomeAnd machine.producer HasRows) (bytes : LeavesBytes machine) (cycle : ℕ) (cycles : List ℕ) (behind : Behind cycles) (passes : (published : List ℕ) (next : Machine) → Passes (cycle ∷ cycles) machine published next → ⊥)
       (refuses : (why : Refusal) (next : Machine) → RefusesOneOf seed rows machine (cycle ∷ cycles) why next → ⊥) where
     of_answer : (answer : Reply) (between : Machine) → CycleStep machine (film_cycle seed rows cycle) answer between → ⊥
     of_answer (reply.Refused why) between step = refuses why between (record { before = []; cycle = cycle; behind = cycles; cycles_are = refl; published = []; between = machine; passes = (refl, refl); refuses = step })
     of_answer (reply.Cycle names published version) between step =
         let answer : Reply = reply.Cycle names published version in
         behind between (cycle_keeps machine typed (film_cycle seed rows cycle) names published version between step)
-        (λ others next all. passes (versions_published answer ++ others) next ((answer, between, others, step, refl, all.0, refl), all.1))
+        (cycle_leaves machine between bytes (film_cycle seed rows cycle) (films_are seed rows cycle) names published version step)
+        (λ others next all. passes (versions_published answer ++ others) next ((answer, between, others, step, refl, all.0, refl), all.1, all.2))
         (λ why next one. refuses why next (record {
           before = cycle ∷ one.before;
           cycle = one.cycle;
@@ -59,9 +63,9 @@ module _ (seed rows : ℕ) where
 
   -- that cycles neither pass nor one is the first that is refused cannot be
   passes_or_refuses : (cycles : List ℕ) → Behind cycles
-  passes_or_refuses [] machine typed passes refuses = passes [] machine ((refl, refl), typed)
-  passes_or_refuses (cycle ∷ cycles) machine typed passes refuses =
-      cycle_or_not machine (if_there machine.producer typed) (film_cycle seed rows cycle) (of_answer machine typed cycle cycles (passes_or_refuses cycles) passes refuses)
+  passes_or_refuses [] machine typed bytes passes refuses = passes [] machine ((refl, refl), typed, bytes)
+  passes_or_refuses (cycle ∷ cycles) machine typed bytes passes refuses =
+      cycle_or_not machine (if_there machine.producer typed) (film_cycle seed rows cycle) (of_answer machine typed bytes cycle cycles (passes_or_refuses cycles) passes refuses)
 
 -- ---- the command
 
@@ -74,22 +78,21 @@ sums_up (Some last) some published = (
 )
 
 sound_store : (store : Store) → HoldsBytes store → IsSound (started store)
-sound_store store bytes = record { bytes = bytes; producer = tt; consumer = tt }
+sound_store store bytes = record { bytes = bytes; producer = tt; spelled = tt; consumer = tt }
 
 module _ (store : Store) (seed rows cycles : ℕ) (none : (answer : Reply) (next : Machine) → Makes store seed rows cycles answer next → ⊥) where
   -- where all pass, what they published is walked along
   of_check : (published : List ℕ) (next : Machine) → Passes seed rows (range_with_len 1 cycles) (film_machine store) published next → (answer : Reply) → CheckReply next.store (there_and_back published) answer → ⊥
-  of_check published next all (reply.Check states) tells =
+  of_check published next all (reply.Check compared states) tells =
       let sums = sums_up next.producer all.1 published in
-      none (reply.Make sums.0) next (published, all.0, (reply.Check states, tells, (refl, sums.1)))
+      none (reply.Make sums.0) next (published, all.0, (reply.Check compared states, tells, (refl, sums.1)))
   of_check published next all (reply.Refused why) tells = none (reply.Refused why) next (inr (published, all.0, (reply.Refused why, tells, refl)))
   of_check published next all _ tells = absurd tells
 
--- that the command has no answer cannot be, where what its cycles put are bytes
-pub make_answered : (store : Store) (seed rows cycles : ℕ)
-    → ((published : List ℕ) (next : Machine) → PassesCycles seed rows (film_machine store) (range_with_len 1 cycles) published next → HoldsBytes next.store)
-    → ((answer : Reply) (next : Machine) → Makes store seed rows cycles answer next → ⊥) → ⊥
+-- that the command has no answer cannot be
+pub make_answered : (store : Store) (seed rows cycles : ℕ) → HoldsBytes store → ((answer : Reply) (next : Machine) → Makes store seed rows cycles answer next → ⊥) → ⊥
 make_answered store seed rows cycles bytes none =
     passes_or_refuses seed rows (range_with_len 1 cycles) (film_machine store) (length-replicate {A = RowMap} (length film_schemas) (empty {R = nat_cmp}))
-    (λ published next all. check_or_not (started next.store) (sound_store next.store (bytes published next all.0)) (there_and_back published) (of_check store seed rows cycles none published next all))
+    (record { model = film_model; rows = none_bytes (length film_schemas) }, bytes)
+    (λ published next all. check_or_not (started next.store) (sound_store next.store all.2.1) (there_and_back published) (of_check store seed rows cycles none published next all))
     (λ why next one. none (reply.Refused why) next (inl one))

@@ -7,14 +7,14 @@ use Rattle.schema_model.specs.declared.model.rule.Rule.{Rule}
 use Rattle.schema_model.specs.declared.schema.Field.{Field}
 use Rattle.schema_model.specs.declared.schema.Schema.{Schema}
 use Rattle.schema_model.specs.declared.schema.Shape.{Shape}
-use Rattle.schema_model.specs.Model.{BreaksAt, rule_place}
+use Rattle.schema_model.specs.Model.{BreaksAt, IsModel, rule_place}
 use Rattle.blob_faults.proofs.LeastNumber.{no_number}
 use Rattle.state_blobs.specs.Published.{Published, new_producer}
 use Rattle.json_values.specs.SchemaJson.{AreSchemas, HasParts, HasText, IsArrayOf, IsField, IsKindName, IsKindOrFloat, IsSchema, ItemsAre, StandsFor, StandsForWithFloats, shape_name}
 use Rattle.json_values.specs.SchemasFrom.{BreaksWithFloats, HasFloat, HasFloatAt, IsFloatField}
 use Rattle.hol_answers.specs.declared.refusal.Refusal.TheVariants as refusal
 use Rattle.hol_answers.specs.declared.reply.Reply.TheVariants as reply
-use Rattle.hollow_machine.specs.ModelOrder.{IsNamed, model_form}
+use Rattle.hollow_machine.specs.ModelOrder.{BreaksRule, IsNamed, model_form}
 use Rattle.hollow_machine.specs.State.{Machine, with_producer}
 use Rattle.answer_laws.specs.Answered.{IsAnsweredBy, IsSound}
 use Rattle.answer_laws.proofs.Deciding.{decide}
@@ -137,26 +137,36 @@ module _ (Broken : Rule → ℕ → Type 0)
   none_broken : (rule : Rule) (t : ℕ) → Broken rule t → ⊥
   none_broken rule t broken = no_number BrokenAt no_first (rule_place rule) (rule, refl, (t, broken))
 
--- ---- the order
+-- ---- schemas that are a model
 
-module _ (machine : Machine) (value : Data) (schemas : List Schema) (are : StandsForWithFloats value schemas) where
-  of_none : machine.producer ≡ None → IsAnsweredBy model_form machine value
-  of_none new none = decide ((t : ℕ) × HasFloatAt value t) (λ either. elim either [
+module _ (value : Data) (schemas : List Schema) (are : StandsForWithFloats value schemas) where
+  -- The value breaks this rule first, in the first type that breaks it, which has this name.
+  abbrev BreaksFirst : Rule → List ℕ → Type 0
+  BreaksFirst rule name = (t : ℕ) × BreaksRule value rule t × IsNamed value t name
+
+  -- that schemas are neither a model nor break a rule first cannot be
+  pub model_or_rule : (StandsFor value schemas → IsModel schemas → ⊥) → ((rule : Rule) (name : List ℕ) → BreaksFirst rule name → ⊥) → ⊥
+  model_or_rule model breaks = decide ((t : ℕ) × HasFloatAt value t) (λ either. elim either [
     | inl some ↦ none_broken (BreaksWithFloats value schemas) (λ rule t earlier broken least.
         let named = breaking_named value schemas are rule t broken in
-        none (reply.Refused (refusal.BadModel rule named.0)) machine
-        ((new, (t, inr (schemas, are, some, record { earlier = earlier; broken = broken; least = least }), named.1)), refl)) Rule.FloatField some.0 some.1
+        breaks rule named.0 (t, inr (schemas, are, some, record { earlier = earlier; broken = broken; least = least }), named.1)) Rule.FloatField some.0 some.1
     | inr never ↦
         let stands = schemas_narrow value schemas are (λ t has. never (t, has)) in
         decide ((rule : Rule) × (t : ℕ) × BreaksAt schemas rule t) (λ rules. elim rules [
           | inl some ↦ none_broken (BreaksAt schemas) (λ rule t earlier broken least.
               let named = broken_named value schemas are rule t broken in
-              none (reply.Refused (refusal.BadModel rule named.0)) machine
-              ((new, (t, inl (schemas, stands, record { earlier = earlier; broken = broken; least = least }), named.1)), refl)) some.0 some.1 some.2
-          | inr kept ↦
-              none (reply.Model (length schemas)) (with_producer machine (Some (new_producer schemas))) (schemas, new, stands, (λ rule t broken. kept (rule, t, broken)), refl, refl)
+              breaks rule named.0 (t, inl (schemas, stands, record { earlier = earlier; broken = broken; least = least }), named.1)) some.0 some.1 some.2
+          | inr kept ↦ model stands (λ rule t broken. kept (rule, t, broken))
         ])
   ])
+
+-- ---- the order
+
+module _ (machine : Machine) (value : Data) (schemas : List Schema) (are : StandsForWithFloats value schemas) where
+  of_none : machine.producer ≡ None → IsAnsweredBy model_form machine value
+  of_none new none = model_or_rule value schemas are
+      (λ stands model. none (reply.Model (length schemas)) (with_producer machine (Some (new_producer schemas))) (schemas, new, stands, model, refl, refl))
+      (λ rule name breaks. none (reply.Refused (refusal.BadModel rule name)) machine ((new, breaks), refl))
 
   of_producer : (producer : Option Published) → machine.producer ≡ producer → IsAnsweredBy model_form machine value
   of_producer None is none = of_none is none

@@ -24,7 +24,7 @@ put_bytes : (store : Store) (name : BlobName) (bytes : List ℕ) → AreBytes by
 put_bytes store name bytes one others other =
     subst (λ (content : Option (List ℕ)). IfSome content AreBytes) (sym (get-insert name_cmp_total store name bytes other)) (with_one (is_eq (name_cmp other name)) bytes (get store other) one (others other))
 
-all_bytes : (puts : List Put) (store : Store) → All (λ (put : Put). AreBytes put.1) puts → HoldsBytes store → HoldsBytes (put_all store puts)
+pub all_bytes : (puts : List Put) (store : Store) → All (λ (put : Put). AreBytes put.1) puts → HoldsBytes store → HoldsBytes (put_all store puts)
 all_bytes [] store are bytes = bytes
 all_bytes (put ∷ puts) store are bytes =
     all_bytes puts (insert store put.0 put.1) (All-tail (λ (p : Put). AreBytes p.1) put puts are) (put_bytes store put.0 put.1 (All-head (λ (p : Put). AreBytes p.1) put puts are) bytes)

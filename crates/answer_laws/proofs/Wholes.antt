@@ -27,6 +27,7 @@ use Rattle.hol_answers.specs.declared.reply.Reply.{Reply}
 use Rattle.hol_answers.specs.declared.reply.Reply.TheVariants as reply
 use Rattle.state_blobs.specs.Published.{Published, new_producer}
 use Rattle.hollow_machine.specs.CycleOrder.{CycleStep, SucceedsAfter}
+use Rattle.hollow_machine.specs.GrowOrder.{GrowStep, GrowsOn, grown_producer}
 use Rattle.hollow_machine.specs.HistoryOrders.{HistoryStep}
 use Rattle.hollow_machine.specs.IndexOrder.{IndexStep}
 use Rattle.hollow_machine.specs.KeyPaths.{AreKeyPaths, HasShape, IsObject}
@@ -120,6 +121,15 @@ model_whole : (machine next : Machine) → HasWhole machine → (value : Data) (
 model_whole machine next whole value (reply.Model types) (schemas, none, stands, is, count, next_is) = same_whole (with_producer machine (Some (new_producer schemas))) next whole next_is
 model_whole machine next whole value (reply.Refused refusal) is = same_whole machine next whole is.1
 model_whole machine next whole value _ is = absurd is
+
+grown_whole : (machine next : Machine) → HasWhole machine → (value : Data) (types : ℕ) (found : Option Published) → IsSomeAnd found (GrowsOn machine value types next) → HasWhole next
+grown_whole machine next whole value types None is = absurd is
+grown_whole machine next whole value types (Some last) (schemas, stands, model, grows, count, next_is) = same_whole (with_producer machine (Some (grown_producer schemas last))) next whole next_is
+
+grow_whole : (machine next : Machine) → HasWhole machine → (value : Data) (answer : Reply) → GrowStep machine value answer next → HasWhole next
+grow_whole machine next whole value (reply.Grow types) is = grown_whole machine next whole value types machine.producer is
+grow_whole machine next whole value (reply.Refused refusal) is = same_whole machine next whole is.1
+grow_whole machine next whole value _ is = absurd is
 
 restore_whole : (machine next : Machine) → HasWhole machine → (version : ℕ) (answer : Reply) → RestoreStep machine version answer next → HasWhole next
 restore_whole machine next whole version (reply.Restore tag restored) (same, last, (position, stored, once, tag_is, next_is)) = same_whole (with_producer machine (Some (producer_at position version))) next whole next_is
@@ -230,6 +240,7 @@ cycle_whole machine next whole asked _ is = absurd is
 order_whole : (asked : Order) (machine next : Machine) → HasWhole machine → (answer : Reply) → Step machine asked answer next → HasWhole next
 order_whole (order.Cycle next_state) machine next whole answer is = cycle_whole machine next whole (asked_cycle (asked_state next_state)) answer is
 order_whole (order.Model schemas) machine next whole answer is = model_whole machine next whole _ answer is
+order_whole (order.Grow schemas) machine next whole answer is = grow_whole machine next whole _ answer is
 order_whole (order.Restore version) machine next whole answer is = restore_whole machine next whole version answer is
 order_whole (order.Load version) machine next whole answer is = load_whole machine next whole version answer is
 order_whole (order.Step from to) machine next whole answer is = step_whole machine next whole _ to answer is

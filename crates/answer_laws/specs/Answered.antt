@@ -4,9 +4,10 @@ use Rattle.hol_io.specs.Store.{HoldsBytes}
 use Rattle.step_laws.specs.Typed.{HasTypes}
 use Rattle.state_blobs.specs.Published.{Published}
 use Rattle.hol_orders.specs.declared.kind.Kind.{Kind}
-use Rattle.hol_orders.specs.declared.kind.Kind.TheVariants.{Model, Cycle, Restore, Load, Step as StepKind, Index, Get, Find, Live, Row, Has, At, Past, Check, Stat, Plan, Goto, History, Was, WasGet}
+use Rattle.hol_orders.specs.declared.kind.Kind.TheVariants.{Model, Cycle, Restore, Load, Step as StepKind, Index, Get, Find, Live, Row, Has, At, Past, Check, Stat, Grow, Plan, Goto, History, Was, WasGet}
 use Rattle.hol_orders.specs.declared.order.Order.{Order}
 use Rattle.hol_answers.specs.declared.reply.Reply.{Reply}
+use Rattle.byte_laws.specs.Bytes.{IsByteProducer}
 use Rattle.hollow_machine.specs.Forms.{OrderForm, StepBy}
 use Rattle.hollow_machine.specs.State.{Machine}
 use Rattle.hollow_machine.specs.Step.{Step}
@@ -15,11 +16,12 @@ use Rattle.hollow_machine.specs.Step.{Step}
 abbrev pub HasRows : Published → Type 0
 HasRows last = length last.rows ≡ length last.model
 
--- What is known of the machine of a run over a store of bytes: the producer, if there is one, has rows for each type, and the consumer, if it has a state,
--- has a model and a half for each type.
+-- What is known of the machine of a run over a store of bytes: the producer, if there is one, has rows for each type, its model is spelled by bytes and what
+-- its rows hold in BYTES are bytes; and the consumer, if it has a state, has a model and a half for each type.
 pub record IsSound (machine : Machine) : Type 0 where
   pub bytes : HoldsBytes machine.store
   pub producer : IfSome machine.producer HasRows
+  pub spelled : IfSome machine.producer IsByteProducer
   pub consumer : IfSome machine.consumer HasTypes
 
 -- That nothing is answered to what is asked by the form cannot be.
@@ -44,6 +46,7 @@ IsSettled Has = Unit {0}
 IsSettled At = Unit {0}
 IsSettled Check = Unit {0}
 IsSettled Stat = Unit {0}
+IsSettled Grow = Unit {0}
 IsSettled Plan = Unit {0}
 IsSettled Goto = Unit {0}
 IsSettled History = Unit {0}

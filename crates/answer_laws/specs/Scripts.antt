@@ -1,11 +1,10 @@
--- What the lines of a script need to have answers.
-use Rattle.std.specs.Prelude.{◌≡◌, ◌++◌, ℕ, List, ◌∷◌, All, Bool}
+-- What the lines of a script ask, and what they put.
+use Rattle.std.specs.Prelude.{ℕ, List, All}
 use Rattle.blob_grammar.specs.Decided.{AreBytes}
 use Rattle.state_blobs.specs.Puts.{Put}
 use Rattle.hol_orders.specs.declared.order.Order.{Order}
 use Rattle.hol_orders.specs.Order.{Orders, kind_of}
 use Rattle.hollow_machine.specs.Puts.{LinePuts}
-use Rattle.hollow_machine.specs.Script.{Script}
 use Rattle.hollow_machine.specs.State.{Machine}
 use Rattle.answer_laws.specs.Answered.{IsBuilt}
 
@@ -16,8 +15,3 @@ AsksBuilt line = (order : Order) → Orders line order → IsBuilt (kind_of orde
 -- What the line puts, if it is a cycle that publishes, are bytes.
 abbrev pub PutsBytes : List ℕ → Machine → Type 0
 PutsBytes line machine = (puts : List Put) → LinePuts line machine puts → All (λ put. AreBytes put.1) puts
-
--- So it is of each line of a script and the machine behind the lines before it.
-abbrev pub Along : (List ℕ → Machine → Type 0) → Machine → List (List ℕ) → Type 0
-Along Holds machine lines =
-    (before behind : List (List ℕ)) (line text : List ℕ) (refused : Bool) (between : Machine) → before ++ line ∷ behind ≡ lines → Script machine before text refused between → Holds line between

@@ -1,6 +1,5 @@
 //! Laws of answers.
 ghost use Rattle.std.specs.Prelude.{◌≡◌, ℕ, List, Bool, All};
-ghost use Rattle.std.specs.List.{range_with_len};
 ghost use Rattle.hol_io.specs.Store.{HoldsBytes, Store};
 ghost use Rattle.serde_json.specs.Data.{Data};
 ghost use Rattle.serde_json.specs.View.{view};
@@ -13,11 +12,11 @@ ghost use Rattle.record_json.specs.PrintTree.{PrintsTree};
 ghost use Rattle.hol_orders.specs.declared.order.Order.{Order};
 ghost use Rattle.hol_orders.specs.Order.{IsOrder, kind_of};
 ghost use Rattle.hol_answers.specs.declared.reply.Reply.{Reply};
-ghost use Rattle.hollow_machine.specs.MakeCommand.{Makes, PassesCycles, film_machine};
+ghost use Rattle.hollow_machine.specs.MakeCommand.{Makes};
 ghost use Rattle.hollow_machine.specs.Script.{LineStep, Script};
 ghost use Rattle.hollow_machine.specs.State.{Machine};
 ghost use Rattle.answer_laws.specs.Answered.{IsAnswered, IsSettled, IsShowing, IsSound};
-ghost use Rattle.answer_laws.specs.Scripts.{Along, AsksBuilt, PutsBytes};
+ghost use Rattle.answer_laws.specs.Scripts.{AsksBuilt, PutsBytes};
 ghost use Rattle.answer_laws.specs.Shown.{HasJson, HasValues, HasWhole, IsShown};
 
 /// That an order has no answer of a sound machine cannot be, whatever it asks for; and if it shows records, where these can be shown.
@@ -32,9 +31,10 @@ pub fn some_line()
         → ((reply : Reply) (next : Machine) → LineStep machine line reply next → ⊥) → ⊥ }
 {}
 
-/// Where a machine is sound, the one behind a line is, if what the line puts are bytes.
+/// What a line puts of a sound machine are bytes, and the machine behind the line is sound.
 pub fn line_keeps_sound()
-    ensures { (machine next : Machine) (line : List ℕ) (reply : Reply) → IsSound machine → PutsBytes line machine → LineStep machine line reply next → IsSound next }
+    ensures puts { (machine : Machine) (line : List ℕ) → IsSound machine → PutsBytes line machine }
+    ensures sound { (machine next : Machine) (line : List ℕ) (reply : Reply) → IsSound machine → LineStep machine line reply next → IsSound next }
 {}
 
 /// Where the tables of a machine are closed ones of the consumer's model, those behind a line are; and its records can be shown, where each datum that a record
@@ -44,18 +44,16 @@ pub fn line_keeps_whole()
     ensures shown { HasValues → (machine : Machine) → HasWhole machine → IsShown machine }
 {}
 
-/// That a script of such lines has no text and verdict and leaves no machine cannot be, where the machine is sound and its tables are closed at the begin, and what
-/// its lines put are bytes, if each datum that a record prints as is that of a value.
+/// That a script of such lines has no text and verdict and leaves no machine cannot be, where the machine is sound and its tables are closed at the begin, if each
+/// datum that a record prints as is that of a value.
 pub fn some_script()
-    ensures { HasValues → (machine : Machine) (lines : List (List ℕ)) → IsSound machine → HasWhole machine → Along PutsBytes machine lines → All AsksBuilt lines
+    ensures { HasValues → (machine : Machine) (lines : List (List ℕ)) → IsSound machine → HasWhole machine → All AsksBuilt lines
         → ((text : List ℕ) (refused : Bool) (next : Machine) → Script machine lines text refused next → ⊥) → ⊥ }
 {}
 
-/// That the command `make` has no answer cannot be, where what its cycles put are bytes.
+/// That the command `make` has no answer over a store of bytes cannot be.
 pub fn some_make()
-    ensures { (store : Store) (seed rows cycles : ℕ)
-        → ((published : List ℕ) (next : Machine) → PassesCycles seed rows (film_machine store) (range_with_len 1 cycles) published next → HoldsBytes next.store)
-        → ((reply : Reply) (next : Machine) → Makes store seed rows cycles reply next → ⊥) → ⊥ }
+    ensures { (store : Store) (seed rows cycles : ℕ) → HoldsBytes store → ((reply : Reply) (next : Machine) → Makes store seed rows cycles reply next → ⊥) → ⊥ }
 {}
 
 /// That the record of a live row of a closed table prints as no JSON cannot be; so that it has JSON where each datum that it prints as is that of a value.

@@ -16,7 +16,7 @@ pub enum BlobFault {
     BadRow(u64, Reason, Name, u64),
     /// The blob starts from another state: the origin tag that was found, and the current tag.
     OtherOrigin(i64, i64),
-    /// A schema of the blob is not the current one of its name: the name of the type.
+    /// A schema of the blob does not agree with the current one of its name: the name of the type.
     OtherModel(Name),
     /// The store failed. It comes only where the store's count of faults rose in the call.
     Store,

@@ -1,6 +1,6 @@
 -- When a check gives each answer, where the store tells what it holds.
-use Rattle.std.proofs.Common.{◌≡◌, ◌+◌, ◌⊎◌, inl, inr, ℕ, List, [], ◌∷◌, ◌++◌, Option, Some, None, refl, sym, ap, ◌∙◌, subst}
-use Rattle.std.specs.Prelude.{Result, Ok, Err, IfSome}
+use Rattle.std.proofs.Common.{◌≡◌, ◌⊎◌, inl, inr, ℕ, List, [], ◌∷◌, ◌++◌, Option, Some, None, refl, sym, ap, ◌∙◌, subst}
+use Rattle.std.specs.Prelude.{true, false, Result, Ok, Err, IfOk, IfSome}
 use Rattle.std.specs.List.{last_or}
 use Rattle.hol_io.specs.Store.{Store}
 use Rattle.hol_varint.specs.Yields.{Yields}
@@ -8,12 +8,13 @@ use Rattle.schema_model.specs.declared.schema.name.Name.{Name}
 use Rattle.chain_check.specs.declared.checking.CheckFault.{CheckFault}
 use Rattle.chain_check.specs.declared.place.Place.{Place}
 use Rattle.chain_check.specs.Compare.{Compare}
-use Rattle.chain_check.specs.Walk.{Arrives, Both, Calls, Differs, IsFree, Passes, TellsCheck}
+use Rattle.chain_check.specs.Walk.{Arrives, Both, Calls, Differs, Goes, HasSnapshot, IsFree, Passes, TellsCheck, Visits, compared_in}
 use Rattle.chain_check.proofs.OnePlace.{one_place}
 
 module _ {W E : Type 0} (calls : Calls W E) (held : Option Store)
     (one_load : (version : ℕ) (a b a' b' : W) → calls.loads held version a a' (Ok tt) → calls.loads held version b b' (Ok tt) → a' ≡ b')
-    (one_step : (from to : ℕ) (a a' b' : W) → calls.steps held from to a a' (Ok tt) → calls.steps held from to a b' (Ok tt) → a' ≡ b') where
+    (one_step : (from to : ℕ) (a a' b' : W) → calls.steps held from to a a' (Ok tt) → calls.steps held from to a b' (Ok tt) → a' ≡ b')
+    (not_both : (version : ℕ) → HasSnapshot held version true → HasSnapshot held version false → ⊥) where
   -- a walk comes to one pair of states
   one_arrival : (from : Option ℕ) (to : ℕ) (start a b : Both W) → Arrives calls held from to start a → Arrives calls held from to start b → a ≡ b
   one_arrival None to start a b first other =
@@ -25,21 +26,30 @@ module _ {W E : Type 0} (calls : Calls W E) (held : Option Store)
       let freshs = one_load to start.fresh start.fresh a.fresh b.fresh first.loads other.loads in
       λ i. record { walker = walkers i; fresh = freshs i }
 
-  -- the two states are the same there
-  abbrev Agrees : Both W → Type 0
-  Agrees at = Compare (calls.state at.walker) (calls.state at.fresh) None
+  one_walker : (from : Option ℕ) (to : ℕ) (start a b : Both W) → Goes calls held from to start.walker a.walker (Ok tt) → Goes calls held from to start.walker b.walker (Ok tt) → a.walker ≡ b.walker
+  one_walker None to start a b first other = one_load to start.walker start.walker a.walker b.walker first other
+  one_walker (Some from) to start a b first other = one_step from to start.walker a.walker b.walker first other
+
+  one_visit : (from : Option ℕ) (to : ℕ) (start a b : Both W) → Visits calls held from to start a → Visits calls held from to start b → a ≡ b
+  one_visit from to start a b (inl first) (inl other) = one_arrival from to start a b first.0 other.0
+  one_visit from to start a b (inl first) (inr other) = absurd (not_both to first.0.has other.lacks)
+  one_visit from to start a b (inr first) (inl other) = absurd (not_both to other.0.has first.lacks)
+  one_visit from to start a b (inr first) (inr other) =
+      let walkers = one_walker from to start a b first.goes other.goes in
+      let freshs = first.still ∙ sym other.still in
+      λ i. record { walker = walkers i; fresh = freshs i }
 
   -- a walk goes from here to a version, and passes it
   abbrev GoesPast : Option ℕ → ℕ → Both W → Type 0
-  GoesPast from to before = (there : Both W) × Arrives calls held from to before there × Agrees there
+  GoesPast from to before = (there : Both W) × Visits calls held from to before there
 
   -- what passes all passes one of them
   passes_one : (from : Option ℕ) (p : List ℕ) (v : ℕ) (more : List ℕ) (start a end : Both W) → Passes calls held from (p ++ v ∷ more) start end → Passes calls held from p start a
       → GoesPast (last_or from p) v a
-  passes_one from [] v more start a end all same = (all.0, subst (λ (b : Both W). Arrives calls held from v b all.0) (sym same) all.1, all.2)
+  passes_one from [] v more start a end all same = (all.0, subst (λ (b : Both W). Visits calls held from v b all.0) (sym same) all.1)
   passes_one from (x ∷ p) v more start a end all some =
-      let one = one_arrival from x start all.0 some.0 all.1 some.1 in
-      passes_one (Some x) p v more some.0 a end (subst (λ (b : Both W). Passes calls held (Some x) (p ++ v ∷ more) b end) one all.3) some.3
+      let one = one_visit from x start all.0 some.0 all.1 some.1 in
+      passes_one (Some x) p v more some.0 a end (subst (λ (b : Both W). Passes calls held (Some x) (p ++ v ∷ more) b end) one all.2) some.2
 
   head_is : (x y : ℕ) (xs ys : List ℕ) → x ∷ xs ≡ y ∷ ys → x ≡ y
   head_is x y xs ys same = cc
@@ -62,16 +72,16 @@ module _ {W E : Type 0} (calls : Calls W E) (held : Option Store)
   two_walks from [] [] v w m n start a b same first other = inl (record { froms = refl; versions = head_is v w m n same; states = first ∙ sym other })
   two_walks from [] (y ∷ q) v w m n start a b same first other =
       let heads = head_is v y m (q ++ w ∷ n) same in
-      inr (inl (other.0, subst (λ u. Arrives calls held from u a other.0) (sym heads) (subst (λ (s : Both W). Arrives calls held from y s other.0) (sym first) other.1), other.2))
+      inr (inl (other.0, subst (λ u. Visits calls held from u a other.0) (sym heads) (subst (λ (s : Both W). Visits calls held from y s other.0) (sym first) other.1)))
   two_walks from (x ∷ p) [] v w m n start a b same first other =
       let heads = head_is x w (p ++ v ∷ m) n same in
-      inr (inr (first.0, subst (λ u. Arrives calls held from u b first.0) heads (subst (λ (s : Both W). Arrives calls held from x s first.0) (sym other) first.1), first.2))
+      inr (inr (first.0, subst (λ u. Visits calls held from u b first.0) heads (subst (λ (s : Both W). Visits calls held from x s first.0) (sym other) first.1)))
   two_walks from (x ∷ p) (y ∷ q) v w m n start a b same first other =
       let heads = head_is x y (p ++ v ∷ m) (q ++ w ∷ n) same in
-      let one = one_arrival from x start first.0 other.0 first.1 (subst (λ u. Arrives calls held from u start other.0) (sym heads) other.1) in
-      let rest = subst (λ u. Passes calls held (Some u) q first.0 b) (sym heads) (subst (λ (s : Both W). Passes calls held (Some y) q s b) (sym one) other.3) in
+      let one = one_visit from x start first.0 other.0 first.1 (subst (λ u. Visits calls held from u start other.0) (sym heads) other.1) in
+      let rest = subst (λ u. Passes calls held (Some u) q first.0 b) (sym heads) (subst (λ (s : Both W). Passes calls held (Some y) q s b) (sym one) other.2) in
       subst (λ u. Meet (last_or (Some x) p) (last_or (Some u) q) v w a b) heads
-      (two_walks (Some x) p q v w m n first.0 a b (tail_is x y (p ++ v ∷ m) (q ++ w ∷ n) same) first.3 rest)
+      (two_walks (Some x) p q v w m n first.0 a b (tail_is x y (p ++ v ∷ m) (q ++ w ∷ n) same) first.2 rest)
 
   -- states that are compared at one version are compared once
   one_comparison : (from : Option ℕ) (v : ℕ) (before a b : Both W) (place other : Option Place) → Arrives calls held from v before a → Arrives calls held from v before b
@@ -83,9 +93,10 @@ module _ {W E : Type 0} (calls : Calls W E) (held : Option Store)
   -- where states differ no walk goes on
   no_further : (from : Option ℕ) (v : ℕ) (before at : Both W) (place : Place) → Arrives calls held from v before at → Compare (calls.state at.walker) (calls.state at.fresh) (Some place)
       → GoesPast from v before → ⊥
-  no_further from v before at place arrives compared past =
-      let none : Some place ≡ None = one_comparison from v before at past.0 (Some place) None arrives past.1 compared past.2 in
+  no_further from v before at place arrives compared (there, inl past) =
+      let none : Some place ≡ None = one_comparison from v before at there (Some place) None arrives past.0 compared past.1 in
       absurd cc
+  no_further from v before at place arrives compared (there, inr past) = not_both v arrives.has past.lacks
 
   module _ (versions : List ℕ) (start : Both W) where
     -- a walk that differs somewhere passes not all
@@ -127,15 +138,16 @@ module _ {W E : Type 0} (calls : Calls W E) (held : Option Store)
             λ i. CheckFault.Mismatch (versions i) (one i).type_name (one i).ordinal
 
     module _ (now : Both W) where
-      pub passes_told : (result : Result (Unit {0}) (CheckFault E)) → TellsCheck calls held versions start now result
-          → Yields IsFree result (Ok tt) ((end : Both W) × Passes calls held None versions start end)
-      passes_told (Ok done) tells = (λ _. (now, tells), λ _. inl refl)
-      passes_told (Err (CheckFault.Walk name fault)) tells = (λ e. absurd cc, λ _. inr tt)
-      passes_told (Err (CheckFault.Mismatch version type_name ordinal)) tells =
+      pub passes_told : (count : ℕ) (result : Result ℕ (CheckFault E)) → IfOk result (λ compared. compared ≡ count) → TellsCheck calls held versions start now result
+          → Yields IsFree result (Ok count) ((end : Both W) × Passes calls held None versions start end)
+      passes_told count (Ok compared) counted tells = (λ _. (now, tells), λ _. inl (ap Ok counted))
+      passes_told count (Err (CheckFault.Walk name fault)) counted tells = (λ e. absurd cc, λ _. inr tt)
+      passes_told count (Err CheckFault.Store) counted tells = (λ e. absurd cc, λ _. inr tt)
+      passes_told count (Err (CheckFault.Mismatch version type_name ordinal)) counted tells =
           (λ e. absurd cc, λ passes. absurd (no_pass version type_name ordinal now passes.0 tells passes.1))
-      passes_told (Err CheckFault.Memory) tells = (λ e. absurd cc, λ _. inr tt)
+      passes_told count (Err CheckFault.Memory) counted tells = (λ e. absurd cc, λ _. inr tt)
 
-      pub differs_told : (v : ℕ) (type_name : Option Name) (ordinal : Option ℕ) (result : Result (Unit {0}) (CheckFault E)) → TellsCheck calls held versions start now result
+      pub differs_told : (v : ℕ) (type_name : Option Name) (ordinal : Option ℕ) (result : Result ℕ (CheckFault E)) → TellsCheck calls held versions start now result
           → Yields IsFree result (Err (CheckFault.Mismatch v type_name ordinal)) ((at : Both W) × Differs calls held versions start v type_name ordinal at)
       differs_told v type_name ordinal (Ok done) tells = (λ e. absurd cc, λ differs. absurd (no_pass v type_name ordinal differs.0 now differs.1 tells))
       differs_told v type_name ordinal (Err (CheckFault.Walk name fault)) tells = (λ e. absurd cc, λ _. inr tt)
@@ -143,19 +155,23 @@ module _ {W E : Type 0} (calls : Calls W E) (held : Option Store)
         λ e. (now, subst (λ r. TellsCheck calls held versions start now r) e tells),
         λ differs. inl (ap Err (one_difference w v type_name' type_name ordinal' ordinal now differs.0 tells differs.1)),
       )
+      differs_told v type_name ordinal (Err CheckFault.Store) tells = (λ e. absurd cc, λ _. inr tt)
       differs_told v type_name ordinal (Err CheckFault.Memory) tells = (λ e. absurd cc, λ _. inr tt)
 
 -- the same, whatever the store tells
 module _ {W E : Type 0} (calls : Calls W E)
     (one_load : (store : Store) (version : ℕ) (a b a' b' : W) → calls.loads (Some store) version a a' (Ok tt) → calls.loads (Some store) version b b' (Ok tt) → a' ≡ b')
     (one_step : (store : Store) (from to : ℕ) (a a' b' : W) → calls.steps (Some store) from to a a' (Ok tt) → calls.steps (Some store) from to a b' (Ok tt) → a' ≡ b')
-    (versions : List ℕ) (start now : Both W) (result : Result (Unit {0}) (CheckFault E)) where
-  pub passes_exactly : (held : Option Store) → TellsCheck calls held versions start now result
-      → IfSome held (λ store. Yields IsFree result (Ok tt) ((end : Both W) × Passes calls (Some store) None versions start end))
-  passes_exactly None tells = tt
-  passes_exactly (Some store) tells = passes_told calls (Some store) (one_load store) (one_step store) versions start now result tells
+    (versions : List ℕ) (start now : Both W) (result : Result ℕ (CheckFault E)) where
+  not_both : (store : Store) (version : ℕ) → HasSnapshot (Some store) version true → HasSnapshot (Some store) version false → ⊥
+  not_both store version has lacks = let both : true ≡ false = has ∙ sym lacks in absurd cc
+
+  pub passes_exactly : (held : Option Store) → IfOk result (λ compared. IfSome held (λ store. compared ≡ compared_in store versions)) → TellsCheck calls held versions start now result
+      → IfSome held (λ store. Yields IsFree result (Ok (compared_in store versions)) ((end : Both W) × Passes calls (Some store) None versions start end))
+  passes_exactly None counted tells = tt
+  passes_exactly (Some store) counted tells = passes_told calls (Some store) (one_load store) (one_step store) (not_both store) versions start now (compared_in store versions) result counted tells
 
   pub differs_exactly : (held : Option Store) → TellsCheck calls held versions start now result → (v : ℕ) (type_name : Option Name) (ordinal : Option ℕ)
       → IfSome held (λ store. Yields IsFree result (Err (CheckFault.Mismatch v type_name ordinal)) ((at : Both W) × Differs calls (Some store) versions start v type_name ordinal at))
   differs_exactly None tells v type_name ordinal = tt
-  differs_exactly (Some store) tells v type_name ordinal = differs_told calls (Some store) (one_load store) (one_step store) versions start now v type_name ordinal result tells
+  differs_exactly (Some store) tells v type_name ordinal = differs_told calls (Some store) (one_load store) (one_step store) (not_both store) versions start now v type_name ordinal result tells

@@ -4,3 +4,4 @@ mod ModelsApart
 pub mod OnePlace
 mod Passing
 mod RowsApart
+mod RowsCompared

@@ -2,25 +2,18 @@
 use Rattle.std.proofs.Common.{◌≡◌, inl, inr, ℕ, List, Option, Some, None, refl, sym, ap, ◌∙◌, subst}
 use Rattle.std.specs.Prelude.{slice_get}
 use Rattle.schema_model.specs.declared.schema.Schema.{Schema}
+use Rattle.schema_model.specs.Growth.{ModelsAgree}
 use Rattle.row_model.specs.Table.{Table, row_at}
 use Rattle.chain_check.specs.declared.place.Place.{Place}
 use Rattle.chain_check.specs.declared.place.RowPlace.{RowPlace}
-use Rattle.chain_check.specs.Compare.{State, IsFirst, IsLost, IsAdded, IsFirstLost, IsFirstAdded, FirstOtherType, IsOtherRow, HasOtherRow, IsFirstOtherRow, Compare, nowhere}
+use Rattle.chain_check.specs.Compare.{AreSame, Disagrees, State, IsFirst, FirstOtherType, IsOtherRow, HasOtherRow, IsFirstOtherRow, Compare, seen_by}
 use Rattle.chain_check.proofs.FirstPlaces.{one_first}
-use Rattle.chain_check.proofs.ModelsApart.{found_at}
 
--- models that are the same differ in no type
-no_lost : (walked fresh : List Schema) (schema : Schema) → walked ≡ fresh → IsFirstLost walked fresh schema → ⊥
-no_lost walked fresh schema same first = let lost = first.first.holds in lost.2 (ap (λ (m : List Schema). slice_get m first.type_index) (sym same) ∙ lost.1)
-
-no_added : (walked fresh : List Schema) (schema : Schema) → walked ≡ fresh → IsFirstAdded walked fresh schema → ⊥
-no_added walked fresh schema same first =
-    let added = first.first.holds in
-    found_at walked first.type_index added.0 (ap (λ (m : List Schema). slice_get m first.type_index) same ∙ added.1) added.2
-
-pub no_type : (walked fresh : List Schema) (schema : Schema) → walked ≡ fresh → FirstOtherType walked fresh (Some schema) → ⊥
-no_type walked fresh schema same (inl lost) = no_lost walked fresh schema same lost
-no_type walked fresh schema same (inr added) = no_added walked fresh schema same added
+-- models that agree do so in each type
+pub no_type : (walked fresh : List Schema) (schema : Schema) → ModelsAgree walked fresh → FirstOtherType walked fresh (Some schema) → ⊥
+no_type walked fresh schema agree first =
+    let apart = first.first.holds in
+    apart.apart (agree first.type_index apart.place apart.schema apart.other apart.there apart.here apart.named)
 
 -- the schema at a place
 one_there : (schemas : List Schema) (t u : ℕ) (a b : Schema) → t ≡ u → slice_get schemas t ≡ Some a → slice_get schemas u ≡ Some b → a ≡ b
@@ -28,12 +21,8 @@ one_there schemas t u a b same at other = let one : Some a ≡ Some b = sym at �
 
 -- models differ in one type first
 one_type : (walked fresh : List Schema) (a b : Schema) → FirstOtherType walked fresh (Some a) → FirstOtherType walked fresh (Some b) → a ≡ b
-one_type walked fresh a b (inl lost) (inl other) =
-    one_there walked lost.type_index other.type_index a b (one_first (IsLost walked fresh) lost.type_index other.type_index lost.first other.first) lost.there other.there
-one_type walked fresh a b (inl lost) (inr added) = let gone = lost.first.holds in absurd (gone.2 (added.keeps lost.type_index gone.0 gone.1))
-one_type walked fresh a b (inr added) (inl lost) = let gone = lost.first.holds in absurd (gone.2 (added.keeps lost.type_index gone.0 gone.1))
-one_type walked fresh a b (inr added) (inr other) =
-    one_there fresh added.type_index other.type_index a b (one_first (IsAdded walked fresh) added.type_index other.type_index added.first other.first) added.there other.there
+one_type walked fresh a b first other =
+    one_there walked first.type_index other.type_index a b (one_first (Disagrees walked fresh) first.type_index other.type_index first.first other.first) first.there other.there
 
 -- tables differ in one row first
 one_row : (walked fresh : Table) (a b : RowPlace) → IsFirstOtherRow walked fresh a → IsFirstOtherRow walked fresh b → a ≡ b
@@ -43,10 +32,10 @@ one_row walked fresh a b first other =
     λ i. record { type_index = types i; ordinal = ordinals i }
 
 -- states that are the same differ nowhere
-no_place : (walked fresh : State) (place : Place) → walked ≡ fresh → Compare walked fresh (Some place) → ⊥
-no_place walked fresh place same (inl at) = at.tags (ap (λ (s : State). s.tag) same)
-no_place walked fresh place same (inr (inl at)) = no_type walked.schemas fresh.schemas at.schema (ap (λ (s : State). s.schemas) same) at.first
-no_place walked fresh place same (inr (inr at)) = at.first.of_ordinals.holds (ap (λ (s : State). row_at s.table at.at.type_index at.at.ordinal) same)
+no_place : (walked fresh : State) (place : Place) → AreSame walked fresh → Compare walked fresh (Some place) → ⊥
+no_place walked fresh place same (inl at) = at.tags same.tags
+no_place walked fresh place same (inr (inl at)) = no_type walked.schemas fresh.schemas at.schema same.models at.first
+no_place walked fresh place same (inr (inr at)) = at.first.of_ordinals.holds (ap (λ (t : Table). row_at t at.at.type_index at.at.ordinal) same.rows)
 
 -- two places
 one_where : (walked fresh : State) (a b : Place) → Compare walked fresh (Some a) → Compare walked fresh (Some b) → a ≡ b
@@ -61,8 +50,8 @@ one_where walked fresh a b (inr (inl at)) (inr (inr other)) = absurd (no_type wa
 one_where walked fresh a b (inr (inr at)) (inl other) = absurd (other.tags at.tags)
 one_where walked fresh a b (inr (inr at)) (inr (inl other)) = absurd (no_type walked.schemas fresh.schemas other.schema at.models other.first)
 one_where walked fresh a b (inr (inr at)) (inr (inr other)) =
-    let places = one_row walked.table fresh.table at.at other.at at.first other.first in
-    let same = one_there fresh.schemas at.at.type_index other.at.type_index at.schema other.schema (ap (λ (p : RowPlace). p.type_index) places) at.there other.there in
+    let places = one_row walked.table (seen_by walked fresh) at.at other.at at.first other.first in
+    let same = one_there walked.schemas at.at.type_index other.at.type_index at.schema other.schema (ap (λ (p : RowPlace). p.type_index) places) at.there other.there in
     at.is ∙ (λ i. record { type_name = Some (same i).name; ordinal = Some (places i).ordinal }) ∙ sym other.is
 
 pub one_place : (walked fresh : State) (place other : Option Place) → Compare walked fresh place → Compare walked fresh other → place ≡ other

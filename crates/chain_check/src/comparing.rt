@@ -1,17 +1,22 @@
 //! The comparison of two states.
-ghost use Rattle.std.specs.Prelude.{◌≡◌, ◌<◌, IfOk};
+ghost use Rattle.std.specs.Prelude.{◌≡◌, ◌<◌, IfOk, IfSome, length};
+ghost use Rattle.schema_model.specs.Growth.{ModelsAgree};
 ghost use Rattle.row_model.specs.Table.{IsTableOf};
-ghost use Rattle.chain_check.specs.Compare.{Compare};
+ghost use Rattle.chain_check.specs.Compare.{Compare, IsPlaceOf};
 ghost use Rattle.chain_check.specs.Walk.{state_by};
 
-use crate::{Place, Walk, first_other_row, first_other_type};
+use crate::models::is_same_model;
+use crate::{Place, RowPlace, Walk, first_other_row, first_other_seen, first_other_type};
 use hol_varint::Duplicate;
-use schema_model::Schema;
+use schema_growth::laws::agree_both_ways;
+use schema_model::{Model, Schema};
+use seen_rows::Seen;
+use seen_rows::laws::own_table;
 use std::alloc::{AllocError, Global};
 
-/// Where a walked state and a fresh one differ; `None` exactly where their tags, models and rows are the same. The place is the one that the
-/// first of four steps finds: the tags differ; the fresh model lacks a type of the walked one, has it at another index or has it under another
-/// schema; only the fresh model has a type; rows differ. The first type is named, and in the last step its least such ordinal.
+/// Where a walked state and a fresh one differ, whose rows are seen through the walked one's model; `None` exactly where their tags are the same, their
+/// models agree and their rows are the same. The place is the one that the first of three steps finds: the tags differ; the fresh model has a type of the
+/// walked one under a schema that does not agree; rows differ. The first type of the walked model is named, and in the last step its least such ordinal.
 pub fn compare<W: Walk>(alloc: Global, walked: &W, fresh: &W) -> Result<Option<Place>, AllocError>
     ensures { IfOk result (Compare (state_by W.tag W.schemas W.table walked.now) (state_by W.tag W.schemas W.table fresh.now)) }
 {
@@ -24,7 +29,11 @@ pub fn compare<W: Walk>(alloc: Global, walked: &W, fresh: &W) -> Result<Option<P
     if let Some(schema) = first_other_type(walked.model(), fresh.model()) {
         return Ok(Some(place_of(alloc, schema, None)?));
     }
-    compare_rows(alloc, walked, fresh)
+    if is_same_model(walked.model(), fresh.model()) {
+        compare_rows(alloc, walked, fresh)
+    } else {
+        compare_seen(alloc, walked, fresh)
+    }
 }
 
 // The place in a type of this schema, of the row under an ordinal where there is one.
@@ -37,18 +46,48 @@ fn place_of(alloc: Global, schema: &Schema, ordinal: Option<u32>) -> Result<Plac
     })
 }
 
+// The place of a row of a model, where there is one.
+fn place_at(
+    alloc: Global,
+    model: &Model,
+    found: Option<RowPlace>,
+) -> Result<Option<Place>, AllocError>
+    requires { IfSome found (λ at. at.type_index < length model.now) }
+    ensures { IfOk result (IsPlaceOf model.now found) }
+{
+    match found {
+        None => Ok(None),
+        Some(at) => {
+            let schema = model.schema(at.type_index);
+            Ok(Some(place_of(alloc, schema, Some(at.ordinal))?))
+        }
+    }
+}
+
 // The last step, where tags and models are the same.
 fn compare_rows<W: Walk>(alloc: Global, walked: &W, fresh: &W) -> Result<Option<Place>, AllocError>
     requires tags { W.tag walked.now ≡ W.tag fresh.now }
+    requires agree { ModelsAgree (W.schemas walked.now) (W.schemas fresh.now) }
     requires models { W.schemas walked.now ≡ W.schemas fresh.now }
     requires fits { IsTableOf (W.schemas fresh.now) (W.table fresh.now) }
     ensures { IfOk result (Compare (state_by W.tag W.schemas W.table walked.now) (state_by W.tag W.schemas W.table fresh.now)) }
 {
-    match first_other_row(alloc, walked, fresh)? {
-        None => Ok(None),
-        Some(at) => {
-            let schema = fresh.model().schema(at.type_index);
-            Ok(Some(place_of(alloc, schema, Some(at.ordinal))?))
-        }
-    }
+    own_table();
+    let found = first_other_row(alloc, walked, fresh)?;
+    let model = walked.model();
+    let _types = model.len();
+    place_at(alloc, model, found)
+}
+
+// The last step, where tags are the same and models agree.
+fn compare_seen<W: Walk>(alloc: Global, walked: &W, fresh: &W) -> Result<Option<Place>, AllocError>
+    requires tags { W.tag walked.now ≡ W.tag fresh.now }
+    requires agree { ModelsAgree (W.schemas walked.now) (W.schemas fresh.now) }
+    ensures { IfOk result (Compare (state_by W.tag W.schemas W.table walked.now) (state_by W.tag W.schemas W.table fresh.now)) }
+{
+    agree_both_ways();
+    let model = walked.model();
+    let seen = Seen::new(fresh, model);
+    let found = first_other_seen(alloc, walked, &seen)?;
+    place_at(alloc, model, found)
 }

@@ -13,5 +13,5 @@ pub use checking::{CheckFault, check};
 pub use comparing::compare;
 pub use models::first_other_type;
 pub use place::{Place, RowPlace};
-pub use states::first_other_row;
+pub use states::{first_other_row, first_other_seen};
 pub use walk::Walk;

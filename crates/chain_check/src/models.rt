@@ -1,51 +1,49 @@
-//! The first type by which two models differ.
-ghost use Rattle.std.specs.Prelude.{◌≡◌, ◌<◌, ◌↔◌, IfSome, IsTrue, MatchOption, Some, length, slice_get};
+//! The first type in which two models do not agree, and whether they are the same.
+ghost use Rattle.std.specs.Prelude.{◌≡◌, ◌<◌, ℕ, IsFalse, IsTrue, Some, length, slice_get};
 ghost use Rattle.std.specs.Option.{option_map};
-ghost use Rattle.chain_check.specs.Compare.{FirstOtherType, IsFirst, IsFirstAdded, IsLost, KeepsTypes};
+ghost use Rattle.schema_model.specs.declared.schema.Schema.{Schema};
+ghost use Rattle.schema_model.specs.Growth.{Agree};
+ghost use Rattle.chain_check.specs.Compare.{FirstOtherType};
 
-use schema_growth::same_schema;
+use schema_growth::{agree, laws, same_schema};
 use schema_model::{Model, Schema};
 
-/// The schema of the first type by which a fresh model differs from a walked one; `None` exactly where the models are the same. It is the first
-/// type of the walked model that the fresh one lacks, has at another index or has under another schema; where there is none, the first type that
-/// only the fresh model has.
-pub fn first_other_type<'a>(walked: &'a Model, fresh: &'a Model) -> Option<&'a Schema>
+/// The schema of the first type of a walked model that a fresh one has under a schema that does not agree; `None` exactly where the models agree.
+pub fn first_other_type<'a>(walked: &'a Model, fresh: &Model) -> Option<&'a Schema>
     ensures { FirstOtherType walked.now fresh.now (option_map (λ schema. schema.now) result) }
 {
-    match first_lost_type(walked, fresh) {
-        Some(type_index) => Some(walked.schema(type_index)),
-        None => first_added_type(walked, fresh),
-    }
-}
-
-// The index of the first type of the walked model that the fresh one has not kept.
-fn first_lost_type(walked: &Model, fresh: &Model) -> Option<u32>
-    ensures there { IfSome result (λ type_index. type_index < length walked.now) }
-    ensures first { MatchOption result (KeepsTypes walked.now fresh.now) (λ type_index. IsFirst (IsLost walked.now fresh.now) type_index) }
-{
     for type_index in 0..walked.len() {
-        if !has_at(fresh, type_index, walked.schema(type_index)) {
-            return Some(type_index);
+        let schema = walked.schema(type_index);
+        if !agrees_with(fresh, schema) {
+            return Some(schema);
         }
     }
     None
 }
 
-// Whether a model has a schema at an index.
-fn has_at(model: &Model, type_index: u32, schema: &Schema) -> bool
-    ensures { IsTrue result ↔ (slice_get model.now type_index ≡ Some schema.now) }
+// Whether a model lacks the type of this schema's name, or has it under one that agrees.
+fn agrees_with(model: &Model, schema: &Schema) -> bool
+    ensures agree { IsTrue result → (place : ℕ) (other : Schema) → slice_get model.now place ≡ Some other → schema.now.name ≡ other.name → Agree schema.now other }
+    ensures apart { IsFalse result → (place : ℕ) × (other : Schema) × (slice_get model.now place ≡ Some other) × (schema.now.name ≡ other.name) × (¬ Agree schema.now other) }
 {
-    type_index < model.len() && same_schema(model.schema(type_index), schema)
+    laws::fields_apart();
+    match model.index_of(schema.name.text()) {
+        None => true,
+        Some(place) => agree(schema, model.schema(place)),
+    }
 }
 
-// The first type that only the fresh model has, where it has kept all others: they come first.
-fn first_added_type<'a>(walked: &Model, fresh: &'a Model) -> Option<&'a Schema>
-    requires { KeepsTypes walked.now fresh.now }
-    ensures { MatchOption result (walked.now ≡ fresh.now) (λ schema. IsFirstAdded walked.now fresh.now schema.now) }
+/// Whether two models are the same.
+pub(crate) fn is_same_model(model: &Model, other: &Model) -> bool
+    ensures { IsTrue result → model.now ≡ other.now }
 {
-    if walked.len() < fresh.len() {
-        Some(fresh.schema(walked.len()))
-    } else {
-        None
+    if model.len() != other.len() {
+        return false;
     }
+    for type_index in 0..model.len() {
+        if !same_schema(model.schema(type_index), other.schema(type_index)) {
+            return false;
+        }
+    }
+    true
 }

@@ -33,6 +33,28 @@ pub fn first_other_row<W: Walk>(
     Ok(None)
 }
 
+/// The same of rows of one model that are seen in another way, as through it.
+pub fn first_other_seen<A: Rows, B: Rows>(
+    alloc: Global,
+    walked: &A,
+    seen: &B,
+) -> Result<Option<RowPlace>, AllocError>
+    requires models { A.schemas walked.now ≡ B.schemas seen.now }
+    ensures first { IfOk result (FirstOtherRow (A.table walked.now) (B.table seen.now)) }
+    ensures inside { IfOk result (λ place. IfSome place (λ at. at.type_index < length (A.schemas walked.now))) }
+{
+    for type_index in 0..seen.model().len() {
+        if let Some(ordinal) = first_other_ordinal(alloc, walked, seen, type_index)? {
+            return Ok(Some(RowPlace {
+                type_index,
+                ordinal,
+            }));
+        }
+    }
+    let _types = walked.model().len();
+    Ok(None)
+}
+
 // The least ordinal under which the rows of a type differ; where they are seen to be the same as a whole, none is made.
 fn first_other_of_type<W: Walk>(
     alloc: Global,

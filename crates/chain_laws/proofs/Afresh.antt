@@ -9,11 +9,12 @@ use Rattle.hollow_machine.specs.State.{Machine, with_consumer, with_reader}
 use Rattle.hollow_machine.specs.Step.{Step}
 use Rattle.written_laws.specs.Chain.{Chain, IsChain}
 use Rattle.written_laws.specs.HoldsChain.{HoldsChain}
-use Rattle.chain_laws.specs.Consumers.{Fresh, IsConsumerOf, IsIn}
+use Rattle.written_laws.specs.Quiet.{IsQuiet}
+use Rattle.chain_laws.specs.Consumers.{Fresh, IsConsumerOf, IsHome, IsIn}
 use Rattle.chain_laws.specs.Headline.{IsOfState}
 use Rattle.chain_laws.specs.KeptIndexes.{AreIndexes}
 use Rattle.chain_laws.proofs.EachKind.{laws}
-use Rattle.chain_laws.proofs.FreshAnswers.{stands, stood}
+use Rattle.chain_laws.proofs.FreshAnswers.{quiet, sees, stood}
 
 pub afresh_there : (machine fresh next : Machine) (chain : Chain) (asked : Order) (answer : Reply) → IsOfState (kind_of asked) → IsChain chain → IsConsumerOf chain machine.consumer → Fresh chain machine fresh
     → Step machine asked answer next → Step fresh asked answer fresh
@@ -24,10 +25,18 @@ module _ (machine fresh : Machine) (chain : Chain) (sound : IsChain chain) (of :
   fresh_is_in : IsIn chain afresh.position
   fresh_is_in =
       let there : IsIn chain afresh.now = stood machine fresh chain sound of afresh in
-      let model : afresh.now.schemas ≡ afresh.position.schemas = (stands machine fresh chain sound of afresh).model ∙ sym afresh.stands.model in
+      let model : afresh.now.schemas ≡ afresh.position.schemas = sym afresh.model in
       let kept : AreIndexes afresh.position.schemas afresh.position.indexes =
       subst (AreIndexes afresh.position.schemas) (sym afresh.indexes) (subst (λ (s : List Schema). AreIndexes s afresh.now.indexes) model there.indexes) in
-      record { version = afresh.version; state = afresh.state; there = afresh.there; stands = afresh.stands; indexes = kept }
+      record {
+        version = afresh.version;
+        state = afresh.state;
+        there = afresh.there;
+        sees = afresh.sees;
+        home = subst (IsHome chain) model there.home;
+        quiet = subst (λ (s : List Schema). IsQuiet s afresh.state) model (quiet machine fresh chain sound of afresh);
+        indexes = kept;
+      }
 
   fresh_of : IsConsumerOf chain fresh.consumer
   fresh_of = subst (λ (m : Machine). IsConsumerOf chain m.consumer) (sym afresh.is) fresh_is_in
@@ -40,9 +49,10 @@ module _ (machine fresh : Machine) (chain : Chain) (sound : IsChain chain) (of :
     version = afresh.version;
     state = afresh.state;
     there = afresh.there;
-    tag = afresh.stands.tag;
+    tag = afresh.sees.tag;
     position = afresh.now;
-    stands = stands machine fresh chain sound of afresh;
+    model = sym afresh.model;
+    sees = sees machine fresh chain sound of afresh;
     indexes = sym afresh.indexes;
     last = machine.version;
     past = machine.past;

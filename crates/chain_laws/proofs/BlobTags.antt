@@ -21,7 +21,7 @@ use Rattle.delta_blob.specs.Patch.{TypePatch, DeltaIs}
 use Rattle.snapshot_blob.proofs.Whole.{begins}
 use Rattle.chain_store.specs.Tags.{HasTag, IsTagTaken}
 use Rattle.written_laws.specs.Chain.{Chain, ChainState, HasVersion}
-use Rattle.written_laws.specs.HoldsChain.{HoldsChain, IsSnapshotOfState, LeadsBetween}
+use Rattle.written_laws.specs.HoldsChain.{HoldsChain, IsSnapshotOfState, LeadsForth}
 use Rattle.chain_laws.specs.Producers.{HoldsBytes, KeepsChain}
 use Rattle.chain_laws.proofs.StoreNames.{found, taken}
 
@@ -97,7 +97,7 @@ module _ (store : Store) (chain : Chain) (holds : HoldsChain store chain) (bytes
         | inr step ↦
             (let (blob, at) = found (get store (Delta state.parent version)) step.forward in
             let (before, after, was, also, parent, leads) = holds.each (Delta state.parent version) blob at in
-            let leads_here : LeadsBetween before state blob = subst (λ (s : ChainState). LeadsBetween before s blob) (one version after state also there) leads in
+            let leads_here : LeadsForth before state blob = subst (λ (s : ChainState). LeadsForth before s blob) (one version after state also there) leads in
             taken store state.tag (Delta state.parent version) blob tt at
             (delta_tagged state.model blob before.tag state.tag leads_here.patch (bytes_of (Delta state.parent version) blob at) leads_here.is))
       ]

@@ -5,7 +5,7 @@ use Rattle.std.specs.FinMap.{get}
 use Rattle.hol_io.specs.declared.name.BlobName.{BlobName}
 use Rattle.hol_io.specs.declared.name.BlobName.TheVariants.{Snapshot}
 use Rattle.hol_io.specs.Store.{Store}
-use Rattle.chain_check.specs.Walk.{name_of_step}
+use Rattle.chain_check.specs.Walk.{compared_in, name_of_step}
 use Rattle.read_engine.specs.Position.{Position}
 use Rattle.read_engine.specs.Taking.{StepsBy}
 use Rattle.hol_orders.specs.declared.kind.Kind.{Kind}
@@ -67,32 +67,33 @@ module _ (store : Store) where
 
   -- the answer to a walk over these versions that ends so
   abbrev reply_of : List ℕ → Ending Refusal → Reply
-  reply_of versions passed = reply.Check (length versions)
+  reply_of versions passed = reply.Check (compared_in store versions) (length versions)
   reply_of versions (differs version place) = reply.Refused (Mismatch (record { version = version; type_name = place.type_name; ordinal = place.ordinal }))
   reply_of versions (refused refusal) = reply.Refused refusal
 
   abbrev EndsWith : List ℕ → Reply → Type 0
-  EndsWith versions answer = (end : Ending Refusal) × Ends walk_calls (Some store) None versions both_new end × (answer ≡ reply_of versions end)
+  EndsWith versions answer = (end : Ending Refusal) × Ends walk_calls store None versions both_new end × (answer ≡ reply_of versions end)
 
   ends_with : (versions : List ℕ) (answer : Reply) → CheckReply store versions answer → EndsWith versions answer
-  ends_with versions (reply.Check states) (count, (now, passes)) = (passed, passes_end walk_calls (Some store) versions None both_new now passes, ap (λ n. reply.Check n) count)
+  ends_with versions (reply.Check compared states) (count, many, (now, passes)) =
+      (passed, passes_end walk_calls store versions None both_new now passes, (λ i. reply.Check (many i) (count i)))
   ends_with versions (reply.Refused (Mismatch difference)) (now, is) = (
     differs difference.version (record { type_name = difference.type_name; ordinal = difference.ordinal }),
-    differs_end walk_calls (Some store) versions both_new now difference.version difference.type_name difference.ordinal is,
+    differs_end walk_calls store versions both_new now difference.version difference.type_name difference.ordinal is,
     refl,
   )
-  ends_with versions (reply.Refused refusal) is = (refused refusal, stops_end walk_calls (Some store) versions both_new is.1 is.0 refusal is.2, refl)
+  ends_with versions (reply.Refused refusal) is = (refused refusal, stops_end walk_calls store versions both_new is.1 is.0 refusal is.2, refl)
   ends_with versions _ is = absurd is
 
   pub one_check : (versions : List ℕ) (one other : Reply) → CheckReply store versions one → CheckReply store versions other → one ≡ other
   one_check versions one other is also =
       let (end, ends, answer_is) = ends_with versions one is in
       let (last, ends_too, other_is) = ends_with versions other also in
-      let same = ends_one walk_calls (Some store) (λ (consumer : Option Position). IfSome consumer IsTyped) loads_one steps_one loads_typed steps_typed versions None both_new end last tt ends ends_too in
+      let same = ends_one walk_calls store (λ (consumer : Option Position). IfSome consumer IsTyped) loads_one steps_one loads_typed steps_typed versions None both_new end last tt ends ends_too in
       answer_is ∙ ap (reply_of versions) same ∙ sym other_is
 
   unpublished : (versions : List ℕ) (answer : Reply) → CheckReply store versions answer → IsUnpublished answer
-  unpublished versions (reply.Check states) is = refl
+  unpublished versions (reply.Check compared states) is = refl
   unpublished versions (reply.Refused refusal) is = refl
   unpublished versions _ is = absurd is
 

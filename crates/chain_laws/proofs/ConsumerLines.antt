@@ -25,9 +25,17 @@ module _ (machine : Machine) (chain : Chain) (holds : HoldsChain machine.store c
 still_at : (chain after : Chain) (consumer : Option Position) (version : Option ℕ) (past : List (ℕ × Table)) → Extends chain after → IsReaderAt chain consumer version past → IsReaderAt after consumer version past
 still_at chain after None version past extends of = of
 still_at chain after (Some now) version past extends (is, at, old) = (
-  record { version = is.version; state = is.state; there = extends is.version is.state is.there; stands = is.stands; indexes = is.indexes },
+  record {
+    version = is.version;
+    state = is.state;
+    there = extends is.version is.state is.there;
+    sees = is.sees;
+    home = record { version = is.home.version; state = is.home.state; there = extends is.home.version is.home.state is.home.there; model = is.home.model };
+    quiet = is.quiet;
+    indexes = is.indexes;
+  },
   at,
-  (λ k d inside. (let (state, there, model, rows) = old k d inside in (state, extends (get_or past k d).0 state there, model, rows))),
+  (λ k d inside. (let (state, there, rows) = old k d inside in (state, extends (get_or past k d).0 state there, rows))),
 )
 
 pub line_keeps_both : (machine next : Machine) (line : List ℕ) (answer : Reply) (chain : Chain) → LineStep machine line answer next → KeepsChain machine.store chain → IsProducerOf chain machine.producer

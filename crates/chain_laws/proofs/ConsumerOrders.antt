@@ -4,7 +4,6 @@ use Rattle.std.specs.Prelude.{IsSomeAnd, nat_lt}
 use Rattle.std.specs.FinMap.{get}
 use Rattle.hol_io.specs.declared.name.BlobName.{BlobName}
 use Rattle.hol_io.specs.declared.name.BlobName.TheVariants.{Snapshot, Delta, Reverse}
-use Rattle.hol_io.specs.Store.{Store}
 use Rattle.schema_model.specs.declared.schema.Schema.{Schema}
 use Rattle.type_state.specs.Views.{table_of}
 use Rattle.blob_frame.specs.declared.fault.BlobFault.TheVariants as fault
@@ -13,7 +12,8 @@ use Rattle.blob_frame.specs.Header.{HeaderIs, header, HasHeader}
 use Rattle.blob_faults.specs.Judge.{◌>>=◌, test}
 use Rattle.blob_faults.specs.Reading.{short, standing, starts}
 use Rattle.delta_blob.specs.Judged as judged
-use Rattle.delta_blob.specs.Patch.{TypePatch, DeltaIs}
+use Rattle.delta_blob.specs.declared.part.DeltaPart.{DeltaPart}
+use Rattle.delta_blob.specs.Patch.{DeltaIs, DeltaItems, TypePatch}
 use Rattle.read_engine.specs.Judged.{RefusesLoad, RefusesStep, step_of}
 use Rattle.read_engine.specs.Position.{Position}
 use Rattle.read_engine.specs.Taking.{LoadsFrom, StepsBy}
@@ -30,9 +30,10 @@ use Rattle.hollow_machine.specs.State.{Machine, loaded_to, stepped_to}
 use Rattle.hollow_machine.specs.StepOrder.{StepRefusal, StepStep, step_name}
 use Rattle.written_laws.specs.Chain.{Chain, ChainState, HasVersion}
 use Rattle.written_laws.specs.HoldsChain.{HoldsChain, IsStep, IsThere}
-use Rattle.chain_laws.specs.Consumers.{Fresh, IsIn, StandsAt, StartsAt}
+use Rattle.written_laws.specs.SeenChain.{IsAgreeing}
+use Rattle.chain_laws.specs.Consumers.{Agrees, Fresh, IsIn, StandsAt, StartsAt}
 use Rattle.chain_laws.proofs.BlobTags.{delta_begins}
-use Rattle.chain_laws.proofs.ConsumerMoves.{IsBetween, delta_of, is_step, loads_state, one, own_delta, step_there, steps_in}
+use Rattle.chain_laws.proofs.ConsumerMoves.{IsBetween, can_take, is_step, loads_state, stands_sees, steps_in}
 use Rattle.chain_laws.proofs.StoreNames.{found, found_with}
 use Rattle.chain_laws.proofs.TypedConsumers.{IsTyped, typed_in}
 
@@ -48,15 +49,18 @@ step_between from to = by_order (nat_lt from to)
 pub step_named : (from to : ℕ) → IsStep (step_name from to)
 step_named from to = is_step (step_name from to) from to (step_between from to)
 
+-- what has a header, and the items of a delta, has one header
+pub header_is : (content : Option (List ℕ)) (blob : List ℕ) (head other : Header) (parts : List DeltaPart) → content ≡ Some blob → HasHeader content head → DeltaItems blob other parts → head ≡ other
+header_is content blob head other parts at (x, n, at_x, short, begin) items =
+    let same : x ≡ blob = some_one content x blob at_x at in
+    let (m, also) = delta_begins blob other parts (length blob) items.items in
+    (header.decided.one blob 0 head other n m (subst (λ (b : List ℕ). HeaderIs b n head) same begin) also).0
+
 -- a delta starts where its header says
 delta_origin : (content : Option (List ℕ)) (schemas : List Schema) (blob : List ℕ) (head : Header) (origin destination : ℤ) (patch : List TypePatch) → content ≡ Some blob → HasHeader content head
     → DeltaIs schemas blob origin destination patch
     → head.origin ≡ origin
-delta_origin content schemas blob head origin destination patch at (x, n, at_x, short, begin) is =
-    let same : x ≡ blob = some_one content x blob at_x at in
-    let (m, also) = delta_begins blob is.head is.parts (length blob) is.items.items in
-    let one = header.decided.one blob 0 head is.head n m (subst (λ (b : List ℕ). HeaderIs b n head) same begin) also in
-    ap (λ (h : Header). h.origin) one.0 ∙ is.from_tag
+delta_origin content schemas blob head origin destination patch at has is = ap (λ (h : Header). h.origin) (header_is content blob head is.head is.parts at has is.items) ∙ is.from_tag
 
 -- ---- steps
 
@@ -66,16 +70,8 @@ pub no_refusal : (name : BlobName) (content : Option (List ℕ)) (blob : List �
 no_refusal name content blob now to at typed steps refusal (found, fails, is) =
     stepped_or_fault blob now to found typed.names steps (subst (λ (c : Option (List ℕ)). RefusesStep name c now found) at fails)
 
-module _ (store : Store) (chain : Chain) (name : BlobName) (begin end : ℕ) (now : Position) (holds : HoldsChain store chain) (between : IsBetween name begin end) (is : IsIn chain now) where
-  -- a delta of the chain from a state with the tag where the consumer stands can be taken
-  pub can_take : (blob : List ℕ) → get store name ≡ Some blob → ((from : ChainState) → HasVersion chain begin from → from.tag ≡ now.tag) → (to : Position) × StepsBy blob now to
-  can_take blob at starts =
-      let (from, next, there, ends, patch, delta) = delta_of store chain holds name blob begin end between at in
-      let own = own_delta store chain holds now is begin from blob next.tag patch there (starts from there) delta in
-      step_there store chain holds name blob now next.tag patch (is_step name begin end between) at is own
-
 module _ (machine : Machine) (chain : Chain) (name : BlobName) (begin version : ℕ) (now : Position) (holds : HoldsChain machine.store chain) (between : IsBetween name begin version) (was : machine.consumer ≡ Some now)
-    (is : IsIn chain now) (starts : StartsAt machine.store name now.tag) where
+    (is : IsIn chain now) (starts : StartsAt machine.store name now.tag) (agrees : Agrees machine.store name now.schemas) where
   abbrev stored : Option (List ℕ)
   stored = get machine.store name
 
@@ -84,12 +80,10 @@ module _ (machine : Machine) (chain : Chain) (name : BlobName) (begin version : 
 
   can_step : (blob : List ℕ) × (to : Position) × (stored ≡ Some blob) × StepsBy blob now to
   can_step =
+      let (blob, at, agreeing) = found_with stored (IsAgreeing now.schemas) agrees in
       let (head, has, starts_at) = starts in
-      let (blob, n, at, short, first) = has in
-      let (from, next, there, ends, patch, delta) = delta_of machine.store chain holds name blob begin version between at in
-      let origin : from.tag ≡ now.tag = sym (delta_origin stored from.model blob head from.tag next.tag patch at has delta) ∙ starts_at in
-      let (to, steps) = can_take machine.store chain name begin version now holds between is blob at
-      (λ other there_too. (let same : other ≡ from = one machine.store chain holds begin other from there_too there in ap (λ (s : ChainState). s.tag) same ∙ origin)) in
+      let origin : agreeing.head.origin ≡ now.tag = ap (λ (h : Header). h.origin) (sym (header_is stored blob head agreeing.head agreeing.parts at has agreeing.items)) ∙ starts_at in
+      let (to, steps) = can_take machine.store chain holds name blob now (is_step name begin version between) at is agreeing origin in
       (blob, to, at, steps)
 
   pub step_taken : (position : Position) × StepStep machine name version (reply.Step position.tag) (stepped_to machine version position)
@@ -150,8 +144,8 @@ module _ (machine : Machine) (name : BlobName) (version : ℕ) (now : Position) 
 -- ---- loads
 
 -- a snapshot that can be loaded is not refused
-pub no_load_refusal : (version : ℕ) (content : Option (List ℕ)) (blob : List ℕ) (position : Position) → content ≡ Some blob → LoadsFrom blob position → (refusal : Refusal) → SnapshotRefusal (Snapshot version) content refusal → ⊥
-no_load_refusal version content blob position at loads refusal (found, fails, is) =
+pub no_load_refusal : (version : ℕ) (held : Option (List ℕ)) (blob : List ℕ) (position : Position) → held ≡ Some blob → LoadsFrom blob position → (refusal : Refusal) → SnapshotRefusal (Snapshot version) held refusal → ⊥
+no_load_refusal version held blob position at loads refusal (found, fails, is) =
     loaded_or_fault blob position found loads (subst (λ (c : Option (List ℕ)). RefusesLoad (Snapshot version) c found) at fails)
 
 module _ (machine : Machine) (chain : Chain) (version : ℕ) (state : ChainState) (holds : HoldsChain machine.store chain) (there : HasVersion chain version state) (whole : IsThere machine.store (Snapshot version)) where
@@ -175,7 +169,22 @@ module _ (machine : Machine) (chain : Chain) (version : ℕ) (state : ChainState
   load_only (reply.Refused refusal) next step = let (blob, position, at, loads) = can_load in absurd (no_load_refusal version (get machine.store (Snapshot version)) blob position at loads refusal step.0)
   load_only _ next step = absurd step
 
-  pub load_fresh : (now : Position) (answer : Reply) (next : Machine) → machine.consumer ≡ Some now → now.tag ≡ state.tag → now.indexes ≡ [] → LoadStep machine version answer next → Fresh chain machine next
-  load_fresh now answer next was tag bare step =
+  pub load_fresh : (now : Position) (answer : Reply) (next : Machine) → machine.consumer ≡ Some now → now.tag ≡ state.tag → now.schemas ≡ state.model → now.indexes ≡ [] → LoadStep machine version answer next
+      → Fresh chain machine next
+  load_fresh now answer next was tag own bare step =
       let (position, stands, none, answer_is, next_is) = load_only answer next step in
-      record { now = now; was = was; version = version; state = state; there = there; tag = tag; position = position; stands = stands; indexes = none ∙ sym bare; last = Some version; past = []; is = next_is }
+      record {
+        now = now;
+        was = was;
+        version = version;
+        state = state;
+        there = there;
+        tag = tag;
+        position = position;
+        model = stands.model ∙ sym own;
+        sees = stands_sees machine.store chain holds version state position there stands;
+        indexes = none ∙ sym bare;
+        last = Some version;
+        past = [];
+        is = next_is;
+      }

@@ -1,8 +1,9 @@
 -- The laws of the order `cycle`.
-use Rattle.std.proofs.Common.{◌≡◌, ℕ, ℤ, pos, List, [], Bool, true, false, Some, None, inl, inr, refl, sym, subst, arith, Option, ap}
+use Rattle.std.proofs.Common.{◌≡◌, ℕ, ℤ, pos, List, [], ◌∷◌, Bool, true, false, Some, None, inl, inr, refl, sym, subst, arith, Option, ap}
 use Rattle.std.specs.Prelude.{All, FitsSigned, IsSomeAnd, Option, IfSome}
 use Rattle.std.specs.Int.{w64}
 use Rattle.std.specs.FinMap.{insert}
+use Rattle.std.proofs.lemmas.List.Elements.{All-head, All-tail}
 use Rattle.serde_json.specs.Data.{null}
 use Rattle.hol_io.specs.Name.{IsVersion}
 use Rattle.row_model.specs.PlainTree.{PlainTree}
@@ -21,7 +22,7 @@ use Rattle.hollow_machine.specs.Follow.{MayFollow}
 use Rattle.state_blobs.specs.Puts.{Put, AreBlobs, IsShort, puts_of, put_all}
 use Rattle.hollow_machine.specs.State.{Machine}
 use Rattle.state_blobs.specs.Published.{Published}
-use Rattle.hol_io.specs.declared.name.BlobName.TheVariants.{Announced}
+use Rattle.hol_io.specs.declared.name.BlobName.TheVariants.{Announced, Delta, Reverse}
 use Rattle.written_laws.specs.Chain.{Chain}
 use Rattle.written_laws.specs.States.{IsWritableModel}
 use Rattle.chain_laws.specs.Growth.{AddsAsked, GrowsByCycle}
@@ -31,6 +32,7 @@ use Rattle.chain_laws.proofs.StoreNames.{found_with}
 use Rattle.written_laws.specs.HoldsChain.{HoldsChain}
 use Rattle.read_engine.specs.Position.{Position}
 use Rattle.chain_laws.specs.Consumers.{IsReaderAt, IsReaderOf}
+use Rattle.write_engine.proofs.ClosedStates.{next_closed}
 use Rattle.write_engine.proofs.NextStates.{next_once}
 use Rattle.chain_laws.proofs.OneCycle.{IsOnce, one_cycle}
 use Rattle.chain_laws.proofs.Lawful.{Extends, IsLawful, IsSoundMachine, Keeps, KeepsOf, stays_sound, same_of, says_both}
@@ -51,18 +53,21 @@ module _ (machine : Machine) (chain : Chain) (kept : KeepsChain machine.store ch
   pub writable : (last : Published) → IsOver chain last → IsWritableModel last.model
   writable last is_over = record { model = is_over.model; texts = is_over.texts }
 
-  pub puts_keep : (last : Published) (version : ℕ) (tag : ℤ) (trees : List (ℕ × PlainTree)) (rows : Table) (changed : List ℕ) (blobs : List Put) → IsOver chain last → IsVersion version → FitsSigned w64 tag
-      → MayFollow machine.store last.version version tag → Makes last trees rows changed → TellsTypes last.model last.rows rows None
-      → AreBlobs last rows version tag blobs → All IsShort blobs → IsWritableModel last.model → KeepsChain (put_all machine.store (puts_of blobs version)) (insert chain version (state_behind last tag rows))
-  puts_keep last version tag trees rows changed blobs is_over is_version fits may makes limits (inl (zero_before, (snapshot, written, is))) short can =
+  pub puts_keep : (last : Published) (version : ℕ) (tag : ℤ) (with_snapshot : Bool) (trees : List (ℕ × PlainTree)) (rows : Table) (changed : List ℕ) (blobs : List Put) → IsOver chain last
+      → IsVersion version → FitsSigned w64 tag → MayFollow machine.store last.version version tag → Makes last trees rows changed → TellsTypes last.model last.rows rows None
+      → AreBlobs last rows version tag with_snapshot blobs → All IsShort blobs → IsWritableModel last.model
+      → KeepsChain (put_all machine.store (puts_of blobs version)) (insert chain version (state_behind last tag rows))
+  puts_keep last version tag with_snapshot trees rows changed blobs is_over is_version fits may makes limits (inl (zero_before, (snapshot, written, is))) short can =
       let all = subst (All IsShort) is short in
       subst (λ (bs : List Put). KeepsChain (put_all machine.store (puts_of bs version)) (insert chain version (state_behind last tag rows))) (sym is)
       (first_kept machine.store chain last version tag trees rows kept is_over can may is_version fits makes.state limits true snapshot zero_before written (all 0 (Announced, []) (omega arith)) refl)
-  puts_keep last version tag trees rows changed blobs is_over is_version fits may makes limits (inr (nonzero, (delta, reverse, snapshot, forward, back, written, is))) short can =
+  puts_keep last version tag with_snapshot trees rows changed blobs is_over is_version fits may makes limits (inr (nonzero, (delta, reverse, whole, forward, back, written, is))) short can =
       let all = subst (All IsShort) is short in
+      let behind = All-tail IsShort (Delta last.version version, delta) ((Reverse version last.version, reverse) ∷ whole) all in
       subst (λ (bs : List Put). KeepsChain (put_all machine.store (puts_of bs version)) (insert chain version (state_behind last tag rows))) (sym is)
-      (later_kept machine.store chain last version tag trees rows kept is_over can may is_version fits makes.state limits true delta reverse snapshot nonzero forward back written
-      (all 0 (Announced, []) (omega arith)) (all 1 (Announced, []) (omega arith)) (all 2 (Announced, []) (omega arith)) refl)
+      (later_kept machine.store chain last version tag trees rows kept is_over can may is_version fits makes.state limits true with_snapshot delta reverse whole nonzero forward back written
+      (All-head IsShort (Delta last.version version, delta) ((Reverse version last.version, reverse) ∷ whole) all)
+      (All-head IsShort (Reverse version last.version, reverse) whole behind) (All-tail IsShort (Reverse version last.version, reverse) whole behind) refl)
 
   -- a cycle's numbers are a version and a tag
   cycle_done : (producer : Option Published) → machine.producer ≡ producer → (asked : AskedCycle) (names : List (List ℕ)) (published : Bool) (next : Machine)
@@ -76,7 +81,7 @@ module _ (machine : Machine) (chain : Chain) (kept : KeepsChain machine.store ch
       let tag = asked.tag in
       let longer = insert chain version (state_behind last tag rows) in
       let can = writable last is_over in
-      let held = puts_keep last version tag trees rows changed blobs is_over is_version fits may makes limits are short can in
+      let held = puts_keep last version tag asked.snapshot trees rows changed blobs is_over is_version fits may makes limits are short can in
       let moved = over_longer machine.store chain last version tag trees rows kept is_over can may is_version fits makes.state limits true refl in
       let grows : AddsAsked chain last asked longer = (trees, gives, (rows, makes.state, refl)) in
       let both = subst (λ (m : Machine). KeepsChain m.store longer × IsProducerOf longer m.producer) (sym next_is) (held, moved) in (
@@ -109,7 +114,11 @@ module _ (machine : Machine) (sound : IsSoundMachine machine) where
   succeeds_sound last asked names false next once (may, (trees, gives, (rows, changed, makes, named, leaves))) = stays_sound machine sound next leaves.2
   succeeds_sound last asked names true next once (may, (trees, gives, (rows, changed, makes, named, (publishes, limits, (blobs, are, short, next_is))))) =
       let new : IsOnce (record { model = last.model; rows = rows; tag = asked.tag; version = asked.version }) =
-      record { model = once.model; once = next_once last.model last.rows rows trees once.once makes.state } in
+      record {
+        model = once.model;
+        rows = (next_closed last.model last.rows rows trees makes.state).fits;
+        once = next_once last.model last.rows rows trees once.once makes.state;
+      } in
       subst IsSoundMachine (sym next_is) (new, sound.1)
 
   pub cycle_sound : (asked : AskedCycle) (answer : Reply) (next : Machine) → CycleStep machine asked answer next → IsSoundMachine next
@@ -154,7 +163,7 @@ nowhere_of chain machine nowhere = subst (λ (consumer : Option Position). IsRea
 -- what an order of this kind asks for
 abbrev state_in : (kind : Kind) → (shape kind).Asked → AskedState
 state_in Kind.Cycle asked = asked
-state_in _ asked = record { version = 0; tag = pos 0; add = null }
+state_in _ asked = record { version = 0; tag = pos 0; add = null; snapshot = None }
 
 cycle_order_keeps : KeepsOf Kind.Cycle cycle_form
 cycle_order_keeps machine chain kept over line (order.Cycle next_state) orders asked asks_it answer next step =

@@ -3,6 +3,7 @@ use Rattle.hol_orders.specs.declared.kind.Kind.{Kind}
 use Rattle.hollow_machine.specs.Step.{form}
 use Rattle.chain_laws.proofs.CheckLaws.{check_lawful}
 use Rattle.chain_laws.proofs.CycleLaws.{cycle_lawful}
+use Rattle.chain_laws.proofs.GrowLaws.{grow_lawful}
 use Rattle.chain_laws.proofs.HistoryLaws.{history_lawful, was_lawful, wasget_lawful}
 use Rattle.chain_laws.proofs.IndexLaws.{index_lawful}
 use Rattle.chain_laws.proofs.LoadLaws.{load_lawful}
@@ -31,7 +32,7 @@ laws Kind.At = at_lawful
 laws Kind.Past = past_lawful
 laws Kind.Check = check_lawful
 laws Kind.Stat = stat_lawful
-laws Kind.Grow = unbuilt_lawful Kind.Grow
+laws Kind.Grow = grow_lawful
 laws Kind.Plan = plan_lawful
 laws Kind.Goto = goto_lawful
 laws Kind.Change = unbuilt_lawful Kind.Change

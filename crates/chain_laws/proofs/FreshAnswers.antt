@@ -19,7 +19,9 @@ use Rattle.read_engine.specs.Position.{Position, rows_now}
 use Rattle.hollow_machine.specs.RowOrders.{AnswersAt, AnswersOf, AreLive, ListsLive, LiveReply, RowRefusal, RowReply, ShowsRow}
 use Rattle.hollow_machine.specs.State.{Machine}
 use Rattle.written_laws.specs.Chain.{Chain, ChainState, HasVersion, IsChain}
-use Rattle.chain_laws.specs.Consumers.{Fresh, IsConsumerOf, IsIn, StandsAt}
+use Rattle.written_laws.specs.Quiet.{IsQuiet}
+use Rattle.written_laws.specs.SeenChain.{seen_in}
+use Rattle.chain_laws.specs.Consumers.{Fresh, IsConsumerOf, IsIn, Sees}
 
 module _ (now other : Position) (schemas : now.schemas ≡ other.schemas) (rows : rows_now now ≡ rows_now other) where
   -- what holds of the one model and rows holds of the other
@@ -65,18 +67,23 @@ module _ (machine fresh : Machine) (chain : Chain) (sound : IsChain chain) (of :
   pub stood : IsIn chain afresh.now
   stood = subst (λ (consumer : Option Position). IfSome consumer (IsIn chain)) afresh.was of
 
-  pub stands : StandsAt afresh.state afresh.now
-  stands =
-      let version = sound.tags stood.version afresh.version stood.state afresh.state stood.there afresh.there (sym stood.stands.tag ∙ afresh.tag) in
+  state_is : stood.state ≡ afresh.state
+  state_is =
+      let version = sound.tags stood.version afresh.version stood.state afresh.state stood.there afresh.there (sym stood.sees.tag ∙ afresh.tag) in
       let both : Some stood.state ≡ Some afresh.state = sym (subst (λ (v : ℕ). HasVersion chain v stood.state) version stood.there) ∙ afresh.there in
-      let same : stood.state ≡ afresh.state = cc in
-      subst (λ (s : ChainState). StandsAt s afresh.now) same stood.stands
+      cc
+
+  pub sees : Sees afresh.state afresh.now
+  sees = subst (λ (s : ChainState). Sees s afresh.now) state_is stood.sees
+
+  pub quiet : IsQuiet afresh.now.schemas afresh.state
+  quiet = subst (IsQuiet afresh.now.schemas) state_is stood.quiet
 
   pub schemas_same : afresh.now.schemas ≡ afresh.position.schemas
-  schemas_same = stands.model ∙ sym afresh.stands.model
+  schemas_same = sym afresh.model
 
   pub rows_same : rows_now afresh.now ≡ rows_now afresh.position
-  rows_same = stands.rows ∙ sym afresh.stands.rows
+  rows_same = sees.rows ∙ ap (λ (m : List Schema). seen_in m afresh.state) schemas_same ∙ sym afresh.sees.rows
 
   consumer_is : fresh.consumer ≡ Some afresh.position
   consumer_is = ap (λ (m : Machine). m.consumer) afresh.is

@@ -30,6 +30,7 @@ use Rattle.written_laws.specs.HoldsChain.{HoldsChain, IsThere}
 use Rattle.chain_laws.specs.Afresh.{AreAdded, AskForAll}
 use Rattle.chain_laws.specs.Consumers.{Fresh, IsConsumerOf, IsIn, StandsAt}
 use Rattle.chain_laws.specs.KeptIndexes.{AreIndexes, AsksFor, IsAsked}
+use Rattle.chain_laws.proofs.ConsumerMoves.{stands_sees}
 use Rattle.chain_laws.proofs.ConsumerOrders.{load_only, load_taken}
 use Rattle.chain_laws.proofs.FreshAnswers.{schemas_same}
 use Rattle.chain_laws.proofs.OneKey.{Counts, paths_once}
@@ -146,7 +147,7 @@ added_there machine position before (index ∷ after) now are now_is =
     )
 
 module _ (machine : Machine) (chain : Chain) (version : ℕ) (state : ChainState) (now : Position) (holds : HoldsChain machine.store chain) (there : HasVersion chain version state) (whole : IsThere machine.store (Snapshot version))
-    (was : machine.consumer ≡ Some now) (tag : now.tag ≡ state.tag) (of : IsConsumerOf chain machine.consumer) where
+    (was : machine.consumer ≡ Some now) (tag : now.tag ≡ state.tag) (own : now.schemas ≡ state.model) (of : IsConsumerOf chain machine.consumer) where
   is_in : IsIn chain now
   is_in = subst (λ (consumer : Option Position). IfSome consumer (IsIn chain)) was of
 
@@ -159,7 +160,8 @@ module _ (machine : Machine) (chain : Chain) (version : ℕ) (state : ChainState
     there = there;
     tag = tag;
     position = record position { indexes = now.indexes };
-    stands = record { tag = stands.tag; model = stands.model; rows = stands.rows };
+    model = stands.model ∙ sym own;
+    sees = (let seen = stands_sees machine.store chain holds version state position there stands in record { tag = seen.tag; rows = seen.rows });
     indexes = refl;
     last = Some version;
     past = [];

@@ -18,6 +18,7 @@ use Rattle.chain_laws.proofs.Afresh.{afresh_there}
 use Rattle.chain_laws.proofs.Lawful.{reader_in}
 use Rattle.chain_laws.proofs.OldRows.{was_as_row, wasget_as_get}
 use Rattle.chain_laws.proofs.PlannedMoves.{goto_arrives}
+use Rattle.chain_laws.proofs.UnlikeSteps.{unlike_only}
 
 module _ (machine : Machine) (chain : Chain) (stands : StandsOn chain machine) where
   in_chain : IsConsumerOf chain machine.consumer
@@ -25,19 +26,21 @@ module _ (machine : Machine) (chain : Chain) (stands : StandsOn chain machine) w
 
   true_step : (from to : ℕ) (answer : Reply) (next : Machine) → Step machine (order.Step from to) answer next → IsTrueStep chain machine from to answer next
   true_step from to answer next step = record {
-    taken = λ now was starts.
-        step_only machine chain (step_name from to) from to now stands.kept.holds (step_between from to) was (subst (IsConsumerOf chain) was in_chain) starts answer next step;
+    taken = λ now was starts agrees.
+        step_only machine chain (step_name from to) from to now stands.kept.holds (step_between from to) was (subst (IsConsumerOf chain) was in_chain) starts agrees answer next step;
+    unlike = λ now was starts apart.
+        unlike_only machine chain (step_name from to) from to now stands.kept.holds (step_between from to) was (subst (IsConsumerOf chain) was in_chain) starts apart answer next step;
     other = λ now origin was starts apart. other_only machine (step_name from to) to now origin was starts apart answer next step;
   }
 
   true_order : (asked : Order) (answer : Reply) (next : Machine) → Step machine asked answer next → IsTrueOrder chain machine asked answer next
   true_order order answer next step = record {
     moves = λ from to is. true_step from to answer next (subst (λ (o : Order). Step machine o answer next) is step);
-    goes = λ version progress is answer_is.
-        goto_arrives machine next chain version progress stands.kept.holds stands.consumer
+    goes = λ version progress is answer_is agree.
+        goto_arrives machine next chain version progress agree stands.kept.holds stands.consumer
         (subst (λ (o : Order). Step machine o (reply.Goto progress) next) is (subst (λ (r : Reply). Step machine order r next) answer_is step));
-    was = λ version name ordinal is reaches. was_as_row machine chain stands.consumer version reaches name ordinal answer (subst (λ (o : Order). Step machine o answer next) is step).0;
-    wasget = λ version name values is reaches. wasget_as_get machine chain stands.consumer version reaches name (view values) answer (subst (λ (o : Order). Step machine o answer next) is step).0;
+    was = λ now version name ordinal is at reaches. was_as_row machine chain stands.consumer now at version reaches name ordinal answer (subst (λ (o : Order). Step machine o answer next) is step).0;
+    wasget = λ now version name values is at reaches. wasget_as_get machine chain stands.consumer now at version reaches name (view values) answer (subst (λ (o : Order). Step machine o answer next) is step).0;
     fresh = λ of_state fresh is_fresh. afresh_there machine fresh next chain order answer of_state stands.kept.holds.sound in_chain is_fresh step;
   }
 

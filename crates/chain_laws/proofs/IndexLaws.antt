@@ -26,7 +26,9 @@ index_leaves machine asked (reply.Index keys) next step =
                 version = stood.version;
                 state = stood.state;
                 there = stood.there;
-                stands = record { tag = stood.stands.tag; model = stood.stands.model; rows = stood.stands.rows };
+                sees = record { tag = stood.sees.tag; rows = stood.sees.rows };
+                home = stood.home;
+                quiet = stood.quiet;
                 indexes = still_indexes added.now.schemas added.now.indexes added.after asked.0 (texts_of_array asked.1) added.index stood.indexes added.asks added.keeps;
               },
               at_version,

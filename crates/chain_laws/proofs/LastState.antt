@@ -1,23 +1,26 @@
 -- What is known of the last state of a producer over a chain.
-use Rattle.std.proofs.Common.{◌≡◌, ℕ, length, Some, inl, inr, sym, ap, subst, ◌∙◌, arith}
-use Rattle.std.specs.Prelude.{FitsSigned, IsSome, is_some, true}
+use Rattle.std.proofs.Common.{◌≡◌, ◌<◌, ℕ, length, Some, inl, inr, sym, ap, subst, ◌∙◌, arith}
+use Rattle.std.specs.Prelude.{FitsSigned, IsSome, is_some}
 use Rattle.std.specs.Int.{w64}
 use Rattle.std.specs.FinMap.{get, get-empty}
 use Rattle.std.specs.Ordering.{nat_cmp}
 use Rattle.std.proofs.lemmas.Int.{ints}
 use Rattle.hol_io.specs.Store.{Store}
 use Rattle.row_model.specs.declared.row.Row.{Row}
-use Rattle.row_model.specs.Table.{Table}
+use Rattle.schema_model.specs.declared.limit.Limit.TheVariants.{Ordinals}
+use Rattle.schema_model.specs.Limit.{number_of_limit}
+use Rattle.row_model.specs.Table.{IsClosed, IsLive, IsTableOf, Table}
 use Rattle.row_model.proofs.RowsFrom.{get_in}
 use Rattle.write_engine.specs.Agreement.{HoldsOnce}
 use Rattle.write_engine.specs.Cycle.{no_rows, rows_in}
 use Rattle.write_engine.proofs.ClosedStates.{none_closed}
 use Rattle.write_engine.proofs.NextStates.{none_there}
+use Rattle.write_engine.proofs.StoredRows.{none_stored}
 use Rattle.state_blobs.specs.Published.{Published}
-use Rattle.written_laws.specs.Chain.{Chain}
+use Rattle.written_laws.specs.Chain.{Chain, HoldsOnce as HoldsNoneTwice}
 use Rattle.written_laws.specs.States.{IsState}
+use Rattle.written_laws.proofs.GrownRows.{state_grown}
 use Rattle.chain_laws.specs.Producers.{IsOver, KeepsChain}
-use Rattle.chain_laws.proofs.StoredRows.{none_stored}
 
 -- no row twice, a state of the model, and a tag of 64 bits
 pub record IsLast (last : Published) : Type 0 where
@@ -52,13 +55,21 @@ last_is store chain last kept over =
         tag = subst (FitsSigned w64) (sym (ap (λ (p : Published). p.tag) new)) (omega (arith, ints));
       }
       | inr at ↦
-          (let sound = kept.holds.sound.sound last.version (record { tag = last.tag; parent = at.parent; published = true; model = last.model; table = last.rows }) at.there in
+          (let sound = kept.holds.sound.sound last.version at.state at.there in
+          let seen = state_grown at.state last.model sound over.model at.grows in
+          let once : HoldsNoneTwice last.rows = subst (λ (rows : Table). HoldsNoneTwice rows) (sym at.rows) seen.once in
+          let low : (t ordinal : ℕ) → IsLive last.rows t ordinal → ordinal < number_of_limit Ordinals =
+          subst (λ (rows : Table). (t ordinal : ℕ) → IsLive rows t ordinal → ordinal < number_of_limit Ordinals) (sym at.rows) seen.ordinals in
           record {
             once = record {
-              once = λ t a b row at_a at_b. sound.once t a b row (sym (get_in last.rows t a) ∙ at_a) (sym (get_in last.rows t b) ∙ at_b);
-              low = λ t ordinal live. sound.ordinals t ordinal (subst IsSome (get_in last.rows t ordinal) live);
+              once = λ t a b row at_a at_b. once t a b row (sym (get_in last.rows t a) ∙ at_a) (sym (get_in last.rows t b) ∙ at_b);
+              low = λ t ordinal live. low t ordinal (subst IsSome (get_in last.rows t ordinal) live);
             };
-            state = record { rows = sound.rows; closed = sound.closed; stored = at.stored };
-            tag = sound.tag;
+            state = record {
+              rows = subst (λ (rows : Table). IsTableOf last.model rows) (sym at.rows) seen.rows;
+              closed = subst (λ (rows : Table). IsClosed last.model rows) (sym at.rows) seen.closed;
+              stored = at.stored;
+            };
+            tag = subst (FitsSigned w64) (sym at.tag) sound.tag;
           })
     ]

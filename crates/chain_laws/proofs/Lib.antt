@@ -9,10 +9,11 @@ mod ConsumerMoves
 mod ConsumerOrders
 mod CycleLaws
 mod EachKind
-mod FormGives
 mod FreshAnswers
 mod FreshIndexes
 mod FreshKeys
+mod GrowLaws
+mod GrownProducers
 mod Headlines
 mod HistoryLaws
 mod IndexLaws
@@ -30,6 +31,7 @@ mod NewState
 mod NextPosition
 mod OldRows
 mod OneCycle
+mod OneGrow
 mod OneKey
 mod OneLook
 mod OneMake
@@ -46,7 +48,6 @@ mod PlannedMoves
 mod PrintedOnce
 mod PublishedState
 mod Putting
-mod ReadTexts
 mod RestoreLaws
 mod RestoredChains
 mod ScriptFilms
@@ -56,7 +57,6 @@ mod StatLaws
 mod StepLaws
 mod StoppedChains
 mod StoreNames
-mod StoredRows
 mod TypedConsumers
-mod ValueTexts
+mod UnlikeSteps
 mod WrittenTags

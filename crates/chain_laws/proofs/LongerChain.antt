@@ -130,12 +130,15 @@ module _ (store after : Store) (chain : Chain) (kept : KeepsChain store chain) (
   there_stays : (name : BlobName) → IsBlob name → IsThere store name → IsThere after name
   there_stays name of_blob there = let (blob, at) = found (get store name) there in ap is_some (stays name blob of_blob at)
 
+  still_either : (v : ℕ) (s : ChainState) → v < version → IsTrue s.published ⊎ IsThere after (Snapshot v) → IsTrue s.published ⊎ IsThere store (Snapshot v)
+  still_either v s low (inl is_published) = inl is_published
+  still_either v s low (inr snapshot) = inr (whole v (λ e. omega (arith, e, low)) snapshot)
+
   blobs_stay : (v : ℕ) (s : ChainState) → v < version → HasBlobs store v s → HasBlobs after v s
   blobs_stay v s low (inl root) = inl (root.0, there_stays (Snapshot v) tt root.1)
   blobs_stay v s low (inr step) = inr record {
     forward = there_stays (Delta s.parent v) tt step.forward;
-    back = λ snapshot. there_stays (Reverse v s.parent) tt (step.back (whole v (λ e. omega (arith, e, low)) snapshot));
-    whole = λ is_published. there_stays (Snapshot v) tt (step.whole is_published);
+    back = λ either. there_stays (Reverse v s.parent) tt (step.back (still_either v s low either));
   }
 
   holds_longer : (last : ℕ) → IsLastPublished longer last → IsAnnounced after last → HoldsChain after longer

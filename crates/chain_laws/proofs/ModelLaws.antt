@@ -8,12 +8,13 @@ use Rattle.hol_answers.specs.declared.reply.Reply.{Reply}
 use Rattle.hol_answers.specs.declared.reply.Reply.TheVariants as reply
 use Rattle.hol_orders.specs.Kind.{shape}
 use Rattle.hol_orders.specs.Order.{Asking}
+use Rattle.write_engine.proofs.ClosedStates.{none_closed}
 use Rattle.hollow_machine.specs.ModelOrder.{ModelStep, model_form}
 use Rattle.hollow_machine.specs.State.{Machine}
 use Rattle.state_blobs.specs.Published.{new_producer}
 use Rattle.written_laws.specs.Chain.{Chain}
 use Rattle.chain_laws.specs.Producers.{IsOver, IsProducerOf, KeepsChain}
-use Rattle.chain_laws.proofs.ValueTexts.{named_texts}
+use Rattle.byte_laws.proofs.ValueTexts.{named_texts}
 use Rattle.written_laws.specs.HoldsChain.{HoldsChain}
 use Rattle.chain_laws.specs.Consumers.{IsReaderOf}
 use Rattle.chain_laws.proofs.LastState.{none_once}
@@ -34,7 +35,7 @@ module _ (machine : Machine) (line : List ℕ) (chain : Chain) (kept : KeepsChai
 module _ (machine : Machine) (sound : IsSoundMachine machine) where
   model_sound : (value : Data) (answer : Reply) (next : Machine) → ModelStep machine value answer next → IsSoundMachine next
   model_sound value (reply.Model types) next (schemas, none, stands, model, count, next_is) =
-      let new : IsOnce (new_producer schemas) = record { model = model; once = none_once (length schemas) } in
+      let new : IsOnce (new_producer schemas) = record { model = model; rows = (none_closed schemas).fits; once = none_once (length schemas) } in
       subst IsSoundMachine (sym next_is) (new, sound.1)
   model_sound value (reply.Refused refusal) next step = stays_sound machine sound next step.1
   model_sound value _ next step = absurd step

@@ -19,11 +19,11 @@ use Rattle.write_engine.specs.CycleLimit.{TellsTypes}
 use Rattle.write_engine.specs.Soundness.{IsClosedTableOf}
 use Rattle.write_engine.proofs.ClosedStates.{next_closed}
 use Rattle.write_engine.proofs.NextStates.{next_agree, next_once}
+use Rattle.write_engine.proofs.StoredRows.{next_stored}
 use Rattle.state_blobs.specs.Published.{Published}
 use Rattle.written_laws.specs.Chain.{IsSound}
 use Rattle.written_laws.specs.States.{IsWritableModel, IsState, AreStates}
 use Rattle.chain_laws.specs.Producers.{state_behind}
-use Rattle.chain_laws.proofs.StoredRows.{next_stored}
 
 -- past the types there are no rows
 none_past : (table : Table) (t : ℕ) → length table ≤ t → rows_in table t ≡ empty

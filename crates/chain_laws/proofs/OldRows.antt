@@ -1,6 +1,6 @@
--- What is answered of a version that is kept of a consumer over a chain is what is answered where a consumer stands at the version's state.
+-- What is answered of a version that is kept of a consumer over a chain is what is answered where a consumer with the same model sees the version's state.
 use Rattle.std.proofs.Common.{◌≡◌, ◌≤◌, ◌<◌, ℕ, List, [], ◌∷◌, Bool, true, cond, if◌then◌else◌, Option, Some, None, inl, inr, sym, ap, subst, ◌∙◌, eq-eqb}
-use Rattle.std.specs.Prelude.{◌==◌, All}
+use Rattle.std.specs.Prelude.{◌==◌, All, IsSome, IsSomeAnd}
 use Rattle.std.specs.List.{find}
 use Rattle.std.specs.Option.{option_map}
 use Rattle.std.proofs.lemmas.Bool.{cases_eq, ne_eqb}
@@ -31,10 +31,11 @@ use Rattle.hollow_machine.specs.KeyOrders.{FindsUnder, GetRefusal, GetReply, Sho
 use Rattle.hollow_machine.specs.KeyPaths.{AreKeyPaths, HasShape, IsBadPath, IsObject}
 use Rattle.hollow_machine.specs.RowOrders.{AnswersAt, RowRefusal, RowRefusalIn, RowReply, ShowsRow}
 use Rattle.hollow_machine.specs.State.{Machine}
-use Rattle.written_laws.specs.Chain.{Chain, HasVersion}
-use Rattle.chain_laws.specs.Consumers.{IsIn, IsOld, IsReaderAt, IsReaderOf}
+use Rattle.written_laws.specs.Chain.{Chain, ChainState, HasVersion}
+use Rattle.written_laws.specs.SeenChain.{seen_in}
+use Rattle.chain_laws.specs.Consumers.{IsIn, IsOld, IsReaderAt, IsReaderOf, Sees}
 use Rattle.chain_laws.specs.OldStates.{IsGotThen, IsRowThen, KeepsKey, Reaches, as_get, as_row}
-use Rattle.chain_laws.proofs.StoreNames.{found, found_with}
+use Rattle.chain_laws.proofs.StoreNames.{found}
 
 -- ---- the rows of a version
 
@@ -50,8 +51,8 @@ module _ (chain : Chain) (schemas : List Schema) (version : ℕ) (table : Table)
             (let here : table_then (pair ∷ past) version ≡ Some pair.1 = ap (λ (b : Bool). chosen b pair past) (eq-eqb pair.0 version same) in
             let both : Some pair.1 ≡ Some table = sym here ∙ is in
             let rows : pair.1 ≡ table = cc in
-            let (state, there, model, held) = All-head (IsOld chain schemas) pair past all in
-            (state, subst (λ (v : ℕ). HasVersion chain v state) same there, model, sym rows ∙ held))
+            let (state, there, held) = All-head (IsOld chain schemas) pair past all in
+            (state, subst (λ (v : ℕ). HasVersion chain v state) same there, sym rows ∙ held))
         | inr apart ↦
             (let later : table_then (pair ∷ past) version ≡ table_then past version = ap (λ (b : Bool). chosen b pair past) (ne_eqb pair.0 version apart) in
             kept_old past (All-tail (IsOld chain schemas) pair past all) (sym later ∙ is))
@@ -67,7 +68,7 @@ module _ (chain : Chain) (now : Position) (is : IsIn chain now) (past : List (�
         | inl same ↦
             (let here : held true ≡ Some table = sym (ap held (eq-eqb is.version version same)) ∙ rows in
             let now_is : rows_now now ≡ table = cc in
-            (is.state, subst (λ (v : ℕ). HasVersion chain v is.state) same is.there, sym is.stands.model, sym now_is ∙ is.stands.rows))
+            (is.state, subst (λ (v : ℕ). HasVersion chain v is.state) same is.there, sym now_is ∙ is.sees.rows))
         | inr apart ↦ kept_old chain now.schemas version table past old (sym (ap held (ne_eqb is.version version apart)) ∙ rows)
       ]
 
@@ -149,29 +150,27 @@ module _ (now other : Position) (schemas : now.schemas ≡ other.schemas) (table
 
 -- ---- the answers of the orders
 
-module _ (machine : Machine) (chain : Chain) (of : IsReaderOf chain machine) (version : ℕ) (reaches : Reaches machine version) where
-  -- the consumer, and the rows of the version
-  abbrev Held : Type 0
-  Held = (now : Position) × (table : Table) × (machine.consumer ≡ Some now) × (rows_then now machine.version machine.past version ≡ Some table)
+module _ (machine : Machine) (chain : Chain) (of : IsReaderOf chain machine) (now : Position) (was : machine.consumer ≡ Some now) (version : ℕ) (reaches : Reaches machine version) where
+  -- the rows of the version
+  rows_held : (table : Table) × (rows_then now machine.version machine.past version ≡ Some table)
+  rows_held = found (rows_then now machine.version machine.past version) (subst (λ (consumer : Option Position). IsSomeAnd consumer (λ at. IsSome (rows_then at machine.version machine.past version))) was reaches)
 
-  rows_held : Held
-  rows_held =
-      let (now, was, kept) = found_with machine.consumer _ reaches in
-      let (table, rows) = found (rows_then now machine.version machine.past version) kept in
-      (now, table, was, rows)
+  -- where another consumer with the same model sees the state, it has these rows
+  same_rows : (state : ChainState) (table : Table) (position : Position) → table ≡ seen_in now.schemas state → position.schemas ≡ now.schemas → Sees state position → table ≡ rows_now position
+  same_rows state table position held model sees = held ∙ ap (λ (m : List Schema). seen_in m state) (sym model) ∙ sym sees.rows
 
-  pub was_as_row : (name : Name) (ordinal : ℕ) (answer : Reply) → WasReply machine.consumer machine.version machine.past version name ordinal answer → IsRowThen chain version name ordinal answer
+  pub was_as_row : (name : Name) (ordinal : ℕ) (answer : Reply) → WasReply machine.consumer machine.version machine.past version name ordinal answer → IsRowThen chain now.schemas version name ordinal answer
   was_as_row name ordinal answer is =
-      let (now, table, was, rows) = rows_held in
-      let (state, there, model, held) = reader_old machine chain now version table of was rows in
+      let (table, rows) = rows_held in
+      let (state, there, held) = reader_old machine chain now version table of was rows in
       let of_now = subst (λ (consumer : Option Position). WasReply consumer machine.version machine.past version name ordinal answer) was is in
       let of_then = subst (λ (kept : Option Table). AnswersThen now kept version name (ShowsOld name ordinal) answer) rows of_now in
-      (state, there, (λ position stands. then_as_row now position (sym model ∙ sym stands.model) table (held ∙ sym stands.rows) version name ordinal answer of_then))
+      (state, there, (λ position model sees. then_as_row now position (sym model) table (same_rows state table position held model sees) version name ordinal answer of_then))
 
-  pub wasget_as_get : (name : Name) (values : Data) (answer : Reply) → WasGetReply machine.consumer machine.version machine.past version name values answer → IsGotThen chain version name values answer
+  pub wasget_as_get : (name : Name) (values : Data) (answer : Reply) → WasGetReply machine.consumer machine.version machine.past version name values answer → IsGotThen chain now.schemas version name values answer
   wasget_as_get name values answer is =
-      let (now, table, was, rows) = rows_held in
-      let (state, there, model, held) = reader_old machine chain now version table of was rows in
+      let (table, rows) = rows_held in
+      let (state, there, held) = reader_old machine chain now version table of was rows in
       let of_now = subst (λ (consumer : Option Position). WasGetReply consumer machine.version machine.past version name values answer) was is in
       let of_then = subst (λ (kept : Option Table). AnswersThen now kept version name (ShowsOldKey name values) answer) rows of_now in
-      (state, there, (λ position stands keeps. then_as_get now position (sym model ∙ sym stands.model) table (held ∙ sym stands.rows) name values keeps version answer of_then))
+      (state, there, (λ position model sees keeps. then_as_get now position (sym model) table (same_rows state table position held model sees) name values keeps version answer of_then))

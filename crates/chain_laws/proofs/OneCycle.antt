@@ -11,7 +11,7 @@ use Rattle.schema_model.specs.declared.schema.Shape.{Shape}
 use Rattle.schema_model.specs.declared.reason.Reason.TheVariants.{BadAnnounced}
 use Rattle.schema_model.specs.Model.{IsModel}
 use Rattle.row_model.specs.PlainTree.{PlainTree}
-use Rattle.row_model.specs.Table.{Table}
+use Rattle.row_model.specs.Table.{IsTableOf, Table}
 use Rattle.row_packing.specs.Chosen.{shape_at}
 use Rattle.row_packing.specs.States.{AreWritable}
 use Rattle.row_packing.specs.TypeLimit.{KeepsBytes, KeepsItems, TellsLimit}
@@ -33,7 +33,7 @@ use Rattle.hol_answers.specs.declared.reply.Reply.{Reply}
 use Rattle.hol_answers.specs.declared.reply.Reply.TheVariants as reply
 use Rattle.hollow_machine.specs.CycleOrder.{AreNamed, CycleRefusal, CycleStep, Leaves, Makes, PassesLimit, Publishes, RefusesAfter, Succeeds, SucceedsAfter}
 use Rattle.hollow_machine.specs.Follow.{MayFollow, MayNotFollow}
-use Rattle.state_blobs.specs.Puts.{AreBlobs, IsShort, Put, puts_of, put_all}
+use Rattle.state_blobs.specs.Puts.{AreBlobs, AreWhole, IsShort, Put, puts_of, put_all}
 use Rattle.hollow_machine.specs.Records.{AskedCycle, GivesTrees}
 use Rattle.hollow_machine.specs.State.{Machine, with_producer, with_store}
 use Rattle.state_blobs.specs.Published.{Published}
@@ -161,22 +161,28 @@ WrittenOnce =
     × ((schemas : List Schema) (old new : Table) (origin destination : ℤ) (a b : List ℕ) → IsModel schemas → AreWritable schemas old new → IsDeltaBetween schemas old new origin destination a
     → IsDeltaBetween schemas old new origin destination b → a ≡ b)
 
-module _ (written : WrittenOnce) (machine : Machine) (last : Published) (version : ℕ) (tag : ℤ) (trees : List (ℕ × PlainTree)) (model : IsModel last.model) (once : HoldsOnce last.rows) where
+module _ (written : WrittenOnce) (machine : Machine) (last : Published) (version : ℕ) (tag : ℤ) (with_snapshot : Bool) (trees : List (ℕ × PlainTree)) (model : IsModel last.model)
+    (once : HoldsOnce last.rows) where
+  -- the snapshot is one, where it is put
+  whole_one : (put : Bool) (rows : Table) → AreWritable last.model last.rows rows → (whole other : List Put) → AreWhole put last rows version tag whole → AreWhole put last rows version tag other
+      → whole ≡ other
+  whole_one true rows can whole other (snapshot, one, is) (bytes, also, other_is) =
+      is ∙ ap (λ (b : List ℕ). (Snapshot version, b) ∷ []) (written.0 last.model last.rows rows last.tag tag snapshot bytes model can one also) ∙ sym other_is
+  whole_one false rows can whole other none none_too = none ∙ sym none_too
+
   blobs_one : (rows : Table) → Next last.model last.rows trees rows → TellsTypes last.model last.rows rows None → (blobs others : List Put)
-      → AreBlobs last rows version tag blobs → AreBlobs last rows version tag others → blobs ≡ others
-  blobs_one rows made keeps blobs others (inl (zero_before, (snapshot, one, is))) (inl (zero_too, (other, also, other_is))) =
-      let can = writable last.model last.rows rows (next_agree last.model last.rows rows trees once made) keeps in
-      let same = written.0 last.model last.rows rows last.tag tag snapshot other model can one also in
-      is ∙ ap (λ (b : List ℕ). (Snapshot version, b) ∷ []) same ∙ sym other_is
+      → AreBlobs last rows version tag with_snapshot blobs → AreBlobs last rows version tag with_snapshot others → blobs ≡ others
+  blobs_one rows made keeps blobs others (inl (zero_before, first)) (inl (zero_too, also)) =
+      whole_one true rows (writable last.model last.rows rows (next_agree last.model last.rows rows trees once made) keeps) blobs others first also
   blobs_one rows made keeps blobs others (inl first) (inr later) = absurd (later.0 first.0)
   blobs_one rows made keeps blobs others (inr later) (inl first) = absurd (later.0 first.0)
-  blobs_one rows made keeps blobs others (inr (nonzero, (delta, reverse, snapshot, forth, back, one, is))) (inr (nonzero_too, (d, r, s, forth_too, back_too, also, other_is))) =
+  blobs_one rows made keeps blobs others (inr (nonzero, (delta, reverse, whole, forth, back, one, is))) (inr (nonzero_too, (d, r, w, forth_too, back_too, also, other_is))) =
       let agree = next_agree last.model last.rows rows trees once made in
       let can = writable last.model last.rows rows agree keeps in
       let deltas = written.1 last.model last.rows rows last.tag tag delta d model can forth forth_too in
       let reverses = written.1 last.model rows last.rows tag last.tag reverse r model (writable_back last.model last.rows rows agree keeps) back back_too in
-      let snapshots = written.0 last.model last.rows rows last.tag tag snapshot s model can one also in
-      is ∙ (λ i. (Delta last.version version, deltas i) ∷ (Reverse version last.version, reverses i) ∷ (Snapshot version, snapshots i) ∷ []) ∙ sym other_is
+      let wholes = whole_one with_snapshot rows can whole w one also in
+      is ∙ (λ i. (Delta last.version version, deltas i) ∷ (Reverse version last.version, reverses i) ∷ wholes i) ∙ sym other_is
 
   -- what a cycle publishes is not left out
   not_both : (changed : List ℕ) → Publishes last changed → last.version ≢ 0 → changed ≡ [] → ⊥
@@ -184,7 +190,7 @@ module _ (written : WrittenOnce) (machine : Machine) (last : Published) (version
   not_both changed (inr some) nonzero none = some none
 
   leaves_one : (rows : Table) (changed : List ℕ) → Next last.model last.rows trees rows → (published also : Bool) (next after : Machine)
-      → Leaves machine last rows changed version tag published next → Leaves machine last rows changed version tag also after → (published ≡ also) × (next ≡ after)
+      → Leaves machine last rows changed version tag with_snapshot published next → Leaves machine last rows changed version tag with_snapshot also after → (published ≡ also) × (next ≡ after)
   leaves_one rows changed made false false next after one other = (refl, one.2 ∙ sym other.2)
   leaves_one rows changed made false true next after one other = absurd (not_both changed other.0 one.0 one.1)
   leaves_one rows changed made true false next after one other = absurd (not_both changed one.0 other.0 other.1)
@@ -200,12 +206,12 @@ module _ (written : WrittenOnce) (machine : Machine) (last : Published) (version
   named_one schemas types names others one other =
       each_once (λ t name. IsSomeAnd (slice_get schemas t) (λ (s : Schema). s.name ≡ name)) (λ t a b x y. name_once (slice_get schemas t) a b x y) types names others one other
 
-  succeeds_one : (names others : List (List ℕ)) (published also : Bool) (next after : Machine) → Succeeds machine last version tag trees names published next
-      → Succeeds machine last version tag trees others also after → (names ≡ others) × (published ≡ also) × (next ≡ after)
+  succeeds_one : (names others : List (List ℕ)) (published also : Bool) (next after : Machine) → Succeeds machine last version tag with_snapshot trees names published next
+      → Succeeds machine last version tag with_snapshot trees others also after → (names ≡ others) × (published ≡ also) × (next ≡ after)
   succeeds_one names others published also next after (rows, changed, makes, named, leaves) (table, ts, makes_too, named_too, leaves_too) =
       let same = rows_one last trees once rows table changed ts makes makes_too in
       let list = changed_one last trees once rows table changed ts same makes.types makes_too.types in
-      let here = subst (λ (t : Table). Leaves machine last t changed version tag also after) (sym same) (subst (λ (cs : List ℕ). Leaves machine last table cs version tag also after) (sym list) leaves_too) in
+      let here = subst (λ (t : Table). Leaves machine last t changed version tag with_snapshot also after) (sym same) (subst (λ (cs : List ℕ). Leaves machine last table cs version tag with_snapshot also after) (sym list) leaves_too) in
       let left = leaves_one rows changed makes.state published also next after leaves here in
       (named_one last.model changed names others named (subst (λ (cs : List ℕ). AreNamed last.model cs others) (sym list) named_too), left.0, left.1)
 
@@ -218,7 +224,7 @@ module _ (written : WrittenOnce) (machine : Machine) (last : Published) (version
   abbrev TooLong : Type 0
   TooLong =
       (rows : Table) × (changed : List ℕ) × Makes last trees rows changed × Publishes last changed × TellsTypes last.model last.rows rows None
-      × ((blobs : List Put) → AreBlobs last rows version tag blobs → All IsShort blobs → ⊥)
+      × ((blobs : List Put) → AreBlobs last rows version tag with_snapshot blobs → All IsShort blobs → ⊥)
 
   -- a type of what is published passes this limit
   abbrev TypePasses : Limit → Type 0
@@ -227,7 +233,7 @@ module _ (written : WrittenOnce) (machine : Machine) (last : Published) (version
   abbrev PassKind : Limit → Type 0
   PassKind passed = ((passed ≡ limit.Ordinals) × NoNext) ⊎ (((passed ≡ limit.Blob) × TooLong) ⊎ TypePasses passed)
 
-  pass_kind : (passed : Limit) → PassesLimit last version tag trees passed → PassKind passed
+  pass_kind : (passed : Limit) → PassesLimit last version tag with_snapshot trees passed → PassKind passed
   pass_kind limit.Ordinals is = inl (refl, is)
   pass_kind limit.Blob is = inr (inl (refl, is))
   pass_kind _ is = inr (inr is)
@@ -253,7 +259,7 @@ module _ (written : WrittenOnce) (machine : Machine) (last : Published) (version
 
   -- ---- a cycle that succeeds passes no limit
 
-  left_not : (rows : Table) (changed : List ℕ) (published : Bool) (next : Machine) (passed : Limit) → Makes last trees rows changed → Leaves machine last rows changed version tag published next → PassKind passed → ⊥
+  left_not : (rows : Table) (changed : List ℕ) (published : Bool) (next : Machine) (passed : Limit) → Makes last trees rows changed → Leaves machine last rows changed version tag with_snapshot published next → PassKind passed → ⊥
   left_not rows changed false next passed makes leaves (inl none) = none.1 rows makes.state
   left_not rows changed true next passed makes leaves (inl none) = none.1 rows makes.state
   left_not rows changed false next passed makes (nonzero, none, next_is) (inr (inl (is, (others, also, makes_too, publishes, keeps, not)))) =
@@ -265,11 +271,11 @@ module _ (written : WrittenOnce) (machine : Machine) (last : Published) (version
       let list = changed_one last trees once rows others changed also same makes.types makes_too.types in
       not_both changed (subst (λ (cs : List ℕ). Publishes last cs) (sym list) publishes) nonzero none
   left_not rows changed true next passed makes (publishes, keeps, (blobs, are, short, next_is)) (inr (inl (is, (others, also, makes_too, publishes_too, keeps_too, not)))) =
-      (same_rows (λ (t : Table). (bs : List Put) → AreBlobs last t version tag bs → All IsShort bs → ⊥) rows others changed also makes makes_too not) blobs are short
+      (same_rows (λ (t : Table). (bs : List Put) → AreBlobs last t version tag with_snapshot bs → All IsShort bs → ⊥) rows others changed also makes makes_too not) blobs are short
   left_not rows changed true next passed makes (publishes, keeps, (blobs, are, short, next_is)) (inr (inr (others, also, makes_too, publishes_too, tells))) =
       types_apart last.model last.rows rows passed keeps (same_rows (λ (t : Table). TellsTypes last.model last.rows t (Some passed)) rows others changed also makes makes_too tells)
 
-  succeeds_not : (names : List (List ℕ)) (published : Bool) (next : Machine) (passed : Limit) → Succeeds machine last version tag trees names published next → PassKind passed → ⊥
+  succeeds_not : (names : List (List ℕ)) (published : Bool) (next : Machine) (passed : Limit) → Succeeds machine last version tag with_snapshot trees names published next → PassKind passed → ⊥
   succeeds_not names published next passed (rows, changed, makes, named, leaves) kind = left_not rows changed published next passed makes leaves kind
 
 -- ---- a cycle of the records that are asked for
@@ -284,12 +290,15 @@ module _ (written : WrittenOnce) (machine : Machine) (last : Published) (asked :
   abbrev tag : ℤ
   tag = asked.tag
 
+  abbrev with_snapshot : Bool
+  with_snapshot = asked.snapshot
+
   abbrev May : Type 0
   May = MayFollow store last.version version tag
 
   -- the records give trees, and these pass this limit
   abbrev PassedBy : Limit → Type 0
-  PassedBy passed = (trees : List (ℕ × PlainTree)) × GivesTrees last asked.add trees × PassKind written machine last version tag trees model once passed
+  PassedBy passed = (trees : List (ℕ × PlainTree)) × GivesTrees last asked.add trees × PassKind written machine last version tag with_snapshot trees model once passed
 
   abbrev AfterKind : Refusal → Type 0
   AfterKind refusal =
@@ -299,7 +308,7 @@ module _ (written : WrittenOnce) (machine : Machine) (last : Published) (asked :
   after_kind : (refusal : Refusal) → RefusesAfter store last asked refusal → AfterKind refusal
   after_kind (refused.NoType name) is = inr (is.0, inl (no_trees last.model asked.add (refused.NoType name) is.1))
   after_kind (refused.BadRecord fault) is = inr (is.0, inl (no_trees last.model asked.add (refused.BadRecord fault) is.1))
-  after_kind (refused.TooLarge passed) (may, (trees, gives, passes)) = inr (may, inr (passed, refl, (trees, gives, pass_kind written machine last version tag trees model once passed passes)))
+  after_kind (refused.TooLarge passed) (may, (trees, gives, passes)) = inr (may, inr (passed, refl, (trees, gives, pass_kind written machine last version tag with_snapshot trees model once passed passes)))
   after_kind _ is = inl is
 
   same_trees : (trees others : List (ℕ × PlainTree)) → GivesTrees last asked.add trees → GivesTrees last asked.add others → trees ≡ others
@@ -307,8 +316,8 @@ module _ (written : WrittenOnce) (machine : Machine) (last : Published) (asked :
 
   passed_one : (l m : Limit) → PassedBy l → PassedBy m → l ≡ m
   passed_one l m (trees, gives, kind) (others, gives_too, also) =
-      passes_one written machine last version tag trees model once l m kind
-      (subst (λ (ts : List (ℕ × PlainTree)). PassKind written machine last version tag ts model once m) (sym (same_trees trees others gives gives_too)) also)
+      passes_one written machine last version tag with_snapshot trees model once l m kind
+      (subst (λ (ts : List (ℕ × PlainTree)). PassKind written machine last version tag with_snapshot ts model once m) (sym (same_trees trees others gives gives_too)) also)
 
   after_one : (r s : Refusal) → AfterKind r → AfterKind s → r ≡ s
   after_one r s (inl not) (inl also) = one_why store last.version version tag r s (why store last.version version tag r not) (why store last.version version tag s also)
@@ -322,8 +331,8 @@ module _ (written : WrittenOnce) (machine : Machine) (last : Published) (asked :
   after_succeeds_one : (names others : List (List ℕ)) (published also : Bool) (next after : Machine) → SucceedsAfter machine last asked names published next
       → SucceedsAfter machine last asked others also after → (names ≡ others) × (published ≡ also) × (next ≡ after)
   after_succeeds_one names others published also next after (may, (trees, gives, one)) (may_too, (ts, gives_too, other)) =
-      succeeds_one written machine last version tag trees model once names others published also next after one
-      (subst (λ (list : List (ℕ × PlainTree)). Succeeds machine last version tag list others also after) (sym (same_trees trees ts gives gives_too)) other)
+      succeeds_one written machine last version tag with_snapshot trees model once names others published also next after one
+      (subst (λ (list : List (ℕ × PlainTree)). Succeeds machine last version tag with_snapshot list others also after) (sym (same_trees trees ts gives gives_too)) other)
 
   -- ---- a cycle that succeeds is not refused
 
@@ -331,14 +340,15 @@ module _ (written : WrittenOnce) (machine : Machine) (last : Published) (asked :
   after_succeeds_not names published next refusal (may, more) (inl not) = may_apart store last.version version tag refusal not may
   after_succeeds_not names published next refusal (may, (trees, gives, one)) (inr (may_too, inl none)) = no_trees_apart last asked.add refusal trees gives none
   after_succeeds_not names published next refusal (may, (trees, gives, one)) (inr (may_too, inr (passed, is, (others, gives_too, kind)))) =
-      succeeds_not written machine last version tag trees model once names published next passed one
-      (subst (λ (list : List (ℕ × PlainTree)). PassKind written machine last version tag list model once passed) (sym (same_trees trees others gives gives_too)) kind)
+      succeeds_not written machine last version tag with_snapshot trees model once names published next passed one
+      (subst (λ (list : List (ℕ × PlainTree)). PassKind written machine last version tag with_snapshot list model once passed) (sym (same_trees trees others gives gives_too)) kind)
 
 -- ---- the order
 
--- a producer's model is a model, and no row stands twice in its rows
+-- a producer's model is a model, and its rows are a table of it, in which no row stands twice
 pub record IsOnce (last : Published) : Type 0 where
   pub model : IsModel last.model
+  pub rows : IsTableOf last.model last.rows
   pub once : HoldsOnce last.rows
 
 abbrev RefusalOf : Machine → AskedCycle → Refusal → Type 0

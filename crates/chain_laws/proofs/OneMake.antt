@@ -6,6 +6,7 @@ use Rattle.film_script.specs.Films.{film_schemas}
 use Rattle.hol_io.specs.Store.{Store}
 use Rattle.schema_model.specs.Model.{IsModel}
 use Rattle.row_model.specs.Table.{Table}
+use Rattle.write_engine.proofs.ClosedStates.{none_closed}
 use Rattle.hol_answers.specs.Reply.{is_refusal}
 use Rattle.hol_answers.specs.declared.refusal.Refusal.{Refusal}
 use Rattle.hol_answers.specs.declared.reply.Made.{Made}
@@ -147,7 +148,7 @@ module _ (written : WrittenOnce) (seed rows : ℕ) (machine : Machine) (sound : 
 
 -- the producer of the script has published nothing
 script_sound : IsModel film_schemas → (store : Store) → IsSoundMachine (film_machine store)
-script_sound model store = (record { model = model; once = none_once (length film_schemas) }, tt)
+script_sound model store = (record { model = model; rows = (none_closed film_schemas).fits; once = none_once (length film_schemas) }, tt)
 
 pub makes_one : WrittenOnce → IsModel film_schemas → (store : Store) (next after : Machine) (seed rows cycles : ℕ) (one other : Reply) → Makes store seed rows cycles one next
     → Makes store seed rows cycles other after → (one ≡ other) × (next ≡ after)

@@ -63,7 +63,7 @@ module _ (value : Data) where
         | inr free ↦ absurd free
       ]
 
-  breaks_one : (rule other : Rule) (t u : ℕ) → BreaksRule value rule t → BreaksRule value other u → (rule ≡ other) × (t ≡ u)
+  pub breaks_one : (rule other : Rule) (t u : ℕ) → BreaksRule value rule t → BreaksRule value other u → (rule ≡ other) × (t ≡ u)
   breaks_one rule other t u (inl (schemas, stands, first)) (inl (others, also, first_too)) =
       let same = one_list value others schemas also stands in
       broken_one schemas rule other t u first (subst (λ (s : List Schema). IsFirstBroken s other u) same first_too)
@@ -71,12 +71,12 @@ module _ (value : Data) where
   breaks_one rule other t u (inr is) (inl (schemas, stands, first)) = absurd (no_float schemas rule t stands is)
   breaks_one rule other t u (inr is) (inr also) = refused_one rule other t u is also
 
-  breaks_not : (schemas : List Schema) (rule : Rule) (t : ℕ) → StandsFor value schemas → IsModel schemas → BreaksRule value rule t → ⊥
+  pub breaks_not : (schemas : List Schema) (rule : Rule) (t : ℕ) → StandsFor value schemas → IsModel schemas → BreaksRule value rule t → ⊥
   breaks_not schemas rule t stands model (inl (others, also, first)) =
       let same = one_list value others schemas also stands in model rule t (subst (λ (s : List Schema). BreaksAt s rule t) same first.broken)
   breaks_not schemas rule t stands model (inr is) = no_float schemas rule t stands is
 
-  named_one : (t : ℕ) (a b : List ℕ) → IsNamed value t a → IsNamed value t b → a ≡ b
+  pub named_one : (t : ℕ) (a b : List ℕ) → IsNamed value t a → IsNamed value t b → a ≡ b
   named_one t a b one other = by_schema (at t value) one other
     where
       by_schema : (found : Option Data) → IsSomeAnd found (λ schema. HasText schema (codes "name") a) → IsSomeAnd found (λ schema. HasText schema (codes "name") b) → a ≡ b

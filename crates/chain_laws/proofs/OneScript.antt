@@ -29,7 +29,9 @@ OrderOnce = (line : List ℕ) (one other : Order) → Orders line one → Orders
 
 pub known : (store : Store) (chain : Chain) (producer : Option Published) → KeepsChain store chain → IsProducerOf chain producer → IfSome producer IsOnce
 known store chain None kept over = tt
-known store chain (Some last) kept over = record { model = over.model; once = (last_is store chain last kept over).once }
+known store chain (Some last) kept over =
+    let is = last_is store chain last kept over in
+    record { model = over.model; rows = is.state.rows; once = is.once }
 
 module _ (written : WrittenOnce) (machine : Machine) (sound : IsSoundMachine machine) (one other : Reply) (next after : Machine) where
   pub steps_one : (a b : Order) → asking a ≡ asking b → Step machine a one next → Step machine b other after → SaysOne one other × (next ≡ after)

@@ -1,11 +1,13 @@
--- Going along a plan over a store that holds a chain: no blob is refused, and the consumer comes to the version.
+-- Going along a plan over a store that holds a chain whose models agree: no blob is refused, and the consumer comes to the version.
 use Rattle.std.proofs.Common.{◌≡◌, ℕ, List, [], ◌∷◌, true, false, length, Option, Some, None, inl, inr, refl, sym, ap, subst, ◌∙◌, arith}
-use Rattle.std.specs.Prelude.{Contains}
+use Rattle.std.specs.Prelude.{Contains, IsSomeAnd}
 use Rattle.std.specs.FinMap.{get}
 use Rattle.std.specs.Option.{option_map}
 use Rattle.hol_io.specs.declared.name.BlobName.{BlobName}
 use Rattle.hol_io.specs.declared.name.BlobName.TheVariants.{Announced, Delta, Reverse, Snapshot}
 use Rattle.hol_io.specs.Store.{Store, names}
+use Rattle.schema_model.specs.declared.schema.Schema.{Schema}
+use Rattle.schema_model.specs.Growth.{ModelsAgree}
 use Rattle.hol_plan.specs.Walk.{IsWalk, Leads}
 use Rattle.hol_answers.specs.declared.refusal.Refusal.{Refusal}
 use Rattle.hol_answers.specs.declared.reply.Progress.{Progress}
@@ -17,17 +19,32 @@ use Rattle.hollow_machine.specs.PlanOrders.{Applies, Goes, GotoStep}
 use Rattle.hollow_machine.specs.State.{Machine}
 use Rattle.hollow_machine.specs.StepOrder.{StepRefusal, StepStep}
 use Rattle.written_laws.specs.Chain.{Chain, ChainState, HasVersion}
-use Rattle.written_laws.specs.HoldsChain.{HoldsChain}
-use Rattle.chain_laws.specs.Consumers.{Arrives, IsReaderAt, IsReaderOf}
-use Rattle.chain_laws.proofs.ConsumerMoves.{IsBetween, one}
-use Rattle.chain_laws.proofs.ConsumerOrders.{can_take, load_only, no_refusal}
+use Rattle.written_laws.specs.HoldsChain.{HoldsChain, IsStep, IsThere, later_of}
+use Rattle.written_laws.specs.SeenChain.{IsAgreeing}
+use Rattle.written_laws.proofs.ChainSteps.{step_agrees}
+use Rattle.chain_laws.specs.Consumers.{Agrees, Arrives, IsIn, IsReaderAt, IsReaderOf, ModelsOfChainAgree}
+use Rattle.chain_laws.proofs.ConsumerMoves.{IsBetween, begins_at, can_take, delta_of, is_step, model_in, one}
+use Rattle.chain_laws.proofs.ConsumerOrders.{load_only, no_refusal}
 use Rattle.chain_laws.proofs.PlanLaws.{applied_leaves, gone_leaves}
 use Rattle.chain_laws.proofs.StoreNames.{found, found_with, name_is}
 use Rattle.chain_laws.proofs.TypedConsumers.{typed_in}
 
+-- a delta that is there agrees with a consumer's model that agrees with that of the later of its states
+pub agrees_there : (machine : Machine) (chain : Chain) (name : BlobName) (now : Position) (state : ChainState) → HoldsChain machine.store chain → IsIn chain now → IsStep name → IsThere machine.store name
+    → HasVersion chain (later_of name) state → ModelsAgree now.schemas state.model → Agrees machine.store name now.schemas
+agrees_there machine chain name now state holds is of_step there at agree =
+    let (blob, stored) = found (get machine.store name) there in
+    let agreeing = step_agrees machine.store chain holds now.schemas (model_in machine.store chain holds now is) name blob of_step stored
+    (λ other also. (let same : state ≡ other = one machine.store chain holds (later_of name) state other at also in subst (λ (s : ChainState). ModelsAgree now.schemas s.model) same agree)) in
+    subst (λ (content : Option (List ℕ)). IsSomeAnd content (IsAgreeing now.schemas)) (sym stored) agreeing
+
 -- ---- no blob is refused
 
-module _ (machine : Machine) (chain : Chain) (holds : HoldsChain machine.store chain) (of : IsReaderOf chain machine) where
+module _ (machine : Machine) (chain : Chain) (agree : ModelsOfChainAgree chain) (holds : HoldsChain machine.store chain) (of : IsReaderOf chain machine) where
+  -- the model of a consumer agrees with each of the chain
+  all_agree : (now : Position) → IsIn chain now → (version : ℕ) (state : ChainState) → HasVersion chain version state → ModelsAgree now.schemas state.model
+  all_agree now is version state there = subst (λ (m : List Schema). ModelsAgree m state.model) is.home.model (agree is.home.version version is.home.state state is.home.there there)
+
   -- a delta of the store that starts at the consumer's version is taken
   step_not : (name : BlobName) (begin end : ℕ) (blob : List ℕ) (refusal : Refusal) (next : Machine) → IsBetween name begin end → machine.version ≡ Some begin → get machine.store name ≡ Some blob
       → StepStep machine name end (reply.Refused refusal) next → ⊥
@@ -42,9 +59,12 @@ module _ (machine : Machine) (chain : Chain) (holds : HoldsChain machine.store c
           let (is, at_version, old) = subst (λ (consumer : Option Position). IsReaderAt chain consumer machine.version machine.past) was of in
           let both : Some is.version ≡ Some begin = sym at_version ∙ at_begin in
           let here : is.version ≡ begin = cc in
-          let (to, steps) = can_take machine.store chain name begin end now holds between is blob at
-          (λ from there. (let same : from ≡ is.state = one machine.store chain holds begin from is.state there (subst (λ (v : ℕ). HasVersion chain v is.state) here is.there) in
-          ap (λ (s : ChainState). s.tag) same ∙ sym is.stands.tag)) in
+          let of_step = is_step name begin end between in
+          let agreeing = step_agrees machine.store chain holds now.schemas (model_in machine.store chain holds now is) name blob of_step at (all_agree now is (later_of name)) in
+          let (from, next_state, begins, ends, own, patch, delta_is) = delta_of machine.store chain holds name blob begin end between at in
+          let same : from ≡ is.state = one machine.store chain holds begin from is.state begins (subst (λ (v : ℕ). HasVersion chain v is.state) here is.there) in
+          let origin : agreeing.head.origin ≡ now.tag = begins_at own blob from.tag next_state.tag patch agreeing.head agreeing.parts delta_is agreeing.items ∙ ap (λ (s : ChainState). s.tag) same ∙ sym is.sees.tag in
+          let (to, steps) = can_take machine.store chain holds name blob now of_step at is agreeing origin in
           no_refusal name (get machine.store name) blob now to at (typed_in chain (Some now) holds.sound is) steps refusal
           (subst (λ (consumer : Option Position). StepRefusal name (get machine.store name) consumer refusal) was step.0)
 
@@ -83,17 +103,17 @@ applied_version machine Announced middle answer next leads applies taken = absur
 
 -- ---- the walk
 
-walked : (blobs : List BlobName) (machine : Machine) (chain : Chain) → HoldsChain machine.store chain → IsReaderOf chain machine → (wanted applied : ℕ) (refused : Option Refusal) (next : Machine)
+walked : (blobs : List BlobName) (machine : Machine) (chain : Chain) → ModelsOfChainAgree chain → HoldsChain machine.store chain → IsReaderOf chain machine → (wanted applied : ℕ) (refused : Option Refusal) (next : Machine)
     → IsWalk (names machine.store) machine.version wanted blobs → Goes machine blobs applied refused next → (refused ≡ None) × (applied ≡ length blobs) × (next.version ≡ Some wanted)
-walked [] machine chain holds of wanted applied refused next walk goes = (goes.1, goes.0, ap (λ (m : Machine). m.version) goes.2 ∙ walk)
-walked (name ∷ blobs) machine chain holds of wanted applied refused next (listed, (middle, (leads, onward))) (inl (refusal, applies, none, why)) =
-    absurd (never_refused machine chain holds of name middle refusal next listed leads applies)
-walked (name ∷ blobs) machine chain holds of wanted applied refused next (listed, (middle, (leads, onward))) (inr (answer, between, behind, applies, taken, count, goes)) =
+walked [] machine chain agree holds of wanted applied refused next walk goes = (goes.1, goes.0, ap (λ (m : Machine). m.version) goes.2 ∙ walk)
+walked (name ∷ blobs) machine chain agree holds of wanted applied refused next (listed, (middle, (leads, onward))) (inl (refusal, applies, none, why)) =
+    absurd (never_refused machine chain agree holds of name middle refusal next listed leads applies)
+walked (name ∷ blobs) machine chain agree holds of wanted applied refused next (listed, (middle, (leads, onward))) (inr (answer, between, behind, applies, taken, count, goes)) =
     let left = applied_leaves machine name answer between applies in
     let at = applied_version machine name middle answer between leads applies taken in
     let walk = subst (λ (s : Store). IsWalk (names s) between.version wanted blobs) (sym left.store)
     (subst (λ (v : Option ℕ). IsWalk (names machine.store) v wanted blobs) (sym at) onward) in
-    let (none, all, there) = walked blobs between chain (subst (λ (s : Store). HoldsChain s chain) (sym left.store) holds) (left.moves chain holds of) wanted behind refused next walk goes in
+    let (none, all, there) = walked blobs between chain agree (subst (λ (s : Store). HoldsChain s chain) (sym left.store) holds) (left.moves chain holds of) wanted behind refused next walk goes in
     (none, omega (arith, count, all), there)
 
 -- where a consumer is that is at a version of the chain
@@ -111,13 +131,13 @@ arrived chain version progress next none all at tag (Some position) is (is_in, a
       there = subst (λ (v : ℕ). HasVersion chain v is_in.state) same is_in.there;
       position = position;
       is = is;
-      stands = is_in.stands;
-      tag = tag ∙ ap (option_map (λ (now : Position). now.tag)) is ∙ ap Some is_in.stands.tag;
+      sees = is_in.sees;
+      tag = tag ∙ ap (option_map (λ (now : Position). now.tag)) is ∙ ap Some is_in.sees.tag;
     }
 
-pub goto_arrives : (machine next : Machine) (chain : Chain) (wanted : ℕ) (progress : Progress) → HoldsChain machine.store chain → IsReaderOf chain machine → GotoStep machine wanted (reply.Goto progress) next
+pub goto_arrives : (machine next : Machine) (chain : Chain) (wanted : ℕ) (progress : Progress) → ModelsOfChainAgree chain → HoldsChain machine.store chain → IsReaderOf chain machine → GotoStep machine wanted (reply.Goto progress) next
     → Arrives chain wanted progress next
-goto_arrives machine next chain wanted progress holds of (plan, is, count, goes, tag) =
-    let (none, all, at) = walked plan machine chain holds of wanted progress.applied progress.refused next is.walks goes in
+goto_arrives machine next chain wanted progress agree holds of (plan, is, count, goes, tag) =
+    let (none, all, at) = walked plan machine chain agree holds of wanted progress.applied progress.refused next is.walks goes in
     let reader = (gone_leaves plan machine progress.applied progress.refused next goes).moves chain holds of in
     arrived chain wanted progress next none (all ∙ sym count) at tag next.consumer refl reader

@@ -1,11 +1,16 @@
 -- The laws of the order `restore`.
-use Rattle.std.proofs.Common.{◌≡◌, ℕ, true, Some, inl, inr, refl, sym, subst, arith}
+use Rattle.std.proofs.Common.{◌≡◌, ◌∙◌, ℕ, List, Some, inl, inr, refl, sym, ap, subst, arith}
 use Rattle.std.specs.Prelude.{IsTrue}
 use Rattle.hol_io.specs.declared.name.BlobName.TheVariants.{Announced}
 use Rattle.hol_io.specs.Store.{Store, told}
+use Rattle.schema_model.specs.declared.schema.Schema.{Schema}
+use Rattle.schema_model.specs.Growth.{Grows}
+use Rattle.schema_growth.proofs.Growths.{grows_itself}
+use Rattle.seen_rows.proofs.Views.{own_view}
 use Rattle.write_engine.specs.Agreement.{HoldsOnce}
 use Rattle.snapshot_blob.proofs.StoredRows.{stored_rows}
 use Rattle.read_engine.specs.Position.{Position, rows_now}
+use Rattle.step_laws.proofs.Positions.{load_position}
 use Rattle.hol_orders.specs.declared.kind.Kind.{Kind}
 use Rattle.hol_answers.specs.declared.reply.Reply.{Reply}
 use Rattle.hol_answers.specs.declared.reply.Reply.TheVariants as reply
@@ -13,13 +18,14 @@ use Rattle.hollow_machine.specs.RestoreOrder.{IsLast, IsStored, RestoreStep, pro
 use Rattle.hollow_machine.specs.State.{Machine}
 use Rattle.written_laws.specs.Chain.{Chain, ChainState, HasVersion}
 use Rattle.written_laws.specs.HoldsChain.{HoldsChain}
+use Rattle.written_laws.specs.SeenChain.{seen_in}
 use Rattle.chain_laws.specs.Consumers.{IsReaderOf}
 use Rattle.chain_laws.specs.Producers.{IsAt, IsOver, IsProducerOf, KeepsChain}
 use Rattle.chain_laws.proofs.ConsumerMoves.{loads_state}
 use Rattle.chain_laws.proofs.Lawful.{IsLawful, IsSoundMachine, KeepsOf, same_keeps, same_of, says_both, stays_sound}
 use Rattle.chain_laws.proofs.OneCycle.{IsOnce}
 use Rattle.chain_laws.proofs.OneRestore.{one_restore}
-use Rattle.chain_laws.proofs.ReadTexts.{loaded_texts}
+use Rattle.byte_laws.proofs.ReadTexts.{loaded_texts}
 use Rattle.chain_laws.proofs.StoreNames.{announces_version, one_announced}
 
 -- ---- what the snapshot of the announced version is
@@ -41,9 +47,16 @@ module _ (store : Store) (chain : Chain) (holds : HoldsChain store chain) (versi
         let (state, there, published) = last_state in
         let (blob, at, loads) = stored in
         let stands = loads_state store chain holds version state blob position there at loads in
-        let same : state ≡ record { tag = position.tag; parent = state.parent; published = true; model = position.schemas; table = rows_now position } =
-        λ i. record { tag = sym stands.tag i; parent = state.parent; published = published i; model = sym stands.model i; table = sym stands.rows i } in
-        record { parent = state.parent; there = subst (λ (s : ChainState). HasVersion chain version s) same there; stored = stored_rows blob loads.0 loads.1.0 position.schemas position.halves loads.1.1 }
+        let sound = holds.sound.sound version state there in
+        record {
+          state = state;
+          there = there;
+          published = published;
+          tag = stands.tag;
+          grows = subst (λ (m : List Schema). Grows state.model m) (sym stands.model) (grows_itself state.model);
+          rows = stands.rows ∙ sym (own_view state.model state.table sound.model sound.rows) ∙ ap (λ (m : List Schema). seen_in m state) (sym stands.model);
+          stored = stored_rows blob loads.0 loads.1.0 position.schemas position.halves loads.1.1;
+        }
 
     -- so a producer that is restored of it is one of the chain
     restored_over : IsOver chain (producer_at position version)
@@ -63,7 +76,9 @@ restore_keeps machine chain kept over line order orders version asks_it (reply.R
 restore_keeps machine chain kept over line order orders version asks_it _ next step = absurd step
 
 restored_once : (position : Position) (version : ℕ) (store : Store) → IsStored store version position → HoldsOnce (rows_now position) → IsOnce (producer_at position version)
-restored_once position version store (blob, at, (head, accepted, tag, before, bare)) once = record { model = accepted.1.state.model; once = once }
+restored_once position version store (blob, at, loads) once =
+    let is = load_position blob position loads in
+    record { model = is.model; rows = is.rows; once = once }
 
 restore_sound : (machine : Machine) → IsSoundMachine machine → (version : ℕ) (answer : Reply) (next : Machine) → RestoreStep machine version answer next → IsSoundMachine next
 restore_sound machine sound version (reply.Restore tag restored) next (is, last, (position, stored, once, tag_is, next_is)) =

@@ -1,6 +1,6 @@
--- Over a store that holds a chain the announced version is restored, as the state of the chain that it is.
-use Rattle.std.proofs.Common.{◌≡◌, ℕ, ℤ, Some, inl, inr, refl, sym, ap, subst, ◌∙◌}
-use Rattle.std.specs.Prelude.{IsSome, IsTrue}
+-- Over a store that holds a chain the announced version is restored, where its snapshot is there, as the state of the chain that it is.
+use Rattle.std.proofs.Common.{◌≡◌, ℕ, ℤ, Some, refl, sym, ap, subst, ◌∙◌}
+use Rattle.std.specs.Prelude.{IsSome}
 use Rattle.hol_io.specs.declared.name.BlobName.TheVariants.{Snapshot}
 use Rattle.row_model.specs.Table.{Table}
 use Rattle.row_model.proofs.RowsFrom.{get_in}
@@ -18,11 +18,7 @@ use Rattle.chain_laws.proofs.ConsumerOrders.{can_load}
 use Rattle.chain_laws.proofs.OneRestore.{one_restore}
 use Rattle.chain_laws.proofs.RestoreLaws.{last_state}
 
-module _ (machine : Machine) (chain : Chain) (holds : HoldsChain machine.store chain) (version : ℕ) (last : IsLast machine.store version) where
-  -- the snapshot of a published state is there
-  whole : (state : ChainState) → HasVersion chain version state → IsTrue state.published → IsThere machine.store (Snapshot version)
-  whole state there published = elim (holds.all version state there) [ inl root ↦ root.1 | inr step ↦ step.whole published ]
-
+module _ (machine : Machine) (chain : Chain) (holds : HoldsChain machine.store chain) (version : ℕ) (last : IsLast machine.store version) (whole : IsThere machine.store (Snapshot version)) where
   -- no row stands twice in a state of the chain
   state_once : (state : ChainState) (position : Position) → HasVersion chain version state → StandsAt state position → HoldsOnce (rows_now position)
   state_once state position there stands =
@@ -45,7 +41,7 @@ module _ (machine : Machine) (chain : Chain) (holds : HoldsChain machine.store c
   restored : IsRestored
   restored =
       let (state, there, published) = last_state machine.store chain holds version last in
-      let (blob, position, at, loads) = can_load machine chain version state holds there (whole state there published) in
+      let (blob, position, at, loads) = can_load machine chain version state holds there whole in
       let stands = loads_state machine.store chain holds version state blob position there at loads in
       record {
         state = state;

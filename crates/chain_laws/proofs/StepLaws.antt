@@ -31,7 +31,7 @@ past_in chain bound now consumer is version past was at old =
     subst (λ (c : Option Position). All (IsOld chain now.schemas) (past_behind bound c version past)) (sym was)
     (subst (λ (v : Option ℕ). All (IsOld chain now.schemas) (past_behind bound (Some now) v past)) (sym at)
     (All-take (IsOld chain now.schemas) bound ((is.version, rows_now now) ∷ past)
-    (All-cons (IsOld chain now.schemas) (is.version, rows_now now) past (is.state, is.there, sym is.stands.model, is.stands.rows) old)))
+    (All-cons (IsOld chain now.schemas) (is.version, rows_now now) past (is.state, is.there, is.sees.rows) old)))
 
 -- a step along a blob of the chain leaves a consumer at its second version
 moved_reader : (machine : Machine) (chain : Chain) (holds : HoldsChain machine.store chain) (name : BlobName) (begin version : ℕ) → IsBetween name begin version → (blob : List ℕ) (now position : Position)

@@ -6,7 +6,7 @@ use Rattle.std.specs.Int.{w64}
 use Rattle.std.specs.FinMap.{insert}
 use Rattle.std.proofs.lemmas.Bool.{cases_lt}
 use Rattle.std.proofs.lemmas.List.{append-nil, take_all}
-use Rattle.std.proofs.lemmas.List.Elements.{All-head}
+use Rattle.std.proofs.lemmas.List.Elements.{All-head, All-tail}
 use Rattle.film_script.specs.Films.{cycle_tag, film_schemas}
 use Rattle.hol_io.specs.declared.name.BlobName.TheVariants.{Announced, Delta, Reverse, Snapshot}
 use Rattle.hol_io.specs.Name.{IsVersion}
@@ -56,7 +56,7 @@ module _ (machine : Machine) (chain : Chain) (kept : KeepsChain machine.store ch
     begun = insert chain asked.version (state_begun last asked.tag rows)
 
     -- not all puts: the state is not published
-    part_holds : ArePutsOf last rows asked.version asked.tag puts → first.count < length puts → HoldsChain store begun
+    part_holds : ArePutsOf last rows asked.version asked.tag asked.snapshot puts → first.count < length puts → HoldsChain store begun
     part_holds (limits, (blobs, inl (zero_before, (snapshot, written, is)), short, puts_are)) part =
         let all = subst (All IsShort) is short in
         let these : puts ≡ (Snapshot asked.version, snapshot) ∷ (Announced, decimal asked.version) ∷ [] = puts_are ∙ ap (λ (bs : List Put). puts_of bs asked.version) is in
@@ -65,24 +65,26 @@ module _ (machine : Machine) (chain : Chain) (kept : KeepsChain machine.store ch
         subst (λ (s : Store). HoldsChain s begun) (sym store_is)
         (first_held machine.store chain last asked.version asked.tag trees rows kept is_over (writable machine chain kept over last is_over) may is_version fits makes.state limits false
         snapshot zero_before written (all 0 (Announced, []) (omega arith)) not_published)
-    part_holds (limits, (blobs, inr (nonzero, (delta, reverse, snapshot, forward, back, written, is)), short, puts_are)) part =
+    part_holds (limits, (blobs, inr (nonzero, (delta, reverse, whole, forward, back, written, is)), short, puts_are)) part =
         let all = subst (All IsShort) is short in
-        let later : List Put =
-        (Delta last.version asked.version, delta) ∷ (Reverse asked.version last.version, reverse) ∷ (Snapshot asked.version, snapshot) ∷ (Announced, decimal asked.version) ∷ [] in
+        let to_it : Put = (Delta last.version asked.version, delta) in
+        let from_it : Put = (Reverse asked.version last.version, reverse) in
+        let behind = All-tail IsShort to_it (from_it ∷ whole) all in
+        let later : List Put = puts_of (to_it ∷ from_it ∷ whole) asked.version in
         let these : puts ≡ later = puts_are ∙ ap (λ (bs : List Put). puts_of bs asked.version) is in
-        let few : first.count < 4 = (let many = ap length these in omega (arith, part, many)) in
+        let few : first.count < length later = (let many = ap length these in omega (arith, part, many)) in
         let store_is : store ≡ put_all machine.store (take first.count later) = first.put ∙ ap (λ (ps : List Put). put_all machine.store (take first.count ps)) these in
         subst (λ (s : Store). HoldsChain s begun) (sym store_is)
         (later_held machine.store chain last asked.version asked.tag trees rows kept is_over (writable machine chain kept over last is_over) may is_version fits makes.state limits false
-        delta reverse snapshot nonzero forward back written (all 0 (Announced, []) (omega arith)) (all 1 (Announced, []) (omega arith)) (all 2 (Announced, []) (omega arith)) not_published
-        first.count first.some few)
+        asked.snapshot delta reverse whole nonzero forward back written (All-head IsShort to_it (from_it ∷ whole) all) (All-head IsShort from_it whole behind) (All-tail IsShort from_it whole behind)
+        not_published first.count first.some few)
 
     -- all puts: it is published
-    all_holds : ArePutsOf last rows asked.version asked.tag puts → length puts ≤ first.count → HoldsChain store (insert chain asked.version (state_behind last asked.tag rows))
+    all_holds : ArePutsOf last rows asked.version asked.tag asked.snapshot puts → length puts ≤ first.count → HoldsChain store (insert chain asked.version (state_behind last asked.tag rows))
     all_holds (limits, (blobs, are, short, puts_are)) all =
         let store_is : store ≡ put_all machine.store (puts_of blobs asked.version) = first.put ∙ ap (put_all machine.store) (take_all first.count puts all ∙ puts_are) in
         subst (λ (s : Store). HoldsChain s (insert chain asked.version (state_behind last asked.tag rows))) (sym store_is)
-        (puts_keep machine chain kept over last asked.version asked.tag trees rows changed blobs is_over is_version fits may makes limits are short (writable machine chain kept over last is_over)).holds
+        (puts_keep machine chain kept over last asked.version asked.tag asked.snapshot trees rows changed blobs is_over is_version fits may makes limits are short (writable machine chain kept over last is_over)).holds
 
   -- the chain with the state that the cycle of this producer asks for, published or not
   abbrev Added : Published → AskedCycle → Store → Type 0

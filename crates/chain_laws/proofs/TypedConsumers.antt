@@ -32,6 +32,7 @@ use Rattle.delta_blob.proofs.SeenParts.{IsPlainPart, there_plain}
 use Rattle.read_engine.specs.Position.{IsPosition, Position, rows_now}
 use Rattle.read_engine.specs.Taking.{LoadsFrom, StepsBy}
 use Rattle.written_laws.specs.Chain.{Chain, IsChain}
+use Rattle.written_laws.proofs.SeenStates.{seen_table}
 use Rattle.chain_laws.specs.Consumers.{IsConsumerOf}
 
 -- each row fits its type
@@ -49,16 +50,16 @@ pub typed_if : (consumer : Option Position) → IfSome consumer IsPosition → I
 typed_if None is = tt
 typed_if (Some now) is = record { names = is.model DuplicateName; types = is.rows.types; rows = is.rows.rows }
 
--- and of one that stands at a state of a chain
+-- and of one that sees a state of a chain
 pub typed_in : (chain : Chain) (consumer : Option Position) → IsChain chain → IsConsumerOf chain consumer → IfSome consumer IsTyped
 typed_in chain None sound of = tt
 typed_in chain (Some now) sound of =
-    let state = sound.sound of.version of.state of.there in
-    let fits = subst (λ (s : List Schema). FitTypes s of.state.table) (sym of.stands.model) state.rows.rows in
+    let home = sound.sound of.home.version of.home.state of.home.there in
+    let seen = seen_table chain now.schemas of.version of.state sound of.there of.quiet in
     record {
-      names = subst (λ (m : List Schema). IsKept m DuplicateName) (sym of.stands.model) (state.model DuplicateName);
-      types = ap (λ (t : Table). length t) of.stands.rows ∙ state.rows.types ∙ ap (λ (m : List Schema). length m) (sym of.stands.model);
-      rows = subst (λ (t : Table). FitTypes now.schemas t) (sym of.stands.rows) fits;
+      names = subst (λ (m : List Schema). IsKept m DuplicateName) of.home.model (home.model DuplicateName);
+      types = ap (λ (t : Table). length t) of.sees.rows ∙ seen.types;
+      rows = subst (λ (t : Table). FitTypes now.schemas t) (sym of.sees.rows) seen.rows;
     }
 
 zip_count : {X Y : Type 0} (R : X → Y → Type 0) (xs : List X) (ys : List Y) → AllZip R xs ys → length xs ≡ length ys

@@ -5,6 +5,7 @@ use Rattle.std.proofs.lemmas.Nat.{from_be_bytes-to_be_bytes_8}
 use Rattle.schema_model.specs.declared.schema.Schema.{Schema}
 use Rattle.row_model.specs.Table.{Table}
 use Rattle.blob_frame.specs.Header.{format_number}
+use Rattle.blob_writing.specs.Changes.{IsDeltaBetween}
 use Rattle.blob_writing.specs.Snapshot.{IsWrittenSnapshot}
 use Rattle.chain_store.specs.Tags.{HasTag}
 
@@ -18,4 +19,9 @@ tag_in_front bits origin destination rest small is = (
 pub snapshot_tagged : (schemas : List Schema) (old new : Table) (origin destination : ℤ) (blob : List ℕ) → cast_unsigned w64 destination < 2 ^ 64 → IsWrittenSnapshot schemas old new origin destination blob
     → HasTag (cast_unsigned w64 destination) blob
 snapshot_tagged schemas old new origin destination blob small is =
+    subst (HasTag (cast_unsigned w64 destination)) (sym is.is) (tag_in_front (cast_unsigned w64 destination) (cast_unsigned w64 origin) (cast_unsigned w64 destination) _ small refl)
+
+pub delta_tagged : (schemas : List Schema) (old new : Table) (origin destination : ℤ) (blob : List ℕ) → cast_unsigned w64 destination < 2 ^ 64 → IsDeltaBetween schemas old new origin destination blob
+    → HasTag (cast_unsigned w64 destination) blob
+delta_tagged schemas old new origin destination blob small is =
     subst (HasTag (cast_unsigned w64 destination)) (sym is.is) (tag_in_front (cast_unsigned w64 destination) (cast_unsigned w64 origin) (cast_unsigned w64 destination) _ small refl)

@@ -6,6 +6,7 @@ use Rattle.schema_model.specs.declared.schema.name.Name.{Name}
 use Rattle.hol_orders.specs.declared.kind.Kind.{Kind}
 use Rattle.hol_orders.specs.declared.order.Order.{Order}
 use Rattle.hol_orders.specs.declared.order.Order.TheVariants as order
+use Rattle.hol_answers.specs.declared.refusal.Refusal.TheVariants.{OtherModel}
 use Rattle.hol_answers.specs.Refusal.{other_origin}
 use Rattle.hol_answers.specs.declared.reply.Progress.{Progress}
 use Rattle.hol_answers.specs.declared.reply.Reply.{Reply}
@@ -19,16 +20,19 @@ use Rattle.hollow_machine.specs.State.{Machine, stepped_to}
 use Rattle.hollow_machine.specs.Step.{Step, form}
 use Rattle.hollow_machine.specs.StepOrder.{step_name}
 use Rattle.written_laws.specs.Chain.{Chain}
-use Rattle.chain_laws.specs.Consumers.{Arrives, Fresh, IsIn, IsReaderOf, StartsAt}
+use Rattle.chain_laws.specs.Consumers.{Agrees, Arrives, Fresh, IsIn, IsReaderOf, IsUnlikeAt, ModelsOfChainAgree, StartsAt}
 use Rattle.chain_laws.specs.Growth.{GrowsBy}
 use Rattle.chain_laws.specs.OldStates.{IsGotThen, IsRowThen, Reaches}
 use Rattle.chain_laws.specs.Producers.{IsProducerOf, KeepsChain}
 
--- A step along a blob of the store: where this starts where the consumer stands, it is taken, and leads to a state of the chain; where it starts
--- at another tag, it is refused as such, and nothing changes.
+-- A step along a blob of the store: where this starts where the consumer stands, and agrees with its model, it is taken, and leads to a state of the chain.
+-- Where it does not agree, it is refused for the first type that does not, and nothing changes; and where it starts at another tag, it is refused as such, and
+-- nothing changes.
 pub record IsTrueStep (chain : Chain) (machine : Machine) (from to : ℕ) (answer : Reply) (next : Machine) : Type 0 where
-  pub taken : (now : Position) → machine.consumer ≡ Some now → StartsAt machine.store (step_name from to) now.tag
+  pub taken : (now : Position) → machine.consumer ≡ Some now → StartsAt machine.store (step_name from to) now.tag → Agrees machine.store (step_name from to) now.schemas
       → (position : Position) × IsIn chain position × (answer ≡ reply.Step position.tag) × (next ≡ stepped_to machine to position)
+  pub unlike : (now : Position) → machine.consumer ≡ Some now → StartsAt machine.store (step_name from to) now.tag → ¬ Agrees machine.store (step_name from to) now.schemas
+      → (type_name : Name) × IsUnlikeAt machine.store (step_name from to) now.schemas type_name × (answer ≡ reply.Refused (OtherModel (step_name from to) type_name)) × (next ≡ machine)
   pub other : (now : Position) (origin : ℤ) → machine.consumer ≡ Some now → StartsAt machine.store (step_name from to) origin → origin ≢ now.tag
       → (answer ≡ reply.Refused (other_origin (step_name from to) origin now.tag)) × (next ≡ machine)
 
@@ -40,16 +44,19 @@ IsAsFresh chain machine asked answer = (fresh : Machine) → Fresh chain machine
 abbrev pub IsOfState : Kind → Type 0
 IsOfState kind = answers_of_state (form kind) ≡ true
 
--- What is promised of each order: of a step which are taken; of going to a version that no blob is refused; of what is answered of an older state, that it is
--- what is answered at that state; and of what is answered of the consumer's state, that the way to the state does not show.
+-- What is promised of each order: of a step which are taken; of going to a version that no blob is refused, where the models of the chain agree; of what is
+-- answered of an older state, that it is what is answered where that state is seen; and of what is answered of the consumer's state, that the way to the state does
+-- not show.
 pub record IsTrueOrder (chain : Chain) (machine : Machine) (asked : Order) (answer : Reply) (next : Machine) : Type 0 where
   pub moves : (from to : ℕ) → asked ≡ order.Step from to → IsTrueStep chain machine from to answer next
-  pub goes : (version : ℕ) (progress : Progress) → asked ≡ order.Goto version → answer ≡ reply.Goto progress → Arrives chain version progress next
-  pub was : (version : ℕ) (name : Name) (ordinal : ℕ) → asked ≡ order.Was version name ordinal → Reaches machine version → IsRowThen chain version name ordinal answer
-  pub wasget : (version : ℕ) (name : Name) (values : Value) → asked ≡ order.WasGet version name values → Reaches machine version → IsGotThen chain version name (view values) answer
+  pub goes : (version : ℕ) (progress : Progress) → asked ≡ order.Goto version → answer ≡ reply.Goto progress → ModelsOfChainAgree chain → Arrives chain version progress next
+  pub was : (now : Position) (version : ℕ) (name : Name) (ordinal : ℕ) → asked ≡ order.Was version name ordinal → machine.consumer ≡ Some now → Reaches machine version
+      → IsRowThen chain now.schemas version name ordinal answer
+  pub wasget : (now : Position) (version : ℕ) (name : Name) (values : Value) → asked ≡ order.WasGet version name values → machine.consumer ≡ Some now → Reaches machine version
+      → IsGotThen chain now.schemas version name (view values) answer
   pub fresh : IsOfState (kind_of asked) → IsAsFresh chain machine asked answer
 
--- The store keeps the chain, the producer is new or at a published state of it, and the consumer without a state or at one of it, with older ones of it.
+-- The store keeps the chain, the producer is new or at a published state of it, and the consumer without a state or sees one of it, with older ones of it.
 pub record StandsOn (chain : Chain) (machine : Machine) : Type 0 where
   pub kept : KeepsChain machine.store chain
   pub producer : IsProducerOf chain machine.producer

@@ -1,9 +1,10 @@
 -- What a producer has to do with a chain: it has published nothing, or it is at a published state of the chain.
-use Rattle.std.specs.Prelude.{◌≡◌, ◌⊎◌, ℕ, ℤ, Option, IfSome, All, IsUtf8, true}
+use Rattle.std.specs.Prelude.{◌≡◌, ◌⊎◌, ℕ, ℤ, Option, IfSome, All, IsTrue, IsUtf8, true}
 use Rattle.std.specs.FinMap.{get}
 use Rattle.hol_io.specs.declared.name.BlobName.{BlobName}
 use Rattle.hol_io.specs.Store.{Store}
 use Rattle.blob_grammar.specs.Decided.{AreBytes}
+use Rattle.schema_model.specs.Growth.{Grows}
 use Rattle.schema_model.specs.Model.{IsModel}
 use Rattle.schema_model.specs.Schema.{EachName}
 use Rattle.row_model.specs.Table.{Table, EachRow}
@@ -12,16 +13,21 @@ use Rattle.chain_store.specs.Tags.{IsTagTaken}
 use Rattle.state_blobs.specs.Published.{new_producer, Published}
 use Rattle.written_laws.specs.Chain.{Chain, ChainState, HasVersion}
 use Rattle.written_laws.specs.HoldsChain.{HoldsChain}
+use Rattle.written_laws.specs.SeenChain.{seen_in}
 
 -- The state that a producer publishes behind its last one: its model, and these rows under this tag.
 abbrev pub state_behind : Published → ℤ → Table → ChainState
 state_behind last tag rows = record { tag = tag; parent = last.version; published = true; model = last.model; table = rows }
 
--- The producer's last state is published in the chain, under its version, with its tag, model and rows, whichever state it follows; and a
--- blob can hold its rows, since none has a least INT or LONG.
+-- The producer's last state is a published one of the chain, under its version and with its tag, seen through the producer's model, which grows that of
+-- the state; and a blob can hold its rows, since none has a least INT or LONG.
 pub record IsAt (chain : Chain) (last : Published) : Type 0 where
-  pub parent : ℕ
-  pub there : HasVersion chain last.version (record { tag = last.tag; parent = parent; published = true; model = last.model; table = last.rows })
+  pub state : ChainState
+  pub there : HasVersion chain last.version state
+  pub published : IsTrue state.published
+  pub tag : last.tag ≡ state.tag
+  pub grows : Grows state.model last.model
+  pub rows : last.rows ≡ seen_in last.model state
   pub stored : EachRow last.model last.rows (λ schema row. IsStored row)
 
 -- A producer over the chain: it has a model, whose names are texts, and it is new or at a published state.

@@ -1,5 +1,5 @@
 -- The orders of the script of `make` in JSON: its model, and the records that a cycle adds.
-use Rattle.std.specs.Prelude.{◌*◌, ◌%◌, ℕ, List, ◌++◌, codes, decimal, filter, map}
+use Rattle.std.specs.Prelude.{◌*◌, ◌%◌, ℕ, List, None, ◌++◌, codes, decimal, filter, map}
 use Rattle.std.specs.List.{range_with_len}
 use Rattle.serde_json.specs.Data.{Data, array, object, string, no_items, item, no_members, member}
 use Rattle.serde_json.specs.View.{items_of}
@@ -66,6 +66,6 @@ abbrev pub films_data : ℕ → ℕ → ℕ → Data
 films_data seed rows cycle =
     object (member (codes "Film") (array (items_of (map (film_data seed cycle) (filter (is_shown cycle) (range_with_len 0 rows))))) no_members)
 
--- What the order of this cycle asks for: the films that it shows, under its number and its tag.
+-- What the order of this cycle asks for: the films that it shows, under its number and its tag. Whether its snapshot is put is not said.
 abbrev pub script_state : ℕ → ℕ → ℕ → AskedState
-script_state seed rows cycle = record { version = cycle; tag = cycle_tag seed cycle; add = films_data seed rows cycle }
+script_state seed rows cycle = record { version = cycle; tag = cycle_tag seed cycle; add = films_data seed rows cycle; snapshot = None }

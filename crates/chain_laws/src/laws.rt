@@ -1,11 +1,14 @@
 //! Laws of chains.
 ghost use Rattle.std.specs.Prelude.{◌≡◌, ◌≢◌, ◌≤◌, ◌↔◌, ◌^◌, ℕ, ℤ, List, [], ◌∷◌, ◌++◌, Bool, Some, IfSome, Contains, FitsSigned};
+ghost use Rattle.std.specs.FinMap.{get};
 ghost use Rattle.std.specs.Int.{w64};
 ghost use Rattle.serde_json.specs.View.{view};
 ghost use Rattle.serde_json.specs.declared.value.Value.{Value};
 ghost use Rattle.schema_model.specs.declared.schema.name.Name.{Name};
+ghost use Rattle.schema_model.specs.Growth.{ModelsAgree};
 ghost use Rattle.row_model.specs.Table.{Table};
 ghost use Rattle.film_script.specs.Films.{film_schemas, films};
+ghost use Rattle.hol_io.specs.declared.name.BlobName.{BlobName};
 ghost use Rattle.hol_io.specs.declared.name.BlobName.TheVariants.{Snapshot};
 ghost use Rattle.hol_io.specs.Name.{IsVersion};
 ghost use Rattle.hol_io.specs.Store.{Store};
@@ -16,7 +19,7 @@ ghost use Rattle.hol_orders.specs.declared.order.NextState.{NextState};
 ghost use Rattle.hol_orders.specs.declared.order.Order.{Order};
 ghost use Rattle.hol_orders.specs.declared.order.Order.TheVariants as order;
 ghost use Rattle.hol_answers.specs.declared.refusal.Difference.{Difference};
-ghost use Rattle.hol_answers.specs.declared.refusal.Refusal.TheVariants.{Mismatch};
+ghost use Rattle.hol_answers.specs.declared.refusal.Refusal.TheVariants.{Mismatch, OtherModel};
 ghost use Rattle.hol_answers.specs.Refusal.{other_origin};
 ghost use Rattle.hol_answers.specs.declared.reply.Progress.{Progress};
 ghost use Rattle.hol_answers.specs.declared.reply.Reply.{Reply};
@@ -37,10 +40,10 @@ ghost use Rattle.hollow_machine.specs.Puts.{CyclePuts};
 ghost use Rattle.hollow_machine.specs.Stopped.{StopsAfter, StopsBetween, StopsWithin};
 ghost use Rattle.hollow_machine.specs.StepOrder.{step_name};
 ghost use Rattle.written_laws.specs.Chain.{Chain, ChainState, HasVersion};
-ghost use Rattle.written_laws.specs.HoldsChain.{HoldsChain, IsThere};
+ghost use Rattle.written_laws.specs.HoldsChain.{HoldsChain, IsThere, later_of};
 ghost use Rattle.chain_laws.specs.Afresh.{AreAdded, AskForAll};
 ghost use Rattle.chain_laws.specs.Answers.{SaysOne};
-ghost use Rattle.chain_laws.specs.Consumers.{Arrives, Fresh, IsConsumerOf, IsIn, IsOld, IsReaderOf, StandsAt, StartsAt};
+ghost use Rattle.chain_laws.specs.Consumers.{Agrees, Arrives, Fresh, IsConsumerOf, IsIn, IsOld, IsReaderOf, IsUnlikeAt, ModelsAgreeAmong, ModelsOfChainAgree, StandsAt, StartsAt};
 ghost use Rattle.chain_laws.specs.Growth.{GrowsAlong, GrowsBy, GrowsByMake};
 ghost use Rattle.chain_laws.specs.Headline.{AreTrueLines, StandsOn, IsOfState};
 ghost use Rattle.chain_laws.specs.KeptIndexes.{AsksFor};
@@ -55,8 +58,8 @@ pub fn chain_is_kept()
     ensures { (store : Store) (chain : Chain) → HoldsChain store chain → HoldsBytes store → KeepsChain store chain }
 {}
 
-/// Where the store keeps a chain, and the producer is new or at a published state of it, or there is none, it is so after each line. The
-/// chain has the state more that the line published, or is the same.
+/// Where the store keeps a chain, and the producer is new or at a published state of it, seen through a model that grows the state's own, or there is none,
+/// it is so after each line. The chain has the state more that the line published, or is the same.
 pub fn line_keeps_chain()
     ensures { (machine next : Machine) (line : List ℕ) (reply : Reply) (chain : Chain)
         → LineStep machine line reply next → KeepsChain machine.store chain → IsProducerOf chain machine.producer
@@ -111,9 +114,9 @@ pub fn stopped_make_keeps_chain()
     film_script::laws::films_model();
 }
 
-/// A consumer without a state, or at one of the chain that the store keeps, is so after each line, over the chain that the line made. The state is that of
-/// the version to which its last load or step led, and the older states that are kept of it are those of versions of the chain. Its indexes are such as an
-/// order can ask for, and none is there twice.
+/// A consumer without a state, or that sees one of the chain that the store keeps through the model of one of it, is so after each line, over the chain that the
+/// line made. The state is that of the version to which its last load or step led, and the older states that are kept of it are those of versions of the chain, as
+/// they are seen through its model. Its indexes are such as an order can ask for, and none is there twice.
 pub fn line_keeps_consumer()
     ensures { (machine next : Machine) (line : List ℕ) (reply : Reply) (chain : Chain)
         → LineStep machine line reply next → KeepsChain machine.store chain → IsProducerOf chain machine.producer → IsReaderOf chain machine
@@ -130,14 +133,27 @@ pub fn script_keeps_consumer()
         → (after : Chain) × GrowsAlong (started store) lines text chain next after × KeepsChain next.store after × IsProducerOf after next.producer × IsReaderOf after next }
 {}
 
-/// A step whose blob the store has, and that starts where the consumer stands, is taken and not refused: it leads to a state of the chain.
+/// A step whose blob the store has, and that starts where the consumer stands and agrees with its model, is taken and not refused: it leads to a state of the
+/// chain. Where the blob does not agree, it is refused for the first type that does not, and nothing changes. It agrees where the consumer's model agrees with that
+/// of the later of the two states between which it leads.
 pub fn chain_step_taken()
     ensures taken { (machine : Machine) (chain : Chain) (from to : ℕ) (now : Position)
-        → HoldsChain machine.store chain → machine.consumer ≡ Some now → IsIn chain now → StartsAt machine.store (step_name from to) now.tag
+        → HoldsChain machine.store chain → machine.consumer ≡ Some now → IsIn chain now → StartsAt machine.store (step_name from to) now.tag → Agrees machine.store (step_name from to) now.schemas
         → (position : Position) × Step machine (order.Step from to) (reply.Step position.tag) (stepped_to machine to position) }
     ensures only { (machine next : Machine) (chain : Chain) (from to : ℕ) (now : Position) (answer : Reply)
-        → HoldsChain machine.store chain → machine.consumer ≡ Some now → IsIn chain now → StartsAt machine.store (step_name from to) now.tag → Step machine (order.Step from to) answer next
+        → HoldsChain machine.store chain → machine.consumer ≡ Some now → IsIn chain now → StartsAt machine.store (step_name from to) now.tag → Agrees machine.store (step_name from to) now.schemas
+        → Step machine (order.Step from to) answer next
         → (position : Position) × IsIn chain position × (answer ≡ reply.Step position.tag) × (next ≡ stepped_to machine to position) }
+    ensures unlike { (machine next : Machine) (chain : Chain) (from to : ℕ) (now : Position) (answer : Reply)
+        → HoldsChain machine.store chain → machine.consumer ≡ Some now → IsIn chain now → StartsAt machine.store (step_name from to) now.tag → ¬ Agrees machine.store (step_name from to) now.schemas
+        → Step machine (order.Step from to) answer next
+        → (type_name : Name) × IsUnlikeAt machine.store (step_name from to) now.schemas type_name × (answer ≡ reply.Refused (OtherModel (step_name from to) type_name)) × (next ≡ machine) }
+    ensures refused { (machine : Machine) (chain : Chain) (from to : ℕ) (now : Position) (type_name : Name)
+        → HoldsChain machine.store chain → machine.consumer ≡ Some now → IsIn chain now → StartsAt machine.store (step_name from to) now.tag
+        → IsUnlikeAt machine.store (step_name from to) now.schemas type_name → Step machine (order.Step from to) (reply.Refused (OtherModel (step_name from to) type_name)) machine }
+    ensures agrees { (machine : Machine) (chain : Chain) (from to : ℕ) (now : Position) (state : ChainState)
+        → HoldsChain machine.store chain → IsIn chain now → IsThere machine.store (step_name from to) → HasVersion chain (later_of (step_name from to)) state → ModelsAgree now.schemas state.model
+        → Agrees machine.store (step_name from to) now.schemas }
 {}
 
 /// A step whose blob starts at another tag than the consumer's is refused as such, and nothing changes, whatever else the store has.
@@ -151,7 +167,7 @@ pub fn other_origin_refused()
 {}
 
 /// Where the store has the snapshot of a version of the chain, loading it is not refused, and makes the consumer stand at the state of the
-/// version, without an index: where the consumer had its tag already, and no index, it has this state afresh.
+/// version, without an index: where the consumer had its tag and its model already, and no index, it has this state afresh.
 pub fn chain_load_taken()
     ensures taken { (machine : Machine) (chain : Chain) (version : ℕ) (state : ChainState)
         → HoldsChain machine.store chain → HasVersion chain version state → IsThere machine.store (Snapshot version)
@@ -161,43 +177,47 @@ pub fn chain_load_taken()
         → (position : Position) × StandsAt state position × (position.indexes ≡ []) × (answer ≡ reply.Load state.tag) × (next ≡ loaded_to machine version position) }
     ensures fresh { (machine next : Machine) (chain : Chain) (version : ℕ) (state : ChainState) (now : Position) (answer : Reply)
         → HoldsChain machine.store chain → HasVersion chain version state → IsThere machine.store (Snapshot version) → machine.consumer ≡ Some now → now.tag ≡ state.tag
-        → now.indexes ≡ [] → Step machine (order.Load version) answer next → Fresh chain machine next }
+        → now.schemas ≡ state.model → now.indexes ≡ [] → Step machine (order.Load version) answer next → Fresh chain machine next }
 {}
 
-/// Over a store that holds a chain no blob of the shortest list is refused, where the consumer has no state or is at a version of the chain: going to a
-/// version applies all of them, and the consumer stands at the version's state.
+/// Over a store that holds a chain whose models agree with each other no blob of the shortest list is refused, where the consumer has no state or is at a version
+/// of the chain: going to a version applies all of them, and the consumer sees the version's state.
 pub fn chain_goto_arrives()
     ensures { (machine next : Machine) (chain : Chain) (version : ℕ) (progress : Progress)
-        → HoldsChain machine.store chain → IsReaderOf chain machine → Step machine (order.Goto version) (reply.Goto progress) next → Arrives chain version progress next }
+        → HoldsChain machine.store chain → ModelsOfChainAgree chain → IsReaderOf chain machine → Step machine (order.Goto version) (reply.Goto progress) next → Arrives chain version progress next }
 {}
 
-/// What is kept of a consumer over a chain is that of the chain: the rows of a version are those of its state, which has the consumer's model. So what `was`
-/// answers of a version that is kept is what `row` answers where a consumer stands at that state, and what `wasget` answers is what `get` does, where an index
-/// by the primary key is kept.
+/// What is kept of a consumer over a chain is that of the chain: the rows of a version are what is seen of its state through the consumer's model. So what `was`
+/// answers of a version that is kept is what `row` answers where a consumer with this model sees that state, and what `wasget` answers is what `get` does, where
+/// an index by the primary key is kept.
 pub fn chain_old_rows()
     ensures rows { (machine : Machine) (chain : Chain) (now : Position) (version : ℕ) (table : Table)
         → IsReaderOf chain machine → machine.consumer ≡ Some now → rows_then now machine.version machine.past version ≡ Some table → IsOld chain now.schemas (version, table) }
-    ensures was { (machine next : Machine) (chain : Chain) (version : ℕ) (name : List ℕ) (ordinal : ℕ) (answer : Reply)
-        → IsReaderOf chain machine → Reaches machine version → Step machine (order.Was version name ordinal) answer next → IsRowThen chain version name ordinal answer }
-    ensures wasget { (machine next : Machine) (chain : Chain) (version : ℕ) (name : List ℕ) (values : Value) (answer : Reply)
-        → IsReaderOf chain machine → Reaches machine version → Step machine (order.WasGet version name values) answer next → IsGotThen chain version name (view values) answer }
+    ensures was { (machine next : Machine) (chain : Chain) (now : Position) (version : ℕ) (name : List ℕ) (ordinal : ℕ) (answer : Reply)
+        → IsReaderOf chain machine → machine.consumer ≡ Some now → Reaches machine version → Step machine (order.Was version name ordinal) answer next
+        → IsRowThen chain now.schemas version name ordinal answer }
+    ensures wasget { (machine next : Machine) (chain : Chain) (now : Position) (version : ℕ) (name : List ℕ) (values : Value) (answer : Reply)
+        → IsReaderOf chain machine → machine.consumer ≡ Some now → Reaches machine version → Step machine (order.WasGet version name values) answer next
+        → IsGotThen chain now.schemas version name (view values) answer }
 {}
 
-/// Where the store holds a chain, restoring its announced version is not refused, and makes the producer that of the state of this version.
+/// Where the store holds a chain, restoring its announced version is not refused where its snapshot is there, and makes the producer that of the state of this
+/// version.
 pub fn chain_restore_taken()
     ensures taken { (machine : Machine) (chain : Chain) (version : ℕ)
-        → HoldsChain machine.store chain → IsLast machine.store version
+        → HoldsChain machine.store chain → IsLast machine.store version → IsThere machine.store (Snapshot version)
         → (position : Position) × Step machine (order.Restore version) (reply.Restore position.tag version) (with_producer machine (Some (producer_at position version))) }
     ensures only { (machine next : Machine) (chain : Chain) (version : ℕ) (answer : Reply)
-        → HoldsChain machine.store chain → IsLast machine.store version → Step machine (order.Restore version) answer next
+        → HoldsChain machine.store chain → IsLast machine.store version → IsThere machine.store (Snapshot version) → Step machine (order.Restore version) answer next
         → (state : ChainState) × (position : Position) × HasVersion chain version state × StandsAt state position × (answer ≡ reply.Restore state.tag version)
         × (next ≡ with_producer machine (Some (producer_at position version))) }
 {}
 
-/// Where the store holds a chain, no check finds a difference: each state that a walk comes to is that of its snapshot.
+/// Where the store holds a chain, no check of versions whose models agree with each other finds a difference: each state that a walk comes to is that of its
+/// snapshot, as the model of the first version sees it.
 pub fn chain_check_agrees()
     ensures { (machine next : Machine) (chain : Chain) (versions : List ℕ) (difference : Difference)
-        → HoldsChain machine.store chain → Step machine (order.Check versions) (reply.Refused (Mismatch difference)) next → ⊥ }
+        → HoldsChain machine.store chain → ModelsAgreeAmong chain versions → Step machine (order.Check versions) (reply.Refused (Mismatch difference)) next → ⊥ }
 {}
 
 /// An index that is asked for, and not refused, stands behind the others, or the machine is as it was where it was kept already.
@@ -210,20 +230,22 @@ pub fn index_is_kept()
         → next ≡ machine }
 {}
 
-/// A load of the state that the consumer has, and behind it an order `index` for each of its indexes, in their order, lead to the machine whose consumer
-/// has its state afresh, with the same indexes; and where the store has the snapshot, none of these orders is refused.
+/// A load of the state that the consumer has, where it has the state's own model, and behind it an order `index` for each of its indexes, in their order, lead to
+/// the machine whose consumer has its state afresh, with the same indexes; and where the store has the snapshot, none of these orders is refused.
 pub fn fresh_indexes()
     ensures there { (machine : Machine) (chain : Chain) (version : ℕ) (state : ChainState) (now : Position)
-        → HoldsChain machine.store chain → HasVersion chain version state → IsThere machine.store (Snapshot version) → machine.consumer ≡ Some now → now.tag ≡ state.tag → IsConsumerOf chain machine.consumer
+        → HoldsChain machine.store chain → HasVersion chain version state → IsThere machine.store (Snapshot version) → machine.consumer ≡ Some now → now.tag ≡ state.tag → now.schemas ≡ state.model
+        → IsConsumerOf chain machine.consumer
         → (loaded next : Machine) × (asked : List (Name × List (List ℕ)))
         × Step machine (order.Load version) (reply.Load state.tag) loaded × AskForAll state.model asked now.indexes × AreAdded loaded asked next × Fresh chain machine next }
     ensures all { (machine loaded next : Machine) (chain : Chain) (version : ℕ) (state : ChainState) (now : Position) (answer : Reply) (asked : List (Name × List (List ℕ)))
-        → HoldsChain machine.store chain → HasVersion chain version state → IsThere machine.store (Snapshot version) → machine.consumer ≡ Some now → now.tag ≡ state.tag → IsConsumerOf chain machine.consumer
+        → HoldsChain machine.store chain → HasVersion chain version state → IsThere machine.store (Snapshot version) → machine.consumer ≡ Some now → now.tag ≡ state.tag → now.schemas ≡ state.model
+        → IsConsumerOf chain machine.consumer
         → AskForAll state.model asked now.indexes → Step machine (order.Load version) answer loaded → AreAdded loaded asked next → Fresh chain machine next }
 {}
 
 /// What is answered of the consumer's state is answered at a state of the chain as where the consumer has this state afresh: the answers are those of
-/// the state's model and rows, whichever way the consumer took to them.
+/// the consumer's model and of the rows that it sees of the state, whichever way the consumer took to them.
 pub fn fresh_answers()
     ensures kinds { IsOfState Kind.Get × IsOfState Kind.Find × IsOfState Kind.Live × IsOfState Kind.Row × IsOfState Kind.Has × IsOfState Kind.At }
     ensures same { (machine fresh : Machine) (chain : Chain) (asked : Order) (answer : Reply) → IsOfState (kind_of asked)
@@ -309,6 +331,12 @@ pub fn one_model()
         → Step machine (order.Model schemas) answer next → Step machine (order.Model schemas) other after → (answer ≡ other) × (next ≡ after) }
 {}
 
+/// The order `grow` has one answer, and leaves one machine.
+pub fn one_grow()
+    ensures { (machine next after : Machine) (schemas : Value) (answer other : Reply)
+        → Step machine (order.Grow schemas) answer next → Step machine (order.Grow schemas) other after → (answer ≡ other) × (next ≡ after) }
+{}
+
 /// The command `make` has one answer, and leaves one machine, whichever blobs the store has.
 pub fn one_make()
     ensures { (store : Store) (next after : Machine) (seed rows cycles : ℕ) (answer other : Reply)
@@ -346,10 +374,11 @@ pub fn one_script()
 }
 
 /// The headline: over a store of bytes that holds a chain, each line of a script is answered as is promised. A state that a cycle publishes follows in
-/// the chain; the consumer stands at a state of it behind each line, that of the version to which its last load or step led; what `live`, `row`, `has`, `at`,
-/// `get` and `find` answer is what that state answers loaded afresh, with the same indexes; a step along a blob of the store is taken where it starts at the
-/// consumer's tag, and else refused for its origin, and then nothing changes; going to a version applies all blobs of the shortest list, and comes to the
-/// version's state; and what `was` and `wasget` answer of a version that is kept is what `row` and `get` answer at its state.
+/// the chain; behind each line the consumer sees a state of it through its own model, that of the version to which its last load or step led; what `live`, `row`,
+/// `has`, `at`, `get` and `find` answer is what that state answers seen so afresh, with the same indexes; a step along a blob of the store is taken where it starts
+/// at the consumer's tag and agrees with its model, and else refused for its origin, or for the first type that does not agree, and then nothing changes; going to
+/// a version applies all blobs of the shortest list, where the models of the chain agree, and comes to the version's state; and what `was` and `wasget` answer of
+/// a version that is kept is what `row` and `get` answer where its state is seen.
 pub fn true_script()
     ensures { (store : Store) (next : Machine) (lines : List (List ℕ)) (text : List ℕ) (refused : Bool) (chain : Chain)
         → Script (started store) lines text refused next → HoldsChain store chain → HoldsBytes store

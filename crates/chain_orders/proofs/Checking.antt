@@ -6,7 +6,8 @@ use Rattle.hol_io.specs.declared.name.BlobName.TheVariants.{Snapshot}
 use Rattle.hol_io.specs.Store.{Store, told}
 use Rattle.blob_frame.specs.declared.fault.BlobFault.{BlobFault}
 use Rattle.blob_frame.specs.declared.fault.BlobFault.TheVariants as blob_fault
-use Rattle.chain_check.specs.Walk.{Arrives, Both, Calls, Comes, Differs, Goes, Passes, Refuses, Stops, TellsCheck, calls_by, name_of_call, name_of_step}
+use Rattle.hol_varint.specs.Yields.{Yields}
+use Rattle.chain_check.specs.Walk.{Arrives, Both, Calls, Comes, Differs, Goes, IsFree, Passes, PassesBy, Refuses, Stops, TellsCheck, Visits, calls_by, compared_in, name_of_call, name_of_step}
 use Rattle.chain_check.specs.declared.checking.CheckFault.{CheckFault}
 use Rattle.chain_check.specs.declared.checking.CheckFault.TheVariants as check_fault
 use Rattle.read_engine.specs.Position.{Position}
@@ -42,11 +43,18 @@ module _ (store : Store) where
   goes (Some from) to before now walks = steps from to before now walks
 
   arrives : (from : Option ℕ) (to : ℕ) (before now : Both (Option Position)) → Arrives walker_calls held from to before now → Arrives walk_calls held from to before now
-  arrives from to before now is = record { goes = goes from to before.walker now.walker is.goes; loads = loads to before.fresh now.fresh is.loads }
+  arrives from to before now is = record { goes = goes from to before.walker now.walker is.goes; has = is.has; loads = loads to before.fresh now.fresh is.loads }
+
+  passes_by : (from : Option ℕ) (to : ℕ) (before now : Both (Option Position)) → PassesBy walker_calls held from to before now → PassesBy walk_calls held from to before now
+  passes_by from to before now is = record { goes = goes from to before.walker now.walker is.goes; lacks = is.lacks; still = is.still }
+
+  visits : (from : Option ℕ) (to : ℕ) (before now : Both (Option Position)) → Visits walker_calls held from to before now → Visits walk_calls held from to before now
+  visits from to before now (inl (is, alike)) = inl (arrives from to before now is, alike)
+  visits from to before now (inr is) = inr (passes_by from to before now is)
 
   passes : (from : Option ℕ) (versions : List ℕ) (before now : Both (Option Position)) → Passes walker_calls held from versions before now → Passes walk_calls held from versions before now
   passes from [] before now same = same
-  passes from (to ∷ more) before now (there, is, alike, others) = (there, arrives from to before there is, alike, passes (Some to) more there now others)
+  passes from (to ∷ more) before now (there, is, others) = (there, visits from to before there is, passes (Some to) more there now others)
 
   comes : (versions : List ℕ) (start : Both (Option Position)) (from : Option ℕ) (to : ℕ) (now : Both (Option Position)) → Comes walker_calls held versions start from to now
       → Comes walk_calls held versions start from to now
@@ -89,8 +97,8 @@ module _ (store : Store) where
       → TellsOf name fault why → Refuses walk_calls held from to before name why now
   refuses from to before now name fault why (inl (named, walks, same)) is =
       inl (named, call_refused from to before.walker now.walker fault why walks (subst (λ (n : BlobName). TellsOf n fault why) named is), same)
-  refuses from to before now name fault why (inr (named, walks, fresh)) is =
-      inr (named, goes from to before.walker now.walker walks, load_refused to before.fresh now.fresh fault why fresh (subst (λ (n : BlobName). TellsOf n fault why) named is))
+  refuses from to before now name fault why (inr (named, walks, has, fresh)) is =
+      inr (named, goes from to before.walker now.walker walks, has, load_refused to before.fresh now.fresh fault why fresh (subst (λ (n : BlobName). TellsOf n fault why) named is))
 
   stops : (versions : List ℕ) (start now : Both (Option Position)) (name : BlobName) (fault : BlobFault) (why : Refusal) → Stops walker_calls held versions start name fault now
       → TellsOf name fault why → Stops walk_calls held versions start name why now
@@ -105,19 +113,34 @@ module _ (store : Store) where
 -- ---- the answers
 
 -- the two walkers at the begin of a check have no state, and what is asked are the versions
-begun : (held : Option Store) (versions asked : List ℕ) (walker fresh : Option Position) (now : Both (Option Position)) (result : Result (Unit {0}) (CheckFault BlobFault)) → asked ≡ versions → walker ≡ None → fresh ≡ None
+begun : (held : Option Store) (versions asked : List ℕ) (walker fresh : Option Position) (now : Both (Option Position)) (result : Result ℕ (CheckFault BlobFault)) → asked ≡ versions → walker ≡ None → fresh ≡ None
     → TellsCheck walker_calls held asked (record { walker = walker; fresh = fresh }) now result → TellsCheck walker_calls held versions both_new now result
 begun held versions asked walker fresh now result same none bare tells =
     subst (λ (vs : List ℕ). TellsCheck walker_calls held vs both_new now result) same
     (subst (λ (f : Option Position). TellsCheck walker_calls held asked (record { walker = None; fresh = f }) now result) bare
     (subst (λ (w : Option Position). TellsCheck walker_calls held asked (record { walker = w; fresh = fresh }) now result) none tells))
 
--- each state is that of its snapshot
-pub checked : (held : Option Store) (versions asked : List ℕ) (walker fresh : Option Position) (now : Both (Option Position)) (done : Unit {0}) (states : ℕ) → asked ≡ versions → walker ≡ None → fresh ≡ None
-    → states ≡ length versions → TellsCheck walker_calls held asked (record { walker = walker; fresh = fresh }) now (Ok done) → IfSome held (λ store. CheckReply store versions (reply.Check states))
-checked None versions asked walker fresh now done states same none bare count tells = tt
-checked (Some store) versions asked walker fresh now done states same none bare count tells =
-    (count, (now, passes store None versions both_new now (begun (Some store) versions asked walker fresh now (Ok done) same none bare tells)))
+-- a walk that passes over versions compares as many as have their snapshots
+counted : (store : Store) (versions : List ℕ) (start now : Both (Option Position)) (compared : ℕ)
+    → Yields (IsFree {E = BlobFault}) (Ok compared) (Ok (compared_in store versions)) ((end : Both (Option Position)) × Passes walker_calls (Some store) None versions start end)
+    → Passes walker_calls (Some store) None versions start now → compared ≡ compared_in store versions
+counted store versions start now compared yields passes =
+    elim (yields.1 (now, passes)) [
+      | inl same ↦ cc
+      | inr failed ↦ absurd failed
+    ]
+
+-- each state that is compared is that of its snapshot
+pub checked : (held : Option Store) (versions asked : List ℕ) (walker fresh : Option Position) (now : Both (Option Position)) (compared states : ℕ) → asked ≡ versions → walker ≡ None → fresh ≡ None
+    → states ≡ length versions
+    → IfSome held (λ store. Yields (IsFree {E = BlobFault}) (Ok compared) (Ok (compared_in store asked))
+    ((end : Both (Option Position)) × Passes walker_calls (Some store) None asked (record { walker = walker; fresh = fresh }) end))
+    → TellsCheck walker_calls held asked (record { walker = walker; fresh = fresh }) now (Ok compared) → IfSome held (λ store. CheckReply store versions (reply.Check compared states))
+checked None versions asked walker fresh now compared states same none bare count yields tells = tt
+checked (Some store) versions asked walker fresh now compared states same none bare count yields tells =
+    let many = counted store asked (record { walker = walker; fresh = fresh }) now compared yields tells in
+    let told = begun (Some store) versions asked walker fresh now (Ok compared) same none bare tells in
+    (count, subst (λ (vs : List ℕ). compared ≡ compared_in store vs) same many, (now, passes store None versions both_new now told))
 
 -- a state differs from that of its snapshot
 pub different : (held : Option Store) (versions asked : List ℕ) (walker fresh : Option Position) (now : Both (Option Position)) (found : CheckFault BlobFault) (version : ℕ) (type_name : Option Name) (ordinal : Option ℕ)
@@ -155,7 +178,7 @@ stopped_reply store versions now name (refusal.Mismatch difference) is = absurd 
     no_stop : (from : Option ℕ) (to : ℕ) (before after : Both (Option Position)) → ¬ Refuses walk_calls (Some store) from to before name (refusal.Mismatch difference) after
     no_stop None to before after (inl (named, walks, same)) = no_load to before.walker after.walker walks
     no_stop (Some from) to before after (inl (named, walks, same)) = no_step from to before.walker after.walker walks
-    no_stop from to before after (inr (named, walks, fresh)) = no_load to before.fresh after.fresh fresh
+    no_stop from to before after (inr (named, walks, has, fresh)) = no_load to before.fresh after.fresh fresh
 stopped_reply store versions now name _ is = (name, now, is)
 
 -- a blob is refused on the way

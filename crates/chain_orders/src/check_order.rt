@@ -11,7 +11,8 @@ use hol_orders::{OrderStop, Versions};
 use read_engine::Walker;
 use std::alloc::Global;
 
-/// Walks along some versions with a consumer of its own, and compares its state at each with that of the version's snapshot, loaded afresh.
+/// Walks along some versions with a consumer of its own, and compares its state at each whose snapshot the store has with that of the snapshot, loaded
+/// afresh. The answer tells how many were compared, and how many versions there are.
 /// It is refused for the first blob that cannot be taken on the way, or with `Mismatch` at the first version at which the states differ. The
 /// store stays as it is. `Store` comes only where the store's count of faults rose.
 pub fn check<S: BlobStore>(
@@ -29,7 +30,10 @@ pub fn check<S: BlobStore>(
     let mut walker = Walker::new(alloc);
     let mut fresh = Walker::new(alloc);
     match check_walk(alloc, &mut walker, &mut fresh, store, versions.as_slice()) {
-        Ok(()) => Ok(Reply::Check(versions.len() as u64)),
+        Ok(compared) => Ok(Reply::Check {
+            compared,
+            states: versions.len() as u64,
+        }),
         Err(CheckFault::Walk(name, fault)) => {
             let refusal = blob_refusal(&name, fault)?;
             Ok(Reply::Refused(refusal))
@@ -41,6 +45,7 @@ pub fn check<S: BlobStore>(
                 ordinal,
             }),
         )),
+        Err(CheckFault::Store) => Err(OrderStop::Store),
         Err(CheckFault::Memory) => Err(OrderStop::Memory),
     }
 }

@@ -2,6 +2,7 @@ pub mod Candidates
 pub mod Among
 pub mod Bounding
 pub mod Following
+pub mod Leaving
 pub mod Matching
 pub mod Showing
 pub mod Sought

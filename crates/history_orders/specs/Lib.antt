@@ -1,3 +1,4 @@
+pub mod Left
 pub mod Older
 pub mod Told
 pub mod Valued

@@ -1,14 +1,14 @@
 -- The rows of an older version, and those among which the ones are that have a key.
-use Rattle.std.specs.Prelude.{◌≡◌, ◌++◌, ℕ, List, Some, Contains, IsSomeAnd}
+use Rattle.std.specs.Prelude.{◌≡◌, ℕ, List, Some, Contains, IsSomeAnd}
 use Rattle.schema_model.specs.declared.model.path.Path.{Path}
 use Rattle.schema_model.specs.declared.schema.Schema.{Schema}
 use Rattle.row_model.specs.declared.row.Value.{Value}
 use Rattle.row_model.specs.Key.{key_of}
 use Rattle.row_model.specs.Table.{IsClosed, IsLive, Table}
 use Rattle.hol_history.specs.History.{PastStep, StandsOn, table_then, tables_of, versions}
-use Rattle.hol_history.specs.Steps.{AreTouched}
 use Rattle.read_engine.specs.Position.{Position, rows_now}
 use Rattle.hollow_machine.specs.Kept.{AreClosed}
+use Rattle.history_orders.specs.Left.{HasLeftSince}
 use Rattle.history_orders.specs.declared.key_seek.KeySeek.{KeySeek}
 use Rattle.history_orders.specs.declared.key_seek.KeySeek.TheVariants as seek
 
@@ -34,7 +34,6 @@ abbrev pub SeeksIn : KeySeek → List Schema → Table → Type 0
 SeeksIn (seek.Now consumer) schemas table = IsSomeAnd consumer.now (λ now. (now.schemas ≡ schemas) × (rows_now now ≡ table))
 SeeksIn (seek.Older consumer history wanted) schemas table = IsSomeAnd consumer.now (λ now. IsOlder now history.now.steps wanted schemas table)
 
--- These are the ordinals that the steps since a version touched of a type, and others among which those are whose rows have a key where the consumer stands.
+-- The rows of a type that left since a version and had a key are among these, and so are those that have it where the consumer stands.
 abbrev pub HasCandidates : List PastStep → ℕ → ℕ → List Path → List Value → List ℕ → Position → Type 0
-HasCandidates steps wanted t paths key among now =
-    (touched kept : List ℕ) × AreTouched steps wanted t touched × HasMatchesNow t paths key kept now × (among ≡ touched ++ kept)
+HasCandidates steps wanted t paths key among now = HasLeftSince steps wanted t paths key among × HasMatchesNow t paths key among now

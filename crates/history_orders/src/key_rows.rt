@@ -159,8 +159,8 @@ fn has_value<R: Rows>(
     has_value(alloc, rows, next, *named, rest, value)
 }
 
-// The value of a field of a record.
-fn value_in(row: &Row, field: u32) -> Option<&Value>
+/// The value of a field of a record.
+pub(crate) fn value_in(row: &Row, field: u32) -> Option<&Value>
     ensures { option_copied result ≡ field_of (Some row.now) field }
 {
     match row {
@@ -169,8 +169,8 @@ fn value_in(row: &Row, field: u32) -> Option<&Value>
     }
 }
 
-// Whether a value is this one, which no null is.
-fn is_value(found: &Value, value: &Value) -> bool
+/// Whether a value is this one, which no null is.
+pub(crate) fn is_value(found: &Value, value: &Value) -> bool
     ensures { IsTrue result ↔ (unless_null (Some found.now) ≡ Some value.now) }
 {
     match (found, value) {

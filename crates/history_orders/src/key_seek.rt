@@ -7,6 +7,7 @@ ghost use Rattle.history_orders.specs.Older.{HasCandidates, HasMatches, HasMatch
 
 use crate::key_columns::rows_with_first;
 use crate::key_rows::{rows_among, rows_with_key};
+use crate::left_rows::add_left_since;
 use hol_history::History;
 use hol_varint::Ordinals;
 use read_engine::Consumer;
@@ -19,8 +20,8 @@ use std::alloc::{AllocError, Global};
 pub(crate) enum KeySeek<'a> {
     /// The rows are those where this consumer stands: by the index that is kept, or by a column.
     Now(&'a Consumer),
-    /// The rows are those of this version, from which the history led to the rows of the consumer: among those that a step touched since, and those that
-    /// have the key now, where an index tells them.
+    /// The rows are those of this version, from which the history led to the rows of the consumer: among those that left since, and those that have the key
+    /// now, where an index or a column tells them.
     Older(&'a Consumer, &'a History, u64),
 }
 
@@ -70,8 +71,8 @@ fn rows_found<R: Rows>(
     }
 }
 
-// The ordinals among which those are whose rows had a key in an older version: those that a step touched since, and those among which the rows are that have the
-// key now. None where nothing tells the latter.
+// The ordinals among which those are whose rows had a key in an older version: those of rows that left since and may have the key, and those among which the
+// rows are that have the key now. None where nothing tells the latter.
 fn candidates(
     alloc: Global,
     consumer: &Consumer,
@@ -86,11 +87,10 @@ fn candidates(
     ensures { IfOk result (λ found. IfSome found (λ among. IsSomeAnd consumer.now
         (HasCandidates history.now.steps wanted type_index paths.now key.now among.items))) }
 {
-    let Some(kept) = candidates_now(alloc, consumer, type_index, paths, key)? else {
+    let Some(mut among) = candidates_now(alloc, consumer, type_index, paths, key)? else {
         return Ok(None);
     };
-    let mut among = history.touched(alloc, wanted, type_index)?;
-    among.extend_from_slice(kept.as_slice())?;
+    add_left_since(history, wanted, type_index, paths, key, &mut among)?;
     Ok(Some(among))
 }
 

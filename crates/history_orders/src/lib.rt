@@ -6,6 +6,7 @@ mod key_columns;
 mod key_rows;
 mod key_seek;
 mod keyed;
+mod left_rows;
 mod record;
 mod was_get_order;
 mod was_order;

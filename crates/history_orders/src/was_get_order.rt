@@ -33,9 +33,9 @@ use std::alloc::Global;
 
 /// Shows the one record of a type that has a primary key in a version, the consumer's own one or the newest that the history keeps of it, and tells its
 /// ordinal. Refused with `NoState`, `NotKept`, `NoType`, `WrongKind`, `BadPath`, `BadKey`, `NoMatch`, `Ambiguous` and `TooLarge`, in this order: the last where
-/// the record has more than `MAX_NODES` nodes. Where an index is kept on the primary key it looks at the rows that this finds and at those that steps touched
-/// since the version. Else it goes along the column of the key's first field for the former, and looks at all rows of the type where this is reached through a
-/// reference or does not stand packed.
+/// the record has more than `MAX_NODES` nodes. Where an index is kept on the primary key it looks at the rows that this finds and at those that left since the
+/// version and may have the key. Else it goes along the column of the key's first field for the former, and looks at all rows of the type where this is reached
+/// through a reference or does not stand packed.
 pub fn was_get(
     alloc: Global,
     consumer: &Consumer,

@@ -104,8 +104,13 @@ pub enum Reply {
     At(Option<u32>),
     /// The records of a type that left in the last step, by rising ordinal.
     Past(PastRows),
-    /// So many states of a walk are those of their snapshots.
-    Check(u64),
+    /// A walk leads to the states of the snapshots that are there.
+    Check {
+        /// So many versions of the walk were compared with their snapshots.
+        compared: u64,
+        /// So many versions the walk has.
+        states: u64,
+    },
     /// What the consumer keeps.
     Stat {
         /// The tag of its state.

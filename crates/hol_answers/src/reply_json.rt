@@ -56,7 +56,7 @@ impl Serialize for ReplyView<'_> {
             Reply::Has(there) => send_before_ok(alloc, "has", there, "has", out),
             Reply::At(value) => send_ok(alloc, "at", "value", value, out),
             Reply::Past(rows) => send_ok(alloc, "past", "rows", rows, out),
-            Reply::Check(states) => send_ok(alloc, "check", "states", states, out),
+            Reply::Check { compared, states } => send_check(alloc, *compared, *states, out),
             Reply::Stat { tag, types } => send_tagged(alloc, "stat", *tag, "types", types, out),
             Reply::Make(made) => send_make(alloc, made, out),
             Reply::Grow(types) => send_ok(alloc, "grow", "types", types, out),
@@ -158,6 +158,22 @@ fn send_cycle<S: Serializer>(
         ("version", Number(version)),
     ];
     send_object_around(alloc, &[], "changed", changed, &back, out)
+}
+
+fn send_check<S: Serializer>(
+    alloc: Global,
+    compared: u64,
+    states: u64,
+    out: &mut S,
+) -> Result<(), S::Error>
+    ensures { OnOk result (Sends (reply_data (said.Check compared states)) (S.written out.old) (S.written out.new)) }
+{
+    let members = [
+        ("compared", Number(compared)),
+        ("ok", Text("check")),
+        ("states", Number(states)),
+    ];
+    send_object(alloc, &members, out)
 }
 
 fn send_goto<S: Serializer>(alloc: Global, progress: &Progress, out: &mut S) -> Result<(), S::Error>

@@ -8,4 +8,4 @@ pub mod Pushes
 pub mod KeptRows
 pub mod Looking
 pub mod Taken
-pub mod Touching
+pub mod Since

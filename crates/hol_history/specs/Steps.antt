@@ -1,5 +1,5 @@
 -- Which rows the steps of a history touched: those that came, and those that left.
-use Rattle.std.specs.Prelude.{◌≡◌, ◌==◌, ◌<◌, ◌≤◌, ◌+◌, ◌&&◌, ◌||◌, ◌++◌, ℕ, Bool, false, List, [], Option, Some, None, flat_map, length, slice_get, take}
+use Rattle.std.specs.Prelude.{◌≡◌, ◌==◌, ◌<◌, ◌≤◌, ◌+◌, ◌&&◌, ◌||◌, ℕ, Bool, false, List, Option, Some, None, length, option_and_then, slice_get}
 use Rattle.std.specs.BTreeSet.{BTreeSet}
 use Rattle.std.specs.List.Sorted.{IsStrictlyIncreasing}
 use Rattle.row_model.specs.Before.{PastPart}
@@ -57,12 +57,10 @@ IsPlaceOf steps version None = (place : ℕ) (step : PastStep) → slice_get ste
 IsPlaceOf steps version (Some place) =
     ((step : PastStep) × (slice_get steps place ≡ Some step) × (step.from ≡ version)) × ((newer : ℕ) (step : PastStep) → newer < place → slice_get steps newer ≡ Some step → ¬ (step.from ≡ version))
 
--- the ordinals that came and those that left, where this is what a step changed of a type
-abbrev pub touched_in : Option PastPart → List ℕ
-touched_in (Some part) = part.came ++ part.gone
-touched_in None = []
+-- So many steps led from a version: the newest one from it, and those behind that one.
+abbrev pub IsCountSince : List PastStep → ℕ → ℕ → Type 0
+IsCountSince steps version count = (place : ℕ) × IsPlaceOf steps version (Some place) × (count ≡ place + 1)
 
--- These are the ordinals under which the newest step from a version and those behind it touched a row of a type, step by step, the newest first.
-abbrev pub AreTouched : List PastStep → ℕ → ℕ → List ℕ → Type 0
-AreTouched steps version type_index ordinals =
-    (place : ℕ) × IsPlaceOf steps version (Some place) × (ordinals ≡ flat_map (λ step. touched_in (slice_get step.past type_index)) (take (place + 1) steps))
+-- what the step at a place changed of a type, if there is such a step and such a type
+abbrev pub part_at : List PastStep → ℕ → ℕ → Option PastPart
+part_at steps place type_index = option_and_then (λ step. slice_get step.past type_index) (slice_get steps place)

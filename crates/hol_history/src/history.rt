@@ -1,11 +1,13 @@
 //! The last steps of a consumer, and what they took away.
-ghost use Rattle.std.specs.Prelude.{◌≡◌, ◌<◌, ◌≤◌, ◌+◌, ◌-◌, ◌^◌, ◌↔◌, ℕ, [], ◌∷◌, Some, None, true, Contains, IfOk, IsTrue, MatchOption, OnErr, OnOk, length, min, option_map, slice_get, take};
+ghost use Rattle.std.specs.Prelude.{◌≡◌, ◌<◌, ◌≤◌, ◌+◌, ◌-◌, ◌^◌, ◌↔◌, ℕ, [], ◌∷◌, Some, None, true, Contains, IfSome, IsTrue, MatchOption, OnErr, OnOk, length, min, option_map, slice_get, take};
+ghost use Rattle.std.specs.Option.{option_copied};
 ghost use Rattle.row_model.specs.Before.{HasBefore, table_before};
 ghost use Rattle.hol_history.specs.History.{StandsOn, pushed, rows_left, table_then, tables_of, versions};
 ghost use Rattle.hol_history.specs.Kept.{TellsKept};
-ghost use Rattle.hol_history.specs.Steps.{AreSpots, AreTouched, IsPlaceOf, touches_at};
+ghost use Rattle.hol_history.specs.Steps.{AreSpots, IsCountSince, IsPlaceOf, part_at, touches_at};
 
 use crate::old_state::Then;
+use crate::part::Part;
 use crate::spots::{Spots, first_touch, greatest_touched};
 use crate::step::Step;
 use row_model::{LeftRows, Row, Rows};
@@ -158,7 +160,8 @@ impl History {
 
     // The place of the newest step from a version.
     fn place_of(&self, version: u64) -> Option<usize>
-        ensures { IsPlaceOf self.now.steps version result }
+        ensures place { IsPlaceOf self.now.steps version result }
+        ensures low { IfSome result (λ place. place < 2 ^ 64 - 1) }
     {
         for place in 0..self.steps.len() {
             if self.steps[place].version() == version {
@@ -186,26 +189,20 @@ impl History {
         Then::new(self, now, place)
     }
 
-    /// The ordinals under which the newest step from a version, or a step behind it, touched a row of a type: it came, or it left. Some may stand there more
-    /// than once. Under any other ordinal the version has what is there now.
-    pub fn touched(
-        &self,
-        alloc: Global,
-        version: u64,
-        type_index: u32,
-    ) -> Result<Vec<u32>, AllocError>
+    /// How many steps led from a version that the history reaches to the state that it stands on: the newest step from the version, and all behind it.
+    pub fn steps_since(&self, version: u64) -> usize
         requires { Contains (versions self.now.steps) version }
-        ensures { IfOk result (λ ordinals. AreTouched self.now.steps version type_index ordinals.items) }
+        ensures { IsCountSince self.now.steps version result }
     {
-        let mut ordinals = Vec::new(alloc);
-        for place in 0..self.steps.len() {
-            let step = &self.steps[place];
-            step.add_touched(type_index, &mut ordinals)?;
-            if step.version() == version {
-                return Ok(ordinals);
-            }
-        }
-        unreachable!()
+        self.place_of(version).unwrap() + 1
+    }
+
+    /// What the step at a place changed of a type, if there is such a type. The newest step stands at 0.
+    pub fn part(&self, place: usize, type_index: u32) -> Option<&Part>
+        requires { place < length self.now.steps }
+        ensures { option_copied result ≡ part_at self.now.steps place type_index }
+    {
+        self.steps[place].part_of(type_index)
     }
 
     /// How many rows are kept: those that left in the steps, at most 2^64 - 1.

@@ -10,3 +10,4 @@ mod step;
 
 pub use history::History;
 pub use old_state::Then;
+pub use part::Part;

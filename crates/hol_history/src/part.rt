@@ -1,5 +1,5 @@
 //! What a step changed of a type.
-ghost use Rattle.std.specs.Prelude.{◌≡◌, ◌<◌, ◌++◌, Some, None, false, true, length, slice_get, IfOk, IsSomeAnd, MatchOption, OnErr, OnOk};
+ghost use Rattle.std.specs.Prelude.{◌≡◌, ◌<◌, Some, None, false, true, length, slice_get, IfOk, IsSomeAnd, MatchOption, OnErr, OnOk};
 ghost use Rattle.std.specs.FinMap.{find};
 ghost use Rattle.std.specs.Ordering.{nat_cmp};
 ghost use Rattle.row_model.specs.Before.{left_rows};
@@ -14,7 +14,7 @@ use std::marker::Model;
 
 /// What a step changed of a type: the rows that left, and the ordinals of those that came.
 #[derive(Drop)]
-pub(crate) struct Part {
+pub struct Part {
     /// The ordinals that came, rising.
     came: Ordinals,
     /// The ordinals that left, rising.
@@ -110,12 +110,19 @@ impl Part {
         }
     }
 
-    /// Adds the ordinals that came, and those that left. Where memory is refused some of them may be added.
-    pub(crate) fn add_touched(&self, ordinals: &mut Vec<u32>) -> Result<(), AllocError>
-        ensures { OnOk result (ordinals.new.items ≡ ordinals.old.items ++ self.now.came ++ self.now.gone) }
+    /// The ordinals of the rows that left, rising.
+    pub fn gone(&self) -> &[u32]
+        ensures part { IsPart self.now }
+        ensures ordinals { result.now ≡ self.now.gone }
     {
-        ordinals.extend_from_slice(self.came.as_slice())?;
-        ordinals.extend_from_slice(self.gone.as_slice())
+        self.gone.as_slice()
+    }
+
+    /// The rows that left, one for each of these ordinals.
+    pub fn rows(&self) -> &[Row]
+        ensures { result.now ≡ self.now.rows }
+    {
+        self.rows.as_slice()
     }
 
     /// How many rows left.

@@ -1,8 +1,9 @@
 //! A step: the version that it led from, and what it changed.
-ghost use Rattle.std.specs.Prelude.{◌≡◌, ◌<◌, ◌++◌, ◌≤◌, ◌-◌, ◌^◌, ℕ, true, false, length, min, slice_get, Some, IfOk, IsSomeAnd, OnErr, OnOk};
+ghost use Rattle.std.specs.Prelude.{◌≡◌, ◌<◌, ◌≤◌, ◌-◌, ◌^◌, ℕ, true, false, length, min, slice_get, Some, IfOk, IsSomeAnd, OnErr, OnOk};
+ghost use Rattle.std.specs.Option.{option_copied};
 ghost use Rattle.hol_history.specs.History.{rows_left_in};
 ghost use Rattle.hol_history.specs.Spots.{KeepsOthers, Sets};
-ghost use Rattle.hol_history.specs.Steps.{IsPart, step_names, touched_in};
+ghost use Rattle.hol_history.specs.Steps.{IsPart, step_names};
 
 use crate::part::Part;
 use crate::spots::Spots;
@@ -66,6 +67,13 @@ impl Step {
         self.parts.get(type_index as usize)
     }
 
+    /// The same, and none where there is no such type.
+    pub(crate) fn part_of(&self, type_index: u32) -> Option<&Part>
+        ensures { option_copied result ≡ slice_get self.now.past type_index }
+    {
+        self.parts.as_slice().get(type_index as usize)
+    }
+
     /// Puts in what the step touched, under its number. Where memory is refused some of it may be in.
     pub(crate) fn put_into(&self, spots: &mut Spots, number: u64) -> Result<(), AllocError>
         ensures ok { OnOk result (Sets true (step_names self.now.past number) spots.old spots.new) }
@@ -83,20 +91,6 @@ impl Step {
     {
         for type_index in 0..self.parts.len() as u32 {
             self.part(type_index).take_from(spots, type_index, number);
-        }
-    }
-
-    /// Adds the ordinals under which the step touched a row of a type. Where memory is refused some of them may be added.
-    pub(crate) fn add_touched(
-        &self,
-        type_index: u32,
-        ordinals: &mut Vec<u32>,
-    ) -> Result<(), AllocError>
-        ensures { OnOk result (ordinals.new.items ≡ ordinals.old.items ++ touched_in (slice_get self.now.past type_index)) }
-    {
-        match self.parts.as_slice().get(type_index as usize) {
-            Some(part) => part.add_touched(ordinals),
-            None => Ok(()),
         }
     }
 

@@ -2,6 +2,7 @@ mod Wholes
 mod Missing
 mod Parts
 mod Lists
+mod Saying
 mod OfKind
 mod PlainCycles
 mod Words

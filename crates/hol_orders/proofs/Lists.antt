@@ -10,7 +10,7 @@ use Rattle.serde_json.specs.View.{view, items_of, items_view, members_view}
 use Rattle.serde_json.specs.declared.value.Value.{Value}
 use Rattle.hol_orders.specs.declared.order.OrderFault.{OrderFault}
 use Rattle.hol_orders.specs.declared.order.OrderFault.TheVariants.{BadOrder, Memory}
-use Rattle.hol_orders.specs.Parts.{change_data, state_data, triple}
+use Rattle.hol_orders.specs.Parts.{change_data, triple}
 use Rattle.hol_orders.specs.Shapes.{IsText, AreTexts, IsArray, AreArrays, AreListsOfArrays, are_lists, is_list_of_arrays}
 use Rattle.hol_orders.specs.Taken.{TellsFour, TellsItems, TellsNext, TellsThree}
 
@@ -107,7 +107,7 @@ named_lists entries r is = ((λ e. are entries (sym is ∙ e)), (λ all. is ∙ 
     again (m ∷ entries) all = ap (λ one. one && list_all (λ v. is_list_of_arrays (view v)) (values_of entries)) all.0 ∙ again entries all.1
 
 -- an object that has more than one member
-none_left : (rest : List (String Global × Value)) → members_view rest ≡ no_members → length rest ≡ 0
+pub none_left : (rest : List (String Global × Value)) → members_view rest ≡ no_members → length rest ≡ 0
 none_left [] e = refl
 none_left (m ∷ rest) e = cc
 
@@ -118,26 +118,7 @@ alone json entries rest first is popped more name content same =
     let left : members_view rest ≡ no_members = cc in
     more (none_left rest left)
 
--- an object whose third member is not the version, or that has more members
-pub no_state_version : (json : Data) (m0 m1 m2 m3 : Members) (add tag : Data) (r : Result (Value × Value × Value) OrderFault) (fault : OrderFault) →
-    IsErrAnd r (λ e. e ≡ fault) → json ≡ object m0 → m0 ≡ member (codes "add") add m1 → m1 ≡ member (codes "tag") tag m2 →
-    TellsNext (codes "version") m2 m3 (Err fault) → TellsThree state_data json r
-no_state_version json m0 m1 m2 m3 add tag (Ok found) fault is there one two none = absurd is
-no_state_version json m0 m1 m2 m3 add tag (Err Memory) fault is there one two none =
-    let told : TellsNext (codes "version") m2 m3 (Err Memory) = subst (λ e. TellsNext (codes "version") m2 m3 (Err e)) (sym is) none in
-    absurd told
-no_state_version json m0 m1 m2 m3 add tag (Err BadOrder) fault is there one two none =
-    let told : TellsNext (codes "version") m2 m3 (Err BadOrder) = subst (λ e. TellsNext (codes "version") m2 m3 (Err e)) (sym is) none in
-    λ a t v same. (let rest : m2 ≡ member (codes "version") v no_members = cc in told v no_members rest)
-
-pub no_state_more : (json : Data) (m0 m1 m2 : Members) (left : List (String Global × Value)) (add tag version : Data) → json ≡ object m0 →
-    m0 ≡ member (codes "add") add m1 → m1 ≡ member (codes "tag") tag m2 → m2 ≡ member (codes "version") version (members_view left) →
-    (length left ≡ 0 → ⊥) → (a t v : Data) → state_data a t v ≡ json → ⊥
-no_state_more json m0 m1 m2 left add tag version there one two three more a t v same =
-    let rest : members_view left ≡ no_members = cc in
-    more (none_left left rest)
-
--- the same of a change: an object whose third member is not the tag, whose fourth is not the version, or that has more members
+-- a change: an object whose third member is not the tag, whose fourth is not the version, or that has more members
 pub no_change_tag : (json : Data) (m0 m1 m2 m3 : Members) (put remove : Data) (r : Result (Value × Value × Value × Value) OrderFault) (fault : OrderFault) →
     IsErrAnd r (λ e. e ≡ fault) → json ≡ object m0 → m0 ≡ member (codes "put") put m1 → m1 ≡ member (codes "remove") remove m2 →
     TellsNext (codes "tag") m2 m3 (Err fault) → TellsFour change_data json r

@@ -1,15 +1,16 @@
 -- Pairs, triples and what a cycle and a change ask for: where a part is missing, so is the whole.
-use Rattle.std.proofs.Common.{◌≡◌, [], ◌∷◌, Result, Ok, Err, refl, sym, subst}
+use Rattle.std.proofs.Common.{Bool, Option, ◌≡◌, [], ◌∷◌, Result, Ok, Err, refl, sym, subst}
 use Rattle.std.specs.Prelude.{IsErrAnd}
-use Rattle.serde_json.specs.Data.{Data}
+use Rattle.serde_json.specs.Data.{Data, number}
+use Rattle.serde_json.specs.Find.{of_integer}
 use Rattle.hol_orders.specs.declared.order.NextState.{NextState}
 use Rattle.hol_orders.specs.declared.order.OrderFault.{OrderFault}
 use Rattle.hol_orders.specs.declared.order.OrderFault.TheVariants.{BadOrder, Memory}
 use Rattle.hol_orders.specs.Kind.{state}
-use Rattle.hol_orders.specs.Parts.{AskedState, asked_state, state_asked, state_data, triple}
+use Rattle.hol_orders.specs.Parts.{AskedState, asked_state, state_asked, state_data, triple, whole}
 use Rattle.hol_orders.specs.Shapes.{AreRecords}
 use Rattle.hol_orders.specs.Spelling.{Finds, Lacks, Spelling, json as json_of, pair_of, triple_of}
-use Rattle.hol_orders.specs.Taken.{TellsItems, TellsThree}
+use Rattle.hol_orders.specs.Taken.{TellsItems, TellsState, TellsThree}
 use Rattle.hol_orders.proofs.Missing.{no_whole}
 
 -- where an array has not two items, it is no pair
@@ -53,10 +54,18 @@ no_third first second third asked json r fault is x y z there none =
     (λ all fits same. (all.2, fits.2, (same_parts (first.spelled all.0) (second.spelled all.1) (third.spelled all.2) x y z json same there).2)) none
 
 -- what a cycle asks for has an object of arrays
-pub no_records : (json add tag version : Data) (r : Result NextState OrderFault) (fault : OrderFault) → IsErrAnd r (λ e. e ≡ fault) →
-    state_data add tag version ≡ json → Lacks (json_of AreRecords) add fault → Finds state asked_state json r
-no_records json add tag version r fault is there none =
+pub no_records : (json add : Data) (said : Option Bool) (tag version : Data) (r : Result NextState OrderFault) (fault : OrderFault) → IsErrAnd r (λ e. e ≡ fault) →
+    state_data add said tag version ≡ json → Lacks (json_of AreRecords) add fault → Finds state asked_state json r
+no_records json add said tag version r fault is there none =
     no_whole (json_of AreRecords) state asked_state add json r fault is (λ next fits same. (next.add, fits.2, same_add next same)) none
   where
     same_add : (next : AskedState) → state_asked next ≡ json → next.add ≡ add
     same_add next same = cc
+
+-- nor is anything asked for by an object of other members
+pub no_state : (json : Data) (r : Result NextState OrderFault) (fault : OrderFault) → IsErrAnd r (λ e. e ≡ fault) → TellsState json (Err fault) → Finds state asked_state json r
+no_state json (Ok next) fault is none = absurd is
+no_state json (Err Memory) fault is none = tt
+no_state json (Err BadOrder) fault is none =
+    let told : TellsState json (Err BadOrder) = subst (λ e. TellsState json (Err e)) (sym is) none in
+    λ asked fits same. told asked.add asked.snapshot (number (of_integer asked.tag)) (whole asked.version) same

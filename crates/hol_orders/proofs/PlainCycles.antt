@@ -1,5 +1,5 @@
 -- A cycle in its plain form is an order.
-use Rattle.std.proofs.Common.{◌≡◌, ◌∙◌, ℕ, List, [], ◌∷◌, Ordering, Less, Equal, Greater, nat_cmp, Some, sym, ap, subst}
+use Rattle.std.proofs.Common.{Bool, Option, ◌≡◌, ◌∙◌, ℕ, List, [], ◌∷◌, Ordering, Less, Equal, Greater, nat_cmp, Some, sym, ap, subst}
 use Rattle.std.specs.Prelude.{FitsSigned, IsUtf8}
 use Rattle.std.specs.Int.{w64}
 use Rattle.std.specs.Cmp.Lexicographic.{slice_cmp}
@@ -31,13 +31,13 @@ arrays-with_types : (types : List Typed) (ms : Members) → AreArrays ms → Are
 arrays-with_types [] ms are = are
 arrays-with_types (typed ∷ types) ms are = arrays-with_types types (put typed.0 (array (items_of typed.1)) ms) (arrays-put typed.0 (items_of typed.1) ms are)
 
-pub cycle_orders : (line text kept : List ℕ) (version tag : Data) (types : List Typed) (next : NextState) → text ≡ line → IsUtf8 line → kept ≡ text → read text ≡ Some (cycle_data version tag (added_by text))
-    → added_by text ≡ object (with_types types no_members) → IsVersion next.version × (whole next.version ≡ version) → FitsSigned w64 next.tag × (number (of_integer next.tag) ≡ tag) → next.add ≡ Line kept
+pub cycle_orders : (line text kept : List ℕ) (version tag : Data) (types : List Typed) (snapshot : Option Bool) (next : NextState) → text ≡ line → IsUtf8 line → kept ≡ text → read text ≡ Some (cycle_data version tag (added_by text) snapshot)
+    → added_by text ≡ object (with_types types no_members) → IsVersion next.version × (whole next.version ≡ version) → FitsSigned w64 next.tag × (number (of_integer next.tag) ≡ tag) → next.add ≡ Line kept → next.snapshot ≡ snapshot
     → Orders line (Cycle next)
-cycle_orders line text kept version tag types next same utf8 stays reads adds is_version is_tag stands =
+cycle_orders line text kept version tag types snapshot next same utf8 stays reads adds is_version is_tag stands said =
     let add : added next.add ≡ added_by text = ap added stands ∙ ap added_by stays in
     let arrays : AreRecords (object (with_types types no_members)) = arrays-with_types types no_members tt in (
       (is_version.0, is_tag.0, subst AreRecords (sym (add ∙ adds)) arrays),
       utf8,
-      ap read (sym same) ∙ (reads ∙ (λ i. Some (cycle_data (sym is_version.1 i) (sym is_tag.1 i) (sym add i)))),
+      ap read (sym same) ∙ (reads ∙ (λ i. Some (cycle_data (sym is_version.1 i) (sym is_tag.1 i) (sym add i) (sym said i)))),
     )

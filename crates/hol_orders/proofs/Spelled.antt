@@ -1,14 +1,17 @@
 -- What is asked for is spelled in one way: of what is spelled alike, the same is asked for.
 use Rattle.std.proofs.Common.{◌≡◌, ℤ, pos, negsuc, refl, ap, subst}
-use Rattle.serde_json.specs.Data.{Data}
+use Rattle.serde_json.specs.Data.{Data, number}
 use Rattle.serde_json.specs.Find.{of_integer}
+use Rattle.record_stream.specs.CycleLine.{saying}
 use Rattle.json_values.specs.SchemaJson.{AreSchemas}
 use Rattle.hol_orders.specs.declared.kind.Kind.{Kind}
 use Rattle.hol_orders.specs.declared.order.Order.{Order}
 use Rattle.hol_orders.specs.Kind.{IsAny, bound, change, shape, state, step, truth, walk}
 use Rattle.hol_orders.specs.Order.{asked_of, asking, asks, content_of, kind_of}
+use Rattle.hol_orders.specs.Parts.{tag_and_version, whole}
 use Rattle.hol_orders.specs.Shapes.{ArePaths, IsArray}
 use Rattle.hol_orders.specs.Spelling.{IsOneWay, Spelling, json, ordinal, pair_of, text, triple_of, version}
+use Rattle.hol_orders.proofs.Saying.{said_once}
 use Rattle.hol_orders.proofs.Walks.{one_list}
 
 one_json : (Fits : Data → Type 0) → IsOneWay (json Fits)
@@ -49,9 +52,13 @@ one_integer (negsuc m) (negsuc n) same = cc
 one_state : IsOneWay state
 one_state one other same =
     let add : one.add ≡ other.add = cc in
+    let left : saying one.snapshot (tag_and_version (number (of_integer one.tag)) (whole one.version)) ≡ saying other.snapshot (tag_and_version (number (of_integer other.tag)) (whole other.version)) = cc in
+    let rest = said_once one.snapshot other.snapshot (number (of_integer one.tag)) (whole one.version) (number (of_integer other.tag)) (whole other.version) left in
+    let tags = rest.1 in
+    let versions = rest.2 in
     let tag : one.tag ≡ other.tag = one_integer one.tag other.tag cc in
     let version : one.version ≡ other.version = cc in
-    λ i. record { version = version i; tag = tag i; add = add i }
+    λ i. record { version = version i; tag = tag i; add = add i; snapshot = rest.0 i }
 
 one_change : IsOneWay change
 one_change one other same =

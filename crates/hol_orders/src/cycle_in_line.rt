@@ -39,6 +39,7 @@ fn state_of(alloc: Global, parts: CycleParts) -> Option<NextState>
     ensures version { IfSome result (λ next. IsVersion next.version × (whole next.version ≡ view parts.version)) }
     ensures tag { IfSome result (λ next. FitsSigned w64 next.tag × (number (of_integer next.tag) ≡ view parts.tag)) }
     ensures add { IfSome result (λ next. next.add ≡ Added.Line parts.add) }
+    ensures snapshot { IfSome result (λ next. next.snapshot ≡ parts.snapshot) }
 {
     let Ok(version) = u64::from_json(alloc, parts.version) else {
         return None;
@@ -50,5 +51,6 @@ fn state_of(alloc: Global, parts: CycleParts) -> Option<NextState>
         version,
         tag,
         add: Added::Line(parts.add),
+        snapshot: parts.snapshot,
     })
 }

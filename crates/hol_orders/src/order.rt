@@ -27,6 +27,8 @@ pub struct NextState {
     pub tag: i64,
     /// The records that it adds.
     pub add: Added,
+    /// Whether its snapshot is put, where this is said: it is where nothing is said.
+    pub snapshot: Option<bool>,
 }
 
 /// What a change asks for: the next state, as a change of the one before.
@@ -47,7 +49,7 @@ pub struct StateChange {
 pub enum Order {
     /// `{"model":[S1,S2]}`: makes a new producer of these schemas, which are still JSON.
     Model(Value),
-    /// `{"cycle":{"version":V,"tag":T,"add":{type:[records]}}}`: publishes the next state.
+    /// `{"cycle":{"version":V,"tag":T,"add":{type:[records]}}}`: publishes the next state. A member `"snapshot":b` may say whether its snapshot is put.
     Cycle(NextState),
     /// `{"restore":V}`: takes a producer up again at a version.
     Restore(u64),

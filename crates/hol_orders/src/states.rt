@@ -1,8 +1,8 @@
 //! What `cycle` and `change` ask for, taken from JSON values.
 ghost use Rattle.std.specs.Prelude.{◌≡◌};
 ghost use Rattle.serde_json.specs.View.{view, members_view};
-ghost use Rattle.hol_orders.specs.Parts.{change_data, state_data};
-ghost use Rattle.hol_orders.specs.Taken.{TellsFour, TellsNext, TellsThree};
+ghost use Rattle.hol_orders.specs.Parts.{change_data};
+ghost use Rattle.hol_orders.specs.Taken.{TellsFour, TellsNext, TellsSaid, TellsState};
 
 use crate::added::Added;
 use crate::json_parts::{FromJson, Records, RemovedKeys};
@@ -21,7 +21,7 @@ impl FromJson for NextState {
     ghost spelling = { state };
 
     fn from_json(alloc: Global, value: Value) -> Result<NextState, OrderFault> {
-        let (add, tag, version) = state_members(value)?;
+        let (add, snapshot, tag, version) = state_members(value)?;
         let Records(add) = FromJson::from_json(alloc, add)?;
         let tag = FromJson::from_json(alloc, tag)?;
         let version = FromJson::from_json(alloc, version)?;
@@ -29,6 +29,7 @@ impl FromJson for NextState {
             version,
             tag,
             add: Added::Json(add),
+            snapshot,
         })
     }
 }
@@ -58,18 +59,19 @@ impl FromJson for StateChange {
     }
 }
 
-// The values of `add`, `tag` and `version` of an object that has these members alone.
-fn state_members(value: Value) -> Result<(Value, Value, Value), OrderFault>
-    ensures { TellsThree state_data (view value) result }
+// The values of `add`, `tag` and `version` of an object that has these members alone, or `snapshot` too, and what that says.
+fn state_members(value: Value) -> Result<(Value, Option<bool>, Value, Value), OrderFault>
+    ensures { TellsState (view value) result }
 {
     let Value::Object(mut members) = value else {
         return Err(OrderFault::BadOrder);
     };
     let add = next_named(&mut members, "add")?;
+    let snapshot = next_said(&mut members)?;
     let tag = next_named(&mut members, "tag")?;
     let version = next_named(&mut members, "version")?;
     if members.is_empty() {
-        Ok((add, tag, version))
+        Ok((add, snapshot, tag, version))
     } else {
         Err(OrderFault::BadOrder)
     }
@@ -90,6 +92,20 @@ fn change_members(value: Value) -> Result<(Value, Value, Value, Value), OrderFau
         Ok((put, remove, tag, version))
     } else {
         Err(OrderFault::BadOrder)
+    }
+}
+
+// Takes the member that says whether a snapshot is put, where a third member is left.
+fn next_said(members: &mut Map<String, Value>) -> Result<Option<bool>, OrderFault>
+    ensures { TellsSaid (members_view members.old.entries) (members_view members.new.entries) result }
+{
+    if members.len() < 3 {
+        return Ok(None);
+    }
+    let value = next_named(members, "snapshot")?;
+    match value.as_bool() {
+        Some(snapshot) => Ok(Some(snapshot)),
+        None => Err(OrderFault::BadOrder),
     }
 }
 

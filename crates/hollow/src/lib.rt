@@ -7,7 +7,7 @@
 //! ```text
 //! producer.add(product, &record)?;
 //! let closed = producer.close()?;
-//! let blobs = write_blobs(alloc, producer, version, tag)?;
+//! let blobs = write_blobs(alloc, producer, version, tag, true)?;
 //! publish(alloc, store, version, &blobs)?;
 //! producer.advance(tag, version);
 //!

@@ -21,6 +21,7 @@ use Rattle.hol_answers.specs.declared.refusal.Refusal.{Refusal}
 use Rattle.hol_answers.specs.declared.reply.Reply.{Reply}
 use Rattle.hol_answers.specs.declared.reply.Reply.TheVariants as reply
 use Rattle.hollow_machine.specs.CycleOrder.{CycleStep, SucceedsAfter}
+use Rattle.hollow_machine.specs.GrowOrder.{GrowStep, GrowsOn}
 use Rattle.hollow_machine.specs.HistoryOrders.{HistoryStep}
 use Rattle.hollow_machine.specs.IndexOrder.{IndexStep}
 use Rattle.hollow_machine.specs.KeyPaths.{AreKeyPaths, HasShape, IsObject}
@@ -51,6 +52,12 @@ model_stays : (machine next : Machine) (value : Data) (answer : Reply) → Model
 model_stays machine next value (reply.Model types) (schemas, none, stands, is, count, next_is) = same_store machine next _ next_is refl
 model_stays machine next value (reply.Refused refusal) is = same_store machine next machine is.1 refl
 model_stays machine next value _ is = absurd is
+
+grow_stays : (machine next : Machine) (value : Data) (answer : Reply) → GrowStep machine value answer next → next.store ≡ machine.store
+grow_stays machine next value (reply.Grow types) is =
+    of_some machine.producer (GrowsOn machine value types next) is (λ last grows. let (schemas, stands, model, on, count, next_is) = grows in same_store machine next _ next_is refl)
+grow_stays machine next value (reply.Refused refusal) is = same_store machine next machine is.1 refl
+grow_stays machine next value _ is = absurd is
 
 restore_stays : (machine next : Machine) (version : ℕ) (answer : Reply) → RestoreStep machine version answer next → next.store ≡ machine.store
 restore_stays machine next version (reply.Restore tag restored) (same, last, (position, stored, once, tag_is, next_is)) = same_store machine next _ next_is refl
@@ -152,6 +159,7 @@ cycle_puts machine next asked _ is = absurd is
 order_puts : (asked : Order) (machine next : Machine) (answer : Reply) → Step machine asked answer next → HasAll (OrderPuts asked machine) machine.store next.store
 order_puts (order.Cycle next_state) machine next answer is = cycle_puts machine next (asked_cycle (asked_state next_state)) answer is
 order_puts (order.Model schemas) machine next answer is = inl (model_stays machine next _ answer is)
+order_puts (order.Grow schemas) machine next answer is = inl (grow_stays machine next _ answer is)
 order_puts (order.Restore version) machine next answer is = inl (restore_stays machine next version answer is)
 order_puts (order.Load version) machine next answer is = inl (load_stays machine next version answer is)
 order_puts (order.Step from to) machine next answer is = inl (step_stays machine next _ to answer is)

@@ -4,7 +4,7 @@ use Rattle.hol_io.specs.declared.name.BlobName.{BlobName}
 use Rattle.hol_io.specs.declared.name.BlobName.TheVariants.{Snapshot}
 use Rattle.hol_io.specs.Store.{Store, told}
 use Rattle.chain_check.specs.Compare.{State}
-use Rattle.chain_check.specs.Walk.{Both, Calls, Differs, Passes, Stops, name_of_step, state_by}
+use Rattle.chain_check.specs.Walk.{Both, Calls, Differs, Passes, Stops, compared_in, name_of_step, state_by}
 use Rattle.read_engine.specs.Position.{Position}
 use Rattle.read_engine.specs.Taking.{StepsBy}
 use Rattle.read_engine.specs.Walking.{schemas_at, table_at, tag_at}
@@ -38,11 +38,12 @@ walk_calls = record { loads = WalkLoads; steps = WalkSteps; state = state_by tag
 abbrev pub both_new : Both (Option Position)
 both_new = record { walker = None; fresh = None }
 
--- What is answered of a walk over these versions: that each state is that of its snapshot loaded afresh, and how many there are; or the first
--- version at which the two differ, and where; or why a blob is refused on the way.
+-- What is answered of a walk over these versions: that at each of them whose snapshot the store has the state is that of the snapshot loaded afresh, how many
+-- these are, and how many versions there are; or the first version at which the two differ, and where; or why a blob is refused on the way.
 abbrev pub CheckReply : Store → List ℕ → Reply → Type 0
-CheckReply store versions (Check states) =
-    (states ≡ length versions) × ((now : Both (Option Position)) × Passes walk_calls (Some store) None versions both_new now)
+CheckReply store versions (Check compared states) =
+    (states ≡ length versions) × (compared ≡ compared_in store versions)
+    × ((now : Both (Option Position)) × Passes walk_calls (Some store) None versions both_new now)
 CheckReply store versions (Refused (Mismatch difference)) =
     (now : Both (Option Position)) × Differs walk_calls (Some store) versions both_new difference.version difference.type_name difference.ordinal now
 CheckReply store versions (Refused refusal) =

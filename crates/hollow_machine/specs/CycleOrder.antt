@@ -32,13 +32,13 @@ abbrev pub Publishes : Published → List ℕ → Type 0
 Publishes last changed = (last.version ≡ 0) ⊎ (changed ≢ [])
 
 -- Which limit is passed by the records of these types and trees: a row would get the ordinal 2^22; or the first limit that a type of the next state
--- passes; or each type keeps all, and a blob is too long.
-abbrev pub PassesLimit : Published → ℕ → ℤ → List (ℕ × PlainTree) → Limit → Type 0
-PassesLimit last version tag trees limit.Ordinals = (rows : Table) → ¬ Next last.model last.rows trees rows
-PassesLimit last version tag trees limit.Blob =
+-- passes; or each type keeps all, and a blob that would be put is too long.
+abbrev pub PassesLimit : Published → ℕ → ℤ → Bool → List (ℕ × PlainTree) → Limit → Type 0
+PassesLimit last version tag with_snapshot trees limit.Ordinals = (rows : Table) → ¬ Next last.model last.rows trees rows
+PassesLimit last version tag with_snapshot trees limit.Blob =
     (rows : Table) × (changed : List ℕ) × Makes last trees rows changed × Publishes last changed × TellsTypes last.model last.rows rows None
-    × ((blobs : List Put) → AreBlobs last rows version tag blobs → ¬ All IsShort blobs)
-PassesLimit last version tag trees passed =
+    × ((blobs : List Put) → AreBlobs last rows version tag with_snapshot blobs → ¬ All IsShort blobs)
+PassesLimit last version tag with_snapshot trees passed =
     (rows : Table) × (changed : List ℕ) × Makes last trees rows changed × Publishes last changed × TellsTypes last.model last.rows rows (Some passed)
 
 -- Why the order is refused, where there is a producer: the state may not follow; or its records give no trees; or these pass a limit.
@@ -47,7 +47,7 @@ RefusesAfter store last asked (NoType name) = MayFollow store last.version asked
 RefusesAfter store last asked (BadRecord fault) = MayFollow store last.version asked.version asked.tag × GivesNoTrees last.model asked.add (BadRecord fault)
 RefusesAfter store last asked (TooLarge passed) =
     MayFollow store last.version asked.version asked.tag
-    × ((trees : List (ℕ × PlainTree)) × GivesTrees last asked.add trees × PassesLimit last asked.version asked.tag trees passed)
+    × ((trees : List (ℕ × PlainTree)) × GivesTrees last asked.add trees × PassesLimit last asked.version asked.tag asked.snapshot trees passed)
 RefusesAfter store last asked refusal = MayNotFollow store last.version asked.version asked.tag refusal
 
 -- Why the order is refused: there is no producer, or what there is to it.
@@ -59,25 +59,27 @@ CycleRefusal machine asked refusal = IsSomeAnd machine.producer (λ last. Refuse
 abbrev pub AreNamed : List Schema → List ℕ → List (List ℕ) → Type 0
 AreNamed schemas types names = AllZip (λ t name. IsSomeAnd (slice_get schemas t) (λ schema. schema.name ≡ name)) types names
 
--- What a cycle leaves that published nothing, or published: the machine as it was, or with all puts and the new rows, tag and version.
-abbrev pub Leaves : Machine → Published → Table → List ℕ → ℕ → ℤ → Bool → Machine → Type 0
-Leaves machine last rows changed version tag false next = (last.version ≢ 0) × (changed ≡ []) × (next ≡ machine)
-Leaves machine last rows changed version tag true next =
+-- What a cycle leaves that published nothing, or published: the machine as it was, or with all puts, of which the snapshot is one where it is asked for,
+-- and the new rows, tag and version.
+abbrev pub Leaves : Machine → Published → Table → List ℕ → ℕ → ℤ → Bool → Bool → Machine → Type 0
+Leaves machine last rows changed version tag with_snapshot false next = (last.version ≢ 0) × (changed ≡ []) × (next ≡ machine)
+Leaves machine last rows changed version tag with_snapshot true next =
     Publishes last changed × TellsTypes last.model last.rows rows None
-    × ((blobs : List Put) × AreBlobs last rows version tag blobs × All IsShort blobs
+    × ((blobs : List Put) × AreBlobs last rows version tag with_snapshot blobs × All IsShort blobs
     × (next ≡ with_producer (with_store machine (put_all machine.store (puts_of blobs version))) (Some (record { model = last.model; rows = rows; tag = tag; version = version }))))
 
 -- What is answered that is not refused of a state that may follow with the records of these types and trees, and the machine behind it.
-abbrev pub Succeeds : Machine → Published → ℕ → ℤ → List (ℕ × PlainTree) → List (List ℕ) → Bool → Machine → Type 0
-Succeeds machine last version tag trees names published next =
+abbrev pub Succeeds : Machine → Published → ℕ → ℤ → Bool → List (ℕ × PlainTree) → List (List ℕ) → Bool → Machine → Type 0
+Succeeds machine last version tag with_snapshot trees names published next =
     (rows : Table) × (changed : List ℕ) × Makes last trees rows changed × AreNamed last.model changed names
-    × Leaves machine last rows changed version tag published next
+    × Leaves machine last rows changed version tag with_snapshot published next
 
 -- The state may follow, and its records give trees, of which this is answered.
 abbrev pub SucceedsAfter : Machine → Published → AskedCycle → List (List ℕ) → Bool → Machine → Type 0
 SucceedsAfter machine last asked names published next =
     MayFollow machine.store last.version asked.version asked.tag
-    × ((trees : List (ℕ × PlainTree)) × GivesTrees last asked.add trees × Succeeds machine last asked.version asked.tag trees names published next)
+    × ((trees : List (ℕ × PlainTree)) × GivesTrees last asked.add trees
+    × Succeeds machine last asked.version asked.tag asked.snapshot trees names published next)
 
 -- What the order answers, and the machine behind it.
 abbrev pub CycleStep : Machine → AskedCycle → Reply → Machine → Type 0

@@ -3,6 +3,7 @@ pub mod CheckOrder
 pub mod CycleOrder
 pub mod Follow
 pub mod Forms
+pub mod GrowOrder
 pub mod HistoryOrders
 pub mod IndexOrder
 pub mod Kept

@@ -1,5 +1,5 @@
 -- The puts of an order and of a line, in their order: those by which a cycle publishes.
-use Rattle.std.specs.Prelude.{◌≡◌, ◌≤◌, ℕ, ℤ, List, [], All, Option, Some, None, IsSome, IsSomeAnd, length}
+use Rattle.std.specs.Prelude.{Bool, ◌≡◌, ◌≤◌, ℕ, ℤ, List, [], All, Option, Some, None, IsSome, IsSomeAnd, length}
 use Rattle.hol_io.specs.Store.{Store}
 use Rattle.row_model.specs.PlainTree.{PlainTree}
 use Rattle.row_model.specs.Table.{Table}
@@ -18,16 +18,17 @@ use Rattle.hollow_machine.specs.State.{Machine}
 
 -- A state of these rows that keeps all limits is published by these puts, in their order: its blobs, none of which is too long, and behind them its version
 -- as the announced one.
-abbrev pub ArePutsOf : Published → Table → ℕ → ℤ → List Put → Type 0
-ArePutsOf last rows version tag puts =
-    TellsTypes last.model last.rows rows None × ((blobs : List Put) × AreBlobs last rows version tag blobs × All IsShort blobs × (puts ≡ puts_of blobs version))
+abbrev pub ArePutsOf : Published → Table → ℕ → ℤ → Bool → List Put → Type 0
+ArePutsOf last rows version tag with_snapshot puts =
+    TellsTypes last.model last.rows rows None
+    × ((blobs : List Put) × AreBlobs last rows version tag with_snapshot blobs × All IsShort blobs × (puts ≡ puts_of blobs version))
 
 -- The puts of a cycle that publishes behind the producer's last state: the state may follow, the records give trees, and these make the rows.
 abbrev pub PutsAfter : Store → Published → AskedCycle → List Put → Type 0
 PutsAfter store last asked puts =
     MayFollow store last.version asked.version asked.tag
     × ((trees : List (ℕ × PlainTree)) × (rows : Table) × (changed : List ℕ)
-    × GivesTrees last asked.add trees × Makes last trees rows changed × Publishes last changed × ArePutsOf last rows asked.version asked.tag puts)
+    × GivesTrees last asked.add trees × Makes last trees rows changed × Publishes last changed × ArePutsOf last rows asked.version asked.tag asked.snapshot puts)
 
 abbrev pub CyclePuts : AskedCycle → Machine → List Put → Type 0
 CyclePuts asked machine puts = IsSomeAnd machine.producer (λ last. PutsAfter machine.store last asked puts)

@@ -1,5 +1,5 @@
 -- The records of a cycle, and which trees they give: as JSON, those under the name of each type of the model, types in model order.
-use Rattle.std.specs.Prelude.{◌≡◌, ℕ, ℤ, List, [], ◌∷◌, ◌++◌, All, Bool, true, IsOk, IsSome, IsSomeAnd, None, Ok, Err, length, map, flat_map, slice_get}
+use Rattle.std.specs.Prelude.{◌≡◌, ℕ, ℤ, List, [], ◌∷◌, ◌++◌, All, Bool, true, IsOk, IsSome, IsSomeAnd, None, Ok, Err, length, map, flat_map, slice_get, unwrap_or}
 use Rattle.std.specs.List.{AllZip, range_with_len, zip}
 use Rattle.std.specs.Option.{option_map_or, option_and_then}
 use Rattle.serde_json.specs.Data.{Data, Items, no_items, item, Members, no_members, member}
@@ -26,9 +26,9 @@ pub record AskedCycle : Type 0 where
   pub add : Adding
   pub snapshot : Bool
 
--- what an order asks for
+-- what an order asks for: where it does not say whether the snapshot is put, it is
 abbrev pub asked_cycle : AskedState → AskedCycle
-asked_cycle asked = record { version = asked.version; tag = asked.tag; add = spelled asked.add; snapshot = true }
+asked_cycle asked = record { version = asked.version; tag = asked.tag; add = spelled asked.add; snapshot = unwrap_or asked.snapshot true }
 
 -- A record of a cycle: the index of its type, its place among the records of the type, from 0, and its JSON.
 pub record Entry : Type 0 where

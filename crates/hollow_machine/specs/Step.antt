@@ -1,7 +1,7 @@
 -- What the machine answers to an order, and the machine behind it.
 use Rattle.std.specs.Prelude.{Option}
 use Rattle.hol_orders.specs.declared.kind.Kind.{Kind}
-use Rattle.hol_orders.specs.declared.kind.Kind.TheVariants.{Model, Cycle, Restore, Load, Step as StepKind, Index, Get, Find, Live, Row, Has, At, Past, Check, Stat, Plan, Goto, History, Was, WasGet}
+use Rattle.hol_orders.specs.declared.kind.Kind.TheVariants.{Model, Cycle, Restore, Load, Step as StepKind, Index, Get, Find, Live, Row, Has, At, Past, Check, Stat, Grow, Plan, Goto, History, Was, WasGet}
 use Rattle.hol_orders.specs.declared.order.Order.{Order}
 use Rattle.hol_orders.specs.Kind.{shape}
 use Rattle.hol_orders.specs.Order.{asked_of, kind_of}
@@ -10,6 +10,7 @@ use Rattle.read_engine.specs.Position.{Position}
 use Rattle.hollow_machine.specs.CheckOrder.{check_form}
 use Rattle.hollow_machine.specs.CycleOrder.{cycle_form}
 use Rattle.hollow_machine.specs.Forms.{IsLooking, LooksBy, OrderForm, StepBy, unbuilt}
+use Rattle.hollow_machine.specs.GrowOrder.{grow_form}
 use Rattle.hollow_machine.specs.HistoryOrders.{history_form, was_form, wasget_form}
 use Rattle.hollow_machine.specs.IndexOrder.{index_form}
 use Rattle.hollow_machine.specs.KeyOrders.{find_form, get_form}
@@ -40,6 +41,7 @@ form At = at_form
 form Past = past_form
 form Check = check_form
 form Stat = stat_form
+form Grow = grow_form
 form Plan = plan_form
 form Goto = goto_form
 form History = history_form

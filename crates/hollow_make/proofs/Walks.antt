@@ -98,6 +98,6 @@ is_walk published versions are some is = subst IsWalk (sym is) (record {
 })
 
 -- Where no version is published none is walked.
-pub none_walked : (held : Option Store) (published : List ℕ) → published ≡ [] → IfSome held (λ store. CheckReply store (there_and_back published) (reply.Check 0))
+pub none_walked : (held : Option Store) (published : List ℕ) → published ≡ [] → IfSome held (λ store. CheckReply store (there_and_back published) (reply.Check 0 0))
 none_walked None published none = tt
-none_walked (Some store) published none = subst (λ (ns : List ℕ). CheckReply store (there_and_back ns) (reply.Check 0)) (sym none) (refl, (both_new, refl))
+none_walked (Some store) published none = subst (λ (ns : List ℕ). CheckReply store (there_and_back ns) (reply.Check 0 0)) (sym none) (refl, refl, (both_new, refl))

@@ -26,7 +26,10 @@ pub(crate) fn check_walk<S: BlobStore, P: Progress>(
     ensures later { (S.seen store.old).faults ≤ (S.seen store.new).faults }
 {
     if published.is_empty() {
-        return Ok(Reply::Check(0));
+        return Ok(Reply::Check {
+            compared: 0,
+            states: 0,
+        });
     }
     let versions = there_and_back(alloc, published)?;
     progress.walk(versions.len() as u64);

@@ -16,12 +16,13 @@ use Rattle.read_engine.specs.Position.{Position}
 
 -- an order that is none of a producer, and does not check the store
 pub of_reader : (asked : Order) → ((schemas : Value) → asked ≢ order.Model schemas) → ((next : NextState) → asked ≢ order.Cycle next) → ((version : ℕ) → asked ≢ order.Restore version) →
-    ((versions : List ℕ) → asked ≢ order.Check versions) → IsOfReader asked
-of_reader (order.Model schemas) not_model not_cycle not_restore not_check = absurd (not_model schemas refl)
-of_reader (order.Cycle next) not_model not_cycle not_restore not_check = absurd (not_cycle next refl)
-of_reader (order.Restore version) not_model not_cycle not_restore not_check = absurd (not_restore version refl)
-of_reader (order.Check versions) not_model not_cycle not_restore not_check = absurd (not_check versions refl)
-of_reader _ not_model not_cycle not_restore not_check = tt
+    ((versions : List ℕ) → asked ≢ order.Check versions) → ((schemas : Value) → asked ≢ order.Grow schemas) → IsOfReader asked
+of_reader (order.Model schemas) not_model not_cycle not_restore not_check not_grow = absurd (not_model schemas refl)
+of_reader (order.Cycle next) not_model not_cycle not_restore not_check not_grow = absurd (not_cycle next refl)
+of_reader (order.Restore version) not_model not_cycle not_restore not_check not_grow = absurd (not_restore version refl)
+of_reader (order.Check versions) not_model not_cycle not_restore not_check not_grow = absurd (not_check versions refl)
+of_reader (order.Grow schemas) not_model not_cycle not_restore not_check not_grow = absurd (not_grow schemas refl)
+of_reader _ not_model not_cycle not_restore not_check not_grow = tt
 
 -- an order of the consumer that is none of those that move the machine, or ask for a plan, looks
 pub looks_back : (asked : Order) → IsOfReader asked → ((version : ℕ) → asked ≢ order.Load version) → ((from to : ℕ) → asked ≢ order.Step from to) →
@@ -29,6 +30,7 @@ pub looks_back : (asked : Order) → IsOfReader asked → ((version : ℕ) → a
     ((bound : ℕ) → asked ≢ order.History bound) → IsLookBack asked
 looks_back (order.Model schemas) of not_load not_step not_plan not_goto not_index not_history = absurd of
 looks_back (order.Cycle next) of not_load not_step not_plan not_goto not_index not_history = absurd of
+looks_back (order.Grow schemas) of not_load not_step not_plan not_goto not_index not_history = absurd of
 looks_back (order.Restore version) of not_load not_step not_plan not_goto not_index not_history = absurd of
 looks_back (order.Check versions) of not_load not_step not_plan not_goto not_index not_history = absurd of
 looks_back (order.Load version) of not_load not_step not_plan not_goto not_index not_history = absurd (not_load version refl)
@@ -63,7 +65,6 @@ unbuilt_looks (order.Has name ordinal element) consumer look not_get not_find no
 unbuilt_looks (order.At name ordinal key) consumer look not_get not_find not_live not_row not_has not_at not_past not_stat = absurd (not_at name ordinal key refl)
 unbuilt_looks (order.Past name) consumer look not_get not_find not_live not_row not_has not_at not_past not_stat = absurd (not_past name refl)
 unbuilt_looks order.Stat consumer look not_get not_find not_live not_row not_has not_at not_past not_stat = absurd (not_stat refl)
-unbuilt_looks (order.Grow schemas) consumer look not_get not_find not_live not_row not_has not_at not_past not_stat = refl
 unbuilt_looks (order.Change change) consumer look not_get not_find not_live not_row not_has not_at not_past not_stat = refl
 unbuilt_looks (order.WalkIndex name path) consumer look not_get not_find not_live not_row not_has not_at not_past not_stat = refl
 unbuilt_looks (order.WalkFind name path value) consumer look not_get not_find not_live not_row not_has not_at not_past not_stat = refl

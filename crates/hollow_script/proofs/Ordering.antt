@@ -15,6 +15,7 @@ use Rattle.hol_orders.specs.Parts.{asked_state}
 use Rattle.hollow_machine.specs.Records.{asked_cycle}
 use Rattle.hollow_machine.specs.CycleOrder.{CycleStep}
 use Rattle.hollow_machine.specs.Forms.{LooksBy, OrderForm, StepBy, looking, moving}
+use Rattle.hollow_machine.specs.GrowOrder.{GrowStep}
 use Rattle.hollow_machine.specs.HistoryOrders.{WasGetReply, WasReply}
 use Rattle.hollow_machine.specs.Kept.{Kept, Moves, MovesProducer, MovesReader, Reader, kept_with_producer, kept_with_reader, machine_of, past_of}
 use Rattle.hollow_machine.specs.Left.{Halts, HaltsProducer}
@@ -45,6 +46,19 @@ module _ (held : Option Store) (kept : Kept) (producer : Option Production) (ask
       over : (told : Option Store) (answer : Result Reply OrderStop) →
           ((store : Store) (beside : Kept) → IfOk answer (λ reply. ModelStep (machine_of store (kept_with_producer beside kept.producer)) (view schemas) reply (machine_of store (kept_with_producer beside producer)))) →
           Moves (λ machine reply next. ModelStep machine (view schemas) reply next) told kept told (kept_with_producer kept producer) answer
+      over None answer gives = tt
+      over (Some store) (Err stop) gives = tt
+      over (Some store) (Ok reply) gives = (store, refl, gives store kept)
+
+  -- and so does what the order `grow` is answered
+  pub grow_moves : (schemas : Value) → asked ≡ order.Grow schemas →
+      ((store : Store) (beside : Kept) → IfOk r (λ reply. GrowStep (machine_of store (kept_with_producer beside kept.producer)) (view schemas) reply (machine_of store (kept_with_producer beside producer)))) →
+      Moves (λ machine reply next. Step machine asked reply next) held kept held (kept_with_producer kept producer) r
+  grow_moves schemas is answers = asked_moves held held kept (kept_with_producer kept producer) asked (order.Grow schemas) r is (over held r answers)
+    where
+      over : (told : Option Store) (answer : Result Reply OrderStop) →
+          ((store : Store) (beside : Kept) → IfOk answer (λ reply. GrowStep (machine_of store (kept_with_producer beside kept.producer)) (view schemas) reply (machine_of store (kept_with_producer beside producer)))) →
+          Moves (λ machine reply next. GrowStep machine (view schemas) reply next) told kept told (kept_with_producer kept producer) answer
       over None answer gives = tt
       over (Some store) (Err stop) gives = tt
       over (Some store) (Ok reply) gives = (store, refl, gives store kept)

@@ -10,6 +10,7 @@ use Rattle.hollow_machine.specs.Step.{IsLook, Step}
 abbrev pub IsOfReader : Order → Type 0
 IsOfReader (order.Model schemas) = ⊥
 IsOfReader (order.Cycle next) = ⊥
+IsOfReader (order.Grow schemas) = ⊥
 IsOfReader (order.Restore version) = ⊥
 IsOfReader (order.Check versions) = ⊥
 IsOfReader _ = Unit {0}

@@ -17,7 +17,7 @@ use hol_history::History;
 use hol_io::BlobStore;
 use hol_orders::{Order, OrderStop};
 use plan_orders::{goto, plan};
-use producer_orders::{cycle, model};
+use producer_orders::{cycle, grow, model};
 use read_engine::Consumer;
 use std::alloc::Global;
 
@@ -50,6 +50,7 @@ pub fn answer<S: BlobStore>(
 {
     match order {
         Order::Model(schemas) => model(alloc, schemas, &mut keep.producer),
+        Order::Grow(schemas) => grow(alloc, schemas, &mut keep.producer),
         Order::Cycle(next) => cycle(alloc, store, &mut keep.producer, next),
         Order::Restore(version) => restore(alloc, store, &mut keep.producer, *version),
         Order::Check(versions) => check(alloc, store, versions),

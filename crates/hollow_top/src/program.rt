@@ -98,7 +98,7 @@ pub fn run<I: Source, O: Sink, S: BlobStore, P: Progress>(
         → IfSome (S.seen store.old).held (λ first. StopsMade seed rows cycles first (S.seen store.new).held) }
     ensures make_silent { 4 < result → (seed rows cycles : ℕ) → Asks (map string_bytes words.now) (Command.Make seed rows cycles) → out.new ≡ out.old }
 
-    // The headline: over a store that held a chain, each line is answered as is true of the chain, and the consumer stands at a state of it.
+    // The headline: over a store that held a chain, each line is answered as is true of the chain, and the consumer sees a state of it.
     ensures headline { result < 2 → AskScript (map string_bytes words.now) → IfSome (I.left input.old) (λ bytes. IfSome (S.seen store.old).held (λ first.
         (chain : Chain) → HoldsChain first chain
         → AnswersTruly bytes first chain (S.seen store.new).held keep.new (O.taken out.old) (O.taken out.new))) }

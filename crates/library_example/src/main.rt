@@ -181,7 +181,7 @@ fn put_state(
     if producer.over_limit().is_some() {
         return Err(Fault::TooLarge);
     }
-    let blobs = write_blobs(alloc, producer, version, tag)?;
+    let blobs = write_blobs(alloc, producer, version, tag, true)?;
     publish(alloc, store, version, &blobs)?;
     producer.advance(tag, version);
     Ok(())

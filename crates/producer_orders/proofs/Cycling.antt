@@ -38,7 +38,7 @@ use Rattle.producer_orders.specs.Making.{AreRefused, Ends, EndsPublished, Follow
 -- what is too large is refused, where the state would be published
 too_large : (store : Store) (last : Published) (asked : AskedCycle) (trees : List (ℕ × PlainTree)) (rows : Table) (changed : List ℕ) (why : Refusal) →
     MayFollow store last.version asked.version asked.tag → GivesTrees last asked.add trees → Makes last trees rows changed → Publishes last changed →
-    IsTooLarge last rows asked.version asked.tag why → RefusesAfter store last asked why
+    IsTooLarge last rows asked.version asked.tag asked.snapshot why → RefusesAfter store last asked why
 too_large store last asked trees rows changed (refusal.TooLarge limit.Ordinals) follows gives makes publishes told = absurd told.3
 too_large store last asked trees rows changed (refusal.TooLarge limit.Blob) follows gives makes publishes told = (follows, (trees, gives, (rows, changed, makes, publishes, told.0, told.1)))
 too_large store last asked trees rows changed (refusal.TooLarge _) follows gives makes publishes told = (follows, (trees, gives, (rows, changed, makes, publishes, told)))
@@ -47,7 +47,7 @@ too_large store last asked trees rows changed _ follows gives makes publishes to
 -- how a closed cycle ends is what the order answers
 ended : (store : Store) (last : Published) (asked : AskedCycle) (trees : List (ℕ × PlainTree)) (rows : Table) (changed : List ℕ) (held : Option Store) (now : Published) (answer : Reply) →
     MayFollow store last.version asked.version asked.tag → GivesTrees last asked.add trees → Makes last trees rows changed →
-    IsEnded store last rows changed asked.version asked.tag held now answer →
+    IsEnded store last rows changed asked.version asked.tag asked.snapshot held now answer →
     (next : Store) × (held ≡ Some next) × ((machine : Machine) → CycleStep (machine_with machine store last) asked answer (machine_with machine next now))
 ended store last asked trees rows changed held now (reply.Cycle names published version) follows gives makes (same, named, (next, is, leaves)) =
     (next, is, λ machine. (same, (follows, (trees, gives, (rows, changed, makes, named, leaves machine)))))
@@ -65,26 +65,26 @@ stops_before ArePuts store held held' same told = (store, same ∙ told, inl ref
 -- how the last part ends is how the cycle ends
 ends_so : (store : Store) (last : Published) (asked : AskedCycle) (trees : List (ℕ × PlainTree)) (rows : Table) (changed : List ℕ) (held : Option Store) (now : Published) (result : Result Reply CycleEnd) →
     MayFollow store last.version asked.version asked.tag → GivesTrees last asked.add trees → Makes last trees rows changed →
-    TellsEnd (IsEnded store last rows changed asked.version asked.tag held now) (λ why. (held ≡ Some store) × Publishes last changed × IsTooLarge last rows asked.version asked.tag why)
-    (λ stop. StopsPart (λ puts. Publishes last changed × ArePutsOf last rows asked.version asked.tag puts) store held) result →
+    TellsEnd (IsEnded store last rows changed asked.version asked.tag asked.snapshot held now) (λ why. (held ≡ Some store) × Publishes last changed × IsTooLarge last rows asked.version asked.tag asked.snapshot why)
+    (λ stop. StopsPart (λ puts. Publishes last changed × ArePutsOf last rows asked.version asked.tag asked.snapshot puts) store held) result →
     TellsEnd (λ answer. (next : Store) × (held ≡ Some next) × ((machine : Machine) → CycleStep (machine_with machine store last) asked answer (machine_with machine next now)))
     (λ why. (held ≡ Some store) × RefusesAfter store last asked why) (λ stop. StopsPart (PutsAfter store last asked) store held) result
 ends_so store last asked trees rows changed held now (Ok answer) follows gives makes told = ended store last asked trees rows changed held now answer follows gives makes told
 ends_so store last asked trees rows changed held now (Err (cycle_end.Refused why)) follows gives makes told =
     (told.0, too_large store last asked trees rows changed why follows gives makes told.1 told.2)
 ends_so store last asked trees rows changed held now (Err (cycle_end.Stopped stop)) follows gives makes told =
-    stops_in (λ puts. Publishes last changed × ArePutsOf last rows asked.version asked.tag puts) (PutsAfter store last asked) store held
+    stops_in (λ puts. Publishes last changed × ArePutsOf last rows asked.version asked.tag asked.snapshot puts) (PutsAfter store last asked) store held
     (λ puts are. (follows, (trees, rows, changed, gives, makes, are.0, are.1))) told
 
 -- A closed cycle of a state that may follow ends so.
 pub ends : (asked : AskedCycle) (held between held' : Option Store) (last mid now : Published) (made : Production) (closed : Closed) (result : Result Reply CycleEnd) →
-    between ≡ held → mid ≡ last → Follows held last.version asked.version asked.tag (Ok tt) → IsMade last asked.add made closed → Ends between mid made.current closed.changed asked.version asked.tag held' now result →
+    between ≡ held → mid ≡ last → Follows held last.version asked.version asked.tag (Ok tt) → IsMade last asked.add made closed → Ends between mid made.current closed.changed asked.version asked.tag asked.snapshot held' now result →
     Steps asked held last held' now result
 ends asked None between held' last mid now made closed result same kept follows is told = tt
 ends asked (Some store) between held' last mid now made closed result same kept follows is told =
-    let over_last : Ends between last made.current closed.changed asked.version asked.tag held' now result = subst (λ (l : Published). Ends between l made.current closed.changed asked.version asked.tag held' now result) kept told in
-    let over_store : Ends (Some store) last made.current closed.changed asked.version asked.tag held' now result =
-    subst (λ (h : Option Store). Ends h last made.current closed.changed asked.version asked.tag held' now result) same over_last in
+    let over_last : Ends between last made.current closed.changed asked.version asked.tag asked.snapshot held' now result = subst (λ (l : Published). Ends between l made.current closed.changed asked.version asked.tag asked.snapshot held' now result) kept told in
+    let over_store : Ends (Some store) last made.current closed.changed asked.version asked.tag asked.snapshot held' now result =
+    subst (λ (h : Option Store). Ends h last made.current closed.changed asked.version asked.tag asked.snapshot held' now result) same over_last in
     ends_so store last asked is.trees made.current closed.changed held' now result follows is.gives is.makes over_store
 
 -- records that are refused, of a state that may follow, are what the cycle is refused for
@@ -147,24 +147,24 @@ no_producer asked None kept E is = λ kept. tt
 no_producer asked (Some store) kept E is = λ beside. (store, refl, (ap (option_map published_of) is, refl))
 
 -- Blobs that are not written end a cycle of a state that keeps the limits of its types.
-pub not_written : (last : Published) (rows : Table) (version : ℕ) (tag : ℤ) (fault : WriteFault) → TellsTypes last.model last.rows rows None →
-    MeansLarge (AreNotShort (AreBlobs last rows version tag)) fault → TellsEnd {T = Blobs} (IsWithin last rows version tag) (IsTooLarge last rows version tag) IsMemory (Err (end_of fault))
-not_written last rows version tag write.Large types means = (types, means)
-not_written last rows version tag write.Memory types means = refl
+pub not_written : (last : Published) (rows : Table) (version : ℕ) (tag : ℤ) (with_snapshot : Bool) (fault : WriteFault) → TellsTypes last.model last.rows rows None →
+    MeansLarge (AreNotShort (AreBlobs last rows version tag with_snapshot)) fault → TellsEnd {T = Blobs} (IsWithin last rows version tag with_snapshot) (IsTooLarge last rows version tag with_snapshot) IsMemory (Err (end_of fault))
+not_written last rows version tag with_snapshot write.Large types means = (types, means)
+not_written last rows version tag with_snapshot write.Memory types means = refl
 
 -- A state without blobs is not published.
-pub no_blobs : (held : Option Store) (last now : Published) (rows : Table) (version : ℕ) (tag : ℤ) (end : CycleEnd) →
-    TellsEnd {T = Blobs} (IsWithin last rows version tag) (IsTooLarge last rows version tag) IsMemory (Err end) → EndsPublished held last rows version tag held now (Err end)
-no_blobs None last now rows version tag end told = tt
-no_blobs (Some store) last now rows version tag (cycle_end.Refused why) told = (refl, told)
-no_blobs (Some store) last now rows version tag (cycle_end.Stopped stop) told = stops_before (ArePutsOf last rows version tag) store (Some store) (Some store) refl refl
+pub no_blobs : (held : Option Store) (last now : Published) (rows : Table) (version : ℕ) (tag : ℤ) (with_snapshot : Bool) (end : CycleEnd) →
+    TellsEnd {T = Blobs} (IsWithin last rows version tag with_snapshot) (IsTooLarge last rows version tag with_snapshot) IsMemory (Err end) → EndsPublished held last rows version tag with_snapshot held now (Err end)
+no_blobs None last now rows version tag with_snapshot end told = tt
+no_blobs (Some store) last now rows version tag with_snapshot (cycle_end.Refused why) told = (refl, told)
+no_blobs (Some store) last now rows version tag with_snapshot (cycle_end.Stopped stop) told = stops_before (ArePutsOf last rows version tag with_snapshot) store (Some store) (Some store) refl refl
 
 -- A state whose blobs are put is published.
-pub is_published : (held held' : Option Store) (old new : Production) (version : ℕ) (tag : ℤ) (blobs : Blobs) → IsWithin (published_of old) old.current version tag blobs →
+pub is_published : (held held' : Option Store) (old new : Production) (version : ℕ) (tag : ℤ) (with_snapshot : Bool) (blobs : Blobs) → IsWithin (published_of old) old.current version tag with_snapshot blobs →
     held' ≡ option_map (λ store. put_all store (puts_of (puts_in blobs) version)) held → new ≡ advanced_to tag version old →
-    EndsPublished held (published_of old) old.current version tag held' (published_of new) (Ok tt)
-is_published None held' old new version tag blobs within put is = tt
-is_published (Some store) held' old new version tag blobs within put is = (within.0, (puts_in blobs, within.1, within.2, put, ap published_of is))
+    EndsPublished held (published_of old) old.current version tag with_snapshot held' (published_of new) (Ok tt)
+is_published None held' old new version tag with_snapshot blobs within put is = tt
+is_published (Some store) held' old new version tag with_snapshot blobs within put is = (within.0, (puts_in blobs, within.1, within.2, put, ap published_of is))
 
 -- a front of some puts is one of so many, and no more than there are
 front_of : (puts : List Put) (count : ℕ) → (some : ℕ) × (some ≤ length puts) × (take count puts ≡ take some puts)
@@ -180,14 +180,14 @@ first_puts ArePuts puts are store now zero within is = inl is
 first_puts ArePuts puts are store now (suc count) within is = inr (puts, are, record { count = suc count; some = omega arith; within = within; put = is })
 
 -- A put that is refused ends a cycle with those before it.
-pub put_in_part : (held held' : Option Store) (last now : Published) (rows : Table) (version : ℕ) (tag : ℤ) (blobs : Blobs) (stop : OrderStop) → IsWithin last rows version tag blobs →
-    IsPartlyPut (puts_of (puts_in blobs) version) held held' → EndsPublished held last rows version tag held' now (Err (cycle_end.Stopped stop))
-put_in_part None held' last now rows version tag blobs stop within part = tt
-put_in_part (Some store) held' last now rows version tag blobs stop within (count, is) =
+pub put_in_part : (held held' : Option Store) (last now : Published) (rows : Table) (version : ℕ) (tag : ℤ) (with_snapshot : Bool) (blobs : Blobs) (stop : OrderStop) → IsWithin last rows version tag with_snapshot blobs →
+    IsPartlyPut (puts_of (puts_in blobs) version) held held' → EndsPublished held last rows version tag with_snapshot held' now (Err (cycle_end.Stopped stop))
+put_in_part None held' last now rows version tag with_snapshot blobs stop within part = tt
+put_in_part (Some store) held' last now rows version tag with_snapshot blobs stop within (count, is) =
     let puts = puts_of (puts_in blobs) version in
-    let are : ArePutsOf last rows version tag puts = (within.0, (puts_in blobs, within.1, within.2, refl)) in
+    let are : ArePutsOf last rows version tag with_snapshot puts = (within.0, (puts_in blobs, within.1, within.2, refl)) in
     let front = front_of puts count in
-    (put_all store (take count puts), is, first_puts (ArePutsOf last rows version tag) puts are store (put_all store (take count puts)) front.0 front.1 (ap (put_all store) front.2))
+    (put_all store (take count puts), is, first_puts (ArePutsOf last rows version tag with_snapshot) puts are store (put_all store (take count puts)) front.0 front.1 (ap (put_all store) front.2))
 
 -- What a cycle leaves of the store that stops.
 pub halts : (asked : AskedCycle) (held held' : Option Store) (old mid : Production) (stop : OrderStop) →
@@ -211,30 +211,30 @@ pub changes : (changed : List ℕ) (none : Bool) → none ≡ false → (IsTrue 
 changes changed none not is = λ empty. not_true none not (is.1 empty)
 
 -- A later cycle that changes no type publishes nothing.
-pub unpublished : (held : Option Store) (last : Published) (rows : Table) (changed : List ℕ) (version : ℕ) (tag : ℤ) (names : List (List ℕ)) (first : Bool) →
-    first ≡ false → (IsTrue first ↔ (last.version ≡ 0)) → changed ≡ [] → AreNamed last.model changed names → Ends held last rows changed version tag held last (Ok (reply.Cycle names false version))
-unpublished None last rows changed version tag names first later is empty named = tt
-unpublished (Some store) last rows changed version tag names first later is empty named =
+pub unpublished : (held : Option Store) (last : Published) (rows : Table) (changed : List ℕ) (version : ℕ) (tag : ℤ) (with_snapshot : Bool) (names : List (List ℕ)) (first : Bool) →
+    first ≡ false → (IsTrue first ↔ (last.version ≡ 0)) → changed ≡ [] → AreNamed last.model changed names → Ends held last rows changed version tag with_snapshot held last (Ok (reply.Cycle names false version))
+unpublished None last rows changed version tag with_snapshot names first later is empty named = tt
+unpublished (Some store) last rows changed version tag with_snapshot names first later is empty named =
     (refl, named, (store, refl, λ machine. ((λ zero. not_true first later (is.1 zero)), empty, refl)))
 
 -- A cycle that is published ends so.
-pub published : (held held' : Option Store) (last now : Published) (rows : Table) (changed : List ℕ) (version : ℕ) (tag : ℤ) (names : List (List ℕ)) →
-    Publishes last changed → AreNamed last.model changed names → EndsPublished held last rows version tag held' now (Ok tt) → Ends held last rows changed version tag held' now (Ok (reply.Cycle names true version))
-published None held' last now rows changed version tag names publishes named told = tt
-published (Some store) held' last now rows changed version tag names publishes named (types, (blobs, are, short, put, is)) =
+pub published : (held held' : Option Store) (last now : Published) (rows : Table) (changed : List ℕ) (version : ℕ) (tag : ℤ) (with_snapshot : Bool) (names : List (List ℕ)) →
+    Publishes last changed → AreNamed last.model changed names → EndsPublished held last rows version tag with_snapshot held' now (Ok tt) → Ends held last rows changed version tag with_snapshot held' now (Ok (reply.Cycle names true version))
+published None held' last now rows changed version tag with_snapshot names publishes named told = tt
+published (Some store) held' last now rows changed version tag with_snapshot names publishes named (types, (blobs, are, short, put, is)) =
     (refl, named, (put_all store (puts_of blobs version), put, λ machine. (publishes, types, (blobs, are, short, ap (λ p. machine_with machine (put_all store (puts_of blobs version)) p) is))))
 
 -- A cycle that cannot be published ends so.
-pub not_published : (held held' : Option Store) (last now : Published) (rows : Table) (changed : List ℕ) (version : ℕ) (tag : ℤ) (end : CycleEnd) → Publishes last changed →
-    EndsPublished held last rows version tag held' now (Err end) → Ends held last rows changed version tag held' now (Err end)
-not_published None held' last now rows changed version tag end publishes told = tt
-not_published (Some store) held' last now rows changed version tag (cycle_end.Refused why) publishes told = (told.0, publishes, told.1)
-not_published (Some store) held' last now rows changed version tag (cycle_end.Stopped stop) publishes told =
-    stops_in (ArePutsOf last rows version tag) (λ puts. Publishes last changed × ArePutsOf last rows version tag puts) store held' (λ puts are. (publishes, are)) told
+pub not_published : (held held' : Option Store) (last now : Published) (rows : Table) (changed : List ℕ) (version : ℕ) (tag : ℤ) (with_snapshot : Bool) (end : CycleEnd) → Publishes last changed →
+    EndsPublished held last rows version tag with_snapshot held' now (Err end) → Ends held last rows changed version tag with_snapshot held' now (Err end)
+not_published None held' last now rows changed version tag with_snapshot end publishes told = tt
+not_published (Some store) held' last now rows changed version tag with_snapshot (cycle_end.Refused why) publishes told = (told.0, publishes, told.1)
+not_published (Some store) held' last now rows changed version tag with_snapshot (cycle_end.Stopped stop) publishes told =
+    stops_in (ArePutsOf last rows version tag with_snapshot) (λ puts. Publishes last changed × ArePutsOf last rows version tag with_snapshot puts) store held' (λ puts are. (publishes, are)) told
 
 -- A closed cycle stops before anything of it is put.
-pub stops_unpublished : (held : Option Store) (last now : Published) (rows : Table) (changed : List ℕ) (version : ℕ) (tag : ℤ) (stop : OrderStop) →
-    Ends held last rows changed version tag held now (Err (cycle_end.Stopped stop))
-stops_unpublished None last now rows changed version tag stop = tt
-stops_unpublished (Some store) last now rows changed version tag stop =
-    stops_before (λ puts. Publishes last changed × ArePutsOf last rows version tag puts) store (Some store) (Some store) refl refl
+pub stops_unpublished : (held : Option Store) (last now : Published) (rows : Table) (changed : List ℕ) (version : ℕ) (tag : ℤ) (with_snapshot : Bool) (stop : OrderStop) →
+    Ends held last rows changed version tag with_snapshot held now (Err (cycle_end.Stopped stop))
+stops_unpublished None last now rows changed version tag with_snapshot stop = tt
+stops_unpublished (Some store) last now rows changed version tag with_snapshot stop =
+    stops_before (λ puts. Publishes last changed × ArePutsOf last rows version tag with_snapshot puts) store (Some store) (Some store) refl refl

@@ -2,6 +2,7 @@ mod AddingRecords
 mod AheadRecords
 mod Cycling
 mod FilmRecords
+mod Growing
 mod KnownTypes
 mod Makings
 mod Modelling

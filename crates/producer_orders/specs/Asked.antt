@@ -1,5 +1,5 @@
 -- What a cycle asks for, wherever its records come from.
-use Rattle.std.specs.Prelude.{◌≡◌, ◌≤◌, ℕ, ℤ, List, [], ◌∷◌, filter, map, true}
+use Rattle.std.specs.Prelude.{Bool, ◌≡◌, ◌≤◌, ℕ, ℤ, List, [], ◌∷◌, filter, map}
 use Rattle.film_script.specs.Films.{film, film_schemas, film_type, films, is_shown}
 use Rattle.row_model.specs.PlainTree.{PlainTree}
 use Rattle.schema_model.specs.declared.schema.Schema.{Schema}
@@ -15,9 +15,9 @@ abbrev pub adding_of : Records → Adding
 adding_of (Spelled add) = spelled (added add.now)
 adding_of (Films script) = given (films script.seed script.rows script.cycle)
 
--- what is asked for, as the machine has it: a version, a tag and records
-abbrev pub asked_of : ℕ → ℤ → Records → AskedCycle
-asked_of version tag records = record { version = version; tag = tag; add = adding_of records; snapshot = true }
+-- what is asked for, as the machine has it: a version, a tag, whether the snapshot is put, and records
+abbrev pub asked_of : ℕ → ℤ → Bool → Records → AskedCycle
+asked_of version tag with_snapshot records = record { version = version; tag = tag; add = adding_of records; snapshot = with_snapshot }
 
 -- the records of the film at a place, which is one where the cycle shows it, and else none
 abbrev pub film_at : FilmCycle → ℕ → List (ℕ × PlainTree)

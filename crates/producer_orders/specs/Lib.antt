@@ -1,4 +1,5 @@
 pub mod Asked
 pub mod Ends
+pub mod Growing
 pub mod Making
 pub mod Parts

@@ -1,5 +1,5 @@
 -- What the parts of a cycle make of a producer that has published its last state.
-use Rattle.std.specs.Prelude.{◌≡◌, ◌<◌, ◌↔◌, ℕ, ℤ, List, All, IfSome, IsTrue, true, Option, Some, None, Result, ⊤, length}
+use Rattle.std.specs.Prelude.{Bool, ◌≡◌, ◌<◌, ◌↔◌, ℕ, ℤ, List, All, IfSome, IsTrue, true, Option, Some, None, Result, ⊤, length}
 use Rattle.hol_io.specs.Store.{Store}
 use Rattle.schema_model.specs.declared.limit.Limit.TheVariants as limit
 use Rattle.row_model.specs.PlainTree.{PlainTree}
@@ -46,17 +46,17 @@ AreRefused last add (TooLarge limit.Ordinals) =
 AreRefused last add refusal = GivesNoTrees last.model add refusal
 
 -- A state that is to be published is refused so: a type passes a limit; or each type keeps all, and a blob is too long.
-abbrev pub IsTooLarge : Published → Table → ℕ → ℤ → Refusal → Type 0
-IsTooLarge last rows version tag (TooLarge limit.Blob) =
-    TellsTypes last.model last.rows rows None × ((blobs : List Put) → AreBlobs last rows version tag blobs → ¬ All IsShort blobs)
-IsTooLarge last rows version tag (TooLarge passed) = TellsTypes last.model last.rows rows (Some passed)
-IsTooLarge last rows version tag _ = ⊥
+abbrev pub IsTooLarge : Published → Table → ℕ → ℤ → Bool → Refusal → Type 0
+IsTooLarge last rows version tag with_snapshot (TooLarge limit.Blob) =
+    TellsTypes last.model last.rows rows None × ((blobs : List Put) → AreBlobs last rows version tag with_snapshot blobs → ¬ All IsShort blobs)
+IsTooLarge last rows version tag with_snapshot (TooLarge passed) = TellsTypes last.model last.rows rows (Some passed)
+IsTooLarge last rows version tag with_snapshot _ = ⊥
 
 -- The state is published: its blobs are put, and it is the producer's last one.
-abbrev pub IsPublished : Store → Published → Table → ℕ → ℤ → Option Store → Published → Type 0
-IsPublished store last rows version tag held now =
+abbrev pub IsPublished : Store → Published → Table → ℕ → ℤ → Bool → Option Store → Published → Type 0
+IsPublished store last rows version tag with_snapshot held now =
     TellsTypes last.model last.rows rows None
-    × ((blobs : List Put) × AreBlobs last rows version tag blobs × All IsShort blobs
+    × ((blobs : List Put) × AreBlobs last rows version tag with_snapshot blobs × All IsShort blobs
     × (held ≡ Some (put_all store (puts_of blobs version))) × (now ≡ record { model = last.model; rows = rows; tag = tag; version = version }))
 
 -- the machine with this store, and a producer that has published so
@@ -64,17 +64,17 @@ abbrev pub machine_with : Machine → Store → Published → Machine
 machine_with machine store last = with_producer (with_store machine store) (Some last)
 
 -- The answer to a closed cycle, and what it leaves, whatever else the machine has.
-abbrev pub IsEnded : Store → Published → Table → List ℕ → ℕ → ℤ → Option Store → Published → Reply → Type 0
-IsEnded store last rows changed version tag held now (Cycle names published version') =
+abbrev pub IsEnded : Store → Published → Table → List ℕ → ℕ → ℤ → Bool → Option Store → Published → Reply → Type 0
+IsEnded store last rows changed version tag with_snapshot held now (Cycle names published version') =
     (version' ≡ version) × AreNamed last.model changed names
     × ((next : Store) × (held ≡ Some next)
-    × ((machine : Machine) → Leaves (machine_with machine store last) last rows changed version tag published (machine_with machine next now)))
-IsEnded store last rows changed version tag held now _ = ⊥
+    × ((machine : Machine) → Leaves (machine_with machine store last) last rows changed version tag with_snapshot published (machine_with machine next now)))
+IsEnded store last rows changed version tag with_snapshot held now _ = ⊥
 
 -- The blobs of a state that keeps all limits.
-abbrev pub IsWithin : Published → Table → ℕ → ℤ → Blobs → Type 0
-IsWithin last rows version tag blobs =
-    TellsTypes last.model last.rows rows None × AreBlobs last rows version tag (puts_in blobs) × All IsShort (puts_in blobs)
+abbrev pub IsWithin : Published → Table → ℕ → ℤ → Bool → Blobs → Type 0
+IsWithin last rows version tag with_snapshot blobs =
+    TellsTypes last.model last.rows rows None × AreBlobs last rows version tag with_snapshot (puts_in blobs) × All IsShort (puts_in blobs)
 
 -- The store is as it was, or has the first of such puts.
 abbrev pub StopsPart : (List Put → Type 0) → Store → Option Store → Type 0
@@ -94,15 +94,15 @@ Follows held last version tag result =
     IfSome held (λ store. TellsEnd (λ _. MayFollow store last version tag) (MayNotFollow store last version tag) IsAnyStop result)
 
 -- How a closed cycle ends, over what the store tells, and what it leaves.
-abbrev pub Ends : Option Store → Published → Table → List ℕ → ℕ → ℤ → Option Store → Published → Result Reply CycleEnd → Type 0
-Ends held last rows changed version tag held' now result = IfSome held (λ store. TellsEnd
-    (IsEnded store last rows changed version tag held' now)
-    (λ refusal. (held' ≡ Some store) × Publishes last changed × IsTooLarge last rows version tag refusal)
-    (λ stop. StopsPart (λ puts. Publishes last changed × ArePutsOf last rows version tag puts) store held') result)
+abbrev pub Ends : Option Store → Published → Table → List ℕ → ℕ → ℤ → Bool → Option Store → Published → Result Reply CycleEnd → Type 0
+Ends held last rows changed version tag with_snapshot held' now result = IfSome held (λ store. TellsEnd
+    (IsEnded store last rows changed version tag with_snapshot held' now)
+    (λ refusal. (held' ≡ Some store) × Publishes last changed × IsTooLarge last rows version tag with_snapshot refusal)
+    (λ stop. StopsPart (λ puts. Publishes last changed × ArePutsOf last rows version tag with_snapshot puts) store held') result)
 
 -- How a closed cycle that is to be published ends.
-abbrev pub EndsPublished : Option Store → Published → Table → ℕ → ℤ → Option Store → Published → Result ⊤ CycleEnd → Type 0
-EndsPublished held last rows version tag held' now result = IfSome held (λ store. TellsEnd
-    (λ _. IsPublished store last rows version tag held' now)
-    (λ refusal. (held' ≡ Some store) × IsTooLarge last rows version tag refusal)
-    (λ stop. StopsPart (ArePutsOf last rows version tag) store held') result)
+abbrev pub EndsPublished : Option Store → Published → Table → ℕ → ℤ → Bool → Option Store → Published → Result ⊤ CycleEnd → Type 0
+EndsPublished held last rows version tag with_snapshot held' now result = IfSome held (λ store. TellsEnd
+    (λ _. IsPublished store last rows version tag with_snapshot held' now)
+    (λ refusal. (held' ≡ Some store) × IsTooLarge last rows version tag with_snapshot refusal)
+    (λ stop. StopsPart (ArePutsOf last rows version tag with_snapshot) store held') result)

@@ -30,9 +30,9 @@ use state_blobs::{Blobs, publish, write_blobs};
 use std::alloc::Global;
 use write_engine::{Closed, Producer};
 
-/// Publishes the next state of the producer, where a type changes by its records or it is the first state. A
-/// refusal leaves the store and the producer as they were. A stop leaves the producer as it was too, and the store with the
-/// first of the puts. `Store` comes only where the store's count of faults rose.
+/// Publishes the next state of the producer, where a type changes by its records or it is the first state. Its snapshot is put where the order does
+/// not say that it is not to be, and that of a first state in any case. A refusal leaves the store and the producer as they were. A stop leaves the
+/// producer as it was too, and the store with the first of the puts. `Store` comes only where the store's count of faults rose.
 pub fn cycle<S: BlobStore>(
     alloc: Global,
     store: &mut S,
@@ -73,12 +73,21 @@ fn spelled_cycle<S: BlobStore>(
     ensures later { (S.seen store.old).faults ≤ (S.seen store.new).faults }
 {
     let records = Records::Spelled(&next.add);
-    cycle_of(alloc, store, producer, next.version, next.tag, &records)
+    let with_snapshot = next.snapshot.unwrap_or(true);
+    cycle_of(
+        alloc,
+        store,
+        producer,
+        next.version,
+        next.tag,
+        with_snapshot,
+        &records,
+    )
 }
 
-/// Publishes the next state of a producer of the script's model: the films of a cycle, under its number and its tag. A refusal leaves the store and
-/// the producer as they were. A stop leaves the producer as it was too, and the store with the first of the puts. `Store` comes only where
-/// the store's count of faults rose.
+/// Publishes the next state of a producer of the script's model: the films of a cycle, under its number and its tag, with its snapshot. A refusal
+/// leaves the store and the producer as they were. A stop leaves the producer as it was too, and the store with the first of the puts. `Store` comes
+/// only where the store's count of faults rose.
 pub fn film_cycle<S: BlobStore>(
     alloc: Global,
     store: &mut S,
@@ -103,7 +112,15 @@ pub fn film_cycle<S: BlobStore>(
 {
     let tag = cycle_tag(seed, cycle);
     let records = Records::Films(FilmCycle { seed, rows, cycle });
-    cycle_of(alloc, store, producer, u64::from(cycle), tag, &records)
+    cycle_of(
+        alloc,
+        store,
+        producer,
+        u64::from(cycle),
+        tag,
+        true,
+        &records,
+    )
 }
 
 // Publishes the next state of a producer. What a cycle leaves that is not published is dropped.
@@ -113,20 +130,21 @@ fn cycle_of<S: BlobStore>(
     producer: &mut Producer,
     version: u64,
     tag: i64,
+    with_snapshot: bool,
     records: &Records<'_>,
 ) -> Result<Reply, OrderStop>
     requires records { Suit producer.old.schemas records.now }
     requires resting { IsResting producer.old }
-    ensures step { MovesProducer (λ machine reply after. CycleStep machine (asked_of version tag records.now) reply after)
+    ensures step { MovesProducer (λ machine reply after. CycleStep machine (asked_of version tag with_snapshot records.now) reply after)
         (S.seen store.old).held (Some producer.old) (S.seen store.new).held (Some producer.new) result }
-    ensures halts { HaltsProducer (CyclePuts (asked_of version tag records.now)) (S.seen store.old).held (Some producer.old) (S.seen store.new).held result }
+    ensures halts { HaltsProducer (CyclePuts (asked_of version tag with_snapshot records.now)) (S.seen store.old).held (Some producer.old) (S.seen store.new).held result }
     ensures undone { OnErr result (published_of producer.new ≡ published_of producer.old) }
     ensures model { producer.new.schemas ≡ producer.old.schemas }
     ensures resting { IsResting producer.new }
     ensures store_fault { IsErrOf result OrderStop.Store → Rose (S.seen store.old).faults (S.seen store.new).faults }
     ensures later { (S.seen store.old).faults ≤ (S.seen store.new).faults }
 {
-    let ended = run_cycle(alloc, store, producer, version, tag, records);
+    let ended = run_cycle(alloc, store, producer, version, tag, with_snapshot, records);
     producer.undo();
     match ended {
         Ok(reply) => Ok(reply),
@@ -142,18 +160,19 @@ fn run_cycle<S: BlobStore>(
     producer: &mut Producer,
     version: u64,
     tag: i64,
+    with_snapshot: bool,
     records: &Records<'_>,
 ) -> Result<Reply, CycleEnd>
     requires records { Suit producer.old.schemas records.now }
     requires resting { IsResting producer.old }
-    ensures steps { Steps (asked_of version tag records.now) (S.seen store.old).held (published_of producer.old) (S.seen store.new).held (published_of producer.new) result }
+    ensures steps { Steps (asked_of version tag with_snapshot records.now) (S.seen store.old).held (published_of producer.old) (S.seen store.new).held (published_of producer.new) result }
     ensures model { producer.new.schemas ≡ producer.old.schemas }
     ensures kept { OnErr result (published_of producer.new ≡ published_of producer.old) }
     ensures cause { HasEndCause (S.seen store.old).faults (S.seen store.new).faults result }
 {
     check_follow(alloc, store, producer.version(), version, tag)?;
     let closed = make_state(alloc, producer, records)?;
-    end_cycle(alloc, store, producer, &closed, version, tag)
+    end_cycle(alloc, store, producer, &closed, version, tag, with_snapshot)
 }
 
 // Refuses a state that may not follow the last one.
@@ -182,12 +201,13 @@ fn end_cycle<S: BlobStore>(
     closed: &Closed,
     version: u64,
     tag: i64,
+    with_snapshot: bool,
 ) -> Result<Reply, CycleEnd>
     requires is_closed { producer.old.closed ≡ true }
     requires first { IsTrue closed.now.first ↔ (producer.old.version ≡ 0) }
     requires in_model { All (λ t. t < length producer.old.schemas) closed.now.changed }
     requires over { TellsCycle producer.old.schemas producer.old.previous producer.old.current producer.old.version closed.now.changed producer.old.over }
-    ensures ends { Ends (S.seen store.old).held (published_of producer.old) producer.old.current closed.now.changed version tag
+    ensures ends { Ends (S.seen store.old).held (published_of producer.old) producer.old.current closed.now.changed version tag with_snapshot
         (S.seen store.new).held (published_of producer.new) result }
     ensures model { producer.new.schemas ≡ producer.old.schemas }
     ensures kept { OnErr result (published_of producer.new ≡ published_of producer.old) }
@@ -201,7 +221,7 @@ fn end_cycle<S: BlobStore>(
             version,
         });
     }
-    publish_state(alloc, store, producer, version, tag)?;
+    publish_state(alloc, store, producer, version, tag, with_snapshot)?;
     Ok(Reply::Cycle {
         changed,
         published: true,
@@ -216,16 +236,17 @@ fn publish_state<S: BlobStore>(
     producer: &mut Producer,
     version: u64,
     tag: i64,
+    with_snapshot: bool,
 ) -> Result<(), CycleEnd>
     requires is_closed { producer.old.closed ≡ true }
     requires over { TellsTypes producer.old.schemas producer.old.previous producer.old.current producer.old.over }
-    ensures ends { EndsPublished (S.seen store.old).held (published_of producer.old) producer.old.current version tag
+    ensures ends { EndsPublished (S.seen store.old).held (published_of producer.old) producer.old.current version tag with_snapshot
         (S.seen store.new).held (published_of producer.new) result }
     ensures model { producer.new.schemas ≡ producer.old.schemas }
     ensures kept { OnErr result (published_of producer.new ≡ published_of producer.old) }
     ensures cause { HasEndCause (S.seen store.old).faults (S.seen store.new).faults result }
 {
-    let blobs = limited_blobs(alloc, producer, version, tag)?;
+    let blobs = limited_blobs(alloc, producer, version, tag, with_snapshot)?;
     publish(alloc, store, version, &blobs)?;
     producer.advance(tag, version);
     Ok(())
@@ -237,13 +258,14 @@ fn limited_blobs(
     producer: &Producer,
     version: u64,
     tag: i64,
+    with_snapshot: bool,
 ) -> Result<Blobs, CycleEnd>
     requires is_closed { producer.now.closed ≡ true }
     requires over { TellsTypes producer.now.schemas producer.now.previous producer.now.current producer.now.over }
-    ensures { TellsEnd (IsWithin (published_of producer.now) producer.now.current version tag) (IsTooLarge (published_of producer.now) producer.now.current version tag) IsMemory result }
+    ensures { TellsEnd (IsWithin (published_of producer.now) producer.now.current version tag with_snapshot) (IsTooLarge (published_of producer.now) producer.now.current version tag with_snapshot) IsMemory result }
 {
     if let Some(limit) = producer.over_limit() {
         return Err(CycleEnd::Refused(Refusal::TooLarge(limit)));
     }
-    Ok(write_blobs(alloc, producer, version, tag)?)
+    Ok(write_blobs(alloc, producer, version, tag, with_snapshot)?)
 }

@@ -6,6 +6,7 @@ mod cycle_end;
 mod cycle_order;
 mod films;
 mod follow;
+mod grow_order;
 mod line_records;
 mod make;
 mod model_order;
@@ -14,4 +15,5 @@ mod records;
 mod types;
 
 pub use cycle_order::{cycle, film_cycle};
+pub use grow_order::grow;
 pub use model_order::model;

@@ -54,7 +54,12 @@ pub fn model(
 }
 
 // The refusal of schemas that break a rule.
-fn bad_model(alloc: Global, value: &Value, rule: Rule, type_index: u32) -> Result<Reply, OrderStop>
+pub(crate) fn bad_model(
+    alloc: Global,
+    value: &Value,
+    rule: Rule,
+    type_index: u32,
+) -> Result<Reply, OrderStop>
     requires { BreaksRule (view value.now) rule type_index }
     ensures refused { IfOk result (λ reply. (name : List ℕ) × (reply ≡ Reply.Refused (Refusal.BadModel rule name)) × IsNamed (view value.now) type_index name) }
     ensures stop { IfErr result (λ stop. stop ≡ OrderStop.Memory) }

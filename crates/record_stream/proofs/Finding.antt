@@ -1,10 +1,10 @@
 -- The line of a look-up by a key as a whole.
-use Rattle.std.proofs.Common.{◌≡◌, ◌∙◌, ℕ, ◌-◌, ◌<◌, ◌≤◌, List, [], ◌∷◌, codes, length, Option, Some, None, refl, sym, ap, arith}
+use Rattle.std.proofs.Common.{◌≡◌, ◌∙◌, ℕ, ◌-◌, ◌<◌, ◌≤◌, List, [], ◌∷◌, codes, length, Some, None, refl, sym, ap, arith}
 use Rattle.json.specs.Token.{Token, begin_array, begin_object, end_array, end_object, key, string as string_token}
 use Rattle.json.specs.Json.{after_end_array, items, members, parse_map, value}
 use Rattle.json.proofs.Grammar.{value-begin_array, value-begin_object, value_is}
 use Rattle.serde_json.specs.Data.{Data, array, item, no_items, no_members, object, string}
-use Rattle.serde_json.specs.Read.{converted, of_items, of_json, of_members}
+use Rattle.serde_json.specs.Read.{converted, of_items, of_json}
 use Rattle.record_stream.specs.FindLine.{find_data}
 use Rattle.record_stream.proofs.Converted.{converted-array, converted-object, item_read, items_over, member_read, members_over}
 use Rattle.record_stream.proofs.Listed.{value_shorter}

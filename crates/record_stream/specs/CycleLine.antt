@@ -1,20 +1,25 @@
--- The line of a cycle in its plain form: `cycle` with `version`, `tag` and `add` in this order, each once, and in `add` an array of records for each
--- type, each type once.
+-- The line of a cycle in its plain form: `cycle` with `version`, `tag`, `add` and perhaps `snapshot` in this order, each once, and in `add` an array of
+-- records for each type, each type once.
 use Rattle.std.specs.Prelude.{◌≡◌, ℕ, List, [], ◌∷◌, codes, Bool, true, false, if◌then◌else◌, Option, Some, None, option_and_then, unwrap_or}
 use Rattle.std.specs.Str.{bytes_eq}
-use Rattle.json.specs.Token.{Token, begin_array, begin_object, end_object, key}
+use Rattle.json.specs.Token.{Token, begin_array, begin_object, end_object, key, boolean as boolean_token}
 use Rattle.json.specs.Json.{value}
 use Rattle.json.specs.Lex.{tokens as tokens_of}
-use Rattle.serde_json.specs.Data.{Data, Members, array, member, no_items, no_members, null, object, put}
+use Rattle.serde_json.specs.Data.{Data, Members, array, boolean, member, no_items, no_members, null, object, put}
 use Rattle.serde_json.specs.Find.{get, get_member}
 use Rattle.serde_json.specs.Read.{converted, of_json, read}
 use Rattle.serde_json.specs.View.{items_of}
 use Rattle.record_stream.specs.Records.{AreAhead}
 
--- the JSON of a cycle: its version, its tag and the records that it adds
-abbrev pub cycle_data : Data → Data → Data → Data
-cycle_data version tag add = object (member (codes "cycle")
-    (object (member (codes "add") add (member (codes "tag") tag (member (codes "version") version no_members)))) no_members)
+-- These members, and before them whether a snapshot is put, where this is said.
+abbrev pub saying : Option Bool → Members → Members
+saying None rest = rest
+saying (Some snapshot) rest = member (codes "snapshot") (boolean snapshot) rest
+
+-- the JSON of a cycle: its version, its tag, the records that it adds, and whether its snapshot is put, where this is said
+abbrev pub cycle_data : Data → Data → Data → Option Bool → Data
+cycle_data version tag add snapshot = object (member (codes "cycle")
+    (object (member (codes "add") add (saying snapshot (member (codes "tag") tag (member (codes "version") version no_members))))) no_members)
 
 -- the records that the cycle of a line adds, by type: what stands under `add`, null where there is none
 abbrev pub added_by : List ℕ → Data
@@ -51,6 +56,11 @@ abbrev pub with_types : List Typed → Members → Members
 with_types [] there = there
 with_types (typed ∷ others) there = with_types others (put typed.0 (array (items_of typed.1)) there)
 
+-- The tokens behind the records: whether a snapshot is put, where this is said, and the braces that close the cycle and the line.
+abbrev pub closing : Option Bool → List Token
+closing None = end_object ∷ end_object ∷ []
+closing (Some snapshot) = key (codes "snapshot") ∷ boolean_token snapshot ∷ end_object ∷ end_object ∷ []
+
 -- No type is given twice, nor is one of the members.
 abbrev pub AreNew : List Typed → Members → Type 0
 AreNew [] there = Unit {0}
@@ -61,11 +71,11 @@ abbrev pub records_under : List ℕ → List Typed → Option (List Data)
 records_under name [] = None
 records_under name (typed ∷ others) = if bytes_eq typed.0 name then Some typed.1 else records_under name others
 
--- The tokens are those of a cycle in its plain form, of this version and tag, and with records of these types.
-pub record IsCycle (tokens : List Token) (version tag : Data) (types : List Typed) : Type 0 where
+-- The tokens are those of a cycle in its plain form, of this version and tag, with records of these types, and saying this of its snapshot.
+pub record IsCycle (tokens : List Token) (version tag : Data) (types : List Typed) (snapshot : Option Bool) : Type 0 where
   pub inside : List Token
   pub opened : Opens tokens version tag inside
-  pub listed : AreListed inside types (end_object ∷ end_object ∷ [])
+  pub listed : AreListed inside types (closing snapshot)
   pub apart : AreNew types no_members
 
 -- the same names, each with no records
@@ -88,5 +98,6 @@ pub record IsKept (line : List ℕ) (names : Data) : Type 0 where
   pub version : Data
   pub tag : Data
   pub types : List Typed
-  pub cycle : IsCycle (tokens_of line) version tag types
+  pub snapshot : Option Bool
+  pub cycle : IsCycle (tokens_of line) version tag types snapshot
   pub named : names ≡ object (bare (with_types types no_members))

@@ -6,7 +6,7 @@ ghost use Rattle.serde_json.specs.View.{view};
 ghost use Rattle.record_stream.specs.CycleLine.{TellsRecords, Typed, added_by, bare, cycle_data, with_types};
 
 use crate::listing::{pass_types, seek};
-use crate::opening::{is_line_closed, open_cycle, pass_opening};
+use crate::opening::{close_line, open_cycle, pass_opening};
 use crate::read_fault::ReadFault;
 use json::{Reader, Scratch};
 use serde_json::Value;
@@ -46,13 +46,15 @@ pub struct CycleParts {
     pub tag: Value,
     /// The records that it adds by type, still in the line.
     pub add: CycleLine,
+    /// Whether its snapshot is put, where this is said.
+    pub snapshot: Option<bool>,
 }
 
 /// The parts of the cycle that a line is in its plain form: `{"cycle":{"version":V,"tag":T,"add":{type:[records]}}}`, these members in this order, and
-/// up to eight types, each once. The records are read once, so that it is known that they can be. `None` tells nothing of the line.
+/// up to eight types, each once; behind `add` may stand `"snapshot":b`, a truth value. The records are read once, so that it is known that they can be. `None` tells nothing of the line.
 pub fn split_cycle(alloc: Global, line: &str) -> Result<Option<CycleParts>, AllocError>
     ensures same { IfOk result (λ found. IfSome found (λ parts. parts.add ≡ line.now)) }
-    ensures read { IfOk result (λ found. IfSome found (λ parts. read line.now ≡ Some (cycle_data (view parts.version) (view parts.tag) (added_by line.now)))) }
+    ensures read { IfOk result (λ found. IfSome found (λ parts. read line.now ≡ Some (cycle_data (view parts.version) (view parts.tag) (added_by line.now) parts.snapshot))) }
     ensures types { IfOk result (λ found. IfSome found (λ parts. (types : List Typed) × (added_by line.now ≡ object (with_types types no_members)))) }
 {
     match parts_of(alloc, line) {
@@ -65,21 +67,24 @@ pub fn split_cycle(alloc: Global, line: &str) -> Result<Option<CycleParts>, Allo
 // The same, where there are some.
 fn parts_of(alloc: Global, line: &str) -> Result<CycleParts, ReadFault>
     ensures same { IfOk result (λ parts. parts.add ≡ line.now) }
-    ensures read { IfOk result (λ parts. read line.now ≡ Some (cycle_data (view parts.version) (view parts.tag) (added_by line.now))) }
+    ensures read { IfOk result (λ parts. read line.now ≡ Some (cycle_data (view parts.version) (view parts.tag) (added_by line.now) parts.snapshot)) }
     ensures types { IfOk result (λ parts. (types : List Typed) × (added_by line.now ≡ object (with_types types no_members))) }
 {
     let mut scratch = Scratch::new(alloc);
     let mut reader = Reader::new(line, &mut scratch)?;
     let (version, tag) = open_cycle(alloc, &mut reader)?;
     let names = pass_types(alloc, &mut reader)?;
-    if !is_line_closed(&mut reader) {
-        return Err(ReadFault::Invalid);
-    }
+    let snapshot = close_line(&mut reader)?;
     let add = CycleLine {
         text: String::from_str(alloc, line)?,
         names: Value::Object(names),
     };
-    Ok(CycleParts { version, tag, add })
+    Ok(CycleParts {
+        version,
+        tag,
+        add,
+        snapshot,
+    })
 }
 
 impl CycleLine {

@@ -4,7 +4,7 @@ ghost use Rattle.json.specs.Token.{Token as SpecToken, begin_array, begin_object
 ghost use Rattle.json.specs.Json.{Json, skip_value, value};
 ghost use Rattle.serde_json.specs.Data.{Data};
 ghost use Rattle.serde_json.specs.View.{view};
-ghost use Rattle.record_stream.specs.CycleLine.{Opens};
+ghost use Rattle.record_stream.specs.CycleLine.{Opens, closing};
 
 use crate::read_fault::ReadFault;
 use crate::value::read_value;
@@ -67,11 +67,40 @@ pub(crate) fn pass_known(reader: &mut Reader<'_>, depth: usize)
     }
 }
 
-/// Whether the cycle and the line end.
-pub(crate) fn is_line_closed(reader: &mut Reader<'_>) -> bool
+/// Passes what stands behind the records, up to the end of the line: whether a snapshot is put, where this is said.
+pub(crate) fn close_line(reader: &mut Reader<'_>) -> Result<Option<bool>, ReadFault>
+    ensures { IfOk result (λ snapshot. reader.old ≡ closing snapshot) }
+{
+    match reader.next_key()? {
+        None => {
+            if is_object_last(reader) {
+                return Ok(None);
+            }
+        }
+        Some(name) => {
+            if name == "snapshot"
+                && let Some(Token::Bool(snapshot)) = reader.next()
+                && is_line_closed(reader)
+            {
+                return Ok(Some(snapshot));
+            }
+        }
+    }
+    Err(ReadFault::Invalid)
+}
+
+// Whether an object and the line end.
+fn is_object_last(reader: &mut Reader<'_>) -> bool
+    ensures { IsTrue result → reader.old ≡ end_object ∷ [] }
+{
+    is_object_closed(reader) && reader.next().is_none()
+}
+
+// Whether the cycle and the line end.
+fn is_line_closed(reader: &mut Reader<'_>) -> bool
     ensures { IsTrue result → reader.old ≡ end_object ∷ end_object ∷ [] }
 {
-    is_object_closed(reader) && is_object_closed(reader) && reader.next().is_none()
+    is_object_closed(reader) && is_object_last(reader)
 }
 
 /// Whether the next token is the brace that closes an object.

@@ -40,7 +40,7 @@ all_back P [] ys all = all
 all_back P (x ∷ xs) ys all = all_back P xs ys (All-tail P x (xs ++ ys) all)
 
 -- null names no row
-null_names_none : (kind : FieldKind) → references_of_value kind Value.Null ≡ []
+pub null_names_none : (kind : FieldKind) → references_of_value kind Value.Null ≡ []
 null_names_none (FieldKind.Reference name) = refl
 null_names_none FieldKind.Int = refl
 null_names_none FieldKind.Long = refl
@@ -49,11 +49,11 @@ null_names_none FieldKind.Text = refl
 null_names_none FieldKind.Bytes = refl
 
 -- the rows that the values of a record name
-names_of : List Field → List Value → List (Name × ℕ)
+pub names_of : List Field → List Value → List (Name × ℕ)
 names_of fields values = flat_map (λ part. references_of_value part.0.kind part.1) (zip fields values)
 
 module _ (P : Name × ℕ → Type 0) where
-  value_names : (kind : FieldKind) (name : List ℕ) (own : List Field) (values : List Value) → All P (names_of own values) → All (λ field. field.name ≡ name → field.kind ≡ kind) own
+  pub value_names : (kind : FieldKind) (name : List ℕ) (own : List Field) (values : List Value) → All P (names_of own values) → All (λ field. field.name ≡ name → field.kind ≡ kind) own
       → All P (references_of_value kind (value_named own values name))
   unfolding value_named names_of
   value_names kind name [] values all same = subst (All P) (sym (null_names_none kind)) (All-nil P)
@@ -127,14 +127,14 @@ module _ (own mine : List Schema) (table : Table) (mine_once : IsKept mine Dupli
       (live_option (seen_row (slice_index_or own there.0 schema.0).shape schema.0.shape) (row_at table there.0 ordinal) there.2))
 
 -- The row that is seen under an ordinal of a type is that of a row of the type of the same name.
-record CameFrom (own : List Schema) (table : Table) (schema : Schema) (ordinal : ℕ) (row : Row) : Type 0 where
-  place : ℕ
-  other : Schema
-  stored : Row
-  at : slice_get own place ≡ Some other
-  named : other.name ≡ schema.name
-  there : row_at table place ordinal ≡ Some stored
-  is : row ≡ seen_row other.shape schema.shape stored
+pub record CameFrom (own : List Schema) (table : Table) (schema : Schema) (ordinal : ℕ) (row : Row) : Type 0 where
+  pub place : ℕ
+  pub other : Schema
+  pub stored : Row
+  pub at : slice_get own place ≡ Some other
+  pub named : other.name ≡ schema.name
+  pub there : row_at table place ordinal ≡ Some stored
+  pub is : row ≡ seen_row other.shape schema.shape stored
 
 of_map : {X : Type 0} (f : X → X) (o : Option X) (y : X) → option_map f o ≡ Some y → (x : X) × (o ≡ Some x) × (y ≡ f x)
 of_map f None y is = absurd cc
@@ -145,7 +145,7 @@ of_then f None y is = absurd cc
 of_then f (Some x) y is = (x, refl, is)
 
 module _ (own mine : List Schema) (table : Table) (own_once : IsKept own DuplicateName) where
-  came_from : (t ordinal : ℕ) (schema : Schema) (row : Row) → slice_get mine t ≡ Some schema → row_at (view mine own table) t ordinal ≡ Some row → CameFrom own table schema ordinal row
+  pub came_from : (t ordinal : ℕ) (schema : Schema) (row : Row) → slice_get mine t ≡ Some schema → row_at (view mine own table) t ordinal ≡ Some row → CameFrom own table schema ordinal row
   came_from t ordinal schema row at found =
       let seen = of_then (λ u. option_map (seen_row (slice_index_or own u schema).shape schema.shape) (row_at table u ordinal)) (index_of_type own schema.name) row (sym (row_seen own table mine t ordinal schema at) ∙ found) in
       let stored = of_map (seen_row (slice_index_or own seen.0 schema).shape schema.shape) (row_at table seen.0 ordinal) row seen.2 in

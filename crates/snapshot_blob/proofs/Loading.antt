@@ -23,6 +23,7 @@ use Rattle.type_rows.proofs.SectionRows.{rows_fit, rows_range}
 use Rattle.snapshot_blob.specs.declared.part.TypePart.{TypePart}
 use Rattle.snapshot_blob.specs.Body.{IsWholeBody}
 use Rattle.snapshot_blob.specs.Stated.{AreAccepted, IsLoadedFrom, KeepsTypeLimits, TypeIs, schemas_of}
+use Rattle.snapshot_blob.proofs.StoredRows.{loaded_stored}
 use Rattle.snapshot_blob.proofs.Zipped.{zip_right, zip_second, zip_alike}
 
 -- what is made of one part is one more of what is made of the parts
@@ -106,6 +107,7 @@ loaded_whole parts states schemas named loaded closed = record {
   next = loaded_next parts states schemas named loaded;
   closed = closed;
   low = low_types parts states loaded;
+  stored = loaded_stored parts states loaded;
   current = zip_second IsLoadedFrom (λ state. state.current ≡ empty_half) (λ part state one. one.current) parts states loaded;
 }
 

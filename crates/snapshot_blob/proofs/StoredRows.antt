@@ -16,14 +16,15 @@ use Rattle.schema_model.specs.declared.schema.Shape.{Shape}
 use Rattle.row_model.specs.declared.row.Row.{Row}
 use Rattle.row_model.specs.declared.row.Value.{Value}
 use Rattle.row_model.specs.Row.{is_least, stored_row, stored_value}
-use Rattle.row_model.specs.Table.{RowMap, EachRow}
+use Rattle.row_model.specs.Table.{RowMap, EachRow, row_at}
 use Rattle.object_codec.specs.ObjectPlace.{SpellsFields, part_at, parts_from}
 use Rattle.object_codec.specs.Part.{FieldPart, SpellsValue}
 use Rattle.type_rows.specs.declared.section.Section.{Section}
 use Rattle.type_rows.specs.Loads.{IsSpelledIn, SectionIs}
+use Rattle.type_rows.specs.WellFormed.{IsWellFormed, IsWidth}
 use Rattle.type_rows.proofs.Places.{narrow_one}
-use Rattle.type_state.specs.State.{Half}
-use Rattle.type_state.specs.Views.{table_of}
+use Rattle.type_state.specs.State.{Half, State}
+use Rattle.type_state.specs.Views.{next_halves, table_of}
 use Rattle.blob_grammar.specs.Form.{◌>>=◌, nothing, judged, repeated, counted, each_of}
 use Rattle.blob_sections.specs.declared.section.PackedRows.{PackedRows}
 use Rattle.blob_sections.specs.Section.{packed_records, packed_rows}
@@ -32,7 +33,7 @@ use Rattle.blob_frame.specs.declared.header.Header.{Header}
 use Rattle.snapshot_blob.specs.declared.part.TypePart.{TypePart}
 use Rattle.snapshot_blob.specs.Parts.{body, section_of, type_part}
 use Rattle.snapshot_blob.specs.Snapshot.{SnapshotIs}
-use Rattle.snapshot_blob.specs.Stated.{TypeIs, schemas_of}
+use Rattle.snapshot_blob.specs.Stated.{IsLoadedFrom, TypeIs, schemas_of}
 use Rattle.snapshot_blob.proofs.Whole.{split}
 
 -- ---- one value
@@ -181,3 +182,26 @@ stored_rows blob head parts schemas halves is =
     let items = split blob head parts (length blob) is.items in
     subst (λ (ss : List Schema). EachRow ss (table_of halves) (λ schema row. stored_row row ≡ row)) is.state.named
     (types_kept parts halves (body_narrow blob items.0 (length blob) parts items.2) is.state.types)
+
+-- ---- the rows that were loaded
+
+fields_narrow : (max : Option ℕ) (fields : List Field) (widths : List ℕ) → AllZip (λ (field : Field) width. IsWidth max field.kind width) fields widths → AreNarrow fields widths
+fields_narrow max [] [] wide = tt
+fields_narrow max [] (width ∷ widths) wide = absurd wide
+fields_narrow max (field ∷ fields) [] wide = absurd wide
+fields_narrow max (field ∷ fields) (width ∷ widths) wide = (narrow_one max field width wide.0, fields_narrow max fields widths wide.1)
+
+well_narrow : (shape : Shape) (section : Section) → IsWellFormed shape section → IsNarrow shape section.widths
+well_narrow (Shape.Object key fields) section well = fields_narrow section.max fields section.widths well.wide
+well_narrow (Shape.List element) section well = tt
+well_narrow (Shape.Set element) section well = tt
+well_narrow (Shape.Map key value) section well = tt
+
+pub loaded_stored : (parts : List TypePart) (states : List State) → AllZip IsLoadedFrom parts states → (type_index ordinal : ℕ) (row : Row) → row_at (table_of (next_halves states)) type_index ordinal ≡ Some row
+    → stored_row row ≡ row
+loaded_stored [] [] loaded type_index ordinal row at = absurd cc
+loaded_stored [] (state ∷ states) loaded type_index ordinal row at = absurd loaded
+loaded_stored (part ∷ parts) [] loaded type_index ordinal row at = absurd loaded
+loaded_stored (part ∷ parts) (state ∷ states) loaded zero ordinal row at =
+    section_kept part.schema.shape part.section state.other.rows ordinal row (well_narrow part.schema.shape part.section loaded.0.readable.well) loaded.0.loads.is at
+loaded_stored (part ∷ parts) (state ∷ states) loaded (suc type_index) ordinal row at = loaded_stored parts states loaded.1 type_index ordinal row at

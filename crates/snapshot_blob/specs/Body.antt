@@ -1,10 +1,12 @@
 -- What each answer of the reader of a body tells: of the types of a snapshot, from a place behind the header up to the
 -- end of the blob.
-use Rattle.std.specs.Prelude.{◌≡◌, ◌<◌, ◌⊎◌, ℕ, List, Result, Ok, Err, length, All, IsErrAnd}
+use Rattle.std.specs.Prelude.{◌≡◌, ◌<◌, ◌⊎◌, ℕ, List, Some, Result, Ok, Err, length, All, IsErrAnd}
 use Rattle.schema_model.specs.declared.limit.Limit.TheVariants.{Ordinals}
 use Rattle.schema_model.specs.declared.schema.Schema.{Schema}
 use Rattle.schema_model.specs.Limit.{number_of_limit}
-use Rattle.row_model.specs.Table.{IsClosed, IsLive}
+use Rattle.row_model.specs.declared.row.Row.{Row}
+use Rattle.row_model.specs.Row.{stored_row}
+use Rattle.row_model.specs.Table.{IsClosed, IsLive, row_at}
 use Rattle.type_state.specs.State.{Half, empty_half}
 use Rattle.type_state.specs.Views.{AreNext, next_halves, table_of}
 use Rattle.blob_frame.specs.declared.fault.BlobFault.{BlobFault}
@@ -43,9 +45,11 @@ IsBodyFault fault.Memory = Unit {0}
 IsBodyFault _ = ⊥
 
 -- What was read, wherever it came from: an empty current half for each type of the model, and a next half, laid out,
--- with rows that fit the types, stand under ordinals within the limit and name live ordinals alone.
+-- with rows that fit the types, stand under ordinals within the limit, name live ordinals alone, and hold no least INT and
+-- no least LONG.
 pub record IsWholeBody (found : Body) : Type 0 where
   pub next : AreNext found.model found.states
   pub closed : IsClosed found.model (table_of (next_halves found.states))
   pub low : (type_index ordinal : ℕ) → IsLive (table_of (next_halves found.states)) type_index ordinal → ordinal < number_of_limit Ordinals
+  pub stored : (type_index ordinal : ℕ) (row : Row) → row_at (table_of (next_halves found.states)) type_index ordinal ≡ Some row → stored_row row ≡ row
   pub current : All (λ state. state.current ≡ empty_half) found.states

@@ -1,5 +1,5 @@
 -- The blobs of a cycle that are too long.
-use Rattle.std.proofs.Common.{◌≡◌, ◌≤◌, ◌^◌, ℕ, ℤ, List, [], ◌∷◌, All, Result, subst, length, arith}
+use Rattle.std.proofs.Common.{inl, inr, Ok, Err, Bool, true, ◌≡◌, ◌≤◌, ◌^◌, ℕ, ℤ, List, [], ◌∷◌, All, Result, subst, length, arith}
 use Rattle.std.specs.Prelude.{IfErr}
 use Rattle.std.proofs.lemmas.List.Elements.{All-head, All-tail}
 use Rattle.hol_io.specs.declared.name.BlobName.TheVariants as name
@@ -10,7 +10,7 @@ use Rattle.blob_writing.specs.declared.fault.WriteFault.TheVariants.{Large, Memo
 use Rattle.blob_writing.specs.Limits.{MeansLarge}
 use Rattle.blob_writing.specs.Snapshot.{IsWrittenSnapshot}
 use Rattle.blob_writing.specs.Changes.{IsDeltaBetween}
-use Rattle.state_blobs.specs.Puts.{AreFirst, AreLater, IsShort, Put}
+use Rattle.state_blobs.specs.Puts.{AreBlobs, AreFirst, AreLater, AreWhole, IsShort, Put}
 use Rattle.state_blobs.specs.Published.{Published}
 use Rattle.state_blobs.specs.Blobs.{AreLong, AreNotShort}
 
@@ -38,35 +38,43 @@ first_long last rows version tag long = λ blobs (snapshot, written, are) short.
     let more = long snapshot written in
     absurd (omega (arith, head, more))
 
--- each of the three blobs is short
-short_ones : (last : Published) (version : ℕ) (delta reverse snapshot : List ℕ) (blobs : List Put) →
-    blobs ≡ (name.Delta last.version version, delta) ∷ (name.Reverse version last.version, reverse) ∷ (name.Snapshot version, snapshot) ∷ [] → All IsShort blobs →
-    (length delta ≤ 2 ^ 28) × (length reverse ≤ 2 ^ 28) × (length snapshot ≤ 2 ^ 28)
-short_ones last version delta reverse snapshot blobs are short =
+-- each of the blobs is short
+short_ones : (last : Published) (version : ℕ) (delta reverse : List ℕ) (whole blobs : List Put) →
+    blobs ≡ (name.Delta last.version version, delta) ∷ (name.Reverse version last.version, reverse) ∷ whole → All IsShort blobs →
+    (length delta ≤ 2 ^ 28) × (length reverse ≤ 2 ^ 28) × All IsShort whole
+short_ones last version delta reverse whole blobs are short =
     let forth : Put = (name.Delta last.version version, delta) in
     let back : Put = (name.Reverse version last.version, reverse) in
-    let whole : Put = (name.Snapshot version, snapshot) in
-    let all : All IsShort (forth ∷ back ∷ whole ∷ []) = subst (λ (puts : List Put). All IsShort puts) are short in
-    let rest = All-tail IsShort forth (back ∷ whole ∷ []) all in
-    (All-head IsShort forth (back ∷ whole ∷ []) all, All-head IsShort back (whole ∷ []) rest, All-head IsShort whole [] (All-tail IsShort back (whole ∷ []) rest))
+    let all : All IsShort (forth ∷ back ∷ whole) = subst (λ (puts : List Put). All IsShort puts) are short in
+    let rest = All-tail IsShort forth (back ∷ whole) all in
+    (All-head IsShort forth (back ∷ whole) all, All-head IsShort back whole rest, All-tail IsShort back whole rest)
 
-pub delta_long : (last : Published) (rows : Table) (version : ℕ) (tag : ℤ) → AreLong (IsDeltaBetween last.model last.rows rows last.tag tag) → AreNotShort (AreLater last rows version tag)
-delta_long last rows version tag long = λ blobs (delta, reverse, snapshot, forth, back, written, are) short.
-    let all = short_ones last version delta reverse snapshot blobs are short in
+pub delta_long : (last : Published) (rows : Table) (version : ℕ) (tag : ℤ) (with_snapshot : Bool) → AreLong (IsDeltaBetween last.model last.rows rows last.tag tag) → AreNotShort (AreLater last rows version tag with_snapshot)
+delta_long last rows version tag with_snapshot long = λ blobs (delta, reverse, whole, forth, back, written, are) short.
+    let all = short_ones last version delta reverse whole blobs are short in
     let head = all.0 in
     let more = long delta forth in
     absurd (omega (arith, head, more))
 
-pub reverse_long : (last : Published) (rows : Table) (version : ℕ) (tag : ℤ) → AreLong (IsDeltaBetween last.model rows last.rows tag last.tag) → AreNotShort (AreLater last rows version tag)
-reverse_long last rows version tag long = λ blobs (delta, reverse, snapshot, forth, back, written, are) short.
-    let all = short_ones last version delta reverse snapshot blobs are short in
+pub reverse_long : (last : Published) (rows : Table) (version : ℕ) (tag : ℤ) (with_snapshot : Bool) → AreLong (IsDeltaBetween last.model rows last.rows tag last.tag) → AreNotShort (AreLater last rows version tag with_snapshot)
+reverse_long last rows version tag with_snapshot long = λ blobs (delta, reverse, whole, forth, back, written, are) short.
+    let all = short_ones last version delta reverse whole blobs are short in
     let head = all.1 in
     let more = long reverse back in
     absurd (omega (arith, head, more))
 
-pub snapshot_long : (last : Published) (rows : Table) (version : ℕ) (tag : ℤ) → AreLong (IsWrittenSnapshot last.model last.rows rows last.tag tag) → AreNotShort (AreLater last rows version tag)
-snapshot_long last rows version tag long = λ blobs (delta, reverse, snapshot, forth, back, written, are) short.
-    let all = short_ones last version delta reverse snapshot blobs are short in
-    let head = all.2 in
-    let more = long snapshot written in
-    absurd (omega (arith, head, more))
+pub snapshot_long : (last : Published) (rows : Table) (version : ℕ) (tag : ℤ) (with_snapshot : Bool) → with_snapshot ≡ true → AreLong (IsWrittenSnapshot last.model last.rows rows last.tag tag) → AreNotShort (AreLater last rows version tag with_snapshot)
+snapshot_long last rows version tag with_snapshot asked long = λ blobs (delta, reverse, whole, forth, back, written, are) short.
+    let all = short_ones last version delta reverse whole blobs are short in
+    first_long last rows version tag long whole (subst (λ (asks : Bool). AreWhole asks last rows version tag whole) asked written) all.2
+
+-- what a refusal means of the blobs of a later state, it means of those that are put
+pub later_long : {T : Type 0} (last : Published) (rows : Table) (version : ℕ) (tag : ℤ) (with_snapshot : Bool) → (last.version ≡ 0 → ⊥) → (result : Result T WriteFault)
+    → IfErr result (MeansLarge (AreNotShort (AreLater last rows version tag with_snapshot))) → IfErr result (MeansLarge (AreNotShort (AreBlobs last rows version tag with_snapshot)))
+later_long last rows version tag with_snapshot later (Ok done) means = means
+later_long last rows version tag with_snapshot later (Err fault) means =
+    means_more (AreNotShort (AreLater last rows version tag with_snapshot)) (AreNotShort (AreBlobs last rows version tag with_snapshot)) fault
+    (λ long blobs are short. elim are [
+      | inl first ↦ later first.0
+      | inr other ↦ long blobs other.1 short
+    ]) means

@@ -1,5 +1,6 @@
--- What a cycle puts into the store when it publishes: the blobs that lead to the new state and back, its snapshot, and then its version as the announced one.
-use Rattle.std.specs.Prelude.{◌≡◌, ◌≢◌, ◌≤◌, ◌⊎◌, ◌^◌, ℕ, ℤ, List, [], ◌∷◌, ◌++◌, length}
+-- What a cycle puts into the store when it publishes: the blobs that lead to the new state and back, its snapshot where it is asked for, and then its
+-- version as the announced one.
+use Rattle.std.specs.Prelude.{Bool, true, false, ◌≡◌, ◌≢◌, ◌≤◌, ◌⊎◌, ◌^◌, ℕ, ℤ, List, [], ◌∷◌, ◌++◌, length}
 use Rattle.std.specs.Fmt.{decimal}
 use Rattle.std.specs.FinMap.{insert}
 use Rattle.hol_io.specs.declared.name.BlobName.{BlobName}
@@ -19,17 +20,22 @@ abbrev pub AreFirst : Published → Table → ℕ → ℤ → List Put → Type 
 AreFirst last rows version tag blobs =
     (snapshot : List ℕ) × IsWrittenSnapshot last.model last.rows rows last.tag tag snapshot × (blobs ≡ (Snapshot version, snapshot) ∷ [])
 
--- The blobs of a later state: the delta from the last state to it, the delta back, and its snapshot.
-abbrev pub AreLater : Published → Table → ℕ → ℤ → List Put → Type 0
-AreLater last rows version tag blobs =
-    (delta reverse snapshot : List ℕ) × IsDeltaBetween last.model last.rows rows last.tag tag delta
-    × IsDeltaBetween last.model rows last.rows tag last.tag reverse × IsWrittenSnapshot last.model last.rows rows last.tag tag snapshot
-    × (blobs ≡ (Delta last.version version, delta) ∷ (Reverse version last.version, reverse) ∷ (Snapshot version, snapshot) ∷ [])
+-- The snapshot of a later state, where it is asked for, and else nothing.
+abbrev pub AreWhole : Bool → Published → Table → ℕ → ℤ → List Put → Type 0
+AreWhole true last rows version tag whole = AreFirst last rows version tag whole
+AreWhole false last rows version tag whole = whole ≡ []
 
--- The blobs that are put for a state of these rows, version and tag that follows the last one.
-abbrev pub AreBlobs : Published → Table → ℕ → ℤ → List Put → Type 0
-AreBlobs last rows version tag blobs =
-    ((last.version ≡ 0) × AreFirst last rows version tag blobs) ⊎ ((last.version ≢ 0) × AreLater last rows version tag blobs)
+-- The blobs of a later state: the delta from the last state to it, the delta back, and its snapshot where it is asked for.
+abbrev pub AreLater : Published → Table → ℕ → ℤ → Bool → List Put → Type 0
+AreLater last rows version tag with_snapshot blobs =
+    (delta reverse : List ℕ) × (whole : List Put) × IsDeltaBetween last.model last.rows rows last.tag tag delta
+    × IsDeltaBetween last.model rows last.rows tag last.tag reverse × AreWhole with_snapshot last rows version tag whole
+    × (blobs ≡ (Delta last.version version, delta) ∷ (Reverse version last.version, reverse) ∷ whole)
+
+-- The blobs that are put for a state of these rows, version and tag that follows the last one. A first state has its snapshot in any case.
+abbrev pub AreBlobs : Published → Table → ℕ → ℤ → Bool → List Put → Type 0
+AreBlobs last rows version tag with_snapshot blobs =
+    ((last.version ≡ 0) × AreFirst last rows version tag blobs) ⊎ ((last.version ≢ 0) × AreLater last rows version tag with_snapshot blobs)
 
 -- All that is put: the blobs, and behind them the version that is announced.
 abbrev pub puts_of : List Put → ℕ → List Put

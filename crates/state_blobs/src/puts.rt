@@ -3,7 +3,7 @@ ghost use Rattle.std.specs.Prelude.{◌≡◌, OnErr, OnOk};
 ghost use Rattle.std.specs.Option.{option_map};
 ghost use Rattle.hol_io.specs.Causes.{HasPutCause};
 ghost use Rattle.state_blobs.specs.Puts.{put_all, puts_of};
-ghost use Rattle.state_blobs.specs.Blobs.{IsPartlyPut, puts_in};
+ghost use Rattle.state_blobs.specs.Blobs.{IsPartlyPut, puts_in, whole_in};
 
 use crate::write::Blobs;
 use hol_io::{BlobName, BlobStore, PutFault};
@@ -45,7 +45,23 @@ fn put_blobs<S: BlobStore>(store: &mut S, blobs: &Blobs) -> Result<(), PutFault>
         } => {
             store.put(&BlobName::Delta(*last, *version), delta.as_slice())?;
             store.put(&BlobName::Reverse(*version, *last), reverse.as_slice())?;
-            store.put(&BlobName::Snapshot(*version), snapshot.as_slice())
+            put_whole(store, *version, snapshot)
         }
+    }
+}
+
+// Puts a snapshot, where there is one.
+fn put_whole<S: BlobStore>(
+    store: &mut S,
+    version: u64,
+    snapshot: &Option<Vec<u8>>,
+) -> Result<(), PutFault>
+    ensures put { OnOk result ((S.seen store.new).held ≡ option_map (λ held. put_all held (whole_in version snapshot.now)) (S.seen store.old).held) }
+    ensures kept { OnErr result ((S.seen store.new).held ≡ (S.seen store.old).held) }
+    ensures cause { HasPutCause (S.seen store.old).faults (S.seen store.new).faults result }
+{
+    match snapshot {
+        Some(snapshot) => store.put(&BlobName::Snapshot(version), snapshot.as_slice()),
+        None => Ok(()),
     }
 }

@@ -1,13 +1,13 @@
 //! The blobs of a closed cycle are written.
-ghost use Rattle.std.specs.Prelude.{◌≤◌, ◌^◌, None, All, IfErr, IfOk, length};
+ghost use Rattle.std.specs.Prelude.{◌≡◌, ◌≤◌, ℕ, true, ◌^◌, None, All, IfErr, IfOk, length};
 ghost use Rattle.blob_writing.specs.Limits.{MeansLarge};
 ghost use Rattle.blob_writing.specs.Snapshot.{IsWrittenSnapshot};
 ghost use Rattle.blob_writing.specs.Changes.{IsDeltaBetween};
 ghost use Rattle.blob_writing.specs.Plan.{IsPlanOf};
 ghost use Rattle.write_engine.specs.CycleLimit.{TellsTypes};
 ghost use Rattle.state_blobs.specs.Published.{published_of};
-ghost use Rattle.state_blobs.specs.Puts.{AreBlobs, AreFirst, AreLater, IsShort};
-ghost use Rattle.state_blobs.specs.Blobs.{AreLong, AreNotShort, puts_in};
+ghost use Rattle.state_blobs.specs.Puts.{AreBlobs, AreFirst, AreLater, AreWhole, IsShort};
+ghost use Rattle.state_blobs.specs.Blobs.{AreLong, AreNotShort, puts_in, whole_in};
 
 use blob_writing::{Plan, WriteFault, write_delta, write_snapshot};
 use std::alloc::{AllocError, Global};
@@ -33,28 +33,29 @@ pub enum Blobs {
         delta: Vec<u8>,
         /// The delta from it back to the last state.
         reverse: Vec<u8>,
-        /// Its snapshot.
-        snapshot: Vec<u8>,
+        /// Its snapshot, where it is put.
+        snapshot: Option<Vec<u8>>,
     },
 }
 
-/// Writes the blobs of a producer's cycle, which is to have this version and tag. `Large` comes exactly where one of them would have more than 2^28
-/// bytes.
+/// Writes the blobs of a producer's cycle, which is to have this version and tag. The snapshot of a later state is written only where it is asked for.
+/// `Large` comes exactly where one of those that are written would have more than 2^28 bytes.
 pub fn write_blobs(
     alloc: Global,
     producer: &Producer,
     version: u64,
     tag: i64,
+    with_snapshot: bool,
 ) -> Result<Blobs, WriteFault>
     requires { TellsTypes producer.now.schemas producer.now.previous producer.now.current None }
-    ensures written { IfOk result (λ blobs. AreBlobs (published_of producer.now) producer.now.current version tag (puts_in blobs)) }
+    ensures written { IfOk result (λ blobs. AreBlobs (published_of producer.now) producer.now.current version tag with_snapshot (puts_in blobs)) }
     ensures short { IfOk result (λ blobs. All IsShort (puts_in blobs)) }
-    ensures large { IfErr result (MeansLarge (AreNotShort (AreBlobs (published_of producer.now) producer.now.current version tag))) }
+    ensures large { IfErr result (MeansLarge (AreNotShort (AreBlobs (published_of producer.now) producer.now.current version tag with_snapshot))) }
 {
     if producer.version() == 0 {
         write_first(alloc, producer, version, tag)
     } else {
-        write_later(alloc, producer, version, tag)
+        write_later(alloc, producer, version, tag, with_snapshot)
     }
 }
 
@@ -75,21 +76,22 @@ fn write_first(
     Ok(Blobs::First { version, snapshot })
 }
 
-// The deltas from the last state and back to it, and the snapshot of a later state.
+// The deltas from the last state and back to it, and the snapshot of a later state where it is asked for.
 fn write_later(
     alloc: Global,
     producer: &Producer,
     version: u64,
     tag: i64,
+    with_snapshot: bool,
 ) -> Result<Blobs, WriteFault>
     requires kept { TellsTypes producer.now.schemas producer.now.previous producer.now.current None }
-    ensures written { IfOk result (λ blobs. AreLater (published_of producer.now) producer.now.current version tag (puts_in blobs)) }
+    ensures written { IfOk result (λ blobs. AreLater (published_of producer.now) producer.now.current version tag with_snapshot (puts_in blobs)) }
     ensures short { IfOk result (λ blobs. All IsShort (puts_in blobs)) }
-    ensures large { IfErr result (MeansLarge (AreNotShort (AreLater (published_of producer.now) producer.now.current version tag))) }
+    ensures large { IfErr result (MeansLarge (AreNotShort (AreLater (published_of producer.now) producer.now.current version tag with_snapshot))) }
 {
     let plan = plan_of(alloc, producer)?;
     let delta = write_forth(alloc, producer, &plan, tag)?;
-    let snapshot = write_whole(alloc, producer, &plan, tag)?;
+    let snapshot = write_asked(alloc, producer, &plan, tag, with_snapshot)?;
     let reverse = write_back(alloc, producer, plan, tag)?;
     Ok(Blobs::Later {
         last: producer.version(),
@@ -98,6 +100,27 @@ fn write_later(
         reverse,
         snapshot,
     })
+}
+
+// The snapshot of the cycle, where it is asked for.
+fn write_asked(
+    alloc: Global,
+    producer: &Producer,
+    plan: &Plan,
+    tag: i64,
+    with_snapshot: bool,
+) -> Result<Option<Vec<u8>>, WriteFault>
+    requires kept { TellsTypes producer.now.schemas producer.now.previous producer.now.current None }
+    requires plan { IsPlanOf producer.now.schemas producer.now.previous producer.now.current plan.now }
+    ensures written { IfOk result (λ snapshot. (version : ℕ) → AreWhole with_snapshot (published_of producer.now) producer.now.current version tag (whole_in version snapshot)) }
+    ensures short { IfOk result (λ snapshot. (version : ℕ) → All IsShort (whole_in version snapshot)) }
+    ensures large { IfErr result (MeansLarge ((with_snapshot ≡ true) × AreLong (IsWrittenSnapshot producer.now.schemas producer.now.previous producer.now.current producer.now.tag tag))) }
+{
+    if with_snapshot {
+        Ok(Some(write_whole(alloc, producer, plan, tag)?))
+    } else {
+        Ok(None)
+    }
 }
 
 // What the blobs of the cycle are written by.

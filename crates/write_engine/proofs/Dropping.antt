@@ -18,6 +18,7 @@ use Rattle.write_engine.specs.Cycle.{rows_in}
 use Rattle.write_engine.specs.Production.{IsProducing, current_of, previous_of}
 use Rattle.write_engine.specs.RowDrops.{MayLeave, without_row}
 use Rattle.write_engine.specs.Soundness.{IsClosedTableOf}
+use Rattle.write_engine.specs.StoredRows.{AreStored}
 use Rattle.write_engine.proofs.ClosedStates.{at_rows, at_set, beside_set, length_set}
 use Rattle.write_engine.proofs.NextStates.{agree_set}
 use Rattle.write_engine.proofs.Puts.{map_set, rows_at, set_same}
@@ -152,4 +153,7 @@ drop_producing schemas maps after t ordinal producing leaves before now = record
   agree = subst (λ (table : Table). TablesAgree table (current_of after)) (sym before)
       (subst (λ (table : Table). TablesAgree (previous_of maps) table) (sym now)
       (agree_set (previous_of maps) (current_of maps) t (remove (rows_in (current_of maps) t) ordinal) producing.agree (agree_left (rows_in (previous_of maps) t) (rows_in (current_of maps) t) ordinal (producing.agree t))));
+  stored_previous = subst AreStored (sym before) producing.stored_previous;
+  stored_current = subst AreStored (sym now)
+      (λ u o row is. producing.stored_current u o row (row_stood (current_of maps) t ordinal (live_inside (current_of maps) t ordinal leaves.live) u o row is));
 }

@@ -12,6 +12,7 @@ use Rattle.write_engine.specs.Agreement.{TablesAgree}
 use Rattle.write_engine.specs.Cycle.{no_rows, rows_in}
 use Rattle.write_engine.specs.Production.{IsProducing, Production, current_of, filled, previous_of, undone}
 use Rattle.write_engine.specs.Soundness.{IsClosedTableOf}
+use Rattle.write_engine.specs.StoredRows.{AreStored}
 use Rattle.write_engine.proofs.Producing.{made}
 
 pub filled_previous : (maps : List States) → previous_of (map filled maps) ≡ previous_of maps
@@ -116,6 +117,8 @@ filled_producing schemas maps producing = record {
   current = subst (IsClosedTableOf schemas) (sym (filled_current maps)) producing.previous;
   agree = subst (λ (table : Table). TablesAgree table (current_of (map filled maps))) (sym (filled_previous maps))
       (subst (λ (table : Table). TablesAgree (previous_of maps) table) (sym (filled_current maps)) (λ t. agree_itself (rows_in (previous_of maps) t) (rows_in (current_of maps) t) (producing.agree t)));
+  stored_previous = subst AreStored (sym (filled_previous maps)) producing.stored_previous;
+  stored_current = subst AreStored (sym (filled_current maps)) producing.stored_previous;
 }
 
 -- what is seen of the producer then

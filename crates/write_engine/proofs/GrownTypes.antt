@@ -24,6 +24,7 @@ use Rattle.seen_rows.proofs.ViewClosed.{live_option, view_closed, view_table}
 use Rattle.seen_rows.proofs.ViewOnce.{grown_there, view_once}
 use Rattle.seen_rows.proofs.ViewPlaces.{none_seen}
 use Rattle.seen_rows.proofs.Views.{own_row}
+use Rattle.row_packing.specs.Written.{IsStored}
 use Rattle.ordinal_map.specs.Assign.{Agree, Holds, IsPast}
 use Rattle.ordinal_map.specs.States.{States}
 use Rattle.ordinal_map.proofs.SetRows.{same_rows}
@@ -33,11 +34,13 @@ use Rattle.write_engine.specs.Grown.{HasStayed, MayGrow, padded_row, seen_of}
 use Rattle.write_engine.specs.Production.{IsProducing, current_of, no_states, previous_of}
 use Rattle.write_engine.specs.Restoring.{HasDistinctRows}
 use Rattle.write_engine.specs.RestoredRows.{HasRowsBelow, HasRowsOf}
+use Rattle.write_engine.specs.StoredRows.{AreStored}
 use Rattle.write_engine.proofs.Duplicates.{once_distinct}
 use Rattle.write_engine.proofs.GrownRows.{seen_padded}
 use Rattle.write_engine.proofs.Producing.{count_types, restored_producing}
 use Rattle.write_engine.proofs.RestoredTypes.{not_live, row_named}
 use Rattle.write_engine.proofs.StateRows.{previous_row_of, row_of}
+use Rattle.write_engine.proofs.StoredRows.{seen_stored}
 
 -- ---- a type that has grown, or stayed
 
@@ -230,6 +233,18 @@ module _ (own grown : List Schema) (maps : List States) (may : MayGrow own grown
       of_least (inl none) = inl none
       of_least (inr (o, past, live)) = inr (o, past, live_then t o inside (subst IsSome (sym (read_at t o s inside at)) live))
 
+  -- a blob can hold a row that is seen
+  seen_is : (f : Row → Row) (o : Option Row) (row : Row) → ((r : Row) → IsStored r → IsStored (f r)) → ((r : Row) → o ≡ Some r → IsStored r) → option_map f o ≡ Some row → IsStored row
+  seen_is f None row keeps each is = absurd cc
+  seen_is f (Some r) row keeps each is = subst IsStored (same_Some _ _ is) (keeps r (each r refl))
+
+  all_stored : AreStored seen
+  all_stored t o row at = elim (cases_lt t (length own)) [
+    | inl inside ↦ (let both = at_type t inside in
+        seen_is (seen_row both.0.shape both.1.shape) (row_at table t o) row (seen_stored both.0.shape both.1.shape) (may.producing.stored_previous t o) (sym (seen_at t inside o) ∙ at))
+    | inr past ↦ absurd (none_new t o past (some_live (row_at seen t o) row at))
+  ]
+
   -- ---- a producer
 
   agrees : ModelsAgree own grown
@@ -239,4 +254,4 @@ module _ (own grown : List Schema) (maps : List States) (may : MayGrow own grown
   grown_producing after before now =
       let fits = may.producing.previous.fits in
       restored_producing grown seen after before now (view_table own grown table (may.model DuplicateName) fits agrees)
-      (view_closed own grown table (may.model DuplicateName) fits agrees may.grown_model may.producing.previous.closed) seen_once
+      (view_closed own grown table (may.model DuplicateName) fits agrees may.grown_model may.producing.previous.closed) seen_once all_stored

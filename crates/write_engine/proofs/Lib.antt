@@ -20,4 +20,5 @@ pub mod RisingLists
 pub mod RowPuts
 pub mod SameTables
 pub mod StateRows
+pub mod StoredRows
 pub mod TypesKept

@@ -56,7 +56,7 @@ puts_agree previous before after t ordinal row puts agree =
 
 -- ---- trees, children first
 
-leaf_or : (tree : PlainTree) (P : Value → Type 0) (Q R : Type 0) → ((value : Value) → P value → R) → (Q → R) → IsLeafOr tree P Q → R
+pub leaf_or : (tree : PlainTree) (P : Value → Type 0) (Q R : Type 0) → ((value : Value) → P value → R) → (Q → R) → IsLeafOr tree P Q → R
 leaf_or (leaf value) P Q R f g h = f value h
 leaf_or (object trees) P Q R f g h = g h
 leaf_or (list trees) P Q R f g h = g h

@@ -19,8 +19,7 @@ use Rattle.ordinal_map.proofs.Puts.{put_once}
 use Rattle.write_engine.specs.Agreement.{TablesAgree}
 use Rattle.write_engine.specs.Production.{IsProducing, current_of, previous_of}
 use Rattle.write_engine.specs.RowPuts.{TellsRowPut}
-use Rattle.write_engine.specs.Soundness.{IsClosedTableOf}
-use Rattle.write_engine.proofs.Producing.{added_producing}
+use Rattle.write_engine.proofs.Producing.{added_producing, same_producing}
 
 -- ---- the fields add nothing
 
@@ -70,13 +69,6 @@ row_put schemas previous before after t ordinal (object trees) (Row.Object value
 row_put schemas previous before after t ordinal tree row is adds = absurd is
 
 -- ---- what putting it tells
-
-same_producing : (schemas : List Schema) (old new : List States) → IsProducing schemas old → previous_of new ≡ previous_of old → current_of new ≡ current_of old → IsProducing schemas new
-same_producing schemas old new producing before now = record {
-  previous = subst (IsClosedTableOf schemas) (sym before) producing.previous;
-  current = subst (IsClosedTableOf schemas) (sym now) producing.current;
-  agree = subst (λ table. TablesAgree table (current_of new)) (sym before) (subst (TablesAgree (previous_of old)) (sym now) producing.agree);
-}
 
 pub plain_producing : (schemas : List Schema) (old new : List States) (t : ℕ) (row : Row) (tree : PlainTree) (result : Result ℕ PutRowFault) → IsProducing schemas old → previous_of new ≡ previous_of old → FitsTree schemas t tree → IsRowOf tree row
     → TellsRowPut (previous_of old) t row (current_of old) result (current_of new) → IsProducing schemas new

@@ -13,8 +13,10 @@ use Rattle.write_engine.specs.Cycle.{Adds, no_rows}
 use Rattle.write_engine.specs.Production.{IsProducing, Production, advanced, advanced_to, current_of, no_states, previous_of, undone, without_rows}
 use Rattle.write_engine.proofs.ClosedStates.{added_closed, none_closed}
 use Rattle.write_engine.proofs.NextStates.{adds_agree, none_there, start_agree}
+use Rattle.write_engine.proofs.StoredRows.{adds_stored, none_stored}
 use Rattle.write_engine.specs.Restoring.{restored_of}
 use Rattle.write_engine.specs.Soundness.{IsClosedTableOf}
+use Rattle.write_engine.specs.StoredRows.{AreStored}
 
 -- what each of two tables in agreement holds
 once_before : (previous current : Table) → TablesAgree previous current → HoldsOnce previous
@@ -71,16 +73,20 @@ empty_once count = record {
 }
 
 -- a state that is made of a closed previous one without rows
-fresh : (schemas : List Schema) (maps : List States) (previous : Table) → previous_of maps ≡ previous → current_of maps ≡ no_rows (length schemas) → IsClosedTableOf schemas previous → HoldsOnce previous → IsProducing schemas maps
-fresh schemas maps previous before now closed once = record {
+fresh : (schemas : List Schema) (maps : List States) (previous : Table) → previous_of maps ≡ previous → current_of maps ≡ no_rows (length schemas) → IsClosedTableOf schemas previous → HoldsOnce previous → AreStored previous
+    → IsProducing schemas maps
+fresh schemas maps previous before now closed once stored = record {
   previous = subst (IsClosedTableOf schemas) (sym before) closed;
   current = subst (IsClosedTableOf schemas) (sym now) (none_closed schemas);
   agree = subst (λ table. TablesAgree table (current_of maps)) (sym before) (subst (TablesAgree previous) (sym now) (start_agree previous (length schemas) once));
+  stored_previous = subst AreStored (sym before) stored;
+  stored_current = subst AreStored (sym now) (none_stored (length schemas));
 }
 
 -- the previous states have the rows of a closed table, each once
-pub restored_producing : (schemas : List Schema) (table : Table) (maps : List States) → previous_of maps ≡ table → current_of maps ≡ no_rows (length schemas) → IsTableOf schemas table → IsClosed schemas table → HoldsOnce table → IsProducing schemas maps
-restored_producing schemas table maps before now fits closed once = fresh schemas maps table before now (record { fits = fits; closed = closed }) once
+pub restored_producing : (schemas : List Schema) (table : Table) (maps : List States) → previous_of maps ≡ table → current_of maps ≡ no_rows (length schemas) → IsTableOf schemas table → IsClosed schemas table → HoldsOnce table → AreStored table
+    → IsProducing schemas maps
+restored_producing schemas table maps before now fits closed once stored = fresh schemas maps table before now (record { fits = fits; closed = closed }) once stored
 
 pub restored_view : (schemas model : List Schema) (table : Table) (maps : List States) (tag given : ℤ) (version : ℕ) → model ≡ schemas → previous_of maps ≡ table → current_of maps ≡ no_rows (length schemas) → given ≡ tag
     → made model maps given version false None ≡ restored_of schemas table tag version
@@ -88,15 +94,15 @@ restored_view schemas model table maps tag given version of before now same =
     λ i. record { schemas = of i; previous = before i; current = now i; tag = same i; version = version; closed = false; over = None }
 
 pub made_producing : (schemas : List Schema) → IsProducing schemas (replicate (length schemas) no_states)
-made_producing schemas = fresh schemas _ (no_rows (length schemas)) (none_previous (length schemas)) (none_current (length schemas)) (none_closed schemas) (empty_once (length schemas))
+made_producing schemas = fresh schemas _ (no_rows (length schemas)) (none_previous (length schemas)) (none_current (length schemas)) (none_closed schemas) (empty_once (length schemas)) (none_stored (length schemas))
 
 pub undone_producing : (schemas : List Schema) (maps : List States) → IsProducing schemas maps → IsProducing schemas (map undone maps)
 undone_producing schemas maps producing =
-    fresh schemas (map undone maps) (previous_of maps) (undone_previous maps) (undone_current maps ∙ ap no_rows (count_types schemas maps producing)) producing.previous (once_before _ _ producing.agree)
+    fresh schemas (map undone maps) (previous_of maps) (undone_previous maps) (undone_current maps ∙ ap no_rows (count_types schemas maps producing)) producing.previous (once_before _ _ producing.agree) producing.stored_previous
 
 pub advanced_producing : (schemas : List Schema) (maps : List States) → IsProducing schemas maps → IsProducing schemas (map advanced maps)
 advanced_producing schemas maps producing =
-    fresh schemas (map advanced maps) (current_of maps) (advanced_previous maps) (advanced_current maps ∙ ap no_rows (count_types schemas maps producing)) producing.current (once_now _ _ producing.agree)
+    fresh schemas (map advanced maps) (current_of maps) (advanced_previous maps) (advanced_current maps ∙ ap no_rows (count_types schemas maps producing)) producing.current (once_now _ _ producing.agree) producing.stored_current
 
 -- a tree is added, and the previous state stays
 pub added_producing : (schemas : List Schema) (maps after : List States) (t ordinal : ℕ) (tree : PlainTree) → IsProducing schemas maps → previous_of after ≡ previous_of maps
@@ -105,6 +111,18 @@ added_producing schemas maps after t ordinal tree producing same adds = record {
   previous = subst (IsClosedTableOf schemas) (sym same) producing.previous;
   current = added_closed schemas (previous_of maps) (current_of maps) (current_of after) t ordinal tree adds producing.current;
   agree = subst (λ table. TablesAgree table (current_of after)) (sym same) (adds_agree schemas (previous_of maps) tree t (current_of maps) (current_of after) ordinal adds producing.agree);
+  stored_previous = subst AreStored (sym same) producing.stored_previous;
+  stored_current = adds_stored schemas (previous_of maps) tree t (current_of maps) (current_of after) ordinal adds producing.stored_current;
+}
+
+-- neither state has changed
+pub same_producing : (schemas : List Schema) (maps after : List States) → IsProducing schemas maps → previous_of after ≡ previous_of maps → current_of after ≡ current_of maps → IsProducing schemas after
+same_producing schemas maps after producing before now = record {
+  previous = subst (IsClosedTableOf schemas) (sym before) producing.previous;
+  current = subst (IsClosedTableOf schemas) (sym now) producing.current;
+  agree = subst (λ table. TablesAgree table (current_of after)) (sym before) (subst (TablesAgree (previous_of maps)) (sym now) producing.agree);
+  stored_previous = subst AreStored (sym before) producing.stored_previous;
+  stored_current = subst AreStored (sym now) producing.stored_current;
 }
 
 length_previous : (maps : List States) → length (previous_of maps) ≡ length maps
@@ -115,7 +133,7 @@ length_previous (s ∷ maps) = ap suc (length_previous maps)
 pub failed_producing : (schemas : List Schema) (maps after : List States) → IsProducing schemas maps → previous_of after ≡ previous_of maps → IsProducing schemas (map undone after)
 failed_producing schemas maps after producing same =
     fresh schemas (map undone after) (previous_of maps) (undone_previous after ∙ same)
-    (undone_current after ∙ ap no_rows (sym (length_previous after) ∙ ap (λ (table : Table). length table) same ∙ producing.previous.fits.types)) producing.previous (once_before _ _ producing.agree)
+    (undone_current after ∙ ap no_rows (sym (length_previous after) ∙ ap (λ (table : Table). length table) same ∙ producing.previous.fits.types)) producing.previous (once_before _ _ producing.agree) producing.stored_previous
 
 pub failed_current : (schemas : List Schema) (maps after : List States) → IsProducing schemas maps → previous_of after ≡ previous_of maps → current_of (map undone after) ≡ no_rows (length schemas)
 failed_current schemas maps after producing same =

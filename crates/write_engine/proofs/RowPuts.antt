@@ -15,8 +15,11 @@ use Rattle.write_engine.specs.Cycle.{PutsRow, rows_in, with_row}
 use Rattle.write_engine.specs.Production.{IsProducing, current_of, previous_of}
 use Rattle.write_engine.specs.RowPuts.{FitsRow, TellsRowPut}
 use Rattle.write_engine.specs.Soundness.{IsClosedTableOf}
+use Rattle.write_engine.specs.StoredRows.{AreStored}
 use Rattle.write_engine.proofs.ClosedStates.{row_closed}
 use Rattle.write_engine.proofs.NextStates.{puts_agree}
+use Rattle.write_engine.proofs.Producing.{same_producing}
+use Rattle.write_engine.proofs.StoredRows.{put_stored}
 
 module _ (previous before after : Table) (t : ℕ) (row : Row) (agree : TablesAgree previous before) where
   pub put_exactly : (result : Result ℕ PutRowFault) → TellsRowPut previous t row before result after
@@ -50,13 +53,6 @@ refused_same previous before after t row (Ok o) tells = tt
 refused_same previous before after t row (Err TooMany) tells = tells.1
 refused_same previous before after t row (Err Memory) tells = tells
 
-same_producing : (schemas : List Schema) (maps after : List States) → IsProducing schemas maps → previous_of after ≡ previous_of maps → current_of after ≡ current_of maps → IsProducing schemas after
-same_producing schemas maps after producing before now = record {
-  previous = subst (IsClosedTableOf schemas) (sym before) producing.previous;
-  current = subst (IsClosedTableOf schemas) (sym now) producing.current;
-  agree = subst (λ table. TablesAgree table (current_of after)) (sym before) (subst (TablesAgree (previous_of maps)) (sym now) producing.agree);
-}
-
 -- a row is put that may stand there, and the previous state stays
 pub row_producing : (schemas : List Schema) (maps after : List States) (t : ℕ) (row : Row) (result : Result ℕ PutRowFault) → IsProducing schemas maps → previous_of after ≡ previous_of maps
     → FitsRow schemas (current_of maps) t row → TellsRowPut (previous_of maps) t row (current_of maps) result (current_of after) → IsProducing schemas after
@@ -64,6 +60,8 @@ row_producing schemas maps after t row (Ok ordinal) producing before may puts = 
   previous = subst (IsClosedTableOf schemas) (sym before) producing.previous;
   current = row_closed schemas (previous_of maps) (current_of maps) (current_of after) t ordinal row may puts producing.current;
   agree = subst (λ table. TablesAgree table (current_of after)) (sym before) (puts_agree (previous_of maps) (current_of maps) (current_of after) t ordinal row puts producing.agree);
+  stored_previous = subst AreStored (sym before) producing.stored_previous;
+  stored_current = put_stored (previous_of maps) (current_of maps) (current_of after) t ordinal row puts may.stored producing.stored_current;
 }
 row_producing schemas maps after t row (Err TooMany) producing before may tells = same_producing schemas maps after producing before tells.1
 row_producing schemas maps after t row (Err Memory) producing before may tells = same_producing schemas maps after producing before tells

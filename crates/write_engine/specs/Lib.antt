@@ -9,3 +9,4 @@ pub mod Restoring
 pub mod RowDrops
 pub mod RowPuts
 pub mod Soundness
+pub mod StoredRows

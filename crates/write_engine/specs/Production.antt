@@ -13,6 +13,7 @@ use Rattle.ordinal_map.specs.States.{States}
 use Rattle.write_engine.specs.Agreement.{TablesAgree}
 use Rattle.write_engine.specs.Cycle.{no_rows, rows_in}
 use Rattle.write_engine.specs.Soundness.{IsClosedTableOf}
+use Rattle.write_engine.specs.StoredRows.{AreStored}
 
 -- the rows of the previous state, by type
 abbrev pub previous_of : List States → Table
@@ -38,11 +39,13 @@ advanced states = record { previous = states.current; current = empty }
 abbrev pub filled : States → States
 filled states = record states { current = states.previous }
 
--- Both states are closed and their rows fit the types, and the two agree.
+-- Both states are closed, their rows fit the types and a blob can hold them, and the two agree.
 pub record IsProducing (schemas : List Schema) (maps : List States) : Type 0 where
   pub previous : IsClosedTableOf schemas (previous_of maps)
   pub current : IsClosedTableOf schemas (current_of maps)
   pub agree : TablesAgree (previous_of maps) (current_of maps)
+  pub stored_previous : AreStored (previous_of maps)
+  pub stored_current : AreStored (current_of maps)
 
 -- The types whose rows differ in the two tables, rising.
 pub record AreChanged (previous current : Table) (changed : List ℕ) : Type 0 where

@@ -17,6 +17,7 @@ ghost use Rattle.write_engine.specs.Restoring.{HasLowOrdinals, IsFirstDuplicate,
 ghost use Rattle.write_engine.specs.RowDrops.{MayLeave, without_row};
 ghost use Rattle.write_engine.specs.RowPuts.{FitsRow, TellsRowPut};
 ghost use Rattle.write_engine.specs.Soundness.{IsClosedTableOf};
+ghost use Rattle.write_engine.specs.StoredRows.{AreStored};
 
 use crate::adding::{add_tree, put_row};
 use crate::growing::grow_maps;
@@ -178,7 +179,7 @@ impl Producer {
     }
 
     /// A producer whose previous state has these rows, under this tag and version, and whose cycle is open and has no rows: it goes on as if
-    /// the run that made them had never ended. The rows are closed and have ordinals below 2^22.
+    /// the run that made them had never ended. The rows are closed, have ordinals below 2^22, and hold no least INT and no least LONG.
     ///
     /// `Duplicate` comes exactly where a type has two equal rows. It names the first such type in model order, the least ordinal whose row a
     /// lesser one has too, behind that lesser one.
@@ -190,6 +191,7 @@ impl Producer {
     ) -> Result<Producer, RestoreFault>
         requires closed { IsClosed (R.schemas rows.now) (R.table rows.now) }
         requires low { HasLowOrdinals (R.table rows.now) }
+        requires stored { AreStored (R.table rows.now) }
         ensures tells { TellsRestored (R.schemas rows.now) (R.table rows.now) tag version result }
         ensures restored { Yields IsFreeRestore result (Ok (restored_of (R.schemas rows.now) (R.table rows.now) tag version)) (HoldsOnce (R.table rows.now)) }
         ensures duplicate { (type_index first second : ℕ) → Yields IsFreeRestore result (Err (RestoreFault.Duplicate type_index first second)) (IsFirstDuplicate (R.table rows.now) type_index first second) }
@@ -228,21 +230,23 @@ impl Producer {
         self.version
     }
 
-    /// The rows of the previous state.
+    /// The rows of the previous state. They are closed, and hold no least INT and no least LONG.
     pub fn previous(&self) -> Previous<'_>
         ensures schemas { result.schemas ≡ self.now.schemas }
         ensures table { result.table ≡ self.now.previous }
         ensures closed { IsClosedTableOf self.now.schemas self.now.previous }
+        ensures stored { AreStored self.now.previous }
     {
         Previous::new(&self.model, self.maps.as_slice())
     }
 
-    /// The rows of the cycle so far.
+    /// The rows of the cycle so far. They are closed, and hold no least INT and no least LONG.
     pub fn current(&self) -> Current<'_>
         ensures schemas { result.schemas ≡ self.now.schemas }
         ensures table { result.table ≡ self.now.current }
         ensures closed { IsClosedTableOf self.now.schemas self.now.current }
         ensures agree { TablesAgree self.now.previous self.now.current }
+        ensures stored { AreStored self.now.current }
     {
         Current::new(&self.model, self.maps.as_slice())
     }

@@ -7,8 +7,14 @@ pub mod DeltaTypes
 pub mod EmptyChain
 pub mod FewGaps
 pub mod Gone
+pub mod GrownRows
 pub mod MovedOnce
 pub mod NamedOnce
+pub mod PublishedLine
+pub mod QuietGrown
+pub mod QuietMoved
+pub mod QuietRows
+pub mod SeenStates
 pub mod SnapshotRead
 pub mod SnapshotTypes
 pub mod StatesBack

@@ -8,9 +8,11 @@ use Rattle.schema_model.specs.declared.limit.Limit.TheVariants.{Ordinals, Bytes}
 use Rattle.row_model.specs.declared.row.Row.{Row}
 use Rattle.schema_model.specs.declared.schema.Schema.{Schema}
 use Rattle.schema_model.specs.Limit.{number_of_limit}
+use Rattle.schema_model.specs.Growth.{Grows}
 use Rattle.schema_model.specs.Model.{IsModel}
 use Rattle.row_model.specs.Table.{Table, IsClosed, IsLive, IsTableOf, row_at}
 use Rattle.row_model.specs.BothStates.{rows_in}
+use Rattle.row_model.specs.View.{view}
 use Rattle.row_packing.specs.Places.{Agree}
 use Rattle.type_rows.specs.WordsHeld.{bytes_held}
 
@@ -47,15 +49,15 @@ pub record IsSound (state : ChainState) : Type 0 where
   pub ordinals : (type_index ordinal : ℕ) → IsLive state.table type_index ordinal → ordinal < number_of_limit Ordinals
   pub bytes : (type_index : ℕ) → bytes_held (values (rows_in state.table type_index)) ≤ number_of_limit Bytes
 
--- A state follows another one: this is an earlier published state of the same model, and an ordinal that is live in both has the same row
--- in both.
+-- A state follows another one: this is an earlier published state, whose model the later one's grows; and an ordinal that is live in both has in the later one
+-- the row that is seen of the earlier one's through the later model.
 pub record Follows (chain : Chain) (version : ℕ) (state : ChainState) : Type 0 where
   pub before : ChainState
   pub there : HasVersion chain state.parent before
   pub earlier : state.parent < version
   pub published : IsTrue before.published
-  pub model : state.model ≡ before.model
-  pub agree : (type_index : ℕ) → type_index < length state.model → Agree before.table state.table type_index
+  pub model : Grows before.model state.model
+  pub agree : (type_index : ℕ) → type_index < length state.model → Agree (view state.model before.model before.table) state.table type_index
 
 -- The states are a chain: each is sound, and is a root or follows another one; no two have one tag; and no two published ones follow the
 -- same state or are both roots.

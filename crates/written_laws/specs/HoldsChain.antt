@@ -6,6 +6,7 @@ use Rattle.hol_io.specs.declared.name.BlobName.{BlobName}
 use Rattle.hol_io.specs.declared.name.BlobName.TheVariants.{Snapshot, Delta, Reverse, Announced}
 use Rattle.hol_io.specs.Store.{Store}
 use Rattle.schema_model.specs.declared.limit.Limit.TheVariants.{Blob}
+use Rattle.schema_model.specs.declared.schema.Schema.{Schema}
 use Rattle.schema_model.specs.Limit.{number_of_limit}
 use Rattle.blob_frame.specs.declared.header.Header.{Header}
 use Rattle.chain_store.specs.Announced.{IsAnnounced}
@@ -14,6 +15,8 @@ use Rattle.written_laws.specs.Delta.{LeadsTo}
 use Rattle.delta_blob.specs.Fits.{Fits}
 use Rattle.delta_blob.specs.Moved.{Moved}
 use Rattle.delta_blob.specs.Patch.{TypePatch, DeltaIs}
+use Rattle.written_laws.specs.Quiet.{IsQuiet}
+use Rattle.written_laws.specs.SeenChain.{seen_in}
 use Rattle.written_laws.specs.Snapshot.{IsSnapshotWith}
 use Rattle.delta_blob.specs.Within.{KeepItems, Within}
 
@@ -21,9 +24,13 @@ use Rattle.delta_blob.specs.Within.{KeepItems, Within}
 abbrev pub IsSnapshotOfState : ChainState → List ℕ → Type 0
 IsSnapshotOfState state blob = (head : Header) × (head.destination ≡ state.tag) × IsSnapshotWith state.model state.table head blob
 
--- The blob is a delta from one state to another.
-abbrev pub LeadsBetween : ChainState → ChainState → List ℕ → Type 0
-LeadsBetween from to blob = LeadsTo to.model from.table to.table from.tag to.tag blob
+-- The blob is a delta from an earlier state to the later one that follows it: through the later model, from what is seen of the earlier rows to the later ones.
+abbrev pub LeadsForth : ChainState → ChainState → List ℕ → Type 0
+LeadsForth before after blob = LeadsTo after.model (seen_in after.model before) after.table before.tag after.tag blob
+
+-- It is one back, through the later model too: from the later rows to what is seen of the earlier ones.
+abbrev pub LeadsBack : ChainState → ChainState → List ℕ → Type 0
+LeadsBack before after blob = LeadsTo after.model after.table (seen_in after.model before) after.tag before.tag blob
 
 -- The chain has a state under the later version, which follows the one under the earlier version, and of both this holds.
 abbrev pub OfStep : Chain → ℕ → ℕ → (ChainState → ChainState → Type 0) → Type 0
@@ -33,20 +40,19 @@ OfStep chain earlier later P = (before after : ChainState) × HasVersion chain e
 -- back.
 abbrev pub IsOfChain : Chain → BlobName → List ℕ → Type 0
 IsOfChain chain (Snapshot version) blob = (state : ChainState) × HasVersion chain version state × IsSnapshotOfState state blob
-IsOfChain chain (Delta from to) blob = OfStep chain from to (λ before after. LeadsBetween before after blob)
-IsOfChain chain (Reverse from to) blob = OfStep chain to from (λ before after. LeadsBetween after before blob)
+IsOfChain chain (Delta from to) blob = OfStep chain from to (λ before after. LeadsForth before after blob)
+IsOfChain chain (Reverse from to) blob = OfStep chain to from (λ before after. LeadsBack before after blob)
 IsOfChain chain Announced blob = Unit {0}
 
 -- The store has something under the name.
 abbrev pub IsThere : Store → BlobName → Type 0
 IsThere store name = IsSome (get store name)
 
--- The blobs of a state that follows another one: the delta to it; the one back, where its snapshot is there; and the snapshot, where it is
--- published. What a run that failed leaves is a state that is not published, with the first of them.
+-- The blobs of a state that follows another one: the delta to it, and the one back, where the state is published or its snapshot is there. What a run that
+-- failed leaves is a state that is not published, with the first of them.
 pub record HasStep (store : Store) (version : ℕ) (state : ChainState) : Type 0 where
   pub forward : IsThere store (Delta state.parent version)
-  pub back : IsThere store (Snapshot version) → IsThere store (Reverse version state.parent)
-  pub whole : IsTrue state.published → IsThere store (Snapshot version)
+  pub back : IsTrue state.published ⊎ IsThere store (Snapshot version) → IsThere store (Reverse version state.parent)
 
 -- The blobs of a state that must be there: the snapshot of a root, and those of a step.
 abbrev pub HasBlobs : Store → ℕ → ChainState → Type 0
@@ -65,15 +71,22 @@ IsStep (Delta from to) = Unit {0}
 IsStep (Reverse from to) = Unit {0}
 IsStep _ = ⊥
 
--- A delta leads from this state to another one of the chain, by the patch that it is against the state's model, and passes no limit.
-pub record LeadsOn (chain : Chain) (state : ChainState) (blob : List ℕ) (origin destination : ℤ) (patch : List TypePatch) (is : DeltaIs state.model blob origin destination patch) : Type 0 where
+-- the version of the later of the two states between which a delta leads
+abbrev pub later_of : BlobName → ℕ
+later_of (Delta from to) = to
+later_of (Reverse from to) = from
+later_of _ = 0
+
+-- For a model a delta leads from what is seen of this state to what is seen of another one of the chain, by the patch that it is against the model, and passes
+-- no limit; and nothing is seen there of what has one name and two kinds.
+pub record LeadsOn (chain : Chain) (mine : List Schema) (state : ChainState) (blob : List ℕ) (origin destination : ℤ) (patch : List TypePatch) (is : DeltaIs mine blob origin destination patch) : Type 0 where
   pub version : ℕ
   pub next : ChainState
   pub there : HasVersion chain version next
   pub tag : next.tag ≡ destination
-  pub model : next.model ≡ state.model
-  pub fits : Fits state.model state.table patch
-  pub moved : Moved patch state.table next.table
-  pub within : Within next.table patch
-  pub items : KeepItems state.model is.parts
+  pub quiet : IsQuiet mine next
+  pub fits : Fits mine (seen_in mine state) patch
+  pub moved : Moved patch (seen_in mine state) (seen_in mine next)
+  pub within : Within (seen_in mine next) patch
+  pub items : KeepItems mine is.parts
   pub short : length blob ≤ number_of_limit Blob

@@ -3,6 +3,6 @@ use Rattle.chain_laws.proofs.laws.chain_restore_taken.Goals as goal
 
 pub returns : goal.returns
 returns c = record {
-  taken = λ machine chain version holds last. restore_taken machine chain holds version last;
-  only = λ machine next chain version answer holds last step. restore_only machine chain holds version last answer next step;
+  taken = λ machine chain version holds last whole. restore_taken machine chain holds version last whole;
+  only = λ machine next chain version answer holds last whole step. restore_only machine chain holds version last whole answer next step;
 }

@@ -5,7 +5,7 @@ use Rattle.chain_orders.proofs.check_order.check.Goals as goal
 pub returns-in-Ok-clause-reply : goal.returns-in-Ok-clause-reply
 returns-in-Ok-clause-reply g c =
     checked (g.S.BlobStore.seen c.args.store.now).held c.args.versions.now c.as_slice.result.now c.new-walker.result c.new-fresh.result
-    (record { walker = c.check.new.walker; fresh = c.check.new.fresh }) c.in-Ok.field-0 _ c.as_slice.ensures c.new-walker.ensures c.new-fresh.ensures (omega (arith, c.len.ensures)) c.in-Ok.ensures.tells
+    (record { walker = c.check.new.walker; fresh = c.check.new.fresh }) c.in-Ok.compared _ c.as_slice.ensures c.new-walker.ensures c.new-fresh.ensures (omega (arith, c.len.ensures)) c.in-Ok.ensures.passes c.in-Ok.ensures.tells
 
 pub returns-in-Err-Walk-clause-reply : goal.returns-in-Err-Walk-clause-reply
 returns-in-Err-Walk-clause-reply g c =

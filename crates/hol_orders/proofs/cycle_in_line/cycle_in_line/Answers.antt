@@ -15,6 +15,6 @@ returns-in-Some-state_of c =
     let told = c.in_ok-parts.ensures in
     let found = c.in-Some-state_of in
     let same = subst (λ (o : Option CycleParts). IfSome o (λ p. p.add ≡ text)) c.in-Some.is told.same in
-    let reads = subst (λ (o : Option CycleParts). IfSome o (λ p. read text ≡ Some (cycle_data (view p.version) (view p.tag) (added_by text)))) c.in-Some.is told.read in
+    let reads = subst (λ (o : Option CycleParts). IfSome o (λ p. read text ≡ Some (cycle_data (view p.version) (view p.tag) (added_by text) p.snapshot))) c.in-Some.is told.read in
     let adds = subst (λ (o : Option CycleParts). IfSome o (λ p. (types : List Typed) × (added_by text ≡ object (with_types types no_members)))) c.in-Some.is told.types in
-    cycle_orders c.args.line.now text parts.add (view parts.version) (view parts.tag) adds.0 found.next c.in-Ok.ensures.0 c.in-Ok.ensures.1 same reads adds.1 found.ensures.version found.ensures.tag found.ensures.add
+    cycle_orders c.args.line.now text parts.add (view parts.version) (view parts.tag) adds.0 parts.snapshot found.next c.in-Ok.ensures.0 c.in-Ok.ensures.1 same reads adds.1 found.ensures.version found.ensures.tag found.ensures.add found.ensures.snapshot

@@ -3,7 +3,7 @@ use Rattle.hol_orders.specs.Order.{IsOrder}
 use Rattle.hollow_machine.specs.Kept.{reader_of}
 use Rattle.hollow_machine.specs.Puts.{MayPut, OrderPuts}
 use Rattle.hollow_script.proofs.Looking.{of_reader}
-use Rattle.hollow_script.proofs.Ordering.{checks, cycle_halts, cycle_moves, model_moves, reader_moves, restore_moves, same_published, stays_halts, still_published}
+use Rattle.hollow_script.proofs.Ordering.{checks, cycle_halts, cycle_moves, grow_moves, model_moves, reader_moves, restore_moves, same_published, stays_halts, still_published}
 use Rattle.hollow_script.specs.Kept.{kept_of}
 use Rattle.hollow_script.proofs.order.answer.Goals as goal
 
@@ -16,6 +16,13 @@ cycle-requires-clause-order g c = subst IsOrder c.in-Cycle.is c.requires.order
 pub returns-in-Model-clause-step : goal.returns-in-Model-clause-step
 returns-in-Model-clause-step g c =
     model_moves (g.S.BlobStore.seen c.args.store.now).held (kept_of c.args.keep.now) c.model.new.producer c.args.order.now c.model.result c.in-Model.schemas c.in-Model.is c.model.ensures.step
+
+pub grow-requires-clause-schemas : goal.grow-requires-clause-schemas
+grow-requires-clause-schemas g c = subst IsOrder c.in-Grow.is c.requires.order
+
+pub returns-in-Grow-clause-step : goal.returns-in-Grow-clause-step
+returns-in-Grow-clause-step g c =
+    grow_moves (g.S.BlobStore.seen c.args.store.now).held (kept_of c.args.keep.now) c.grow.new.producer c.args.order.now c.grow.result c.in-Grow.schemas c.in-Grow.is c.grow.ensures.step
 
 pub returns-in-Cycle-clause-step : goal.returns-in-Cycle-clause-step
 returns-in-Cycle-clause-step g c =
@@ -40,7 +47,7 @@ returns-in-Check-clause-step g c =
 
 pub answer_reader-requires-clause-reader : goal.answer_reader-requires-clause-reader
 answer_reader-requires-clause-reader g c =
-    of_reader c.args.order.now c.in_default.not-Model c.in_default.not-Cycle c.in_default.not-Restore c.in_default.not-Check
+    of_reader c.args.order.now c.in_default.not-Model c.in_default.not-Cycle c.in_default.not-Restore c.in_default.not-Check c.in_default.not-Grow
 
 pub returns-in_default-clause-step : goal.returns-in_default-clause-step
 returns-in_default-clause-step g c =
@@ -53,6 +60,11 @@ pub returns-in-Model-clause-halts : goal.returns-in-Model-clause-halts
 returns-in-Model-clause-halts g c =
     let held = (g.S.BlobStore.seen c.args.store.now).held in
     stays_halts (OrderPuts c.args.order.now) held held (kept_of c.args.keep.now) c.model.result refl
+
+pub returns-in-Grow-clause-halts : goal.returns-in-Grow-clause-halts
+returns-in-Grow-clause-halts g c =
+    let held = (g.S.BlobStore.seen c.args.store.now).held in
+    stays_halts (OrderPuts c.args.order.now) held held (kept_of c.args.keep.now) c.grow.result refl
 
 pub returns-in-Restore-clause-halts : goal.returns-in-Restore-clause-halts
 returns-in-Restore-clause-halts g c =
@@ -81,6 +93,9 @@ returns-in-Cycle-clause-quiet g c = λ not. absurd (not (subst MayPut (sym c.in-
 
 pub returns-in-Model-clause-undone : goal.returns-in-Model-clause-undone
 returns-in-Model-clause-undone g c = still_published c.args.keep.now.producer c.model.new.producer c.model.result c.model.ensures.stopped
+
+pub returns-in-Grow-clause-undone : goal.returns-in-Grow-clause-undone
+returns-in-Grow-clause-undone g c = still_published c.args.keep.now.producer c.grow.new.producer c.grow.result c.grow.ensures.stopped
 
 pub returns-in-Restore-clause-undone : goal.returns-in-Restore-clause-undone
 returns-in-Restore-clause-undone g c = still_published c.args.keep.now.producer c.restore.new.producer c.restore.result c.restore.ensures.stopped

@@ -15,8 +15,8 @@ returns-in-Ok-clause-step g c =
     let held' = (g.S.BlobStore.seen c.run_cycle-ended.new.store).held in
     let old = c.args.producer.now in
     let mid = c.run_cycle-ended.new.producer in
-    let steps = at_tag (λ t. Steps (asked_of c.args.version t c.args.records.now) held (published_of old) held' (published_of mid) (Ok c.in-Ok.reply)) c.args.tag c.ranges.tag c.in-Ok.ensures.steps in
-    answers (asked_of c.args.version c.args.tag c.args.records.now) held held' old mid c.undo.new.self c.in-Ok.reply OrderStop c.undo.ensures steps
+    let steps = at_tag (λ t. Steps (asked_of c.args.version t c.args.with_snapshot c.args.records.now) held (published_of old) held' (published_of mid) (Ok c.in-Ok.reply)) c.args.tag c.ranges.tag c.in-Ok.ensures.steps in
+    answers (asked_of c.args.version c.args.tag c.args.with_snapshot c.args.records.now) held held' old mid c.undo.new.self c.in-Ok.reply OrderStop c.undo.ensures steps
 
 pub returns-in-Err-Refused-clause-step : goal.returns-in-Err-Refused-clause-step
 returns-in-Err-Refused-clause-step g c =
@@ -25,8 +25,8 @@ returns-in-Err-Refused-clause-step g c =
     let old = c.args.producer.now in
     let mid = c.run_cycle-ended.new.producer in
     let told = rw c.in-Err-Refused.field-0-is at c.in-Err-Refused.ensures.steps in
-    let steps = at_tag (λ t. Steps (asked_of c.args.version t c.args.records.now) held (published_of old) held' (published_of mid) (Err (Refused c.in-Err-Refused.refusal))) c.args.tag c.ranges.tag told in
-    refuses (asked_of c.args.version c.args.tag c.args.records.now) held held' old mid c.undo.new.self c.in-Err-Refused.refusal OrderStop c.undo.ensures c.in-Err-Refused.ensures.kept steps
+    let steps = at_tag (λ t. Steps (asked_of c.args.version t c.args.with_snapshot c.args.records.now) held (published_of old) held' (published_of mid) (Err (Refused c.in-Err-Refused.refusal))) c.args.tag c.ranges.tag told in
+    refuses (asked_of c.args.version c.args.tag c.args.with_snapshot c.args.records.now) held held' old mid c.undo.new.self c.in-Err-Refused.refusal OrderStop c.undo.ensures c.in-Err-Refused.ensures.kept steps
 
 pub returns-in-Err-Stopped-clause-halts : goal.returns-in-Err-Stopped-clause-halts
 returns-in-Err-Stopped-clause-halts g c =
@@ -35,8 +35,8 @@ returns-in-Err-Stopped-clause-halts g c =
     let old = c.args.producer.now in
     let mid = c.run_cycle-ended.new.producer in
     let told = rw c.in-Err-Stopped.field-0-is at c.in-Err-Stopped.ensures.steps in
-    let steps = at_tag (λ t. Steps (asked_of c.args.version t c.args.records.now) held (published_of old) held' (published_of mid) (Err (Stopped c.in-Err-Stopped.stop))) c.args.tag c.ranges.tag told in
-    halts (asked_of c.args.version c.args.tag c.args.records.now) held held' old mid c.in-Err-Stopped.stop steps
+    let steps = at_tag (λ t. Steps (asked_of c.args.version t c.args.with_snapshot c.args.records.now) held (published_of old) held' (published_of mid) (Err (Stopped c.in-Err-Stopped.stop))) c.args.tag c.ranges.tag told in
+    halts (asked_of c.args.version c.args.tag c.args.with_snapshot c.args.records.now) held held' old mid c.in-Err-Stopped.stop steps
 
 pub returns-in-Err-Stopped-clause-undone : goal.returns-in-Err-Stopped-clause-undone
 returns-in-Err-Stopped-clause-undone g c = ap published_of c.undo.ensures ∙ c.in-Err-Stopped.ensures.kept

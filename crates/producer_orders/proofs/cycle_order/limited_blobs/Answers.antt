@@ -15,5 +15,5 @@ returns-in_err-write_blobs c =
     let made = c.args.producer.now in
     let fault = c.in_err-write_blobs.field-0.0 in
     let types : TellsTypes made.schemas made.previous made.current None = search rules in
-    let means = at_tag (λ t. MeansLarge (AreNotShort (AreBlobs (published_of made) made.current c.args.version t)) fault) c.args.tag c.ranges.tag c.in_err-write_blobs.ensures.large in
-    rw (p.1, p.2) (not_written (published_of made) made.current c.args.version c.args.tag fault types means)
+    let means = at_tag (λ t. MeansLarge (AreNotShort (AreBlobs (published_of made) made.current c.args.version t c.args.with_snapshot)) fault) c.args.tag c.ranges.tag c.in_err-write_blobs.ensures.large in
+    rw (p.1, p.2) (not_written (published_of made) made.current c.args.version c.args.tag c.args.with_snapshot fault types means)

@@ -13,7 +13,7 @@ returns-in_err-check_follow-clause-steps g c =
     let held = (g.S.BlobStore.seen c.args.store.now).held in
     let between = (g.S.BlobStore.seen c.check_follow.new.store).held in
     let end = c.in_err-check_follow.field-0.0 in
-    let asked = asked_of c.args.version c.args.tag c.args.records.now in
+    let asked = asked_of c.args.version c.args.tag c.args.with_snapshot c.args.records.now in
     let last = published_of c.args.producer.now in
     let follows = at_tag (λ t. Follows held c.version.result asked.version t (Err end)) asked.tag c.ranges.tag c.in_err-check_follow.ensures.follows in
     let follows_last = subst (λ (v : ℕ). Follows held v asked.version asked.tag (Err end)) c.version.ensures follows in
@@ -24,7 +24,7 @@ returns-in_err-closed-clause-steps g c =
     let p = err_from_is_err_and c.from_residual-in_err-closed.result c.from_residual-in_err-closed.ensures.1 in
     let held = (g.S.BlobStore.seen c.args.store.now).held in
     let between = (g.S.BlobStore.seen c.check_follow.new.store).held in
-    let asked = asked_of c.args.version c.args.tag c.args.records.now in
+    let asked = asked_of c.args.version c.args.tag c.args.with_snapshot c.args.records.now in
     let last = published_of c.args.producer.now in
     let follows = at_tag (λ t. Follows held c.version.result asked.version t (Ok tt)) asked.tag c.ranges.tag c.in_ok-check_follow.ensures.follows in
     let follows_last = subst (λ (v : ℕ). Follows held v asked.version asked.tag (Ok tt)) c.version.ensures follows in
@@ -37,11 +37,11 @@ returns-clause-steps g c =
     let held' = (g.S.BlobStore.seen c.end_cycle.new.store).held in
     let made = c.make_state.new.producer in
     let now = published_of c.end_cycle.new.producer in
-    let asked = asked_of c.args.version c.args.tag c.args.records.now in
+    let asked = asked_of c.args.version c.args.tag c.args.with_snapshot c.args.records.now in
     let fits = c.ranges.tag in
     let follows = at_tag (λ t. Follows held c.version.result asked.version t (Ok tt)) asked.tag fits c.in_ok-check_follow.ensures.follows in
     let follows_last = subst (λ (v : ℕ). Follows held v asked.version asked.tag (Ok tt)) c.version.ensures follows in
-    let told = at_tag (λ t. Ends between (published_of made) made.current c.in_ok-closed.closed.changed asked.version t held' now c.end_cycle.result) asked.tag fits c.end_cycle.ensures.ends in
+    let told = at_tag (λ t. Ends between (published_of made) made.current c.in_ok-closed.closed.changed asked.version t asked.snapshot held' now c.end_cycle.result) asked.tag fits c.end_cycle.ensures.ends in
     ends asked held between held' (published_of c.args.producer.now) (published_of made) now made c.in_ok-closed.closed c.end_cycle.result
     c.check_follow.ensures.kept c.make_state.ensures.kept follows_last c.in_ok-closed.ensures.tells told
 

@@ -1,4 +1,4 @@
-use Rattle.std.proofs.Common.{◌∙◌, Some, refl, sym, ap, subst}
+use Rattle.std.proofs.Common.{◌∙◌, Some, sym, ap, subst}
 use Rattle.json.specs.Lex.{tokens}
 use Rattle.serde_json.specs.Data.{object}
 use Rattle.serde_json.specs.View.{view}
@@ -12,13 +12,14 @@ invariant_of-add c =
     let version = view c.in_ok-version.version in
     let tag = view c.in_ok-version.tag in
     let names = c.in_ok-names.ensures in
-    let cycle = cycle_of c.args.line.now c.in_ok-reader.reader version tag c.open_cycle.new.reader c.pass_types.new.reader names.0 c.in_ok-reader.ensures.ok c.in_ok-version.ensures names.1 names.2
-    (c.if-not-is_line_closed.ensures refl) in
+    let cycle = cycle_of c.args.line.now c.in_ok-reader.reader version tag c.open_cycle.new.reader c.pass_types.new.reader names.0 c.in_ok-snapshot.snapshot c.in_ok-reader.ensures.ok c.in_ok-version.ensures names.1 names.2
+    c.in_ok-snapshot.ensures in
     record {
       version = version;
       tag = tag;
       types = names.0;
-      cycle = subst (λ text. IsCycle (tokens text) version tag names.0) (sym c.in_ok-from_str.ensures.ok) cycle;
+      snapshot = c.in_ok-snapshot.snapshot;
+      cycle = subst (λ text. IsCycle (tokens text) version tag names.0 c.in_ok-snapshot.snapshot) (sym c.in_ok-from_str.ensures.ok) cycle;
       named = view-Object c.in_ok-names.names ∙ ap object names.3;
     }
 
@@ -28,9 +29,9 @@ returns-clause-read c =
     let version = view c.in_ok-version.version in
     let tag = view c.in_ok-version.tag in
     let names = c.in_ok-names.ensures in
-    let cycle = cycle_of line c.in_ok-reader.reader version tag c.open_cycle.new.reader c.pass_types.new.reader names.0 c.in_ok-reader.ensures.ok c.in_ok-version.ensures names.1 names.2
-    (c.if-not-is_line_closed.ensures refl) in
-    cycle_read line version tag names.0 cycle ∙ ap (λ add. Some (cycle_data version tag add)) (sym (cycle_adds line version tag names.0 cycle))
+    let cycle = cycle_of line c.in_ok-reader.reader version tag c.open_cycle.new.reader c.pass_types.new.reader names.0 c.in_ok-snapshot.snapshot c.in_ok-reader.ensures.ok c.in_ok-version.ensures names.1 names.2
+    c.in_ok-snapshot.ensures in
+    cycle_read line version tag names.0 c.in_ok-snapshot.snapshot cycle ∙ ap (λ add. Some (cycle_data version tag add c.in_ok-snapshot.snapshot)) (sym (cycle_adds line version tag names.0 c.in_ok-snapshot.snapshot cycle))
 
 pub returns-clause-types : goal.returns-clause-types
 returns-clause-types c =
@@ -38,6 +39,6 @@ returns-clause-types c =
     let version = view c.in_ok-version.version in
     let tag = view c.in_ok-version.tag in
     let names = c.in_ok-names.ensures in
-    let cycle = cycle_of line c.in_ok-reader.reader version tag c.open_cycle.new.reader c.pass_types.new.reader names.0 c.in_ok-reader.ensures.ok c.in_ok-version.ensures names.1 names.2
-    (c.if-not-is_line_closed.ensures refl) in
-    (names.0, cycle_adds line version tag names.0 cycle)
+    let cycle = cycle_of line c.in_ok-reader.reader version tag c.open_cycle.new.reader c.pass_types.new.reader names.0 c.in_ok-snapshot.snapshot c.in_ok-reader.ensures.ok c.in_ok-version.ensures names.1 names.2
+    c.in_ok-snapshot.ensures in
+    (names.0, cycle_adds line version tag names.0 c.in_ok-snapshot.snapshot cycle)

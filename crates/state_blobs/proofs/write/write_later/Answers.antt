@@ -1,3 +1,4 @@
+use Rattle.std.proofs.Common.{◌≡◌, true}
 use Rattle.std.proofs.lemmas.Result.{err_from_is_err_and}
 use Rattle.blob_writing.specs.Limits.{MeansLarge}
 use Rattle.blob_writing.specs.Snapshot.{IsWrittenSnapshot}
@@ -16,8 +17,8 @@ returns-in_err-delta-clause-large c =
     let fault = c.in_err-delta.field-0.0 in
     let means = at_tag (λ t. MeansLarge (AreLong (IsDeltaBetween made.schemas made.previous made.current made.tag t)) fault) c.args.tag c.ranges.tag c.in_err-delta.ensures.large in
     rw (p.1, p.2)
-    (means_more (AreLong (IsDeltaBetween made.schemas made.previous made.current made.tag c.args.tag)) (AreNotShort (AreLater (published_of made) made.current c.args.version c.args.tag)) fault
-    (delta_long (published_of made) made.current c.args.version c.args.tag) means)
+    (means_more (AreLong (IsDeltaBetween made.schemas made.previous made.current made.tag c.args.tag)) (AreNotShort (AreLater (published_of made) made.current c.args.version c.args.tag c.args.with_snapshot)) fault
+    (delta_long (published_of made) made.current c.args.version c.args.tag c.args.with_snapshot) means)
 
 pub returns-in_err-reverse-clause-large : goal.returns-in_err-reverse-clause-large
 returns-in_err-reverse-clause-large c =
@@ -26,15 +27,15 @@ returns-in_err-reverse-clause-large c =
     let fault = c.in_err-reverse.field-0.0 in
     let means = at_tag (λ t. MeansLarge (AreLong (IsDeltaBetween made.schemas made.current made.previous t made.tag)) fault) c.args.tag c.ranges.tag c.in_err-reverse.ensures.large in
     rw (p.1, p.2)
-    (means_more (AreLong (IsDeltaBetween made.schemas made.current made.previous c.args.tag made.tag)) (AreNotShort (AreLater (published_of made) made.current c.args.version c.args.tag)) fault
-    (reverse_long (published_of made) made.current c.args.version c.args.tag) means)
+    (means_more (AreLong (IsDeltaBetween made.schemas made.current made.previous c.args.tag made.tag)) (AreNotShort (AreLater (published_of made) made.current c.args.version c.args.tag c.args.with_snapshot)) fault
+    (reverse_long (published_of made) made.current c.args.version c.args.tag c.args.with_snapshot) means)
 
 pub returns-in_err-snapshot-clause-large : goal.returns-in_err-snapshot-clause-large
 returns-in_err-snapshot-clause-large c =
     let p = err_from_is_err_and c.from_residual-in_err-snapshot.result c.from_residual-in_err-snapshot.ensures.1 in
     let made = c.args.producer.now in
     let fault = c.in_err-snapshot.field-0.0 in
-    let means = at_tag (λ t. MeansLarge (AreLong (IsWrittenSnapshot made.schemas made.previous made.current made.tag t)) fault) c.args.tag c.ranges.tag c.in_err-snapshot.ensures.large in
+    let means = at_tag (λ t. MeansLarge ((c.args.with_snapshot ≡ true) × AreLong (IsWrittenSnapshot made.schemas made.previous made.current made.tag t)) fault) c.args.tag c.ranges.tag c.in_err-snapshot.ensures.large in
     rw (p.1, p.2)
-    (means_more (AreLong (IsWrittenSnapshot made.schemas made.previous made.current made.tag c.args.tag)) (AreNotShort (AreLater (published_of made) made.current c.args.version c.args.tag)) fault
-    (snapshot_long (published_of made) made.current c.args.version c.args.tag) means)
+    (means_more ((c.args.with_snapshot ≡ true) × AreLong (IsWrittenSnapshot made.schemas made.previous made.current made.tag c.args.tag)) (AreNotShort (AreLater (published_of made) made.current c.args.version c.args.tag c.args.with_snapshot)) fault
+    (λ both. snapshot_long (published_of made) made.current c.args.version c.args.tag c.args.with_snapshot both.0 both.1) means)

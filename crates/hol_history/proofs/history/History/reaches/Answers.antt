@@ -6,4 +6,4 @@ use Rattle.hol_history.proofs.history.History.reaches.Goals as goal
 
 pub returns : goal.returns
 returns c =
-    subst (λ (found : Bool). IsTrue found ↔ Contains (versions c.args.self.now.steps) c.args.version) (sym c.is_some.ensures) (place_tells c.args.self.now.steps c.args.version c.place_of.result c.place_of.ensures)
+    subst (λ (found : Bool). IsTrue found ↔ Contains (versions c.args.self.now.steps) c.args.version) (sym c.is_some.ensures) (place_tells c.args.self.now.steps c.args.version c.place_of.result c.place_of.ensures.place)

@@ -7,4 +7,4 @@ use Rattle.record_stream.proofs.cycle_line.CycleLine.names.Goals as goal
 pub returns : goal.returns
 returns c =
     let kept = c.self.invariant in
-    (with_types kept.types no_members, ap added_by (sym c.self.view_is) ∙ cycle_adds _ kept.version kept.tag kept.types kept.cycle, kept.named)
+    (with_types kept.types no_members, ap added_by (sym c.self.view_is) ∙ cycle_adds _ kept.version kept.tag kept.types kept.snapshot kept.cycle, kept.named)

@@ -18,7 +18,7 @@ invariant_of-result g c =
     let has = c.in_ok-maps.ensures.made in
     let once = distinct_once table c.requires.low (all_distinct table maps has) in
     subst (λ model. IsProducing model maps) (sym (c.in_ok-model.ensures ∙ c.model.ensures.model))
-    (restored_producing schemas table maps (has.previous ∙ take-length table) (has.current ∙ ap no_rows c.model.ensures.fits.types) c.model.ensures.fits c.requires.closed once)
+    (restored_producing schemas table maps (has.previous ∙ take-length table) (has.current ∙ ap no_rows c.model.ensures.fits.types) c.model.ensures.fits c.requires.closed once c.requires.stored)
 
 pub returns : goal.returns
 returns g c =

@@ -1,0 +1,12 @@
+pub mod Areas
+pub mod Blobs
+pub mod FilmBytes
+pub mod FormGives
+pub mod LoadedRows
+pub mod NextRows
+pub mod Numbers
+pub mod ReadRecords
+pub mod ReadTexts
+pub mod Schemas
+pub mod SeenRows
+pub mod ValueTexts
