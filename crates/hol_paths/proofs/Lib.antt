@@ -1,0 +1,15 @@
+pub mod Apart
+pub mod Beginning
+pub mod Coming
+pub mod Counting
+pub mod Gathering
+pub mod KeptReach
+pub mod Leaving
+pub mod Lookup
+pub mod PackedLists
+pub mod Pieces
+pub mod Places
+pub mod Reserving
+pub mod Slotted
+pub mod Turning
+pub mod Walks

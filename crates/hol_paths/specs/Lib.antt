@@ -1,0 +1,6 @@
+pub mod Distinct
+pub mod Groups
+pub mod Packed
+pub mod Reached
+pub mod Slots
+pub mod Walked
