@@ -18,6 +18,7 @@ use Rattle.answer_laws.proofs.Plans.{plan_answered}
 use Rattle.answer_laws.proofs.Restoring.{restore_answered}
 use Rattle.answer_laws.proofs.Showing.{get_answered, past_answered, row_answered, was_answered, wasget_answered}
 use Rattle.answer_laws.proofs.Looks.{at_answered, has_answered, history_answered, live_answered, stat_answered}
+use Rattle.answer_laws.proofs.Walks.{walkfind_answered, walkindex_answered}
 
 answers : (kind : Kind) → IsSettled kind → (machine : Machine) → IsSound machine → (asked : (shape kind).Asked) → (shape kind).spelling.Fits asked → IsAnsweredBy (form kind) machine asked
 answers Kind.Model settled machine sound asked fits = model_answered machine sound asked fits
@@ -35,6 +36,8 @@ answers Kind.Stat settled machine sound asked fits = stat_answered machine sound
 answers Kind.Grow settled machine sound asked fits = grow_answered machine sound asked fits
 answers Kind.Plan settled machine sound asked fits = plan_answered machine sound asked
 answers Kind.Goto settled machine sound asked fits = goto_answered machine sound asked
+answers Kind.WalkIndex settled machine sound asked fits = walkindex_answered machine sound asked
+answers Kind.WalkFind settled machine sound asked fits = walkfind_answered machine sound asked
 answers Kind.History settled machine sound asked fits = history_answered machine sound asked
 answers _ settled machine sound asked fits = absurd settled
 

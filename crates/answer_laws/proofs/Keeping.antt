@@ -48,6 +48,7 @@ use Rattle.hollow_machine.specs.Script.{LineStep}
 use Rattle.hollow_machine.specs.State.{Machine, loaded_to, stepped_to, with_bound, with_consumer, with_producer}
 use Rattle.hollow_machine.specs.Step.{Step}
 use Rattle.hollow_machine.specs.StepOrder.{StepStep}
+use Rattle.hollow_machine.specs.WalkOrders.{WalkIndexStep, WalksAlong}
 use Rattle.answer_laws.specs.Answered.{HasRows, IsSound}
 use Rattle.answer_laws.proofs.Storing.{line_bytes}
 use Rattle.answer_laws.proofs.Cycling.{cycle_rows}
@@ -63,7 +64,7 @@ same_typed : (machine next : Machine) → AreTyped machine → next ≡ machine 
 same_typed machine next typed is = subst AreTyped (sym is) typed
 
 -- what a name holds are bytes
-stored_bytes : (store : Store) (name : BlobName) (blob : List ℕ) → HoldsBytes store → told (Some store) name ≡ Some blob → AreBytes blob
+pub stored_bytes : (store : Store) (name : BlobName) (blob : List ℕ) → HoldsBytes store → told (Some store) name ≡ Some blob → AreBytes blob
 stored_bytes store name blob held there = subst (λ (content : Option (List ℕ)). IfSome content AreBytes) there (held name)
 
 -- ---- the orders
@@ -145,6 +146,15 @@ module _ (machine next : Machine) (typed : AreTyped machine) where
   index_typed name texts (reply.Refused refusal) is = same_typed machine next typed is.1
   index_typed name texts _ is = absurd is
 
+  walk_typed : (text : List ℕ) (keys : ℕ) (now : Position) → HasTypes now → (t : ℕ) → WalksAlong machine text now t keys next → AreTyped next
+  walk_typed text keys now known t along = same_typed (with_consumer machine (Some (record now { walks = along.after }))) next (typed.0, record { model = known.model; types = known.types }, typed.2) along.is
+
+  walkindex_typed : (name : Name) (text : List ℕ) (answer : Reply) → WalkIndexStep machine name text answer next → AreTyped next
+  walkindex_typed name text (reply.WalkIndex keys) is = of_consumer machine.consumer typed.1 _ is (λ now known of_type.
+      of_index (index_of_type now.schemas name) (λ t. WalksAlong machine text now t keys next) of_type (λ t along. walk_typed text keys now known t along))
+  walkindex_typed name text (reply.Refused refusal) is = same_typed machine next typed is.1
+  walkindex_typed name text _ is = absurd is
+
   applied_typed : (name : BlobName) (answer : Reply) → Applies machine name answer next → AreTyped next
   applied_typed (Snapshot version) answer is = load_leaves_typed machine next typed version answer is
   applied_typed (Delta from to) answer is = step_leaves_typed (Delta from to) to answer is
@@ -193,6 +203,7 @@ order_typed (order.Restore version) machine next held typed answer is = restore_
 order_typed (order.Load version) machine next held typed answer is = load_leaves_typed machine next typed version answer is
 order_typed (order.Step from to) machine next held typed answer is = step_leaves_typed machine next typed _ to answer is
 order_typed (order.Index name paths) machine next held typed answer is = index_typed machine next typed name _ answer is
+order_typed (order.WalkIndex name path) machine next held typed answer is = walkindex_typed machine next typed name path answer is
 order_typed (order.Goto version) machine next held typed answer is = goto_typed machine next typed version answer is
 order_typed (order.History bound) machine next held typed answer is = history_typed machine next typed bound answer is
 order_typed _ machine next held typed answer is = same_typed machine next typed is.1

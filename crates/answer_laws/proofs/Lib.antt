@@ -9,6 +9,7 @@ mod Going
 mod Growing
 mod Keys
 mod Keeping
+mod KeptTables
 mod Lines
 mod LookUps
 mod Looks
@@ -18,9 +19,13 @@ mod Ordinals
 mod Plans
 mod Printing
 mod Putting
+mod RangedRows
 mod Records
 mod Restoring
 mod Scripts
 mod Showing
+mod ShownRows
 mod Storing
+mod Values
+mod Walks
 mod Wholes

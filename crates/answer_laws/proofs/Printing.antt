@@ -195,6 +195,7 @@ record_prints schemas table model fits closed t ordinal live =
 
 -- so that it has JSON where each that it prints as is the view of a value
 pub has_json : (schemas : List Schema) (table : Table) → IsModel schemas → IsTableOf schemas table → IsClosed schemas table
-    → ((t ordinal : ℕ) (printed : Data) → PrintsTree schemas t (unfold_row schemas table t ordinal) printed → ((json : Json) → view json ≡ printed → ⊥) → ⊥) → HasJson schemas table
+    → ((t ordinal : ℕ) (printed : Data) → IsLive table t ordinal → PrintsTree schemas t (unfold_row schemas table t ordinal) printed → ((json : Json) → view json ≡ printed → ⊥) → ⊥)
+    → HasJson schemas table
 has_json schemas table model fits closed values t ordinal live none = record_prints schemas table model fits closed t ordinal live (λ printed prints.
-    values t ordinal printed prints (λ json is. none json (subst (PrintsTree schemas t (unfold_row schemas table t ordinal)) (sym is) prints)))
+    values t ordinal printed live prints (λ json is. none json (subst (PrintsTree schemas t (unfold_row schemas table t ordinal)) (sym is) prints)))

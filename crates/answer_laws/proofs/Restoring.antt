@@ -83,7 +83,7 @@ module _ (table : Table) (none : (t first second : ℕ) → IsFirstDuplicate tab
 
 -- each ordinal of rows that are loaded is low
 loaded_low : (blob : List ℕ) (position : Position) → LoadsFrom blob position → (t ordinal : ℕ) → IsLive (rows_now position) t ordinal → ordinal < 2 ^ 22
-loaded_low blob position (head, (parts, is, kept), tag, before, bare) t ordinal live = by_half (slice_get position.halves t) refl
+loaded_low blob position (head, (parts, is, kept), tag, before, bare, unwalked) t ordinal live = by_half (slice_get position.halves t) refl
   where
     by_half : (found : Option Half) → slice_get position.halves t ≡ found → ordinal < 2 ^ 22
     by_half None none =

@@ -1,9 +1,7 @@
--- The tables of a machine are closed tables of the consumer's model behind each line, and so its records can be shown where their data are those of values.
-use Rattle.std.proofs.Common.{◌≡◌, ℕ, ℤ, List, [], ◌∷◌, cond, true, false, Bool, eqb, Option, None, Some, IfSome, inl, inr, refl, sym, subst, lit≤}
+-- The tables of a machine are closed tables of the consumer's model behind each line.
+use Rattle.std.proofs.Common.{◌≡◌, ℕ, ℤ, List, [], ◌∷◌, true, false, Bool, Option, None, Some, IfSome, inl, inr, refl, sym, subst, lit≤}
 use Rattle.std.specs.Prelude.{All, IsSomeAnd}
-use Rattle.std.specs.List.{find}
-use Rattle.std.specs.Option.{option_map}
-use Rattle.std.proofs.lemmas.List.Elements.{All-cons, All-head, All-nil, All-tail, All-take}
+use Rattle.std.proofs.lemmas.List.Elements.{All-cons, All-nil, All-take}
 use Rattle.serde_json.specs.Data.{Data}
 use Rattle.hol_io.specs.declared.name.BlobName.{BlobName}
 use Rattle.hol_io.specs.declared.name.BlobName.TheVariants.{Snapshot, Delta, Reverse, Announced}
@@ -11,12 +9,10 @@ use Rattle.hol_io.specs.Store.{told}
 use Rattle.schema_model.specs.declared.model.path.Path.{Path}
 use Rattle.schema_model.specs.declared.schema.name.Name.{Name}
 use Rattle.schema_model.specs.declared.schema.Schema.{Schema}
-use Rattle.schema_model.specs.Model.{IsModel}
 use Rattle.schema_model.specs.Parts.{index_of_type}
 use Rattle.row_model.specs.Table.{Table}
-use Rattle.hol_history.specs.History.{table_then}
 use Rattle.read_engine.specs.Indexes.{CountsKeyed, KeepsIndex, index_by}
-use Rattle.read_engine.specs.Position.{Index, IsIndexOf, IsPosition, Position, rows_now}
+use Rattle.read_engine.specs.Position.{Index, IsIndexOf, IsPosition, IsWalkOf, Position, rows_now}
 use Rattle.read_engine.specs.Taking.{StepsBy}
 use Rattle.step_laws.proofs.Positions.{load_position, step_position}
 use Rattle.hol_orders.specs.declared.order.Order.{Order}
@@ -40,52 +36,15 @@ use Rattle.hollow_machine.specs.Script.{LineStep}
 use Rattle.hollow_machine.specs.State.{Machine, loaded_to, past_behind, stepped_to, with_bound, with_consumer, with_producer}
 use Rattle.hollow_machine.specs.Step.{Step}
 use Rattle.hollow_machine.specs.StepOrder.{StepStep}
-use Rattle.answer_laws.specs.Shown.{HasJson, HasTables, HasValues, HasWhole, IsShown, IsWhole}
-use Rattle.answer_laws.proofs.Printing.{has_json}
-
--- ---- records that can be shown
-
--- of the rows of a version holds what holds of each that are kept
-all_then : (P : Table → Type 0) (past : List (ℕ × Table)) (version : ℕ) → All (λ pair. P pair.1) past → IfSome (table_then past version) P
-all_then P [] version all = tt
-all_then P (pair ∷ past) version all =
-    elim (eqb pair.0 version) as (λ b. IfSome (option_map (λ (p : ℕ × Table). p.1) (cond b (Some pair) (find (λ (p : ℕ × Table). eqb p.0 version) past))) P) [
-      | true ↦ All-head (λ (p : ℕ × Table). P p.1) pair past all
-      | false ↦ all_then P past version (All-tail (λ (p : ℕ × Table). P p.1) pair past all)
-    ]
-
-module _ (values : HasValues) where
-  whole_shown : (schemas : List Schema) → IsModel schemas → (table : Table) → IsWhole schemas table → HasJson schemas table
-  whole_shown schemas model table whole = has_json schemas table model whole.0 whole.1 (values schemas table model whole)
-
-  then_shown : (schemas : List Schema) → IsModel schemas → (found : Option Table) → IfSome found (IsWhole schemas) → IfSome found (HasJson schemas)
-  then_shown schemas model None whole = tt
-  then_shown schemas model (Some table) whole = whole_shown schemas model table whole
-
-  abbrev Showing : List (ℕ × Table) → Option Position → Type 0
-  Showing past consumer =
-      IfSome consumer (λ now. HasJson now.schemas (rows_now now)) × IfSome consumer (λ now. HasJson now.schemas now.before)
-      × IfSome consumer (λ now. (version : ℕ) → IfSome (table_then past version) (HasJson now.schemas))
-
-  consumer_shown : (past : List (ℕ × Table)) (consumer : Option Position) → IfSome consumer (λ now. HasTables now × All (λ pair. IsWhole now.schemas pair.1) past) → Showing past consumer
-  consumer_shown past None whole = (tt, tt, tt)
-  consumer_shown past (Some now) (tables, all) = (
-    whole_shown now.schemas tables.model (rows_now now) (tables.rows, tables.closed),
-    whole_shown now.schemas tables.model now.before (tables.rows_before, tables.closed_before),
-    λ version. then_shown now.schemas tables.model (table_then past version) (all_then (IsWhole now.schemas) past version all),
-  )
-
-  pub machine_shown : (machine : Machine) → HasWhole machine → IsShown machine
-  machine_shown machine whole =
-      let shows = consumer_shown machine.past machine.consumer whole in
-      record { now = shows.0; before = shows.1; past = shows.2 }
+use Rattle.hollow_machine.specs.WalkOrders.{WalkIndexStep, WalksAlong}
+use Rattle.answer_laws.specs.Shown.{HasTables, HasWhole, IsWhole}
 
 -- ---- the orders
 
 same_whole : (machine next : Machine) → HasWhole machine → next ≡ machine → HasWhole next
 same_whole machine next whole is = subst HasWhole (sym is) whole
 
--- whatever indexes there are
+-- whatever indexes and walk indexes there are
 bare : (now : Position) → IsPosition now → HasTables now
 bare now position = record {
   model = position.model;
@@ -95,10 +54,12 @@ bare now position = record {
   closed_before = position.closed_before;
   indexes = All-nil (IsIndexOf now.schemas);
   few = lit≤ tt;
+  walks = All-nil (IsWalkOf now.schemas);
+  few_walks = lit≤ tt;
 }
 
 step_tables : (blob : List ℕ) (from to : Position) → HasTables from → StepsBy blob from to → HasTables to
-step_tables blob from to tables steps = step_position blob (record from { indexes = [] }) (record to { indexes = [] }) tables (record {
+step_tables blob from to tables steps = step_position blob (record from { indexes = []; walks = [] }) (record to { indexes = []; walks = [] }) tables (record {
   patch = steps.patch;
   is = steps.is;
   fits = steps.fits;
@@ -112,6 +73,7 @@ step_tables blob from to tables steps = step_position blob (record from { indexe
   others = steps.others;
   before = steps.before;
   indexes = refl;
+  walks = refl;
 })
 
 none_whole : (schemas : List Schema) → All (λ (pair : ℕ × Table). IsWhole schemas pair.1) []
@@ -194,6 +156,19 @@ module _ (machine next : Machine) (whole : HasWhole machine) where
   index_whole name texts (reply.Refused refusal) is = same_whole machine next whole is.1
   index_whole name texts _ is = absurd is
 
+  walk_whole : (text : List ℕ) (keys : ℕ) (now : Position) → HasTables now × All (λ pair. IsWhole now.schemas pair.1) machine.past → (t : ℕ) → WalksAlong machine text now t keys next → HasWhole next
+  walk_whole text keys now known t along = same_whole (with_consumer machine (Some (record now { walks = along.after }))) next known along.is
+
+  walked_whole : (name : Name) (text : List ℕ) (keys : ℕ) (consumer : Option Position) → IfSome consumer (λ now. HasTables now × All (λ pair. IsWhole now.schemas pair.1) machine.past)
+      → IsSomeAnd consumer (λ now. IsSomeAnd (index_of_type now.schemas name) (λ t. WalksAlong machine text now t keys next)) → HasWhole next
+  walked_whole name text keys None known is = absurd is
+  walked_whole name text keys (Some now) known is = of_index (index_of_type now.schemas name) (λ t. WalksAlong machine text now t keys next) is (λ t along. walk_whole text keys now known t along)
+
+  walkindex_whole : (name : Name) (text : List ℕ) (answer : Reply) → WalkIndexStep machine name text answer next → HasWhole next
+  walkindex_whole name text (reply.WalkIndex keys) is = walked_whole name text keys machine.consumer whole is
+  walkindex_whole name text (reply.Refused refusal) is = same_whole machine next whole is.1
+  walkindex_whole name text _ is = absurd is
+
   applied_whole : (name : BlobName) (answer : Reply) → Applies machine name answer next → HasWhole next
   applied_whole (Snapshot version) answer is = load_whole machine next whole version answer is
   applied_whole (Delta from to) answer is = step_whole machine next whole (Delta from to) to answer is
@@ -245,6 +220,7 @@ order_whole (order.Restore version) machine next whole answer is = restore_whole
 order_whole (order.Load version) machine next whole answer is = load_whole machine next whole version answer is
 order_whole (order.Step from to) machine next whole answer is = step_whole machine next whole _ to answer is
 order_whole (order.Index name paths) machine next whole answer is = index_whole machine next whole name _ answer is
+order_whole (order.WalkIndex name path) machine next whole answer is = walkindex_whole machine next whole name path answer is
 order_whole (order.Goto version) machine next whole answer is = goto_whole machine next whole version answer is
 order_whole (order.History bound) machine next whole answer is = history_whole machine next whole bound answer is
 order_whole _ machine next whole answer is = same_whole machine next whole is.1

@@ -1,3 +1,5 @@
 pub mod Answered
+pub mod Ranges
 pub mod Scripts
 pub mod Shown
+pub mod Storable

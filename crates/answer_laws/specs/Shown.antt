@@ -1,10 +1,8 @@
 -- What the orders that show records need to know of a machine: that the records can be shown; and when that is so.
-use Rattle.std.specs.Prelude.{◌≡◌, ℕ, List, [], All, IfSome}
-use Rattle.serde_json.specs.Data.{Data}
+use Rattle.std.specs.Prelude.{ℕ, List, [], All, IfSome}
 use Rattle.serde_json.specs.View.{view}
 use Rattle.serde_json.specs.declared.value.Value.{Value}
 use Rattle.schema_model.specs.declared.schema.Schema.{Schema}
-use Rattle.schema_model.specs.Model.{IsModel}
 use Rattle.row_model.specs.Table.{IsClosed, IsLive, IsTableOf, Table}
 use Rattle.row_model.specs.Unfold.{unfold_row}
 use Rattle.record_json.specs.PrintTree.{PrintsTree}
@@ -28,14 +26,8 @@ IsWhole schemas table = IsTableOf schemas table × IsClosed schemas table
 
 -- The position has a model, and both of its states are closed tables of it.
 abbrev pub HasTables : Position → Type 0
-HasTables now = IsPosition (record now { indexes = [] })
+HasTables now = IsPosition (record now { indexes = []; walks = [] })
 
 -- So it is where the consumer stands, and the older states that are kept are closed tables of its model.
 abbrev pub HasWhole : Machine → Type 0
 HasWhole machine = IfSome machine.consumer (λ now. HasTables now × All (λ pair. IsWhole now.schemas pair.1) machine.past)
-
--- That a datum that a record of a closed table prints as is that of no value of serde_json cannot be.
-abbrev pub HasValues : Type 0
-HasValues =
-    (schemas : List Schema) (table : Table) → IsModel schemas → IsWhole schemas table → (t ordinal : ℕ) (printed : Data) → PrintsTree schemas t (unfold_row schemas table t ordinal) printed
-    → ((json : Value) → view json ≡ printed → ⊥) → ⊥

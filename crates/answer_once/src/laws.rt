@@ -7,7 +7,8 @@ ghost use Rattle.hol_orders.specs.Order.{IsOrder, kind_of};
 ghost use Rattle.hollow_machine.specs.State.{Machine, started};
 ghost use Rattle.answer_laws.specs.Answered.{IsSettled, IsShowing, IsSound};
 ghost use Rattle.answer_laws.specs.Scripts.{AsksBuilt};
-ghost use Rattle.answer_laws.specs.Shown.{HasValues, IsShown};
+ghost use Rattle.answer_laws.specs.Shown.{IsShown};
+ghost use Rattle.answer_laws.specs.Storable.{StaysStorable};
 ghost use Rattle.written_laws.specs.Chain.{Chain};
 ghost use Rattle.chain_laws.specs.Producers.{IsProducerOf, KeepsChain};
 ghost use Rattle.answer_once.specs.Once.{IsAnsweredOnce, IsMadeOnce, IsScriptedOnce};
@@ -24,10 +25,10 @@ pub fn one_order_answer()
     chain_laws::laws::one_answer();
 }
 
-/// A run of lines that ask for what is built has just one text and one verdict over a store of bytes, and leaves just one machine, if each datum that a record
-/// prints as is that of a value.
+/// A run of lines that ask for what is built has just one text and one verdict over a store of bytes, and leaves just one machine, if what the records print as
+/// can be held by a value behind each line.
 pub fn one_script_answer()
-    ensures { HasValues → (store : Store) (lines : List (List ℕ)) → HoldsBytes store → All AsksBuilt lines → IsScriptedOnce (started store) lines }
+    ensures { (store : Store) (lines : List (List ℕ)) → HoldsBytes store → StaysStorable (started store) lines → All AsksBuilt lines → IsScriptedOnce (started store) lines }
 {
     answer_laws::laws::some_script();
     chain_laws::laws::one_script();

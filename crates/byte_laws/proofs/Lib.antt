@@ -5,6 +5,7 @@ pub mod FormGives
 pub mod LoadedRows
 pub mod NextRows
 pub mod Numbers
+pub mod PatchedRows
 pub mod ReadRecords
 pub mod ReadTexts
 pub mod Schemas

@@ -36,16 +36,16 @@ use Rattle.byte_laws.specs.Bytes.{IsByteRow, IsByteTable, IsByteValue}
 
 module _ (blob : List ℕ) (are : AreBytes blob) where
   -- Whatever stands by the form in the blob is such a value.
-  abbrev Gives : {A : Type 0} → Form A → (A → Type 0) → Type 0
+  abbrev pub Gives : {A : Type 0} → Form A → (A → Type 0) → Type 0
   Gives {A} form P = (at : ℕ) (value : A) (next : ℕ) → form.Stands blob at value next → P value
 
-  repeated_gives : {A : Type 0} (n : ℕ) (a : Form A) (P : A → Type 0) → Gives a P → Gives (repeated n a) (All P)
+  pub repeated_gives : {A : Type 0} (n : ℕ) (a : Form A) (P : A → Type 0) → Gives a P → Gives (repeated n a) (All P)
   unfolding repeated ◌>>=◌ nothing
   repeated_gives zero a P each at value next stands = subst (All P) (sym stands.0) (All-nil P)
   repeated_gives (suc n) a P each at value next (x, mid, stands, (xs, end, behind, is)) =
       subst (All P) (sym is.0) (All-cons P x xs (each at x mid stands) (repeated_gives n a P each mid xs end behind))
 
-  counted_gives : {A : Type 0} (number : Form ℕ) (a : Form A) (P : A → Type 0) → Gives a P → Gives (counted number a) (All P)
+  pub counted_gives : {A : Type 0} (number : Form ℕ) (a : Form A) (P : A → Type 0) → Gives a P → Gives (counted number a) (All P)
   unfolding counted ◌>>=◌
   counted_gives number a P each at value next (n, mid, stands, behind) = repeated_gives n a P each mid value next behind
 
@@ -53,12 +53,12 @@ module _ (blob : List ℕ) (are : AreBytes blob) where
   unfolding run
   run_gives count at value next stands = subst AreBytes (sym stands.2) (All-take (λ byte. byte < 256) count (drop at blob) (All-drop (λ byte. byte < 256) at blob are))
 
-  area_gives : Gives counted_run AreBytes
+  pub area_gives : Gives counted_run AreBytes
   unfolding counted_run ◌>>=◌
   area_gives at value next (count, mid, number, behind) = run_gives count mid value next behind
 
   -- The areas of packed rows are bytes.
-  abbrev HasAreas : PackedRows → Type 0
+  abbrev pub HasAreas : PackedRows → Type 0
   HasAreas rows = All AreBytes rows.packed.areas
 
   records_give : (shape : Shape) (max : Option ℕ) → Gives (packed_records shape max) HasAreas
@@ -101,7 +101,7 @@ module _ (blob : List ℕ) (are : AreBytes blob) where
 span_bytes : (start stop : ℕ) (area : List ℕ) → AreBytes area → AreBytes (take stop (drop start area))
 span_bytes start stop area are = All-take (λ byte. byte < 256) stop (drop start area) (All-drop (λ byte. byte < 256) start area are)
 
-value_spelled : (kind : FieldKind) (part : FieldPart) (value : Value) → AreBytes part.area → SpellsValue kind part value → IsByteValue value
+pub value_spelled : (kind : FieldKind) (part : FieldPart) (value : Value) → AreBytes part.area → SpellsValue kind part value → IsByteValue value
 value_spelled kind part Value.Null are spells = tt
 value_spelled kind part (Value.Int number) are spells = tt
 value_spelled kind part (Value.Long number) are spells = tt

@@ -14,6 +14,8 @@ ghost use Rattle.type_state.specs.State.{Half};
 ghost use Rattle.type_state.specs.Views.{table_of};
 ghost use Rattle.blob_frame.specs.declared.header.Header.{Header};
 ghost use Rattle.snapshot_blob.specs.Snapshot.{IsAccepted};
+ghost use Rattle.delta_blob.specs.Moved.{Moved};
+ghost use Rattle.delta_blob.specs.Patch.{DeltaIs, TypePatch};
 ghost use Rattle.write_engine.specs.Cycle.{Next, no_rows};
 ghost use Rattle.film_script.specs.Films.{film_schemas, films};
 ghost use Rattle.json_values.specs.SchemaJson.{StandsFor};
@@ -41,10 +43,13 @@ pub fn byte_states()
     ensures seen { (own : List Schema) (table : Table) → IsByteTable table → (mine : List Schema) → IsByteTable (view mine own table) }
 {}
 
-/// The BYTES of a record that is read from JSON are bytes, and those of a state that is loaded from bytes.
+/// The BYTES of a record that is read from JSON are bytes, those of a state that is loaded from bytes, and those of one that a delta of bytes leads to from a
+/// state with such ones.
 pub fn read_bytes()
     ensures json { (schemas : List Schema) (type_index : ℕ) (value : Data) (tree : PlainTree) → read_tree schemas type_index value ≡ Ok tree → IsByteTree tree }
     ensures blob { (blob : List ℕ) (head : Header) (schemas : List Schema) (halves : List Half) → AreBytes blob → IsAccepted blob head schemas halves → IsByteTable (table_of halves) }
+    ensures delta { (schemas : List Schema) (blob : List ℕ) (origin destination : ℤ) (patch : List TypePatch) (old new : Table) → AreBytes blob
+        → DeltaIs schemas blob origin destination patch → Moved patch old new → IsByteTable old → IsByteTable new }
 {}
 
 /// The model and the records of the script of `make` have bytes.

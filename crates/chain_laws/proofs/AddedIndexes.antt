@@ -38,13 +38,13 @@ index_added machine name texts keys next step =
 
 -- ---- one more index behind others
 
-all_more : {A : Type 0} (P : A → Type 0) (xs : List A) (x : A) → All P xs → P x → All P (xs ++ x ∷ [])
+pub all_more : {A : Type 0} (P : A → Type 0) (xs : List A) (x : A) → All P xs → P x → All P (xs ++ x ∷ [])
 all_more P [] x all one zero d inside = one
 all_more P [] x all one (suc k) d inside = absurd (omega (arith, inside))
 all_more P (y ∷ xs) x all one zero d inside = all 0 d (omega arith)
 all_more P (y ∷ xs) x all one (suc k) d inside = all_more P xs x (λ i e within. all (suc i) e (omega (arith, within))) one k d (omega (arith, inside))
 
-apart_more : {A : Type 0} (xs : List A) (x : A) → AllPairs (λ a b. a ≢ b) xs → (Contains xs x → ⊥) → AllPairs (λ a b. a ≢ b) (xs ++ x ∷ [])
+pub apart_more : {A : Type 0} (xs : List A) (x : A) → AllPairs (λ a b. a ≢ b) xs → (Contains xs x → ⊥) → AllPairs (λ a b. a ≢ b) (xs ++ x ∷ [])
 apart_more [] x apart none i j d below inside = absurd (omega (arith, below, inside))
 apart_more (y ∷ xs) x apart none i zero d below inside = absurd (omega (arith, below))
 apart_more (y ∷ xs) x apart none (suc i) (suc j) d below inside =

@@ -33,6 +33,7 @@ still_at chain after (Some now) version past extends (is, at, old) = (
     home = record { version = is.home.version; state = is.home.state; there = extends is.home.version is.home.state is.home.there; model = is.home.model };
     quiet = is.quiet;
     indexes = is.indexes;
+    walks = is.walks;
   },
   at,
   (λ k d inside. (let (state, there, rows) = old k d inside in (state, extends (get_or past k d).0 state there, rows))),

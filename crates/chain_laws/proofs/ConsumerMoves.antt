@@ -5,6 +5,7 @@ use Rattle.std.specs.FinMap.{get}
 use Rattle.hol_io.specs.declared.name.BlobName.{BlobName}
 use Rattle.hol_io.specs.declared.name.BlobName.TheVariants.{Delta, Reverse, Snapshot}
 use Rattle.hol_io.specs.Store.{Store}
+use Rattle.schema_model.specs.declared.model.walk_path.WalkPath.{WalkPath}
 use Rattle.schema_model.specs.declared.schema.Schema.{Schema}
 use Rattle.schema_model.specs.Model.{IsModel}
 use Rattle.row_model.specs.Table.{Table}
@@ -21,6 +22,8 @@ use Rattle.delta_blob.specs.Within.{Within}
 use Rattle.delta_blob.proofs.OnePatch.{tags_once}
 use Rattle.read_engine.specs.Position.{Position, rows_now}
 use Rattle.read_engine.specs.Taking.{LoadsFrom, StepsBy}
+use Rattle.read_engine.specs.Walks.{KeepsWalks}
+use Rattle.step_laws.proofs.DecidedWalks.{walks_kept}
 use Rattle.written_laws.specs.Chain.{Chain, ChainState, HasVersion}
 use Rattle.written_laws.specs.HoldsChain.{HoldsChain, IsStep, LeadsOn}
 use Rattle.written_laws.specs.Quiet.{IsQuiet}
@@ -30,7 +33,9 @@ use Rattle.written_laws.proofs.MovedOnce.{moved_once}
 use Rattle.written_laws.proofs.SeenStates.{own_seen, quiet_itself}
 use Rattle.chain_laws.specs.Consumers.{IsHome, IsIn, Sees, StandsAt}
 use Rattle.chain_laws.specs.KeptIndexes.{AreIndexes}
+use Rattle.chain_laws.specs.KeptWalks.{AreWalks}
 use Rattle.chain_laws.proofs.AddedIndexes.{no_indexes}
+use Rattle.chain_laws.proofs.AddedWalks.{kept_walks, no_walks}
 use Rattle.chain_laws.proofs.NextPosition.{next_halves, next_table, next_count, next_others, next_named}
 
 -- the blob is a delta, or a reverse delta, from one version to another
@@ -60,7 +65,7 @@ module _ (store : Store) (chain : Chain) (holds : HoldsChain store chain) where
 
   -- what is loaded of a version is its state
   pub loads_state : (version : ℕ) (state : ChainState) (blob : List ℕ) (position : Position) → HasVersion chain version state → get store (Snapshot version) ≡ Some blob → LoadsFrom blob position → StandsAt state position
-  loads_state version state blob position there at (head, accepted, tag_is, before, none) =
+  loads_state version state blob position there at (head, accepted, tag_is, before, none, unwalked) =
       let (other, also, (its_head, its_tag, is)) = holds.each (Snapshot version) blob at in
       let same : other ≡ state = one version other state also there in
       let once = one_snapshot blob head its_head accepted.0 is.accepted.0 position.schemas other.model position.halves is.halves accepted.1 is.accepted.1 in
@@ -89,6 +94,7 @@ module _ (store : Store) (chain : Chain) (holds : HoldsChain store chain) where
         home = record { version = version; state = state; there = there; model = sym stands.model };
         quiet = subst (λ (m : List Schema). IsQuiet m state) (sym stands.model) (quiet_itself chain version state holds.sound there);
         indexes = subst (AreIndexes position.schemas) (sym loads.4) (no_indexes position.schemas);
+        walks = subst (AreWalks position.schemas (rows_now position)) (sym loads.5) (no_walks position.schemas (rows_now position));
       }
 
   -- a consumer in the chain is at the version that has its tag
@@ -156,10 +162,14 @@ module _ (store : Store) (chain : Chain) (holds : HoldsChain store chain) where
     table : table_of halves ≡ seen_in now.schemas on.next
     table = next_table now.schemas now.halves delta_is.parts patch delta_is.items.once delta_is.sees (seen_in now.schemas on.next) new_types count
 
+    -- the walk indexes that it keeps there
+    abbrev kept : (after : List WalkPath) × KeepsWalks now.schemas (table_of halves) now.walks after
+    kept = walks_kept now.schemas (table_of halves) now.walks
+
     -- a delta of the chain from where the consumer stands, which it can read, is one that it can take
     pub step_there : (to : Position) × StepsBy blob now to
     step_there = (
-      record { tag = destination; schemas = now.schemas; halves = halves; before = rows_now now; indexes = now.indexes },
+      record { tag = destination; schemas = now.schemas; halves = halves; before = rows_now now; indexes = now.indexes; walks = kept.0 },
       record {
         patch = patch;
         is = delta_is;
@@ -174,6 +184,7 @@ module _ (store : Store) (chain : Chain) (holds : HoldsChain store chain) where
         others = next_others now.schemas now.halves delta_is.parts patch delta_is.items.once delta_is.sees (seen_in now.schemas on.next) new_types count;
         before = refl;
         indexes = refl;
+        walks = kept.1;
       },
     )
 
@@ -191,6 +202,7 @@ module _ (store : Store) (chain : Chain) (holds : HoldsChain store chain) where
         home = subst (IsHome chain) (sym steps.model) is.home;
         quiet = subst (λ (m : List Schema). IsQuiet m leads.next) (sym steps.model) leads.quiet;
         indexes = subst (λ (m : List Schema). AreIndexes m to.indexes) (sym steps.model) (subst (AreIndexes now.schemas) (sym steps.indexes) is.indexes);
+        walks = subst (λ (m : List Schema). AreWalks m (rows_now to) to.walks) (sym steps.model) (kept_walks now.schemas (rows_now now) (rows_now to) now.walks to.walks is.walks steps.walks);
       }
 
   -- a step leads to the second version of its blob

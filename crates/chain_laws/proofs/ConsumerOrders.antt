@@ -153,7 +153,7 @@ module _ (machine : Machine) (chain : Chain) (version : ℕ) (state : ChainState
   can_load =
       let (blob, at) = found (get machine.store (Snapshot version)) whole in
       let (other, also, (head, tag, is)) = holds.each (Snapshot version) blob at in
-      (blob, record { tag = head.destination; schemas = other.model; halves = is.halves; before = table_of is.halves; indexes = [] }, at, (head, is.accepted, refl, refl, refl))
+      (blob, record { tag = head.destination; schemas = other.model; halves = is.halves; before = table_of is.halves; indexes = []; walks = [] }, at, (head, is.accepted, refl, refl, refl, refl))
 
   pub load_taken : (position : Position) × LoadStep machine version (reply.Load state.tag) (loaded_to machine version position)
   load_taken =
@@ -162,17 +162,17 @@ module _ (machine : Machine) (chain : Chain) (version : ℕ) (state : ChainState
       (position, (blob, position, at, loads, sym stands.tag, refl))
 
   pub load_only : (answer : Reply) (next : Machine) → LoadStep machine version answer next
-      → (position : Position) × StandsAt state position × (position.indexes ≡ []) × (answer ≡ reply.Load state.tag) × (next ≡ loaded_to machine version position)
+      → (position : Position) × StandsAt state position × (position.indexes ≡ []) × (position.walks ≡ []) × (answer ≡ reply.Load state.tag) × (next ≡ loaded_to machine version position)
   load_only (reply.Load tag) next (blob, position, at, loads, tag_is, next_is) =
       let stands = loads_state machine.store chain holds version state blob position there at loads in
-      (position, stands, loads.4, ap (λ (t : ℤ). reply.Load t) (tag_is ∙ stands.tag), next_is)
+      (position, stands, loads.4, loads.5, ap (λ (t : ℤ). reply.Load t) (tag_is ∙ stands.tag), next_is)
   load_only (reply.Refused refusal) next step = let (blob, position, at, loads) = can_load in absurd (no_load_refusal version (get machine.store (Snapshot version)) blob position at loads refusal step.0)
   load_only _ next step = absurd step
 
-  pub load_fresh : (now : Position) (answer : Reply) (next : Machine) → machine.consumer ≡ Some now → now.tag ≡ state.tag → now.schemas ≡ state.model → now.indexes ≡ [] → LoadStep machine version answer next
+  pub load_fresh : (now : Position) (answer : Reply) (next : Machine) → machine.consumer ≡ Some now → now.tag ≡ state.tag → now.schemas ≡ state.model → now.indexes ≡ [] → now.walks ≡ [] → LoadStep machine version answer next
       → Fresh chain machine next
-  load_fresh now answer next was tag own bare step =
-      let (position, stands, none, answer_is, next_is) = load_only answer next step in
+  load_fresh now answer next was tag own bare unwalked step =
+      let (position, stands, none, no_walks, answer_is, next_is) = load_only answer next step in
       record {
         now = now;
         was = was;
@@ -184,6 +184,7 @@ module _ (machine : Machine) (chain : Chain) (version : ℕ) (state : ChainState
         model = stands.model ∙ sym own;
         sees = stands_sees machine.store chain holds version state position there stands;
         indexes = none ∙ sym bare;
+        walks = no_walks ∙ sym unwalked;
         last = Some version;
         past = [];
         is = next_is;

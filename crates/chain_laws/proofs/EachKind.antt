@@ -15,6 +15,7 @@ use Rattle.chain_laws.proofs.StatLaws.{stat_lawful}
 use Rattle.chain_laws.proofs.StepLaws.{step_lawful}
 use Rattle.chain_laws.proofs.Lawful.{IsLawful, unbuilt_lawful}
 use Rattle.chain_laws.proofs.LookLaws.{at_lawful, find_lawful, get_lawful, has_lawful, live_lawful, row_lawful}
+use Rattle.chain_laws.proofs.WalkLaws.{walkfind_lawful, walkindex_lawful}
 
 pub laws : (kind : Kind) → IsLawful kind (form kind)
 laws Kind.Model = model_lawful
@@ -36,8 +37,8 @@ laws Kind.Grow = grow_lawful
 laws Kind.Plan = plan_lawful
 laws Kind.Goto = goto_lawful
 laws Kind.Change = unbuilt_lawful Kind.Change
-laws Kind.WalkIndex = unbuilt_lawful Kind.WalkIndex
-laws Kind.WalkFind = unbuilt_lawful Kind.WalkFind
+laws Kind.WalkIndex = walkindex_lawful
+laws Kind.WalkFind = walkfind_lawful
 laws Kind.History = history_lawful
 laws Kind.Was = was_lawful
 laws Kind.WasGet = wasget_lawful

@@ -1,4 +1,4 @@
--- What an order `index` adds; and a load, with such an order for each index behind it, gives the state afresh with the same indexes.
+-- What an order `index` adds; and a load, with such an order for each index and one for each walk index behind it, gives the state afresh with the same indexes.
 use Rattle.std.proofs.Common.{◌≡◌, ◌<◌, ◌+◌, ◌++◌, ℕ, List, [], ◌∷◌, length, get_or, Bool, inl, inr, Option, Some, refl, sym, ap, subst, ◌∙◌, append_assoc, append-nil, length-append, arith}
 use Rattle.std.specs.Prelude.{◌≢◌, AllPairs, Contains, IfSome, IsSomeAnd, filter, is_some}
 use Rattle.std.specs.FinMap.{keys}
@@ -27,13 +27,16 @@ use Rattle.hollow_machine.specs.LoadOrder.{LoadStep}
 use Rattle.hollow_machine.specs.State.{Machine, loaded_to, with_consumer}
 use Rattle.written_laws.specs.Chain.{Chain, ChainState, HasVersion}
 use Rattle.written_laws.specs.HoldsChain.{HoldsChain, IsThere}
-use Rattle.chain_laws.specs.Afresh.{AreAdded, AskForAll}
+use Rattle.chain_laws.specs.Afresh.{AreAdded, AreWalksAdded, AskForAll, AskForWalks}
 use Rattle.chain_laws.specs.Consumers.{Fresh, IsConsumerOf, IsIn, StandsAt}
 use Rattle.chain_laws.specs.KeptIndexes.{AreIndexes, AsksFor, IsAsked}
+use Rattle.chain_laws.specs.KeptWalks.{AreWalks}
+use Rattle.chain_laws.proofs.Apart.{AreApart, new_behind}
 use Rattle.chain_laws.proofs.ConsumerMoves.{stands_sees}
 use Rattle.chain_laws.proofs.ConsumerOrders.{load_only, load_taken}
-use Rattle.chain_laws.proofs.FreshAnswers.{schemas_same}
+use Rattle.chain_laws.proofs.FreshAnswers.{rows_same, schemas_same}
 use Rattle.chain_laws.proofs.OneKey.{Counts, paths_once}
+use Rattle.chain_laws.proofs.WalkedAfresh.{walks_all, walks_there}
 
 -- ---- one order
 
@@ -63,18 +66,6 @@ module _ (machine next : Machine) (now : Position) (name : Name) (texts : List (
       ]
 
 -- ---- an order for each index
-
--- no index is there twice
-abbrev AreApart : List Index → Type 0
-AreApart indexes = AllPairs (λ earlier later. earlier ≢ later) indexes
-
--- one that stands behind others is none of these
-new_behind : (before after : List Index) (index : Index) → AreApart (before ++ index ∷ after) → Contains before index → ⊥
-new_behind before after index apart (k, inside, is) =
-    let here = get_or_append_left before (index ∷ after) index k inside ∙ is in
-    let there = get_or-append-add before (index ∷ after) 0 index in
-    let long = length-append before (index ∷ after) in
-    apart k (length before + 0) index (omega (arith, inside)) (omega (arith, long)) (here ∙ sym there)
 
 added_all : (machine : Machine) (position : Position) (asked : List (Name × List (List ℕ))) (before after : List Index) (now next : Machine) → IsKept position.schemas DuplicateName → AskForAll position.schemas asked after
     → AreApart (before ++ after) → now ≡ with_consumer machine (Some (record position { indexes = before })) → AreAdded now asked next
@@ -151,7 +142,7 @@ module _ (machine : Machine) (chain : Chain) (version : ℕ) (state : ChainState
   is_in : IsIn chain now
   is_in = subst (λ (consumer : Option Position). IfSome consumer (IsIn chain)) was of
 
-  is_fresh : (position : Position) (next : Machine) → StandsAt state position → next ≡ loaded_to machine version (record position { indexes = now.indexes }) → Fresh chain machine next
+  is_fresh : (position : Position) (next : Machine) → StandsAt state position → next ≡ loaded_to machine version (record position { indexes = now.indexes; walks = now.walks }) → Fresh chain machine next
   is_fresh position next stands next_is = record {
     now = now;
     was = was;
@@ -159,34 +150,60 @@ module _ (machine : Machine) (chain : Chain) (version : ℕ) (state : ChainState
     state = state;
     there = there;
     tag = tag;
-    position = record position { indexes = now.indexes };
+    position = record position { indexes = now.indexes; walks = now.walks };
     model = stands.model ∙ sym own;
     sees = (let seen = stands_sees machine.store chain holds version state position there stands in record { tag = seen.tag; rows = seen.rows });
     indexes = refl;
+    walks = refl;
     last = Some version;
     past = [];
     is = next_is;
   }
 
-  pub fresh_indexed : (loaded next : Machine) (answer : Reply) (asked : List (Name × List (List ℕ))) → AskForAll state.model asked now.indexes → LoadStep machine version answer loaded → AreAdded loaded asked next
-      → Fresh chain machine next
-  fresh_indexed loaded next answer asked asks step added =
-      let (position, stands, none, answer_is, loaded_is) = load_only machine chain version state holds there whole answer loaded step in
-      let names = subst (λ (m : List Schema). IsKept m DuplicateName) (sym stands.model) ((holds.sound.sound version state there).model DuplicateName) in
-      let asks_here = subst (λ (m : List Schema). AskForAll m asked now.indexes) (sym stands.model) asks in
-      let bare = loaded_is ∙ (λ i. loaded_to machine version (record position { indexes = none i })) in
-      is_fresh position next stands (added_all (loaded_to machine version position) position asked [] now.indexes loaded next names asks_here is_in.indexes.apart bare added)
+  -- the names of the types of the state's model are apart
+  apart_names : (position : Position) → StandsAt state position → IsKept position.schemas DuplicateName
+  apart_names position stands = subst (λ (m : List Schema). IsKept m DuplicateName) (sym stands.model) ((holds.sound.sound version state there).model DuplicateName)
 
-  pub fresh_there : (loaded next : Machine) × (asked : List (Name × List (List ℕ)))
-      × LoadStep machine version (reply.Load state.tag) loaded × AskForAll state.model asked now.indexes × AreAdded loaded asked next × Fresh chain machine next
+  pub fresh_indexed : (loaded between next : Machine) (answer : Reply) (asked : List (Name × List (List ℕ))) (walked : List (Name × List ℕ)) → AskForAll state.model asked now.indexes
+      → AskForWalks state.model walked now.walks → LoadStep machine version answer loaded → AreAdded loaded asked between → AreWalksAdded between walked next → Fresh chain machine next
+  fresh_indexed loaded between next answer asked walked asks seeks step added walks_added =
+      let (position, stands, none, unwalked, answer_is, loaded_is) = load_only machine chain version state holds there whole answer loaded step in
+      let names = apart_names position stands in
+      let asks_here = subst (λ (m : List Schema). AskForAll m asked now.indexes) (sym stands.model) asks in
+      let seeks_here = subst (λ (m : List Schema). AskForWalks m walked now.walks) (sym stands.model) seeks in
+      let bare = loaded_is ∙ (λ i. loaded_to machine version (record position { indexes = none i })) in
+      let indexed : Position = record position { indexes = now.indexes } in
+      let between_is = added_all (loaded_to machine version position) position asked [] now.indexes loaded between names asks_here is_in.indexes.apart bare added in
+      let bare_of_walks = between_is ∙ (λ i. loaded_to machine version (record indexed { walks = unwalked i })) in
+      is_fresh position next stands (walks_all (loaded_to machine version indexed) indexed walked [] now.walks between next names seeks_here is_in.walks.apart bare_of_walks walks_added)
+
+  pub fresh_there : (loaded between next : Machine) × (asked : List (Name × List (List ℕ))) × (walked : List (Name × List ℕ))
+      × LoadStep machine version (reply.Load state.tag) loaded × AskForAll state.model asked now.indexes × AreAdded loaded asked between
+      × AskForWalks state.model walked now.walks × AreWalksAdded between walked next × Fresh chain machine next
   unfolding is_fresh
   fresh_there =
       let (first, step) = load_taken machine chain version state holds there whole in
       let loaded : Machine = loaded_to machine version first in
-      let (position, stands, none, answer_is, loaded_is) = load_only machine chain version state holds there whole (reply.Load state.tag) loaded step in
+      let (position, stands, none, unwalked, answer_is, loaded_is) = load_only machine chain version state holds there whole (reply.Load state.tag) loaded step in
       let bare = loaded_is ∙ (λ i. loaded_to machine version (record position { indexes = none i })) in
-      let next : Machine = loaded_to machine version (record position { indexes = now.indexes }) in
+      let indexed : Position = record position { indexes = now.indexes } in
+      let between : Machine = loaded_to machine version indexed in
+      let next : Machine = loaded_to machine version (record indexed { walks = now.walks }) in
       let fresh = is_fresh position next stands refl in
       let model = schemas_same machine next chain holds.sound of fresh in
+      let rows = rows_same machine next chain holds.sound of fresh in
       let (asked, asks, added) = added_there (loaded_to machine version position) position [] now.indexes loaded (subst (λ (m : List Schema). AreIndexes m now.indexes) model is_in.indexes) bare in
-      (loaded, next, asked, step, subst (λ (m : List Schema). AskForAll m asked now.indexes) stands.model asks, added, fresh)
+      let kept = subst (λ (t : Table). AreWalks position.schemas t now.walks) rows (subst (λ (m : List Schema). AreWalks m (rows_now now) now.walks) model is_in.walks) in
+      let (walked, seeks, walks_added) = walks_there (loaded_to machine version indexed) indexed [] now.walks between kept (λ i. loaded_to machine version (record indexed { walks = unwalked i })) in (
+        loaded,
+        between,
+        next,
+        asked,
+        walked,
+        step,
+        subst (λ (m : List Schema). AskForAll m asked now.indexes) stands.model asks,
+        added,
+        subst (λ (m : List Schema). AskForWalks m walked now.walks) stands.model seeks,
+        walks_added,
+        fresh,
+      )

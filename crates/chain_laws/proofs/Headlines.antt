@@ -14,7 +14,7 @@ use Rattle.chain_laws.specs.Consumers.{IsConsumerOf}
 use Rattle.chain_laws.specs.Headline.{AreTrueLines, IsTrueLine, IsTrueOrder, IsTrueStep, StandsOn}
 use Rattle.chain_laws.proofs.ConsumerLines.{line_keeps_both}
 use Rattle.chain_laws.proofs.ConsumerOrders.{other_only, step_between, step_only}
-use Rattle.chain_laws.proofs.Afresh.{afresh_there}
+use Rattle.chain_laws.proofs.Afresh.{afresh_there, walk_afresh}
 use Rattle.chain_laws.proofs.Lawful.{reader_in}
 use Rattle.chain_laws.proofs.OldRows.{was_as_row, wasget_as_get}
 use Rattle.chain_laws.proofs.PlannedMoves.{goto_arrives}
@@ -42,6 +42,9 @@ module _ (machine : Machine) (chain : Chain) (stands : StandsOn chain machine) w
     was = λ now version name ordinal is at reaches. was_as_row machine chain stands.consumer now at version reaches name ordinal answer (subst (λ (o : Order). Step machine o answer next) is step).0;
     wasget = λ now version name values is at reaches. wasget_as_get machine chain stands.consumer now at version reaches name (view values) answer (subst (λ (o : Order). Step machine o answer next) is step).0;
     fresh = λ of_state fresh is_fresh. afresh_there machine fresh next chain order answer of_state stands.kept.holds.sound in_chain is_fresh step;
+    walks = λ name path is fresh is_fresh.
+        (let (after, there, still) = walk_afresh machine fresh chain name path answer stands.kept.holds in_chain is_fresh next (subst (λ (o : Order). Step machine o answer next) is step) in
+        (after, subst (λ (o : Order). Step fresh o answer after) (sym is) there, still));
   }
 
   true_line : (line : List ℕ) (answer : Reply) (next : Machine) → LineStep machine line answer next → (after : Chain) × IsTrueLine chain machine line answer next after

@@ -30,6 +30,7 @@ index_leaves machine asked (reply.Index keys) next step =
                 home = stood.home;
                 quiet = stood.quiet;
                 indexes = still_indexes added.now.schemas added.now.indexes added.after asked.0 (texts_of_array asked.1) added.index stood.indexes added.asks added.keeps;
+                walks = stood.walks;
               },
               at_version,
               old,

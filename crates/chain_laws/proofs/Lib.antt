@@ -1,6 +1,8 @@
 mod AddedIndexes
+mod AddedWalks
 mod Afresh
 mod Answering
+mod Apart
 mod BlobTags
 mod CheckLaws
 mod CheckedChains
@@ -12,6 +14,7 @@ mod EachKind
 mod FreshAnswers
 mod FreshIndexes
 mod FreshKeys
+mod FreshWalks
 mod GrowLaws
 mod GrownProducers
 mod Headlines
@@ -38,6 +41,7 @@ mod OneMake
 mod OneMember
 mod OneModel
 mod OneMove
+mod OneReach
 mod OneRecords
 mod OneRestore
 mod OneScript
@@ -59,4 +63,6 @@ mod StoppedChains
 mod StoreNames
 mod TypedConsumers
 mod UnlikeSteps
+mod WalkLaws
+mod WalkedAfresh
 mod WrittenTags

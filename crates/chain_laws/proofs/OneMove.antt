@@ -7,6 +7,7 @@ use Rattle.std.proofs.lemmas.List.{length-map}
 use Rattle.std.proofs.lemmas.List.Elements.{All-cons, All-head, All-nil, All-tail}
 use Rattle.hol_io.specs.declared.name.BlobName.{BlobName}
 use Rattle.hol_io.specs.declared.name.BlobName.TheVariants.{Snapshot}
+use Rattle.row_model.specs.Table.{Table}
 use Rattle.type_state.specs.State.{Half}
 use Rattle.type_state.specs.Views.{table_of}
 use Rattle.blob_frame.specs.declared.header.Header.{Header}
@@ -18,6 +19,8 @@ use Rattle.hol_answers.specs.declared.reply.Reply.{Reply}
 use Rattle.hol_answers.specs.declared.reply.Reply.TheVariants as reply
 use Rattle.read_engine.specs.Position.{Position, rows_now}
 use Rattle.read_engine.specs.Taking.{LoadsFrom, StepsBy, layout_at}
+use Rattle.read_engine.specs.Walks.{HasFewEntries, KeepsWalks}
+use Rattle.read_engine.proofs.Those.{those_once}
 use Rattle.hollow_machine.proofs.Refusals.{one_snapshot_refusal, one_step_refusal, some_one}
 use Rattle.hollow_machine.specs.LoadOrder.{LoadStep}
 use Rattle.hollow_machine.specs.State.{Machine, loaded_to, stepped_to}
@@ -35,12 +38,13 @@ Alike one next other after = (one ≡ other) × (next ≡ after)
 -- ---- loads
 
 pub load_once : (blob : List ℕ) (a b : Position) → LoadsFrom blob a → LoadsFrom blob b → a ≡ b
-load_once blob a b (head, accepted, tag, before, none) (other, also, tag_too, before_too, none_too) =
+load_once blob a b (head, accepted, tag, before, none, unwalked) (other, also, tag_too, before_too, none_too, unwalked_too) =
     let once = one_snapshot blob head other accepted.0 also.0 a.schemas b.schemas a.halves b.halves accepted.1 also.1 in
     let tags = tag ∙ ap (λ (h : Header). h.destination) once.0 ∙ sym tag_too in
     let befores = before ∙ ap table_of once.3 ∙ sym before_too in
     let bare = none ∙ sym none_too in
-    λ i. record { tag = tags i; schemas = once.2 i; halves = once.3 i; before = befores i; indexes = bare i }
+    let walks = unwalked ∙ sym unwalked_too in
+    λ i. record { tag = tags i; schemas = once.2 i; halves = once.3 i; before = befores i; indexes = bare i; walks = walks i }
 
 pub one_load : (machine : Machine) (version : ℕ) (one other : Reply) (next after : Machine) → LoadStep machine version one next → LoadStep machine version other after → Alike one next other after
 one_load machine version (reply.Load tag) (reply.Load also) next after (blob, position, at, loads, tag_is, next_is) (x, place, at_x, loads_x, also_is, after_is) =
@@ -110,7 +114,9 @@ step_once blob now a b typed one other =
     let schemas = one.model ∙ sym other.model in
     let before = one.before ∙ sym other.before in
     let indexes = one.indexes ∙ sym other.indexes in
-    λ i. record { tag = tags.1 i; schemas = schemas i; halves = halves i; before = before i; indexes = indexes i }
+    let walks = those_once (HasFewEntries now.schemas (rows_now a)) now.walks a.walks b.walks one.walks
+    (subst (λ (t : Table). KeepsWalks now.schemas t now.walks b.walks) (sym rows) other.walks) in
+    λ i. record { tag = tags.1 i; schemas = schemas i; halves = halves i; before = before i; indexes = indexes i; walks = walks i }
 
 module _ (machine : Machine) (name : BlobName) (version : ℕ) (typed : IfSome machine.consumer IsTyped) where
   abbrev content : Option (List ℕ)

@@ -73,7 +73,7 @@ module _ (machine : Machine) (chain : Chain) (agree : ModelsOfChainAgree chain) 
       let there = name_is machine.store (Snapshot version) listed in
       let (blob, at) = found (get machine.store (Snapshot version)) there in
       let (state, is, snapshot) = holds.each (Snapshot version) blob at in
-      let (position, stands, none, answer_is, next_is) = load_only machine chain version state holds is there (reply.Refused refusal) next applies in
+      let (position, stands, none, unwalked, answer_is, next_is) = load_only machine chain version state holds is there (reply.Refused refusal) next applies in
       let no : reply.Refused refusal ≡ reply.Load state.tag = answer_is in
       cc
   never_refused (Delta from to) middle refusal next listed leads applies =

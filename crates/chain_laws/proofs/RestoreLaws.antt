@@ -61,7 +61,7 @@ module _ (store : Store) (chain : Chain) (holds : HoldsChain store chain) (versi
     -- so a producer that is restored of it is one of the chain
     restored_over : IsOver chain (producer_at position version)
     restored_over =
-        let (blob, at, (head, accepted, tag, before, bare)) = stored in
+        let (blob, at, (head, accepted, tag, before, bare, unwalked)) = stored in
         record { model = accepted.1.state.model; texts = loaded_texts blob head position.schemas position.halves accepted; stands = inr state_at }
 
 -- ---- what a restore leaves

@@ -82,7 +82,7 @@ loaded_fit (part ∷ parts) (half ∷ halves) are zero ordinal schema row is at 
 loaded_fit (part ∷ parts) (half ∷ halves) are (suc type_index) ordinal schema row is at = loaded_fit parts halves are.1 type_index ordinal schema row is at
 
 pub load_typed : (blob : List ℕ) (position : Position) → LoadsFrom blob position → IsTyped position
-load_typed blob position (head, accepted, tag, before, bare) =
+load_typed blob position (head, accepted, tag, before, bare, unwalked) =
     let state = accepted.1.state in
     record {
       names = state.model DuplicateName;

@@ -16,6 +16,7 @@ use Rattle.written_laws.specs.Chain.{Chain, ChainState, HasVersion}
 use Rattle.written_laws.specs.Quiet.{IsQuiet}
 use Rattle.written_laws.specs.SeenChain.{IsAgreeing, IsUnlike, seen_in}
 use Rattle.chain_laws.specs.KeptIndexes.{AreIndexes}
+use Rattle.chain_laws.specs.KeptWalks.{AreWalks}
 
 -- The consumer stands at the state as one does that loads it: it has its tag, its model and its rows.
 pub record StandsAt (state : ChainState) (now : Position) : Type 0 where
@@ -36,7 +37,7 @@ pub record IsHome (chain : Chain) (schemas : List Schema) : Type 0 where
   pub model : state.model ≡ schemas
 
 -- The consumer sees a state of the chain through a model that is that of a state of it too. Nothing is seen of what has one name and two kinds in both models:
--- such a field is null in each row, and there is no row of a type that has two shapes. It keeps indexes of its model.
+-- such a field is null in each row, and there is no row of a type that has two shapes. It keeps indexes of its model, and walk indexes of it and of its rows.
 pub record IsIn (chain : Chain) (now : Position) : Type 0 where
   pub version : ℕ
   pub state : ChainState
@@ -45,6 +46,7 @@ pub record IsIn (chain : Chain) (now : Position) : Type 0 where
   pub home : IsHome chain now.schemas
   pub quiet : IsQuiet now.schemas state
   pub indexes : AreIndexes now.schemas now.indexes
+  pub walks : AreWalks now.schemas (rows_now now) now.walks
 
 -- There is no state that the consumer has, or it is one of the chain.
 abbrev pub IsConsumerOf : Chain → Option Position → Type 0
@@ -99,7 +101,7 @@ IsUnlikeAt store name schemas type_name = IsSomeAnd (told (Some store) name) (λ
 
 -- The machine is the same, but that its consumer, which has the tag of a version of the chain, has the state of that version afresh: its tag, and what is seen of
 -- it through the consumer's own model, in whichever layouts and with whichever rows before, whichever version its last load or step led to, and whichever older
--- states are kept of it. It keeps the same indexes.
+-- states are kept of it. It keeps the same indexes and the same walk indexes.
 pub record Fresh (chain : Chain) (machine fresh : Machine) : Type 0 where
   pub now : Position
   pub was : machine.consumer ≡ Some now
@@ -111,6 +113,7 @@ pub record Fresh (chain : Chain) (machine fresh : Machine) : Type 0 where
   pub model : position.schemas ≡ now.schemas
   pub sees : Sees state position
   pub indexes : position.indexes ≡ now.indexes
+  pub walks : position.walks ≡ now.walks
   pub last : Option ℕ
   pub past : List (ℕ × Table)
   pub is : fresh ≡ record (with_reader machine (Some position) last) { past = past }

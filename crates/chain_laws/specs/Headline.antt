@@ -36,9 +36,13 @@ pub record IsTrueStep (chain : Chain) (machine : Machine) (from to : ℕ) (answe
   pub other : (now : Position) (origin : ℤ) → machine.consumer ≡ Some now → StartsAt machine.store (step_name from to) origin → origin ≢ now.tag
       → (answer ≡ reply.Refused (other_origin (step_name from to) origin now.tag)) × (next ≡ machine)
 
--- The answer is that of the consumer's state, loaded afresh, with the same indexes.
+-- The answer is that of the consumer's state, loaded afresh, with the same indexes and walk indexes.
 abbrev pub IsAsFresh : Chain → Machine → Order → Reply → Type 0
 IsAsFresh chain machine asked answer = (fresh : Machine) → Fresh chain machine fresh → Step fresh asked answer fresh
+
+-- So is the answer of an order that keeps a walk index, and behind it the consumer has its state afresh with the same indexes and walk indexes too.
+abbrev pub IsKeptFresh : Chain → Machine → Order → Reply → Machine → Type 0
+IsKeptFresh chain machine asked answer next = (fresh : Machine) → Fresh chain machine fresh → (after : Machine) × Step fresh asked answer after × Fresh chain next after
 
 -- The orders of the kind are answered of the consumer's state alone.
 abbrev pub IsOfState : Kind → Type 0
@@ -46,7 +50,7 @@ IsOfState kind = answers_of_state (form kind) ≡ true
 
 -- What is promised of each order: of a step which are taken; of going to a version that no blob is refused, where the models of the chain agree; of what is
 -- answered of an older state, that it is what is answered where that state is seen; and of what is answered of the consumer's state, that the way to the state does
--- not show.
+-- not show; and so of a walk index that is asked for.
 pub record IsTrueOrder (chain : Chain) (machine : Machine) (asked : Order) (answer : Reply) (next : Machine) : Type 0 where
   pub moves : (from to : ℕ) → asked ≡ order.Step from to → IsTrueStep chain machine from to answer next
   pub goes : (version : ℕ) (progress : Progress) → asked ≡ order.Goto version → answer ≡ reply.Goto progress → ModelsOfChainAgree chain → Arrives chain version progress next
@@ -55,6 +59,7 @@ pub record IsTrueOrder (chain : Chain) (machine : Machine) (asked : Order) (answ
   pub wasget : (now : Position) (version : ℕ) (name : Name) (values : Value) → asked ≡ order.WasGet version name values → machine.consumer ≡ Some now → Reaches machine version
       → IsGotThen chain now.schemas version name (view values) answer
   pub fresh : IsOfState (kind_of asked) → IsAsFresh chain machine asked answer
+  pub walks : (name path : List ℕ) → asked ≡ order.WalkIndex name path → IsKeptFresh chain machine asked answer next
 
 -- The store keeps the chain, the producer is new or at a published state of it, and the consumer without a state or sees one of it, with older ones of it.
 pub record StandsOn (chain : Chain) (machine : Machine) : Type 0 where

@@ -4,6 +4,7 @@ pub mod Consumers
 pub mod Growth
 pub mod Headline
 pub mod KeptIndexes
+pub mod KeptWalks
 pub mod OldStates
 pub mod Producers
 pub mod ScriptOrders

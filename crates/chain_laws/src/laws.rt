@@ -4,6 +4,7 @@ ghost use Rattle.std.specs.FinMap.{get};
 ghost use Rattle.std.specs.Int.{w64};
 ghost use Rattle.serde_json.specs.View.{view};
 ghost use Rattle.serde_json.specs.declared.value.Value.{Value};
+ghost use Rattle.schema_model.specs.declared.model.walk_path.WalkPath.{WalkPath};
 ghost use Rattle.schema_model.specs.declared.schema.name.Name.{Name};
 ghost use Rattle.schema_model.specs.Growth.{ModelsAgree};
 ghost use Rattle.row_model.specs.Table.{Table};
@@ -41,12 +42,13 @@ ghost use Rattle.hollow_machine.specs.Stopped.{StopsAfter, StopsBetween, StopsWi
 ghost use Rattle.hollow_machine.specs.StepOrder.{step_name};
 ghost use Rattle.written_laws.specs.Chain.{Chain, ChainState, HasVersion};
 ghost use Rattle.written_laws.specs.HoldsChain.{HoldsChain, IsThere, later_of};
-ghost use Rattle.chain_laws.specs.Afresh.{AreAdded, AskForAll};
+ghost use Rattle.chain_laws.specs.Afresh.{AreAdded, AreWalksAdded, AskForAll, AskForWalks};
 ghost use Rattle.chain_laws.specs.Answers.{SaysOne};
 ghost use Rattle.chain_laws.specs.Consumers.{Agrees, Arrives, Fresh, IsConsumerOf, IsIn, IsOld, IsReaderOf, IsUnlikeAt, ModelsAgreeAmong, ModelsOfChainAgree, StandsAt, StartsAt};
 ghost use Rattle.chain_laws.specs.Growth.{GrowsAlong, GrowsBy, GrowsByMake};
 ghost use Rattle.chain_laws.specs.Headline.{AreTrueLines, StandsOn, IsOfState};
 ghost use Rattle.chain_laws.specs.KeptIndexes.{AsksFor};
+ghost use Rattle.chain_laws.specs.KeptWalks.{AsksForWalk};
 ghost use Rattle.chain_laws.specs.OldStates.{IsGotThen, IsRowThen, Reaches};
 ghost use Rattle.chain_laws.specs.Producers.{HoldsBytes, IsProducerOf, KeepsChain};
 ghost use Rattle.chain_laws.specs.ScriptOrders.{films_data, script_model, script_state};
@@ -116,7 +118,8 @@ pub fn stopped_make_keeps_chain()
 
 /// A consumer without a state, or that sees one of the chain that the store keeps through the model of one of it, is so after each line, over the chain that the
 /// line made. The state is that of the version to which its last load or step led, and the older states that are kept of it are those of versions of the chain, as
-/// they are seen through its model. Its indexes are such as an order can ask for, and none is there twice.
+/// they are seen through its model. Its indexes and walk indexes are such as an order can ask for, none is there twice, and no walk index has more entries than it
+/// may.
 pub fn line_keeps_consumer()
     ensures { (machine next : Machine) (line : List ℕ) (reply : Reply) (chain : Chain)
         → LineStep machine line reply next → KeepsChain machine.store chain → IsProducerOf chain machine.producer → IsReaderOf chain machine
@@ -167,17 +170,17 @@ pub fn other_origin_refused()
 {}
 
 /// Where the store has the snapshot of a version of the chain, loading it is not refused, and makes the consumer stand at the state of the
-/// version, without an index: where the consumer had its tag and its model already, and no index, it has this state afresh.
+/// version, without an index or a walk index: where the consumer had its tag and its model already, and neither, it has this state afresh.
 pub fn chain_load_taken()
     ensures taken { (machine : Machine) (chain : Chain) (version : ℕ) (state : ChainState)
         → HoldsChain machine.store chain → HasVersion chain version state → IsThere machine.store (Snapshot version)
         → (position : Position) × Step machine (order.Load version) (reply.Load state.tag) (loaded_to machine version position) }
     ensures only { (machine next : Machine) (chain : Chain) (version : ℕ) (state : ChainState) (answer : Reply)
         → HoldsChain machine.store chain → HasVersion chain version state → IsThere machine.store (Snapshot version) → Step machine (order.Load version) answer next
-        → (position : Position) × StandsAt state position × (position.indexes ≡ []) × (answer ≡ reply.Load state.tag) × (next ≡ loaded_to machine version position) }
+        → (position : Position) × StandsAt state position × (position.indexes ≡ []) × (position.walks ≡ []) × (answer ≡ reply.Load state.tag) × (next ≡ loaded_to machine version position) }
     ensures fresh { (machine next : Machine) (chain : Chain) (version : ℕ) (state : ChainState) (now : Position) (answer : Reply)
         → HoldsChain machine.store chain → HasVersion chain version state → IsThere machine.store (Snapshot version) → machine.consumer ≡ Some now → now.tag ≡ state.tag
-        → now.schemas ≡ state.model → now.indexes ≡ [] → Step machine (order.Load version) answer next → Fresh chain machine next }
+        → now.schemas ≡ state.model → now.indexes ≡ [] → now.walks ≡ [] → Step machine (order.Load version) answer next → Fresh chain machine next }
 {}
 
 /// Over a store that holds a chain whose models agree with each other no blob of the shortest list is refused, where the consumer has no state or is at a version
@@ -230,27 +233,48 @@ pub fn index_is_kept()
         → next ≡ machine }
 {}
 
-/// A load of the state that the consumer has, where it has the state's own model, and behind it an order `index` for each of its indexes, in their order, lead to
-/// the machine whose consumer has its state afresh, with the same indexes; and where the store has the snapshot, none of these orders is refused.
+/// A walk index that is asked for, and not refused, stands behind the others, or the machine is as it was where it was kept already.
+pub fn walk_is_kept()
+    ensures new { (machine next : Machine) (now : Position) (name text : List ℕ) (path : WalkPath) (keys : ℕ)
+        → machine.consumer ≡ Some now → IsPosition now → AsksForWalk now.schemas name text path → (Contains now.walks path → ⊥) → Step machine (order.WalkIndex name text) (reply.WalkIndex keys) next
+        → next ≡ with_consumer machine (Some (record now { walks = now.walks ++ path ∷ [] })) }
+    ensures kept { (machine next : Machine) (now : Position) (name text : List ℕ) (path : WalkPath) (keys : ℕ)
+        → machine.consumer ≡ Some now → IsPosition now → AsksForWalk now.schemas name text path → Contains now.walks path → Step machine (order.WalkIndex name text) (reply.WalkIndex keys) next
+        → next ≡ machine }
+{}
+
+/// A load of the state that the consumer has, where it has the state's own model, and behind it an order `index` for each of its indexes and an order `walkindex` for
+/// each of its walk indexes, in their order, lead to the machine whose consumer has its state afresh, with the same indexes and walk indexes; and where the store
+/// has the snapshot, none of these orders is refused.
 pub fn fresh_indexes()
     ensures there { (machine : Machine) (chain : Chain) (version : ℕ) (state : ChainState) (now : Position)
         → HoldsChain machine.store chain → HasVersion chain version state → IsThere machine.store (Snapshot version) → machine.consumer ≡ Some now → now.tag ≡ state.tag → now.schemas ≡ state.model
         → IsConsumerOf chain machine.consumer
-        → (loaded next : Machine) × (asked : List (Name × List (List ℕ)))
-        × Step machine (order.Load version) (reply.Load state.tag) loaded × AskForAll state.model asked now.indexes × AreAdded loaded asked next × Fresh chain machine next }
-    ensures all { (machine loaded next : Machine) (chain : Chain) (version : ℕ) (state : ChainState) (now : Position) (answer : Reply) (asked : List (Name × List (List ℕ)))
+        → (loaded between next : Machine) × (asked : List (Name × List (List ℕ))) × (walked : List (Name × List ℕ))
+        × Step machine (order.Load version) (reply.Load state.tag) loaded × AskForAll state.model asked now.indexes × AreAdded loaded asked between
+        × AskForWalks state.model walked now.walks × AreWalksAdded between walked next × Fresh chain machine next }
+    ensures all { (machine loaded between next : Machine) (chain : Chain) (version : ℕ) (state : ChainState) (now : Position) (answer : Reply)
+        (asked : List (Name × List (List ℕ))) (walked : List (Name × List ℕ))
         → HoldsChain machine.store chain → HasVersion chain version state → IsThere machine.store (Snapshot version) → machine.consumer ≡ Some now → now.tag ≡ state.tag → now.schemas ≡ state.model
         → IsConsumerOf chain machine.consumer
-        → AskForAll state.model asked now.indexes → Step machine (order.Load version) answer loaded → AreAdded loaded asked next → Fresh chain machine next }
+        → AskForAll state.model asked now.indexes → AskForWalks state.model walked now.walks → Step machine (order.Load version) answer loaded → AreAdded loaded asked between
+        → AreWalksAdded between walked next → Fresh chain machine next }
 {}
 
 /// What is answered of the consumer's state is answered at a state of the chain as where the consumer has this state afresh: the answers are those of
-/// the consumer's model and of the rows that it sees of the state, whichever way the consumer took to them.
+/// the consumer's model and of the rows that it sees of the state, whichever way the consumer took to them. So is a walk index that is asked for, and behind it the
+/// consumer has its state afresh too.
 pub fn fresh_answers()
-    ensures kinds { IsOfState Kind.Get × IsOfState Kind.Find × IsOfState Kind.Live × IsOfState Kind.Row × IsOfState Kind.Has × IsOfState Kind.At }
+    ensures kinds { IsOfState Kind.Get × IsOfState Kind.Find × IsOfState Kind.Live × IsOfState Kind.Row × IsOfState Kind.Has × IsOfState Kind.At × IsOfState Kind.WalkFind }
     ensures same { (machine fresh : Machine) (chain : Chain) (asked : Order) (answer : Reply) → IsOfState (kind_of asked)
         → HoldsChain machine.store chain → IsConsumerOf chain machine.consumer → Fresh chain machine fresh
         → Step machine asked answer machine ↔ Step fresh asked answer fresh }
+    ensures walked { (machine fresh : Machine) (chain : Chain) (name path : List ℕ) (answer : Reply)
+        → HoldsChain machine.store chain → IsConsumerOf chain machine.consumer → Fresh chain machine fresh
+        → ((next : Machine) × Step machine (order.WalkIndex name path) answer next) ↔ ((after : Machine) × Step fresh (order.WalkIndex name path) answer after) }
+    ensures still { (machine fresh next : Machine) (chain : Chain) (name path : List ℕ) (answer : Reply)
+        → HoldsChain machine.store chain → IsConsumerOf chain machine.consumer → Fresh chain machine fresh → Step machine (order.WalkIndex name path) answer next
+        → (after : Machine) × Step fresh (order.WalkIndex name path) answer after × Fresh chain next after }
 {}
 
 /// An order has one answer line, and leaves one machine, where the rows of the producer are those of a state of the chain that the store keeps, and
@@ -279,6 +303,8 @@ pub fn one_look()
         → Step machine (order.Get name values) answer next → Step machine (order.Get name values) other after → SaysOne answer other × (next ≡ after) }
     ensures find { (machine next after : Machine) (name : List ℕ) (paths values : Value) (answer other : Reply) → IfSome machine.consumer IsPosition
         → Step machine (order.Find name paths values) answer next → Step machine (order.Find name paths values) other after → SaysOne answer other × (next ≡ after) }
+    ensures walkfind { (machine next after : Machine) (name path : List ℕ) (value : Value) (answer other : Reply) → IfSome machine.consumer IsPosition
+        → Step machine (order.WalkFind name path value) answer next → Step machine (order.WalkFind name path value) other after → SaysOne answer other × (next ≡ after) }
     ensures past { (machine next after : Machine) (name : List ℕ) (answer other : Reply)
         → Step machine (order.Past name) answer next → Step machine (order.Past name) other after → SaysOne answer other × (next ≡ after) }
 {}
@@ -312,6 +338,12 @@ pub fn one_old_look()
 pub fn one_index()
     ensures { (machine next after : Machine) (name : List ℕ) (paths : Value) (answer other : Reply) → IfSome machine.consumer IsPosition
         → Step machine (order.Index name paths) answer next → Step machine (order.Index name paths) other after → SaysOne answer other × (next ≡ after) }
+{}
+
+/// The order `walkindex` has one answer line and leaves one machine, where the consumer's rows are those of a model.
+pub fn one_walkindex()
+    ensures { (machine next after : Machine) (name path : List ℕ) (answer other : Reply) → IfSome machine.consumer IsPosition
+        → Step machine (order.WalkIndex name path) answer next → Step machine (order.WalkIndex name path) other after → SaysOne answer other × (next ≡ after) }
 {}
 
 /// Over a store that keeps a chain, with a producer of it, a cycle has one answer and leaves one machine: there is one next state, and it is written
@@ -375,7 +407,7 @@ pub fn one_script()
 
 /// The headline: over a store of bytes that holds a chain, each line of a script is answered as is promised. A state that a cycle publishes follows in
 /// the chain; behind each line the consumer sees a state of it through its own model, that of the version to which its last load or step led; what `live`, `row`,
-/// `has`, `at`, `get` and `find` answer is what that state answers seen so afresh, with the same indexes; a step along a blob of the store is taken where it starts
+/// `has`, `at`, `get`, `find`, `walkindex` and `walkfind` answer is what that state answers seen so afresh, with the same indexes and walk indexes; a step along a blob of the store is taken where it starts
 /// at the consumer's tag and agrees with its model, and else refused for its origin, or for the first type that does not agree, and then nothing changes; going to
 /// a version applies all blobs of the shortest list, where the models of the chain agree, and comes to the version's state; and what `was` and `wasget` answer of
 /// a version that is kept is what `row` and `get` answer where its state is seen.

@@ -1,4 +1,4 @@
-mod Asking
+pub mod Asking
 mod Counting
 mod Indexing
 mod KeyTexts

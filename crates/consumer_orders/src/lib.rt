@@ -15,7 +15,7 @@ mod past_order;
 mod row_order;
 mod stat_order;
 mod step_order;
-mod type_order;
+pub mod type_order;
 
 pub use at_order::at;
 pub use find_order::find;

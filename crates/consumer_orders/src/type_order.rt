@@ -10,7 +10,7 @@ use std::alloc::{AllocError, Global};
 
 /// What an order asks of.
 #[derive(Drop)]
-pub(crate) enum Asked {
+pub enum Asked {
     /// The type at this index of the consumer's model.
     At(u32),
     /// There is no such type.
@@ -19,7 +19,7 @@ pub(crate) enum Asked {
 
 /// The index of the type of this name in the consumer's model. Refused with `NoState` where the consumer has no state, and else with `NoType` where its
 /// model has no type of the name.
-pub(crate) fn type_of(alloc: Global, consumer: &Consumer, name: &Name) -> Result<Asked, AllocError>
+pub fn type_of(alloc: Global, consumer: &Consumer, name: &Name) -> Result<Asked, AllocError>
     ensures { IfOk result (TellsType consumer.now name.now) }
 {
     let Some(model) = consumer.model() else {

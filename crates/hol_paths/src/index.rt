@@ -1,5 +1,5 @@
 //! An index of the rows of a type by the values that they reach, kept over the steps of a consumer.
-ghost use Rattle.std.specs.Prelude.{◌≡◌, ◌+◌, ◌≤◌, Err, IfOk, IsSome, IsSomeAnd, None, OnOk, OnErr, Some, length};
+ghost use Rattle.std.specs.Prelude.{◌≡◌, ◌+◌, ◌≤◌, ◌↔◌, Err, IfOk, IsSome, IsSomeAnd, IsTrue, None, OnOk, OnErr, Some, length};
 ghost use Rattle.hol_varint.specs.Yields.{Yields};
 ghost use Rattle.row_model.specs.Reach.{AreEntries};
 ghost use Rattle.row_model.specs.Table.{IsClosed};
@@ -159,6 +159,13 @@ impl WalkIndex {
         ensures { CountsOwners self.now.entries result }
     {
         self.keyed
+    }
+
+    /// Whether the next state is reserved.
+    pub fn is_reserved(&self) -> bool
+        ensures { IsTrue result ↔ IsSome self.now.next }
+    {
+        self.next.is_some()
     }
 
     /// The path along which values are reached.

@@ -18,7 +18,7 @@ use schema_model::{FieldKind, Model, Name, Shape, WalkPart};
 use std::alloc::{AllocError, Global};
 
 /// The type to which a part of a type leads.
-pub(crate) fn type_behind(model: &Model, type_index: u32, part: WalkPart) -> Option<u32>
+pub fn type_behind(model: &Model, type_index: u32, part: WalkPart) -> Option<u32>
     ensures { result ≡ type_by model.now type_index part }
 {
     let schema = model.schemas().as_slice().get(type_index as usize)?;

@@ -15,4 +15,5 @@ mod reserved;
 
 pub use fault::WalkFault;
 pub use index::WalkIndex;
+pub use levels::type_behind;
 pub use read::read_walk;

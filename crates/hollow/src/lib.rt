@@ -22,12 +22,12 @@
 //! those of each crate on under the crate's name, as `Rattle.hollow.specs.write_engine.Cycle`.
 
 // Models and their rules.
-pub use model_paths::resolve;
+pub use model_paths::{resolve, resolve_walk};
 pub use model_rules::model_of;
 pub use schema_growth::grows;
 pub use schema_model::{
     Field, FieldKind, Fields, Limit, Model, ModelFault, Name, Names, Path, PathFault, Paths,
-    Reason, Rule, Schema, Schemas, Shape,
+    Reason, Rule, Schema, Schemas, Shape, WalkPart, WalkParts, WalkPath,
 };
 
 // Values, rows and records with all that they refer to, and the lists that they are made of.
@@ -51,7 +51,7 @@ pub use write_engine::{Closed, Producer, RestoreFault};
 // A consumer, its rows now and before its last step, and a walk along a chain that compares.
 pub use blob_frame::{BlobFault, Header};
 pub use chain_check::{CheckFault, Place, check};
-pub use read_engine::{Consumer, IndexFault, Walker};
+pub use read_engine::{Consumer, IndexFault, WalkIndexFault, Walker};
 pub use state_moves::{Before, Now};
 
 // JSON in and out.

@@ -34,6 +34,7 @@ use Rattle.hollow_machine.specs.Script.{LineStep}
 use Rattle.hollow_machine.specs.State.{Machine, with_consumer}
 use Rattle.hollow_machine.specs.Step.{Step}
 use Rattle.hollow_machine.specs.StepOrder.{StepStep}
+use Rattle.hollow_machine.specs.WalkOrders.{WalkIndexStep, WalksAlong}
 use Rattle.hollow_machine.specs.Left.{HasAll, HasFirst}
 use Rattle.hollow_machine.specs.Puts.{CyclePuts, LinePuts, OrderPuts, PutsAfter}
 
@@ -89,6 +90,12 @@ index_stays machine next name texts (reply.Index keys) is =
     of_some machine.consumer _ is (λ now of_type. of_some (index_of_type now.schemas name) (KeepsAt machine texts keys next now) of_type (λ t kept. kept_stays machine next texts keys now t kept))
 index_stays machine next name texts (reply.Refused refusal) is = same_store machine next machine is.1 refl
 index_stays machine next name texts _ is = absurd is
+
+walkindex_stays : (machine next : Machine) (name : Name) (text : List ℕ) (answer : Reply) → WalkIndexStep machine name text answer next → next.store ≡ machine.store
+walkindex_stays machine next name text (reply.WalkIndex keys) is =
+    of_some machine.consumer _ is (λ now of_type. of_some (index_of_type now.schemas name) (λ t. WalksAlong machine text now t keys next) of_type (λ t walks. same_store machine next _ walks.is refl))
+walkindex_stays machine next name text (reply.Refused refusal) is = same_store machine next machine is.1 refl
+walkindex_stays machine next name text _ is = absurd is
 
 applied_stays : (machine next : Machine) (name : BlobName) (answer : Reply) → Applies machine name answer next → next.store ≡ machine.store
 applied_stays machine next (Snapshot version) answer is = load_stays machine next version answer is
@@ -164,6 +171,7 @@ order_puts (order.Restore version) machine next answer is = inl (restore_stays m
 order_puts (order.Load version) machine next answer is = inl (load_stays machine next version answer is)
 order_puts (order.Step from to) machine next answer is = inl (step_stays machine next _ to answer is)
 order_puts (order.Index name paths) machine next answer is = inl (index_stays machine next name _ answer is)
+order_puts (order.WalkIndex name path) machine next answer is = inl (walkindex_stays machine next name path answer is)
 order_puts (order.Goto version) machine next answer is = inl (goto_stays machine next version answer is)
 order_puts (order.History bound) machine next answer is = inl (history_stays machine next bound answer is)
 order_puts _ machine next answer is = inl (same_store machine next machine is.1 refl)

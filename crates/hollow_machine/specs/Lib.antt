@@ -26,3 +26,4 @@ pub mod State
 pub mod Step
 pub mod StepOrder
 pub mod Stopped
+pub mod WalkOrders

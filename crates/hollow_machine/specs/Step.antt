@@ -1,7 +1,7 @@
 -- What the machine answers to an order, and the machine behind it.
 use Rattle.std.specs.Prelude.{Option}
 use Rattle.hol_orders.specs.declared.kind.Kind.{Kind}
-use Rattle.hol_orders.specs.declared.kind.Kind.TheVariants.{Model, Cycle, Restore, Load, Step as StepKind, Index, Get, Find, Live, Row, Has, At, Past, Check, Stat, Grow, Plan, Goto, History, Was, WasGet}
+use Rattle.hol_orders.specs.declared.kind.Kind.TheVariants.{Model, Cycle, Restore, Load, Step as StepKind, Index, Get, Find, Live, Row, Has, At, Past, Check, Stat, Grow, Plan, Goto, WalkIndex, WalkFind, History, Was, WasGet}
 use Rattle.hol_orders.specs.declared.order.Order.{Order}
 use Rattle.hol_orders.specs.Kind.{shape}
 use Rattle.hol_orders.specs.Order.{asked_of, kind_of}
@@ -23,6 +23,7 @@ use Rattle.hollow_machine.specs.RowOrders.{live_form, past_form, row_form}
 use Rattle.hollow_machine.specs.State.{Machine}
 use Rattle.hollow_machine.specs.StatOrder.{stat_form}
 use Rattle.hollow_machine.specs.StepOrder.{step_form}
+use Rattle.hollow_machine.specs.WalkOrders.{walkfind_form, walkindex_form}
 
 -- What the orders of each kind are answered. Those of the last line are not built.
 abbrev pub form : (kind : Kind) → OrderForm (shape kind).Asked
@@ -44,6 +45,8 @@ form Stat = stat_form
 form Grow = grow_form
 form Plan = plan_form
 form Goto = goto_form
+form WalkIndex = walkindex_form
+form WalkFind = walkfind_form
 form History = history_form
 form Was = was_form
 form WasGet = wasget_form

@@ -19,7 +19,7 @@ use Rattle.hollow_script.specs.Kept.{KeepsNothing, machine_with}
 use Rattle.hollow_script.specs.declared.keep.Keep.{Keep}
 use Rattle.hollow_script.specs.declared.script_stop.ScriptStop.{ScriptStop}
 use Rattle.hollow_script.specs.declared.script_stop.ScriptStop.TheVariants as stop
-use Rattle.hollow_script.specs.Scripted.{AllAnswered, AllWritten, AnswersNext, HasAnswered, HasGiven, HasStopped, IsAnswered, PutsAnswer, ServesNext, TakesPast, Waits, longest_input}
+use Rattle.hollow_script.specs.Scripted.{AllAnswered, AllWritten, AnswersNext, HasAnswered, HasAsked, HasGiven, HasStopped, IsAnswered, PutsAnswer, ServesNext, TakesPast, Waits, longest_input}
 
 -- one piece of the source behind the other
 pub takes_then : (a b c : Option (List ℕ)) (m n k : ℕ) → Takes a b m n → Takes b c n k → Takes a c m k
@@ -230,11 +230,22 @@ starts_answered (Some bytes) (Some first) reading kept before waiting none nothi
 
 -- a run that stops before its first line
 pub stops_at_start : (left : Option (List ℕ)) (held : Option Store) (keep : Keep) (before : Option (List ℕ)) (waiting : List ℕ) → KeepsNothing keep → waiting ≡ [] →
-    IfSome left (λ bytes. IfSome held (λ first. HasStopped bytes first left held keep before before waiting stop.Memory))
+    IfSome left (λ bytes. IfSome held (λ first. HasStopped bytes first left keep.lines held keep before before waiting stop.Memory))
 stops_at_start None held keep before waiting none nothing = tt
 stops_at_start (Some bytes) None keep before waiting none nothing = tt
 stops_at_start (Some bytes) (Some first) keep before waiting none nothing =
-    ([], cut bytes, false, started first, first, refl, none_has first before waiting (started first) refl nothing, refl, inl refl, inl (ap (option_map published_of) none.producer))
+    let asked = subst (λ (lines : Option Reading). HasAsked bytes (Some bytes) lines []) (sym none.lines) refl in (
+      [],
+      cut bytes,
+      false,
+      started first,
+      first,
+      refl,
+      none_has first before waiting (started first) refl nothing,
+      refl,
+      inl refl,
+      inl (asked, refl, ap (option_map published_of) none.producer),
+    )
 
 pub some_store : (a b : Store) → Some a ≡ Some b → a ≡ b
 some_store a b same = cc

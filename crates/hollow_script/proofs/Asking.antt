@@ -1,7 +1,7 @@
 -- What a line asks for, and that what waits is written before.
-use Rattle.std.proofs.Common.{◌≡◌, ◌<◌, ◌≤◌, ◌⊎◌, inl, inr, List, [], ◌∷◌, ◌++◌, ℕ, length, Bool, true, false, Option, Some, None, Ok, Err, refl, sym, ◌∙◌, subst, append_assoc}
+use Rattle.std.proofs.Common.{◌≡◌, ◌<◌, ◌≤◌, ◌⊎◌, inl, inr, List, [], ◌∷◌, ◌++◌, ℕ, length, Bool, true, false, Option, Some, None, Ok, Err, refl, sym, ◌∙◌, subst}
 use Rattle.std.specs.Prelude.{IsErrOf}
-use Rattle.hol_io.specs.Lines.{Reading, cut}
+use Rattle.hol_io.specs.Lines.{Reading}
 use Rattle.hol_io.specs.Store.{Store}
 use Rattle.hol_io.specs.declared.lines.Turn as declared
 use Rattle.hol_io.specs.declared.lines.Turn.TheVariants.{Line, Long, End, Over}
@@ -23,8 +23,7 @@ use Rattle.hollow_machine.specs.Puts.{OrderPuts}
 use Rattle.hollow_machine.specs.Stopped.{LeavesAhead}
 use Rattle.hollow_script.specs.Asked.{AskedPuts, AskedStep, Asks}
 use Rattle.hollow_script.specs.Kept.{HaltsKept, MovesKept, SameProducer, machine_with}
-use Rattle.hollow_script.specs.Scripted.{AnswersNext, AreTaken, AsksNext, HasGiven, TurnsNext, widened}
-use Rattle.hollow_script.proofs.Lining.{given_front}
+use Rattle.hollow_script.specs.Scripted.{AnswersNext, AreTaken, AsksNext, HaltsNext, HasGiven, TurnsNext, widened}
 use Rattle.hollow_script.specs.declared.asked.Asked.{Asked}
 use Rattle.hollow_script.specs.declared.asked.Asked.TheVariants as asked
 use Rattle.hollow_script.specs.declared.keep.Keep.{Keep}
@@ -73,18 +72,20 @@ module _ (bytes : List ℕ) (given : List (List ℕ)) (left : Option (List ℕ))
   pub over_asks : (turn : declared.Turn) → turn ≡ Over → TurnsNext bytes given left reading turn → AsksNext bytes given left reading (Err stop.TooLong)
   over_asks turn is turns = subst (λ t. TurnsNext bytes given left reading t) is turns
 
-  -- where the reader stops, or memory is refused, nothing is known of the next line, but that none ends in what was taken where the source failed
+  -- where the reader stops no line is given, and none ends in what was taken where the source failed
   pub none_asks : (why : ScriptStop) → (why ≡ stop.Memory) ⊎ ((why ≡ stop.Source) ⊎ (why ≡ stop.Sink)) →
-      (IsErrOf {T = declared.Turn} {E = ScriptStop} (Err why) stop.Source → AreTaken bytes left given) → AsksNext bytes given left reading (Err why)
-  none_asks stop.Memory others taken = tt
-  none_asks stop.Source others taken = taken refl
-  none_asks stop.Sink others taken = tt
-  none_asks stop.Store others taken = tt
-  none_asks stop.TooLong others taken = absurd (neither others (λ e. cc) (λ e. cc) (λ e. cc))
+      HasGiven bytes left reading given → (IsErrOf {T = declared.Turn} {E = ScriptStop} (Err why) stop.Source → AreTaken bytes left given) →
+      AsksNext bytes given left reading (Err why)
+  none_asks stop.Memory others none taken = inl none
+  none_asks stop.Source others none taken = taken refl
+  none_asks stop.Sink others none taken = tt
+  none_asks stop.Store others none taken = tt
+  none_asks stop.TooLong others none taken = absurd (neither others (λ e. cc) (λ e. cc) (λ e. cc))
 
-  pub order_none_asks : (why : OrderStop) → AsksNext bytes given left reading (Err (widened why))
-  order_none_asks order_stop.Memory = tt
-  order_none_asks order_stop.Store = tt
+  -- the line that is lent was given, and is not read as an order
+  pub order_none_asks : (turn : declared.Turn) → turn ≡ Line → TurnsNext bytes given left reading turn → (why : OrderStop) → AsksNext bytes given left reading (Err (widened why))
+  order_none_asks turn is turns order_stop.Memory = let (line, has, line_is, short) = subst (λ t. TurnsNext bytes given left reading t) is turns in inr (line, has)
+  order_none_asks turn is turns order_stop.Store = tt
 
   -- as what a line asks for is answered, the line is
   pub asked_answers : (held held' : Option Store) (keep keep' : Keep) (now : Store) (found : Option Asked) (it : Asked) (reply : Reply) → found ≡ Some it → held ≡ Some now → AsksNext bytes given left reading (Ok found) →
@@ -102,23 +103,11 @@ module _ (bytes : List ℕ) (given : List (List ℕ)) (left : Option (List ℕ))
 
   puts_ahead : (held held' : Option Store) (keep keep' : Keep) (now : Store) (found : Option Asked) (it : Asked) (why : ScriptStop) → found ≡ Some it → held ≡ Some now →
       AsksNext bytes given left reading (Ok found) → HaltsKept {E = ScriptStop} (AskedPuts it) held keep held' (Err why) →
-      SameProducer keep keep' →
-      (ahead : List (List ℕ)) × (next : Store) × (cut bytes ≡ given ++ ahead) × (held' ≡ Some next) × LeavesAhead (machine_with now keep) ahead next × SameProducer keep keep'
+      SameProducer keep keep' → HaltsNext bytes given now left reading keep held' keep'
   puts_ahead held held' keep keep' now found it why is told asks halts same =
       let (line, has, line_asks_it) = subst (λ f. AsksNext bytes given left reading (Ok f)) is asks in
       let (next, after, part) = subst (λ h. HaltsKept {E = ScriptStop} (AskedPuts it) h keep held' (Err why)) told halts in
-      let front = given_front bytes left reading (given ++ line ∷ []) has in (
-        line ∷ front.0,
-        next,
-        front.1 ∙ append_assoc given (line ∷ []) front.0,
-        after,
-        part_ahead (machine_with now keep) line it front.0 next line_asks_it part,
-        same,
-      )
-
-  same_ahead : (machine : Machine) (ahead : List (List ℕ)) → LeavesAhead machine ahead machine.store
-  same_ahead machine [] = refl
-  same_ahead machine (line ∷ lines) = inl refl
+      (line, has, (next, after, part_ahead (machine_with now keep) line it [] next line_asks_it part), same)
 
   -- why the next line is not known is why it is not answered
   pub asks_stop : (left' : Option (List ℕ)) (reading' : Reading) (held : Option Store) (keep : Keep) (now : Store) (why : ScriptStop) → HasGiven bytes left reading given → held ≡ Some now → (why ≡ stop.Store → ⊥) →
@@ -127,8 +116,8 @@ module _ (bytes : List ℕ) (given : List (List ℕ)) (left : Option (List ℕ))
   asks_stop left' reading' held keep now stop.Sink has told other asks = told
   asks_stop left' reading' held keep now stop.TooLong has told other asks = (asks, told)
   asks_stop left' reading' held keep now stop.Store has told other asks = absurd (other refl)
-  asks_stop left' reading' held keep now stop.Memory has told other asks =
-      let front = given_front bytes left reading given has in (front.0, now, front.1, told, same_ahead (machine_with now keep) front.0, refl)
+  asks_stop left' reading' held keep now stop.Memory has told other (inl none) = inl (none, told, refl)
+  asks_stop left' reading' held keep now stop.Memory has told other (inr (line, given_too)) = inr (line, given_too, (now, told, inl refl), refl)
 
   -- why what it asks for is not answered is why the line is not
   pub asked_halts : (held held' : Option Store) (keep keep' : Keep) (now : Store) (found : Option Asked) (it : Asked) (why : ScriptStop) → found ≡ Some it → held ≡ Some now →
@@ -139,7 +128,7 @@ module _ (bytes : List ℕ) (given : List (List ℕ)) (left : Option (List ℕ))
   asked_halts held held' keep keep' now found it stop.Source is told others unput asks halts same = absurd (neither others (λ e. cc) (λ e. cc) (λ e. cc))
   asked_halts held held' keep keep' now found it stop.TooLong is told others unput asks halts same = absurd (neither others (λ e. cc) (λ e. cc) (λ e. cc))
   asked_halts held held' keep keep' now found it stop.Store is told others unput asks halts same = puts_ahead held held' keep keep' now found it stop.Store is told asks halts same
-  asked_halts held held' keep keep' now found it stop.Memory is told others unput asks halts same = puts_ahead held held' keep keep' now found it stop.Memory is told asks halts same
+  asked_halts held held' keep keep' now found it stop.Memory is told others unput asks halts same = inr (puts_ahead held held' keep keep' now found it stop.Memory is told asks halts same)
 
 -- as an order moves the machine, so does what asks for it
 pub order_moves : (held held' : Option Store) (keep keep' : Keep) (it : Asked) (order : Order) (reply : Reply) → it ≡ asked.Order order →

@@ -1,5 +1,5 @@
 -- Why serving the lines of an input stops, and what it leaves then.
-use Rattle.std.proofs.Common.{◌≡◌, ◌<◌, ◌⊎◌, inl, inr, ℕ, List, [], ◌∷◌, ◌++◌, ◌+◌, ◌-◌, Bool, true, false, Option, Some, Result, Ok, Err, length, length-append, take, drop, if◌then◌else◌, refl, sym, ap, ◌∙◌, subst, append_assoc, append-nil, arith}
+use Rattle.std.proofs.Common.{◌≡◌, ◌<◌, ◌⊎◌, inl, inr, ℕ, List, [], ◌∷◌, ◌++◌, ◌+◌, ◌-◌, Bool, true, false, Option, Some, Result, Ok, Err, IfErr, IfOk, IfSome, length, length-append, take, drop, if◌then◌else◌, refl, sym, ap, ◌∙◌, subst, append_assoc, append-nil, arith}
 use Rattle.std.specs.Io.KnownBytes.{Appends}
 use Rattle.std.proofs.KnownBytes.{Appends-trans}
 use Rattle.std.proofs.lemmas.Bool.{cases_lt}
@@ -16,13 +16,13 @@ use Rattle.hollow_machine.specs.Puts.{LinePuts}
 use Rattle.hollow_machine.specs.Stopped.{LeavesAhead, StopsAfter, StopsBetween, StopsWithin}
 use Rattle.hollow_machine.proofs.LinePuts.{line_puts}
 use Rattle.hollow_machine.proofs.Scripts.{join}
-use Rattle.hollow_script.specs.Kept.{KeepsAhead, KeepsProducer, machine_with}
-use Rattle.hollow_script.specs.Scripted.{AllAnswered, AnswersNext, FailsWithin, HasAnswered, HasGiven, HasStopped, IsAnswered, StandsBehind, StopsAhead, StopsReply, StopsWaiting, Waits, longest_input}
+use Rattle.hollow_script.specs.Kept.{FailsAt, LacksMemoryAt, SameProducer, machine_with}
+use Rattle.hollow_script.specs.Scripted.{AllAnswered, AnswersNext, FailsWithin, HaltsNext, HasAnswered, HasAsked, HasGiven, HasStopped, IsAnswered, PutsAnswer, StandsBehind, StopsAhead, StopsReply, StopsWaiting, Waits, longest_input}
 use Rattle.hollow_script.specs.Stopping.{LeavesStopped}
 use Rattle.hollow_script.specs.declared.keep.Keep.{Keep}
 use Rattle.hollow_script.specs.declared.script_stop.ScriptStop.{ScriptStop}
 use Rattle.hollow_script.specs.declared.script_stop.ScriptStop.TheVariants as stop
-use Rattle.hollow_script.proofs.Answering.{answered_on, more_answered, some_store, unwritten, whole_script}
+use Rattle.hollow_script.proofs.Answering.{answered_on, more_answered, some_store, told_both, unwritten, whole_script}
 use Rattle.hollow_script.proofs.Lining.{finished_within, given_front, taken_front}
 
 -- ---- before the next line is answered
@@ -33,15 +33,25 @@ module _ (bytes : List ℕ) (first : Store) (left left' : Option (List ℕ)) (he
   Answers result = (given : List (List ℕ)) (now : Store) → HasGiven bytes left r given → held ≡ Some now → AnswersNext bytes given now left' r' kept held' kept' result
 
   -- the store has the first puts of the next line, and then no answer waits
-  stops_ahead : (Keeps : Machine → List (List ℕ) → Type 0) (ahead : List (List ℕ)) (next : Store) → cut bytes ≡ is.lines ++ ahead → held' ≡ Some next → LeavesAhead (machine_with is.store kept) ahead next →
-      (held' ≡ held) ⊎ (waiting' ≡ []) → HasAnswered first is.lines before after waiting' refused (machine_with is.store kept) → Keeps (machine_with is.store kept) ahead →
+  stops_ahead : (Keeps : List (List ℕ) → Machine → List (List ℕ) → Store → Type 0) (ahead : List (List ℕ)) (next : Store) → cut bytes ≡ is.lines ++ ahead → held' ≡ Some next → LeavesAhead (machine_with is.store kept) ahead next →
+      (held' ≡ held) ⊎ (waiting' ≡ []) → HasAnswered first is.lines before after waiting' refused (machine_with is.store kept) → Keeps is.lines (machine_with is.store kept) ahead next →
       StopsAhead Keeps bytes first held' before after waiting'
   stops_ahead Keeps ahead next cut_is told leaves (inl same) has keeps =
       (is.lines, ahead, refused, machine_with is.store kept, next, cut_is, has, told, inl (some_store next is.store (sym told ∙ same ∙ is.told)), keeps)
   stops_ahead Keeps ahead next cut_is told leaves (inr none) has keeps = (is.lines, ahead, refused, machine_with is.store kept, next, cut_is, has, told, inr (none, leaves), keeps)
 
+  -- the next line was given, and is not answered
+  halts_next : (Keeps : List (List ℕ) → Machine → List (List ℕ) → Store → Type 0) → HaltsNext bytes is.lines is.store left' r' kept held' kept' → (held' ≡ held) ⊎ (waiting' ≡ []) →
+      PutsAnswer [] mid after waiting waiting' →
+      ((line : List ℕ) (lines : List (List ℕ)) (next : Store) → HasGiven bytes left' r' (is.lines ++ line ∷ []) → SameProducer kept kept' → Keeps is.lines (machine_with is.store kept) (line ∷ lines) next) →
+      StopsAhead Keeps bytes first held' before after waiting'
+  halts_next Keeps (line, given, (next, told, leaves), same) quiet puts keeps =
+      let front = given_front bytes left' r' (is.lines ++ line ∷ []) given in
+      stops_ahead Keeps (line ∷ front.0) next (front.1 ∙ append_assoc is.lines (line ∷ []) front.0) told leaves quiet
+      (answered_on first is.lines before mid after waiting waiting' refused (machine_with is.store kept) is.answered puts) (keeps line front.0 next given same)
+
   pub reply_stops : (why : ScriptStop) → Answers (Err why) → (held' ≡ held) ⊎ (waiting' ≡ []) → StopsWaiting mid after waiting waiting' why →
-      HasStopped bytes first left' held' kept' before after waiting' why
+      HasStopped bytes first left' (Some r') held' kept' before after waiting' why
   reply_stops stop.Source answers quiet puts =
       let (taken, told) = answers is.lines is.store is.given is.told in
       let has = answered_on first is.lines before mid after waiting waiting' refused (machine_with is.store kept) is.answered puts in
@@ -55,12 +65,15 @@ module _ (bytes : List ℕ) (first : Store) (left left' : Option (List ℕ)) (he
       let has = answered_on first is.lines before mid after waiting waiting' refused (machine_with is.store kept) is.answered puts in
       subst (λ (ls : List (List ℕ)). StandsBehind first ls held' before after waiting') finished_are (refused, machine_with is.store kept, has, told)
   reply_stops stop.Store answers quiet puts =
-      let (ahead, next, cut_is, told, leaves, same) = answers is.lines is.store is.given is.told in
-      stops_ahead (λ machine lines. KeepsProducer kept' machine) ahead next cut_is told leaves quiet
-      (answered_on first is.lines before mid after waiting waiting' refused (machine_with is.store kept) is.answered puts) same
+      halts_next (FailsAt (HasAsked bytes left' (Some r')) kept') (answers is.lines is.store is.given is.told) quiet puts (λ line lines next given same. (given, same))
   reply_stops stop.Memory answers quiet puts =
-      let (ahead, next, cut_is, told, leaves, same) = answers is.lines is.store is.given is.told in
-      stops_ahead (KeepsAhead kept') ahead next cut_is told leaves quiet (answered_on first is.lines before mid after waiting waiting' refused (machine_with is.store kept) is.answered puts) (inl same)
+      elim (answers is.lines is.store is.given is.told) [
+        | inl (given, told, same) ↦
+            (let front = given_front bytes left' r' is.lines given in
+            let has = answered_on first is.lines before mid after waiting waiting' refused (machine_with is.store kept) is.answered puts in
+            (is.lines, front.0, refused, machine_with is.store kept, is.store, front.1, has, told, inl refl, inl (given, refl, same)))
+        | inr halts ↦ halts_next (LacksMemoryAt (HasAsked bytes left' (Some r')) kept') halts quiet puts (λ line lines next given same. inr (given, inl same))
+      ]
 
   -- ---- behind it
 
@@ -70,7 +83,7 @@ module _ (bytes : List ℕ) (first : Store) (left left' : Option (List ℕ)) (he
   all_ahead machine line lines next (inr (puts, are, put, all)) = inr (puts, are, put)
 
   pub put_stops : (why : ScriptStop) (reply : Reply) (found : Option Reply) → found ≡ Some reply → Answers (Ok found) → (held' ≡ held) ⊎ (waiting ≡ []) →
-      StopsReply (line_of reply) mid after waiting waiting' why → HasStopped bytes first left' held' kept' before after waiting' why
+      StopsReply (line_of reply) mid after waiting waiting' why → HasStopped bytes first left' (Some r') held' kept' before after waiting' why
   put_stops stop.Source reply found some answers quiet puts = absurd puts
   put_stops stop.TooLong reply found some answers quiet puts = absurd puts
   put_stops stop.Store reply found some answers quiet puts = absurd puts
@@ -89,7 +102,8 @@ module _ (bytes : List ℕ) (first : Store) (left left' : Option (List ℕ)) (he
       let leaves = all_ahead machine line front.0 next (line_puts machine (machine_with next kept') line reply step) in
       let still = unwritten first is.lines before mid waiting refused machine is.answered after nothing in
       let has = subst (λ (w : List ℕ). HasAnswered first is.lines before after w refused machine) (sym same) still in
-      stops_ahead (KeepsAhead kept') (line ∷ front.0) next (front.1 ∙ append_assoc is.lines (line ∷ []) front.0) told leaves (over quiet) has (inr (reply, machine_with next kept', step, refl))
+      stops_ahead (LacksMemoryAt (HasAsked bytes left' (Some r')) kept') (line ∷ front.0) next (front.1 ∙ append_assoc is.lines (line ∷ []) front.0) told leaves (over quiet) has
+      (inr (given, inr (reply, machine_with next kept', step, refl)))
     where
       over : (held' ≡ held) ⊎ (waiting ≡ []) → (held' ≡ held) ⊎ (waiting' ≡ [])
       over (inl kept_is) = inl kept_is
@@ -97,9 +111,9 @@ module _ (bytes : List ℕ) (first : Store) (left left' : Option (List ℕ)) (he
 
 -- a run that stops between two lines
 pub stays_stopped : (bytes : List ℕ) (first : Store) (left : Option (List ℕ)) (held : Option Store) (r : Reading) (kept : Keep) (before after : Option (List ℕ)) (waiting : List ℕ) (refused : Bool) → IsAnswered bytes first left held r kept before after waiting refused →
-    HasStopped bytes first left held kept before after waiting stop.Memory
+    HasStopped bytes first left (Some r) held kept before after waiting stop.Memory
 stays_stopped bytes first left held r kept before after waiting refused is =
-    let front = given_front bytes left r is.lines is.given in (is.lines, front.0, refused, machine_with is.store kept, is.store, front.1, is.answered, is.told, inl refl, inl refl)
+    let front = given_front bytes left r is.lines is.given in (is.lines, front.0, refused, machine_with is.store kept, is.store, front.1, is.answered, is.told, inl refl, inl (is.given, refl, refl))
 
 -- ---- the end of a run
 
@@ -213,18 +227,18 @@ module _ (bytes : List ℕ) (first : Store) (left : Option (List ℕ)) (held : O
   none_fails none (count, inside, gained) = omega (arith, inside, ap length none)
 
   -- the sink fails behind another stop
-  pub fails_behind : (why : ScriptStop) → (why ≡ stop.Sink → ⊥) → HasStopped bytes first left held keep before mid waiting why → FailsWithin waiting mid after → LeavesStopped bytes first left held keep before after stop.Sink
-  fails_behind stop.Sink other is fails = absurd (other refl)
-  fails_behind stop.Source other (took, consumes, stands) fails =
+  pub fails_behind : (asked : Option Reading) (why : ScriptStop) → (why ≡ stop.Sink → ⊥) → HasStopped bytes first left asked held keep before mid waiting why → FailsWithin waiting mid after → LeavesStopped bytes first left held keep before after stop.Sink
+  fails_behind asked stop.Sink other is fails = absurd (other refl)
+  fails_behind asked stop.Source other (took, consumes, stands) fails =
       let front = taken_front bytes left took consumes in
       fails_within (finished took) front.0 front.1 stands fails
-  fails_behind stop.TooLong other stands fails =
+  fails_behind asked stop.TooLong other stands fails =
       let front = finished_within longest_input bytes in
       fails_within (finished (take longest_input bytes)) front.0 front.1 stands fails
-  fails_behind stop.Store other (lines, ahead, refused, machine, store, cut_is, is, told, inl same, keeps) fails = fails_within lines ahead cut_is (refused, machine, is, told ∙ ap Some same) fails
-  fails_behind stop.Store other (lines, ahead, refused, machine, store, cut_is, is, told, inr (none, leaves), keeps) fails = absurd (none_fails none fails)
-  fails_behind stop.Memory other (lines, ahead, refused, machine, store, cut_is, is, told, inl same, keeps) fails = fails_within lines ahead cut_is (refused, machine, is, told ∙ ap Some same) fails
-  fails_behind stop.Memory other (lines, ahead, refused, machine, store, cut_is, is, told, inr (none, leaves), keeps) fails = absurd (none_fails none fails)
+  fails_behind asked stop.Store other (lines, ahead, refused, machine, store, cut_is, is, told, inl same, keeps) fails = fails_within lines ahead cut_is (refused, machine, is, told ∙ ap Some same) fails
+  fails_behind asked stop.Store other (lines, ahead, refused, machine, store, cut_is, is, told, inr (none, leaves), keeps) fails = absurd (none_fails none fails)
+  fails_behind asked stop.Memory other (lines, ahead, refused, machine, store, cut_is, is, told, inl same, keeps) fails = fails_within lines ahead cut_is (refused, machine, is, told ∙ ap Some same) fails
+  fails_behind asked stop.Memory other (lines, ahead, refused, machine, store, cut_is, is, told, inr (none, leaves), keeps) fails = absurd (none_fails none fails)
 
   -- all that waits is written
   gains : (lines : List (List ℕ)) (refused : Bool) (machine : Machine) (is : HasAnswered first lines before mid waiting refused machine) → Appends mid after waiting → Appends before after (is.gone ++ waiting)
@@ -241,8 +255,8 @@ module _ (bytes : List ℕ) (first : Store) (left : Option (List ℕ)) (held : O
   )
 
   between : (lines ahead : List (List ℕ)) (refused : Bool) (machine : Machine) (store : Store) → cut bytes ≡ lines ++ ahead → HasAnswered first lines before mid waiting refused machine → held ≡ Some store →
-      LeavesAhead machine ahead store → Appends mid after waiting → (Keeps : Machine → List (List ℕ) → Type 0) → Keeps machine ahead →
-      (text : List ℕ) × (store : Store) × ((so : StopsBetween first (cut bytes) text store) × Keeps so.machine so.ahead) × (held ≡ Some store) × Appends before after text
+      LeavesAhead machine ahead store → Appends mid after waiting → (Keeps : List (List ℕ) → Machine → List (List ℕ) → Store → Type 0) → Keeps lines machine ahead store →
+      (text : List ℕ) × (store : Store) × ((so : StopsBetween first (cut bytes) text store) × Keeps so.answered so.machine so.ahead store) × (held ≡ Some store) × Appends before after text
   between lines ahead refused machine store cut_is is told leaves gained Keeps keeps = (
     is.gone ++ waiting,
     store,
@@ -271,17 +285,49 @@ module _ (bytes : List ℕ) (first : Store) (left : Option (List ℕ)) (held : O
   left_ahead machine ahead store (inr (none, leaves)) = leaves
 
   -- what waits is written behind a stop
-  pub written_behind : (why : ScriptStop) → (why ≡ stop.Sink → ⊥) → HasStopped bytes first left held keep before mid waiting why → Appends mid after waiting → LeavesStopped bytes first left held keep before after why
+  pub written_behind : (why : ScriptStop) → (why ≡ stop.Sink → ⊥) → HasStopped bytes first left keep.lines held keep before mid waiting why → Appends mid after waiting → LeavesStopped bytes first left held keep before after why
   written_behind stop.Sink other is gained = absurd (other refl)
   written_behind stop.Source other (took, consumes, stands) gained =
       let (text, store, so, told, all) = behind (finished took) stands gained in (text, store, (took, consumes, so), told, all)
   written_behind stop.TooLong other stands gained = behind (finished (take longest_input bytes)) stands gained
   written_behind stop.Store other (lines, ahead, refused, machine, store, cut_is, is, told, leaves, keeps) gained =
-      between lines ahead refused machine store cut_is is told (left_ahead machine ahead store leaves) gained (λ now next. KeepsProducer keep now) keeps
+      between lines ahead refused machine store cut_is is told (left_ahead machine ahead store leaves) gained (FailsAt (HasAsked bytes left keep.lines) keep) keeps
   written_behind stop.Memory other (lines, ahead, refused, machine, store, cut_is, is, told, leaves, keeps) gained =
-      between lines ahead refused machine store cut_is is told (left_ahead machine ahead store leaves) gained (KeepsAhead keep) keeps
+      between lines ahead refused machine store cut_is is told (left_ahead machine ahead store leaves) gained (LacksMemoryAt (HasAsked bytes left keep.lines) keep) keeps
 
 -- The sink failed before.
-pub failed_before : (bytes : List ℕ) (first : Store) (left : Option (List ℕ)) (held : Option Store) (keep : Keep) (before after : Option (List ℕ)) (waiting : List ℕ) → HasStopped bytes first left held keep before after waiting stop.Sink →
+pub failed_before : (bytes : List ℕ) (first : Store) (left : Option (List ℕ)) (asked : Option Reading) (held : Option Store) (keep : Keep) (before after : Option (List ℕ)) (waiting : List ℕ) → HasStopped bytes first left asked held keep before after waiting stop.Sink →
     LeavesStopped bytes first left held keep before after stop.Sink
-failed_before bytes first left held keep before after waiting (mid, (lines, ahead, cut_is, stands), fails) = fails_within bytes first left held keep before mid after waiting lines ahead cut_is stands fails
+failed_before bytes first left asked held keep before after waiting (mid, (lines, ahead, cut_is, stands), fails) = fails_within bytes first left held keep before mid after waiting lines ahead cut_is stands fails
+
+-- ---- the reader of lines is kept
+
+-- what is kept, with the reader of lines
+abbrev pub with_lines : Keep → Reading → Keep
+with_lines keep reading = record keep { lines = Some reading }
+
+module _ (input : Option (List ℕ)) (store : Option Store) (left : Option (List ℕ)) (held : Option Store) (keep : Keep) (reading : Reading) (before after : Option (List ℕ)) (waiting : List ℕ) where
+  stopped_with : (bytes : List ℕ) (first : Store) (why : ScriptStop) → HasStopped bytes first left (Some reading) held keep before after waiting why →
+      HasStopped bytes first left (Some reading) held (with_lines keep reading) before after waiting why
+  stopped_with bytes first stop.Source is = is
+  stopped_with bytes first stop.Sink is = is
+  stopped_with bytes first stop.Store is = is
+  stopped_with bytes first stop.Memory is = is
+  stopped_with bytes first stop.TooLong is = is
+
+  answered_with : (bytes : List ℕ) (first : Store) (refused : Bool) → AllAnswered bytes first held keep before after waiting refused → AllAnswered bytes first held (with_lines keep reading) before after waiting refused
+  answered_with bytes first refused is = record { store = is.store; told = is.told; short = is.short; answered = is.answered }
+
+  pub kept_stopped : (result : Result Bool ScriptStop) → IfSome input (λ bytes. IfSome store (λ first. IfErr result (HasStopped bytes first left (Some reading) held keep before after waiting))) →
+      IfSome input (λ bytes. IfSome store (λ first. IfErr result (HasStopped bytes first left (Some reading) held (with_lines keep reading) before after waiting)))
+  kept_stopped (Ok refused) is = is
+  kept_stopped (Err why) is =
+      told_both input store (λ bytes first. HasStopped bytes first left (Some reading) held keep before after waiting why)
+      (λ bytes first. HasStopped bytes first left (Some reading) held (with_lines keep reading) before after waiting why) is (λ bytes first so. stopped_with bytes first why so)
+
+  pub kept_answered : (result : Result Bool ScriptStop) → IfSome input (λ bytes. IfSome store (λ first. IfOk result (AllAnswered bytes first held keep before after waiting))) →
+      IfSome input (λ bytes. IfSome store (λ first. IfOk result (AllAnswered bytes first held (with_lines keep reading) before after waiting)))
+  kept_answered (Err why) is = is
+  kept_answered (Ok refused) is =
+      told_both input store (λ bytes first. AllAnswered bytes first held keep before after waiting refused)
+      (λ bytes first. AllAnswered bytes first held (with_lines keep reading) before after waiting refused) is (λ bytes first so. answered_with bytes first refused so)

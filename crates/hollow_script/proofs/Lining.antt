@@ -168,12 +168,14 @@ module _ (bytes : List ℕ) (given : List (List ℕ)) (r r' : Reading) where
         (λ more. omega (arith, more, moved.gives.counted, ap length moved.gives.split, length-append moved.gives.given moved.bytes')),
       )
 
+  -- where no turn comes no line is given
+  pub fault_given : (left left' : Option (List ℕ)) (fault : LineFault) → HasGiven bytes left r given → HasLimits r r' → Tells r left r' left' (Err fault) → HasGiven bytes left' r' given
+  fault_given left left' fault has limits tells =
+      let turn = turn_gives left left' (Err fault) has limits tells in subst (HasGiven bytes left' r') (ap (λ ls. given ++ ls) turn.4 ∙ append-nil given) turn.3
+
   -- where the source fails all lines that end in what was taken were given
   pub fault_taken : (left left' : Option (List ℕ)) (fault : LineFault) → HasGiven bytes left r given → HasLimits r r' → Tells r left r' left' (Err fault) → IsOpen r' → AreTaken bytes left' given
-  fault_taken left left' fault has limits tells is_open =
-      let turn = turn_gives left left' (Err fault) has limits tells in
-      let lines_are : given ++ turn.2 ≡ given = ap (λ ls. given ++ ls) turn.4 ∙ append-nil given in
-      given_taken bytes left' r' given (subst (HasGiven bytes left' r') lines_are turn.3) is_open
+  fault_taken left left' fault has limits tells is_open = given_taken bytes left' r' given (fault_given left left' fault has limits tells) is_open
 
   -- the longest line is set once
   still_most : (left : Option (List ℕ)) → HasGiven bytes left r given → HasLimits r r' → r'.line_max ≡ longest_line

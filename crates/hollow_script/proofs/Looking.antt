@@ -27,19 +27,20 @@ of_reader _ not_model not_cycle not_restore not_check not_grow = tt
 -- an order of the consumer that is none of those that move the machine, or ask for a plan, looks
 pub looks_back : (asked : Order) → IsOfReader asked → ((version : ℕ) → asked ≢ order.Load version) → ((from to : ℕ) → asked ≢ order.Step from to) →
     ((version : ℕ) → asked ≢ order.Plan version) → ((version : ℕ) → asked ≢ order.Goto version) → ((name : Name) (paths : Value) → asked ≢ order.Index name paths) →
-    ((bound : ℕ) → asked ≢ order.History bound) → IsLookBack asked
-looks_back (order.Model schemas) of not_load not_step not_plan not_goto not_index not_history = absurd of
-looks_back (order.Cycle next) of not_load not_step not_plan not_goto not_index not_history = absurd of
-looks_back (order.Grow schemas) of not_load not_step not_plan not_goto not_index not_history = absurd of
-looks_back (order.Restore version) of not_load not_step not_plan not_goto not_index not_history = absurd of
-looks_back (order.Check versions) of not_load not_step not_plan not_goto not_index not_history = absurd of
-looks_back (order.Load version) of not_load not_step not_plan not_goto not_index not_history = absurd (not_load version refl)
-looks_back (order.Step from to) of not_load not_step not_plan not_goto not_index not_history = absurd (not_step from to refl)
-looks_back (order.Plan version) of not_load not_step not_plan not_goto not_index not_history = absurd (not_plan version refl)
-looks_back (order.Goto version) of not_load not_step not_plan not_goto not_index not_history = absurd (not_goto version refl)
-looks_back (order.Index name paths) of not_load not_step not_plan not_goto not_index not_history = absurd (not_index name paths refl)
-looks_back (order.History bound) of not_load not_step not_plan not_goto not_index not_history = absurd (not_history bound refl)
-looks_back _ of not_load not_step not_plan not_goto not_index not_history = tt
+    ((bound : ℕ) → asked ≢ order.History bound) → ((name path : Name) → asked ≢ order.WalkIndex name path) → IsLookBack asked
+looks_back (order.Model schemas) of not_load not_step not_plan not_goto not_index not_history not_walkindex = absurd of
+looks_back (order.Cycle next) of not_load not_step not_plan not_goto not_index not_history not_walkindex = absurd of
+looks_back (order.Grow schemas) of not_load not_step not_plan not_goto not_index not_history not_walkindex = absurd of
+looks_back (order.Restore version) of not_load not_step not_plan not_goto not_index not_history not_walkindex = absurd of
+looks_back (order.Check versions) of not_load not_step not_plan not_goto not_index not_history not_walkindex = absurd of
+looks_back (order.Load version) of not_load not_step not_plan not_goto not_index not_history not_walkindex = absurd (not_load version refl)
+looks_back (order.Step from to) of not_load not_step not_plan not_goto not_index not_history not_walkindex = absurd (not_step from to refl)
+looks_back (order.Plan version) of not_load not_step not_plan not_goto not_index not_history not_walkindex = absurd (not_plan version refl)
+looks_back (order.Goto version) of not_load not_step not_plan not_goto not_index not_history not_walkindex = absurd (not_goto version refl)
+looks_back (order.Index name paths) of not_load not_step not_plan not_goto not_index not_history not_walkindex = absurd (not_index name paths refl)
+looks_back (order.History bound) of not_load not_step not_plan not_goto not_index not_history not_walkindex = absurd (not_history bound refl)
+looks_back (order.WalkIndex name path) of not_load not_step not_plan not_goto not_index not_history not_walkindex = absurd (not_walkindex name path refl)
+looks_back _ of not_load not_step not_plan not_goto not_index not_history not_walkindex = tt
 
 -- one that does not look at a version looks at where the consumer stands
 pub looks_here : (asked : Order) → IsLookBack asked → ((version : ℕ) (name : Name) (ordinal : ℕ) → asked ≢ order.Was version name ordinal) →
@@ -56,16 +57,15 @@ look_is asked other consumer r is looks = subst (λ (o : Order). IfOk r (LooksAt
 pub unbuilt_looks : (asked : Order) (consumer : Option Position) → IsLook asked → ((name : Name) (values : Value) → asked ≢ order.Get name values) →
     ((name : Name) (paths values : Value) → asked ≢ order.Find name paths values) → ((name : Name) → asked ≢ order.Live name) → ((name : Name) (ordinal : ℕ) → asked ≢ order.Row name ordinal) →
     ((name : Name) (ordinal element : ℕ) → asked ≢ order.Has name ordinal element) → ((name : Name) (ordinal key : ℕ) → asked ≢ order.At name ordinal key) →
-    ((name : Name) → asked ≢ order.Past name) → asked ≢ order.Stat → LooksAt asked consumer (Refused BadOrder)
-unbuilt_looks (order.Get name values) consumer look not_get not_find not_live not_row not_has not_at not_past not_stat = absurd (not_get name values refl)
-unbuilt_looks (order.Find name paths values) consumer look not_get not_find not_live not_row not_has not_at not_past not_stat = absurd (not_find name paths values refl)
-unbuilt_looks (order.Live name) consumer look not_get not_find not_live not_row not_has not_at not_past not_stat = absurd (not_live name refl)
-unbuilt_looks (order.Row name ordinal) consumer look not_get not_find not_live not_row not_has not_at not_past not_stat = absurd (not_row name ordinal refl)
-unbuilt_looks (order.Has name ordinal element) consumer look not_get not_find not_live not_row not_has not_at not_past not_stat = absurd (not_has name ordinal element refl)
-unbuilt_looks (order.At name ordinal key) consumer look not_get not_find not_live not_row not_has not_at not_past not_stat = absurd (not_at name ordinal key refl)
-unbuilt_looks (order.Past name) consumer look not_get not_find not_live not_row not_has not_at not_past not_stat = absurd (not_past name refl)
-unbuilt_looks order.Stat consumer look not_get not_find not_live not_row not_has not_at not_past not_stat = absurd (not_stat refl)
-unbuilt_looks (order.Change change) consumer look not_get not_find not_live not_row not_has not_at not_past not_stat = refl
-unbuilt_looks (order.WalkIndex name path) consumer look not_get not_find not_live not_row not_has not_at not_past not_stat = refl
-unbuilt_looks (order.WalkFind name path value) consumer look not_get not_find not_live not_row not_has not_at not_past not_stat = refl
-unbuilt_looks _ consumer look not_get not_find not_live not_row not_has not_at not_past not_stat = absurd look
+    ((name : Name) → asked ≢ order.Past name) → asked ≢ order.Stat → ((name path : Name) (value : Value) → asked ≢ order.WalkFind name path value) → LooksAt asked consumer (Refused BadOrder)
+unbuilt_looks (order.Get name values) consumer look not_get not_find not_live not_row not_has not_at not_past not_stat not_walkfind = absurd (not_get name values refl)
+unbuilt_looks (order.Find name paths values) consumer look not_get not_find not_live not_row not_has not_at not_past not_stat not_walkfind = absurd (not_find name paths values refl)
+unbuilt_looks (order.Live name) consumer look not_get not_find not_live not_row not_has not_at not_past not_stat not_walkfind = absurd (not_live name refl)
+unbuilt_looks (order.Row name ordinal) consumer look not_get not_find not_live not_row not_has not_at not_past not_stat not_walkfind = absurd (not_row name ordinal refl)
+unbuilt_looks (order.Has name ordinal element) consumer look not_get not_find not_live not_row not_has not_at not_past not_stat not_walkfind = absurd (not_has name ordinal element refl)
+unbuilt_looks (order.At name ordinal key) consumer look not_get not_find not_live not_row not_has not_at not_past not_stat not_walkfind = absurd (not_at name ordinal key refl)
+unbuilt_looks (order.Past name) consumer look not_get not_find not_live not_row not_has not_at not_past not_stat not_walkfind = absurd (not_past name refl)
+unbuilt_looks order.Stat consumer look not_get not_find not_live not_row not_has not_at not_past not_stat not_walkfind = absurd (not_stat refl)
+unbuilt_looks (order.Change change) consumer look not_get not_find not_live not_row not_has not_at not_past not_stat not_walkfind = refl
+unbuilt_looks (order.WalkFind name path value) consumer look not_get not_find not_live not_row not_has not_at not_past not_stat not_walkfind = absurd (not_walkfind name path value refl)
+unbuilt_looks _ consumer look not_get not_find not_live not_row not_has not_at not_past not_stat not_walkfind = absurd look

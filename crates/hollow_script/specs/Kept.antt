@@ -1,5 +1,5 @@
 -- What a run keeps from one order to the next, and the machine that it stands for.
-use Rattle.std.specs.Prelude.{◌≡◌, ◌⊎◌, ℕ, List, [], ◌∷◌, Option, None, Result, IfSome, map}
+use Rattle.std.specs.Prelude.{◌≡◌, ◌⊎◌, ℕ, List, [], ◌∷◌, ◌++◌, Option, None, Result, IfSome, map}
 use Rattle.std.specs.Option.{option_map}
 use Rattle.hol_io.specs.Store.{Store}
 use Rattle.hol_history.specs.History.{StandsOn, tables_of, versions}
@@ -13,12 +13,13 @@ use Rattle.hollow_machine.specs.Script.{LineStep}
 use Rattle.hollow_machine.specs.State.{Machine}
 use Rattle.hollow_script.specs.declared.keep.Keep.{Keep}
 
--- There is no producer, the consumer has no state and no version, and no older states are kept.
+-- There is no producer, the consumer has no state and no version, no older states are kept, and no input was begun.
 pub record KeepsNothing (keep : Keep) : Type 0 where
   pub producer : keep.producer ≡ None
   pub consumer : keep.consumer ≡ None
   pub version : keep.version ≡ None
   pub history : keep.history ≡ no_history
+  pub lines : keep.lines ≡ None
 
 -- What is kept of the machine.
 abbrev pub kept_of : Keep → Kept
@@ -56,6 +57,21 @@ LosesAnswer keep machine (line ∷ lines) = (reply : Reply) × (next : Machine) 
 -- It is that of the machine, or behind the first of these lines.
 abbrev pub KeepsAhead : Keep → Machine → List (List ℕ) → Type 0
 KeepsAhead keep machine ahead = KeepsProducer keep machine ⊎ LosesAnswer keep machine ahead
+
+-- Of the lines that were asked all are answered but the last one, which is the first of those ahead.
+abbrev pub LacksLast : (List (List ℕ) → Type 0) → List (List ℕ) → List (List ℕ) → Type 0
+LacksLast HasAsked answered [] = ⊥
+LacksLast HasAsked answered (line ∷ lines) = HasAsked (answered ++ line ∷ [])
+
+-- Where the store failed: all lines that were asked are answered but the last one, and the producer that is kept is that behind them.
+abbrev pub FailsAt : (List (List ℕ) → Type 0) → Keep → List (List ℕ) → Machine → List (List ℕ) → Store → Type 0
+FailsAt HasAsked keep answered machine ahead store = LacksLast HasAsked answered ahead × KeepsProducer keep machine
+
+-- Where memory was refused: all lines that were asked are answered, and the store and the producer that is kept are those behind them; or all but the last
+-- one, and the producer is that behind those, or behind this one too, whose answer was lost.
+abbrev pub LacksMemoryAt : (List (List ℕ) → Type 0) → Keep → List (List ℕ) → Machine → List (List ℕ) → Store → Type 0
+LacksMemoryAt HasAsked keep answered machine ahead store =
+    (HasAsked answered × (store ≡ machine.store) × KeepsProducer keep machine) ⊎ (LacksLast HasAsked answered ahead × KeepsAhead keep machine ahead)
 
 -- The history that is kept is that of the machine: it keeps so many steps, reaches just the versions of the machine's older states, and leads to where the
 -- consumer stands, whose rows before each step are those states.

@@ -19,7 +19,7 @@ use Rattle.hollow_script.specs.declared.asked.Asked.{Asked}
 use Rattle.hollow_script.specs.declared.keep.Keep.{Keep}
 use Rattle.hollow_script.specs.declared.script_stop.ScriptStop.{ScriptStop}
 use Rattle.hollow_script.specs.declared.script_stop.ScriptStop.TheVariants.{Memory, Sink, Source, Store as StoreFailed, TooLong}
-use Rattle.hollow_script.specs.Kept.{KeepsAhead, KeepsProducer, SameProducer, machine_with}
+use Rattle.hollow_script.specs.Kept.{FailsAt, LacksMemoryAt, SameProducer, machine_with}
 
 -- How many bytes of an input are taken as lines.
 abbrev pub longest_input : ℕ
@@ -34,6 +34,11 @@ widened order_stop.Store = StoreFailed
 abbrev pub HasGiven : List ℕ → Option (List ℕ) → Reading → List (List ℕ) → Type 0
 HasGiven bytes None reading lines = ⊥
 HasGiven bytes (Some left) reading lines = Moves lines bytes longest_input reading left × (reading.line_max ≡ longest_line)
+
+-- These are the lines that were asked: those that the reader of lines has given, and none before it is begun.
+abbrev pub HasAsked : List ℕ → Option (List ℕ) → Option Reading → List (List ℕ) → Type 0
+HasAsked bytes left' None lines = lines ≡ []
+HasAsked bytes left' (Some reading) lines = HasGiven bytes left' reading lines
 
 -- These are the lines that end within the bytes that an input may have.
 abbrev pub AreFinished : List ℕ → List (List ℕ) → Type 0
@@ -51,16 +56,26 @@ TurnsNext bytes lines left' reading' Long = (line : List ℕ) × HasGiven bytes 
 TurnsNext bytes lines left' reading' End = (cut bytes ≡ lines) × (length bytes ≤ longest_input)
 TurnsNext bytes lines left' reading' Over = AreFinished bytes lines
 
--- What the next line asks for, or that there is none. Where the source fails, all lines that end in what was taken are given.
+-- What the next line asks for, or that there is none. Where the source fails, all lines that end in what was taken are given; where memory is refused, the
+-- next line was given, or not.
 abbrev pub AsksNext : List ℕ → List (List ℕ) → Option (List ℕ) → Reading → Result (Option Asked) ScriptStop → Type 0
 AsksNext bytes lines left' reading' (Ok (Some asked)) = (line : List ℕ) × HasGiven bytes left' reading' (lines ++ line ∷ []) × Asks line asked
 AsksNext bytes lines left' reading' (Ok None) = (cut bytes ≡ lines) × (length bytes ≤ longest_input)
 AsksNext bytes lines left' reading' (Err TooLong) = AreFinished bytes lines
 AsksNext bytes lines left' reading' (Err Source) = AreTaken bytes left' lines
+AsksNext bytes lines left' reading' (Err Memory) =
+    HasGiven bytes left' reading' lines ⊎ ((line : List ℕ) × HasGiven bytes left' reading' (lines ++ line ∷ []))
 AsksNext bytes lines left' reading' (Err stop) = Unit {0}
 
+-- The next line was given and is not answered: the store is as it was, or has the first puts of this line, and the producer is as it was.
+abbrev pub HaltsNext : List ℕ → List (List ℕ) → Store → Option (List ℕ) → Reading → Keep → Option Store → Keep → Type 0
+HaltsNext bytes lines store left' reading' kept held' kept' =
+    (line : List ℕ) × HasGiven bytes left' reading' (lines ++ line ∷ [])
+    × ((next : Store) × (held' ≡ Some next) × LeavesAhead (machine_with store kept) (line ∷ []) next) × SameProducer kept kept'
+
 -- What the next line is answered over a store, where these lines were given before: an answer that moves the machine, or
--- none where the input has no other lines. Where it stops, the store is as it was, or has the first puts of the next line, and the producer is as it was.
+-- none where the input has no other lines. Where it stops at the next line, the store is as it was, or has the first puts of this line, and the producer
+-- is as it was; where memory is refused before that line was given, the store is as it was too.
 abbrev pub AnswersNext : List ℕ → List (List ℕ) → Store → Option (List ℕ) → Reading → Keep → Option Store → Keep → Result (Option Reply) ScriptStop → Type 0
 AnswersNext bytes lines store left' reading' kept held' kept' (Ok (Some reply)) =
     (line : List ℕ) × HasGiven bytes left' reading' (lines ++ line ∷ [])
@@ -70,9 +85,9 @@ AnswersNext bytes lines store left' reading' kept held' kept' (Ok None) =
 AnswersNext bytes lines store left' reading' kept held' kept' (Err Source) = AreTaken bytes left' lines × (held' ≡ Some store)
 AnswersNext bytes lines store left' reading' kept held' kept' (Err Sink) = held' ≡ Some store
 AnswersNext bytes lines store left' reading' kept held' kept' (Err TooLong) = AreFinished bytes lines × (held' ≡ Some store)
-AnswersNext bytes lines store left' reading' kept held' kept' (Err stop) =
-    (ahead : List (List ℕ)) × (next : Store) × (cut bytes ≡ lines ++ ahead) × (held' ≡ Some next) × LeavesAhead (machine_with store kept) ahead next
-    × SameProducer kept kept'
+AnswersNext bytes lines store left' reading' kept held' kept' (Err StoreFailed) = HaltsNext bytes lines store left' reading' kept held' kept'
+AnswersNext bytes lines store left' reading' kept held' kept' (Err Memory) =
+    (HasGiven bytes left' reading' lines × (held' ≡ Some store) × SameProducer kept kept') ⊎ HaltsNext bytes lines store left' reading' kept held' kept'
 
 -- Lines whose answers wait: their text, whether one of them is a refusal, and the machine behind them, whose store is the one behind each of them, the
 -- first one too.
@@ -160,22 +175,23 @@ abbrev pub StandsBetween : List ℕ → Store → Option Store → Option (List 
 StandsBetween bytes first held before after waiting =
     (answered ahead : List (List ℕ)) × (cut bytes ≡ answered ++ ahead) × StandsBehind first answered held before after waiting
 
--- Some first lines of an input are answered, and the store is the one behind them; or no answer waits, and it has the first puts of the next line. What is
--- kept is so.
-abbrev pub StopsAhead : (Machine → List (List ℕ) → Type 0) → List ℕ → Store → Option Store → Option (List ℕ) → Option (List ℕ) → List ℕ → Type 0
+-- Some first lines of an input are answered, and the store is the one behind them; or no answer waits, and it has the first puts of the next line. What was
+-- asked and what is kept is so.
+abbrev pub StopsAhead : (List (List ℕ) → Machine → List (List ℕ) → Store → Type 0) → List ℕ → Store → Option Store → Option (List ℕ) → Option (List ℕ) → List ℕ → Type 0
 StopsAhead Keeps bytes first held before after waiting =
     (answered ahead : List (List ℕ)) × (refused : Bool) × (machine : Machine) × (store : Store) × (cut bytes ≡ answered ++ ahead)
     × HasAnswered first answered before after waiting refused machine × (held ≡ Some store)
-    × ((store ≡ machine.store) ⊎ ((waiting ≡ []) × LeavesAhead machine ahead store)) × Keeps machine ahead
+    × ((store ≡ machine.store) ⊎ ((waiting ≡ []) × LeavesAhead machine ahead store)) × Keeps answered machine ahead store
 
--- What is left where serving the lines of an input stops, of which the source has so much left; what still waits is not yet written.
-abbrev pub HasStopped : List ℕ → Store → Option (List ℕ) → Option Store → Keep → Option (List ℕ) → Option (List ℕ) → List ℕ → ScriptStop → Type 0
-HasStopped bytes first left' held keep before after waiting Source =
+-- What is left where serving the lines of an input stops, of which the source has so much left, and which the reader of lines has read so; what still waits is
+-- not yet written.
+abbrev pub HasStopped : List ℕ → Store → Option (List ℕ) → Option Reading → Option Store → Keep → Option (List ℕ) → Option (List ℕ) → List ℕ → ScriptStop → Type 0
+HasStopped bytes first left' reading' held keep before after waiting Source =
     (took : List ℕ) × Consumes (Some bytes) left' took × StandsBehind first (finished took) held before after waiting
-HasStopped bytes first left' held keep before after waiting Sink = (mid : Option (List ℕ)) × StandsBetween bytes first held before mid waiting × FailsWithin waiting mid after
-HasStopped bytes first left' held keep before after waiting StoreFailed = StopsAhead (λ machine ahead. KeepsProducer keep machine) bytes first held before after waiting
-HasStopped bytes first left' held keep before after waiting Memory = StopsAhead (KeepsAhead keep) bytes first held before after waiting
-HasStopped bytes first left' held keep before after waiting TooLong = StandsBehind first (finished (take longest_input bytes)) held before after waiting
+HasStopped bytes first left' reading' held keep before after waiting Sink = (mid : Option (List ℕ)) × StandsBetween bytes first held before mid waiting × FailsWithin waiting mid after
+HasStopped bytes first left' reading' held keep before after waiting StoreFailed = StopsAhead (FailsAt (HasAsked bytes left' reading') keep) bytes first held before after waiting
+HasStopped bytes first left' reading' held keep before after waiting Memory = StopsAhead (LacksMemoryAt (HasAsked bytes left' reading') keep) bytes first held before after waiting
+HasStopped bytes first left' reading' held keep before after waiting TooLong = StandsBehind first (finished (take longest_input bytes)) held before after waiting
 
 -- What serving the next line leaves, where the lines before it are answered: it is answered too, or all lines are; or it stops.
 abbrev pub ServesNext : List ℕ → Store → Option (List ℕ) → Option Store → Reading → Keep → Option (List ℕ) → Option (List ℕ) → List ℕ → Bool → Result (Option Bool) ScriptStop → Type 0
@@ -183,7 +199,7 @@ ServesNext bytes first left held reading kept before after waiting refused (Ok (
     IsAnswered bytes first left held reading kept before after waiting (if refused then true else also)
 ServesNext bytes first left held reading kept before after waiting refused (Ok None) =
     AllAnswered bytes first held kept before after waiting refused
-ServesNext bytes first left held reading kept before after waiting refused (Err stop) = HasStopped bytes first left held kept before after waiting stop
+ServesNext bytes first left held reading kept before after waiting refused (Err stop) = HasStopped bytes first left (Some reading) held kept before after waiting stop
 
 -- The lines of some answers were gained by the sink but for the last ones, which wait; and whether one of them is a refusal.
 pub record HasReplied (before after : Option (List ℕ)) (waiting : List ℕ) (refused : Bool) : Type 0 where

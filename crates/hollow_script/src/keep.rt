@@ -2,6 +2,7 @@
 ghost use Rattle.hollow_script.specs.Kept.{KeepsNothing};
 
 use hol_history::History;
+use hol_io::Lines;
 use read_engine::Consumer;
 use std::alloc::Global;
 use write_engine::Producer;
@@ -17,10 +18,12 @@ pub struct Keep {
     pub version: Option<u64>,
     /// What each of the consumer's last steps since a load took away, of so many steps as were asked for: old states are read from it and the consumer's.
     pub history: History,
+    /// The reader of the input's lines, once it is begun: the lines that it gave are those that were asked.
+    pub lines: Option<Lines>,
 }
 
 impl Keep {
-    /// No producer, a consumer without a state and a version, and a history that keeps no steps. It takes no memory.
+    /// No producer, a consumer without a state and a version, a history that keeps no steps, and no input. It takes no memory.
     pub fn new(alloc: Global) -> Keep
         ensures { KeepsNothing result }
     {
@@ -29,6 +32,7 @@ impl Keep {
             consumer: Consumer::new(alloc),
             version: None,
             history: History::new(alloc, 0),
+            lines: None,
         }
     }
 }

@@ -18,6 +18,7 @@ use hol_io::BlobStore;
 use hol_orders::{Order, OrderStop};
 use plan_orders::{goto, plan};
 use producer_orders::{cycle, grow, model};
+use reach_orders::{walk_find, walk_index};
 use read_engine::Consumer;
 use std::alloc::Global;
 
@@ -90,6 +91,7 @@ fn answer_reader<S: BlobStore>(
         Order::Plan(wanted) => plan(alloc, store, *version, *wanted),
         Order::Goto(wanted) => goto(alloc, store, consumer, version, history, *wanted),
         Order::Index { type_name, paths } => index(alloc, consumer, type_name, paths),
+        Order::WalkIndex { type_name, path } => walk_index(alloc, consumer, type_name, path),
         Order::History(bound) => Ok(history_orders::history(alloc, history, *bound)),
         _ => look_back(alloc, order, consumer, *version, history),
     }
@@ -140,6 +142,11 @@ fn look(alloc: Global, order: &Order, consumer: &Consumer) -> Result<Reply, Orde
             paths,
             values,
         } => find(alloc, consumer, type_name, paths, values),
+        Order::WalkFind {
+            type_name,
+            path,
+            value,
+        } => walk_find(alloc, consumer, type_name, path, value),
         Order::Live(type_name) => live(alloc, consumer, type_name),
         Order::Row { type_name, ordinal } => row(alloc, consumer, type_name, *ordinal),
         Order::Has {

@@ -2,14 +2,15 @@
 ghost use Rattle.std.specs.Prelude.{◌≡◌, ◌<◌, ◌≤◌, ◌⊎◌, ℕ, List, [], Bool, true, Option, None, IfOk, IfErr, IfSome, OnErr, Some, Ok, IsErrOf};
 ghost use Rattle.std.specs.Io.KnownBytes.{IsAtEnd};
 ghost use Rattle.hol_io.specs.Causes.{Rose};
-ghost use Rattle.hol_io.specs.Lines.{Takes};
+ghost use Rattle.hol_io.specs.Lines.{IsAhead, Takes, starts};
 ghost use Rattle.hol_io.specs.Store.{Store};
 ghost use Rattle.hol_io.specs.Turn.{EndsInput, HasLimits, IsEnded, LendsLine};
 ghost use Rattle.hollow_machine.specs.Kept.{IsResting};
 ghost use Rattle.hollow_machine.specs.Puts.{MayPut};
+ghost use Rattle.hollow_machine.specs.Script.{longest_line};
 ghost use Rattle.hollow_script.specs.Asked.{AskedPuts, AskedStep, MeetsOrder};
 ghost use Rattle.hollow_script.specs.Kept.{HaltsKept, KeepsNothing, KeepsReader, MovesKept, SameProducer};
-ghost use Rattle.hollow_script.specs.Scripted.{AllAnswered, AllWritten, AnswersNext, AreTaken, AsksNext, HasGiven, HasReplied, HasStopped, IsAnswered, RepliesNext, ServesNext, TakesPast, TurnsNext, WritesReplies, WritesWaiting};
+ghost use Rattle.hollow_script.specs.Scripted.{AllAnswered, AllWritten, AnswersNext, AreTaken, AsksNext, HasGiven, HasReplied, HasStopped, IsAnswered, RepliesNext, ServesNext, TakesPast, TurnsNext, WritesReplies, WritesWaiting, longest_input};
 ghost use Rattle.hollow_script.specs.Stopping.{LeavesStopped};
 
 use crate::asked::{Asked, asked_by};
@@ -29,8 +30,8 @@ const MAX_INPUT_BYTES: u64 = 0x1_0000_0000;
 /// time, but what waits is written before an order that may put begins, and before more of the input is read; and the last
 /// ones before it ends, unless the sink failed. So where it stops, the sink has the answers to some first lines, and the store is
 /// the one behind them, or has besides the first puts of the next line (`LeavesStopped`). Where the source fails, the lines are
-/// all that end in what was taken of the input. Where the store fails or memory is refused, no answer that was made is left out, but one for which memory
-/// was refused.
+/// all that end in what was taken of the input. Where the store fails or memory is refused, all lines that were asked are answered, but the last of them, at which it
+/// stopped: those that the reader of lines gave, which is kept.
 pub fn run_script<I: Source, O: Sink, S: BlobStore>(
     alloc: Global,
     input: &mut I,
@@ -67,7 +68,7 @@ pub fn run_script<I: Source, O: Sink, S: BlobStore>(
     }
 }
 
-// Answers each line of the input. The last answers wait.
+// Answers each line of the input, and keeps the reader of lines. The last answers wait.
 fn answer_lines<I: Source, O: Sink, S: BlobStore>(
     alloc: Global,
     input: &mut I,
@@ -81,7 +82,7 @@ fn answer_lines<I: Source, O: Sink, S: BlobStore>(
     ensures answered { IfSome (I.left input.old) (λ bytes. IfSome (S.seen store.old).held (λ first. IfOk result
         (AllAnswered bytes first (S.seen store.new).held keep.new (O.taken out.old) (O.taken out.new) waiting.new.items))) }
     ensures stops { IfSome (I.left input.old) (λ bytes. IfSome (S.seen store.old).held (λ first. IfErr result
-        (HasStopped bytes first (I.left input.new) (S.seen store.new).held keep.new (O.taken out.old) (O.taken out.new) waiting.new.items))) }
+        (HasStopped bytes first (I.left input.new) keep.new.lines (S.seen store.new).held keep.new (O.taken out.old) (O.taken out.new) waiting.new.items))) }
     ensures reading { KeepsReader keep.new }
     ensures replied { IfOk result (HasReplied (O.taken out.old) (O.taken out.new) waiting.new.items) }
     ensures ended { IfOk result (λ refused. IsAtEnd (I.left input.new)) }
@@ -92,19 +93,42 @@ fn answer_lines<I: Source, O: Sink, S: BlobStore>(
     ensures past { IsErrOf result ScriptStop.TooLong → TakesPast (I.left input.old) (I.left input.new) }
 {
     let mut lines = Lines::new(alloc, MAX_LINE_BYTES as usize, MAX_INPUT_BYTES)?;
+    let answered = answer_each(alloc, &mut lines, input, out, store, keep, waiting);
+    keep.lines = Some(lines);
+    answered
+}
+
+// Answers each line that the reader of lines gives of the input, at whose start it stands. The last answers wait.
+fn answer_each<I: Source, O: Sink, S: BlobStore>(
+    alloc: Global,
+    lines: &mut Lines,
+    input: &mut I,
+    out: &mut O,
+    store: &mut S,
+    keep: &mut Keep,
+    waiting: &mut Vec<u8>,
+) -> Result<bool, ScriptStop>
+    requires fresh { KeepsNothing keep.old }
+    requires none_waits { waiting.old.items ≡ [] }
+    requires starts { lines.old ≡ starts longest_line longest_input }
+    requires ahead { (left : List ℕ) → IsAhead lines.old left left longest_input }
+    ensures answered { IfSome (I.left input.old) (λ bytes. IfSome (S.seen store.old).held (λ first. IfOk result
+        (AllAnswered bytes first (S.seen store.new).held keep.new (O.taken out.old) (O.taken out.new) waiting.new.items))) }
+    ensures stops { IfSome (I.left input.old) (λ bytes. IfSome (S.seen store.old).held (λ first. IfErr result
+        (HasStopped bytes first (I.left input.new) (Some lines.new) (S.seen store.new).held keep.new (O.taken out.old) (O.taken out.new) waiting.new.items))) }
+    ensures reading { KeepsReader keep.new }
+    ensures replied { IfOk result (HasReplied (O.taken out.old) (O.taken out.new) waiting.new.items) }
+    ensures ended { IfOk result (λ refused. IsAtEnd (I.left input.new)) }
+    ensures source_fault { IsErrOf result ScriptStop.Source → Rose (I.faults input.old) (I.faults input.new) }
+    ensures sink_fault { IsErrOf result ScriptStop.Sink → Rose (O.faults out.old) (O.faults out.new) }
+    ensures later { O.faults out.old ≤ O.faults out.new }
+    ensures store_fault { IsErrOf result ScriptStop.Store → Rose (S.seen store.old).faults (S.seen store.new).faults }
+    ensures past { IsErrOf result ScriptStop.TooLong → TakesPast (I.left input.old) (I.left input.new) }
+{
     let mut orders = OrderReader::new(alloc);
     let mut refused = false;
     for _turn in 0..u64::MAX {
-        let Some(also) = serve_next(
-            alloc,
-            &mut lines,
-            &mut orders,
-            input,
-            out,
-            store,
-            keep,
-            waiting,
-        )?
+        let Some(also) = serve_next(alloc, lines, &mut orders, input, out, store, keep, waiting)?
         else {
             return Ok(refused);
         };
@@ -241,6 +265,8 @@ fn next_turn<I: Source, O: Sink>(
         → IfOk result (TurnsNext bytes given (I.left input.new) lines.new) }
     ensures taken { (bytes : List ℕ) (given : List (List ℕ)) → HasGiven bytes (I.left input.old) lines.old given
         → IsErrOf result ScriptStop.Source → AreTaken bytes (I.left input.new) given }
+    ensures none { (bytes : List ℕ) (given : List (List ℕ)) → HasGiven bytes (I.left input.old) lines.old given
+        → OnErr result (HasGiven bytes (I.left input.new) lines.new given) }
     ensures waits { (input.new ≡ input.old) ⊎ (waiting.new.items ≡ []) }
     ensures put { WritesWaiting (O.taken out.old) (O.taken out.new) waiting.old.items waiting.new.items result }
     ensures line { IfOk result (λ turn. LendsLine lines.new (Ok turn)) }

@@ -45,7 +45,8 @@ use std::alloc::Global;
 /// its progress. The condition is that nothing is kept.
 ///
 /// Where `run` stops, by 3 to 7, the answers to some first lines are written, and the store is the one behind them; by 5 and 6 it may
-/// have besides the first puts of the next line. By 3 these are all lines that end in what was taken of the input. By 4 the sink has
+/// have besides the first puts of the next line, and these are all lines that were asked, or all but the last one (`Keep::lines`). By 3 these are all lines that
+/// end in what was taken of the input. By 4 the sink has
 /// besides a part of the next answer, and the store is the one behind that line. Where `make` stops, the store is the one behind some first cycles, or has besides the first puts of the next one. A store that
 /// held a chain holds it then, with the states more that were published, and at most one more, which is there in part.
 pub fn run<I: Source, O: Sink, S: BlobStore, P: Progress>(
@@ -262,6 +263,7 @@ fn make_line<O: Sink, S: BlobStore, P: Progress>(
         consumer: _,
         version: _,
         history: _,
+        lines: _,
     } = keep;
     let reply = make(alloc, store, producer, seed, rows, cycles, progress)?;
     write_reply(alloc, reply, out)

@@ -17,6 +17,7 @@ use Rattle.row_model.specs.Table.{IsLive, Table}
 use Rattle.type_state.specs.State.{State}
 use Rattle.type_state.specs.Views.{table_of}
 use Rattle.key_index.specs.Indexed.{AreKeysOf, AreUnder, CountsKeys, Indexed, IsIndexBy}
+use Rattle.hol_paths.specs.Walked.{Walked}
 use Rattle.row_model.specs.Before.{PastPart}
 use Rattle.read_engine.specs.Indexes.{AddsIndex, CountsKeyed, index_by}
 use Rattle.read_engine.specs.Kept.{IsKept, index_kept}
@@ -68,9 +69,9 @@ module _ (schemas : List Schema) (table : Table) (kept : Indexed) (is : IsKept s
 
 -- ---- an index by its number
 
-module _ (tag : ℤ) (schemas : List Schema) (states : List State) (past : List PastPart) (indexes : List Indexed) (stands : IsStanding tag schemas states past indexes) (n : ℕ) (kept : Indexed) (there : slice_get indexes n ≡ Some kept) where
+module _ (tag : ℤ) (schemas : List Schema) (states : List State) (past : List PastPart) (indexes : List Indexed) (walks : List Walked) (stands : IsStanding tag schemas states past indexes walks) (n : ℕ) (kept : Indexed) (there : slice_get indexes n ≡ Some kept) where
   abbrev pub position : Position
-  position = position_of tag schemas states past indexes
+  position = position_of tag schemas states past indexes walks
 
   is_kept : IsKept schemas (table_of (current_halves states)) kept
   is_kept = subst (IsKept schemas (table_of (current_halves states))) (get_or_from_slice_get indexes n kept kept there) (stands.indexes n kept (within_of there))
@@ -96,9 +97,9 @@ module _ (tag : ℤ) (schemas : List Schema) (states : List State) (past : List 
 
 -- ---- one more index
 
-module _ (tag : ℤ) (schemas : List Schema) (states : List State) (past : List PastPart) (indexes : List Indexed) (stands : IsStanding tag schemas states past indexes) (kept : Indexed) (is : IsKept schemas (table_of (current_halves states)) kept)
+module _ (tag : ℤ) (schemas : List Schema) (states : List State) (past : List PastPart) (indexes : List Indexed) (walks : List Walked) (stands : IsStanding tag schemas states past indexes walks) (kept : Indexed) (is : IsKept schemas (table_of (current_halves states)) kept)
     (few : length indexes < number_of_limit Indexes) where
-  pub stands_with : IsStanding tag schemas states past (indexes ++ kept ∷ [])
+  pub stands_with : IsStanding tag schemas states past (indexes ++ kept ∷ []) walks
   stands_with = record {
     named = stands.named;
     fits = stands.fits;
@@ -111,19 +112,22 @@ module _ (tag : ℤ) (schemas : List Schema) (states : List State) (past : List 
       indexes = subst (All (IsIndexOf schemas)) (sym (map-append index_kept indexes (kept ∷ [])))
           (All-append (IsIndexOf schemas) (map index_kept indexes) (index_kept kept ∷ []) stands.position.indexes (All-cons (IsIndexOf schemas) (index_kept kept) [] is.of (All-nil (IsIndexOf schemas))));
       few = omega (arith, few, length-map (indexes ++ kept ∷ []) index_kept, length-append indexes (kept ∷ []));
+      walks = stands.position.walks;
+      few_walks = stands.position.few_walks;
     };
     indexes = All-append (IsKept schemas (table_of (current_halves states))) indexes (kept ∷ []) stands.indexes
         (All-cons (IsKept schemas (table_of (current_halves states))) kept [] is (All-nil (IsKept schemas (table_of (current_halves states)))));
+    walks = stands.walks;
   }
 
-last_there : {A : Type 0} (xs : List A) (x : A) → slice_get (xs ++ x ∷ []) (length xs) ≡ Some x
+pub last_there : {A : Type 0} (xs : List A) (x : A) → slice_get (xs ++ x ∷ []) (length xs) ≡ Some x
 last_there [] x = refl
 last_there (y ∷ xs) x = last_there xs x
 
 -- the position with one more index
-pub adds_index : (tag : ℤ) (schemas : List Schema) (states : List State) (past : List PastPart) (indexes : List Indexed) (kept : Indexed) (index : Index) (now : List Indexed) (n : ℕ) → now ≡ indexes ++ kept ∷ [] → index_kept kept ≡ index
-    → (Contains (map index_kept indexes) index → ⊥) → length indexes < number_of_limit Indexes → n ≡ length indexes → AddsIndex index (position_of tag schemas states past indexes) (position_of tag schemas states past now) n
-adds_index tag schemas states past indexes kept index now n pushed is none few last =
+pub adds_index : (tag : ℤ) (schemas : List Schema) (states : List State) (past : List PastPart) (indexes : List Indexed) (walks : List Walked) (kept : Indexed) (index : Index) (now : List Indexed) (n : ℕ) → now ≡ indexes ++ kept ∷ [] → index_kept kept ≡ index
+    → (Contains (map index_kept indexes) index → ⊥) → length indexes < number_of_limit Indexes → n ≡ length indexes → AddsIndex index (position_of tag schemas states past indexes walks) (position_of tag schemas states past now walks) n
+adds_index tag schemas states past indexes walks kept index now n pushed is none few last =
     let long : length (map index_kept indexes) ≡ length indexes = length-map indexes index_kept in
     let after : map index_kept now ≡ map index_kept indexes ++ index ∷ [] = ap (map index_kept) pushed ∙ map-append index_kept indexes (kept ∷ []) ∙ ap (λ (one : Index). map index_kept indexes ++ one ∷ []) is in
     let at : n ≡ length (map index_kept indexes) = last ∙ sym long in (

@@ -10,6 +10,7 @@ use Rattle.row_model.specs.Key.{IsResolved}
 use Rattle.row_model.specs.Table.{IsClosed, Table}
 use Rattle.type_state.specs.State.{State}
 use Rattle.key_index.specs.Indexed.{CountsLive, Indexed, IsIndexBy}
+use Rattle.hol_paths.specs.Walked.{Walked}
 use Rattle.row_model.specs.Before.{PastPart}
 use Rattle.read_engine.specs.Indexes.{AddsIndex, index_by}
 use Rattle.read_engine.specs.Kept.{IsKept, index_kept}
@@ -48,26 +49,26 @@ counts_at (Some at) table t before after answer is counts = subst (λ (rows : Ta
 
 -- ---- one more index
 
-module _ (tag : Option ℤ) (schemas : List Schema) (states : List State) (past : List PastPart) (indexes : List Indexed) (has : HasParts tag schemas states past indexes) (now : Option Position)
-    (view : stands_at tag schemas states past indexes ≡ now) (index : Index) (none : IsSomeAnd now (λ position. Contains position.indexes index → ⊥)) where
+module _ (tag : Option ℤ) (schemas : List Schema) (states : List State) (past : List PastPart) (indexes : List Indexed) (walks : List Walked) (has : HasParts tag schemas states past indexes walks) (now : Option Position)
+    (view : stands_at tag schemas states past indexes walks ≡ now) (index : Index) (none : IsSomeAnd now (λ position. Contains position.indexes index → ⊥)) where
   module _ (kept : Indexed) (is : IsSomeAnd now (λ position. IsKept position.schemas (rows_now position) kept × (index_kept kept ≡ index))) (few : length indexes < number_of_limit Indexes) (after : List Indexed)
       (pushed : after ≡ indexes ++ kept ∷ []) where
-    pub has_with : HasParts tag schemas states past after
-    has_with = subst (HasParts tag schemas states past) (sym pushed) (of_tag tag has (subst (λ (n : Option Position). IsSomeAnd n (λ position. IsKept position.schemas (rows_now position) kept × (index_kept kept ≡ index))) (sym view) is))
+    pub has_with : HasParts tag schemas states past after walks
+    has_with = subst (λ (kept : List Indexed). HasParts tag schemas states past kept walks) (sym pushed) (of_tag tag has (subst (λ (n : Option Position). IsSomeAnd n (λ position. IsKept position.schemas (rows_now position) kept × (index_kept kept ≡ index))) (sym view) is))
       where
-        of_tag : (t : Option ℤ) → HasParts t schemas states past indexes → IsSomeAnd (stands_at t schemas states past indexes) (λ position. IsKept position.schemas (rows_now position) kept × (index_kept kept ≡ index))
-            → HasParts t schemas states past (indexes ++ kept ∷ [])
+        of_tag : (t : Option ℤ) → HasParts t schemas states past indexes walks → IsSomeAnd (stands_at t schemas states past indexes walks) (λ position. IsKept position.schemas (rows_now position) kept × (index_kept kept ≡ index))
+            → HasParts t schemas states past (indexes ++ kept ∷ []) walks
         of_tag None nothing kept_is = absurd kept_is
-        of_tag (Some at) stands kept_is = stands_with at schemas states past indexes stands kept kept_is.0 few
+        of_tag (Some at) stands kept_is = stands_with at schemas states past indexes walks stands kept kept_is.0 few
 
-    pub added : (number : ℕ) → number ≡ length indexes → IsSomeAnd now (λ from. IsSomeAnd (stands_at tag schemas states past after) (λ to. AddsIndex index from to number))
+    pub added : (number : ℕ) → number ≡ length indexes → IsSomeAnd now (λ from. IsSomeAnd (stands_at tag schemas states past after walks) (λ to. AddsIndex index from to number))
     added number last =
-        subst (λ (n : Option Position). IsSomeAnd n (λ from. IsSomeAnd (stands_at tag schemas states past after) (λ to. AddsIndex index from to number))) view
+        subst (λ (n : Option Position). IsSomeAnd n (λ from. IsSomeAnd (stands_at tag schemas states past after walks) (λ to. AddsIndex index from to number))) view
         (of_tag tag (subst (λ (n : Option Position). IsSomeAnd n (λ position. Contains position.indexes index → ⊥)) (sym view) none)
         (subst (λ (n : Option Position). IsSomeAnd n (λ position. IsKept position.schemas (rows_now position) kept × (index_kept kept ≡ index))) (sym view) is))
       where
-        of_tag : (t : Option ℤ) → IsSomeAnd (stands_at t schemas states past indexes) (λ position. Contains position.indexes index → ⊥)
-            → IsSomeAnd (stands_at t schemas states past indexes) (λ position. IsKept position.schemas (rows_now position) kept × (index_kept kept ≡ index))
-            → IsSomeAnd (stands_at t schemas states past indexes) (λ from. IsSomeAnd (stands_at t schemas states past after) (λ to. AddsIndex index from to number))
+        of_tag : (t : Option ℤ) → IsSomeAnd (stands_at t schemas states past indexes walks) (λ position. Contains position.indexes index → ⊥)
+            → IsSomeAnd (stands_at t schemas states past indexes walks) (λ position. IsKept position.schemas (rows_now position) kept × (index_kept kept ≡ index))
+            → IsSomeAnd (stands_at t schemas states past indexes walks) (λ from. IsSomeAnd (stands_at t schemas states past after walks) (λ to. AddsIndex index from to number))
         of_tag None absent kept_is = absurd absent
-        of_tag (Some at) absent kept_is = adds_index at schemas states past indexes kept index after number pushed kept_is.1 absent few last
+        of_tag (Some at) absent kept_is = adds_index at schemas states past indexes walks kept index after number pushed kept_is.1 absent few last

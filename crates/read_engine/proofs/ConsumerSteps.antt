@@ -96,7 +96,7 @@ module _ (name : BlobName) (held : Option Store) (tag : ℤ) (schemas : List Sch
 taken_follows : (tag : ℤ) (parts : List PatchPart) (from : Position) (now : Option Position) → IsSomeAnd now (IsTaken tag parts from) → IsSomeAnd now (FollowsFrom from)
 taken_follows tag parts from None none = absurd none
 taken_follows tag parts from (Some to) taken =
-    subst (FollowsFrom from) (sym taken.is) record { model = refl; before = refl; indexes = refl }
+    subst (FollowsFrom from) (sym taken.is) record { model = refl; before = refl; indexes = refl; walks = taken.keeps }
 
 pub step_follows : (size : ℕ) (tag : ℤ) (parts : List PatchPart) (old now : Option Position) (answer : Result (Unit {0}) BlobFault)
     → IfSome old (λ from. TellsTaken size tag parts from now answer) → OnOk answer (IfSome old (λ from. IsSomeAnd now (FollowsFrom from)))

@@ -1,24 +1,25 @@
 -- The rows that come follow the keys of an index, and what is reserved becomes its keys.
-use Rattle.std.proofs.Common.{◌≡◌, ◌<◌, ◌⊎◌, inl, inr, ℕ, List, [], ◌∷◌, length, map, get_or, Option, Some, None, refl, sym, ap, ◌∙◌, subst, arith}
-use Rattle.std.specs.Prelude.{All, IsSome, IsSomeAnd, Contains, MatchOption, slice_get, unwrap_or}
+use Rattle.std.proofs.Common.{◌≡◌, ◌<◌, ◌⊎◌, inl, inr, ℕ, List, [], ◌∷◌, ◌+◌, Bool, true, cond, length, map, get_or, Option, Some, None, refl, sym, ap, ◌∙◌, subst, arith}
+use Rattle.std.specs.Prelude.{All, IsSome, IsSomeAnd, IsTrue, Contains, MatchOption, filter, is_some, sum_by, unwrap_or}
 use Rattle.std.specs.List.{AllZip}
-use Rattle.std.specs.FinMap.{empty, get}
+use Rattle.std.specs.FinMap.{get}
 use Rattle.std.proofs.lemmas.Bool.{false≢true}
 use Rattle.std.proofs.lemmas.List.{get_or_default}
 use Rattle.std.proofs.lemmas.List.Elements.{All-cons, All-head, All-nil, All-tail}
-use Rattle.std.proofs.lemmas.List.Kept.{AllPairs-from_increasing}
-use Rattle.std.proofs.lemmas.Option.{slice_get-get_or}
+use Rattle.std.proofs.lemmas.List.Sums.{sum_by-cons}
 use Rattle.schema_model.specs.declared.model.path.Path.{Path}
 use Rattle.row_model.specs.declared.row.Row.{Row}
 use Rattle.schema_model.specs.declared.schema.Schema.{Schema}
 use Rattle.row_model.specs.Key.{IsResolved, key_of}
-use Rattle.row_model.specs.Table.{IsClosed, IsLive, IsTableOf, RowMap, Table, row_at}
+use Rattle.row_model.specs.Table.{IsClosed, IsLive, IsTableOf, Table, row_at}
 use Rattle.key_index.specs.Indexed.{AreKeysOf, HaveOneRow, Indexed, KeyMap}
 use Rattle.row_model.specs.Before.{FitsPast, PastPart, no_part, table_before}
-use Rattle.read_engine.specs.Kept.{FollowsPart, IsKept, IsReserved, index_kept, moved_on, settled}
+use Rattle.read_engine.specs.Kept.{FollowsPart, IsKept, IsReserved, count_came, index_kept, key_type_once, moved_on, settled}
 use Rattle.read_engine.specs.Position.{IsIndexOf}
-use Rattle.state_moves.proofs.Came.{came_at, gone_at, one_row, part_is}
-use Rattle.state_moves.proofs.Tables.{fits_at, live_or_none}
+use Rattle.hol_paths.specs.Walked.{IsStepOf}
+use Rattle.state_moves.proofs.Came.{one_row}
+use Rattle.state_moves.proofs.Tables.{live_or_none}
+use Rattle.read_engine.proofs.TypeSteps.{came as came_of, gone as gone_of, not_live, part_there, step_of}
 
 -- ---- the keys of rows
 
@@ -46,9 +47,6 @@ module _ (schemas : List Schema) (table : Table) (t : ℕ) (paths : List Path) (
   pub live_keyed : (o : ℕ) → IsLive table t o → IsSome (get keys o)
   live_keyed o live = subst IsSome (sym (key_at o live)) refl
 
-not_live : (table : Table) (t o : ℕ) → row_at table t o ≡ None → IsLive table t o → ⊥
-not_live table t o none live = false≢true (subst IsSome none live)
-
 -- ---- a step
 
 abbrev pub KeyLaw : Type 0
@@ -64,21 +62,14 @@ module _ (law : KeyLaw) (schemas : List Schema) (old table : Table) (past : List
     abbrev pub part : PastPart
     part = get_or past t no_part
 
-    rows : RowMap
-    rows = get_or table t empty
-
-    rows_there : slice_get table t ≡ Some rows
-    unfolding rows
-    rows_there = let within : t < length schemas = is_kept.of.type_there in slice_get-get_or table t empty (omega (arith, within, of_new.types))
-
-    part_fits : FitsPast rows part
-    part_fits = fits_at table past t rows part fits rows_there (part_is table past fits t rows rows_there)
-
     came : (o : ℕ) → (Contains part.came o → IsLive table t o × ¬ IsLive old t o) × (IsLive table t o × ¬ IsLive old t o → Contains part.came o)
-    came o = subst (λ (was : Table). (Contains part.came o → IsLive table t o × ¬ IsLive was t o) × (IsLive table t o × ¬ IsLive was t o → Contains part.came o)) before (came_at table past fits t rows rows_there o)
+    came = came_of schemas old table past fits before of_new t is_kept.of.type_there
 
     gone : (o : ℕ) → (Contains part.gone o → IsLive old t o × ¬ IsLive table t o) × (IsLive old t o × ¬ IsLive table t o → Contains part.gone o)
-    gone o = subst (λ (was : Table). (Contains part.gone o → IsLive was t o × ¬ IsLive table t o) × (IsLive was t o × ¬ IsLive table t o → Contains part.gone o)) before (gone_at table past fits t rows rows_there o)
+    gone = gone_of schemas old table past fits before of_new t is_kept.of.type_there
+
+    step : IsStepOf old table t part.gone part.came
+    step = step_of schemas old table past fits before of_new t is_kept.of.type_there
 
     live_keyed_old : (o : ℕ) → IsLive old t o → IsSome (get kept.keys o)
     live_keyed_old = live_keyed schemas old t kept.paths kept.keys is_kept.keys
@@ -108,10 +99,10 @@ module _ (law : KeyLaw) (schemas : List Schema) (old table : Table) (past : List
     follows_part = record {
       of = is_kept.of;
       part = part;
-      there = part_is table past fits t rows rows_there;
+      there = part_there schemas old table past fits before of_new t is_kept.of.type_there;
       follows = record {
-        removed_rise = AllPairs-from_increasing part.gone part_fits.gone_rise;
-        added_rise = AllPairs-from_increasing part.came part_fits.came_rise;
+        removed_rise = step.removed_rise;
+        added_rise = step.added_rise;
         removed_there = λ k d inside. live_keyed_old (get_or part.gone k d) ((gone (get_or part.gone k d)).0 (k, inside, get_or_default part.gone k (get_or part.gone k d) d inside)).0;
         added_free = λ k d inside.
             elim (live_or_none old t (get_or part.came k d)) [
@@ -174,10 +165,10 @@ same_indexes (n ∷ now) (w ∷ was) same =
     λ i. here i ∷ behind i
 
 -- each has something reserved
-pub all_reserved : (schemas : List Schema) (table : Table) (indexes : List Indexed) → All (IsReserved schemas table) indexes → All (λ kept. IsSome kept.next) indexes
-all_reserved schemas table [] all = All-nil (λ (kept : Indexed). IsSome kept.next)
+pub all_reserved : (schemas : List Schema) (table : Table) (indexes : List Indexed) → All (IsReserved schemas table) indexes → All (λ kept. IsTrue (is_some kept.next)) indexes
+all_reserved schemas table [] all = All-nil (λ (kept : Indexed). IsTrue (is_some kept.next))
 all_reserved schemas table (k ∷ indexes) all =
-    All-cons (λ (kept : Indexed). IsSome kept.next) k indexes (some k.next (All-head (IsReserved schemas table) k indexes all)) (all_reserved schemas table indexes (All-tail (IsReserved schemas table) k indexes all))
+    All-cons (λ (kept : Indexed). IsTrue (is_some kept.next)) k indexes (some k.next (All-head (IsReserved schemas table) k indexes all)) (all_reserved schemas table indexes (All-tail (IsReserved schemas table) k indexes all))
   where
     some : (found : Option KeyMap) → IsSomeAnd found (AreKeysOf schemas table k.type_index k.paths) → IsSome found
     some None h = absurd h
@@ -189,13 +180,23 @@ moves_on old new updated (type_is, paths_are) none =
     let keys : new.keys ≡ unwrap_or old.next old.keys = sym (ap (λ (found : Option KeyMap). unwrap_or found old.keys) updated) in
     λ i. record { type_index = type_is i; paths = paths_are i; keys = keys i; next = none i }
 
--- what follows an index follows one that differs from it in what is reserved
-pub follows_same : (schemas : List Schema) (table : Table) (past : List PastPart) (now was : Indexed) → settled now ≡ settled was → FollowsPart schemas table past was → FollowsPart schemas table past now
-follows_same schemas table past now was same follows =
-    let there : FollowsPart schemas table past (settled was) = record { of = follows.of; part = follows.part; there = follows.there; follows = follows.follows } in
-    let here : FollowsPart schemas table past (settled now) = subst (FollowsPart schemas table past) (sym same) there in
-    record { of = here.of; part = here.part; there = here.there; follows = here.follows }
-
-pub settled_twice : (indexes : List Indexed) → map settled (map settled indexes) ≡ map settled indexes
-settled_twice [] = refl
-settled_twice (k ∷ indexes) = ap (λ rest. settled k ∷ rest) (settled_twice indexes)
+-- where each has something reserved, each is counted
+pub all_counted : (schemas : List Schema) (table : Table) (past : List PastPart) (now was : List Indexed) → map settled now ≡ map settled was → All (IsReserved schemas table) now
+    → sum_by (λ (kept : Indexed). count_came past kept.type_index) (filter (λ (kept : Indexed). is_some kept.next) now) ≡ sum_by (λ (kept : Indexed). count_came past kept.type_index) was
+all_counted schemas table past [] [] same all = refl
+all_counted schemas table past [] (w ∷ was) same all = absurd cc
+all_counted schemas table past (n ∷ now) [] same all = absurd cc
+all_counted schemas table past (n ∷ now) (w ∷ was) same all =
+    let first : settled n ≡ settled w = cc in
+    let rest : map settled now ≡ map settled was = cc in
+    let behind = all_counted schemas table past now was rest (All-tail (IsReserved schemas table) n now all) in
+    let takes : is_some n.next ≡ true = some n.next (All-head (IsReserved schemas table) n now all) in
+    let count : List Indexed → ℕ = sum_by (λ (kept : Indexed). count_came past kept.type_index) in
+    ap (λ (b : Bool). count (cond b (n ∷ filter (λ (kept : Indexed). is_some kept.next) now) (filter (λ (kept : Indexed). is_some kept.next) now))) takes
+    ∙ sum_by-cons (λ (kept : Indexed). count_came past kept.type_index) n (filter (λ (kept : Indexed). is_some kept.next) now)
+    ∙ (λ i. count_came past (key_type_once n w first i) + behind i)
+    ∙ sym (sum_by-cons (λ (kept : Indexed). count_came past kept.type_index) w was)
+  where
+    some : (found : Option KeyMap) → IsSomeAnd found (AreKeysOf schemas table n.type_index n.paths) → is_some found ≡ true
+    some None h = absurd h
+    some (Some keys) h = refl

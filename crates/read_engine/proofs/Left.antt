@@ -9,6 +9,7 @@ use Rattle.row_model.specs.Table.{RowMap}
 use Rattle.type_state.specs.State.{State}
 use Rattle.type_state.specs.Views.{table_of}
 use Rattle.key_index.specs.Indexed.{Indexed}
+use Rattle.hol_paths.specs.Walked.{Walked}
 use Rattle.row_model.specs.Before.{FitsPast, PastPart, rows_before}
 use Rattle.read_engine.specs.Gone.{AreGone}
 use Rattle.read_engine.specs.Position.{Position, rows_now}
@@ -31,15 +32,15 @@ are_gone position t rows part now before fits = record {
 }
 
 -- how many parts are kept
-pub kept_length : (tag : ℤ) (schemas : List Schema) (states : List State) (past : List PastPart) (indexes : List Indexed) → IsStanding tag schemas states past indexes → length past ≡ length schemas
-kept_length tag schemas states past indexes stands =
+pub kept_length : (tag : ℤ) (schemas : List Schema) (states : List State) (past : List PastPart) (indexes : List Indexed) (walks : List Walked) → IsStanding tag schemas states past indexes walks → length past ≡ length schemas
+kept_length tag schemas states past indexes walks stands =
     past_length (table_of (current_halves states)) past stands.fits
     ∙ stands.position.rows.types
 
-pub gone_in : (tag : ℤ) (schemas : List Schema) (states : List State) (past : List PastPart) (indexes : List Indexed) (t : ℕ) (part : PastPart) → IsStanding tag schemas states past indexes → t < length schemas → slice_get past t ≡ Some part
-    → AreGone (position_of tag schemas states past indexes) t part.gone
-gone_in tag schemas states past indexes t part stands known there =
+pub gone_in : (tag : ℤ) (schemas : List Schema) (states : List State) (past : List PastPart) (indexes : List Indexed) (walks : List Walked) (t : ℕ) (part : PastPart) → IsStanding tag schemas states past indexes walks → t < length schemas → slice_get past t ≡ Some part
+    → AreGone (position_of tag schemas states past indexes walks) t part.gone
+gone_in tag schemas states past indexes walks t part stands known there =
     let table = table_of (current_halves states) in
     let rows = get_or table t empty in
     let is : slice_get table t ≡ Some rows = slice_get-get_or table t empty (omega (arith, known, stands.position.rows.types)) in
-    are_gone (position_of tag schemas states past indexes) t rows part is (before_at table past t rows part is there) (fits_at table past t rows part stands.fits is there)
+    are_gone (position_of tag schemas states past indexes walks) t rows part is (before_at table past t rows part is there) (fits_at table past t rows part stands.fits is there)

@@ -13,9 +13,10 @@ abbrev pub OneSnapshot : Type 0
 OneSnapshot = (blob : List ℕ) (a b : Header) (ps qs : List TypePart) (s t : List Schema) (x y : List Half) → SnapshotIs blob a ps s x → SnapshotIs blob b qs t y → (a ≡ b) × (ps ≡ qs) × (s ≡ t) × (x ≡ y)
 
 pub loaded_once : OneSnapshot → (blob : List ℕ) (a b : Position) → LoadsFrom blob a → LoadsFrom blob b → a ≡ b
-loaded_once law blob a b (head, accepted, tag, before, none) (also, other, tag_too, before_too, none_too) =
+loaded_once law blob a b (head, accepted, tag, before, none, unwalked) (also, other, tag_too, before_too, none_too, unwalked_too) =
     let (heads, parts, schemas, halves) = law blob head also accepted.0 other.0 a.schemas b.schemas a.halves b.halves accepted.1 other.1 in
     let same_tag = tag ∙ ap (λ (h : Header). h.destination) heads ∙ sym tag_too in
     let same_before = before ∙ ap table_of halves ∙ sym before_too in
     let same_indexes = none ∙ sym none_too in
-    λ i. record { tag = same_tag i; schemas = schemas i; halves = halves i; before = same_before i; indexes = same_indexes i }
+    let same_walks = unwalked ∙ sym unwalked_too in
+    λ i. record { tag = same_tag i; schemas = schemas i; halves = halves i; before = same_before i; indexes = same_indexes i; walks = same_walks i }

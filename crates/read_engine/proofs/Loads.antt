@@ -15,8 +15,8 @@ use Rattle.snapshot_blob.specs.declared.loaded.Loaded.{Loaded}
 use Rattle.snapshot_blob.specs.Body.{IsWholeBody}
 use Rattle.snapshot_blob.specs.Snapshot.{TellsSnapshot}
 use Rattle.row_model.specs.Before.{FitsPast, PastPart, no_part, table_before}
-use Rattle.read_engine.specs.Kept.{IsKept}
-use Rattle.read_engine.specs.Position.{IsIndexOf, IsPosition, Position}
+use Rattle.read_engine.specs.Kept.{IsKept, IsWalkKept}
+use Rattle.read_engine.specs.Position.{IsIndexOf, IsPosition, IsWalkOf, Position}
 use Rattle.state_moves.specs.Halves.{current_halves}
 use Rattle.read_engine.specs.Standing.{IsStanding, position_of}
 use Rattle.read_engine.specs.Judged.{RefusesLoad}
@@ -36,10 +36,10 @@ module _ (tag : ℤ) (body : Body) (states : List State) (past : List PastPart) 
   before : table_before (table_of (current_halves states)) past ≡ table_of (current_halves states)
   before = ap (table_before (table_of (current_halves states))) none ∙ same_table (length body.model) (table_of (current_halves states)) long
 
-  pub position_is : position_of tag body.model states past [] ≡ loaded_position tag body
-  position_is = λ i. record { tag = tag; schemas = body.model; halves = halves i; before = (before ∙ here) i; indexes = [] }
+  pub position_is : position_of tag body.model states past [] [] ≡ loaded_position tag body
+  position_is = λ i. record { tag = tag; schemas = body.model; halves = halves i; before = (before ∙ here) i; indexes = []; walks = [] }
 
-  pub stands : IsStanding tag body.model states past []
+  pub stands : IsStanding tag body.model states past [] []
   stands = record {
     named = schemas ∙ whole.next.named;
     fits = subst (AllZip FitsPast (table_of (current_halves states))) (sym none) (all_fit_none (length body.model) (table_of (current_halves states)) long);
@@ -51,8 +51,11 @@ module _ (tag : ℤ) (body : Body) (states : List State) (past : List PastPart) 
       closed_before = whole.closed;
       indexes = All-nil (IsIndexOf body.model);
       few = lit≤ tt;
+      walks = All-nil (IsWalkOf body.model);
+      few_walks = lit≤ tt;
     };
     indexes = All-nil (IsKept body.model (table_of (current_halves states)));
+    walks = All-nil (IsWalkKept body.model (table_of (current_halves states)));
   }
 
 -- ---- what is told of the blob
@@ -73,7 +76,7 @@ module _ (name : BlobName) where
       → TellsLoaded name content (Ok now)
   loads None loaded now is (inl other) = absurd cc
   loads None loaded now is (inr free) = absurd free
-  loads (Some blob) loaded now is accepted = (blob, loaded_position loaded.header.destination (record { model = loaded.model; states = loaded.states }), refl, is, (loaded.header, accepted, refl, refl, refl))
+  loads (Some blob) loaded now is accepted = (blob, loaded_position loaded.header.destination (record { model = loaded.model; states = loaded.states }), refl, is, (loaded.header, accepted, refl, refl, refl, refl))
 
   -- a snapshot that is loaded
   pub loaded_told : (held : Option Store) (loaded : Loaded) (now : Option Position) → now ≡ Some (loaded_position loaded.header.destination (record { model = loaded.model; states = loaded.states }))

@@ -3,25 +3,22 @@ use Rattle.std.proofs.Common.{◌≡◌, ◌<◌, ℕ, suc, List, [], ◌∷◌,
 use Rattle.std.specs.Prelude.{Contains, slice_get}
 use Rattle.std.specs.Option.{option_map}
 use Rattle.std.proofs.lemmas.Option.{slice_get-get_or, slice_get-map, slice_get_within}
-use Rattle.key_index.specs.Indexed.{Indexed}
-use Rattle.read_engine.specs.Kept.{index_kept}
-use Rattle.read_engine.specs.Position.{Index}
 
--- None of the first ones is the index.
-abbrev pub NoneBelow : List Indexed → Index → ℕ → Type 0
-NoneBelow indexes index n = (k : ℕ) (kept : Indexed) → k < n → slice_get indexes k ≡ Some kept → index_kept kept ≡ index → ⊥
+-- Of none of the first ones this is what it is asked for.
+abbrev pub NoneBelow : {X Y : Type 0} → (X → Y) → List X → Y → ℕ → Type 0
+NoneBelow {X} f xs one n = (k : ℕ) (x : X) → k < n → slice_get xs k ≡ Some x → f x ≡ one → ⊥
 
-pub none_there : (indexes : List Indexed) (index : Index) → NoneBelow indexes index (length indexes) → Contains (map index_kept indexes) index → ⊥
-none_there indexes index none (k, inside, at) = of_place (slice_get indexes k) refl
+pub none_there : {X Y : Type 0} (f : X → Y) (xs : List X) (one : Y) → NoneBelow f xs one (length xs) → Contains (map f xs) one → ⊥
+none_there {X} {Y} f xs one none (k, inside, at) = of_place (slice_get xs k) refl
   where
-    there : slice_get (map index_kept indexes) k ≡ Some index
-    there = slice_get-get_or (map index_kept indexes) k index inside ∙ ap Some at
+    there : slice_get (map f xs) k ≡ Some one
+    there = slice_get-get_or (map f xs) k one inside ∙ ap Some at
 
-    of_place : (found : Option Indexed) → slice_get indexes k ≡ found → ⊥
-    of_place None is = let nothing : None ≡ Some index = sym (slice_get-map index_kept indexes k ∙ ap (option_map index_kept) is) ∙ there in absurd cc
-    of_place (Some kept) is =
-        let one : Some (index_kept kept) ≡ Some index = sym (slice_get-map index_kept indexes k ∙ ap (option_map index_kept) is) ∙ there in
-        none k kept (slice_get_within indexes k kept is) is cc
+    of_place : (found : Option X) → slice_get xs k ≡ found → ⊥
+    of_place None is = let nothing : ◌≡◌ {A = Option Y} None (Some one) = sym (slice_get-map f xs k ∙ ap (option_map f) is) ∙ there in absurd cc
+    of_place (Some x) is =
+        let both : Some (f x) ≡ Some one = sym (slice_get-map f xs k ∙ ap (option_map f) is) ∙ there in
+        none k x (slice_get_within xs k x is) is cc
 
 -- lists that are the same at each place
 pub same_lists : {A : Type 0} (xs ys : List A) → length xs ≡ length ys → ((k : ℕ) → k < length xs → slice_get xs k ≡ slice_get ys k) → xs ≡ ys

@@ -5,6 +5,7 @@ use Rattle.std.proofs.lemmas.List.{length-map}
 use Rattle.std.proofs.lemmas.List.Elements.{All-cons, All-head, All-nil, All-tail}
 use Rattle.schema_model.specs.declared.model.rule.Rule.TheVariants.{DuplicateName}
 use Rattle.row_model.specs.BothStates.{rows_in}
+use Rattle.row_model.specs.Table.{Table}
 use Rattle.type_state.specs.State.{Half}
 use Rattle.type_state.specs.Views.{table_of}
 use Rattle.delta_blob.specs.Moved.{EachNamed, IsUnnamed, Moved, MovesType}
@@ -12,7 +13,9 @@ use Rattle.delta_blob.specs.Patch.{TypePatch}
 use Rattle.delta_blob.proofs.OnePatch.{patch_once, tags_once}
 use Rattle.read_engine.specs.Position.{Position, IsPosition, rows_now}
 use Rattle.read_engine.specs.Taking.{StepsBy, layout_at}
+use Rattle.read_engine.specs.Walks.{HasFewEntries, KeepsWalks}
 use Rattle.read_engine.proofs.TakenOrFault.{one_move, same_tables}
+use Rattle.read_engine.proofs.Those.{those_once}
 
 -- ---- each type
 
@@ -86,4 +89,5 @@ module _ (blob : List ℕ) (from a b : Position) (position : IsPosition from) (o
       let halves = same_halves a.halves b.halves (one.types ∙ sym other.types) (λ t inside. layouts_of t (omega (arith, inside, long_halves))) same_now in
       let before = one.before ∙ sym other.before in
       let indexes = one.indexes ∙ sym other.indexes in
-      λ i. record { tag = tag i; schemas = schemas i; halves = halves i; before = before i; indexes = indexes i }
+      let walks = those_once (HasFewEntries from.schemas (rows_now a)) from.walks a.walks b.walks one.walks (subst (λ (table : Table). KeepsWalks from.schemas table from.walks b.walks) (sym same_now) other.walks) in
+      λ i. record { tag = tag i; schemas = schemas i; halves = halves i; before = before i; indexes = indexes i; walks = walks i }

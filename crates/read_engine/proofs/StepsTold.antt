@@ -1,7 +1,8 @@
 -- What a step tells of a blob: that it leads to a position, or the fault of it.
-use Rattle.std.proofs.Common.{◌≡◌, ◌≤◌, ◌⊎◌, inl, inr, ℕ, ℤ, List, length, map, Option, Some, None, Result, Ok, Err, IfSome, refl, sym, ap, ◌∙◌, subst}
+use Rattle.std.proofs.Common.{◌≡◌, ◌≤◌, ◌⊎◌, inl, inr, ℕ, ℤ, List, [], length, map, Option, Some, None, Result, Ok, Err, IfSome, refl, sym, ap, ◌∙◌, subst, lit≤}
 use Rattle.std.specs.Prelude.{All}
 use Rattle.std.proofs.lemmas.List.{length-map}
+use Rattle.std.proofs.lemmas.List.Elements.{All-nil}
 use Rattle.hol_io.specs.declared.name.BlobName.{BlobName}
 use Rattle.hol_io.specs.Store.{Store, told}
 use Rattle.schema_model.specs.declared.limit.Limit.TheVariants.{Blob}
@@ -33,8 +34,9 @@ use Rattle.state_moves.specs.Judged.{IsFreeMove, state_moved}
 use Rattle.state_moves.specs.Moving.{coming_halves}
 use Rattle.state_moves.proofs.Changed.{coming_long}
 use Rattle.read_engine.specs.Judged.{RefusesStep, step_of}
-use Rattle.read_engine.specs.Position.{IsPosition, Position, rows_now}
+use Rattle.read_engine.specs.Position.{IsPosition, IsWalkOf, Position, rows_now}
 use Rattle.read_engine.specs.Taken.{BlamesParts, CountsTaken, IsTaken}
+use Rattle.read_engine.specs.Walks.{without_walks}
 use Rattle.read_engine.specs.Taking.{CountsPart, StepsBy, TellsStep, layout_at}
 use Rattle.read_engine.proofs.Patches as patches
 
@@ -92,6 +94,7 @@ module _ (blob : List ℕ) (n : ℕ) (head : Header) (named : List PatchPart) (f
         ∙ ap (λ (hs : List Half). layout_at hs t) (taken.moves.stays.halves ∙ taken.at.halves);
     before = refl;
     indexes = refl;
+    walks = taken.keeps;
   }
 
 -- ---- a step that is refused
@@ -158,9 +161,25 @@ module _ (name : BlobName) (from : Position) where
         let (blob, is, read) = there (told (Some store) name) tells in
         subst (λ (content : Option (List ℕ)). TellsStep name content from now (Err found)) (sym is) (parts_refused blob found read blames)
 
-    -- what is counted where memory is refused
-    pub part_counted : (held : Option Store) (before after : ℕ) → IfSome held (λ store. TellsDelta name from.tag from.schemas (told held name) (Ok patch)) → (after ≡ before) ⊎ CountsTaken patch.destination patch.parts from before after
-        → IfSome held (λ store. (after ≡ before) ⊎ CountsPart (told held name) from before after)
-    part_counted None before after tells counts = tt
-    part_counted (Some store) before after tells (inl same) = inl same
-    part_counted (Some store) before after tells (inr (to, taken, most)) = let (blob, is, read) = there (told (Some store) name) tells in inr (blob, to, is, steps_along blob to read taken, most)
+-- a position is one without its walk indexes too
+without_position : (from : Position) → IsPosition from → IsPosition (without_walks from)
+without_position from is = record {
+  model = is.model;
+  rows = is.rows;
+  closed = is.closed;
+  rows_before = is.rows_before;
+  closed_before = is.closed_before;
+  indexes = is.indexes;
+  few = is.few;
+  walks = All-nil (IsWalkOf from.schemas);
+  few_walks = lit≤ tt;
+}
+
+-- what is counted where memory is refused
+pub part_counted : (name : BlobName) (from : Position) → IsPosition from → (read : Patch) (held : Option Store) (before after : ℕ) → IfSome held (λ store. TellsDelta name from.tag from.schemas (told held name) (Ok read))
+    → (after ≡ before) ⊎ CountsTaken read.destination read.parts from before after → IfSome held (λ store. (after ≡ before) ⊎ CountsPart (told held name) from before after)
+part_counted name from position read None before after tells counts = tt
+part_counted name from position read (Some store) before after tells (inl same) = inl same
+part_counted name from position read (Some store) before after tells (inr (to, taken, most)) =
+    let (blob, is, tells_it) = there name from position read (told (Some store) name) tells in
+    inr (blob, to, is, steps_along name (without_walks from) (without_position from position) read blob to tells_it taken, most)

@@ -56,7 +56,7 @@ use Rattle.read_engine.specs.Taking.{LoadsFrom, StepsBy}
 -- ---- loads
 
 pub loaded_or_fault : (blob : List ℕ) (position : Position) (found : BlobFault) → LoadsFrom blob position → (snapshot_of blob).Fails found → ⊥
-loaded_or_fault blob position found (head, accepted, tag, before, bare) = accepted_or_fault blob head position.schemas position.halves found accepted
+loaded_or_fault blob position found (head, accepted, tag, before, bare, unwalked) = accepted_or_fault blob head position.schemas position.halves found accepted
 
 -- ---- what a step moves
 

@@ -1,7 +1,8 @@
 -- The indexes of a consumer: the one of a type by some paths, the place that it has among those that are kept, and what came into their types.
-use Rattle.std.specs.Prelude.{◌≡◌, ◌↔◌, ◌≤◌, ◌<◌, ◌+◌, ◌⊎◌, ℕ, List, [], ◌∷◌, ◌++◌, Some, Contains, length, slice_get}
+use Rattle.std.specs.Prelude.{◌≡◌, ◌↔◌, ◌≤◌, ◌<◌, ◌+◌, ◌⊎◌, ℕ, List, [], ◌∷◌, ◌++◌, Some, Contains, length, map, slice_get}
 use Rattle.schema_model.specs.declared.limit.Limit.TheVariants.{Indexes}
 use Rattle.schema_model.specs.declared.model.path.Path.{Path}
+use Rattle.schema_model.specs.declared.model.walk_path.WalkPath.{WalkPath}
 use Rattle.row_model.specs.Key.{AreKeyed}
 use Rattle.schema_model.specs.Limit.{number_of_limit}
 use Rattle.row_model.specs.Row.{Rises}
@@ -13,11 +14,13 @@ use Rattle.read_engine.specs.Position.{Index, Position, rows_now}
 abbrev pub index_by : ℕ → List Path → Index
 index_by type_index paths = record { type_index = type_index; paths = paths }
 
--- The list of indexes behind one that is asked for: the same where that one is in it, and else with it behind the others, where there is room.
+-- A list behind an element that is asked for: the same where that one is in it, and else with it behind the others, where there are fewer than so many.
+abbrev pub KeepsOne : {X : Type 0} → ℕ → List X → X → List X → Type 0
+KeepsOne most kept one after = (Contains kept one × (after ≡ kept)) ⊎ ((¬ Contains kept one) × (length kept < most) × (after ≡ kept ++ one ∷ []))
+
+-- The list of indexes behind one that is asked for.
 abbrev pub KeepsIndex : List Index → Index → List Index → Type 0
-KeepsIndex indexes index after =
-    (Contains indexes index × (after ≡ indexes))
-    ⊎ ((¬ Contains indexes index) × (length indexes < number_of_limit Indexes) × (after ≡ indexes ++ index ∷ []))
+KeepsIndex indexes index after = KeepsOne (number_of_limit Indexes) indexes index after
 
 -- The position behind an index that is asked for, which has this number in its list; all else is the same.
 abbrev pub AddsIndex : Index → Position → Position → ℕ → Type 0
@@ -42,16 +45,21 @@ pub record AreNew (position : Position) (type_index : ℕ) (ordinals : List ℕ)
   pub rising : Rises ordinals
   pub are : (ordinal : ℕ) → Contains ordinals ordinal ↔ (IsLive (rows_now position) type_index ordinal × ¬ IsLive position.before type_index ordinal)
 
--- So many ordinals are new in the types of some indexes, summed over these.
-abbrev pub CountsNew : Position → List Index → ℕ → Type 0
+-- the types of the indexes and of the walk indexes that are kept
+abbrev pub types_kept : Position → List ℕ
+types_kept position = map (λ (index : Index). index.type_index) position.indexes ++ map (λ (path : WalkPath). path.type_index) position.walks
+
+-- So many ordinals are new in some types, summed over these.
+abbrev pub CountsNew : Position → List ℕ → ℕ → Type 0
 CountsNew position [] count = count ≡ 0
-CountsNew position (index ∷ rest) count =
-    (ordinals : List ℕ) × (behind : ℕ) × AreNew position index.type_index ordinals × CountsNew position rest behind × (count ≡ length ordinals + behind)
+CountsNew position (t ∷ rest) count = (ordinals : List ℕ) × (behind : ℕ) × AreNew position t ordinals × CountsNew position rest behind × (count ≡ length ordinals + behind)
 
--- A count of steps rose by one for each new ordinal in the type of each index that is kept.
-abbrev pub CountsStep : Position → ℕ → ℕ → Type 0
-CountsStep position before after = (count : ℕ) × CountsNew position position.indexes count × (after ≡ before + count)
+-- A count of steps rose by one for each new ordinal in the type of each index and of each walk index that is kept behind the step, and by at most so many
+-- in the type of each walk index that was dropped: no more than in the types of all that were kept before the step.
+abbrev pub CountsStep : Position → Position → ℕ → ℕ → Type 0
+CountsStep from to before after =
+    (least : ℕ) × (most : ℕ) × CountsNew to (types_kept to) least × CountsNew to (types_kept from) most × (before + least ≤ after) × (after ≤ before + most)
 
--- It rose by at most so many.
-abbrev pub CountsAtMost : Position → ℕ → ℕ → Type 0
-CountsAtMost position before after = (count : ℕ) × CountsNew position position.indexes count × (before ≤ after) × (after ≤ before + count)
+-- It rose by at most one for each new ordinal in the type of each that was kept before the step.
+abbrev pub CountsAtMost : Position → Position → ℕ → ℕ → Type 0
+CountsAtMost from to before after = (most : ℕ) × CountsNew to (types_kept from) most × (before ≤ after) × (after ≤ before + most)

@@ -7,3 +7,4 @@ pub mod Standing
 pub mod Taken
 pub mod Taking
 pub mod Walking
+pub mod Walks

@@ -23,13 +23,14 @@ use Rattle.delta_blob.specs.Within.{KeepItems, Within}
 use Rattle.read_engine.specs.Indexes.{CountsAtMost}
 use Rattle.read_engine.specs.Judged.{RefusesLoad, RefusesStep}
 use Rattle.read_engine.specs.Position.{Position, rows_now}
+use Rattle.read_engine.specs.Walks.{KeepsWalks, without_walks}
 
 -- The blob is a snapshot within the limits, and this is where a consumer stands that loads it: at the destination of its header, with its model,
--- layouts and rows, the same rows before, and no index.
+-- layouts and rows, the same rows before, no index and no walk index.
 abbrev pub LoadsFrom : List ℕ → Position → Type 0
 LoadsFrom blob position =
     (head : Header) × IsAccepted blob head position.schemas position.halves × (position.tag ≡ head.destination) × (position.before ≡ rows_now position)
-    × (position.indexes ≡ [])
+    × (position.indexes ≡ []) × (position.walks ≡ [])
 
 -- the layout of a type
 abbrev pub layout_at : List Half → ℕ → Option Layout
@@ -37,7 +38,7 @@ layout_at halves type_index = option_map (λ half. half.layout) (slice_get halve
 
 -- Against the consumer's model the blob is a delta from its tag, of a patch that fits its rows and passes no limit, and it leads to this position:
 -- with the tag of the delta's destination, the rows that the patch moves to, the layouts of the patch in the types that it names, the rows
--- before, and the same indexes.
+-- before, the same indexes, and of the walk indexes those that have no more entries there than they may.
 pub record StepsBy (blob : List ℕ) (from to : Position) : Type 0 where
   pub patch : List TypePatch
   pub is : DeltaIs from.schemas blob from.tag to.tag patch
@@ -52,12 +53,15 @@ pub record StepsBy (blob : List ℕ) (from to : Position) : Type 0 where
   pub others : (type_index : ℕ) → type_index < length from.schemas → IsUnnamed patch type_index → layout_at to.halves type_index ≡ layout_at from.halves type_index
   pub before : to.before ≡ rows_now from
   pub indexes : to.indexes ≡ from.indexes
+  pub walks : KeepsWalks from.schemas (rows_now to) from.walks to.walks
 
--- What is so behind every step, wherever its blob came from: the model and the indexes stay, and the rows before are those that the consumer had.
+-- What is so behind every step, wherever its blob came from: the model and the indexes stay, the rows before are those that the consumer had, and of the walk
+-- indexes those are kept that have no more entries in the rows now than they may.
 pub record FollowsFrom (from to : Position) : Type 0 where
   pub model : to.schemas ≡ from.schemas
   pub before : to.before ≡ rows_now from
   pub indexes : to.indexes ≡ from.indexes
+  pub walks : KeepsWalks from.schemas (rows_now to) from.walks to.walks
 
 -- The name is that of a delta or of a reverse delta.
 abbrev pub IsStepName : BlobName → Type 0
@@ -78,7 +82,7 @@ pub record LoadsExactly (name : BlobName) (content : Option (List ℕ)) (now : O
 
 -- where a consumer stands that loads a body, with this tag
 abbrev pub loaded_position : ℤ → Body → Position
-loaded_position tag body = record { tag = tag; schemas = body.model; halves = next_halves body.states; before = table_of (next_halves body.states); indexes = [] }
+loaded_position tag body = record { tag = tag; schemas = body.model; halves = next_halves body.states; before = table_of (next_halves body.states); indexes = []; walks = [] }
 
 -- What the answer to a load that makes a consumer tells of what the name holds, by where that consumer stands.
 abbrev pub TellsLoaded : BlobName → Option (List ℕ) → Result (Option Position) BlobFault → Type 0
@@ -102,6 +106,8 @@ IsStepFault name current (fault.Large limit) = (limit ≡ Blob) ⊎ IsTypeLimit 
 IsStepFault name current (fault.OtherOrigin found at) = (at ≡ current) × (found ≢ current)
 IsStepFault name current _ = Unit {0}
 
--- The name holds a blob that leads to a position, and a count of steps rose by at most what the step there counts.
+-- The name holds a blob that moves the rows of a position, and a count of steps rose by at most the ordinals that are new there in the type of each index and of
+-- each walk index. Which walk indexes would be kept there is not told.
 abbrev pub CountsPart : Option (List ℕ) → Position → ℕ → ℕ → Type 0
-CountsPart content from before after = (blob : List ℕ) × (to : Position) × (content ≡ Some blob) × StepsBy blob from to × CountsAtMost to before after
+CountsPart content from before after =
+    (blob : List ℕ) × (to : Position) × (content ≡ Some blob) × StepsBy blob (without_walks from) to × CountsAtMost from to before after

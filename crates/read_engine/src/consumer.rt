@@ -23,6 +23,7 @@ use crate::indexes::KeyIndexes;
 use crate::laws;
 use crate::load::load;
 use crate::step::step;
+use crate::walks::WalkIndexes;
 use blob_frame::BlobFault;
 use hol_io::{BlobName, BlobStore, Steps};
 use hol_varint::Ordinals;
@@ -36,7 +37,7 @@ use type_state::{TypeState, TypeStates};
 #[derive(Drop)]
 pub struct Consumer {
     pub(crate) alloc: Global,
-    // The tag of its state, none where it has no state: then it has no types and no indexes either.
+    // The tag of its state, none where it has no state: then it has no types and no indexes of either kind.
     pub(crate) tag: Option<i64>,
     // The model of its state.
     pub(crate) model: Model,
@@ -46,6 +47,8 @@ pub struct Consumer {
     pub(crate) past: PastParts,
     // The indexes that are kept of its rows.
     pub(crate) indexes: KeyIndexes,
+    // The walk indexes that are kept of its rows.
+    pub(crate) walks: WalkIndexes,
 }
 
 impl std::marker::Model for Consumer {
@@ -58,9 +61,9 @@ impl std::marker::Model for Consumer {
 
     ghost coded = { coded_option position_code };
 
-    ghost view = { λ c. stands_at c.tag c.model c.states c.past c.indexes };
+    ghost view = { λ c. stands_at c.tag c.model c.states c.past c.indexes c.walks };
 
-    ghost invariant = { λ c. HasParts c.tag c.model c.states c.past c.indexes };
+    ghost invariant = { λ c. HasParts c.tag c.model c.states c.past c.indexes c.walks };
 }
 
 impl Consumer {
@@ -75,6 +78,7 @@ impl Consumer {
             states: TypeStates::new(alloc),
             past: PastParts::new(alloc),
             indexes: KeyIndexes::new(alloc),
+            walks: WalkIndexes::new(alloc),
         }
     }
 
@@ -83,7 +87,7 @@ impl Consumer {
         self.alloc
     }
 
-    /// Loads the state of the snapshot of a version, in place of the state that it has; the rows before it are the same, and no index is kept.
+    /// Loads the state of the snapshot of a version, in place of the state that it has; the rows before it are the same, and no index nor walk index is kept.
     ///
     /// `NoBlob` comes exactly where the store has no such name, and any other fault exactly where it is that of the first thing which fails of
     /// what is tried of the blob: its length (`Large` with `Blob`), its items, its schemas, and type by type the limits on ordinals and items
@@ -115,8 +119,9 @@ impl Consumer {
     /// But `Memory` may come in place of any answer, and `Store` comes only where the store's count of faults rose. After a fault everything is
     /// as before, the rows before the last step too.
     ///
-    /// The indexes stay, and answer of the new rows. A step is counted for each ordinal that comes in the type of each index. After want of
-    /// memory no more are, and only where the blob moves the state; after another fault none is.
+    /// The indexes and walk indexes stay, and answer of the new rows, but for those walk indexes that would have more than 2^22 entries: these are dropped. A
+    /// step is counted for each ordinal that comes in the type of each index and walk index that stays, and at most as many for one that is dropped. After want
+    /// of memory no more are, and only where the blob moves the state; after another fault none is.
     pub fn step<S: BlobStore, L: Ledger>(
         &mut self,
         store: &mut S,
@@ -137,7 +142,7 @@ impl Consumer {
         ensures kept { (S.seen store.new).held ≡ (S.seen store.old).held }
         ensures later { (S.seen store.old).faults ≤ (S.seen store.new).faults }
         ensures unput { (S.seen store.new).puts ≡ (S.seen store.old).puts }
-        ensures counted { OnOk result (IsSomeAnd self.new (λ to. CountsStep to steps.old steps.new)) }
+        ensures counted { OnOk result (IfSome self.old (λ from. IsSomeAnd self.new (λ to. CountsStep from to steps.old steps.new))) }
         ensures uncounted { IfErr result (λ fault. fault ≢ BlobFault.Memory → steps.new ≡ steps.old) }
         ensures part { OnErr result (IfSome (S.seen store.old).held
             (λ held. IfSome self.old (λ from. (steps.new ≡ steps.old) ⊎ CountsPart (told (S.seen store.old).held name.now) from steps.old steps.new))) }
@@ -255,6 +260,7 @@ impl Consumer {
             states: _,
             past: _,
             indexes: _,
+            walks: _,
         } = self;
         tag.unwrap_or(0)
     }

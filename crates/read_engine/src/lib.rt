@@ -8,8 +8,10 @@ mod keeping;
 pub mod laws;
 mod load;
 mod step;
+mod step_index;
 mod walker;
+mod walks;
 
 pub use consumer::Consumer;
-pub use fault::IndexFault;
+pub use fault::{IndexFault, WalkIndexFault};
 pub use walker::Walker;

@@ -14,6 +14,7 @@ ghost use Rattle.read_engine.specs.Taking.{TellsLoaded, loaded_position};
 
 use crate::Consumer;
 use crate::indexes::KeyIndexes;
+use crate::walks::WalkIndexes;
 use blob_frame::BlobFault;
 use hol_io::{BlobName, BlobStore};
 use snapshot_blob::{Body, Loaded, read_snapshot};
@@ -45,7 +46,7 @@ pub(crate) fn load<S: BlobStore>(
     Ok(standing(alloc, header.destination, Body { model, states }, past))
 }
 
-// A consumer that has the state of a body, with this tag; nothing changed of its types, and no index is kept.
+// A consumer that has the state of a body, with this tag; nothing changed of its types, and no index nor walk index is kept.
 fn standing(alloc: Global, tag: i64, body: Body, past: PastParts) -> Consumer
     requires whole { IsWholeBody body }
     requires model { IsModel body.model }
@@ -60,6 +61,7 @@ fn standing(alloc: Global, tag: i64, body: Body, past: PastParts) -> Consumer
         states: flipped(states),
         past,
         indexes: KeyIndexes::new(alloc),
+        walks: WalkIndexes::new(alloc),
     }
 }
 

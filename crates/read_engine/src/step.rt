@@ -10,17 +10,19 @@ ghost use Rattle.state_moves.specs.Halves.{current_halves};
 ghost use Rattle.state_moves.specs.Judged.{IsFreeMove, state_moved};
 ghost use Rattle.state_moves.specs.Moving.{StaysCurrent};
 ghost use Rattle.read_engine.specs.Indexes.{CountsStep};
-ghost use Rattle.read_engine.specs.Kept.{IsKept, count_came, index_kept};
+ghost use Rattle.read_engine.specs.Kept.{IsKept, IsWalkKept, came_all, count_came, index_kept};
 ghost use Rattle.read_engine.specs.Position.{IsPosition};
-ghost use Rattle.read_engine.specs.Taken.{CountsTaken, ReadsSome, TakesParts, TellsTaken};
+ghost use Rattle.read_engine.specs.Taken.{CountsTaken, ReadsSome, TakesParts, TakesWalks, TellsTaken};
 ghost use Rattle.read_engine.specs.Taking.{CountsPart, FollowsFrom, IsStepFault, TellsStep};
 
 use crate::Consumer;
 use crate::indexes::KeyIndexes;
-use crate::keeping::{reserve_all, update_all};
+use crate::keeping::{ready_both, turn_all, turn_ready};
+use crate::walks::WalkIndexes;
 use blob_frame::BlobFault;
 use delta_blob::{PatchPart, read_delta};
 use hol_io::{BlobName, BlobStore, Steps};
+use hol_paths::WalkIndex;
 use key_index::KeyIndex;
 use schema_model::Model;
 use state_moves::{PastParts, flip_named, move_state};
@@ -48,7 +50,7 @@ pub(crate) fn step<S: BlobStore, L: Ledger>(
     ensures kept { (S.seen store.new).held ≡ (S.seen store.old).held }
     ensures later { (S.seen store.old).faults ≤ (S.seen store.new).faults }
     ensures unput { (S.seen store.new).puts ≡ (S.seen store.old).puts }
-    ensures counted { OnOk result (IsSomeAnd consumer.new (λ to. CountsStep to steps.old steps.new)) }
+    ensures counted { OnOk result (IfSome consumer.old (λ from. IsSomeAnd consumer.new (λ to. CountsStep from to steps.old steps.new))) }
     ensures uncounted { IfErr result (λ fault. fault ≢ BlobFault.Memory → steps.new ≡ steps.old) }
     ensures part { OnErr result (IfSome (S.seen store.old).held
         (λ held. IfSome consumer.old (λ from. (steps.new ≡ steps.old) ⊎ CountsPart (told (S.seen store.old).held name.now) from steps.old steps.new))) }
@@ -73,13 +75,14 @@ fn take<L: Ledger>(
     ensures tells { IfSome consumer.old (λ from. TellsTaken size tag parts.now from consumer.new result) }
     ensures state { IsSome consumer.new }
     ensures refused { OnErr result (consumer.new ≡ consumer.old) }
-    ensures counted { OnOk result (IsSomeAnd consumer.new (λ to. CountsStep to steps.old steps.new)) }
+    ensures counted { OnOk result (IfSome consumer.old (λ from. IsSomeAnd consumer.new (λ to. CountsStep from to steps.old steps.new))) }
     ensures uncounted { IfErr result (λ fault. fault ≢ BlobFault.Memory → steps.new ≡ steps.old) }
     ensures part { OnErr result (IfSome consumer.old (λ from. (steps.new ≡ steps.old) ⊎ CountsTaken tag parts.now from steps.old steps.new)) }
 {
     let alloc = consumer.alloc;
     let mut states = mem::replace(&mut consumer.states, TypeStates::new(alloc)).into_vec();
     let mut indexes = mem::replace(&mut consumer.indexes, KeyIndexes::new(alloc)).into_vec();
+    let mut walks = mem::replace(&mut consumer.walks, WalkIndexes::new(alloc)).into_vec();
     let taken = take_parts(
         alloc,
         &consumer.model,
@@ -87,10 +90,12 @@ fn take<L: Ledger>(
         parts,
         size,
         indexes.as_mut_slice(),
+        &mut walks,
         steps,
     );
     consumer.states = TypeStates::from_vec(states);
     consumer.indexes = KeyIndexes::from_vec(indexes);
+    consumer.walks = WalkIndexes::from_vec(walks);
     let past = taken?;
     consumer.past = past;
     consumer.tag = Some(tag);
@@ -98,7 +103,7 @@ fn take<L: Ledger>(
 }
 
 // Moves the types into their next halves, tries whether the rows that come are closed, makes the indexes ready for them, and makes their halves
-// the current ones: nothing is turned before all is tried.
+// the current ones: nothing is turned before all is tried. Those walk indexes are dropped that would have too many entries.
 fn take_parts<L: Ledger>(
     alloc: Global,
     model: &Model,
@@ -106,6 +111,7 @@ fn take_parts<L: Ledger>(
     parts: &[PatchPart],
     size: u64,
     indexes: &mut [KeyIndex],
+    walks: &mut Vec<WalkIndex>,
     steps: &mut Steps<L>,
 ) -> Result<PastParts, BlobFault>
     requires named { map (λ state. state.schema) states.old ≡ model.now }
@@ -113,22 +119,29 @@ fn take_parts<L: Ledger>(
     requires closed { IsClosed model.now (table_of (current_halves states.old)) }
     requires whole { All (IsWholePart model.now) parts.now }
     requires kept { All (IsKept model.now (table_of (current_halves states.old))) indexes.old }
+    requires walks { All (IsWalkKept model.now (table_of (current_halves states.old))) walks.old.items }
     ensures takes { IfOk result (TakesParts model.now parts.now states.old states.new) }
     ensures follow { OnOk result (All (IsKept model.now (table_of (current_halves states.new))) indexes.new) }
     ensures same { map index_kept indexes.new ≡ map index_kept indexes.old }
-    ensures counted { IfOk result (λ past. steps.new ≡ steps.old + sum_by (λ kept. count_came past kept.type_index) indexes.old) }
+    ensures walks { OnOk result (TakesWalks model.now (table_of (current_halves states.new)) walks.old.items walks.new.items) }
+    ensures least { IfOk result (λ past. steps.old + came_all past indexes.old walks.new.items ≤ steps.new) }
+    ensures most { IfOk result (λ past. steps.new ≤ steps.old + came_all past indexes.old walks.old.items) }
     ensures stays { OnErr result (StaysCurrent states.old states.new) }
     ensures unmoved { OnErr result (indexes.new ≡ indexes.old) }
+    ensures unwalked { OnErr result (walks.new.items ≡ walks.old.items) }
     ensures blamed { IfErr result (Blames (state_moved model.now parts.now size (table_of (current_halves states.old))) IsFreeMove) }
     ensures uncounted { IfErr result (λ fault. fault ≢ BlobFault.Memory → steps.new ≡ steps.old) }
-    ensures part { OnErr result ((steps.new ≡ steps.old) ⊎ ReadsSome model.now parts.now states.old indexes.old steps.old steps.new) }
+    ensures part { OnErr result ((steps.new ≡ steps.old) ⊎ ReadsSome model.now parts.now states.old indexes.old walks.old.items steps.old steps.new) }
 {
     key_index::laws::kept_key();
+    hol_paths::laws::step_followed();
     let moved = move_state(alloc, model, states, parts, size)?;
     let named = moved.named.as_slice();
     let past = moved.past.as_slice();
-    reserve_all(indexes, model, states, named, past, steps)?;
+    let kept = walks.as_mut_slice();
+    ready_both(indexes, kept, model, states, named, past, steps)?;
     flip_named(states, named);
-    update_all(indexes);
+    turn_all(indexes);
+    turn_ready(walks);
     Ok(moved.past)
 }

@@ -1,3 +1,4 @@
+pub mod DecidedWalks
 mod MovedHalves
 mod MovedOnce
 mod Passing

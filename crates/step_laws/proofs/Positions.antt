@@ -1,5 +1,5 @@
 -- Where a blob that is loaded leads, and one that is stepped along from a position, is a position.
-use Rattle.std.proofs.Common.{◌≡◌, ◌<◌, ◌≤◌, ◌⊎◌, ℕ, zero, suc, List, [], ◌∷◌, length, Some, inl, inr, sym, ap, subst, ◌∙◌, lit≤}
+use Rattle.std.proofs.Common.{◌≡◌, ◌<◌, ◌≤◌, ◌⊎◌, ℕ, zero, suc, List, [], ◌∷◌, length, Some, inl, inr, sym, ap, subst, ◌∙◌, arith, lit≤}
 use Rattle.std.specs.Prelude.{All, slice_get}
 use Rattle.std.specs.FinMap.{get}
 use Rattle.std.specs.List.{AllZip}
@@ -10,7 +10,8 @@ use Rattle.std.proofs.lemmas.List.Elements.{All-cons, All-head, All-nil, All-tai
 use Rattle.schema_model.specs.declared.schema.Schema.{Schema}
 use Rattle.schema_model.specs.declared.schema.Shape.{Shape}
 use Rattle.schema_model.specs.Limit.{number_of_limit}
-use Rattle.schema_model.specs.declared.limit.Limit.TheVariants.{Indexes}
+use Rattle.schema_model.specs.declared.limit.Limit.TheVariants.{Indexes, Walks}
+use Rattle.schema_model.specs.declared.model.walk_path.WalkPath.{WalkPath}
 use Rattle.schema_model.specs.Model.{IsModel}
 use Rattle.row_model.specs.declared.row.Row.{Row}
 use Rattle.row_model.specs.Row.{FitsShape, IsRowInRange}
@@ -35,8 +36,10 @@ use Rattle.delta_blob.specs.Moved.{EachNamed, IsUnnamed, MovesType}
 use Rattle.delta_blob.specs.Patch.{PartIs, TypePatch, parts_for}
 use Rattle.delta_blob.proofs.OnePatch.{delta_given}
 use Rattle.delta_blob.proofs.SeenParts.{IsPlainPart, there_plain}
-use Rattle.read_engine.specs.Position.{Index, IsIndexOf, IsPosition, Position, rows_now}
+use Rattle.read_engine.specs.Position.{Index, IsIndexOf, IsPosition, IsWalkOf, Position, rows_now}
 use Rattle.read_engine.specs.Taking.{LoadsFrom, StepsBy}
+use Rattle.read_engine.specs.Walks.{HasFewEntries}
+use Rattle.read_engine.proofs.Those.{those_all, those_few}
 use Rattle.step_laws.specs.Typed.{HasTypes}
 use Rattle.step_laws.proofs.MovedOnce.{moved_once}
 use Rattle.step_laws.proofs.RowRanges.{row_ranges, rows_range}
@@ -61,10 +64,10 @@ loaded_each P each (part ∷ parts) (half ∷ halves) given are (suc type_index)
     loaded_each P each parts halves (All-tail snapshot_values.IsPart part parts given) are.1 type_index ordinal schema row is at
 
 loaded_table : (blob : List ℕ) (position : Position) → LoadsFrom blob position → IsTableOf position.schemas (rows_now position)
-loaded_table blob position (head, (parts, is, kept), tag, before, bare) =
+loaded_table blob position (head, (parts, is, kept), tag, before, bare, unwalked) =
     let given = (snapshot_values.snapshot_given blob 0 (head, parts) (length blob) is.items).1.1 in
     record {
-      types = types_now position (load_typed blob position (head, (parts, is, kept), tag, before, bare));
+      types = types_now position (load_typed blob position (head, (parts, is, kept), tag, before, bare, unwalked));
       rows = subst (λ (schemas : List Schema). EachRow schemas (rows_now position) (λ schema row. FitsShape schema.shape row)) is.state.named
           (loaded_each (λ schema row. FitsShape schema.shape row) (λ part half ordinal row has type_is at. rows_fit part.schema.shape part.section half.rows ordinal row type_is.rows at) parts position.halves given is.state.types);
       ranges = subst (λ (schemas : List Schema). EachRow schemas (rows_now position) (λ schema row. IsRowInRange row)) is.state.named
@@ -83,6 +86,8 @@ load_position blob position loads =
       closed_before = subst (IsClosed position.schemas) (sym loads.3) state.closed;
       indexes = subst (All (IsIndexOf position.schemas)) (sym loads.4) (All-nil (IsIndexOf position.schemas));
       few = subst (λ (indexes : List Index). length indexes ≤ number_of_limit Indexes) (sym loads.4) (lit≤ tt);
+      walks = subst (All (IsWalkOf position.schemas)) (sym loads.5) (All-nil (IsWalkOf position.schemas));
+      few_walks = subst (λ (walks : List WalkPath). length walks ≤ number_of_limit Walks) (sym loads.5) (lit≤ tt);
     }
 
 -- ---- steps
@@ -185,4 +190,7 @@ module _ (blob : List ℕ) (from to : Position) (position : IsPosition from) (st
     closed_before = subst (λ (schemas : List Schema). IsClosed schemas to.before) (sym steps.model) (subst (IsClosed from.schemas) (sym steps.before) position.closed);
     indexes = subst (λ (schemas : List Schema). All (IsIndexOf schemas) to.indexes) (sym steps.model) (subst (All (IsIndexOf from.schemas)) (sym steps.indexes) position.indexes);
     few = subst (λ (indexes : List Index). length indexes ≤ number_of_limit Indexes) (sym steps.indexes) position.few;
+    walks = subst (λ (schemas : List Schema). All (IsWalkOf schemas) to.walks) (sym steps.model)
+        (those_all (HasFewEntries from.schemas (rows_now to)) (IsWalkOf from.schemas) from.walks to.walks steps.walks position.walks);
+    few_walks = (let fewer = those_few (HasFewEntries from.schemas (rows_now to)) from.walks to.walks steps.walks in let few = position.few_walks in omega (arith, few, fewer));
   }

@@ -77,5 +77,5 @@ pub load_or_fault : (name : BlobName) (content : Option (List ℕ)) → IfSome c
     → ((blob : List ℕ) (position : Position) → content ≡ Some blob → LoadsFrom blob position → ⊥) → ((found : BlobFault) → RefusesLoad name content found → ⊥) → ⊥
 load_or_fault name None bytes no_load no_fault = no_fault (fault.NoBlob name) refl
 load_or_fault name (Some blob) bytes no_load no_fault = some_fault blob bytes (λ head schemas halves accepted.
-    let there : Position = record { tag = head.destination; schemas = schemas; halves = halves; before = table_of halves; indexes = [] } in
-    no_load blob there refl (head, accepted, refl, refl, refl)) no_fault
+    let there : Position = record { tag = head.destination; schemas = schemas; halves = halves; before = table_of halves; indexes = []; walks = [] } in
+    no_load blob there refl (head, accepted, refl, refl, refl, refl)) no_fault

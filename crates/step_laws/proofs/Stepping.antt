@@ -2,8 +2,10 @@
 use Rattle.std.proofs.Common.{◌≡◌, ◌↔◌, ℕ, ℤ, List, length, refl, sym, ◌∙◌, subst}
 use Rattle.std.specs.Prelude.{All}
 use Rattle.schema_model.specs.declared.model.rule.Rule.TheVariants.{DuplicateName}
+use Rattle.schema_model.specs.declared.model.walk_path.WalkPath.{WalkPath}
 use Rattle.row_model.specs.Table.{IsClosed, Table}
 use Rattle.type_state.specs.State.{Half}
+use Rattle.type_state.specs.Views.{table_of}
 use Rattle.blob_frame.specs.declared.header.Header.{Header}
 use Rattle.blob_faults.specs.Judge.{◌>>=◌, nothing}
 use Rattle.delta_blob.specs.declared.patch.PatchPart.{PatchPart}
@@ -13,9 +15,11 @@ use Rattle.delta_blob.proofs.WholeDeltas.{joined}
 use Rattle.read_engine.specs.Judged.{step_of}
 use Rattle.read_engine.specs.Position.{Position, rows_now}
 use Rattle.read_engine.specs.Taking.{StepsBy}
+use Rattle.read_engine.specs.Walks.{KeepsWalks}
 use Rattle.read_engine.proofs.TakenOrFault.{step_passes}
 use Rattle.step_laws.specs.Leads.{LeadsTo}
 use Rattle.step_laws.specs.Typed.{HasTypes}
+use Rattle.step_laws.proofs.DecidedWalks.{walks_kept}
 use Rattle.step_laws.proofs.MovedHalves.{halves_table, moved_halves, moved_long}
 use Rattle.step_laws.proofs.MovedOnce.{moved_once}
 use Rattle.step_laws.proofs.Passing.{IsDelta, LeadsOn, passed_delta, passed_state}
@@ -28,9 +32,13 @@ module _ (blob : List ℕ) (from : Position) (typed : HasTypes from) (head : Hea
   abbrev pub coming : List Half
   coming = moved_halves from.halves named leads.rows
 
+  -- the walk indexes that it keeps
+  abbrev kept : (walks : List WalkPath) × KeepsWalks from.schemas (table_of coming) from.walks walks
+  kept = walks_kept from.schemas (table_of coming) from.walks
+
   -- the position behind the step
   abbrev pub to : Position
-  to = record { tag = head.destination; schemas = from.schemas; halves = coming; before = rows_now from; indexes = from.indexes }
+  to = record { tag = head.destination; schemas = from.schemas; halves = coming; before = rows_now from; indexes = from.indexes; walks = kept.0 }
 
   same : rows_now to ≡ rows
   same = halves_table from.halves named leads.rows ∙ sym leads.is
@@ -64,6 +72,7 @@ module _ (blob : List ℕ) (from : Position) (typed : HasTypes from) (head : Hea
     others = λ t inside none. parts.other_layouts from.schemas from.halves typed.types delta.read.0 named delta.read.2 given leads.rows leads.each t none;
     before = refl;
     indexes = refl;
+    walks = kept.1;
   }
 
   pub leads_there : LeadsTo blob from head.destination rows

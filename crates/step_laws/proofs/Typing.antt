@@ -15,7 +15,7 @@ pub position_typed : (position : Position) → IsPosition position → HasTypes 
 position_typed position is = record { model = is.model; types = sym (length-map position.halves (λ (h : Half). h.rows)) ∙ is.rows.types }
 
 pub load_typed : (blob : List ℕ) (position : Position) → LoadsFrom blob position → HasTypes position
-load_typed blob position (head, (parts, is, kept), tag, before, bare) = record {
+load_typed blob position (head, (parts, is, kept), tag, before, bare, unwalked) = record {
   model = is.state.model;
   types = AllZip-long TypeIs parts position.halves is.state.types ∙ sym (length-map parts (λ (part : TypePart). part.schema)) ∙ ap (λ (ss : List Schema). length ss) is.state.named;
 }

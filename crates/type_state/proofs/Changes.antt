@@ -24,7 +24,7 @@ use Rattle.type_rows.proofs.Rising.{RiseFrom, from_sorted, none_is_not}
 use Rattle.type_state.specs.declared.differences.Differences.{Differences}
 use Rattle.type_state.specs.Differences.{AreApart, differing, rows_with}
 use Rattle.type_state.specs.Moving.{IsHeld}
-use Rattle.type_state.specs.Counted.{AgreeAt, ComeFitting, FitsSomewhere, HoldsLast, IsComing, IsCounted, IsNoNarrower}
+use Rattle.type_state.specs.Counted.{AgreeAt, ComeFitting, FitsSomewhere, HoldsLast, IsComing, IsCounted, StayFitting}
 use Rattle.type_state.proofs.DifferingRows.{either, get_differing, with_added, with_neither, with_removed}
 use Rattle.type_state.proofs.Lookups.{found_at}
 use Rattle.type_state.proofs.RowSums.{no_more}
@@ -110,18 +110,16 @@ totals_again shape own layout rows o last sums after at are h = record {
 
 -- ---- each row fits
 
-module _ (shape : Shape) (own : ℕ) (before : List ℕ) (layout : Layout) (old : RowMap) (ds : Differences) (apart : AreApart ds) (held : HoldsRows shape before [] (values old)) (wider : IsNoNarrower before layout.widths) (come : ComeFitting shape layout.widths ds) where
-  fits_there : (widths : List ℕ) (ends : ℕ → ℕ) (items : ℕ) (row last : Row) → IsNoNarrower widths layout.widths → IsOfKind shape last → FitsRow shape layout.widths ends items last → FitsSomewhere shape widths row → FitsRow shape layout.widths ends items row
-  fits_there widths ends items row last le kind fits was = fits_beside shape widths layout.widths was.ends ends was.items items row last kind le was.fits fits
+module _ (shape : Shape) (own : ℕ) (layout : Layout) (old : RowMap) (ds : Differences) (apart : AreApart ds) (stay : StayFitting shape layout.widths ds.removed.items old) (come : ComeFitting shape layout.widths ds) where
+  fits_there : (ends : ℕ → ℕ) (items : ℕ) (row last : Row) → IsOfKind shape last → FitsRow shape layout.widths ends items last → FitsSomewhere shape layout.widths row → FitsRow shape layout.widths ends items row
+  fits_there ends items row last kind fits was = fits_beside shape layout.widths was.ends ends was.items items row last kind was.fits fits
 
   each_fits : (ends : ℕ → ℕ) (items : ℕ) (last : Row) → IsOfKind shape last → FitsRow shape layout.widths ends items last → (o : ℕ) (row : Row) → get (rows_with old ds) o ≡ Some row → FitsRow shape layout.widths ends items row
   each_fits ends items last kind fits o row at = elim (find nat_cmp o ds.added.items) as (λ (f : Option (Option Row)). find nat_cmp o ds.added.items ≡ f → FitsRow shape layout.widths ends items row) [
-    | Some slot ↦ λ is. fits_there layout.widths ends items row last (λ part. omega arith) kind fits (come.added o row (is ∙ ap Some (sym (with_added old ds o slot apart is) ∙ at)))
+    | Some slot ↦ λ is. fits_there ends items row last kind fits (come.added o row (is ∙ ap Some (sym (with_added old ds o slot apart is) ∙ at)))
     | None ↦ λ none. elim (find nat_cmp o ds.removed.items) as (λ (f : Option (Option Row)). find nat_cmp o ds.removed.items ≡ f → FitsRow shape layout.widths ends items row) [
-      | Some slot ↦ λ is. fits_there layout.widths ends items row last (λ part. omega arith) kind fits (come.removed o row (is ∙ ap Some (sym (with_removed old ds o slot apart none is) ∙ at)))
-      | None ↦ λ gone.
-          fits_there before ends items row last wider kind fits
-          (held_found shape before [] (entries old) o row (sym (get-entries old o) ∙ sym (with_neither old ds o apart none gone) ∙ at) held)
+      | Some slot ↦ λ is. fits_there ends items row last kind fits (come.removed o row (is ∙ ap Some (sym (with_removed old ds o slot apart none is) ∙ at)))
+      | None ↦ λ gone. fits_there ends items row last kind fits (stay o row (sym (with_neither old ds o apart none gone) ∙ at) gone)
     ] refl
   ] refl
 

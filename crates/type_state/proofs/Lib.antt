@@ -33,5 +33,6 @@ pub mod ReadPlaces
 pub mod RecordedRows
 pub mod RowSums
 pub mod SectionHalves
+pub mod StayingRows
 pub mod StoredPlaces
 pub mod Widening

@@ -1,4 +1,4 @@
--- Which rows fit where another fits, at widths that are no narrower than those that they fit.
+-- Which rows fit where another fits, and at widths that are no narrower than those that they fit.
 use Rattle.std.proofs.Common.{◌≡◌, ℕ, zero, suc, ◌^◌, ◌<◌, ◌≤◌, inl, inr, List, [], ◌∷◌, ◌++◌, length, get_or, Some, refl, sym, subst, ◌∙◌, append_assoc, arith}
 use Rattle.std.specs.Prelude.{slice_index, sum_by}
 use Rattle.std.specs.Ordering.{nat_cmp}
@@ -12,6 +12,7 @@ use Rattle.schema_model.specs.declared.schema.FieldKind.{FieldKind}
 use Rattle.schema_model.specs.declared.schema.Shape.{Shape}
 use Rattle.row_model.specs.declared.row.Value.{Value}
 use Rattle.row_model.specs.declared.row.Row.{Row}
+use Rattle.object_codec.specs.ObjectPlace.{IsObject}
 use Rattle.type_rows.specs.Ends.{IsOfKind}
 use Rattle.type_rows.specs.Holds.{FitsRow, FitsWidth, HoldsRows, IsBelowOnes}
 use Rattle.type_rows.specs.Layout.{item_count, items_of_row}
@@ -22,63 +23,70 @@ use Rattle.type_state.proofs.Lookups.{found, skipped}
 abbrev Entry : Type 0
 Entry = ℕ × Row
 
-below_more_ones : (old new number : ℕ) → old ≤ new → IsBelowOnes old number → IsBelowOnes new number
+pub below_more_ones : (old new number : ℕ) → old ≤ new → IsBelowOnes old number → IsBelowOnes new number
 below_more_ones old new number le h = let top : 2 ^ old ≤ 2 ^ new = pow_mono {i = old} {j = new} le in omega arith
 
 below_more : (old new number : ℕ) → old ≤ new → number < 2 ^ old → number < 2 ^ new
 below_more old new number le h = let top : 2 ^ old ≤ 2 ^ new = pow_mono {i = old} {j = new} le in omega arith
 
-two_bits : (width end : ℕ) (value : Value) → FitsWidth FieldKind.Boolean width end value → width ≡ 2
-two_bits width end Value.Null h = h
-two_bits width end (Value.Bool flag) h = h
-two_bits width end _ h = absurd h
-
--- A value fits a width that is no narrower, at an offset at which another value of the field fits.
-widened : (kind : FieldKind) (old new end top : ℕ) (value other : Value) → old ≤ new → FitsWidth kind old end value → FitsWidth kind new top other → FitsWidth kind new top value
-widened FieldKind.Text old new end top value other le was last = last
-widened FieldKind.Bytes old new end top value other le was last = last
-widened (FieldKind.Reference name) old new end top Value.Null other le was last = tt
-widened (FieldKind.Reference name) old new end top (Value.Ref o) other le was last = below_more_ones old new o le was
-widened (FieldKind.Reference name) old new end top _ other le was last = absurd was
-widened FieldKind.Int old new end top Value.Null other le was last = tt
-widened FieldKind.Int old new end top (Value.Int n) other le was last = below_more_ones old new _ le was
-widened FieldKind.Int old new end top _ other le was last = absurd was
-widened FieldKind.Long old new end top Value.Null other le was last = tt
-widened FieldKind.Long old new end top (Value.Long n) other le was last = below_more_ones old new _ le was
-widened FieldKind.Long old new end top _ other le was last = absurd was
-widened FieldKind.Boolean old new end top Value.Null other le was last = two_bits new top other last
-widened FieldKind.Boolean old new end top (Value.Bool flag) other le was last = two_bits new top other last
-widened FieldKind.Boolean old new end top _ other le was last = absurd was
+-- A value fits at an offset at which another value of the field fits.
+beside : (kind : FieldKind) (width end top : ℕ) (value other : Value) → FitsWidth kind width end value → FitsWidth kind width top other → FitsWidth kind width top value
+beside FieldKind.Text width end top value other was last = last
+beside FieldKind.Bytes width end top value other was last = last
+beside (FieldKind.Reference name) width end top Value.Null other was last = tt
+beside (FieldKind.Reference name) width end top (Value.Ref o) other was last = was
+beside (FieldKind.Reference name) width end top _ other was last = absurd was
+beside FieldKind.Int width end top Value.Null other was last = tt
+beside FieldKind.Int width end top (Value.Int n) other was last = was
+beside FieldKind.Int width end top _ other was last = absurd was
+beside FieldKind.Long width end top Value.Null other was last = tt
+beside FieldKind.Long width end top (Value.Long n) other was last = was
+beside FieldKind.Long width end top _ other was last = absurd was
+beside FieldKind.Boolean width end top Value.Null other was last = was
+beside FieldKind.Boolean width end top (Value.Bool flag) other was last = was
+beside FieldKind.Boolean width end top _ other was last = absurd was
 
 -- The same of rows.
-pub fits_beside : (shape : Shape) (old new : List ℕ) (ends tops : ℕ → ℕ) (items top : ℕ) (row last : Row) → IsOfKind shape last → IsNoNarrower old new → FitsRow shape old ends items row → FitsRow shape new tops top last → FitsRow shape new tops top row
-fits_beside (Shape.Object key fields) old new ends tops items top (Row.Object values) (Row.Object others) kind le was last =
+pub fits_beside : (shape : Shape) (widths : List ℕ) (ends tops : ℕ → ℕ) (items top : ℕ) (row last : Row) → IsOfKind shape last → FitsRow shape widths ends items row → FitsRow shape widths tops top last → FitsRow shape widths tops top row
+fits_beside (Shape.Object key fields) widths ends tops items top (Row.Object values) (Row.Object others) kind was last =
     λ f field value gf gv.
     let inside = slice_get_within fields f field gf in
     let there = slice_get-get_or others f Value.Null (omega (arith, kind, inside)) in
-    widened field.kind (slice_index old f) (slice_index new f) (ends f) (tops f) value (get_or others f Value.Null) (le f) (was f field value gf gv) (last f field (get_or others f Value.Null) gf there)
-fits_beside (Shape.Object key fields) old new ends tops items top (Row.Object values) _ kind le was last = absurd kind
-fits_beside (Shape.Object key fields) old new ends tops items top _ other kind le was last = absurd was
-fits_beside (Shape.List element) old new ends tops items top (Row.List ordinals) (Row.List others) kind le was last =
-    record { pointer = last.pointer; elements = λ k d inside. below_more (slice_index old 1) (slice_index new 1) (get_or ordinals k d) (le 1) (was.elements k d inside) }
-fits_beside (Shape.List element) old new ends tops items top (Row.List ordinals) _ kind le was last = absurd kind
-fits_beside (Shape.List element) old new ends tops items top _ other kind le was last = absurd was
-fits_beside (Shape.Set element) old new ends tops items top (Row.Set ordinals) (Row.Set others) kind le was last = record {
-  pointer = last.pointer;
+    beside field.kind (slice_index widths f) (ends f) (tops f) value (get_or others f Value.Null) (was f field value gf gv) (last f field (get_or others f Value.Null) gf there)
+fits_beside (Shape.Object key fields) widths ends tops items top (Row.Object values) _ kind was last = absurd kind
+fits_beside (Shape.Object key fields) widths ends tops items top _ other kind was last = absurd was
+fits_beside (Shape.List element) widths ends tops items top (Row.List ordinals) (Row.List others) kind was last = record { pointer = last.pointer; elements = was.elements }
+fits_beside (Shape.List element) widths ends tops items top (Row.List ordinals) _ kind was last = absurd kind
+fits_beside (Shape.List element) widths ends tops items top _ other kind was last = absurd was
+fits_beside (Shape.Set element) widths ends tops items top (Row.Set ordinals) (Row.Set others) kind was last = record { pointer = last.pointer; size = was.size; elements = was.elements }
+fits_beside (Shape.Set element) widths ends tops items top (Row.Set ordinals) _ kind was last = absurd kind
+fits_beside (Shape.Set element) widths ends tops items top _ other kind was last = absurd was
+fits_beside (Shape.Map key value) widths ends tops items top (Row.Map pairs) (Row.Map others) kind was last = record { pointer = last.pointer; size = was.size; parts = was.parts }
+fits_beside (Shape.Map key value) widths ends tops items top (Row.Map pairs) _ kind was last = absurd kind
+fits_beside (Shape.Map key value) widths ends tops items top _ other kind was last = absurd was
+
+-- ---- rows of the kinds other than OBJECT, at widths that are no narrower
+
+-- Such a row fits where it fitted.
+pub fits_wider : (shape : Shape) (old new : List ℕ) (ends : ℕ → ℕ) (items : ℕ) (row : Row) → (IsObject shape → ⊥) → IsNoNarrower old new → FitsRow shape old ends items row → FitsRow shape new ends items row
+fits_wider (Shape.Object key fields) old new ends items row other le was = absurd (other tt)
+fits_wider (Shape.List element) old new ends items (Row.List ordinals) other le was =
+    record { pointer = below_more (slice_index old 0) (slice_index new 0) items (le 0) was.pointer; elements = λ k d inside. below_more (slice_index old 1) (slice_index new 1) (get_or ordinals k d) (le 1) (was.elements k d inside) }
+fits_wider (Shape.List element) old new ends items _ other le was = absurd was
+fits_wider (Shape.Set element) old new ends items (Row.Set ordinals) other le was = record {
+  pointer = below_more (slice_index old 0) (slice_index new 0) items (le 0) was.pointer;
   size = below_more (slice_index old 1) (slice_index new 1) (length ordinals) (le 1) was.size;
   elements = λ k d inside. below_more_ones (slice_index old 2) (slice_index new 2) (get_or ordinals k d) (le 2) (was.elements k d inside);
 }
-fits_beside (Shape.Set element) old new ends tops items top (Row.Set ordinals) _ kind le was last = absurd kind
-fits_beside (Shape.Set element) old new ends tops items top _ other kind le was last = absurd was
-fits_beside (Shape.Map key value) old new ends tops items top (Row.Map pairs) (Row.Map others) kind le was last = record {
-  pointer = last.pointer;
+fits_wider (Shape.Set element) old new ends items _ other le was = absurd was
+fits_wider (Shape.Map key value) old new ends items (Row.Map pairs) other le was = record {
+  pointer = below_more (slice_index old 0) (slice_index new 0) items (le 0) was.pointer;
   size = below_more (slice_index old 1) (slice_index new 1) (length pairs) (le 1) was.size;
   parts = λ k d inside.
       (let parts = was.parts k d inside in
       (below_more_ones (slice_index old 2) (slice_index new 2) (get_or pairs k d).0 (le 2) parts.0, below_more (slice_index old 3) (slice_index new 3) (get_or pairs k d).1 (le 3) parts.1));
 }
-fits_beside (Shape.Map key value) old new ends tops items top (Row.Map pairs) _ kind le was last = absurd kind
-fits_beside (Shape.Map key value) old new ends tops items top _ other kind le was last = absurd was
+fits_wider (Shape.Map key value) old new ends items _ other le was = absurd was
 
 -- ---- rows that end before
 

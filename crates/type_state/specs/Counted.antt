@@ -1,5 +1,5 @@
 -- How what rows add up to changes where rows come in place of others, and which of them are told to fit.
-use Rattle.std.specs.Prelude.{◌≡◌, ℕ, ◌+◌, ◌-◌, ◌*◌, ◌≤◌, List, Some, IsSome, All, length, slice_index}
+use Rattle.std.specs.Prelude.{◌≡◌, ℕ, ◌+◌, ◌-◌, ◌*◌, ◌≤◌, List, None, Some, IsSome, All, length, slice_index}
 use Rattle.std.specs.FinMap.{find, get, values}
 use Rattle.std.specs.Ordering.{nat_cmp}
 use Rattle.bit_array.specs.Element.{words_of}
@@ -47,6 +47,10 @@ IsNoNarrower before widths = (part : ℕ) → slice_index before part ≤ slice_
 -- Each row that stands in the differences fits the widths somewhere.
 abbrev pub AreFitting : Shape → List ℕ → List Difference → Type 0
 AreFitting shape widths differences = (ordinal : ℕ) (row : Row) → find nat_cmp ordinal differences ≡ Some (Some row) → FitsSomewhere shape widths row
+
+-- Each row under whose ordinal no difference is fits the widths somewhere.
+abbrev pub StayFitting : Shape → List ℕ → List Difference → RowMap → Type 0
+StayFitting shape widths differences rows = (ordinal : ℕ) (row : Row) → get rows ordinal ≡ Some row → find nat_cmp ordinal differences ≡ None → FitsSomewhere shape widths row
 
 -- The rows that a move brings fit the widths somewhere.
 pub record ComeFitting (shape : Shape) (widths : List ℕ) (differences : Differences) : Type 0 where

@@ -12,5 +12,6 @@ pub mod PackedRows
 pub mod Recorded
 pub mod SectionRows
 pub mod State
+pub mod Staying
 pub mod Views
 pub mod WordsHeld

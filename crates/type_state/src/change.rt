@@ -9,30 +9,16 @@ ghost use Rattle.type_rows.specs.Outline.{layout_at};
 ghost use Rattle.type_rows.specs.Totals.{AreTotals};
 ghost use Rattle.type_state.specs.Differences.{AreApart, rows_with};
 ghost use Rattle.type_state.specs.Moving.{IsHeld};
-ghost use Rattle.type_state.specs.Counted.{ComeFitting, HoldsLast, IsNoNarrower};
+ghost use Rattle.type_state.specs.Counted.{ComeFitting, HoldsLast};
 
 use crate::counting::exchange_rows;
 use crate::packed_rows::PackedRows;
 use crate::planning::Plan;
+use crate::staying::stay_fitting;
 use row_model::Row;
 use schema_model::{MAX_WORDS, Schema, Shape};
 use std::alloc::{AllocError, Global};
 use type_rows::{MOST_ITEMS, Outline, Totals, counted_words};
-
-/// Whether there are as many widths as before, and none is narrower.
-fn are_no_narrower(before: &[u32], widths: &[u32]) -> bool
-    ensures { IsTrue result → IsNoNarrower before.now widths.now }
-{
-    if before.len() != widths.len() {
-        return false;
-    }
-    for (part, width) in before.iter().enumerate() {
-        if *width > widths[part] {
-            return false;
-        }
-    }
-    true
-}
 
 /// Counts the rows that come and go, and tells whether each part of those that come fits its width and the bytes keep the limit.
 fn count_change(
@@ -92,10 +78,11 @@ fn holds_last(totals: &mut Totals, shape: &Shape, own: u32, outline: &Outline, l
     items <= MOST_ITEMS && words <= u128::from(MAX_WORDS)
 }
 
-/// What the rows that others are moved to add up to, where no width is narrower than before and it is told by the rows that come and the last one
-/// that the layout holds them within the limits. None tells nothing.
+/// What the rows that others are moved to add up to, where it is told by the narrower fields of the rows that stay, by the rows that come and by
+/// the last one that the layout holds them within the limits. None tells nothing.
 ///
-/// The last row shows that the end offsets and the pointers fit, which are greatest there; of a row that stays, all else fits as it did.
+/// The last row shows that the end offsets and the pointers fit, which are greatest there; of a row that stays, all else fits as it did, or is tried
+/// where it stands.
 pub(crate) fn totals_by_change(
     alloc: Global,
     schema: &Schema,
@@ -112,7 +99,12 @@ pub(crate) fn totals_by_change(
     ensures totals { IfOk result (λ told. IfSome told (AreTotals (values (rows_with rows.now.rows next.now.differences)))) }
     ensures long { IfOk result (λ told. IfSome told (λ sums. length sums.ends.offsets.items ≡ length (shape_fields schema.now.shape))) }
 {
-    if next.outline.bound == 0 || !are_no_narrower(rows.widths(), next.outline.widths.as_slice()) {
+    if next.outline.bound == 0 {
+        return Ok(None);
+    }
+    let widths = next.outline.widths.as_slice();
+    let removed = next.differences.removed.as_slice();
+    if !stay_fitting(rows, &schema.shape, widths, removed) {
         return Ok(None);
     }
     let mut sums = rows.totals(alloc)?;

@@ -25,6 +25,7 @@ mod planning;
 mod section_rows;
 mod state;
 mod states;
+mod staying;
 mod turning;
 mod views;
 

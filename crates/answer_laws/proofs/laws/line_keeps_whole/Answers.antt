@@ -1,4 +1,5 @@
-use Rattle.answer_laws.proofs.Wholes.{line_whole, machine_shown}
+use Rattle.answer_laws.proofs.ShownRows.{machine_shown}
+use Rattle.answer_laws.proofs.Wholes.{line_whole}
 use Rattle.answer_laws.proofs.laws.line_keeps_whole.Goals as goal
 
 pub returns : goal.returns

@@ -4,6 +4,7 @@ use Rattle.hollow_machine.specs.KeyPaths.{texts_of_array}
 use Rattle.chain_laws.proofs.OneKey.{one_find, one_get}
 use Rattle.chain_laws.proofs.OneLook.{one_live, one_row}
 use Rattle.chain_laws.proofs.OneMember.{one_at, one_has}
+use Rattle.chain_laws.proofs.OneReach.{one_walkfind}
 use Rattle.chain_laws.proofs.PastLaws.{one_past}
 use Rattle.chain_laws.proofs.TypedConsumers.{typed_if}
 use Rattle.chain_laws.proofs.laws.one_look.Goals as goal
@@ -19,5 +20,6 @@ returns c = record {
     one_find machine.consumer name (texts_of_array (view paths)) (view values) answer other (typed_if machine.consumer is) one.0 also.0,
     one.1 ∙ sym also.1,
   );
+  walkfind = λ machine next after name path value answer other is one also. (one_walkfind machine.consumer name path (view value) answer other (typed_if machine.consumer is) one.0 also.0, one.1 ∙ sym also.1);
   past = λ machine next after name answer other one also. (one_past machine.consumer name answer other one.0 also.0, one.1 ∙ sym also.1);
 }

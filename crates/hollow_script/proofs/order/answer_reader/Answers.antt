@@ -32,6 +32,12 @@ returns-in-Index-clause-step g c =
     reads_as held (reader_of c.args.consumer.now c.args.version.now c.args.history.now) (reader_of c.index.new.consumer c.args.version.now c.args.history.now)
     c.args.order.now (order.Index c.in-Index.type_name c.in-Index.paths) c.index.result c.in-Index.is (c.index.ensures.step held c.args.version.now c.args.history.now)
 
+pub returns-in-WalkIndex-clause-step : goal.returns-in-WalkIndex-clause-step
+returns-in-WalkIndex-clause-step g c =
+    let held = (g.S.BlobStore.seen c.args.store.now).held in
+    reads_as held (reader_of c.args.consumer.now c.args.version.now c.args.history.now) (reader_of c.walk_index.new.consumer c.args.version.now c.args.history.now)
+    c.args.order.now (order.WalkIndex c.in-WalkIndex.type_name c.in-WalkIndex.path) c.walk_index.result c.in-WalkIndex.is (c.walk_index.ensures.step held c.args.version.now c.args.history.now)
+
 pub returns-in-History-clause-step : goal.returns-in-History-clause-step
 returns-in-History-clause-step g c =
     let held = (g.S.BlobStore.seen c.args.store.now).held in
@@ -40,7 +46,7 @@ returns-in-History-clause-step g c =
 
 pub look_back-requires-clause-order : goal.look_back-requires-clause-order
 look_back-requires-clause-order g c =
-    looks_back c.args.order.now c.requires.reader c.in_default.not-Load c.in_default.not-Step c.in_default.not-Plan c.in_default.not-Goto c.in_default.not-Index c.in_default.not-History
+    looks_back c.args.order.now c.requires.reader c.in_default.not-Load c.in_default.not-Step c.in_default.not-Plan c.in_default.not-Goto c.in_default.not-Index c.in_default.not-History c.in_default.not-WalkIndex
 
 pub returns-in_default-clause-step : goal.returns-in_default-clause-step
 returns-in_default-clause-step g c =
@@ -53,6 +59,9 @@ returns-in-Load-clause-reading g c = c.load.ensures.reading c.requires.reading
 
 pub returns-in-Index-clause-reading : goal.returns-in-Index-clause-reading
 returns-in-Index-clause-reading g c = c.index.ensures.reading c.args.version.now c.args.history.now c.requires.reading
+
+pub returns-in-WalkIndex-clause-reading : goal.returns-in-WalkIndex-clause-reading
+returns-in-WalkIndex-clause-reading g c = c.walk_index.ensures.reading c.args.version.now c.args.history.now c.requires.reading
 
 pub returns-in-History-clause-reading : goal.returns-in-History-clause-reading
 returns-in-History-clause-reading g c = c.history.ensures.reading c.args.consumer.now c.args.version.now c.requires.reading

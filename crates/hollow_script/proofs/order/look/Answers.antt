@@ -8,6 +8,9 @@ returns-in-Get-clause-reply c = look_is c.args.order.now (order.Get c.in-Get.typ
 pub returns-in-Find-clause-reply : goal.returns-in-Find-clause-reply
 returns-in-Find-clause-reply c = look_is c.args.order.now (order.Find c.in-Find.type_name c.in-Find.paths c.in-Find.values) c.args.consumer.now c.find.result c.in-Find.is c.find.ensures.reply
 
+pub returns-in-WalkFind-clause-reply : goal.returns-in-WalkFind-clause-reply
+returns-in-WalkFind-clause-reply c = look_is c.args.order.now (order.WalkFind c.in-WalkFind.type_name c.in-WalkFind.path c.in-WalkFind.value) c.args.consumer.now c.walk_find.result c.in-WalkFind.is c.walk_find.ensures.reply
+
 pub returns-in-Live-clause-reply : goal.returns-in-Live-clause-reply
 returns-in-Live-clause-reply c = look_is c.args.order.now (order.Live c.in-Live.type_name) c.args.consumer.now c.live.result c.in-Live.is c.live.ensures.reply
 
@@ -27,4 +30,4 @@ pub returns-in-Stat-clause-reply : goal.returns-in-Stat-clause-reply
 returns-in-Stat-clause-reply c = look_is c.args.order.now order.Stat c.args.consumer.now c.stat.result c.in-Stat.is c.stat.ensures.reply
 
 pub returns-in_default-clause-reply : goal.returns-in_default-clause-reply
-returns-in_default-clause-reply c = unbuilt_looks c.args.order.now c.args.consumer.now c.requires c.in_default.not-Get c.in_default.not-Find c.in_default.not-Live c.in_default.not-Row c.in_default.not-Has c.in_default.not-At c.in_default.not-Past c.in_default.not-Stat
+returns-in_default-clause-reply c = unbuilt_looks c.args.order.now c.args.consumer.now c.requires c.in_default.not-Get c.in_default.not-Find c.in_default.not-Live c.in_default.not-Row c.in_default.not-Has c.in_default.not-At c.in_default.not-Past c.in_default.not-Stat c.in_default.not-WalkFind

@@ -20,7 +20,7 @@ pub returns-in_err-next_turn-clause-asks : goal.returns-in_err-next_turn-clause-
 returns-in_err-next_turn-clause-asks g c = λ bytes given has.
     (let p = err_from_is_err_and c.from_residual.result c.from_residual.ensures.1 in
     rw (p.1, p.2) (none_asks bytes given (g.I.Source.left c.next_turn.new.input) c.next_turn.new.lines c.in_err-next_turn.field-0.0 c.in_err-next_turn.ensures.others
-    (c.in_err-next_turn.ensures.taken bytes given has)))
+    (c.in_err-next_turn.ensures.none bytes given has) (c.in_err-next_turn.ensures.taken bytes given has)))
 
 pub returns-in_err-next_turn-clause-put : goal.returns-in_err-next_turn-clause-put
 returns-in_err-next_turn-clause-put g c =
@@ -30,7 +30,7 @@ returns-in_err-next_turn-clause-put g c =
 pub returns-in_err-asked_by-in-Line-clause-asks : goal.returns-in_err-asked_by-in-Line-clause-asks
 returns-in_err-asked_by-in-Line-clause-asks g c = λ bytes given has.
     (let p = err_from_is_err_and c.from_residual-in_err-asked_by-in-Line.result c.from_residual-in_err-asked_by-in-Line.ensures.1 in
-    rw (p.1, p.2) (order_none_asks bytes given (g.I.Source.left c.next_turn.new.input) c.next_turn.new.lines c.in_err-asked_by-in-Line.field-0.0))
+    rw (p.1, p.2) (order_none_asks bytes given (g.I.Source.left c.next_turn.new.input) c.next_turn.new.lines c.in_ok-next_turn.field-0 c.in-Line.is (c.in_ok-next_turn.ensures.turns bytes given has) c.in_err-asked_by-in-Line.field-0.0))
 
 pub returns-in_err-asked_by-in-Line-clause-put : goal.returns-in_err-asked_by-in-Line-clause-put
 returns-in_err-asked_by-in-Line-clause-put g c =

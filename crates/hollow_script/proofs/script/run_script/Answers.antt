@@ -50,8 +50,8 @@ returns-in-Sink-clause-stopped g c =
     let after = g.O.Sink.taken c.answer_lines.new.out in
     let waiting = c.answer_lines.new.waiting.items in
     told_both (g.I.Source.left c.args.input.now) (g.S.BlobStore.seen c.args.store.now).held
-    (λ bytes first. HasStopped bytes first left held kept before after waiting stop.Sink) (λ bytes first. LeavesStopped bytes first left held kept before after stop.Sink) (rw c.in-Sink.is at c.in-Err.ensures.stops)
-    (λ bytes first is. failed_before bytes first left held kept before after waiting is)
+    (λ bytes first. HasStopped bytes first left kept.lines held kept before after waiting stop.Sink) (λ bytes first. LeavesStopped bytes first left held kept before after stop.Sink) (rw c.in-Sink.is at c.in-Err.ensures.stops)
+    (λ bytes first is. failed_before bytes first left kept.lines held kept before after waiting is)
 
 pub returns-in_err-write_waiting-in_default-clause-stopped : goal.returns-in_err-write_waiting-in_default-clause-stopped
 returns-in_err-write_waiting-in_default-clause-stopped g c =
@@ -64,8 +64,8 @@ returns-in_err-write_waiting-in_default-clause-stopped g c =
     let after = g.O.Sink.taken c.write_waiting-in_default.new.out in
     let waiting = c.answer_lines.new.waiting.items in
     rw (p.1, p.2) (told_both (g.I.Source.left c.args.input.now) (g.S.BlobStore.seen c.args.store.now).held
-    (λ bytes first. HasStopped bytes first left held kept before mid waiting c.in-Err.stop) (λ bytes first. LeavesStopped bytes first left held kept before after stop.Sink) c.in-Err.ensures.stops
-    (λ bytes first is. fails_behind bytes first left held kept before mid after waiting c.in-Err.stop c.in_default.not-Sink is c.in_err-write_waiting-in_default.ensures.part))
+    (λ bytes first. HasStopped bytes first left kept.lines held kept before mid waiting c.in-Err.stop) (λ bytes first. LeavesStopped bytes first left held kept before after stop.Sink) c.in-Err.ensures.stops
+    (λ bytes first is. fails_behind bytes first left held kept before mid after waiting kept.lines c.in-Err.stop c.in_default.not-Sink is c.in_err-write_waiting-in_default.ensures.part))
 
 pub returns-clause-stopped : goal.returns-clause-stopped
 returns-clause-stopped g c =
@@ -77,5 +77,5 @@ returns-clause-stopped g c =
     let after = g.O.Sink.taken c.write_waiting-in_default.new.out in
     let waiting = c.answer_lines.new.waiting.items in
     told_both (g.I.Source.left c.args.input.now) (g.S.BlobStore.seen c.args.store.now).held
-    (λ bytes first. HasStopped bytes first left held kept before mid waiting c.in-Err.stop) (λ bytes first. LeavesStopped bytes first left held kept before after c.in-Err.stop) c.in-Err.ensures.stops
+    (λ bytes first. HasStopped bytes first left kept.lines held kept before mid waiting c.in-Err.stop) (λ bytes first. LeavesStopped bytes first left held kept before after c.in-Err.stop) c.in-Err.ensures.stops
     (λ bytes first is. written_behind bytes first left held kept before mid after waiting c.in-Err.stop c.in_default.not-Sink is c.in_ok-write_waiting-in_default.ensures.gained)

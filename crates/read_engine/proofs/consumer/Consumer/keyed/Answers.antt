@@ -10,12 +10,12 @@ use Rattle.read_engine.proofs.consumer.Consumer.keyed.Goals as goal
 
 pub get-requires : goal.get-requires
 get-requires c =
-    its_parts c.self.inside.tag c.self.inside.model c.self.inside.states c.self.inside.past c.self.inside.indexes c.self.invariant c.args.self.now c.self.view_is (λ (p : Position). c.args.index < length p.indexes) (c.args.index < length c.self.inside.indexes) c.requires
+    its_parts c.self.inside.tag c.self.inside.model c.self.inside.states c.self.inside.past c.self.inside.indexes c.self.inside.walks c.self.invariant c.args.self.now c.self.view_is (λ (p : Position). c.args.index < length p.indexes) (c.args.index < length c.self.inside.indexes) c.requires
     (λ at stands known. omega (arith, known, length-map c.self.inside.indexes index_kept))
 
 pub returns : goal.returns
 returns c =
-    its_position c.self.inside.tag c.self.inside.model c.self.inside.states c.self.inside.past c.self.inside.indexes c.self.invariant c.args.self.now c.self.view_is (λ (p : Position). c.args.index < length p.indexes)
+    its_position c.self.inside.tag c.self.inside.model c.self.inside.states c.self.inside.past c.self.inside.indexes c.self.inside.walks c.self.invariant c.args.self.now c.self.view_is (λ (p : Position). c.args.index < length p.indexes)
     (λ (p : Position). IsSomeAnd (slice_get p.indexes c.args.index) (λ kept. CountsKeyed p kept c.keyed.result)) c.requires
     (λ at stands known.
-    counts_keyed at c.self.inside.model c.self.inside.states c.self.inside.past c.self.inside.indexes stands c.args.index c.get.result.now c.get.ensures c.keyed.result c.keyed.ensures)
+    counts_keyed at c.self.inside.model c.self.inside.states c.self.inside.past c.self.inside.indexes c.self.inside.walks stands c.args.index c.get.result.now c.get.ensures c.keyed.result c.keyed.ensures)

@@ -9,5 +9,5 @@ pub returns : goal.returns
 returns c =
     subst (λ (past : List PastPart). IsSomeAnd c.args.self.now (HasLeft past)) (sym c.as_slice.ensures)
     (stands_and c.args.self.now (HasLeft c.self.inside.past) c.requires
-    (each_position c.self.inside.tag c.self.inside.model c.self.inside.states c.self.inside.past c.self.inside.indexes c.self.invariant c.args.self.now c.self.view_is (HasLeft c.self.inside.past)
+    (each_position c.self.inside.tag c.self.inside.model c.self.inside.states c.self.inside.past c.self.inside.indexes c.self.inside.walks c.self.invariant c.args.self.now c.self.view_is (HasLeft c.self.inside.past)
     (λ at stands. record { fits = record { fits = stands.fits; rows = stands.position.rows_before }; before = refl })))

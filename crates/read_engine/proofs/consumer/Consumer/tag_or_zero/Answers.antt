@@ -6,4 +6,4 @@ use Rattle.read_engine.proofs.consumer.Consumer.tag_or_zero.Goals as goal
 pub returns : goal.returns
 returns c =
     let same : to_z w64 (of_z w64 c.unwrap_or.result) ≡ c.unwrap_or.result = grind (arith, ints, to_z-of_z) in
-    same ∙ c.unwrap_or.ensures ∙ tag_or_zero c.self.inside.tag c.self.inside.model c.self.inside.states c.self.inside.past c.self.inside.indexes c.self.invariant c.args.self.now c.self.view_is
+    same ∙ c.unwrap_or.ensures ∙ tag_or_zero c.self.inside.tag c.self.inside.model c.self.inside.states c.self.inside.past c.self.inside.indexes c.self.inside.walks c.self.invariant c.args.self.now c.self.view_is

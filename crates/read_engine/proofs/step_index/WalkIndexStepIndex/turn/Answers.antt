@@ -1,0 +1,5 @@
+use Rattle.read_engine.proofs.FollowWalks.{walk_moves_on}
+use Rattle.read_engine.proofs.step_index.WalkIndexStepIndex.turn.Goals as goal
+
+pub returns : goal.returns
+returns c = walk_moves_on c.args.self.now c.update.new.self c.update.ensures.updated c.update.ensures.kept c.update.ensures.unreserved
