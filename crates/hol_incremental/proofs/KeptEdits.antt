@@ -1,0 +1,42 @@
+-- What is kept for changes, before and behind one.
+use Rattle.std.proofs.Common.{◌≡◌, ◌∙◌, List, [], ◌∷◌, Option, Some, None, map, refl, sym, ap, subst, inl, inr}
+use Rattle.std.specs.Prelude.{IsSomeAnd}
+use Rattle.schema_model.specs.declared.schema.Schema.{Schema}
+use Rattle.key_index.specs.Indexed.{HaveOneRow, Indexed}
+use Rattle.row_model.specs.Table.{Table, row_at}
+use Rattle.row_model.proofs.RowsFrom.{get_in}
+use Rattle.write_engine.specs.Agreement.{TablesAgree}
+use Rattle.hol_incremental.specs.EditKeys.{AreCounts, AreEditsOf, AreIndexes, AreReady, Editing}
+use Rattle.hol_incremental.specs.Keeping.{moved, settled}
+use Rattle.hol_incremental.proofs.IndexRows.{moved_indexes, same_settled}
+use Rattle.hol_incremental.proofs.ShallowTypes.{live_row}
+
+settled_once : (index : Option Indexed) → settled (settled index) ≡ settled index
+settled_once None = refl
+settled_once (Some index) = refl
+
+pub settled_twice : (keys : List (Option Indexed)) → map settled (map settled keys) ≡ map settled keys
+settled_twice [] = refl
+settled_twice (index ∷ keys) = λ i. settled_once index i ∷ settled_twice keys i
+
+-- what is made ready does not matter
+pub kept_edits : (schemas : List Schema) (table : Table) (edits : Editing) → AreEditsOf schemas table edits → (edits' : Editing) → edits'.counts ≡ edits.counts → map settled edits'.keys ≡ map settled edits.keys → AreEditsOf schemas table edits'
+kept_edits schemas table edits are edits' same kept = record {
+  counts = subst (AreCounts schemas table) (sym same) are.counts;
+  keys = same_settled schemas table edits.keys edits'.keys kept are.keys;
+}
+
+-- what is made ready becomes what is kept
+pub accepted_edits : (schemas : List Schema) (previous next : Table) (edits : Editing) → AreReady schemas previous next edits → (edits' : Editing) → edits.next ≡ Some edits'.counts → edits'.keys ≡ map moved edits.keys → AreEditsOf schemas next edits'
+accepted_edits schemas previous next edits ready edits' counts keys = record {
+  counts = subst (λ o. IsSomeAnd o (AreCounts schemas next)) counts ready.counts;
+  keys = subst (AreIndexes schemas next) (sym keys) (moved_indexes schemas previous next edits.keys ready.now.keys ready.keys);
+}
+
+-- tables that agree have one row where both have one
+pub one_row : (previous current before now : Table) → before ≡ previous → now ≡ current → TablesAgree previous current → HaveOneRow before now
+one_row previous current before now same same' agree =
+    subst (λ (table : Table). HaveOneRow table now) (sym same) (subst (λ (table : Table). HaveOneRow previous table) (sym same') (λ t o live live'.
+    (let row = live_row (row_at previous t o) live in
+    let row' = live_row (row_at current t o) live' in
+    row.1 ∙ ap Some ((agree t).one_row o row.0 row'.0 (inl (get_in previous t o ∙ row.1)) (inr (get_in current t o ∙ row'.1))) ∙ sym row'.1)))

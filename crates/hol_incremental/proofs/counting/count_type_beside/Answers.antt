@@ -1,0 +1,47 @@
+use Rattle.std.proofs.Common.{◌≡◌, ◌∙◌, ◌+◌, ℕ, List, true, false, length, sym, ap, subst, arith}
+use Rattle.hol_incremental.specs.Counted.{CountsTo}
+use Rattle.hol_incremental.proofs.CountedRows.{read_both, read_none, read_row, read_type}
+use Rattle.hol_incremental.proofs.counting.count_type_beside.Goals.{then-is_live+then-not-is_live+in_ok-count_row, else-is_live, else-is_live-via-then-is_live+else-not-is_live, else-is_live-via-else-is_live}
+use Rattle.hol_incremental.proofs.counting.count_type_beside.Goals as goal
+
+pub loop-ordinal-preserved : goal.loop-ordinal-preserved
+loop-ordinal-preserved g c =
+    let S = g.A.Rows.schemas c.args.rows.now in
+    let W = g.A.Rows.table c.args.rows.now in
+    let B = g.B.Rows.table c.args.before.now in
+    let t = c.args.type_index in
+    let o = c.loop-ordinal.ordinal in
+    let inv = c.loop-ordinal.invariant in
+    elim c.if-is_live.branch [
+      | then-is_live+then-not-is_live+in_ok-count_row w ↦ record {
+        types = ap (λ (x : List (List ℕ)). length x) w.counts-is ∙ w.in_ok-count_row.ensures.types ∙ inv.types;
+        read = λ start first.
+            subst (λ (n : ℕ). CountsTo S B W t (o + 1) start c.if-is_live.counts n) (sym (w.steps-is ∙ w.in_ok-count_row.ensures.counted))
+            (subst (λ (x : List (List ℕ)). CountsTo S B W t (o + 1) start x (c.loop-ordinal.steps + 1)) (sym w.counts-is)
+            (read_row S B W c.requires.more t o start c.loop-ordinal.steps c.loop-ordinal.counts w.count_row.new.counts c.requires.known c.requires.fits.types (c.is_live.ensures.0 w.if-is_live.true)
+            (λ live. (let good = w.is_live-then-is_live.ensures.1 live in let bad = w.if-not-is_live.true in absurd cc)) (inv.read start first) w.in_ok-count_row.ensures.types w.in_ok-count_row.ensures.raised));
+      }
+      | else-is_live w ↦ record {
+        types = ap (λ (x : List (List ℕ)). length x) w.counts-is ∙ inv.types;
+        read = λ start first.
+            subst (λ (n : ℕ). CountsTo S B W t (o + 1) start c.if-is_live.counts n) (sym w.steps-is)
+            (subst (λ (x : List (List ℕ)). CountsTo S B W t (o + 1) start x c.loop-ordinal.steps) (sym w.counts-is)
+            (elim w.else-is_live.branch [
+              | else-is_live-via-then-is_live+else-not-is_live w' ↦
+                  read_both S B W c.requires.more t o start c.loop-ordinal.steps c.loop-ordinal.counts (w'.is_live-then-is_live.ensures.0 w'.if-not-is_live.false) (inv.read start first)
+              | else-is_live-via-else-is_live w' ↦
+                  read_none S B W c.requires.more t o start c.loop-ordinal.steps c.loop-ordinal.counts (λ live. (let both : true ≡ false = sym (c.is_live.ensures.1 live) ∙ w'.if-is_live.false in cc)) (inv.read start first)
+            ]));
+      }
+    ]
+
+pub returns : goal.returns
+returns g c start first =
+    let S = g.A.Rows.schemas c.args.rows.now in
+    let W = g.A.Rows.table c.args.rows.now in
+    let B = g.B.Rows.table c.args.before.now in
+    let high = c.loop-ordinal-test.false in
+    let low = c.loop-ordinal.auto.ordinal-end in
+    let end : c.loop-ordinal.ordinal ≡ c.bound-ordinal-end.result = omega (arith, high, low) in
+    read_type S B W c.requires.more c.args.type_index c.bound-ordinal-end.result start c.loop-ordinal.steps c.loop-ordinal.counts c.bound-ordinal-end.ensures
+    (subst (λ (n : ℕ). CountsTo S B W c.args.type_index n start c.loop-ordinal.counts c.loop-ordinal.steps) end (c.loop-ordinal.invariant.read start first))

@@ -1,0 +1,68 @@
+-- What is kept beside a producer for changes: how often each row of its state is named, and the indexes of its rows by their primary keys; and the same of
+-- the state that a change makes.
+use Rattle.std.specs.Prelude.{refl, List, [], ℕ, ◌≡◌, Option, None, Some, IsSome, IsSomeAnd, All, get_or, length, replicate, slice_get}
+use Rattle.std.specs.Coded.{Coded, code_by, coded×, coded_ℕ, coded_list, coded_option}
+use Rattle.schema_model.specs.declared.model.path.Path.{Path}
+use Rattle.schema_model.specs.declared.schema.Schema.{Schema}
+use Rattle.row_model.specs.Table.{Table}
+use Rattle.key_index.specs.Indexed.{Indexed, IsIndexBy, indexed_code}
+use Rattle.hol_incremental.specs.Counts.{times_named}
+use Rattle.hol_incremental.specs.Keeping.{AreReadyKeys, IsReserved}
+use Rattle.hol_incremental.specs.Roots.{AreKeyPaths, IsKeyed}
+
+-- The counts of the state, by type and ordinal, those of the next one once a change has made it, and for each type the index of its rows by its primary key, if
+-- it has one.
+pub record Editing : Type 0 where
+  pub counts : List (List ℕ)
+  pub next : Option (List (List ℕ))
+  pub keys : List (Option Indexed)
+
+abbrev pub editing_code : Coded Editing
+editing_code =
+    code_by (List (List ℕ) × (Option (List (List ℕ)) × List (Option Indexed)))
+    (coded× (coded_list (coded_list coded_ℕ)) (coded× (coded_option (coded_list (coded_list coded_ℕ))) (coded_list (coded_option indexed_code)))) (λ e. (e.counts, (e.next, e.keys)))
+    (λ p. record { counts = p.0; next = p.1.0; keys = p.1.1 }) (λ _. refl)
+
+-- the count of a row; 0 where none is kept
+abbrev pub count_at : List (List ℕ) → ℕ → ℕ → ℕ
+count_at counts t ordinal = get_or (get_or counts t []) ordinal 0
+
+-- no row is named, of so many types
+abbrev pub no_counts : ℕ → List (List ℕ)
+no_counts types = replicate types []
+
+-- These are the counts of the rows of a table: how many places in its rows name each.
+pub record AreCounts (schemas : List Schema) (table : Table) (counts : List (List ℕ)) : Type 0 where
+  pub types : length counts ≡ length schemas
+  pub are : (t ordinal : ℕ) → count_at counts t ordinal ≡ times_named schemas table t ordinal
+
+-- these are the paths of a type's primary key, if it has one
+abbrev pub TellsKeyPaths : List Schema → ℕ → Option (List Path) → Type 0
+TellsKeyPaths schemas t None = ¬ IsKeyed schemas t
+TellsKeyPaths schemas t (Some paths) = AreKeyPaths schemas t paths
+
+-- this is the index of a type's rows by its primary key, if it has one
+abbrev pub TellsIndex : List Schema → Table → ℕ → Option Indexed → Type 0
+TellsIndex schemas table t None = ¬ IsKeyed schemas t
+TellsIndex schemas table t (Some index) = AreKeyPaths schemas t index.paths × IsIndexBy schemas table t index.paths index
+
+-- These are the indexes of all types.
+pub record AreIndexes (schemas : List Schema) (table : Table) (keys : List (Option Indexed)) : Type 0 where
+  pub types : length keys ≡ length schemas
+  pub each : (t : ℕ) (index : Option Indexed) → slice_get keys t ≡ Some index → TellsIndex schemas table t index
+
+-- What is kept is that of a state. What is made ready of a next one does not matter.
+pub record AreEditsOf (schemas : List Schema) (table : Table) (edits : Editing) : Type 0 where
+  pub counts : AreCounts schemas table edits.counts
+  pub keys : AreIndexes schemas table edits.keys
+
+-- What is kept is that of the previous state, and what is to be kept of the next one is ready.
+pub record AreReady (schemas : List Schema) (previous next : Table) (edits : Editing) : Type 0 where
+  pub now : AreEditsOf schemas previous edits
+  pub counts : IsSomeAnd edits.next (AreCounts schemas next)
+  pub keys : AreReadyKeys schemas next edits.keys
+
+-- Something is ready.
+pub record IsReadied (edits : Editing) : Type 0 where
+  pub counts : IsSome edits.next
+  pub keys : All IsReserved edits.keys

@@ -1,0 +1,14 @@
+pub mod Beside
+pub mod Changes
+pub mod Counted
+pub mod Counts
+pub mod Drops
+pub mod EditKeys
+pub mod Edited
+pub mod Faults
+pub mod Keeping
+pub mod Leaves
+pub mod Left
+pub mod Roots
+pub mod RowSets
+pub mod Tops
