@@ -35,7 +35,7 @@ use Rattle.hol_answers.specs.declared.reply.Reply.{Reply}
 use Rattle.hol_answers.specs.declared.reply.Reply.TheVariants as reply
 use Rattle.hollow_machine.specs.CycleOrder.{AreNamed, CycleRefusal, CycleStep, Makes, PassesLimit, Publishes, RefusesAfter, SucceedsAfter, cycle_form}
 use Rattle.hollow_machine.specs.Follow.{IsUsed, MayFollow, MayNotFollow}
-use Rattle.hollow_machine.specs.Records.{Adding, AskedCycle, GivesNoTrees, GivesTrees, asked_cycle, given, spelled}
+use Rattle.hollow_machine.specs.Records.{Adding, AskedCycle, GivesNoTrees, GivesTrees, asked_cycle, edited, given, spelled}
 use Rattle.hollow_machine.specs.State.{Machine, with_producer, with_store}
 use Rattle.answer_laws.specs.Answered.{HasRows, IsAnsweredBy, IsSound}
 use Rattle.answer_laws.proofs.Compared.{at_inside}
@@ -72,7 +72,7 @@ module _ (store : Store) (last version : ℕ) (tag : ℤ) (follows : MayFollow s
   ])
 
 -- that a state neither may follow nor is refused cannot be
-may_or_not : (store : Store) (last version : ℕ) (tag : ℤ) → (MayFollow store last version tag → ⊥) → ((why : Refusal) → MayNotFollow store last version tag why → ⊥) → ⊥
+pub may_or_not : (store : Store) (last version : ℕ) (tag : ℤ) → (MayFollow store last version tag → ⊥) → ((why : Refusal) → MayNotFollow store last version tag why → ⊥) → ⊥
 may_or_not store last version tag follows refused = of_content store last version tag follows refused (told (Some store) Announced) refl
 
 -- ---- limits
@@ -140,18 +140,18 @@ publishes_or_not last (t ∷ changed) publishes rests = publishes (inr (λ none.
 
 -- ---- the order
 
-module _ (machine : Machine) (wanted : AskedCycle) (last : Published) (is : machine.producer ≡ Some last) (typed : HasRows last) (none : (answer : Reply) (next : Machine) → CycleStep machine wanted answer next → ⊥) where
+-- The records that a cycle adds are its own: they are not those of a change, which may be none of the last state.
+abbrev pub AreOwn : Adding → Type 0
+AreOwn (spelled json) = Unit {0}
+AreOwn (given records) = Unit {0}
+AreOwn (edited put remove) = ⊥
+
+module _ (machine : Machine) (wanted : AskedCycle) (last : Published) (is : machine.producer ≡ Some last) where
   there : (P : Published → Type 0) → P last → IsSomeAnd machine.producer P
   there P holds = subst (λ (o : Option Published). IsSomeAnd o P) (sym is) holds
 
-  refuses : (why : Refusal) → CycleRefusal machine wanted why → ⊥
-  refuses why tells = none (reply.Refused why) machine (tells, refl)
-
-  succeeds : (names : List (List ℕ)) (published : Bool) (next : Machine) → SucceedsAfter machine last wanted names published next → ⊥
-  succeeds names published next done = none (reply.Cycle names published wanted.version) next (refl, there (λ l. SucceedsAfter machine l wanted names published next) done)
-
   -- a state that may not follow
-  not_following : (why : Refusal) → MayNotFollow machine.store last.version wanted.version wanted.tag why → CycleRefusal machine wanted why
+  pub not_following : (why : Refusal) → MayNotFollow machine.store last.version wanted.version wanted.tag why → CycleRefusal machine wanted why
   not_following refusal.NoModel tells = absurd tells
   not_following (refusal.NoType name) tells = absurd tells
   not_following (refusal.BadRecord why) tells = absurd tells
@@ -162,9 +162,16 @@ module _ (machine : Machine) (wanted : AskedCycle) (last : Published) (is : mach
   not_following (refusal.TagUsed tag) tells = there (λ l. RefusesAfter machine.store l wanted (refusal.TagUsed tag)) tells
   not_following _ tells = absurd tells
 
+module _ (machine : Machine) (wanted : AskedCycle) (last : Published) (is : machine.producer ≡ Some last) (typed : HasRows last) (none : (answer : Reply) (next : Machine) → CycleStep machine wanted answer next → ⊥) where
+  refuses : (why : Refusal) → CycleRefusal machine wanted why → ⊥
+  refuses why tells = none (reply.Refused why) machine (tells, refl)
+
+  succeeds : (names : List (List ℕ)) (published : Bool) (next : Machine) → SucceedsAfter machine last wanted names published next → ⊥
+  succeeds names published next done = none (reply.Cycle names published wanted.version) next (refl, there machine wanted last is (λ l. SucceedsAfter machine l wanted names published next) done)
+
   -- trees that pass a limit
   too_large : MayFollow machine.store last.version wanted.version wanted.tag → (trees : List (ℕ × PlainTree)) → GivesTrees last wanted.add trees → (passed : Limit) → PassesLimit last wanted.version wanted.tag wanted.snapshot trees passed → ⊥
-  too_large follows trees gives passed tells = refuses (refusal.TooLarge passed) (there (λ l. RefusesAfter machine.store l wanted (refusal.TooLarge passed)) (follows, (trees, gives, tells)))
+  too_large follows trees gives passed tells = refuses (refusal.TooLarge passed) (there machine wanted last is (λ l. RefusesAfter machine.store l wanted (refusal.TooLarge passed)) (follows, (trees, gives, tells)))
 
   type_passes : (trees : List (ℕ × PlainTree)) (rows : Table) (changed : List ℕ) → Makes last trees rows changed → Publishes last changed → (passed : Limit) → IsTypeLimit passed
       → TellsTypes last.model last.rows rows (Some passed) → PassesLimit last wanted.version wanted.tag wanted.snapshot trees passed
@@ -198,35 +205,36 @@ module _ (machine : Machine) (wanted : AskedCycle) (last : Published) (is : mach
       (λ passed of tells. too_large follows trees gives passed (type_passes trees rows changed makes publishes passed of tells)))
       (λ later unchanged. succeeds names false machine (follows, (trees, gives, (rows, changed, makes, named, (later, unchanged, refl)))))))
 
-  of_trees : MayFollow machine.store last.version wanted.version wanted.tag → (trees : List (ℕ × PlainTree)) → GivesTrees last wanted.add trees → ⊥
+  pub of_trees : MayFollow machine.store last.version wanted.version wanted.tag → (trees : List (ℕ × PlainTree)) → GivesTrees last wanted.add trees → ⊥
   of_trees follows trees gives = decide ((rows : Table) × Next last.model last.rows trees rows) (λ either. elim either [
     | inl some ↦ of_rows follows trees gives some.0 some.1
     | inr never ↦ too_large follows trees gives limit.Ordinals (λ rows next. never (rows, next))
   ])
 
   -- records that are JSON give trees or none, and trees are what they are
-  trees_of : (add : Adding) → ((trees : List (ℕ × PlainTree)) → GivesTrees last add trees → ⊥) → ((name : List ℕ) → GivesNoTrees last.model add (refusal.NoType name) → ⊥)
+  trees_of : (add : Adding) → AreOwn add → ((trees : List (ℕ × PlainTree)) → GivesTrees last add trees → ⊥) → ((name : List ℕ) → GivesNoTrees last.model add (refusal.NoType name) → ⊥)
       → ((why : RefusedRecord) → GivesNoTrees last.model add (refusal.BadRecord why) → ⊥) → ⊥
-  trees_of (spelled json) gives no_type bad_record = trees_or_refused last.model json gives no_type bad_record
-  trees_of (given records) gives no_type bad_record = gives records refl
+  trees_of (spelled json) own gives no_type bad_record = trees_or_refused last.model json gives no_type bad_record
+  trees_of (given records) own gives no_type bad_record = gives records refl
+  trees_of (edited put remove) own gives no_type bad_record = absurd own
 
-  of_producer : ⊥
-  of_producer = may_or_not machine.store last.version wanted.version wanted.tag (λ follows.
-      trees_of wanted.add (λ trees gives. of_trees follows trees gives)
-      (λ name tells. refuses (refusal.NoType name) (there (λ l. RefusesAfter machine.store l wanted (refusal.NoType name)) (follows, tells)))
-      (λ why tells. refuses (refusal.BadRecord why) (there (λ l. RefusesAfter machine.store l wanted (refusal.BadRecord why)) (follows, tells))))
-      (λ why tells. refuses why (not_following why tells))
+  of_producer : AreOwn wanted.add → ⊥
+  of_producer own = may_or_not machine.store last.version wanted.version wanted.tag (λ follows.
+      trees_of wanted.add own (λ trees gives. of_trees follows trees gives)
+      (λ name tells. refuses (refusal.NoType name) (there machine wanted last is (λ l. RefusesAfter machine.store l wanted (refusal.NoType name)) (follows, tells)))
+      (λ why tells. refuses (refusal.BadRecord why) (there machine wanted last is (λ l. RefusesAfter machine.store l wanted (refusal.BadRecord why)) (follows, tells))))
+      (λ why tells. refuses why (not_following machine wanted last is why tells))
 
-by_producer : (machine : Machine) (wanted : AskedCycle) (producer : Option Published) → machine.producer ≡ producer → IfSome producer HasRows → ((answer : Reply) (next : Machine) → CycleStep machine wanted answer next → ⊥) → ⊥
-by_producer machine wanted None is typed none = none (reply.Refused refusal.NoModel) machine (is, refl)
-by_producer machine wanted (Some last) is typed none = of_producer machine wanted last is typed none
+by_producer : (machine : Machine) (wanted : AskedCycle) → AreOwn wanted.add → (producer : Option Published) → machine.producer ≡ producer → IfSome producer HasRows → ((answer : Reply) (next : Machine) → CycleStep machine wanted answer next → ⊥) → ⊥
+by_producer machine wanted own None is typed none = none (reply.Refused refusal.NoModel) machine (is, refl)
+by_producer machine wanted own (Some last) is typed none = of_producer machine wanted last is typed none own
 
--- that a cycle has no answer cannot be, whatever records it adds
-pub cycle_or_not : (machine : Machine) → IfSome machine.producer HasRows → (wanted : AskedCycle) → ((answer : Reply) (next : Machine) → CycleStep machine wanted answer next → ⊥) → ⊥
-cycle_or_not machine typed wanted = by_producer machine wanted machine.producer refl typed
+-- that a cycle has no answer cannot be, whatever records of its own it adds
+pub cycle_or_not : (machine : Machine) → IfSome machine.producer HasRows → (wanted : AskedCycle) → AreOwn wanted.add → ((answer : Reply) (next : Machine) → CycleStep machine wanted answer next → ⊥) → ⊥
+cycle_or_not machine typed wanted own = by_producer machine wanted own machine.producer refl typed
 
 pub cycle_answered : (machine : Machine) → IsSound machine → (asked : AskedState) → IsAnsweredBy cycle_form machine asked
-cycle_answered machine sound asked = cycle_or_not machine sound.producer (asked_cycle asked)
+cycle_answered machine sound asked = cycle_or_not machine sound.producer (asked_cycle asked) tt
 
 -- ---- what a cycle leaves
 

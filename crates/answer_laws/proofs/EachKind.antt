@@ -1,4 +1,5 @@
 -- An order of each kind that is settled has an answer.
+use Rattle.std.proofs.Common.{◌⊎◌, inl, inr}
 use Rattle.hol_orders.specs.declared.kind.Kind.{Kind}
 use Rattle.hol_orders.specs.declared.order.Order.{Order}
 use Rattle.hol_orders.specs.Kind.{shape}
@@ -9,6 +10,7 @@ use Rattle.answer_laws.specs.Answered.{IsAnswered, IsAnsweredBy, IsSettled, IsSh
 use Rattle.answer_laws.specs.Shown.{IsShown}
 use Rattle.answer_laws.proofs.Blobs.{load_answered, step_answered}
 use Rattle.answer_laws.proofs.LookUps.{find_answered, index_answered}
+use Rattle.answer_laws.proofs.Changing.{change_answered}
 use Rattle.answer_laws.proofs.Checking.{check_answered}
 use Rattle.answer_laws.proofs.Cycling.{cycle_answered}
 use Rattle.answer_laws.proofs.Going.{goto_answered}
@@ -36,6 +38,7 @@ answers Kind.Stat settled machine sound asked fits = stat_answered machine sound
 answers Kind.Grow settled machine sound asked fits = grow_answered machine sound asked fits
 answers Kind.Plan settled machine sound asked fits = plan_answered machine sound asked
 answers Kind.Goto settled machine sound asked fits = goto_answered machine sound asked
+answers Kind.Change settled machine sound asked fits = change_answered machine sound asked
 answers Kind.WalkIndex settled machine sound asked fits = walkindex_answered machine sound asked
 answers Kind.WalkFind settled machine sound asked fits = walkfind_answered machine sound asked
 answers Kind.History settled machine sound asked fits = history_answered machine sound asked
@@ -54,3 +57,30 @@ shows _ showing machine shown asked = absurd showing
 
 pub each_shown : (machine : Machine) (order : Order) → IsShown machine → IsShowing (kind_of order) → IsAnswered machine order
 each_shown machine order shown showing = shows (kind_of order) showing machine shown (asked_of order)
+
+-- the orders of each kind are settled, or show records
+pub each_kind : (kind : Kind) → IsSettled kind ⊎ IsShowing kind
+each_kind Kind.Model = inl tt
+each_kind Kind.Cycle = inl tt
+each_kind Kind.Restore = inl tt
+each_kind Kind.Load = inl tt
+each_kind Kind.Step = inl tt
+each_kind Kind.Index = inl tt
+each_kind Kind.Get = inr tt
+each_kind Kind.Find = inl tt
+each_kind Kind.Live = inl tt
+each_kind Kind.Row = inr tt
+each_kind Kind.Has = inl tt
+each_kind Kind.At = inl tt
+each_kind Kind.Past = inr tt
+each_kind Kind.Check = inl tt
+each_kind Kind.Stat = inl tt
+each_kind Kind.Grow = inl tt
+each_kind Kind.Plan = inl tt
+each_kind Kind.Goto = inl tt
+each_kind Kind.Change = inl tt
+each_kind Kind.WalkIndex = inl tt
+each_kind Kind.WalkFind = inl tt
+each_kind Kind.History = inl tt
+each_kind Kind.Was = inr tt
+each_kind Kind.WasGet = inr tt

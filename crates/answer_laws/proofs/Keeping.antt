@@ -22,7 +22,7 @@ use Rattle.step_laws.proofs.Typing.{load_typed, step_typed}
 use Rattle.schema_model.specs.declared.model.path.Path.{Path}
 use Rattle.hol_orders.specs.declared.order.Order.{Order}
 use Rattle.hol_orders.specs.declared.order.Order.TheVariants as order
-use Rattle.hol_orders.specs.Parts.{asked_state}
+use Rattle.hol_orders.specs.Parts.{AskedChange, asked_change, asked_state}
 use Rattle.hol_answers.specs.declared.refusal.Refusal.{Refusal}
 use Rattle.hol_answers.specs.declared.reply.Reply.{Reply}
 use Rattle.hol_answers.specs.declared.reply.Reply.TheVariants as reply
@@ -34,6 +34,7 @@ use Rattle.byte_laws.proofs.ReadTexts.{loaded_texts}
 use Rattle.byte_laws.proofs.Schemas.{model_are}
 use Rattle.byte_laws.proofs.SeenRows.{view_bytes}
 use Rattle.byte_laws.proofs.ValueTexts.{named_texts}
+use Rattle.hollow_machine.specs.ChangeOrder.{ChangeStep, Misses}
 use Rattle.hollow_machine.specs.CycleOrder.{CycleStep, SucceedsAfter}
 use Rattle.hollow_machine.specs.GrowOrder.{GrowStep, GrowsOn, grown_producer}
 use Rattle.hollow_machine.specs.HistoryOrders.{HistoryStep}
@@ -42,7 +43,7 @@ use Rattle.hollow_machine.specs.KeyPaths.{AreKeyPaths, HasShape, IsObject}
 use Rattle.hollow_machine.specs.LoadOrder.{LoadStep}
 use Rattle.hollow_machine.specs.ModelOrder.{ModelStep}
 use Rattle.hollow_machine.specs.PlanOrders.{Applies, Goes, GotoStep}
-use Rattle.hollow_machine.specs.Records.{AskedCycle, asked_cycle}
+use Rattle.hollow_machine.specs.Records.{AskedCycle, asked_cycle, cycle_of_change}
 use Rattle.hollow_machine.specs.RestoreOrder.{RestoreStep, producer_at}
 use Rattle.hollow_machine.specs.Script.{LineStep}
 use Rattle.hollow_machine.specs.State.{Machine, loaded_to, stepped_to, with_bound, with_consumer, with_producer}
@@ -181,7 +182,7 @@ goto_typed machine next typed wanted _ is = absurd is
 succeeds_typed : (machine next : Machine) → AreTyped machine → (last : Published) → IsByteProducer last → (asked : AskedCycle) → IsByteAdding asked.add → (names : List (List ℕ)) (published : Bool) → SucceedsAfter machine last asked names published next → AreTyped next
 succeeds_typed machine next typed last bytes asked adding names false (follows, (trees, gives, (rows, changed, makes, named, leaves))) = same_typed machine next typed leaves.2
 succeeds_typed machine next typed last bytes asked adding names true (follows, (trees, gives, (rows, changed, makes, named, leaves))) =
-    subst AreTyped (sym leaves.2.3) (cycle_rows last trees rows changed makes, typed.1, record { model = bytes.model; rows = made_bytes last asked adding trees gives rows changed makes })
+    subst AreTyped (sym leaves.2.3) (cycle_rows last trees rows changed makes, typed.1, record { model = bytes.model; rows = made_bytes last bytes asked adding trees gives rows changed makes })
 
 of_producer : (machine next : Machine) → AreTyped machine → (found : Option Published) → IfSome found IsByteProducer → (asked : AskedCycle) → IsByteAdding asked.add → (names : List (List ℕ)) (published : Bool)
     → IsSomeAnd found (λ last. SucceedsAfter machine last asked names published next) → AreTyped next
@@ -193,10 +194,23 @@ cycle_typed machine next typed asked adding (reply.Cycle names published version
 cycle_typed machine next typed asked adding (reply.Refused refusal) is = same_typed machine next typed is.1
 cycle_typed machine next typed asked adding _ is = absurd is
 
+-- ---- a change
+
+change_typed : (machine next : Machine) → AreTyped machine → (asked : AskedChange) → (answer : Reply) → ChangeStep machine asked answer next → AreTyped next
+change_typed machine next typed asked (reply.Change change) is = of_last machine.producer typed.2 is.1
+  where
+    of_last : (found : Option Published) → IfSome found IsByteProducer
+        → IsSomeAnd found (λ last. Misses last asked.remove change.missing × SucceedsAfter machine last (cycle_of_change asked) change.changed change.published next) → AreTyped next
+    of_last None bytes is = absurd is
+    of_last (Some last) bytes is = succeeds_typed machine next typed last bytes (cycle_of_change asked) tt change.changed change.published is.1
+change_typed machine next typed asked (reply.Refused refusal) is = same_typed machine next typed is.1
+change_typed machine next typed asked _ is = absurd is
+
 -- ---- lines
 
 order_typed : (asked : Order) (machine next : Machine) → HoldsBytes machine.store → AreTyped machine → (answer : Reply) → Step machine asked answer next → AreTyped next
 order_typed (order.Cycle next_state) machine next held typed answer is = cycle_typed machine next typed (asked_cycle (asked_state next_state)) tt answer is
+order_typed (order.Change change) machine next held typed answer is = change_typed machine next typed (asked_change change) answer is
 order_typed (order.Model schemas) machine next held typed answer is = model_typed machine next typed schemas answer is
 order_typed (order.Grow schemas) machine next held typed answer is = grow_typed machine next typed schemas answer is
 order_typed (order.Restore version) machine next held typed answer is = restore_typed machine next held typed version answer is

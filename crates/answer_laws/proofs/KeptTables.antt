@@ -17,11 +17,12 @@ use Rattle.read_engine.specs.Position.{Index, Position, rows_now}
 use Rattle.read_engine.specs.Taking.{LoadsFrom, StepsBy}
 use Rattle.hol_orders.specs.declared.order.Order.{Order}
 use Rattle.hol_orders.specs.declared.order.Order.TheVariants as order
-use Rattle.hol_orders.specs.Parts.{asked_state}
+use Rattle.hol_orders.specs.Parts.{AskedChange, asked_change, asked_state}
 use Rattle.hol_answers.specs.declared.refusal.Refusal.{Refusal}
 use Rattle.hol_answers.specs.declared.reply.Reply.{Reply}
 use Rattle.hol_answers.specs.declared.reply.Reply.TheVariants as reply
 use Rattle.state_blobs.specs.Published.{Published, new_producer}
+use Rattle.hollow_machine.specs.ChangeOrder.{ChangeStep, Misses}
 use Rattle.hollow_machine.specs.CycleOrder.{CycleStep, SucceedsAfter}
 use Rattle.hollow_machine.specs.GrowOrder.{GrowStep, GrowsOn, grown_producer}
 use Rattle.hollow_machine.specs.HistoryOrders.{HistoryStep}
@@ -30,7 +31,7 @@ use Rattle.hollow_machine.specs.KeyPaths.{AreKeyPaths, HasShape, IsObject}
 use Rattle.hollow_machine.specs.LoadOrder.{LoadStep}
 use Rattle.hollow_machine.specs.ModelOrder.{ModelStep}
 use Rattle.hollow_machine.specs.PlanOrders.{Applies, Goes, GotoStep}
-use Rattle.hollow_machine.specs.Records.{AskedCycle, asked_cycle}
+use Rattle.hollow_machine.specs.Records.{AskedCycle, asked_cycle, cycle_of_change}
 use Rattle.hollow_machine.specs.RestoreOrder.{RestoreStep, producer_at}
 use Rattle.hollow_machine.specs.Script.{LineStep}
 use Rattle.hollow_machine.specs.State.{Machine, loaded_to, past_behind, stepped_to, with_bound, with_consumer, with_producer}
@@ -189,10 +190,20 @@ module _ (P : List Schema → Table → Type 0) (loads : (blob : List ℕ) (posi
   cycle_holds machine next holds asked (reply.Refused refusal) is = same_holds machine next holds is.1
   cycle_holds machine next holds asked _ is = absurd is
 
+  change_holds : (machine next : Machine) → HoldsOfTables P machine → (asked : AskedChange) (answer : Reply) → ChangeStep machine asked answer next → HoldsOfTables P next
+  change_holds machine next holds asked (reply.Change change) is = of_last machine.producer is.1
+    where
+      of_last : (found : Option Published) → IsSomeAnd found (λ last. Misses last asked.remove change.missing × SucceedsAfter machine last (cycle_of_change asked) change.changed change.published next) → HoldsOfTables P next
+      of_last None is = absurd is
+      of_last (Some last) is = succeeds_holds machine next holds last (cycle_of_change asked) change.changed change.published is.1
+  change_holds machine next holds asked (reply.Refused refusal) is = same_holds machine next holds is.1
+  change_holds machine next holds asked _ is = absurd is
+
   -- ---- lines
 
   order_holds : (asked : Order) (machine next : Machine) → Known machine → (answer : Reply) → Step machine asked answer next → HoldsOfTables P next
   order_holds (order.Cycle next_state) machine next known answer is = cycle_holds machine next known.1 (asked_cycle (asked_state next_state)) answer is
+  order_holds (order.Change change) machine next known answer is = change_holds machine next known.1 (asked_change change) answer is
   order_holds (order.Model schemas) machine next known answer is = model_holds machine next known.1 _ answer is
   order_holds (order.Grow schemas) machine next known answer is = grow_holds machine next known.1 _ answer is
   order_holds (order.Restore version) machine next known answer is = restore_holds machine next known.1 version answer is

@@ -65,7 +65,7 @@ module _ (seed rows : ℕ) where
   passes_or_refuses : (cycles : List ℕ) → Behind cycles
   passes_or_refuses [] machine typed bytes passes refuses = passes [] machine ((refl, refl), typed, bytes)
   passes_or_refuses (cycle ∷ cycles) machine typed bytes passes refuses =
-      cycle_or_not machine (if_there machine.producer typed) (film_cycle seed rows cycle) (of_answer machine typed bytes cycle cycles (passes_or_refuses cycles) passes refuses)
+      cycle_or_not machine (if_there machine.producer typed) (film_cycle seed rows cycle) tt (of_answer machine typed bytes cycle cycles (passes_or_refuses cycles) passes refuses)
 
 -- ---- the command
 

@@ -36,16 +36,16 @@ use Rattle.answer_laws.proofs.Deciding.{decide}
 
 -- ---- trees
 
-trees_back : (trees : List PlainTree) → list_of_trees (trees_of_list trees) ≡ trees
+pub trees_back : (trees : List PlainTree) → list_of_trees (trees_of_list trees) ≡ trees
 trees_back [] = refl
 trees_back (tree ∷ trees) = ap (λ rest. tree ∷ rest) (trees_back trees)
 
-pairs_back : (pairs : List (PlainTree × PlainTree)) → list_of_pairs (pairs_of_list pairs) ≡ pairs
+pub pairs_back : (pairs : List (PlainTree × PlainTree)) → list_of_pairs (pairs_of_list pairs) ≡ pairs
 pairs_back [] = refl
 pairs_back (pair ∷ pairs) = ap (λ rest. pair ∷ rest) (pairs_back pairs)
 
 -- a leaf is no record
-shape_no_leaf : (Follow : Name → PlainTree → Data → Type 0) (shape : Shape) (value : Value) (printed : Data) → PrintsShape Follow shape (leaf value) printed → ⊥
+pub shape_no_leaf : (Follow : Name → PlainTree → Data → Type 0) (shape : Shape) (value : Value) (printed : Data) → PrintsShape Follow shape (leaf value) printed → ⊥
 shape_no_leaf Follow (Shape.Object key fields) value printed prints = prints
 shape_no_leaf Follow (Shape.List element) value printed prints = prints
 shape_no_leaf Follow (Shape.Set element) value printed prints = prints
@@ -55,7 +55,7 @@ typed_no_leaf : (Follow : Name → PlainTree → Data → Type 0) (found : Optio
 typed_no_leaf Follow None value printed prints = prints
 typed_no_leaf Follow (Some schema) value printed prints = shape_no_leaf Follow schema.shape value printed prints
 
-named_no_leaf : (schemas : List Schema) (depth : ℕ) (found : Option ℕ) (value : Value) (printed : Data) → PrintsAt (PrintsWithin schemas depth) found (leaf value) printed → ⊥
+pub named_no_leaf : (schemas : List Schema) (depth : ℕ) (found : Option ℕ) (value : Value) (printed : Data) → PrintsAt (PrintsWithin schemas depth) found (leaf value) printed → ⊥
 named_no_leaf schemas depth None value printed prints = prints
 named_no_leaf schemas zero (Some t) value printed prints = prints
 named_no_leaf schemas (suc depth) (Some t) value printed prints =

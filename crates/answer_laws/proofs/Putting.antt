@@ -11,29 +11,27 @@ use Rattle.state_blobs.specs.Published.{Published}
 use Rattle.state_blobs.specs.Puts.{Put, puts_of}
 use Rattle.hol_orders.specs.declared.order.Order.{Order}
 use Rattle.hol_orders.specs.declared.order.Order.TheVariants as order
-use Rattle.hol_orders.specs.Parts.{asked_state}
+use Rattle.hol_orders.specs.Parts.{asked_change, asked_state}
 use Rattle.hol_answers.specs.declared.reply.Reply.TheVariants as reply
-use Rattle.byte_laws.specs.Bytes.{IsByteProducer, IsByteTable, IsByteTree}
+use Rattle.byte_laws.specs.Bytes.{IsByteProducer, IsByteTable}
 use Rattle.byte_laws.proofs.Blobs.{puts_are}
 use Rattle.byte_laws.proofs.NextRows.{next_bytes}
 use Rattle.byte_laws.proofs.ReadRecords.{read_are}
 use Rattle.hollow_machine.specs.CycleOrder.{CycleStep, Makes, SucceedsAfter}
 use Rattle.hollow_machine.specs.Puts.{OrderPuts, PutsAfter}
-use Rattle.hollow_machine.specs.Records.{Adding, AreRead, AskedCycle, Entry, GivesTrees, asked_cycle, entries, given, spelled}
+use Rattle.hollow_machine.specs.Records.{Adding, AreRead, AskedCycle, Entry, GivesTrees, asked_cycle, cycle_of_change, edited, entries, given, spelled}
 use Rattle.hollow_machine.specs.State.{Machine}
 use Rattle.answer_laws.specs.Scripts.{PutsBytes}
+use Rattle.answer_laws.proofs.EditedBytes.{IsByteRecord, edited_bytes}
 use Rattle.answer_laws.proofs.Storing.{all_bytes}
 
 -- ---- records
 
--- What a record holds in BYTES are bytes.
-abbrev pub IsByteRecord : ℕ × PlainTree → Type 0
-IsByteRecord entry = IsByteTree entry.1
-
--- So it is with the records that a cycle adds: those that are JSON give no others.
+-- What the records that a cycle adds hold in BYTES are bytes: those that are JSON give no others, and so it is with those of a state whose rows have bytes.
 abbrev pub IsByteAdding : Adding → Type 0
 IsByteAdding (spelled json) = Unit {0}
 IsByteAdding (given records) = All IsByteRecord records
+IsByteAdding (edited put remove) = Unit {0}
 
 read_trees : (schemas : List Schema) (recorded : List Entry) (trees : List (ℕ × PlainTree)) → AreRead schemas recorded trees → All IsByteRecord trees
 read_trees schemas [] [] are = All-nil IsByteRecord
@@ -42,14 +40,16 @@ read_trees schemas (entry ∷ recorded) [] are = absurd are
 read_trees schemas (entry ∷ recorded) (tree ∷ trees) are =
     All-cons IsByteRecord tree trees (read_are schemas entry.type_index entry.value tree.1 are.0.1) (read_trees schemas recorded trees are.1)
 
-given_trees : (last : Published) (add : Adding) (trees : List (ℕ × PlainTree)) → IsByteAdding add → GivesTrees last add trees → All IsByteRecord trees
-given_trees last (spelled json) trees is gives = read_trees last.model (entries last.model json) trees gives.read
-given_trees last (given records) trees is gives = subst (All IsByteRecord) (sym gives) is
+given_trees : (last : Published) → IsByteProducer last → (add : Adding) (trees : List (ℕ × PlainTree)) → IsByteAdding add → GivesTrees last add trees → All IsByteRecord trees
+given_trees last bytes (spelled json) trees is gives = read_trees last.model (entries last.model json) trees gives.read
+given_trees last bytes (given records) trees is gives = subst (All IsByteRecord) (sym gives) is
+given_trees last bytes (edited put remove) trees is (puts, removes, spells, edits) =
+    edited_bytes last.model last.rows bytes.rows puts removes (read_trees last.model (entries last.model put) puts spells.records.read) trees edits
 
 -- the rows of the next state
-pub made_bytes : (last : Published) (wanted : AskedCycle) → IsByteAdding wanted.add → (trees : List (ℕ × PlainTree)) → GivesTrees last wanted.add trees
+pub made_bytes : (last : Published) → IsByteProducer last → (wanted : AskedCycle) → IsByteAdding wanted.add → (trees : List (ℕ × PlainTree)) → GivesTrees last wanted.add trees
     → (rows : Table) (changed : List ℕ) → Makes last trees rows changed → IsByteTable rows
-made_bytes last wanted adding trees gives rows changed makes = next_bytes last.model last.rows rows trees (given_trees last wanted.add trees adding gives) makes.state
+made_bytes last bytes wanted adding trees gives rows changed makes = next_bytes last.model last.rows rows trees (given_trees last bytes wanted.add trees adding gives) makes.state
 
 -- ---- what is put
 
@@ -59,7 +59,7 @@ IsBytePut put = AreBytes put.1
 
 puts_after : (store : Store) (last : Published) → IsByteProducer last → (wanted : AskedCycle) → IsByteAdding wanted.add → (puts : List Put) → PutsAfter store last wanted puts → All IsBytePut puts
 puts_after store last bytes wanted adding puts (follows, (trees, rows, changed, gives, makes, publishes, (keeps, (blobs, are, short, is)))) =
-    subst (All IsBytePut) (sym is) (puts_are last bytes rows (made_bytes last wanted adding trees gives rows changed makes) wanted.version wanted.tag wanted.snapshot blobs are)
+    subst (All IsBytePut) (sym is) (puts_are last bytes rows (made_bytes last bytes wanted adding trees gives rows changed makes) wanted.version wanted.tag wanted.snapshot blobs are)
 
 cycle_puts : (store : Store) (found : Option Published) → IfSome found IsByteProducer → (wanted : AskedCycle) → IsByteAdding wanted.add → (puts : List Put)
     → IsSomeAnd found (λ last. PutsAfter store last wanted puts) → All IsBytePut puts
@@ -68,6 +68,7 @@ cycle_puts store (Some last) bytes wanted adding puts is = puts_after store last
 
 order_puts : (asked : Order) (machine : Machine) → IfSome machine.producer IsByteProducer → (puts : List Put) → OrderPuts asked machine puts → All IsBytePut puts
 order_puts (order.Cycle next_state) machine bytes puts is = cycle_puts machine.store machine.producer bytes (asked_cycle (asked_state next_state)) tt puts is
+order_puts (order.Change change) machine bytes puts is = cycle_puts machine.store machine.producer bytes (cycle_of_change (asked_change change)) tt puts is
 order_puts _ machine bytes puts is = subst (All IsBytePut) (sym is) (All-nil IsBytePut)
 
 -- what a line puts
@@ -84,7 +85,7 @@ succeeds_bytes : (machine next : Machine) (last : Published) → IsByteProducer 
     → SucceedsAfter machine last wanted names published next → LeavesBytes next
 succeeds_bytes machine next last bytes before wanted adding names false (follows, (trees, gives, (rows, changed, makes, named, leaves))) = subst LeavesBytes (sym leaves.2) before
 succeeds_bytes machine next last bytes before wanted adding names true (follows, (trees, gives, (rows, changed, makes, named, (publishes, keeps, (blobs, are, short, is))))) =
-    let made = made_bytes last wanted adding trees gives rows changed makes in
+    let made = made_bytes last bytes wanted adding trees gives rows changed makes in
     let puts = puts_are last bytes rows made wanted.version wanted.tag wanted.snapshot blobs are in
     subst LeavesBytes (sym is) (record { model = bytes.model; rows = made }, all_bytes (puts_of blobs wanted.version) machine.store puts before.1)
 

@@ -17,11 +17,12 @@ use Rattle.read_engine.specs.Taking.{StepsBy}
 use Rattle.step_laws.proofs.Positions.{load_position, step_position}
 use Rattle.hol_orders.specs.declared.order.Order.{Order}
 use Rattle.hol_orders.specs.declared.order.Order.TheVariants as order
-use Rattle.hol_orders.specs.Parts.{asked_state}
+use Rattle.hol_orders.specs.Parts.{AskedChange, asked_change, asked_state}
 use Rattle.hol_answers.specs.declared.refusal.Refusal.{Refusal}
 use Rattle.hol_answers.specs.declared.reply.Reply.{Reply}
 use Rattle.hol_answers.specs.declared.reply.Reply.TheVariants as reply
 use Rattle.state_blobs.specs.Published.{Published, new_producer}
+use Rattle.hollow_machine.specs.ChangeOrder.{ChangeStep, Misses}
 use Rattle.hollow_machine.specs.CycleOrder.{CycleStep, SucceedsAfter}
 use Rattle.hollow_machine.specs.GrowOrder.{GrowStep, GrowsOn, grown_producer}
 use Rattle.hollow_machine.specs.HistoryOrders.{HistoryStep}
@@ -30,7 +31,7 @@ use Rattle.hollow_machine.specs.KeyPaths.{AreKeyPaths, HasShape, IsObject}
 use Rattle.hollow_machine.specs.LoadOrder.{LoadStep}
 use Rattle.hollow_machine.specs.ModelOrder.{ModelStep}
 use Rattle.hollow_machine.specs.PlanOrders.{Applies, Goes, GotoStep}
-use Rattle.hollow_machine.specs.Records.{AskedCycle, asked_cycle}
+use Rattle.hollow_machine.specs.Records.{AskedCycle, asked_cycle, cycle_of_change}
 use Rattle.hollow_machine.specs.RestoreOrder.{RestoreStep, producer_at}
 use Rattle.hollow_machine.specs.Script.{LineStep}
 use Rattle.hollow_machine.specs.State.{Machine, loaded_to, past_behind, stepped_to, with_bound, with_consumer, with_producer}
@@ -210,10 +211,20 @@ cycle_whole machine next whole asked (reply.Cycle names published version) is = 
 cycle_whole machine next whole asked (reply.Refused refusal) is = same_whole machine next whole is.1
 cycle_whole machine next whole asked _ is = absurd is
 
+change_whole : (machine next : Machine) → HasWhole machine → (asked : AskedChange) (answer : Reply) → ChangeStep machine asked answer next → HasWhole next
+change_whole machine next whole asked (reply.Change change) is = of_last machine.producer is.1
+  where
+    of_last : (found : Option Published) → IsSomeAnd found (λ last. Misses last asked.remove change.missing × SucceedsAfter machine last (cycle_of_change asked) change.changed change.published next) → HasWhole next
+    of_last None is = absurd is
+    of_last (Some last) is = succeeds_whole machine next whole last (cycle_of_change asked) change.changed change.published is.1
+change_whole machine next whole asked (reply.Refused refusal) is = same_whole machine next whole is.1
+change_whole machine next whole asked _ is = absurd is
+
 -- ---- lines
 
 order_whole : (asked : Order) (machine next : Machine) → HasWhole machine → (answer : Reply) → Step machine asked answer next → HasWhole next
 order_whole (order.Cycle next_state) machine next whole answer is = cycle_whole machine next whole (asked_cycle (asked_state next_state)) answer is
+order_whole (order.Change change) machine next whole answer is = change_whole machine next whole (asked_change change) answer is
 order_whole (order.Model schemas) machine next whole answer is = model_whole machine next whole _ answer is
 order_whole (order.Grow schemas) machine next whole answer is = grow_whole machine next whole _ answer is
 order_whole (order.Restore version) machine next whole answer is = restore_whole machine next whole version answer is

@@ -1,10 +1,10 @@
 -- That an order has an answer.
-use Rattle.std.specs.Prelude.{◌≡◌, ◌⊎◌, IfSome, length}
+use Rattle.std.specs.Prelude.{◌≡◌, IfSome, length}
 use Rattle.hol_io.specs.Store.{HoldsBytes}
 use Rattle.step_laws.specs.Typed.{HasTypes}
 use Rattle.state_blobs.specs.Published.{Published}
 use Rattle.hol_orders.specs.declared.kind.Kind.{Kind}
-use Rattle.hol_orders.specs.declared.kind.Kind.TheVariants.{Model, Cycle, Restore, Load, Step as StepKind, Index, Get, Find, Live, Row, Has, At, Past, Check, Stat, Grow, Plan, Goto, WalkIndex, WalkFind, History, Was, WasGet}
+use Rattle.hol_orders.specs.declared.kind.Kind.TheVariants.{Model, Cycle, Restore, Load, Step as StepKind, Index, Get, Find, Live, Row, Has, At, Past, Check, Stat, Grow, Plan, Goto, Change, WalkIndex, WalkFind, History, Was, WasGet}
 use Rattle.hol_orders.specs.declared.order.Order.{Order}
 use Rattle.hol_answers.specs.declared.reply.Reply.{Reply}
 use Rattle.byte_laws.specs.Bytes.{IsByteProducer}
@@ -49,6 +49,7 @@ IsSettled Stat = Unit {0}
 IsSettled Grow = Unit {0}
 IsSettled Plan = Unit {0}
 IsSettled Goto = Unit {0}
+IsSettled Change = Unit {0}
 IsSettled WalkIndex = Unit {0}
 IsSettled WalkFind = Unit {0}
 IsSettled History = Unit {0}
@@ -62,7 +63,3 @@ IsShowing Past = Unit {0}
 IsShowing Was = Unit {0}
 IsShowing WasGet = Unit {0}
 IsShowing _ = ⊥
-
--- The orders of these kinds are built.
-abbrev pub IsBuilt : Kind → Type 0
-IsBuilt kind = IsSettled kind ⊎ IsShowing kind

@@ -1,4 +1,5 @@
 pub mod Answered
+pub mod Limits
 pub mod Ranges
 pub mod Scripts
 pub mod Shown

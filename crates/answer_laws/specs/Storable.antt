@@ -1,13 +1,11 @@
 -- Data that a value of serde_json can hold, and the machines whose records print as such.
-use Rattle.std.specs.Prelude.{◌≡◌, ◌<◌, ◌^◌, ℕ, List, [], ◌∷◌, length, IsUtf8, int_lt, pos, true}
+use Rattle.std.specs.Prelude.{◌≡◌, ◌<◌, ◌^◌, ℕ, List, length, IsUtf8, int_lt, pos, true}
 use Rattle.serde_json.specs.Data.{Data, Num, Items, Members, null, boolean, array, object, number, string, unsigned, negative, float, no_items, item, no_members, member}
 use Rattle.serde_json.specs.Events.{items_len}
 use Rattle.schema_model.specs.declared.schema.Schema.{Schema}
 use Rattle.row_model.specs.Table.{IsLive, Table}
 use Rattle.row_model.specs.Unfold.{unfold_row}
 use Rattle.record_json.specs.PrintTree.{PrintsTree}
-use Rattle.hol_answers.specs.declared.reply.Reply.{Reply}
-use Rattle.hollow_machine.specs.Script.{LineStep}
 use Rattle.hollow_machine.specs.State.{Machine}
 use Rattle.answer_laws.specs.Ranges.{HoldsOfTables}
 
@@ -47,8 +45,3 @@ PrintsStorable schemas table =
 -- So it is with the rows of the consumer's state, those from before its last step, and the older ones that are kept.
 abbrev pub HasStorableRows : Machine → Type 0
 HasStorableRows machine = HoldsOfTables PrintsStorable machine
-
--- So it is at the begin of a script, and behind each of its lines.
-abbrev pub StaysStorable : Machine → List (List ℕ) → Type 0
-StaysStorable machine [] = HasStorableRows machine
-StaysStorable machine (line ∷ lines) = HasStorableRows machine × ((reply : Reply) (next : Machine) → LineStep machine line reply next → StaysStorable next lines)

@@ -1,5 +1,5 @@
 //! Laws of answers.
-ghost use Rattle.std.specs.Prelude.{◌≡◌, ℕ, List, Bool, All, IfSome};
+ghost use Rattle.std.specs.Prelude.{◌≡◌, ℕ, List, Bool, IfSome};
 ghost use Rattle.hol_io.specs.Store.{HoldsBytes, Store};
 ghost use Rattle.serde_json.specs.Data.{Data};
 ghost use Rattle.serde_json.specs.View.{view};
@@ -17,10 +17,11 @@ ghost use Rattle.hollow_machine.specs.MakeCommand.{Makes};
 ghost use Rattle.hollow_machine.specs.Script.{LineStep, Script};
 ghost use Rattle.hollow_machine.specs.State.{Machine};
 ghost use Rattle.answer_laws.specs.Answered.{IsAnswered, IsSettled, IsShowing, IsSound};
+ghost use Rattle.answer_laws.specs.Limits.{HasLimitedRows};
 ghost use Rattle.answer_laws.specs.Ranges.{HasByteRows, HasRanges, ReadsBack};
-ghost use Rattle.answer_laws.specs.Scripts.{AsksBuilt, PutsBytes};
+ghost use Rattle.answer_laws.specs.Scripts.{PutsBytes};
 ghost use Rattle.answer_laws.specs.Shown.{HasJson, HasWhole, IsShown};
-ghost use Rattle.answer_laws.specs.Storable.{HasStorableRows, IsStorable, PrintsStorable, StaysStorable};
+ghost use Rattle.answer_laws.specs.Storable.{HasStorableRows, IsStorable, PrintsStorable};
 
 /// That an order has no answer of a sound machine cannot be, whatever it asks for; and if it shows records, where these can be shown.
 pub fn some_answer()
@@ -28,9 +29,9 @@ pub fn some_answer()
     ensures shown { (machine : Machine) (order : Order) → IsShown machine → IsShowing (kind_of order) → IsAnswered machine order }
 {}
 
-/// That a line, which if it is an order is one of a kind that is built, has no answer of a sound machine, of which the records can be shown, cannot be.
+/// That a line has no answer of a sound machine, of which the records can be shown, cannot be.
 pub fn some_line()
-    ensures { (machine : Machine) (line : List ℕ) → IsSound machine → IsShown machine → AsksBuilt line
+    ensures { (machine : Machine) (line : List ℕ) → IsSound machine → IsShown machine
         → ((reply : Reply) (next : Machine) → LineStep machine line reply next → ⊥) → ⊥ }
 {}
 
@@ -55,16 +56,23 @@ pub fn line_keeps_bytes()
     ensures reads { (machine : Machine) → HasWhole machine → HasByteRows machine → IfSome machine.consumer (λ now. ReadsBack now.schemas (rows_now now)) }
 {}
 
+/// The rows of a consumer are within the limits of a state behind a line of a sound machine, and the names of its model are texts, where so it was. Where the
+/// tables of a machine are closed ones too, what its records print as can be held by a value.
+pub fn line_keeps_limits()
+    ensures keeps { (machine next : Machine) (line : List ℕ) (reply : Reply) → IsSound machine → HasLimitedRows machine → LineStep machine line reply next → HasLimitedRows next }
+    ensures storable { (machine : Machine) → HasWhole machine → HasLimitedRows machine → HasStorableRows machine }
+{}
+
 /// Data whose strings and names are texts, whose numbers have no fractions, and of which no array and no string is longer than a `Vec` can be, are those of a
 /// value of serde_json.
 pub fn some_value()
     ensures { (datum : Data) → IsStorable datum → (json : Value) × (view json ≡ datum) }
 {}
 
-/// That a script of such lines has no text and verdict and leaves no machine cannot be, where the machine is sound and its tables are closed at the begin, if
-/// what its records print as can be held by a value, then and behind each line.
+/// That a script has no text and verdict and leaves no machine cannot be, where the machine is sound, its tables are closed, and its rows are within
+/// the limits at the begin, as a machine without a consumer is.
 pub fn some_script()
-    ensures { (machine : Machine) (lines : List (List ℕ)) → IsSound machine → HasWhole machine → StaysStorable machine lines → All AsksBuilt lines
+    ensures { (machine : Machine) (lines : List (List ℕ)) → IsSound machine → HasWhole machine → HasLimitedRows machine
         → ((text : List ℕ) (refused : Bool) (next : Machine) → Script machine lines text refused next → ⊥) → ⊥ }
 {}
 

@@ -1,8 +1,8 @@
 -- What an order `walkindex` that is answered leaves: the consumer as it stood, with the walk index among its walk indexes, which stay such as they have to be; and
 -- so they stay behind a step.
-use Rattle.std.proofs.Common.{◌≡◌, ◌++◌, ◌∙◌, ℕ, suc, List, [], ◌∷◌, inl, inr, Some, refl, sym, ap, subst, length-append, arith}
+use Rattle.std.proofs.Common.{◌≡◌, ◌∙◌, ℕ, suc, List, [], ◌∷◌, inl, inr, Some, refl, sym, ap, subst, length-append, arith}
 use Rattle.std.specs.Prelude.{◌≢◌, All, AllPairs}
-use Rattle.std.proofs.lemmas.List.Elements.{All-cons, All-nil, All-tail}
+use Rattle.std.proofs.lemmas.List.Elements.{All-cons, All-nil}
 use Rattle.std.proofs.lemmas.List.Kept.{AllPairs-cons}
 use Rattle.schema_model.specs.declared.model.walk_path.WalkPath.{WalkPath}
 use Rattle.schema_model.specs.declared.schema.name.Name.{Name}

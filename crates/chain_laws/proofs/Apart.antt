@@ -1,5 +1,5 @@
 -- Lists in which nothing is there twice.
-use Rattle.std.proofs.Common.{◌≡◌, ◌<◌, ◌+◌, ◌++◌, ℕ, List, ◌∷◌, length, sym, ◌∙◌, length-append, arith}
+use Rattle.std.proofs.Common.{◌+◌, ◌++◌, List, ◌∷◌, length, sym, ◌∙◌, length-append, arith}
 use Rattle.std.specs.Prelude.{◌≢◌, AllPairs, Contains}
 use Rattle.std.proofs.lemmas.List.{get_or-append-add, get_or_append_left}
 

@@ -1,6 +1,7 @@
 -- The laws hold of the orders of each kind.
 use Rattle.hol_orders.specs.declared.kind.Kind.{Kind}
 use Rattle.hollow_machine.specs.Step.{form}
+use Rattle.chain_laws.proofs.ChangeLaws.{change_lawful}
 use Rattle.chain_laws.proofs.CheckLaws.{check_lawful}
 use Rattle.chain_laws.proofs.CycleLaws.{cycle_lawful}
 use Rattle.chain_laws.proofs.GrowLaws.{grow_lawful}
@@ -13,7 +14,8 @@ use Rattle.chain_laws.proofs.PlanLaws.{goto_lawful, plan_lawful}
 use Rattle.chain_laws.proofs.RestoreLaws.{restore_lawful}
 use Rattle.chain_laws.proofs.StatLaws.{stat_lawful}
 use Rattle.chain_laws.proofs.StepLaws.{step_lawful}
-use Rattle.chain_laws.proofs.Lawful.{IsLawful, unbuilt_lawful}
+use Rattle.chain_laws.proofs.Lawful.{IsLawful}
+use Rattle.chain_laws.proofs.OneChange.{one_change}
 use Rattle.chain_laws.proofs.LookLaws.{at_lawful, find_lawful, get_lawful, has_lawful, live_lawful, row_lawful}
 use Rattle.chain_laws.proofs.WalkLaws.{walkfind_lawful, walkindex_lawful}
 
@@ -36,7 +38,7 @@ laws Kind.Stat = stat_lawful
 laws Kind.Grow = grow_lawful
 laws Kind.Plan = plan_lawful
 laws Kind.Goto = goto_lawful
-laws Kind.Change = unbuilt_lawful Kind.Change
+laws Kind.Change = change_lawful one_change
 laws Kind.WalkIndex = walkindex_lawful
 laws Kind.WalkFind = walkfind_lawful
 laws Kind.History = history_lawful

@@ -1,9 +1,9 @@
 -- What an order `index` adds; and a load, with such an order for each index and one for each walk index behind it, gives the state afresh with the same indexes.
 use Rattle.std.proofs.Common.{◌≡◌, ◌<◌, ◌+◌, ◌++◌, ℕ, List, [], ◌∷◌, length, get_or, Bool, inl, inr, Option, Some, refl, sym, ap, subst, ◌∙◌, append_assoc, append-nil, length-append, arith}
-use Rattle.std.specs.Prelude.{◌≢◌, AllPairs, Contains, IfSome, IsSomeAnd, filter, is_some}
+use Rattle.std.specs.Prelude.{Contains, IfSome, IsSomeAnd, filter, is_some}
 use Rattle.std.specs.FinMap.{keys}
 use Rattle.std.proofs.lemmas.List.Kept.{AllPairs-from_increasing, IsStrictlyIncreasing-filter}
-use Rattle.std.proofs.lemmas.List.{get_or-append-add, get_or_append_left}
+use Rattle.std.proofs.lemmas.List.{get_or-append-add}
 use Rattle.hol_io.specs.declared.name.BlobName.TheVariants.{Snapshot}
 use Rattle.ordinal_set.proofs.Members.{Contains-filter, Contains-kept, passes-from_filter}
 use Rattle.schema_model.specs.declared.limit.Limit.TheVariants.{Indexes}

@@ -1,5 +1,5 @@
 -- What is asked of a consumer along a walk path is answered by its model, its rows and its walk indexes alone; and a walk index that is asked for is kept alike.
-use Rattle.std.proofs.Common.{◌≡◌, ◌≤◌, ◌<◌, ◌∙◌, ℕ, List, length, Option, Some, None, refl, sym, ap, subst}
+use Rattle.std.proofs.Common.{◌≡◌, ◌≤◌, ◌<◌, ◌∙◌, ℕ, List, length, Option, Some, refl, sym, ap, subst}
 use Rattle.std.specs.Prelude.{Contains, IsSomeAnd}
 use Rattle.serde_json.specs.Data.{Data}
 use Rattle.schema_model.specs.declared.limit.Limit.TheVariants.{Entries, Walks}

@@ -9,11 +9,10 @@ use Rattle.hol_orders.specs.declared.order.Order.{Order}
 use Rattle.hol_orders.specs.Kind.{shape}
 use Rattle.hol_orders.specs.Order.{Orders, asking, asks}
 use Rattle.hol_answers.specs.declared.refusal.Refusal.{Refusal}
-use Rattle.hol_answers.specs.declared.refusal.Refusal.TheVariants.{BadOrder}
 use Rattle.hol_answers.specs.declared.reply.Reply.{Reply}
 use Rattle.hol_answers.specs.declared.reply.Reply.TheVariants as reply
 use Rattle.read_engine.specs.Position.{Position}
-use Rattle.hollow_machine.specs.Forms.{OrderForm, Refuses, StepBy, answers_of_state, looking, unbuilt}
+use Rattle.hollow_machine.specs.Forms.{OrderForm, Refuses, StepBy, answers_of_state, looking}
 use Rattle.hollow_machine.specs.State.{Machine}
 use Rattle.written_laws.specs.Chain.{Chain, ChainState, HasVersion, IsChain}
 use Rattle.written_laws.specs.HoldsChain.{HoldsChain}
@@ -100,7 +99,7 @@ reader_in chain (Some now) version past of = of.0
 pub says_both : (one other : Reply) (next after : Machine) → (one ≡ other) × (next ≡ after) → SaysOne one other × (next ≡ after)
 says_both one other next after (same, and) = (says one other same, and)
 
--- ---- orders that look, and orders that are not built
+-- ---- orders that look
 
 pub looks_lawful : (kind : Kind) (Answers : Option Position → (shape kind).Asked → Reply → Type 0) (of_state : Bool)
     → ((consumer : Option Position) (asked : (shape kind).Asked) (one other : Reply) → IfSome consumer IsTyped → Answers consumer asked one → Answers consumer asked other → SaysOne one other)
@@ -116,12 +115,6 @@ looks_lawful k Answers of_state one none afresh = record {
   moves = λ machine chain holds of asked answer next is. same_of machine chain of next is.1;
   afresh = λ can machine fresh chain sound of is_fresh asked answer next is. (afresh can machine fresh chain sound of is_fresh asked answer is.0, refl);
 }
-
-pub unbuilt_lawful : (kind : Kind) → IsLawful kind unbuilt
-unbuilt_lawful k = looks_lawful k (λ consumer asked answer. answer ≡ reply.Refused BadOrder) false
-    (λ consumer asked one other typed is also. says one other (is ∙ sym also))
-    (λ consumer asked answer is. subst IsUnpublished (sym is) refl)
-    (λ can. absurd cc)
 
 -- ---- orders that leave the store and the producer
 

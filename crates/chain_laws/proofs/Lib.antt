@@ -4,6 +4,7 @@ mod Afresh
 mod Answering
 mod Apart
 mod BlobTags
+mod ChangeLaws
 mod CheckLaws
 mod CheckedChains
 mod ConsumerLines
@@ -32,7 +33,9 @@ mod ModelLaws
 mod NameOrder
 mod NewState
 mod NextPosition
+mod NoChanges
 mod OldRows
+mod OneChange
 mod OneCycle
 mod OneGrow
 mod OneKey

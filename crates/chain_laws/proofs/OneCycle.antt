@@ -8,6 +8,7 @@ use Rattle.schema_model.specs.declared.limit.Limit.{Limit}
 use Rattle.schema_model.specs.declared.limit.Limit.TheVariants as limit
 use Rattle.schema_model.specs.declared.schema.Schema.{Schema}
 use Rattle.schema_model.specs.declared.schema.Shape.{Shape}
+use Rattle.schema_model.specs.declared.model.rule.Rule.TheVariants.{DuplicateName}
 use Rattle.schema_model.specs.declared.reason.Reason.TheVariants.{BadAnnounced}
 use Rattle.schema_model.specs.Model.{IsModel}
 use Rattle.row_model.specs.PlainTree.{PlainTree}
@@ -51,7 +52,7 @@ module _ (store : Store) (last version : ℕ) (tag : ℤ) where
   one_version : (u v : ℕ) → IsAnnounced store u → IsAnnounced store v → u ≡ v
   one_version u v one other = one_announced (told (Some store) Announced) u v one other
 
-  may_apart : (refusal : Refusal) → MayNotFollow store last version tag refusal → MayFollow store last version tag → ⊥
+  pub may_apart : (refusal : Refusal) → MayNotFollow store last version tag refusal → MayFollow store last version tag → ⊥
   may_apart (refused.BadBlob fault) is may = bad_apart last is.0 may.announced
   may_apart (refused.NotLast announced) is may = is.1 (one_version announced last is.0 may.announced)
   may_apart (refused.BadVersion greatest) is may = let low = is.2 in let same = is.1 in let later = may.later in omega (arith, low, same, later)
@@ -300,26 +301,26 @@ module _ (written : WrittenOnce) (machine : Machine) (last : Published) (asked :
   abbrev PassedBy : Limit → Type 0
   PassedBy passed = (trees : List (ℕ × PlainTree)) × GivesTrees last asked.add trees × PassKind written machine last version tag with_snapshot trees model once passed
 
-  abbrev AfterKind : Refusal → Type 0
+  abbrev pub AfterKind : Refusal → Type 0
   AfterKind refusal =
       MayNotFollow store last.version version tag refusal
       ⊎ (May × (NoTrees last.model asked.add refusal ⊎ ((passed : Limit) × (refusal ≡ refused.TooLarge passed) × PassedBy passed)))
 
-  after_kind : (refusal : Refusal) → RefusesAfter store last asked refusal → AfterKind refusal
+  pub after_kind : (refusal : Refusal) → RefusesAfter store last asked refusal → AfterKind refusal
   after_kind (refused.NoType name) is = inr (is.0, inl (no_trees last.model asked.add (refused.NoType name) is.1))
   after_kind (refused.BadRecord fault) is = inr (is.0, inl (no_trees last.model asked.add (refused.BadRecord fault) is.1))
   after_kind (refused.TooLarge passed) (may, (trees, gives, passes)) = inr (may, inr (passed, refl, (trees, gives, pass_kind written machine last version tag with_snapshot trees model once passed passes)))
   after_kind _ is = inl is
 
   same_trees : (trees others : List (ℕ × PlainTree)) → GivesTrees last asked.add trees → GivesTrees last asked.add others → trees ≡ others
-  same_trees trees others gives also = given_one last asked.add trees others gives also
+  same_trees trees others gives also = given_one last (model DuplicateName) asked.add trees others gives also
 
   passed_one : (l m : Limit) → PassedBy l → PassedBy m → l ≡ m
   passed_one l m (trees, gives, kind) (others, gives_too, also) =
       passes_one written machine last version tag with_snapshot trees model once l m kind
       (subst (λ (ts : List (ℕ × PlainTree)). PassKind written machine last version tag with_snapshot ts model once m) (sym (same_trees trees others gives gives_too)) also)
 
-  after_one : (r s : Refusal) → AfterKind r → AfterKind s → r ≡ s
+  pub after_one : (r s : Refusal) → AfterKind r → AfterKind s → r ≡ s
   after_one r s (inl not) (inl also) = one_why store last.version version tag r s (why store last.version version tag r not) (why store last.version version tag s also)
   after_one r s (inl not) (inr may) = absurd (may_apart store last.version version tag r not may.0)
   after_one r s (inr may) (inl not) = absurd (may_apart store last.version version tag s not may.0)
@@ -336,7 +337,7 @@ module _ (written : WrittenOnce) (machine : Machine) (last : Published) (asked :
 
   -- ---- a cycle that succeeds is not refused
 
-  after_succeeds_not : (names : List (List ℕ)) (published : Bool) (next : Machine) (refusal : Refusal) → SucceedsAfter machine last asked names published next → AfterKind refusal → ⊥
+  pub after_succeeds_not : (names : List (List ℕ)) (published : Bool) (next : Machine) (refusal : Refusal) → SucceedsAfter machine last asked names published next → AfterKind refusal → ⊥
   after_succeeds_not names published next refusal (may, more) (inl not) = may_apart store last.version version tag refusal not may
   after_succeeds_not names published next refusal (may, (trees, gives, one)) (inr (may_too, inl none)) = no_trees_apart last asked.add refusal trees gives none
   after_succeeds_not names published next refusal (may, (trees, gives, one)) (inr (may_too, inr (passed, is, (others, gives_too, kind)))) =

@@ -129,7 +129,7 @@ kinds_once schemas (path ∷ paths) (x ∷ xs) (y ∷ ys) one other =
     let rest = kinds_once schemas paths xs ys one.1 other.1 in
     λ i. first i ∷ rest i
 
-key_once : (schemas : List Schema) (paths : List Path) (json : Data) (a b : List row_value.Value) → SpellsKey schemas paths json a → SpellsKey schemas paths json b → a ≡ b
+pub key_once : (schemas : List Schema) (paths : List Path) (json : Data) (a b : List row_value.Value) → SpellsKey schemas paths json a → SpellsKey schemas paths json b → a ≡ b
 key_once schemas paths json a b one other =
     let kinds = kinds_once schemas paths one.kinds other.kinds one.are other.are in
     let both : Some a ≡ Some b = sym one.values ∙ ap (λ (ks : List FieldKind). key_values ks json) kinds ∙ other.values in

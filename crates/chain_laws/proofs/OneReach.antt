@@ -1,5 +1,5 @@
 -- What is asked of a consumer along a walk path has one answer line, and a walk index that is asked for leaves one machine.
-use Rattle.std.proofs.Common.{◌≡◌, ◌≤◌, ◌<◌, ℕ, List, [], ◌∷◌, length, inl, inr, ◌⊎◌, Option, Some, None, refl, sym, ap, subst, ◌∙◌, arith}
+use Rattle.std.proofs.Common.{◌≡◌, ℕ, List, length, inl, inr, ◌⊎◌, Option, Some, None, refl, sym, ap, subst, ◌∙◌, arith}
 use Rattle.std.specs.Prelude.{Contains, IfSome, IsSomeAnd}
 use Rattle.serde_json.specs.Data.{Data}
 use Rattle.schema_model.specs.declared.limit.Limit.TheVariants.{Entries, Walks}

@@ -4,22 +4,31 @@ use Rattle.std.specs.Prelude.{All, IsOk, IsSome, IsSomeAnd, slice_get}
 use Rattle.std.specs.List.{AllZip}
 use Rattle.std.proofs.lemmas.List.Elements.{All-cons, All-head, All-nil, All-tail}
 use Rattle.serde_json.specs.Data.{Data}
+use Rattle.schema_model.specs.declared.model.path.Path.{Path}
+use Rattle.schema_model.specs.declared.model.rule.Rule.TheVariants.{DuplicateName}
 use Rattle.schema_model.specs.declared.reason.Reason.{Reason}
 use Rattle.schema_model.specs.declared.schema.Schema.{Schema}
+use Rattle.schema_model.specs.Model.{IsKept}
 use Rattle.schema_model.specs.Parts.{index_of_type}
+use Rattle.row_model.specs.declared.row.Value.{Value}
 use Rattle.row_model.specs.PlainTree.{PlainTree}
+use Rattle.json_values.specs.KeyFrom.{SpellsKey}
 use Rattle.record_json.specs.ReadTree.{read_tree}
-use Rattle.hollow_machine.specs.Records.{Adding, AreRead, AreTypes, Entry, GivesNoTrees, GivesTree, GivesTrees, IsFirstUnknown, IsFirstUnread, IsSpelledAnd, entries, given, spelled}
+use Rattle.hol_incremental.specs.Edited.{IsEdited, Keys, Records}
+use Rattle.hol_incremental.proofs.EditedOnce.{edited_once}
+use Rattle.hol_incremental.proofs.FoundPaths.{paths_once}
+use Rattle.hollow_machine.specs.Records.{Adding, AreRead, AreTypes, Entry, GivesKey, GivesNoTrees, GivesTree, GivesTrees, IsFirstUnknown, IsFirstUnread, IsSpelledAnd, edited, entries, given, spelled}
 use Rattle.hol_answers.specs.declared.refusal.Refusal.{Refusal}
 use Rattle.hol_answers.specs.declared.refusal.Refusal.TheVariants as refused
 use Rattle.hol_answers.specs.Refusal.{bad_record}
 use Rattle.state_blobs.specs.Published.{Published}
+use Rattle.chain_laws.proofs.OneKey.{key_once}
 use Rattle.chain_laws.proofs.PrintedOnce.{each_once}
 use Rattle.chain_laws.proofs.StoreNames.{name_once}
 
 -- ---- the first of a list for which something does not hold
 
-first_one : {A : Type 0} (P : A → Type 0) (before other : List A) (x y : A) (rest more : List A) → All P before → All P other → (P x → ⊥) → (P y → ⊥) → before ++ (x ∷ rest) ≡ other ++ (y ∷ more) → x ≡ y
+pub first_one : {A : Type 0} (P : A → Type 0) (before other : List A) (x y : A) (rest more : List A) → All P before → All P other → (P x → ⊥) → (P y → ⊥) → before ++ (x ∷ rest) ≡ other ++ (y ∷ more) → x ≡ y
 first_one P [] [] x y rest more all also not nor same = cc
 first_one P [] (b ∷ other) x y rest more all also not nor same = let here : b ≡ x = cc in absurd (not (subst P here (All-head P b other also)))
 first_one P (a ∷ before) [] x y rest more all also not nor same = let here : a ≡ y = cc in absurd (nor (subst P here (All-head P a before all)))
@@ -27,7 +36,7 @@ first_one P (a ∷ before) (b ∷ other) x y rest more all also not nor same =
     let tails : before ++ (x ∷ rest) ≡ other ++ (y ∷ more) = cc in
     first_one P before other x y rest more (All-tail P a before all) (All-tail P b other also) not nor tails
 
-in_all : {A : Type 0} (P : A → Type 0) (before : List A) (x : A) (rest : List A) → All P (before ++ (x ∷ rest)) → P x
+pub in_all : {A : Type 0} (P : A → Type 0) (before : List A) (x : A) (rest : List A) → All P (before ++ (x ∷ rest)) → P x
 in_all P [] x rest all = All-head P x rest all
 in_all P (a ∷ before) x rest all = in_all P before x rest (All-tail P a (before ++ (x ∷ rest)) all)
 
@@ -44,10 +53,10 @@ module _ (schemas : List Schema) (add : Data) where
       let tree : a.1 ≡ b.1 = cc in
       λ i. (index i, tree i)
 
-  trees_one : (trees others : List (ℕ × PlainTree)) → AreRead schemas recorded trees → AreRead schemas recorded others → trees ≡ others
+  pub trees_one : (trees others : List (ℕ × PlainTree)) → AreRead schemas recorded trees → AreRead schemas recorded others → trees ≡ others
   trees_one trees others one other = each_once (GivesTree schemas) tree_one recorded trees others one other
 
-  no_tree : (trees : List (ℕ × PlainTree)) (type_index place : ℕ) (reason : Reason) → AreRead schemas recorded trees → IsFirstUnread schemas recorded type_index place reason → ⊥
+  pub no_tree : (trees : List (ℕ × PlainTree)) (type_index place : ℕ) (reason : Reason) → AreRead schemas recorded trees → IsFirstUnread schemas recorded type_index place reason → ⊥
   no_tree trees type_index place reason read first =
       let all : All (λ (entry : Entry). IsOk (read_tree schemas entry.type_index entry.value)) recorded = each_ok recorded trees read in
       let ok : IsOk (read_tree schemas type_index first.value) =
@@ -62,13 +71,13 @@ module _ (schemas : List Schema) (add : Data) where
       each_ok (e ∷ es) (t ∷ ts) are =
           All-cons (λ (entry : Entry). IsOk (read_tree schemas entry.type_index entry.value)) e es (subst IsOk (sym are.0.1) refl) (each_ok es ts are.1)
 
-  no_type : (name : List ℕ) → AreTypes schemas add → IsFirstUnknown schemas add name → ⊥
+  pub no_type : (name : List ℕ) → AreTypes schemas add → IsFirstUnknown schemas add name → ⊥
   no_type name types first =
       let known = in_all (λ (n : List ℕ). IsSome (index_of_type schemas n)) first.before name first.rest
       (subst (λ (names : List (List ℕ)). All (λ (n : List ℕ). IsSome (index_of_type schemas n)) names) first.split types) in
       let bad = subst IsSome first.unknown known in absurd cc
 
-  unknown_one : (a b : List ℕ) → IsFirstUnknown schemas add a → IsFirstUnknown schemas add b → a ≡ b
+  pub unknown_one : (a b : List ℕ) → IsFirstUnknown schemas add a → IsFirstUnknown schemas add b → a ≡ b
   unknown_one a b one other =
       first_one (λ (n : List ℕ). IsSome (index_of_type schemas n)) one.before other.before a b one.rest other.rest one.known other.known
       (λ known. (let bad = subst IsSome one.unknown known in absurd cc)) (λ known. (let bad = subst IsSome other.unknown known in absurd cc)) (sym one.split ∙ other.split)
@@ -82,10 +91,20 @@ module _ (schemas : List Schema) (add : Data) where
       let both : Err reason ≡ Err why_too = sym one.unread ∙ ap (λ (e : Entry). read_tree schemas e.type_index e.value) same ∙ other.unread in
       (ap (λ (e : Entry). e.type_index) same, ap (λ (e : Entry). e.place) same, cc)
 
+-- ---- the keys that a change removes
+
+module _ (schemas : List Schema) (names : IsKept schemas DuplicateName) where
+  pub removed_one : (entry : Entry) (a b : ℕ × List Value) → GivesKey schemas entry a → GivesKey schemas entry b → a ≡ b
+  removed_one entry a b (index, (paths, are, spells)) (also, (others, are_too, spells_too)) =
+      let same = paths_once schemas names entry.type_index paths others are are_too in
+      let key = key_once schemas paths entry.value a.1 b.1 spells (subst (λ (ps : List Path). SpellsKey schemas ps entry.value b.1) (sym same) spells_too) in
+      let at = index ∙ sym also in
+      λ i. (at i, key i)
+
 -- ---- the records that a cycle adds
 
 module _ (schemas : List Schema) where
-  abbrev Unread : Data → Refusal → Type 0
+  abbrev pub Unread : Data → Refusal → Type 0
   Unread add refusal =
       (name : List ℕ) × (place : ℕ) × (reason : Reason) × (refusal ≡ bad_record name place reason)
       × ((t : ℕ) × IsSomeAnd (slice_get schemas t) (λ (s : Schema). s.name ≡ name) × IsFirstUnread schemas (entries schemas add) t place reason)
@@ -104,8 +123,11 @@ module _ (schemas : List Schema) where
   no_trees (given records) (refused.NoType name) is = absurd is
   no_trees (given records) (refused.BadRecord fault) is = absurd is
   no_trees (given records) _ is = absurd is
+  no_trees (edited put remove) (refused.NoType name) is = absurd is
+  no_trees (edited put remove) (refused.BadRecord fault) is = absurd is
+  no_trees (edited put remove) _ is = absurd is
 
-  unread_same : (add : Data) (r s : Refusal) → Unread add r → Unread add s → r ≡ s
+  pub unread_same : (add : Data) (r s : Refusal) → Unread add r → Unread add s → r ≡ s
   unread_same add r s (name, place, reason, is, (t, named, first)) (other, place_too, reason_too, is_too, (u, named_too, first_too)) =
       let same = unread_one schemas add t u place place_too reason reason_too first first_too in
       let names = name_once (slice_get schemas u) name other (subst (λ k. IsSomeAnd (slice_get schemas k) (λ (s : Schema). s.name ≡ name)) same.0 named) named_too in
@@ -117,14 +139,21 @@ module _ (schemas : List Schema) where
   no_trees_one (spelled add) r s (inr (types, unread)) (inl (name, is, first)) = absurd (no_type schemas add name types first)
   no_trees_one (spelled add) r s (inr (types, unread)) (inr (types_too, also)) = unread_same add r s unread also
   no_trees_one (given records) r s none also = absurd none
+  no_trees_one (edited put remove) r s none also = absurd none
 
 module _ (last : Published) where
   pub no_trees_apart : (add : Adding) (r : Refusal) (trees : List (ℕ × PlainTree)) → GivesTrees last add trees → NoTrees last.model add r → ⊥
   no_trees_apart (spelled add) r trees gives (inl (name, is, first)) = no_type last.model add name gives.types first
   no_trees_apart (spelled add) r trees gives (inr (types, (name, place, reason, is, (t, named, first)))) = no_tree last.model add trees t place reason gives.read first
   no_trees_apart (given records) r trees gives none = none
+  no_trees_apart (edited put remove) r trees gives none = none
 
   -- the records give trees in one way
-  pub given_one : (add : Adding) (trees others : List (ℕ × PlainTree)) → GivesTrees last add trees → GivesTrees last add others → trees ≡ others
-  given_one (spelled add) trees others gives also = trees_one last.model add trees others gives.read also.read
-  given_one (given records) trees others gives also = gives ∙ sym also
+  pub given_one : IsKept last.model DuplicateName → (add : Adding) (trees others : List (ℕ × PlainTree)) → GivesTrees last add trees → GivesTrees last add others → trees ≡ others
+  given_one names (spelled add) trees others gives also = trees_one last.model add trees others gives.read also.read
+  given_one names (given records) trees others gives also = gives ∙ sym also
+  given_one names (edited put remove) trees others (puts, removes, spells, edits) (puts_too, removes_too, spells_too, edits_too) =
+      let same = trees_one last.model put puts puts_too spells.records.read spells_too.records.read in
+      let keys = each_once (GivesKey last.model) (removed_one last.model names) (entries last.model remove) removes removes_too spells.keys.read spells_too.keys.read in
+      edited_once last.model last.rows puts removes trees others edits
+      (subst (λ (ps : Records). IsEdited last.model last.rows ps removes others) (sym same) (subst (λ (ks : Keys). IsEdited last.model last.rows puts_too ks others) (sym keys) edits_too))

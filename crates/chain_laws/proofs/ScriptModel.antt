@@ -19,7 +19,7 @@ use Rattle.hollow_machine.specs.MakeCommand.{film_cycle, film_machine}
 use Rattle.hollow_machine.specs.ModelOrder.{ModelStep}
 use Rattle.hollow_machine.specs.Records.{Adding, AskedCycle, GivesNoTrees, GivesTrees, SpellsTrees, asked_cycle, given, spelled}
 use Rattle.hollow_machine.specs.State.{Machine, started}
-use Rattle.chain_laws.proofs.OneRecords.{given_one, no_trees, no_trees_apart}
+use Rattle.chain_laws.proofs.OneRecords.{no_trees, no_trees_apart, trees_one}
 use Rattle.chain_laws.proofs.ScriptFilms.{films_read}
 use Rattle.chain_laws.specs.ScriptOrders.{films_data, script_model, script_state}
 
@@ -105,7 +105,7 @@ module _ (machine : Machine) (seed rows cycle : ℕ) (within : rows ≤ 2 ^ 31) 
 
   pub cycle_is : (asked : AskedState) → asked ≡ script_state seed rows cycle → (answer : Reply) (next : Machine) → CycleStep machine (asked_cycle asked) answer next ↔ CycleStep machine (film_cycle seed rows cycle) answer next
   cycle_is asked is answer next = (
-    λ step. answered_alike machine cycle (cycle_tag seed cycle) json trees (λ last last_is others gives. given_one last json others (films seed rows cycle) gives (spells last last_is))
+    λ step. answered_alike machine cycle (cycle_tag seed cycle) json trees (λ last last_is others gives. trees_one last.model (films_data seed rows cycle) others (films seed rows cycle) gives.read (spells last last_is).read)
         (λ last last_is refusal none. no_trees_apart last json refusal (films seed rows cycle) (spells last last_is) (no_trees last.model json refusal none)) answer next
         (subst (λ (a : AskedState). CycleStep machine (asked_cycle a) answer next) is step),
     λ step. subst (λ (a : AskedState). CycleStep machine (asked_cycle a) answer next) (sym is)

@@ -17,14 +17,14 @@ use Rattle.schema_model.specs.Model.{IsModel}
 use Rattle.hol_orders.specs.declared.order.Order.{Order}
 use Rattle.hol_orders.specs.declared.order.Order.TheVariants as order
 use Rattle.hol_orders.specs.Order.{IsOrder, Orders}
-use Rattle.hol_orders.specs.Parts.{asked_state}
+use Rattle.hol_orders.specs.Parts.{asked_change, asked_state}
 use Rattle.hol_answers.specs.declared.reply.Reply.{Reply}
 use Rattle.hol_answers.specs.Reply.{is_refusal, line_of}
 use Rattle.hollow_machine.specs.CycleOrder.{Makes}
 use Rattle.hollow_machine.specs.Follow.{MayFollow}
 use Rattle.hollow_machine.specs.MakeCommand.{film_cycle, film_machine}
 use Rattle.hollow_machine.specs.Made.{LeavesCycles, StopsMake}
-use Rattle.hollow_machine.specs.Records.{AskedCycle, asked_cycle}
+use Rattle.hollow_machine.specs.Records.{AskedCycle, asked_cycle, cycle_of_change}
 use Rattle.hollow_machine.specs.Script.{LineStep, Script}
 use Rattle.hollow_machine.specs.State.{Machine, started}
 use Rattle.hollow_machine.specs.Left.{HasFirst}
@@ -127,6 +127,10 @@ module _ (machine : Machine) (chain : Chain) (kept : KeepsChain machine.store ch
   asked_fits (order.Cycle next_state) asked fits is =
       let there : Some (asked_cycle (asked_state next_state)) ≡ Some asked = is in
       let same : asked_cycle (asked_state next_state) ≡ asked = cc in
+      subst (λ (a : AskedCycle). IsVersion a.version × FitsSigned w64 a.tag) same (fits.0, fits.1)
+  asked_fits (order.Change wanted) asked fits is =
+      let there : Some (cycle_of_change (asked_change wanted)) ≡ Some asked = is in
+      let same : cycle_of_change (asked_change wanted) ≡ asked = cc in
       subst (λ (a : AskedCycle). IsVersion a.version × FitsSigned w64 a.tag) same (fits.0, fits.1)
   asked_fits _ asked fits is = absurd cc
 

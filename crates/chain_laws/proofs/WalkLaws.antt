@@ -1,5 +1,5 @@
 -- The laws of the orders `walkindex` and `walkfind`.
-use Rattle.std.proofs.Common.{◌≡◌, ℕ, List, Option, Some, None, refl, subst, sym, true}
+use Rattle.std.proofs.Common.{ℕ, List, Option, refl, subst, sym, true}
 use Rattle.std.specs.Prelude.{IfSome}
 use Rattle.serde_json.specs.Data.{Data}
 use Rattle.schema_model.specs.declared.schema.name.Name.{Name}

@@ -17,6 +17,7 @@ ghost use Rattle.hol_orders.specs.declared.kind.Kind.TheVariants as Kind;
 ghost use Rattle.hol_orders.specs.Order.{kind_of};
 ghost use Rattle.hol_orders.specs.Parts.{asked_state};
 ghost use Rattle.hol_orders.specs.declared.order.NextState.{NextState};
+ghost use Rattle.hol_orders.specs.declared.order.StateChange.{StateChange};
 ghost use Rattle.hol_orders.specs.declared.order.Order.{Order};
 ghost use Rattle.hol_orders.specs.declared.order.Order.TheVariants as order;
 ghost use Rattle.hol_answers.specs.declared.refusal.Difference.{Difference};
@@ -352,6 +353,16 @@ pub fn one_cycle()
     ensures { (machine next after : Machine) (chain : Chain) (asked : NextState) (answer other : Reply)
         → KeepsChain machine.store chain → IsProducerOf chain machine.producer
         → Step machine (order.Cycle asked) answer next → Step machine (order.Cycle asked) other after → (answer ≡ other) × (next ≡ after) }
+{
+    blob_writing::laws::one_written_snapshot();
+    blob_writing::laws::one_written_delta();
+}
+
+/// So has a change, and leaves one machine: why it is none of the last state is told in one way, and its edited list is one.
+pub fn one_change()
+    ensures { (machine next after : Machine) (chain : Chain) (asked : StateChange) (answer other : Reply)
+        → KeepsChain machine.store chain → IsProducerOf chain machine.producer
+        → Step machine (order.Change asked) answer next → Step machine (order.Change asked) other after → (answer ≡ other) × (next ≡ after) }
 {
     blob_writing::laws::one_written_snapshot();
     blob_writing::laws::one_written_delta();

@@ -4,6 +4,8 @@ pub mod Bounding
 pub mod Following
 pub mod Leaving
 pub mod Matching
+pub mod Scanning
+pub mod Shifts
 pub mod Showing
 pub mod Sought
 pub mod Typed

@@ -10,29 +10,25 @@ use Rattle.row_model.specs.declared.row.Value.{Value}
 use Rattle.row_model.specs.Key.{ordinal_in, type_behind, unless_null, value_along, value_in}
 use Rattle.row_model.specs.Table.{IsClosed, IsLive, Table, row_at}
 use Rattle.key_index.proofs.KeptKeys.{named_live}
-use Rattle.history_orders.specs.Valued.{HasLed, HasNaming}
+use Rattle.history_orders.specs.Valued.{HasLed, HasNaming, HasValuedBelow}
 
 module _ (table : Table) (t field : ℕ) (value : Value) where
   -- the row under an ordinal is live and has the value
   abbrev pub HasIt : ℕ → Type 0
   HasIt ordinal = IsLive table t ordinal × (unless_null (value_in (row_at table t ordinal) field) ≡ Some value)
 
-  -- The ordinals below a limit whose records have the value are among these.
-  abbrev pub HasValuedBelow : ℕ → List ℕ → Type 0
-  HasValuedBelow limit among = (ordinal : ℕ) → ordinal < limit → HasIt ordinal → Contains among ordinal
-
-  pub one_listed : (limit : ℕ) (among listed : List ℕ) → HasValuedBelow limit among → listed ≡ among ++ limit ∷ [] → HasValuedBelow (limit + 1) listed
-  one_listed limit among listed below is = λ ordinal low has. subst (λ (os : List ℕ). Contains os ordinal) (sym is) (by ordinal low has (cases_lt ordinal limit))
+  pub one_listed : (limit : ℕ) (among listed : List ℕ) → HasValuedBelow table t field value limit among → listed ≡ among ++ limit ∷ [] → HasValuedBelow table t field value (limit + 1) listed
+  one_listed limit among listed below is = λ ordinal low live has. subst (λ (os : List ℕ). Contains os ordinal) (sym is) (by ordinal low (live, has) (cases_lt ordinal limit))
     where
       by : (ordinal : ℕ) → ordinal < limit + 1 → HasIt ordinal → (ordinal < limit) ⊎ (limit ≤ ordinal) → Contains (among ++ limit ∷ []) ordinal
-      by ordinal low has (inl before) = Contains-append_left among (limit ∷ []) ordinal (below ordinal before has)
+      by ordinal low has (inl before) = Contains-append_left among (limit ∷ []) ordinal (below ordinal before has.0 has.1)
       by ordinal low has (inr past) = subst (Contains (among ++ limit ∷ [])) (omega (arith, low, past)) (Contains-push among limit)
 
-  pub one_left : (limit : ℕ) (among listed : List ℕ) → HasValuedBelow limit among → listed ≡ among → (¬ HasIt limit) → HasValuedBelow (limit + 1) listed
-  one_left limit among listed below is never = λ ordinal low has. subst (λ (os : List ℕ). Contains os ordinal) (sym is) (by ordinal low has (cases_lt ordinal limit))
+  pub one_left : (limit : ℕ) (among listed : List ℕ) → HasValuedBelow table t field value limit among → listed ≡ among → (¬ HasIt limit) → HasValuedBelow table t field value (limit + 1) listed
+  one_left limit among listed below is never = λ ordinal low live has. subst (λ (os : List ℕ). Contains os ordinal) (sym is) (by ordinal low (live, has) (cases_lt ordinal limit))
     where
       by : (ordinal : ℕ) → ordinal < limit + 1 → HasIt ordinal → (ordinal < limit) ⊎ (limit ≤ ordinal) → Contains among ordinal
-      by ordinal low has (inl before) = below ordinal before has
+      by ordinal low has (inl before) = below ordinal before has.0 has.1
       by ordinal low has (inr past) = absurd (never (subst HasIt (omega (arith, low, past)) has))
 
 -- ---- a way through references

@@ -1,17 +1,22 @@
 //! The rows of a type among which those are that have a key, by the columns of its first path.
-ghost use Rattle.std.specs.Prelude.{◌≡◌, IfOk, IfSome, IsTrue, Some};
+ghost use Rattle.std.specs.Prelude.{◌≡◌, ◌≤◌, Contains, IfOk, IfSome, IsTrue, OnOk, Some};
 ghost use Rattle.row_model.specs.declared.row.Value.{Value as ValueOf};
 ghost use Rattle.row_model.specs.Key.{type_behind as type_led_to, unless_null, value_in as field_of};
 ghost use Rattle.row_model.specs.Table.{IsClosed, IsLive, row_at};
 ghost use Rattle.record_views.specs.Bytes.{bytes_of};
 ghost use Rattle.record_views.specs.Columns.{Shows};
 ghost use Rattle.column_rows.specs.Columns.{IsColumnOf};
+ghost use Rattle.history_orders.specs.Left.{HasAll};
 ghost use Rattle.history_orders.specs.Older.{HasMatches};
-ghost use Rattle.history_orders.specs.Valued.{AreBytesOf, HasLed, HasNaming, HasValued};
+ghost use Rattle.history_orders.specs.Scanned.{HasNumbered, HasWordsBelow};
+ghost use Rattle.history_orders.specs.Valued.{AreBytesOf, HasLed, HasNaming, HasValued, HasValuedBelow};
 
 use crate::key_rows::type_behind;
+use crate::number_scan::{near, next_with};
+use bit_array::all_ones;
 use column_rows::ColumnRows;
 use hol_varint::put_units;
+use object_codec::stored_number;
 use record_views::{Column, PackedBytes, ValueRef};
 use row_model::{Rows, Value, Values};
 use schema_model::{Model, Paths};
@@ -101,7 +106,8 @@ fn rows_naming<R: ColumnRows>(
     }
 }
 
-// The ordinals of a type among which those are whose records have a value in the field of a column.
+// The ordinals of a type among which those are whose records have a value in the field of a column: by its number, where it has one, as far as a pass over the
+// packed words goes, and from there on by the value.
 fn rows_with_value<R: ColumnRows>(
     alloc: Global,
     rows: &R,
@@ -116,12 +122,85 @@ fn rows_with_value<R: ColumnRows>(
     let spelled = bytes_of_value(alloc, value)?;
     let bytes = spelled.as_slice();
     let mut among = Vec::new(alloc);
-    for ordinal in 0..rows.bound(type_index) {
+    let passed = add_with_number(rows, column, type_index, field, value, &mut among)?;
+    for ordinal in passed..rows.bound(type_index) {
         if may_have(rows, column, type_index, field, ordinal, value, bytes) {
             among.push(ordinal)?;
         }
     }
     Ok(among)
+}
+
+// Adds the ordinals below one that is answered whose records have a value in the field of a column, where the packed words tell it by a number.
+#[tactic(auto, using(crate::proofs::Scanning::valued_none, crate::proofs::Scanning::numbered_valued, crate::proofs::Scanning::past_valued))]
+fn add_with_number<R: ColumnRows>(
+    rows: &R,
+    column: &Column<'_>,
+    type_index: u32,
+    field: u32,
+    value: &Value,
+    among: &mut Vec<u32>,
+) -> Result<u32, AllocError>
+    requires { IsColumnOf (R.table rows.now) type_index field column.now }
+    ensures { IfOk result (λ passed. HasValuedBelow (R.table rows.now) type_index field value.now passed among.new.items) }
+{
+    let Some(number) = stored_number(value) else {
+        return Ok(0);
+    };
+    if column.width > 64 {
+        return Ok(0);
+    }
+    let bound = rows.bound(type_index);
+    if number >= all_ones(column.width) {
+        return Ok(bound);
+    }
+    let passed = near(column, bound);
+    add_numbered(rows, column, type_index, number, passed, among)?;
+    Ok(passed)
+}
+
+// Adds the live ordinals below one whose elements in a column are a number.
+#[tactic(auto, using(crate::proofs::Scanning::numbered_none, crate::proofs::Scanning::numbered_to, crate::proofs::Scanning::numbered_more))]
+fn add_numbered<R: ColumnRows>(
+    rows: &R,
+    column: &Column<'_>,
+    type_index: u32,
+    number: u64,
+    end: u32,
+    among: &mut Vec<u32>,
+) -> Result<(), AllocError>
+    requires some { 1 ≤ column.now.width }
+    requires narrow { column.now.width ≤ 64 }
+    requires words { HasWordsBelow column.now end }
+    ensures { OnOk result (HasNumbered (R.table rows.now) type_index column.now number end among.new.items) }
+{
+    let mut next = 0;
+    while next < end {
+        let found = next_with(column, number, next, end);
+        if found == end {
+            return Ok(());
+        }
+        add_live(rows, type_index, found, among)?;
+        next = found + 1;
+    }
+    Ok(())
+}
+
+// Adds an ordinal, if it is live.
+#[tactic(auto, using(crate::proofs::Scanning::pushed_keeps, crate::proofs::Scanning::pushed_has))]
+fn add_live<R: Rows>(
+    rows: &R,
+    type_index: u32,
+    ordinal: u32,
+    among: &mut Vec<u32>,
+) -> Result<(), AllocError>
+    ensures added { OnOk result (IsLive (R.table rows.now) type_index ordinal → Contains among.new.items ordinal) }
+    ensures kept { OnOk result (HasAll among.old.items among.new.items) }
+{
+    if rows.is_live(type_index, ordinal) {
+        among.push(ordinal)?;
+    }
+    Ok(())
 }
 
 // The bytes of a value, if it is a text or bytes.
@@ -175,14 +254,15 @@ fn may_be(shown: ValueRef<'_>, value: &Value, bytes: &[u8]) -> bool
     }
 }
 
-// Whether packed bytes are these.
+// Whether packed bytes are these. The last ones are looked at first: keys have their fronts in common more often than their ends.
 fn are_bytes(packed: PackedBytes<'_>, bytes: &[u8]) -> bool
     ensures { bytes_of packed.entry ≡ bytes.now → IsTrue result }
 {
     if packed.len != bytes.len() as u64 {
         return false;
     }
-    for at in 0..packed.len {
+    for behind in 0..packed.len {
+        let at = packed.len - 1 - behind;
         if packed.byte(at) != bytes[at as usize] {
             return false;
         }

@@ -160,6 +160,7 @@ fn has_value<R: Rows>(
 }
 
 /// The value of a field of a record.
+#[inline(always)]
 pub(crate) fn value_in(row: &Row, field: u32) -> Option<&Value>
     ensures { option_copied result ≡ field_of (Some row.now) field }
 {
@@ -170,6 +171,7 @@ pub(crate) fn value_in(row: &Row, field: u32) -> Option<&Value>
 }
 
 /// Whether a value is this one, which no null is.
+#[inline(always)]
 pub(crate) fn is_value(found: &Value, value: &Value) -> bool
     ensures { IsTrue result ↔ (unless_null (Some found.now) ≡ Some value.now) }
 {

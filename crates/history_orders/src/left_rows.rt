@@ -54,6 +54,7 @@ fn add_left(
 }
 
 // Whether a row may have a key, wherever it stands: false only where its own field at the end of the first path has another value.
+#[inline(always)]
 fn may_have_key(row: &Row, paths: &Paths, key: &Values) -> bool
     ensures { (schemas : List Schema) (table : Table) (t ordinal : ℕ) → row_at table t ordinal ≡ Some row.now → key_of schemas table t paths.now ordinal ≡ Some key.now → IsTrue result }
 {
@@ -67,6 +68,7 @@ fn may_have_key(row: &Row, paths: &Paths, key: &Values) -> bool
 }
 
 // Whether fields may lead from a row to a value, wherever it stands: false only where they are one field, which has another value.
+#[inline(always)]
 fn may_lead(row: &Row, fields: &[u32], value: &Value) -> bool
     ensures { (schemas : List Schema) (table : Table) (t ordinal : ℕ) → row_at table t ordinal ≡ Some row.now → value_along schemas table t ordinal fields.now ≡ Some value.now → IsTrue result }
 {

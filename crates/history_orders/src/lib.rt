@@ -7,6 +7,7 @@ mod key_rows;
 mod key_seek;
 mod keyed;
 mod left_rows;
+mod number_scan;
 mod record;
 mod was_get_order;
 mod was_order;

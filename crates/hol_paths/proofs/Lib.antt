@@ -6,6 +6,8 @@ pub mod Gathering
 pub mod KeptReach
 pub mod Leaving
 pub mod Lookup
+pub mod MetNumbers
+pub mod Moved
 pub mod PackedLists
 pub mod Pieces
 pub mod Places

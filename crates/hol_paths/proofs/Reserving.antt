@@ -1,7 +1,8 @@
 -- What is reserved, and what is left once it is turned.
 use Rattle.std.proofs.Common.{◌≡◌, ◌↔◌, ℕ, ◌+◌, ◌-◌, ◌<◌, ◌≤◌, ◌∙◌, refl, sym, ap, subst, inl, inr, arith, List, ◌++◌, Option, Some, None, length, map}
-use Rattle.std.specs.Prelude.{[], All, Contains, IfSome, Result, Ok, Err}
+use Rattle.std.specs.Prelude.{[], All, Contains, IfSome, IsPermutation, Result, Ok, Err}
 use Rattle.std.proofs.lemmas.List.{length-append, length-map, map-append}
+use Rattle.std.proofs.lemmas.List.Sorted.{All-permutation, IsPermutation-map, length_permutation}
 use Rattle.hol_varint.specs.Yields.{Yields}
 use Rattle.schema_model.specs.Limit.{number_of_limit}
 use Rattle.schema_model.specs.declared.limit.Limit.TheVariants.{Entries}
@@ -20,6 +21,7 @@ use Rattle.hol_paths.specs.Walked.{AreAdded, CountsOwners, Entry, FollowsWalk, H
 use Rattle.hol_paths.proofs.Coming.{few_entries, kept, left_entries, next_entries, places_there, stays_in}
 use Rattle.hol_paths.proofs.Counting.{counts_few, counts_next, counts_none, gone_rows, not_more, of_entry, of_slot}
 use Rattle.hol_paths.proofs.Leaving.{left_length}
+use Rattle.hol_paths.proofs.Moved.{added_moved, counts_moved, entries_moved}
 
 -- once it is turned there are not too many
 pub turned_few : (before : Slotted) (reserved : Reserved) (slots : List Slot) → IsReserved before reserved → slots ≡ without_slots reserved.leaving before.slots ++ reserved.coming.items → length slots ≤ number_of_limit Entries
@@ -96,16 +98,17 @@ pub record AreReady (schemas : List Schema) (table : Table) (t : ℕ) (parts : L
 
 module _ (schemas : List Schema) (table : Table) (t : ℕ) (parts : List WalkPart) where
   pub are_ready : (v0 v1 v2 : List Value) (s0 s1 : List Slot) (removed removed1 added added1 leaving leaving1 : List ℕ) (coming coming1 : List Slot)
-      → v2 ≡ v1 → s1 ≡ s0 → entries_of v1 s0 ≡ entries_of v0 s0 → removed1 ≡ removed → added1 ≡ added → leaving1 ≡ leaving → coming1 ≡ coming
+      → v2 ≡ v1 → s1 ≡ s0 → entries_of v1 s0 ≡ entries_of v0 s0 → removed1 ≡ removed → added1 ≡ added → leaving1 ≡ leaving → IsPermutation coming coming1
       → FollowsWalk (entries_of v0 s0) schemas table t parts removed added → AreLeaving s0 removed1 leaving → AreAdded schemas table t parts added1 (entries_of v1 coming)
       → AreReady schemas table t parts v2 s1 removed added leaving1 coming1
-  are_ready v0 v1 v2 s0 s1 removed removed1 added added1 leaving leaving1 coming coming1 same_values same_slots same same_removed same_added same_leaving same_coming follows leaves comes = record {
+  are_ready v0 v1 v2 s0 s1 removed removed1 added added1 leaving leaving1 coming coming1 same_values same_slots same same_removed same_added same_leaving moved follows leaves comes = record {
     follows = subst (λ (es : List Entry). FollowsWalk es schemas table t parts removed added)
         (sym (ap (λ (vs : List Value). entries_of vs s1) same_values ∙ ap (entries_of v1) same_slots ∙ same)) follows;
     leaves = subst (λ (ss : List Slot). AreLeaving ss removed leaving1) (sym same_slots)
         (subst (λ (rs : List ℕ). AreLeaving s0 rs leaving1) same_removed (subst (λ (ls : List ℕ). AreLeaving s0 removed1 ls) (sym same_leaving) leaves));
     comes = subst (λ (os : List ℕ). AreAdded schemas table t parts os (entries_of v2 coming1)) same_added
-        (subst (λ (es : List Entry). AreAdded schemas table t parts added1 es) (sym (ap (λ (vs : List Value). entries_of vs coming1) same_values ∙ ap (entries_of v1) same_coming)) comes);
+        (subst (λ (es : List Entry). AreAdded schemas table t parts added1 es) (sym (ap (λ (vs : List Value). entries_of vs coming1) same_values))
+        (added_moved schemas table t parts added1 (entries_of v1 coming) (entries_of v1 coming1) (IsPermutation-map (entry_of v1) coming coming1 moved) comes));
   }
 
   module _ (values : List Value) (slots : List Slot) (removed added leaving : List ℕ) (coming : List Slot) (ready : AreReady schemas table t parts values slots removed added leaving coming) where
@@ -178,16 +181,21 @@ kept_none entries is = subst (λ (e : Slotted). IsWalkKept e 0 None) (sym is) re
 
 -- ---- what is made ready
 
-pub made_ready : (before after : Slotted) (reserved : Reserved) → after.values ≡ before.values → after.slots ≡ before.slots → Rises reserved.leaving → All (λ p. p < length before.slots) reserved.leaving
-    → AreKnown before.values reserved.coming.items → length before.slots + length reserved.coming.items ≤ number_of_limit Entries + length reserved.leaving → length before.slots + length reserved.coming.items ≤ after.room
-    → CountsOwners (entries_of before.values (without_slots reserved.leaving before.slots ++ reserved.coming.items)) reserved.keyed → IsReserved after reserved
-made_ready before after reserved same_values same_slots rises there known few room counts = record {
-  rises = rises;
-  there = subst (λ (ss : List Slot). All (λ p. p < length ss) reserved.leaving) (sym same_slots) there;
-  known = subst (λ (vs : List Value). AreKnown vs reserved.coming.items) (sym same_values) known;
-  room = subst (λ (ss : List Slot). length ss + length reserved.coming.items ≤ after.room) (sym same_slots) room;
-  few = subst (λ (ss : List Slot). length ss + length reserved.coming.items ≤ number_of_limit Entries + length reserved.leaving) (sym same_slots) few;
-  counts = subst (λ (es : List Entry). CountsOwners es reserved.keyed)
-      (sym (ap (λ (vs : List Value). entries_of vs (without_slots reserved.leaving after.slots ++ reserved.coming.items)) same_values
-      ∙ ap (λ (ss : List Slot). entries_of before.values (without_slots reserved.leaving ss ++ reserved.coming.items)) same_slots)) counts;
-}
+pub made_ready : (before after : Slotted) (coming : List Slot) (reserved : Reserved) → IsPermutation coming reserved.coming.items → after.values ≡ before.values → after.slots ≡ before.slots → Rises reserved.leaving
+    → All (λ p. p < length before.slots) reserved.leaving → AreKnown before.values coming → length before.slots + length coming ≤ number_of_limit Entries + length reserved.leaving
+    → length before.slots + length coming ≤ after.room → CountsOwners (entries_of before.values (without_slots reserved.leaving before.slots ++ coming)) reserved.keyed → IsReserved after reserved
+made_ready before after coming reserved moved same_values same_slots rises there known few room counts =
+    let long = length_permutation coming reserved.coming.items moved in
+    let slots_long = ap (λ (ss : List Slot). length ss) same_slots in
+    record {
+      rises = rises;
+      there = subst (λ (ss : List Slot). All (λ p. p < length ss) reserved.leaving) (sym same_slots) there;
+      known = All-permutation (λ (s : Slot). s.number < length after.values) coming reserved.coming.items moved (subst (λ (vs : List Value). AreKnown vs coming) (sym same_values) known);
+      room = omega (arith, room, long, slots_long);
+      few = omega (arith, few, long, slots_long);
+      counts = counts_moved (entries_of after.values (without_slots reserved.leaving after.slots ++ coming)) (next_of after reserved)
+          (entries_moved after.values (without_slots reserved.leaving after.slots) coming reserved.coming.items moved) reserved.keyed
+          (subst (λ (es : List Entry). CountsOwners es reserved.keyed)
+          (sym (ap (λ (vs : List Value). entries_of vs (without_slots reserved.leaving after.slots ++ coming)) same_values
+          ∙ ap (λ (ss : List Slot). entries_of before.values (without_slots reserved.leaving ss ++ coming)) same_slots)) counts);
+    }

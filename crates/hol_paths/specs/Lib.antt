@@ -1,5 +1,6 @@
 pub mod Distinct
 pub mod Groups
+pub mod Met
 pub mod Packed
 pub mod Reached
 pub mod Slots

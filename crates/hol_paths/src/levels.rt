@@ -101,12 +101,34 @@ fn field_values<R: ColumnRows>(
     requires { All (IsLive (R.table rows.now) type_index) level.now }
     ensures { IfOk result (AreOnceOf (flat_map (values_by (R.table rows.now) type_index (WalkPart.Field field)) level.now)) }
 {
+    if let [ordinal] = level {
+        return own_values(alloc, rows, type_index, *ordinal, field);
+    }
     let mut values = Distinct::new(alloc);
     for ordinal in level {
         let value = field_value(alloc, rows, type_index, *ordinal, field)?;
         values.add_some(unless_null(value))?;
     }
     Ok(values.into_values())
+}
+
+/// The value that one row has in a field, if it is not null.
+fn own_values<R: ColumnRows>(
+    alloc: Global,
+    rows: &R,
+    type_index: u32,
+    ordinal: u32,
+    field: u32,
+) -> Result<Values, AllocError>
+    requires { IsLive (R.table rows.now) type_index ordinal }
+    ensures { IfOk result (λ values. values ≡ values_by (R.table rows.now) type_index (WalkPart.Field field) ordinal) }
+{
+    let mut values = Values::new(alloc);
+    let value = field_value(alloc, rows, type_index, ordinal, field)?;
+    if let Some(stored) = unless_null(value) {
+        values.push(stored)?;
+    }
+    Ok(values)
 }
 
 /// A value that is not null.

@@ -8,6 +8,7 @@ mod groups;
 mod index;
 pub mod laws;
 mod levels;
+mod met;
 mod named;
 mod packed;
 mod read;

@@ -28,6 +28,20 @@ pub fn read_walk<R: ColumnRows, L: Ledger>(
     ensures counted { steps.new ≡ steps.old + 1 }
 {
     steps.tick();
+    reached_by(alloc, rows, path, ordinal)
+}
+
+/// The same. It counts no step.
+pub(crate) fn reached_by<R: ColumnRows>(
+    alloc: Global,
+    rows: &R,
+    path: &WalkPath,
+    ordinal: u32,
+) -> Result<Values, AllocError>
+    requires closed { IsClosed (R.schemas rows.now) (R.table rows.now) }
+    requires live { IsLive (R.table rows.now) path.now.type_index ordinal }
+    ensures { IfOk result (AreReached (R.schemas rows.now) (R.table rows.now) path.now.type_index path.now.parts ordinal) }
+{
     let mut level = Ordinals::new(alloc);
     level.push(ordinal)?;
     values_along(alloc, rows, path.type_index, path.parts.as_slice(), &level)

@@ -1,5 +1,5 @@
 //! The entries by which the next state differs from the state of now.
-ghost use Rattle.std.specs.Prelude.{ℕ, ◌≡◌, ◌+◌, ◌-◌, ◌≤◌, ◌<◌, ◌++◌, All, Err, IfOk, OnOk, length, map};
+ghost use Rattle.std.specs.Prelude.{ℕ, ◌≡◌, ◌+◌, ◌-◌, ◌≤◌, ◌<◌, ◌++◌, ◌∷◌, [], All, Err, IfOk, IfSome, IsPermutation, OnOk, get_or, length, map};
 ghost use Rattle.row_model.specs.Row.{Rises};
 ghost use Rattle.row_model.specs.Table.{IsClosed, IsLive};
 ghost use Rattle.hol_paths.specs.declared.fault.WalkFault.{WalkFault as Fault};
@@ -8,18 +8,21 @@ ghost use Rattle.hol_varint.specs.Yields.{Yields};
 ghost use Rattle.row_model.specs.Reach.{AreEntries};
 ghost use Rattle.schema_model.specs.Limit.{number_of_limit};
 ghost use Rattle.schema_model.specs.declared.limit.Limit.{Limit};
-ghost use Rattle.hol_paths.specs.Slots.{AreKnown, AreLeaving, CountsOnce, IsReserved, ReachMany, entries_of, next_of, owner_in, owner_of, without_slots};
+ghost use Rattle.hol_paths.specs.Met.{AreMet, IsFirstColumn, IsRowPushed, KeepsMet, NamesOnly, ReachesMany};
+ghost use Rattle.hol_paths.specs.Slots.{AreKnown, AreLeaving, CountsOnce, IsReserved, ReachMany, entries_of, next_of, no_slot, owner_in, owner_of, without_slots};
 ghost use Rattle.hol_paths.specs.Walked.{AreAdded, CountsOwners, FollowsWalk, HasManyEntries, IsFree};
 
 use crate::entries::{Entries, Slot};
 use crate::fault::WalkFault;
-use crate::levels::rising;
-use crate::read::read_walk;
+use crate::levels::{rising, type_behind};
+use crate::met::{first_column, keep_number, none_met, number_through, only_named};
+use crate::read::reached_by;
 use column_rows::ColumnRows;
 use hol_io::Steps;
 use hol_varint::Ordinals;
+use record_views::Column;
 use row_model::{Rows, Values};
-use schema_model::WalkPath;
+use schema_model::{WalkPart, WalkPath};
 use std::alloc::{AllocError, Global};
 use std::sync::ledger::Ledger;
 
@@ -72,6 +75,139 @@ fn push_entries(
     Ok(())
 }
 
+/// Adds an entry of a row that reaches the value of a number, if there are then not more than so many.
+fn push_met(owner: u32, number: u32, most: usize, coming: &mut Vec<Slot>) -> Result<(), WalkFault>
+    requires { length coming.old.items ≤ most }
+    ensures coming { OnOk result (coming.new.items ≡ coming.old.items ++ record { owner = owner; number = number } ∷ []) }
+    ensures few { OnOk result (length coming.new.items ≤ most) }
+    ensures many { result ≡ Err Fault.Entries → most < length coming.old.items + 1 }
+{
+    if coming.len() >= most {
+        return Err(WalkFault::Entries);
+    }
+    push_slot(coming, Slot { owner, number })?;
+    Ok(())
+}
+
+/// Adds a slot.
+fn push_slot(coming: &mut Vec<Slot>, slot: Slot) -> Result<(), AllocError>
+    ensures { OnOk result (coming.new.items ≡ coming.old.items ++ slot ∷ []) }
+{
+    coming.push(slot)?;
+    Ok(())
+}
+
+/// The number of the slot at a place.
+fn number_in(slots: &[Slot], place: usize) -> u32
+    requires { place < length slots.now }
+    ensures { result ≡ (get_or slots.now place no_slot).number }
+{
+    slots[place].number
+}
+
+/// Keeps the number of the one entry that stands behind others for the ordinal that its row names; nothing where there are more entries or none.
+fn keep_read(
+    met: &mut Vec<Option<u32>>,
+    named: Option<u32>,
+    coming: &[Slot],
+    before: usize,
+    count: usize,
+)
+    requires { count ≡ 1 → before < length coming.now }
+    ensures one { count ≡ 1 → KeepsMet met.old.items named (get_or coming.now before no_slot).number met.new.items }
+    ensures other { (count ≡ 1 → ⊥) → met.new.items ≡ met.old.items }
+{
+    if count == 1 {
+        keep_number(met, named, number_in(coming, before));
+    }
+}
+
+/// Adds the entries of a row that is read, if there are then not more than so many, and keeps the number of its one value.
+fn push_read<R: ColumnRows>(
+    alloc: Global,
+    rows: &R,
+    path: &WalkPath,
+    owner: u32,
+    named: Option<u32>,
+    most: usize,
+    entries: &mut Entries,
+    met: &mut Vec<Option<u32>>,
+    coming: &mut Vec<Slot>,
+) -> Result<(), WalkFault>
+    requires closed { IsClosed (R.schemas rows.now) (R.table rows.now) }
+    requires live { IsLive (R.table rows.now) path.now.type_index owner }
+    requires named { IfSome named (NamesOnly (R.table rows.now) path.now.type_index path.now.parts owner) }
+    requires known { AreKnown entries.old.values coming.old.items }
+    requires few { length coming.old.items ≤ most }
+    requires met { AreMet (R.schemas rows.now) (R.table rows.now) path.now.type_index path.now.parts entries.old.values met.old.items }
+    ensures slots { entries.new.slots ≡ entries.old.slots }
+    ensures room { entries.new.room ≡ entries.old.room }
+    ensures entries { entries_of entries.new.values entries.old.slots ≡ entries_of entries.old.values entries.old.slots }
+    ensures known { OnOk result (AreKnown entries.new.values coming.new.items) }
+    ensures pushed { OnOk result (IsRowPushed (R.schemas rows.now) (R.table rows.now) path.now.type_index path.now.parts owner (entries_of entries.old.values coming.old.items) (entries_of entries.new.values coming.new.items)) }
+    ensures few { OnOk result (length coming.new.items ≤ most) }
+    ensures met { OnOk result (AreMet (R.schemas rows.now) (R.table rows.now) path.now.type_index path.now.parts entries.new.values met.new.items) }
+    ensures many { result ≡ Err Fault.Entries → ReachesMany (R.schemas rows.now) (R.table rows.now) path.now.type_index path.now.parts owner (length coming.old.items) most }
+{
+    let values = reached_by(alloc, rows, path, owner)?;
+    let before = coming.len();
+    let count = values.len();
+    if count > most - before {
+        return Err(WalkFault::Entries);
+    }
+    push_entries(entries, owner, values, coming)?;
+    keep_read(met, named, coming.as_slice(), before, count);
+    Ok(())
+}
+
+/// Adds the entries of a row, if there are then not more than so many. A row that names an ordinal that was met is not read.
+fn push_row<R: ColumnRows>(
+    alloc: Global,
+    rows: &R,
+    column: &Option<Column<'_>>,
+    path: &WalkPath,
+    owner: u32,
+    most: usize,
+    entries: &mut Entries,
+    met: &mut Vec<Option<u32>>,
+    coming: &mut Vec<Slot>,
+) -> Result<(), WalkFault>
+    requires closed { IsClosed (R.schemas rows.now) (R.table rows.now) }
+    requires live { IsLive (R.table rows.now) path.now.type_index owner }
+    requires column { IfSome column.now (IsFirstColumn (R.table rows.now) path.now.type_index path.now.parts) }
+    requires known { AreKnown entries.old.values coming.old.items }
+    requires few { length coming.old.items ≤ most }
+    requires met { AreMet (R.schemas rows.now) (R.table rows.now) path.now.type_index path.now.parts entries.old.values met.old.items }
+    ensures slots { entries.new.slots ≡ entries.old.slots }
+    ensures room { entries.new.room ≡ entries.old.room }
+    ensures entries { entries_of entries.new.values entries.old.slots ≡ entries_of entries.old.values entries.old.slots }
+    ensures known { OnOk result (AreKnown entries.new.values coming.new.items) }
+    ensures pushed { OnOk result (IsRowPushed (R.schemas rows.now) (R.table rows.now) path.now.type_index path.now.parts owner (entries_of entries.old.values coming.old.items) (entries_of entries.new.values coming.new.items)) }
+    ensures few { OnOk result (length coming.new.items ≤ most) }
+    ensures met { OnOk result (AreMet (R.schemas rows.now) (R.table rows.now) path.now.type_index path.now.parts entries.new.values met.new.items) }
+    ensures many { result ≡ Err Fault.Entries → ReachesMany (R.schemas rows.now) (R.table rows.now) path.now.type_index path.now.parts owner (length coming.old.items) most }
+{
+    let parts = path.parts.as_slice();
+    let t = path.type_index;
+    let named = only_named(alloc, rows, column, t, parts, owner, met.as_slice())?;
+    match number_through(met.as_slice(), named) {
+        Some(number) => push_met(owner, number, most, coming),
+        None => push_read(alloc, rows, path, owner, named, most, entries, met, coming),
+    }
+}
+
+/// For how many ordinals numbers are kept, where so many rows are read: for all that the first part of a path may name, unless they are many more than the rows.
+fn met_room<R: ColumnRows>(rows: &R, path: &WalkPath, count: usize) -> usize {
+    let Some(WalkPart::Field(field)) = path.parts.as_slice().first() else {
+        return 0;
+    };
+    let Some(named) = type_behind(rows.model(), path.type_index, WalkPart::Field(*field)) else {
+        return 0;
+    };
+    let bound = rows.bound(named) as usize;
+    if bound / 4 <= count { bound } else { 0 }
+}
+
 /// The entries of rows that come, if they are not more than so many. It counts a step for each row. The entries that are kept stay as they are.
 pub(crate) fn read_added<R: ColumnRows, L: Ledger>(
     alloc: Global,
@@ -96,12 +232,21 @@ pub(crate) fn read_added<R: ColumnRows, L: Ledger>(
     ensures bounded { (steps.old ≤ steps.new) × (steps.new ≤ steps.old + length added.now) }
 {
     let mut coming = Vec::new(alloc);
+    let mut met = none_met(alloc, met_room(rows, path, added.len()))?;
+    let column = first_column(rows, path);
     for ordinal in added {
-        let values = read_walk(alloc, rows, path, *ordinal, steps)?;
-        if values.len() > most - coming.len() {
-            return Err(WalkFault::Entries);
-        }
-        push_entries(entries, *ordinal, values, &mut coming)?;
+        steps.tick();
+        push_row(
+            alloc,
+            rows,
+            &column,
+            path,
+            *ordinal,
+            most,
+            entries,
+            &mut met,
+            &mut coming,
+        )?;
     }
     Ok(coming)
 }
@@ -115,6 +260,14 @@ fn count_owners(alloc: Global, slots: &[Slot]) -> Result<u64, AllocError>
         owners.push(slot.owner)?;
     }
     Ok(rising(owners).len() as u64)
+}
+
+/// The same entries, those of a value side by side: a walk along the chain of a value then goes through neighbouring slots.
+fn by_value(mut coming: Vec<Slot>) -> Result<Vec<Slot>, AllocError>
+    ensures { IfOk result (λ sorted. IsPermutation coming.items sorted.items) }
+{
+    coming.sort_by_key(|slot| slot.number)?;
+    Ok(coming)
 }
 
 /// What is reserved, of the places of the entries that leave and of the entries that come. It makes the room for them, and counts the rows that have an entry then.
@@ -135,7 +288,7 @@ fn make_ready(
     ensures slots { entries.new.slots ≡ entries.old.slots }
     ensures reserved { IfOk result (IsReserved entries.new) }
     ensures leaving { IfOk result (λ reserved. reserved.leaving ≡ leaving) }
-    ensures coming { IfOk result (λ reserved. reserved.coming.items ≡ coming.items) }
+    ensures coming { IfOk result (λ reserved. IsPermutation coming.items reserved.coming.items) }
 {
     let gone = entries.count_owners(alloc, leaving.as_slice())?;
     let new = count_owners(alloc, coming.as_slice())?;
@@ -145,6 +298,7 @@ fn make_ready(
     entries.reserve(room as u32)?;
     let kept = keyed - gone;
     let keyed = kept + new;
+    let coming = by_value(coming)?;
     Ok(Reserved {
         leaving,
         coming,

@@ -16,10 +16,11 @@ use Rattle.state_blobs.specs.Published.{Published}
 use Rattle.state_blobs.specs.Puts.{Put, put_all, puts_of}
 use Rattle.hol_orders.specs.declared.order.Order.{Order}
 use Rattle.hol_orders.specs.declared.order.Order.TheVariants as order
-use Rattle.hol_orders.specs.Parts.{asked_state}
+use Rattle.hol_orders.specs.Parts.{AskedChange, asked_change, asked_state}
 use Rattle.hol_answers.specs.declared.refusal.Refusal.{Refusal}
 use Rattle.hol_answers.specs.declared.reply.Reply.{Reply}
 use Rattle.hol_answers.specs.declared.reply.Reply.TheVariants as reply
+use Rattle.hollow_machine.specs.ChangeOrder.{ChangeStep, Misses}
 use Rattle.hollow_machine.specs.CycleOrder.{CycleStep, SucceedsAfter}
 use Rattle.hollow_machine.specs.GrowOrder.{GrowStep, GrowsOn}
 use Rattle.hollow_machine.specs.HistoryOrders.{HistoryStep}
@@ -28,7 +29,7 @@ use Rattle.hollow_machine.specs.KeyPaths.{AreKeyPaths, HasShape, IsObject}
 use Rattle.hollow_machine.specs.LoadOrder.{LoadStep}
 use Rattle.hollow_machine.specs.ModelOrder.{ModelStep}
 use Rattle.hollow_machine.specs.PlanOrders.{Applies, Goes, GotoStep}
-use Rattle.hollow_machine.specs.Records.{AskedCycle, asked_cycle}
+use Rattle.hollow_machine.specs.Records.{AskedCycle, asked_cycle, cycle_of_change}
 use Rattle.hollow_machine.specs.RestoreOrder.{RestoreStep}
 use Rattle.hollow_machine.specs.Script.{LineStep}
 use Rattle.hollow_machine.specs.State.{Machine, with_consumer}
@@ -161,10 +162,22 @@ cycle_puts machine next asked (reply.Cycle names published version) is = found_p
 cycle_puts machine next asked (reply.Refused refusal) is = inl (same_store machine next machine is.1 refl)
 cycle_puts machine next asked _ is = absurd is
 
+found_change : (machine next : Machine) (asked : AskedChange) (names : List (List ℕ)) (published : Bool) (missing : ℕ) (producer : Option Published) → machine.producer ≡ producer
+    → IsSomeAnd producer (λ last. Misses last asked.remove missing × SucceedsAfter machine last (cycle_of_change asked) names published next)
+    → HasAll (CyclePuts (cycle_of_change asked) machine) machine.store next.store
+found_change machine next asked names published missing None is succeeds = absurd succeeds
+found_change machine next asked names published missing (Some last) is succeeds = succeeds_puts machine next last (cycle_of_change asked) names published is succeeds.1
+
+pub change_puts : (machine next : Machine) (asked : AskedChange) (answer : Reply) → ChangeStep machine asked answer next → HasAll (CyclePuts (cycle_of_change asked) machine) machine.store next.store
+change_puts machine next asked (reply.Change change) is = found_change machine next asked change.changed change.published change.missing machine.producer refl is.1
+change_puts machine next asked (reply.Refused refusal) is = inl (same_store machine next machine is.1 refl)
+change_puts machine next asked _ is = absurd is
+
 -- ---- lines
 
 order_puts : (asked : Order) (machine next : Machine) (answer : Reply) → Step machine asked answer next → HasAll (OrderPuts asked machine) machine.store next.store
 order_puts (order.Cycle next_state) machine next answer is = cycle_puts machine next (asked_cycle (asked_state next_state)) answer is
+order_puts (order.Change change) machine next answer is = change_puts machine next (asked_change change) answer is
 order_puts (order.Model schemas) machine next answer is = inl (model_stays machine next _ answer is)
 order_puts (order.Grow schemas) machine next answer is = inl (grow_stays machine next _ answer is)
 order_puts (order.Restore version) machine next answer is = inl (restore_stays machine next version answer is)

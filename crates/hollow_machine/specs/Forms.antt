@@ -1,7 +1,6 @@
 -- What the orders of a kind are answered.
 use Rattle.std.specs.Prelude.{◌≡◌, Option, Bool, false}
 use Rattle.hol_answers.specs.declared.refusal.Refusal.{Refusal}
-use Rattle.hol_answers.specs.declared.refusal.Refusal.TheVariants.{BadOrder}
 use Rattle.hol_answers.specs.declared.reply.Reply.{Reply}
 use Rattle.hol_answers.specs.declared.reply.Reply.TheVariants.{Refused}
 use Rattle.read_engine.specs.Position.{Position}
@@ -37,7 +36,3 @@ LooksBy (moving Leads) consumer asked reply = ⊥
 -- The answer is this refusal, and the machine is as it was.
 abbrev pub Refuses : Machine → Refusal → Reply → Machine → Type 0
 Refuses machine refusal reply next = (reply ≡ Refused refusal) × (next ≡ machine)
-
--- Orders that are not built: each is told to be none.
-abbrev pub unbuilt : {Asked : Type 0} → OrderForm Asked
-unbuilt = looking (λ consumer asked answer. answer ≡ Refused BadOrder) false

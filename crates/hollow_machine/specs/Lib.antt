@@ -1,4 +1,5 @@
 pub mod Blobs
+pub mod ChangeOrder
 pub mod CheckOrder
 pub mod CycleOrder
 pub mod Follow

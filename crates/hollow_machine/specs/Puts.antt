@@ -9,10 +9,10 @@ use Rattle.state_blobs.specs.Puts.{AreBlobs, IsShort, Put, puts_of}
 use Rattle.hol_orders.specs.declared.order.Order.{Order}
 use Rattle.hol_orders.specs.declared.order.Order.TheVariants as order
 use Rattle.hol_orders.specs.Order.{Orders}
-use Rattle.hol_orders.specs.Parts.{asked_state}
+use Rattle.hol_orders.specs.Parts.{asked_change, asked_state}
 use Rattle.hollow_machine.specs.CycleOrder.{Makes, Publishes}
 use Rattle.hollow_machine.specs.Follow.{MayFollow}
-use Rattle.hollow_machine.specs.Records.{AskedCycle, GivesTrees, asked_cycle}
+use Rattle.hollow_machine.specs.Records.{AskedCycle, GivesTrees, asked_cycle, cycle_of_change}
 use Rattle.hollow_machine.specs.Script.{longest_line}
 use Rattle.hollow_machine.specs.State.{Machine}
 
@@ -33,9 +33,10 @@ PutsAfter store last asked puts =
 abbrev pub CyclePuts : AskedCycle → Machine → List Put → Type 0
 CyclePuts asked machine puts = IsSomeAnd machine.producer (λ last. PutsAfter machine.store last asked puts)
 
--- The cycle that an order asks for, if it asks for one.
+-- The cycle that an order asks for, if it asks for one: a change asks for that of the edited list.
 abbrev pub asks_for : Order → Option AskedCycle
 asks_for (order.Cycle next_state) = Some (asked_cycle (asked_state next_state))
+asks_for (order.Change change) = Some (cycle_of_change (asked_change change))
 asks_for _ = None
 
 -- The order may put blobs.

@@ -1,23 +1,32 @@
--- The records of a cycle, and which trees they give: as JSON, those under the name of each type of the model, types in model order.
+-- The records of a cycle, and which trees they give: as JSON, those under the name of each type of the model, types in model order. And those of a change: its
+-- edited list.
 use Rattle.std.specs.Prelude.{◌≡◌, ℕ, ℤ, List, [], ◌∷◌, ◌++◌, All, Bool, true, IsOk, IsSome, IsSomeAnd, None, Ok, Err, length, map, flat_map, slice_get, unwrap_or}
 use Rattle.std.specs.List.{AllZip, range_with_len, zip}
 use Rattle.std.specs.Option.{option_map_or, option_and_then}
 use Rattle.serde_json.specs.Data.{Data, Items, no_items, item, Members, no_members, member}
 use Rattle.serde_json.specs.Find.{as_array, as_object, get}
+use Rattle.schema_model.specs.declared.model.path.Path.{Path}
 use Rattle.schema_model.specs.declared.reason.Reason.{Reason}
 use Rattle.schema_model.specs.declared.schema.Schema.{Schema}
 use Rattle.schema_model.specs.Parts.{index_of_type}
+use Rattle.row_model.specs.declared.row.Value.{Value}
 use Rattle.row_model.specs.PlainTree.{PlainTree}
 use Rattle.record_json.specs.ReadTree.{read_tree}
 use Rattle.state_blobs.specs.Published.{Published}
-use Rattle.hol_orders.specs.Parts.{AskedState}
+use Rattle.hol_incremental.specs.Changes.{HaveKeys, HaveOwnKeys}
+use Rattle.hol_incremental.specs.Edited.{IsEdited, Keys}
+use Rattle.hol_incremental.specs.Roots.{AreKeyPaths, IsKeyed}
+use Rattle.json_values.specs.KeyFrom.{SpellsKey}
+use Rattle.hol_orders.specs.Parts.{AskedChange, AskedState}
 use Rattle.hol_answers.specs.declared.refusal.Refusal.{Refusal}
 use Rattle.hol_answers.specs.declared.refusal.Refusal.TheVariants.{BadRecord, NoType}
 
--- The records that a cycle adds: as the JSON of an order, or as trees, each with its type.
+-- The records that a cycle adds: as the JSON of an order, or as trees, each with its type; or those of the last state, of which some are put and others removed:
+-- the JSON of the records that are put, and that of the primary keys of those that are removed.
 pub data Adding : Type 0 where
   spelled : Data → Adding
   given : List (ℕ × PlainTree) → Adding
+  edited : Data → Data → Adding
 
 -- What a cycle asks for: the version and the tag that the next state is to have, the records that it adds, and whether its snapshot is to be put.
 pub record AskedCycle : Type 0 where
@@ -29,6 +38,10 @@ pub record AskedCycle : Type 0 where
 -- what an order asks for: where it does not say whether the snapshot is put, it is
 abbrev pub asked_cycle : AskedState → AskedCycle
 asked_cycle asked = record { version = asked.version; tag = asked.tag; add = spelled asked.add; snapshot = unwrap_or asked.snapshot true }
+
+-- what a change asks for: its snapshot is put
+abbrev pub cycle_of_change : AskedChange → AskedCycle
+cycle_of_change asked = record { version = asked.version; tag = asked.tag; add = edited asked.put asked.remove; snapshot = true }
 
 -- A record of a cycle: the index of its type, its place among the records of the type, from 0, and its JSON.
 pub record Entry : Type 0 where
@@ -104,15 +117,41 @@ pub record SpellsTrees (schemas : List Schema) (add : Data) (trees : List (ℕ �
   pub types : AreTypes schemas add
   pub read : AreRead schemas (entries schemas add) trees
 
+-- the array gives this primary key of its type, and has its type
+abbrev pub GivesKey : List Schema → Entry → ℕ × List Value → Type 0
+GivesKey schemas entry typed = (typed.0 ≡ entry.type_index) × ((paths : List Path) × AreKeyPaths schemas entry.type_index paths × SpellsKey schemas paths entry.value typed.1)
+
+-- The JSON gives these primary keys, each with its type: each name is that of a type.
+pub record SpellsKeys (schemas : List Schema) (remove : Data) (removes : Keys) : Type 0 where
+  pub types : AreTypes schemas remove
+  pub read : AllZip (GivesKey schemas) (entries schemas remove) removes
+
+-- Each name is that of a type with a primary key.
+abbrev pub AreKeyedTypes : List Schema → Data → Type 0
+AreKeyedTypes schemas json = All (λ name. IsSomeAnd (index_of_type schemas name) (IsKeyed schemas)) (names_of json)
+
+-- The JSON gives the records that are put and the primary keys of those that are removed: all types have a primary key, each record has one, and no two of a
+-- type have the same.
+pub record SpellsChange (schemas : List Schema) (put remove : Data) (puts : List (ℕ × PlainTree)) (removes : Keys) : Type 0 where
+  pub put_types : AreKeyedTypes schemas put
+  pub remove_types : AreKeyedTypes schemas remove
+  pub records : SpellsTrees schemas put puts
+  pub keyed : HaveKeys schemas puts
+  pub own : HaveOwnKeys schemas puts
+  pub keys : SpellsKeys schemas remove removes
+
 -- The records give these trees behind the producer's last state.
 abbrev pub GivesTrees : Published → Adding → List (ℕ × PlainTree) → Type 0
 GivesTrees last (spelled add) trees = SpellsTrees last.model add trees
 GivesTrees last (given records) trees = trees ≡ records
+GivesTrees last (edited put remove) trees =
+    (puts : List (ℕ × PlainTree)) × (removes : Keys) × SpellsChange last.model put remove puts removes × IsEdited last.model last.rows puts removes trees
 
 -- The records are JSON, of which this holds.
 abbrev pub IsSpelledAnd : Adding → (Data → Type 0) → Type 0
 IsSpelledAnd (spelled add) P = P add
 IsSpelledAnd (given records) P = ⊥
+IsSpelledAnd (edited put remove) P = ⊥
 
 -- Why the records give no trees: a name is that of no type; or a record, of this type, gives none.
 abbrev pub GivesNoTrees : List Schema → Adding → Refusal → Type 0

@@ -1,15 +1,16 @@
 -- What the machine answers to an order, and the machine behind it.
 use Rattle.std.specs.Prelude.{Option}
 use Rattle.hol_orders.specs.declared.kind.Kind.{Kind}
-use Rattle.hol_orders.specs.declared.kind.Kind.TheVariants.{Model, Cycle, Restore, Load, Step as StepKind, Index, Get, Find, Live, Row, Has, At, Past, Check, Stat, Grow, Plan, Goto, WalkIndex, WalkFind, History, Was, WasGet}
+use Rattle.hol_orders.specs.declared.kind.Kind.TheVariants.{Model, Cycle, Restore, Load, Step as StepKind, Index, Get, Find, Live, Row, Has, At, Past, Check, Stat, Grow, Plan, Goto, Change, WalkIndex, WalkFind, History, Was, WasGet}
 use Rattle.hol_orders.specs.declared.order.Order.{Order}
 use Rattle.hol_orders.specs.Kind.{shape}
 use Rattle.hol_orders.specs.Order.{asked_of, kind_of}
 use Rattle.hol_answers.specs.declared.reply.Reply.{Reply}
 use Rattle.read_engine.specs.Position.{Position}
+use Rattle.hollow_machine.specs.ChangeOrder.{change_form}
 use Rattle.hollow_machine.specs.CheckOrder.{check_form}
 use Rattle.hollow_machine.specs.CycleOrder.{cycle_form}
-use Rattle.hollow_machine.specs.Forms.{IsLooking, LooksBy, OrderForm, StepBy, unbuilt}
+use Rattle.hollow_machine.specs.Forms.{IsLooking, LooksBy, OrderForm, StepBy}
 use Rattle.hollow_machine.specs.GrowOrder.{grow_form}
 use Rattle.hollow_machine.specs.HistoryOrders.{history_form, was_form, wasget_form}
 use Rattle.hollow_machine.specs.IndexOrder.{index_form}
@@ -25,7 +26,7 @@ use Rattle.hollow_machine.specs.StatOrder.{stat_form}
 use Rattle.hollow_machine.specs.StepOrder.{step_form}
 use Rattle.hollow_machine.specs.WalkOrders.{walkfind_form, walkindex_form}
 
--- What the orders of each kind are answered. Those of the last line are not built.
+-- What the orders of each kind are answered.
 abbrev pub form : (kind : Kind) → OrderForm (shape kind).Asked
 form Model = model_form
 form Cycle = cycle_form
@@ -45,12 +46,12 @@ form Stat = stat_form
 form Grow = grow_form
 form Plan = plan_form
 form Goto = goto_form
+form Change = change_form
 form WalkIndex = walkindex_form
 form WalkFind = walkfind_form
 form History = history_form
 form Was = was_form
 form WasGet = wasget_form
-form _ = unbuilt
 
 -- What an order is answered.
 abbrev pub Step : Machine → Order → Reply → Machine → Type 0

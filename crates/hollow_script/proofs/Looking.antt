@@ -4,25 +4,25 @@ use Rattle.std.specs.Prelude.{◌≢◌}
 use Rattle.serde_json.specs.declared.value.Value.{Value}
 use Rattle.schema_model.specs.declared.schema.name.Name.{Name}
 use Rattle.hol_orders.specs.declared.order.NextState.{NextState}
+use Rattle.hol_orders.specs.declared.order.StateChange.{StateChange}
 use Rattle.hol_orders.specs.declared.order.Order.{Order}
 use Rattle.hol_orders.specs.declared.order.Order.TheVariants as order
 use Rattle.hol_orders.specs.declared.order_stop.OrderStop.{OrderStop}
-use Rattle.hol_answers.specs.declared.refusal.Refusal.TheVariants.{BadOrder}
 use Rattle.hol_answers.specs.declared.reply.Reply.{Reply}
-use Rattle.hol_answers.specs.declared.reply.Reply.TheVariants.{Refused}
 use Rattle.hollow_machine.specs.Step.{IsLook, LooksAt}
 use Rattle.hollow_script.specs.Orders.{IsLookBack, IsOfReader}
 use Rattle.read_engine.specs.Position.{Position}
 
 -- an order that is none of a producer, and does not check the store
 pub of_reader : (asked : Order) → ((schemas : Value) → asked ≢ order.Model schemas) → ((next : NextState) → asked ≢ order.Cycle next) → ((version : ℕ) → asked ≢ order.Restore version) →
-    ((versions : List ℕ) → asked ≢ order.Check versions) → ((schemas : Value) → asked ≢ order.Grow schemas) → IsOfReader asked
-of_reader (order.Model schemas) not_model not_cycle not_restore not_check not_grow = absurd (not_model schemas refl)
-of_reader (order.Cycle next) not_model not_cycle not_restore not_check not_grow = absurd (not_cycle next refl)
-of_reader (order.Restore version) not_model not_cycle not_restore not_check not_grow = absurd (not_restore version refl)
-of_reader (order.Check versions) not_model not_cycle not_restore not_check not_grow = absurd (not_check versions refl)
-of_reader (order.Grow schemas) not_model not_cycle not_restore not_check not_grow = absurd (not_grow schemas refl)
-of_reader _ not_model not_cycle not_restore not_check not_grow = tt
+    ((versions : List ℕ) → asked ≢ order.Check versions) → ((schemas : Value) → asked ≢ order.Grow schemas) → ((next : StateChange) → asked ≢ order.Change next) → IsOfReader asked
+of_reader (order.Model schemas) not_model not_cycle not_restore not_check not_grow not_change = absurd (not_model schemas refl)
+of_reader (order.Cycle next) not_model not_cycle not_restore not_check not_grow not_change = absurd (not_cycle next refl)
+of_reader (order.Restore version) not_model not_cycle not_restore not_check not_grow not_change = absurd (not_restore version refl)
+of_reader (order.Check versions) not_model not_cycle not_restore not_check not_grow not_change = absurd (not_check versions refl)
+of_reader (order.Grow schemas) not_model not_cycle not_restore not_check not_grow not_change = absurd (not_grow schemas refl)
+of_reader (order.Change next) not_model not_cycle not_restore not_check not_grow not_change = absurd (not_change next refl)
+of_reader _ not_model not_cycle not_restore not_check not_grow not_change = tt
 
 -- an order of the consumer that is none of those that move the machine, or ask for a plan, looks
 pub looks_back : (asked : Order) → IsOfReader asked → ((version : ℕ) → asked ≢ order.Load version) → ((from to : ℕ) → asked ≢ order.Step from to) →
@@ -31,6 +31,7 @@ pub looks_back : (asked : Order) → IsOfReader asked → ((version : ℕ) → a
 looks_back (order.Model schemas) of not_load not_step not_plan not_goto not_index not_history not_walkindex = absurd of
 looks_back (order.Cycle next) of not_load not_step not_plan not_goto not_index not_history not_walkindex = absurd of
 looks_back (order.Grow schemas) of not_load not_step not_plan not_goto not_index not_history not_walkindex = absurd of
+looks_back (order.Change next) of not_load not_step not_plan not_goto not_index not_history not_walkindex = absurd of
 looks_back (order.Restore version) of not_load not_step not_plan not_goto not_index not_history not_walkindex = absurd of
 looks_back (order.Check versions) of not_load not_step not_plan not_goto not_index not_history not_walkindex = absurd of
 looks_back (order.Load version) of not_load not_step not_plan not_goto not_index not_history not_walkindex = absurd (not_load version refl)
@@ -53,19 +54,18 @@ looks_here _ back not_was not_wasget = back
 pub look_is : (asked other : Order) (consumer : Option Position) (r : Result Reply OrderStop) → asked ≡ other → IfOk r (LooksAt other consumer) → IfOk r (LooksAt asked consumer)
 look_is asked other consumer r is looks = subst (λ (o : Order). IfOk r (LooksAt o consumer)) (sym is) looks
 
--- a look that is none of those that are built is told to be no order
-pub unbuilt_looks : (asked : Order) (consumer : Option Position) → IsLook asked → ((name : Name) (values : Value) → asked ≢ order.Get name values) →
+-- each look is one of these
+pub no_other_look : (asked : Order) → IsLook asked → ((name : Name) (values : Value) → asked ≢ order.Get name values) →
     ((name : Name) (paths values : Value) → asked ≢ order.Find name paths values) → ((name : Name) → asked ≢ order.Live name) → ((name : Name) (ordinal : ℕ) → asked ≢ order.Row name ordinal) →
     ((name : Name) (ordinal element : ℕ) → asked ≢ order.Has name ordinal element) → ((name : Name) (ordinal key : ℕ) → asked ≢ order.At name ordinal key) →
-    ((name : Name) → asked ≢ order.Past name) → asked ≢ order.Stat → ((name path : Name) (value : Value) → asked ≢ order.WalkFind name path value) → LooksAt asked consumer (Refused BadOrder)
-unbuilt_looks (order.Get name values) consumer look not_get not_find not_live not_row not_has not_at not_past not_stat not_walkfind = absurd (not_get name values refl)
-unbuilt_looks (order.Find name paths values) consumer look not_get not_find not_live not_row not_has not_at not_past not_stat not_walkfind = absurd (not_find name paths values refl)
-unbuilt_looks (order.Live name) consumer look not_get not_find not_live not_row not_has not_at not_past not_stat not_walkfind = absurd (not_live name refl)
-unbuilt_looks (order.Row name ordinal) consumer look not_get not_find not_live not_row not_has not_at not_past not_stat not_walkfind = absurd (not_row name ordinal refl)
-unbuilt_looks (order.Has name ordinal element) consumer look not_get not_find not_live not_row not_has not_at not_past not_stat not_walkfind = absurd (not_has name ordinal element refl)
-unbuilt_looks (order.At name ordinal key) consumer look not_get not_find not_live not_row not_has not_at not_past not_stat not_walkfind = absurd (not_at name ordinal key refl)
-unbuilt_looks (order.Past name) consumer look not_get not_find not_live not_row not_has not_at not_past not_stat not_walkfind = absurd (not_past name refl)
-unbuilt_looks order.Stat consumer look not_get not_find not_live not_row not_has not_at not_past not_stat not_walkfind = absurd (not_stat refl)
-unbuilt_looks (order.Change change) consumer look not_get not_find not_live not_row not_has not_at not_past not_stat not_walkfind = refl
-unbuilt_looks (order.WalkFind name path value) consumer look not_get not_find not_live not_row not_has not_at not_past not_stat not_walkfind = absurd (not_walkfind name path value refl)
-unbuilt_looks _ consumer look not_get not_find not_live not_row not_has not_at not_past not_stat not_walkfind = absurd look
+    ((name : Name) → asked ≢ order.Past name) → asked ≢ order.Stat → ((name path : Name) (value : Value) → asked ≢ order.WalkFind name path value) → ⊥
+no_other_look (order.Get name values) look not_get not_find not_live not_row not_has not_at not_past not_stat not_walkfind = absurd (not_get name values refl)
+no_other_look (order.Find name paths values) look not_get not_find not_live not_row not_has not_at not_past not_stat not_walkfind = absurd (not_find name paths values refl)
+no_other_look (order.Live name) look not_get not_find not_live not_row not_has not_at not_past not_stat not_walkfind = absurd (not_live name refl)
+no_other_look (order.Row name ordinal) look not_get not_find not_live not_row not_has not_at not_past not_stat not_walkfind = absurd (not_row name ordinal refl)
+no_other_look (order.Has name ordinal element) look not_get not_find not_live not_row not_has not_at not_past not_stat not_walkfind = absurd (not_has name ordinal element refl)
+no_other_look (order.At name ordinal key) look not_get not_find not_live not_row not_has not_at not_past not_stat not_walkfind = absurd (not_at name ordinal key refl)
+no_other_look (order.Past name) look not_get not_find not_live not_row not_has not_at not_past not_stat not_walkfind = absurd (not_past name refl)
+no_other_look order.Stat look not_get not_find not_live not_row not_has not_at not_past not_stat not_walkfind = absurd (not_stat refl)
+no_other_look (order.WalkFind name path value) look not_get not_find not_live not_row not_has not_at not_past not_stat not_walkfind = absurd (not_walkfind name path value refl)
+no_other_look _ look not_get not_find not_live not_row not_has not_at not_past not_stat not_walkfind = look

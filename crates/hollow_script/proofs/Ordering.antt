@@ -11,8 +11,10 @@ use Rattle.hol_orders.specs.declared.order.Order.{Order}
 use Rattle.hol_orders.specs.declared.order.Order.TheVariants as order
 use Rattle.hol_answers.specs.declared.reply.Reply.{Reply}
 use Rattle.hol_orders.specs.declared.order.NextState.{NextState}
-use Rattle.hol_orders.specs.Parts.{asked_state}
-use Rattle.hollow_machine.specs.Records.{asked_cycle}
+use Rattle.hol_orders.specs.declared.order.StateChange.{StateChange}
+use Rattle.hol_orders.specs.Parts.{asked_change, asked_state}
+use Rattle.hollow_machine.specs.Records.{asked_cycle, cycle_of_change}
+use Rattle.hollow_machine.specs.ChangeOrder.{ChangeStep}
 use Rattle.hollow_machine.specs.CycleOrder.{CycleStep}
 use Rattle.hollow_machine.specs.Forms.{LooksBy, OrderForm, StepBy, looking, moving}
 use Rattle.hollow_machine.specs.GrowOrder.{GrowStep}
@@ -68,6 +70,12 @@ module _ (held : Option Store) (kept : Kept) (producer : Option Production) (ask
       MovesProducer (λ machine reply next. CycleStep machine (asked_cycle (asked_state next_state)) reply next) held kept.producer held' producer r →
       Moves (λ machine reply next. Step machine asked reply next) held kept held' (kept_with_producer kept producer) r
   cycle_moves held' next_state is moves = asked_moves held held' kept (kept_with_producer kept producer) asked (order.Cycle next_state) r is (moves kept)
+
+  -- and so does the order `change`
+  pub change_moves : (held' : Option Store) (next_state : StateChange) → asked ≡ order.Change next_state →
+      MovesProducer (λ machine reply next. ChangeStep machine (asked_change next_state) reply next) held kept.producer held' producer r →
+      Moves (λ machine reply next. Step machine asked reply next) held kept held' (kept_with_producer kept producer) r
+  change_moves held' next_state is moves = asked_moves held held' kept (kept_with_producer kept producer) asked (order.Change next_state) r is (moves kept)
 
 -- as the order `restore` moves the machine, so does an order that is one
 pub restore_moves : (held held' : Option Store) (kept : Kept) (producer : Option Production) (asked : Order) (r : Result Reply OrderStop) (version : ℕ) → asked ≡ order.Restore version →
@@ -144,3 +152,8 @@ same_published producer (Err why) = refl
 pub cycle_halts : (held held' : Option Store) (kept : Kept) (asked : Order) (r : Result Reply OrderStop) (next_state : NextState) → asked ≡ order.Cycle next_state →
     HaltsProducer (CyclePuts (asked_cycle (asked_state next_state))) held kept.producer held' r → Halts (OrderPuts asked) held kept held' r
 cycle_halts held held' kept asked r next_state is halts = subst (λ (o : Order). Halts (OrderPuts o) held kept held' r) (sym is) (halts kept)
+
+-- the order `change`
+pub change_halts : (held held' : Option Store) (kept : Kept) (asked : Order) (r : Result Reply OrderStop) (next_state : StateChange) → asked ≡ order.Change next_state →
+    HaltsProducer (CyclePuts (cycle_of_change (asked_change next_state))) held kept.producer held' r → Halts (OrderPuts asked) held kept held' r
+change_halts held held' kept asked r next_state is halts = subst (λ (o : Order). Halts (OrderPuts o) held kept held' r) (sym is) (halts kept)

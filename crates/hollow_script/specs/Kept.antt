@@ -11,11 +11,13 @@ use Rattle.hollow_machine.specs.Kept.{IsReader, Kept, Moves, machine_of, no_hist
 use Rattle.hollow_machine.specs.Left.{Halts}
 use Rattle.hollow_machine.specs.Script.{LineStep}
 use Rattle.hollow_machine.specs.State.{Machine}
+use Rattle.change_orders.specs.Keeping.{AreKeptFor}
 use Rattle.hollow_script.specs.declared.keep.Keep.{Keep}
 
--- There is no producer, the consumer has no state and no version, no older states are kept, and no input was begun.
+-- There is no producer, nothing is kept for changes, the consumer has no state and no version, no older states are kept, and no input was begun.
 pub record KeepsNothing (keep : Keep) : Type 0 where
   pub producer : keep.producer ≡ None
+  pub edits : keep.edits ≡ None
   pub consumer : keep.consumer ≡ None
   pub version : keep.version ≡ None
   pub history : keep.history ≡ no_history
@@ -28,6 +30,10 @@ kept_of keep = record { producer = keep.producer; reader = reader_of keep.consum
 -- The history that is kept leads to where the consumer stands.
 abbrev pub KeepsReader : Keep → Type 0
 KeepsReader keep = IsReader (kept_of keep).reader
+
+-- What is kept for changes, where there is some, is that of the producer's last state: how often each of its rows is named, and where its keys stand.
+abbrev pub KeepsEdits : Keep → Type 0
+KeepsEdits keep = AreKeptFor keep.producer keep.edits
 
 -- The machine over a store whose producer, consumer and older states are those that are kept.
 abbrev pub machine_with : Store → Keep → Machine

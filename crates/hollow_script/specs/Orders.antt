@@ -11,6 +11,7 @@ abbrev pub IsOfReader : Order → Type 0
 IsOfReader (order.Model schemas) = ⊥
 IsOfReader (order.Cycle next) = ⊥
 IsOfReader (order.Grow schemas) = ⊥
+IsOfReader (order.Change next) = ⊥
 IsOfReader (order.Restore version) = ⊥
 IsOfReader (order.Check versions) = ⊥
 IsOfReader _ = Unit {0}

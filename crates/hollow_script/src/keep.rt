@@ -2,6 +2,7 @@
 ghost use Rattle.hollow_script.specs.Kept.{KeepsNothing};
 
 use hol_history::History;
+use hol_incremental::Edits;
 use hol_io::Lines;
 use read_engine::Consumer;
 use std::alloc::Global;
@@ -12,6 +13,8 @@ use write_engine::Producer;
 pub struct Keep {
     /// The producer, where there is one.
     pub producer: Option<Producer>,
+    /// What changes go by: that of the producer's last state, from a change on until another order gives the producer a state. A change makes it where there is none.
+    pub edits: Option<Edits>,
     /// The consumer, which has no state before it loads one.
     pub consumer: Consumer,
     /// The version to which the consumer's last load or step that was not refused led.
@@ -23,12 +26,13 @@ pub struct Keep {
 }
 
 impl Keep {
-    /// No producer, a consumer without a state and a version, a history that keeps no steps, and no input. It takes no memory.
+    /// No producer and nothing beside it, a consumer without a state and a version, a history that keeps no steps, and no input. It takes no memory.
     pub fn new(alloc: Global) -> Keep
         ensures { KeepsNothing result }
     {
         Keep {
             producer: None,
+            edits: None,
             consumer: Consumer::new(alloc),
             version: None,
             history: History::new(alloc, 0),

@@ -5,14 +5,15 @@ ghost use Rattle.hol_orders.specs.Order.{IsOrder};
 ghost use Rattle.hollow_machine.specs.Kept.{IsReader, IsResting, MovesReader, reader_of};
 ghost use Rattle.hollow_machine.specs.Puts.{MayPut, OrderPuts};
 ghost use Rattle.hollow_machine.specs.Step.{IsLook, LooksAt, Step};
-ghost use Rattle.hollow_script.specs.Kept.{HaltsKept, KeepsReader, MovesKept, SameProducer};
+ghost use Rattle.hollow_script.specs.Kept.{HaltsKept, KeepsEdits, KeepsReader, MovesKept, SameProducer};
 ghost use Rattle.hollow_script.specs.Orders.{IsLookBack, IsOfReader, StaysSo};
 
 use crate::keep::Keep;
 use chain_orders::{check, restore};
+use change_orders::change;
 use consumer_orders::{at, find, get, has, index, live, load, past, row, stat, step};
 use history_orders::{was, was_get};
-use hol_answers::{Refusal, Reply};
+use hol_answers::Reply;
 use hol_history::History;
 use hol_io::BlobStore;
 use hol_orders::{Order, OrderStop};
@@ -26,10 +27,11 @@ use std::alloc::Global;
 pub fn may_put(order: &Order) -> bool
     ensures { MayPut order.now → result ≡ true }
 {
-    matches!(order, Order::Cycle(_))
+    matches!(order, Order::Cycle(_) | Order::Change(_))
 }
 
-/// Answers an order. Where it stops the producer is as it was, and the store too, or it has the first puts of a cycle.
+/// Answers an order. Where it stops the producer is as it was, and the store too, or it has the first puts of a cycle. What is kept for changes goes before an
+/// order that gives the producer another state but as a change of its last one.
 pub fn answer<S: BlobStore>(
     alloc: Global,
     order: &Order,
@@ -39,6 +41,7 @@ pub fn answer<S: BlobStore>(
     requires order { IsOrder order.now }
     requires resting { IfSome keep.old.producer IsResting }
     requires reading { KeepsReader keep.old }
+    requires edits { KeepsEdits keep.old }
     ensures step { MovesKept (λ machine reply next. Step machine order.now reply next)
         (S.seen store.old).held keep.old (S.seen store.new).held keep.new result }
     ensures halts { HaltsKept (OrderPuts order.now) (S.seen store.old).held keep.old (S.seen store.new).held result }
@@ -46,14 +49,28 @@ pub fn answer<S: BlobStore>(
     ensures quiet { (MayPut order.now → ⊥) → (S.seen store.new).held ≡ (S.seen store.old).held }
     ensures resting { IfSome keep.new.producer IsResting }
     ensures reading { KeepsReader keep.new }
+    ensures edits { KeepsEdits keep.new }
     ensures store_fault { IsErrOf result OrderStop.Store → Rose (S.seen store.old).faults (S.seen store.new).faults }
     ensures later { (S.seen store.old).faults ≤ (S.seen store.new).faults }
 {
     match order {
-        Order::Model(schemas) => model(alloc, schemas, &mut keep.producer),
-        Order::Grow(schemas) => grow(alloc, schemas, &mut keep.producer),
-        Order::Cycle(next) => cycle(alloc, store, &mut keep.producer, next),
-        Order::Restore(version) => restore(alloc, store, &mut keep.producer, *version),
+        Order::Model(schemas) => {
+            keep.edits = None;
+            model(alloc, schemas, &mut keep.producer)
+        }
+        Order::Grow(schemas) => {
+            keep.edits = None;
+            grow(alloc, schemas, &mut keep.producer)
+        }
+        Order::Cycle(next) => {
+            keep.edits = None;
+            cycle(alloc, store, &mut keep.producer, next)
+        }
+        Order::Restore(version) => {
+            keep.edits = None;
+            restore(alloc, store, &mut keep.producer, *version)
+        }
+        Order::Change(next) => change(alloc, store, &mut keep.producer, &mut keep.edits, next),
         Order::Check(versions) => check(alloc, store, versions),
         _ => answer_reader(
             alloc,
@@ -129,7 +146,7 @@ fn look_back(
     }
 }
 
-// Answers an order that looks at where the consumer stands. Those of the last arm are not built, and are told to be none.
+// Answers an order that looks at where the consumer stands.
 fn look(alloc: Global, order: &Order, consumer: &Consumer) -> Result<Reply, OrderStop>
     requires { IsLook order.now }
     ensures reply { IfOk result (LooksAt order.now consumer.now) }
@@ -161,6 +178,6 @@ fn look(alloc: Global, order: &Order, consumer: &Consumer) -> Result<Reply, Orde
         } => at(alloc, consumer, type_name, *ordinal, *key),
         Order::Past(type_name) => past(alloc, consumer, type_name),
         Order::Stat => stat(alloc, consumer),
-        _ => Ok(Reply::Refused(Refusal::BadOrder)),
+        _ => unreachable!(),
     }
 }

@@ -9,7 +9,7 @@ ghost use Rattle.hollow_machine.specs.Kept.{IsResting};
 ghost use Rattle.hollow_machine.specs.Puts.{MayPut};
 ghost use Rattle.hollow_machine.specs.Script.{longest_line};
 ghost use Rattle.hollow_script.specs.Asked.{AskedPuts, AskedStep, MeetsOrder};
-ghost use Rattle.hollow_script.specs.Kept.{HaltsKept, KeepsNothing, KeepsReader, MovesKept, SameProducer};
+ghost use Rattle.hollow_script.specs.Kept.{HaltsKept, KeepsEdits, KeepsNothing, KeepsReader, MovesKept, SameProducer};
 ghost use Rattle.hollow_script.specs.Scripted.{AllAnswered, AllWritten, AnswersNext, AreTaken, AsksNext, HasGiven, HasReplied, HasStopped, IsAnswered, RepliesNext, ServesNext, TakesPast, TurnsNext, WritesReplies, WritesWaiting, longest_input};
 ghost use Rattle.hollow_script.specs.Stopping.{LeavesStopped};
 
@@ -45,6 +45,7 @@ pub fn run_script<I: Source, O: Sink, S: BlobStore>(
     ensures stopped { IfSome (I.left input.old) (λ bytes. IfSome (S.seen store.old).held (λ first. IfErr result
         (LeavesStopped bytes first (I.left input.new) (S.seen store.new).held keep.new (O.taken out.old) (O.taken out.new)))) }
     ensures reading { KeepsReader keep.new }
+    ensures edits { KeepsEdits keep.new }
     ensures replied { IfOk result (WritesReplies (O.taken out.old) (O.taken out.new)) }
     ensures ended { IfOk result (λ refused. IsAtEnd (I.left input.new)) }
     ensures source_fault { IsErrOf result ScriptStop.Source → Rose (I.faults input.old) (I.faults input.new) }
@@ -84,6 +85,7 @@ fn answer_lines<I: Source, O: Sink, S: BlobStore>(
     ensures stops { IfSome (I.left input.old) (λ bytes. IfSome (S.seen store.old).held (λ first. IfErr result
         (HasStopped bytes first (I.left input.new) keep.new.lines (S.seen store.new).held keep.new (O.taken out.old) (O.taken out.new) waiting.new.items))) }
     ensures reading { KeepsReader keep.new }
+    ensures edits { KeepsEdits keep.new }
     ensures replied { IfOk result (HasReplied (O.taken out.old) (O.taken out.new) waiting.new.items) }
     ensures ended { IfOk result (λ refused. IsAtEnd (I.left input.new)) }
     ensures source_fault { IsErrOf result ScriptStop.Source → Rose (I.faults input.old) (I.faults input.new) }
@@ -117,6 +119,7 @@ fn answer_each<I: Source, O: Sink, S: BlobStore>(
     ensures stops { IfSome (I.left input.old) (λ bytes. IfSome (S.seen store.old).held (λ first. IfErr result
         (HasStopped bytes first (I.left input.new) (Some lines.new) (S.seen store.new).held keep.new (O.taken out.old) (O.taken out.new) waiting.new.items))) }
     ensures reading { KeepsReader keep.new }
+    ensures edits { KeepsEdits keep.new }
     ensures replied { IfOk result (HasReplied (O.taken out.old) (O.taken out.new) waiting.new.items) }
     ensures ended { IfOk result (λ refused. IsAtEnd (I.left input.new)) }
     ensures source_fault { IsErrOf result ScriptStop.Source → Rose (I.faults input.old) (I.faults input.new) }
@@ -152,6 +155,7 @@ fn serve_next<I: Source, O: Sink, S: BlobStore>(
 ) -> Result<Option<bool>, ScriptStop>
     requires resting { IfSome keep.old.producer IsResting }
     requires reading { KeepsReader keep.old }
+    requires edits { KeepsEdits keep.old }
     requires at_end { IsEnded lines.old (I.left input.old) }
     ensures served { (bytes : List ℕ) (first : Store) (before : Option (List ℕ)) (refused : Bool)
         → IsAnswered bytes first (I.left input.old) (S.seen store.old).held lines.old keep.old before (O.taken out.old) waiting.old.items refused
@@ -160,6 +164,7 @@ fn serve_next<I: Source, O: Sink, S: BlobStore>(
         → RepliesNext before (O.taken out.new) waiting.new.items refused result }
     ensures resting { IfSome keep.new.producer IsResting }
     ensures reading { KeepsReader keep.new }
+    ensures edits { KeepsEdits keep.new }
     ensures takes { Takes (I.left input.old) (I.left input.new) lines.old.taken lines.new.taken }
     ensures limits { HasLimits lines.old lines.new }
     ensures at_end { IsEnded lines.new (I.left input.new) }
@@ -193,6 +198,7 @@ fn next_reply<I: Source, O: Sink, S: BlobStore>(
 ) -> Result<Option<Reply>, ScriptStop>
     requires resting { IfSome keep.old.producer IsResting }
     requires reading { KeepsReader keep.old }
+    requires edits { KeepsEdits keep.old }
     requires at_end { IsEnded lines.old (I.left input.old) }
     ensures answers { (bytes : List ℕ) (given : List (List ℕ)) (now : Store) → HasGiven bytes (I.left input.old) lines.old given
         → (S.seen store.old).held ≡ Some now
@@ -201,6 +207,7 @@ fn next_reply<I: Source, O: Sink, S: BlobStore>(
     ensures put { WritesWaiting (O.taken out.old) (O.taken out.new) waiting.old.items waiting.new.items result }
     ensures resting { IfSome keep.new.producer IsResting }
     ensures reading { KeepsReader keep.new }
+    ensures edits { KeepsEdits keep.new }
     ensures takes { Takes (I.left input.old) (I.left input.new) lines.old.taken lines.new.taken }
     ensures limits { HasLimits lines.old lines.new }
     ensures at_end { IsEnded lines.new (I.left input.new) }
@@ -314,6 +321,7 @@ fn answer_asked<O: Sink, S: BlobStore>(
     requires order { MeetsOrder asked }
     requires resting { IfSome keep.old.producer IsResting }
     requires reading { KeepsReader keep.old }
+    requires edits { KeepsEdits keep.old }
     ensures step { MovesKept (λ machine reply next. AskedStep machine asked reply next)
         (S.seen store.old).held keep.old (S.seen store.new).held keep.new result }
     ensures halts { HaltsKept (AskedPuts asked) (S.seen store.old).held keep.old (S.seen store.new).held result }
@@ -323,6 +331,7 @@ fn answer_asked<O: Sink, S: BlobStore>(
     ensures put { WritesWaiting (O.taken out.old) (O.taken out.new) waiting.old.items waiting.new.items result }
     ensures resting { IfSome keep.new.producer IsResting }
     ensures reading { KeepsReader keep.new }
+    ensures edits { KeepsEdits keep.new }
     ensures sink_fault { IsErrOf result ScriptStop.Sink → Rose (O.faults out.old) (O.faults out.new) }
     ensures later { O.faults out.old ≤ O.faults out.new }
     ensures store_fault { IsErrOf result ScriptStop.Store → Rose (S.seen store.old).faults (S.seen store.new).faults }

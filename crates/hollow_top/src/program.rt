@@ -5,7 +5,7 @@ ghost use Rattle.hol_io.specs.Causes.{Rose};
 ghost use Rattle.std.specs.Io.KnownBytes.{Appends};
 ghost use Rattle.hol_io.specs.Store.{Store};
 ghost use Rattle.hollow_machine.specs.State.{Machine};
-ghost use Rattle.hollow_script.specs.Kept.{KeepsHistory, KeepsNothing, KeepsReader, machine_with};
+ghost use Rattle.hollow_script.specs.Kept.{KeepsEdits, KeepsHistory, KeepsNothing, KeepsReader, machine_with};
 ghost use Rattle.hollow_script.specs.Scripted.{AllWritten, TakesPast};
 ghost use Rattle.written_laws.specs.Chain.{Chain};
 ghost use Rattle.written_laws.specs.HoldsChain.{HoldsChain};
@@ -92,6 +92,9 @@ pub fn run<I: Source, O: Sink, S: BlobStore, P: Progress>(
     // The history that is kept is that of the machine, and leads to where the consumer stands: the machine's older states are read from both.
     ensures history { (held : Store) → KeepsHistory keep.new (machine_with held keep.new) }
 
+    // What is kept for changes, where there is some, is that of the last state of the producer that is kept.
+    ensures edits { KeepsEdits keep.new }
+
     // What is written, and what the store then holds, where `run` and `make` stop.
     ensures script_stopped { AskScript (map string_bytes words.now) → IfSome (I.left input.old) (λ bytes. IfSome (S.seen store.old).held (λ first.
         StopsScript bytes first (I.left input.new) (S.seen store.new).held keep.new (O.taken out.old) (O.taken out.new) result)) }
@@ -161,6 +164,7 @@ fn serve_script<I: Source, O: Sink, S: BlobStore>(
     ensures verdict { result < 2 → OnSome (O.taken out.old)
         ((result ≡ 1) ↔ GainsRefusalLine (O.taken out.old) (O.taken out.new)) }
     ensures reading { KeepsReader keep.new }
+    ensures edits { KeepsEdits keep.new }
     ensures ended { result < 2 → IsAtEnd (I.left input.new) }
     ensures stopped { IfSome (I.left input.old) (λ bytes. IfSome (S.seen store.old).held (λ first.
         StopsScript bytes first (I.left input.new) (S.seen store.new).held keep.new (O.taken out.old) (O.taken out.new) result)) }
@@ -207,6 +211,7 @@ fn serve_make<O: Sink, S: BlobStore, P: Progress>(
     ensures chain { result < 2 → IfSome (S.seen store.old).held (λ first. (chain : Chain) → HoldsChain first chain
         → MakesChain seed rows cycles first chain (S.seen store.new).held keep.new) }
     ensures reading { KeepsReader keep.new }
+    ensures edits { KeepsEdits keep.new }
     ensures verdict { result < 2 → OnSome (O.taken out.old) ((result ≡ 1) ↔ GainsRefusal (O.taken out.old) (O.taken out.new)) }
     ensures part { result ≡ 4 → IfSome (S.seen store.old).held
         (λ first. MakesPart seed rows cycles first (S.seen store.new).held (O.taken out.old) (O.taken out.new)) }
@@ -249,6 +254,7 @@ fn make_line<O: Sink, S: BlobStore, P: Progress>(
         × WritesMade seed rows cycles first text refused (machine_with next keep.new) × ((S.seen store.new).held ≡ Some next)
         × Appends (O.taken out.old) (O.taken out.new) text)) }
     ensures reading { KeepsReader keep.new }
+    ensures edits { KeepsEdits keep.new }
     ensures verdict { Leaves IsVerdict (O.taken out.old) (O.taken out.new) result }
     ensures part { IsErrOf result Stop.Sink → IfSome (S.seen store.old).held
         (λ first. MakesPart seed rows cycles first (S.seen store.new).held (O.taken out.old) (O.taken out.new)) }
@@ -260,6 +266,7 @@ fn make_line<O: Sink, S: BlobStore, P: Progress>(
     // The pattern names each field: nothing else is kept from line to line.
     let Keep {
         producer,
+        edits: _,
         consumer: _,
         version: _,
         history: _,

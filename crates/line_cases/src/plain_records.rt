@@ -8,22 +8,26 @@ use schema_model::Model;
 use serde_json::Value;
 use std::alloc::Global;
 
-/// Films with the set of their tags.
+/// Films with the set of their tags and the map of their parts.
 const FILMS: &str =
-    r#"[{"kind":"OBJECT","name":"Film","fields":[{"name":"id","type":"INT"},{"name":"title","type":"STRING"},{"name":"tags","type":"REFERENCE","to":"Tags"}]},{"kind":"SET","name":"Tags","element":"Tag"},{"kind":"OBJECT","name":"Tag","fields":[{"name":"value","type":"STRING"}]}]"#;
+    r#"[{"kind":"OBJECT","name":"Film","fields":[{"name":"id","type":"INT"},{"name":"title","type":"STRING"},{"name":"tags","type":"REFERENCE","to":"Tags"},{"name":"cast","type":"REFERENCE","to":"Cast"}]},{"kind":"SET","name":"Tags","element":"Tag"},{"kind":"MAP","name":"Cast","key":"Tag","value":"Tag"},{"kind":"OBJECT","name":"Tag","fields":[{"name":"value","type":"STRING"}]}]"#;
 
-/// Cycles whose first film has the plain form.
-const PLAIN: [&str; 3] = [
+/// Cycles whose first film is read from its tokens.
+const PLAIN: [&str; 7] = [
     r#"{"cycle":{"version":1,"tag":7,"add":{"Film":[{"id":1,"title":"a","tags":[{"value":"\u00e9"},{"value":null}]}]}}}"#,
     r#"{"cycle":{"version":1,"tag":7,"add":{"Film":[{"title":"a"}, 3]}}}"#,
     r#"{"cycle":{"version":1,"tag":7,"add":{"Tag":[{}],"Film":[{"tags":[]}]}}}"#,
+    r#"{"cycle":{"version":1,"tag":7,"add":{"Film":[{"tags":null,"title":"a","id":1}]}}}"#,
+    r#"{"cycle":{"version":1,"tag":7,"add":{"Film":[{"id":1,"id":2}]}}}"#,
+    r#"{"cycle":{"version":1,"tag":7,"add":{"Film":[{"cast":[[{"value":"a"},{"value":"b"}],[{"value":"b"},{}]],"id":1}]}}}"#,
+    r#"{"cycle":{"version":1,"tag":7,"add":{"Film":[{"cast":[]}]}}}"#,
 ];
 
-/// Cycles whose first film has another form, or is none.
+/// Cycles whose first film is none, or has a text that is an array of units.
 const OTHER: [&str; 6] = [
     r#"{"cycle":{"version":1,"tag":7,"add":{"Film":[{"title":[97,55296]}]}}}"#,
-    r#"{"cycle":{"version":1,"tag":7,"add":{"Film":[{"title":"a","id":1}]}}}"#,
-    r#"{"cycle":{"version":1,"tag":7,"add":{"Film":[{"id":1,"id":1}]}}}"#,
+    r#"{"cycle":{"version":1,"tag":7,"add":{"Film":[{"cast":[[{},{}],[{},{}]]}]}}}"#,
+    r#"{"cycle":{"version":1,"tag":7,"add":{"Film":[{"cast":[[{}]]}]}}}"#,
     r#"{"cycle":{"version":1,"tag":7,"add":{"Film":[{"id":2147483648}]}}}"#,
     r#"{"cycle":{"version":1,"tag":7,"add":{"Film":[{"year":1}]}}}"#,
     r#"{"cycle":{"version":1,"tag":7,"add":{"Film":[null]}}}"#,

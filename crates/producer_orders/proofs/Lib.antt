@@ -1,10 +1,10 @@
 mod AddingRecords
 mod AheadRecords
-mod Cycling
+pub mod Cycling
 mod FilmRecords
 mod Growing
-mod KnownTypes
-mod Makings
+pub mod KnownTypes
+pub mod Makings
 mod Modelling
 mod Naming
-mod Placed
+pub mod Placed

@@ -1,5 +1,5 @@
 -- What the parts of a cycle make of a producer that has published its last state.
-use Rattle.std.specs.Prelude.{Bool, ◌≡◌, ◌<◌, ◌↔◌, ℕ, ℤ, List, All, IfSome, IsTrue, true, Option, Some, None, Result, ⊤, length}
+use Rattle.std.specs.Prelude.{Bool, ◌≡◌, ◌<◌, ◌↔◌, ℕ, ℤ, List, All, IfSome, IsTrue, true, false, Option, Some, None, Result, ⊤, length}
 use Rattle.hol_io.specs.Store.{Store}
 use Rattle.schema_model.specs.declared.limit.Limit.TheVariants as limit
 use Rattle.row_model.specs.PlainTree.{PlainTree}
@@ -106,3 +106,9 @@ EndsPublished held last rows version tag with_snapshot held' now result = IfSome
     (λ _. IsPublished store last rows version tag with_snapshot held' now)
     (λ refusal. (held' ≡ Some store) × IsTooLarge last rows version tag with_snapshot refusal)
     (λ stop. StopsPart (ArePutsOf last rows version tag with_snapshot) store held') result)
+
+-- The rows that the producer has published behind an answer: those of the cycle where it published, and else those of before.
+abbrev pub KeepsRows : Production → Production → Reply → Type 0
+KeepsRows old new (Cycle names true version) = new.previous ≡ old.current
+KeepsRows old new (Cycle names false version) = new.previous ≡ old.previous
+KeepsRows old new _ = ⊥

@@ -8,7 +8,7 @@ use std::alloc::AllocError;
 
 /// Why a cycle ends before its state is published.
 #[derive(Debug, Drop)]
-pub(crate) enum CycleEnd {
+pub enum CycleEnd {
     /// It is refused.
     Refused(Refusal),
     /// It stops before it is answered.

@@ -1,5 +1,5 @@
 //! The order `cycle`, and the cycles of the script of `make`.
-ghost use Rattle.std.specs.Prelude.{◌≡◌, ◌≤◌, ◌<◌, ◌↔◌, All, IfSome, IsTrue, OnErr, Some, None, true, length};
+ghost use Rattle.std.specs.Prelude.{◌≡◌, ◌≤◌, ◌<◌, ◌↔◌, All, IfOk, IfSome, IsTrue, OnErr, OnOk, Some, None, true, length};
 ghost use Rattle.std.specs.Option.{option_map};
 ghost use Rattle.std.specs.Result.{IsErrOf};
 ghost use Rattle.hol_io.specs.Causes.{Rose};
@@ -16,7 +16,7 @@ ghost use Rattle.hollow_machine.specs.Puts.{CyclePuts};
 ghost use Rattle.state_blobs.specs.Published.{published_of};
 ghost use Rattle.producer_orders.specs.Asked.{Suit, asked_of};
 ghost use Rattle.producer_orders.specs.Ends.{HasEndCause, IsMemory, TellsEnd};
-ghost use Rattle.producer_orders.specs.Making.{Ends, EndsPublished, Follows, IsTooLarge, IsWithin, Steps};
+ghost use Rattle.producer_orders.specs.Making.{Ends, EndsPublished, Follows, IsTooLarge, IsWithin, KeepsRows, Steps};
 
 use crate::asked::{FilmCycle, Records};
 use crate::cycle_end::CycleEnd;
@@ -175,8 +175,8 @@ fn run_cycle<S: BlobStore>(
     end_cycle(alloc, store, producer, &closed, version, tag, with_snapshot)
 }
 
-// Refuses a state that may not follow the last one.
-fn check_follow<S: BlobStore>(
+/// Refuses a state that may not follow the last one.
+pub fn check_follow<S: BlobStore>(
     alloc: Global,
     store: &mut S,
     last: u64,
@@ -193,8 +193,8 @@ fn check_follow<S: BlobStore>(
     }
 }
 
-// Publishes a closed cycle, if it is the first one or changes a type, and tells what it changes.
-fn end_cycle<S: BlobStore>(
+/// Publishes a closed cycle, if it is the first one or changes a type, and tells what it changes.
+pub fn end_cycle<S: BlobStore>(
     alloc: Global,
     store: &mut S,
     producer: &mut Producer,
@@ -211,6 +211,7 @@ fn end_cycle<S: BlobStore>(
         (S.seen store.new).held (published_of producer.new) result }
     ensures model { producer.new.schemas ≡ producer.old.schemas }
     ensures kept { OnErr result (published_of producer.new ≡ published_of producer.old) }
+    ensures rows { IfOk result (KeepsRows producer.old producer.new) }
     ensures cause { HasEndCause (S.seen store.old).faults (S.seen store.new).faults result }
 {
     let changed = names_of_types(alloc, producer.model(), &closed.changed)?;
@@ -244,6 +245,7 @@ fn publish_state<S: BlobStore>(
         (S.seen store.new).held (published_of producer.new) result }
     ensures model { producer.new.schemas ≡ producer.old.schemas }
     ensures kept { OnErr result (published_of producer.new ≡ published_of producer.old) }
+    ensures rows { OnOk result (producer.new.previous ≡ producer.old.current) }
     ensures cause { HasEndCause (S.seen store.old).faults (S.seen store.new).faults result }
 {
     let blobs = limited_blobs(alloc, producer, version, tag, with_snapshot)?;

@@ -14,6 +14,8 @@ mod record_fault;
 mod records;
 mod types;
 
-pub use cycle_order::{cycle, film_cycle};
+pub use cycle_end::CycleEnd;
+pub use cycle_order::{check_follow, cycle, end_cycle, film_cycle};
 pub use grow_order::grow;
 pub use model_order::model;
+pub use types::unknown_among;

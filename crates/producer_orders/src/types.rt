@@ -37,8 +37,8 @@ fn unknown_name(alloc: Global, model: &Model, add: &Value) -> Result<Option<Name
     }
 }
 
-// The first name of a member that is that of no type.
-fn unknown_among(
+/// The first name of a member that is that of no type.
+pub fn unknown_among(
     alloc: Global,
     model: &Model,
     members: &Map<String, Value>,

@@ -5,7 +5,6 @@ use Rattle.std.proofs.lemmas.Option.{slice_get_within}
 use Rattle.hol_io.specs.Store.{Store}
 use Rattle.hol_history.specs.History.{PastSteps}
 use Rattle.hol_varint.specs.Yields.{Yields}
-use Rattle.schema_model.specs.declared.limit.Limit.TheVariants as limit
 use Rattle.schema_model.specs.declared.model.walk_path.WalkPath.{WalkPath}
 use Rattle.schema_model.specs.declared.schema.Schema.{Schema}
 use Rattle.schema_model.specs.Path.{path_names}
@@ -13,7 +12,7 @@ use Rattle.schema_model.specs.WalkPath.{LeadsAlong, WalkResolves}
 use Rattle.read_engine.specs.declared.fault.WalkIndexFault.{WalkIndexFault}
 use Rattle.read_engine.specs.declared.fault.WalkIndexFault.TheVariants as fault
 use Rattle.read_engine.specs.Position.{IsWalkOf, Position}
-use Rattle.read_engine.specs.Walks.{AddsWalk, CountsWalked, HasNoWalkRoom, IsFreeWalk, PassesEntries}
+use Rattle.read_engine.specs.Walks.{AddsWalk, CountsWalked, IsFreeWalk, PassesEntries}
 use Rattle.hol_answers.specs.declared.refusal.Refusal.{Refusal}
 use Rattle.hol_answers.specs.declared.refusal.Refusal.TheVariants as refusal
 use Rattle.hol_answers.specs.declared.reply.Reply.{Reply}
@@ -55,18 +54,6 @@ walk_kept (Some now) (Some to) schemas t text path number keys same resolves add
     let here = subst (λ (s : List Schema). WalkResolves s t text path) (sym same) resolves in
     let counted = subst (λ (o : Option WalkPath). IsSomeAnd o (λ kept. CountsWalked to kept keys)) added.1 counts in
     (path, here, subst (λ (p : Position). CountsWalked p path keys) added.2 counted, (to.walks, (added.0, few_entries number (PassesEntries now path) few), ap Some added.2))
-
--- It is not kept, since there is no room.
-pub no_room : (old new : Option Position) (schemas : List Schema) (t : ℕ) (text : List ℕ) (path : WalkPath) → IsSomeAnd old (λ now. now.schemas ≡ schemas) → WalkResolves schemas t text path
-    → IsSomeAnd old (λ from. HasNoWalkRoom from path) → new ≡ old → IsSomeAnd old (λ now. TellsKept text now t new (reply.Refused (refusal.TooLarge limit.Walks)))
-no_room None new schemas t text path same resolves full stays = absurd same
-no_room (Some now) new schemas t text path same resolves full stays = ((path, subst (λ (s : List Schema). WalkResolves s t text path) (sym same) resolves, full), stays)
-
--- It is not kept, since it would have too many entries.
-pub many_entries : (old new : Option Position) (schemas : List Schema) (t : ℕ) (text : List ℕ) (path : WalkPath) → IsSomeAnd old (λ now. now.schemas ≡ schemas) → WalkResolves schemas t text path
-    → IsSomeAnd old (λ from. PassesEntries from path) → new ≡ old → IsSomeAnd old (λ now. TellsKept text now t new (reply.Refused (refusal.TooLarge limit.Entries)))
-many_entries None new schemas t text path same resolves many stays = absurd same
-many_entries (Some now) new schemas t text path same resolves many stays = ((path, subst (λ (s : List Schema). WalkResolves s t text path) (sym same) resolves, many), stays)
 
 -- It is not kept, since the text leads to no value.
 pub lost_kept : (old : Option Position) (schemas : List Schema) (t : ℕ) (text : List ℕ) (why : Refusal) → IsSomeAnd old (λ now. now.schemas ≡ schemas) → TellsWay schemas t text (way.Refused why)

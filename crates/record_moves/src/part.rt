@@ -81,7 +81,8 @@ fn end_element(width: u32, end: u64, is_null: bool) -> u64
     end
 }
 
-/// Adds the bytes of a field from one offset up to another to others.
+/// Adds the bytes of a field from one offset up to another to others, which stay where they are if there are none.
+#[inline(always)]
 fn push_run<P: PackedRecords>(
     alloc: Global,
     from: &P,
@@ -94,6 +95,9 @@ fn push_run<P: PackedRecords>(
     requires inside { end ≤ length (area_of (P.area_bytes from.now) field) }
     ensures { OnOk result (area.new ≡ area.old ++ take (end - start) (drop start (area_of (P.area_bytes from.now) field))) }
 {
+    if start == end {
+        return Ok(());
+    }
     let mut bytes = mem::replace(area, Octets::new(alloc)).into_vec();
     let added = from.put_run(field, start, end, &mut bytes);
     *area = Octets::from_vec(bytes);

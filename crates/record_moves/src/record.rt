@@ -1,5 +1,5 @@
 //! A record copied from its place in some words to a place in others.
-ghost use Rattle.std.specs.Prelude.{OnOk, Some};
+ghost use Rattle.std.specs.Prelude.{◌≡◌, OnOk, Some, sum};
 ghost use Rattle.schema_model.specs.Parts.{shape_fields};
 ghost use Rattle.row_model.specs.declared.row.Row.{Row};
 ghost use Rattle.object_codec.specs.ObjectPlace.{HoldsPlace, SpellsObjectRow};
@@ -8,7 +8,7 @@ ghost use Rattle.object_codec.specs.Packing.{HasRoom, IsRowPut};
 use crate::cell::Cell;
 use crate::part::take_part;
 use crate::source::PackedRecords;
-use bit_array::{set_element, total_width};
+use bit_array::set_element;
 use hol_varint::Octets;
 use schema_model::Schema;
 use std::alloc::{AllocError, Global};
@@ -18,6 +18,8 @@ use std::alloc::{AllocError, Global};
 pub struct RecordPlace<'a> {
     /// The width of each field's elements, in bits.
     pub widths: &'a [u32],
+    /// The width of a record, which is that of its fields together, in bits.
+    pub size: u64,
     /// The place.
     pub place: u64,
 }
@@ -35,20 +37,21 @@ pub fn copy_record<P: PackedRecords>(
     first: &mut [u64],
     areas: &mut [Octets],
 ) -> Result<(), AllocError>
+    requires there_size { there.size ≡ sum there.widths.now }
+    requires here_size { here.size ≡ sum here.widths.now }
     requires holds { HoldsPlace (shape_fields schema.now.shape) there.widths.now (P.first_words from.now) (P.area_bytes from.now) there.place }
     requires room { (row : Row) × SpellsObjectRow schema.now.shape there.widths.now (P.first_words from.now) (P.area_bytes from.now) there.place row × HasRoom schema.now.shape here.widths.now first.old areas.old here.place (Some row) }
     ensures put { OnOk result ((row : Row) → SpellsObjectRow schema.now.shape there.entry.widths.now (P.first_words from.now) (P.area_bytes from.now) there.entry.place row → IsRowPut schema.now.shape here.entry.widths.now first.old areas.old first.new areas.new here.entry.place (Some row)) }
     ensures same { OnOk result ((row : Row) → SpellsObjectRow schema.now.shape there.entry.widths.now (P.first_words from.now) (P.area_bytes from.now) there.entry.place row → SpellsObjectRow schema.now.shape here.entry.widths.now first.new areas.new here.entry.place row) }
 {
     let fields = schema.shape.fields();
-    let size = total_width(there.widths) as u64;
     let mut before = 0;
-    let mut at = here.place * total_width(here.widths) as u64;
+    let mut at = here.place * here.size;
     for (index, field) in fields.iter().enumerate() {
         let width = here.widths[index];
         let cell = Cell {
             place: there.place,
-            size,
+            size: there.size,
             before,
             width: there.widths[index],
             field: index as u32,

@@ -21,7 +21,7 @@ past_end xs zero e = let none = ap length e in omega arith
 past_end [] (suc i) e = omega arith
 past_end (x ∷ xs) (suc i) e = let more = past_end xs i e in omega arith
 
-from_place : {A : Type 0} (xs : List A) (i : ℕ) → i < length xs → (x : A) × (drop i xs ≡ x ∷ drop (i + 1) xs)
+pub from_place : {A : Type 0} (xs : List A) (i : ℕ) → i < length xs → (x : A) × (drop i xs ≡ x ∷ drop (i + 1) xs)
 from_place [] i within = absurd (omega arith)
 from_place (x ∷ xs) zero within = (x, refl)
 from_place (x ∷ xs) (suc i) within = let more = from_place xs i (omega arith) in (more.0, rw add-one (rw add-one at more.1))

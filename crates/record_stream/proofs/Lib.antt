@@ -1,12 +1,13 @@
 pub mod Ahead
 pub mod Converted
 mod Enough
+mod Entered
 mod Finding
 pub mod Listed
 mod Named
 mod Opened
+mod PartsFound
 mod Passed
 pub mod Records
-mod Sought
 mod Typing
 mod Whole

@@ -12,7 +12,7 @@ use Rattle.record_stream.specs.Passing.{behind_items}
 use Rattle.record_stream.specs.Records.{record_depth}
 use Rattle.record_stream.proofs.Converted.{converted-array, converted_some, member_read, members_over}
 use Rattle.record_stream.proofs.Enough.{enough}
-use Rattle.record_stream.proofs.Records.{listed, none_or_some}
+use Rattle.record_stream.proofs.Records.{listed}
 
 pub value_shorter : (depth : ℕ) (ts rest : List Token) (d : Data) → converted of_json (value depth ts) ≡ Some (d, rest) → length rest < length ts
 value_shorter depth ts rest d e =
@@ -62,22 +62,7 @@ pub all_listed : (start now behind : List Token) (done : List Typed) → Continu
 all_listed start now behind done before over =
     subst (λ (all : List Typed). AreListed start all behind) (append-nil done) (before [] behind (read_key_is now None behind over))
 
--- ---- a type that is sought
-
-pub listed_first : (now from rest : List Token) (name : List ℕ) (types : List Typed) → read_key now ≡ Some (Some name, from) → AreListed now types rest
-    → (records : List Data) × (others : List Typed) × (behind : List Token) × (types ≡ (name, records) ∷ others) × IsArray from records behind × AreListed behind others rest
-listed_first now from rest name [] named e =
-    let same : (None, rest) ≡ (Some name, from) = Some_inj (None, rest) (Some name, from) (sym (ap read_key e) ∙ named) in
-    absurd (none_or_some name (ap (λ (p : Option (List ℕ) × List Token). p.0) same))
-listed_first now from rest name (typed ∷ others) named (records, behind, e, is, more) =
-    let same : (Some typed.0, records) ≡ (Some name, from) = Some_inj (Some typed.0, records) (Some name, from) (sym (ap read_key e) ∙ named) in
-    let alike : typed.0 ≡ name = Some_inj typed.0 name (ap (λ (p : Option (List ℕ) × List Token). p.0) same) in
-    let place : records ≡ from = ap (λ (p : Option (List ℕ) × List Token). p.1) same in
-    (typed.1, others, behind, ap (λ (n : List ℕ). (n, typed.1) ∷ others) alike, subst (λ (t : List Token). IsArray t typed.1 behind) place is, more)
-
-pub listed_none : (now rest : List Token) (types : List Typed) → ((name : List ℕ) (from : List Token) → read_key now ≡ Some (Some name, from) → ⊥) → AreListed now types rest → types ≡ []
-listed_none now rest [] none e = refl
-listed_none now rest (typed ∷ others) none (records, behind, e, is, more) = absurd (none typed.0 records (ap read_key e))
+-- ---- an array that is passed
 
 -- the array of some records as a value that is known
 pub array_value : (ts rest : List Token) (records : List Data) → IsArray ts records rest → (j : Json) × (value 124 ts ≡ Some (j, rest))

@@ -1,47 +1,43 @@
 -- The types of a cycle, passed one after another.
-use Rattle.std.proofs.Common.{◌≡◌, ◌∙◌, List, [], ◌∷◌, ◌++◌, ℕ, Option, Some, None, option_map, String, Global, string_bytes, string_cmp, is_some, false, Vec, sym, ap}
-use Rattle.std.specs.BTreeMap.{insert_entry, is_at}
-use Rattle.std.specs.Map.{lookup}
+use Rattle.std.proofs.Common.{◌≡◌, ◌∙◌, List, [], ◌∷◌, ◌++◌, ℕ, Some, None, String, Global, string_bytes, string_cmp, Vec, map, sym, ap}
+use Rattle.std.specs.BTreeMap.{insert_entry}
+use Rattle.std.proofs.lemmas.List.{map-append}
 use Rattle.json.specs.Token.{Token, begin_array}
 use Rattle.json.specs.Json.{read_key}
 use Rattle.json.proofs.Grammar.{read_key_is}
 use Rattle.serde_json.specs.Data.{Members, array, no_items, no_members, put}
-use Rattle.serde_json.specs.Find.{get_member}
-use Rattle.serde_json.specs.View.{items_view, members_view, view}
+use Rattle.serde_json.specs.View.{items_view, members_view}
 use Rattle.serde_json.specs.declared.value.Value.{Array, Value}
-use Rattle.serde_json.proofs.Views.{Entry, members_view-insert_entry, view-Array, view-lookup}
-use Rattle.record_stream.specs.CycleLine.{AreListed, AreNew, Typed, bare, with_types}
+use Rattle.serde_json.proofs.Views.{Entry, members_view-insert_entry, view-Array}
+use Rattle.record_stream.specs.CycleLine.{AreListed, Typed, bare, names_of, with_types}
+use Rattle.record_stream.specs.Parts.{AreNames}
+use Rattle.record_stream.specs.declared.parts.TypeNames.{TypeNames}
 use Rattle.record_stream.specs.Passing.{behind_items}
 use Rattle.record_stream.specs.Records.{record_depth}
 use Rattle.record_stream.proofs.Listed.{Continues, all_listed, one_more, passed_array}
-use Rattle.record_stream.proofs.Named.{still_named, still_new}
+use Rattle.record_stream.proofs.Named.{still_named}
 
--- Between the start and the tokens that are left are new types, whose names are these.
-abbrev pub HavePassed : List Token → List Token → Members → Type 0
-HavePassed start now names = (types : List Typed) × AreNew types no_members × (names ≡ bare (with_types types no_members)) × Continues start types now
+-- Between the start and the tokens that are left are types whose names are these.
+abbrev pub HavePassed : List Token → List Token → Members → List (List ℕ) → Type 0
+HavePassed start now names order = (types : List Typed) × (names ≡ bare (with_types types no_members)) × (order ≡ names_of types) × Continues start types now
 
-pub none_passed : (start : List Token) (names : Members) → names ≡ no_members → HavePassed start start names
-none_passed start names none = ([], tt, none, λ others rest listed. listed)
+pub none_passed : (start : List Token) (names : Members) (order : List (List ℕ)) → names ≡ no_members → order ≡ [] → HavePassed start start names order
+none_passed start names order none no_order = ([], none, no_order, λ others rest listed. listed)
 
-pub one_passed : (start now from inside behind : List Token) (name : List ℕ) (names new_names : Members) → HavePassed start now names → read_key now ≡ Some (Some name, from) → from ≡ begin_array ∷ inside
-    → behind_items record_depth inside ≡ Some behind → get_member name names ≡ None → new_names ≡ put name (array no_items) names → HavePassed start behind new_names
-one_passed start now from inside behind name names new_names before named opened passed none inserted =
+pub one_passed : (start now from inside behind : List Token) (name : List ℕ) (names new_names : Members) (order new_order : List (List ℕ)) → HavePassed start now names order → read_key now ≡ Some (Some name, from)
+    → from ≡ begin_array ∷ inside → behind_items record_depth inside ≡ Some behind → new_names ≡ put name (array no_items) names → new_order ≡ order ++ name ∷ [] → HavePassed start behind new_names new_order
+one_passed start now from inside behind name names new_names order new_order before named opened passed inserted pushed =
     let is = passed_array from inside behind opened passed in
     let typed : Typed = (name, is.0) in (
       before.0 ++ typed ∷ [],
-      still_new before.0 typed names before.1 before.2 none,
-      inserted ∙ still_named before.0 typed names before.2,
+      inserted ∙ still_named before.0 typed names before.1,
+      pushed ∙ (ap (λ ns. ns ++ name ∷ []) before.2 ∙ sym (map-append (λ (t : Typed). t.0) before.0 (typed ∷ []))),
       one_more start now from behind before.0 typed before.3 (read_key_is now (Some name) from named) is.1,
     )
 
-pub all_passed : (start now behind : List Token) (names : Members) → HavePassed start now names → read_key now ≡ Some (None, behind)
-    → (types : List Typed) × AreNew types no_members × AreListed start types behind × (names ≡ bare (with_types types no_members))
-all_passed start now behind names before over = (before.0, before.1, all_listed start now behind before.0 before.3 over, before.2)
-
--- no entry has the key that was not found
-pub not_among : (es : List Entry) (name : String Global) (old : Option Value) → old ≡ lookup (is_at (string_cmp name)) es → is_some old ≡ false → get_member (string_bytes name) (members_view es) ≡ None
-not_among es name None e none = sym (view-lookup (string_bytes name) es) ∙ ap (option_map view) (sym e)
-not_among es name (Some found) e none = absurd cc
+pub all_passed : (start now behind : List Token) (names : TypeNames) → HavePassed start now (members_view names.names.entries) (map string_bytes names.order.items) → read_key now ≡ Some (None, behind)
+    → (types : List Typed) × AreListed start types behind × AreNames names types
+all_passed start now behind names before over = (before.0, all_listed start now behind before.0 before.3 over, record { once = before.1; ordered = before.2 })
 
 -- an empty array is put among the members
 pub empty_put : (es new_es : List Entry) (text : String Global) (name : List ℕ) (empty : Vec Value Global) → new_es ≡ insert_entry string_cmp es text (Array empty) → empty.items ≡ [] → string_bytes text ≡ name

@@ -1,12 +1,10 @@
--- The line of a cycle in its plain form: `cycle` with `version`, `tag`, `add` and perhaps `snapshot` in this order, each once, and in `add` an array of
--- records for each type, each type once.
-use Rattle.std.specs.Prelude.{◌≡◌, ℕ, List, [], ◌∷◌, codes, Bool, true, false, if◌then◌else◌, Option, Some, None, option_and_then, unwrap_or}
-use Rattle.std.specs.Str.{bytes_eq}
-use Rattle.json.specs.Token.{Token, begin_array, begin_object, end_object, key, boolean as boolean_token}
+-- The line of a cycle: `cycle` with `version`, `tag`, `add` and perhaps `snapshot`, in any order, and in `add` an array of records for each type.
+use Rattle.std.specs.Prelude.{◌≡◌, ◌+◌, ℕ, List, [], ◌∷◌, All, codes, Bool, drop, map, Option, Some, None, option_and_then, slice_get, unwrap_or}
+use Rattle.json.specs.Token.{Token, begin_array, begin_object, end_object, key}
 use Rattle.json.specs.Json.{value}
 use Rattle.json.specs.Lex.{tokens as tokens_of}
 use Rattle.serde_json.specs.Data.{Data, Members, array, boolean, member, no_items, no_members, null, object, put}
-use Rattle.serde_json.specs.Find.{get, get_member}
+use Rattle.serde_json.specs.Find.{get}
 use Rattle.serde_json.specs.Read.{converted, of_json, read}
 use Rattle.serde_json.specs.View.{items_of}
 use Rattle.record_stream.specs.Records.{AreAhead}
@@ -29,17 +27,24 @@ added_by line = unwrap_or (option_and_then (get (codes "add")) (option_and_then 
 abbrev pub Typed : Type 0
 Typed = List ℕ × List Data
 
--- How deep arrays and objects may nest in the version and in the tag: two objects are around them.
+-- How deep arrays and objects may nest in the members of a cycle: two objects are around them.
 abbrev pub part_depth : ℕ
 part_depth = 125
 
--- The tokens begin with a cycle up to the brace behind `add`: its version and its tag are these, and the rest follows.
-abbrev pub Opens : List Token → Data → Data → List Token → Type 0
-Opens tokens version tag rest =
-    (first : List Token) × (second : List Token)
-    × (tokens ≡ begin_object ∷ key (codes "cycle") ∷ begin_object ∷ key (codes "version") ∷ first)
-    × (converted of_json (value part_depth first) ≡ Some (version, key (codes "tag") ∷ second))
-    × (converted of_json (value part_depth second) ≡ Some (tag, key (codes "add") ∷ begin_object ∷ rest))
+-- a name and the JSON under it
+abbrev pub Named : Type 0
+Named = List ℕ × Data
+
+-- The tokens begin with these members of an object, in their order; the rest follows. Arrays and objects nest no deeper than that in their values.
+abbrev pub AreMembers : ℕ → List Token → List Named → List Token → Type 0
+AreMembers depth tokens [] rest = tokens ≡ rest
+AreMembers depth tokens (named ∷ others) rest =
+    (from : List Token) × (behind : List Token) × (tokens ≡ key named.0 ∷ from) × (converted of_json (value depth from) ≡ Some (named.1, behind)) × AreMembers depth behind others rest
+
+-- the members, and these put among them, one after another: of those of one name the last one counts
+abbrev pub put_all : List Named → Members → Members
+put_all [] there = there
+put_all (named ∷ others) there = put_all others (put named.0 named.1 there)
 
 -- The tokens begin with the array of these records; the rest follows.
 abbrev pub IsArray : List Token → List Data → List Token → Type 0
@@ -56,48 +61,53 @@ abbrev pub with_types : List Typed → Members → Members
 with_types [] there = there
 with_types (typed ∷ others) there = with_types others (put typed.0 (array (items_of typed.1)) there)
 
--- The tokens behind the records: whether a snapshot is put, where this is said, and the braces that close the cycle and the line.
-abbrev pub closing : Option Bool → List Token
-closing None = end_object ∷ end_object ∷ []
-closing (Some snapshot) = key (codes "snapshot") ∷ boolean_token snapshot ∷ end_object ∷ end_object ∷ []
+-- None of the names is this one.
+abbrev pub AreOther : List ℕ → List (List ℕ) → Type 0
+AreOther name names = All (λ other. other ≡ name → ⊥) names
 
--- No type is given twice, nor is one of the members.
-abbrev pub AreNew : List Typed → Members → Type 0
-AreNew [] there = Unit {0}
-AreNew (typed ∷ others) there = (get_member typed.0 there ≡ None) × AreNew others (put typed.0 (array (items_of typed.1)) there)
+-- the names of types, in their order
+abbrev pub names_of : List Typed → List (List ℕ)
+names_of types = map (λ typed. typed.0) types
 
--- the records of the first type of a name
-abbrev pub records_under : List ℕ → List Typed → Option (List Data)
-records_under name [] = None
-records_under name (typed ∷ others) = if bytes_eq typed.0 name then Some typed.1 else records_under name others
+-- The tokens begin with members of a cycle, of which the first one that is named `add` lists these types.
+pub record AreAdded (tokens : List Token) (types : List Typed) : Type 0 where
+  pub front : List Named
+  pub inside : List Token
+  pub behind : List Token
+  pub ahead : AreMembers part_depth tokens front (key (codes "add") ∷ begin_object ∷ inside)
+  pub none : AreOther (codes "add") (map (λ named. named.0) front)
+  pub listed : AreListed inside types behind
 
--- The tokens are those of a cycle in its plain form, of this version and tag, with records of these types, and saying this of its snapshot.
+-- The tokens are those of a cycle whose records can be read from its line: it has no members but these, in any order, and `add` once.
 pub record IsCycle (tokens : List Token) (version tag : Data) (types : List Typed) (snapshot : Option Bool) : Type 0 where
   pub inside : List Token
-  pub opened : Opens tokens version tag inside
-  pub listed : AreListed inside types (closing snapshot)
-  pub apart : AreNew types no_members
+  pub opened : tokens ≡ begin_object ∷ key (codes "cycle") ∷ begin_object ∷ inside
+  pub parts : List Named
+  pub ahead : AreMembers part_depth inside parts (end_object ∷ end_object ∷ [])
+  pub are : put_all parts no_members ≡ member (codes "add") (object (with_types types no_members)) (saying snapshot (member (codes "tag") tag (member (codes "version") version no_members)))
+  pub added : AreAdded inside types
 
 -- the same names, each with no records
 abbrev pub bare : Members → Members
 bare no_members = no_members
 bare (member name json rest) = member name (array no_items) (bare rest)
 
--- What looking for a type among the sought ones leaves: the records that are ahead, or that there is no such type.
-abbrev pub Seeks : List ℕ → List Typed → List Token → Bool → Type 0
-Seeks name types now false = records_under name types ≡ None
-Seeks name types now true = (records : List Data) × (rest : List Token) × (records_under name types ≡ Some records) × AreAhead now records rest
+-- What looking for the last one of some names that is this one answers: its place, or that none is.
+abbrev pub TellsLast : List ℕ → List (List ℕ) → Option ℕ → Type 0
+TellsLast name names None = AreOther name names
+TellsLast name names (Some place) = (slice_get names place ≡ Some name) × AreOther name (drop (place + 1) names)
 
 -- What looking for the records of a type answers: the tokens of those that stand under its name, or that there is no such type.
 abbrev pub TellsRecords : List ℕ → Data → Option (List Token) → Type 0
 TellsRecords name add None = get name add ≡ None
 TellsRecords name add (Some tokens) = (records : List Data) × (rest : List Token) × (get name add ≡ Some (array (items_of records))) × AreAhead tokens records rest
 
--- What is kept of a line: it is a cycle in its plain form, and these are the names of its types.
-pub record IsKept (line : List ℕ) (names : Data) : Type 0 where
+-- What is kept of a line: it is such a cycle, and these are the names of its types, and these as they stand in the line.
+pub record IsKept (line : List ℕ) (names : Data) (order : List (List ℕ)) : Type 0 where
   pub version : Data
   pub tag : Data
   pub types : List Typed
   pub snapshot : Option Bool
   pub cycle : IsCycle (tokens_of line) version tag types snapshot
   pub named : names ≡ object (bare (with_types types no_members))
+  pub ordered : order ≡ names_of types

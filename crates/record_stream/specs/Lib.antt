@@ -1,4 +1,5 @@
 pub mod CycleLine
 pub mod FindLine
+pub mod Parts
 pub mod Passing
 pub mod Records

@@ -6,6 +6,7 @@ mod find_line;
 mod listing;
 mod number;
 mod opening;
+mod parts;
 mod passing;
 mod read_fault;
 mod record;

@@ -1,5 +1,6 @@
 mod FieldsTaken
 mod ItemsTaken
 mod RowsTaken
+mod Slots
 mod Taking
 mod Told

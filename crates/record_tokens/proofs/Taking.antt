@@ -1,11 +1,11 @@
 -- What values at the front of tokens are read as.
-use Rattle.std.proofs.Common.{◌≡◌, ◌∙◌, ℕ, zero, suc, ◌-◌, List, ◌∷◌, length, Option, Some, None, option_map, Result, Ok, Err, refl, sym, ap, subst, arith}
+use Rattle.std.proofs.Common.{◌≡◌, ◌∙◌, ℕ, zero, suc, ◌-◌, ◌≤◌, List, [], ◌∷◌, length, Option, Some, None, option_map, Result, Ok, Err, refl, sym, ap, subst, arith}
 use Rattle.std.specs.Prelude.{IfOk, slice_get}
 use Rattle.json.specs.Token.{Token}
-use Rattle.json.specs.Json.{items, members, parse_map, value}
+use Rattle.json.specs.Json.{after_end_array, items, members, parse_map, value}
 use Rattle.json.proofs.Grammar.{value_is, value-begin_array, value-begin_object}
-use Rattle.serde_json.specs.Data.{Data, Items, Members, array, null, object}
-use Rattle.serde_json.specs.Read.{converted, of_json}
+use Rattle.serde_json.specs.Data.{Data, Items, Members, array, item, no_items, null, object}
+use Rattle.serde_json.specs.Read.{converted, of_items, of_json}
 use Rattle.schema_model.specs.declared.reason.Reason.{Reason}
 use Rattle.schema_model.specs.declared.schema.name.Name.{Name}
 use Rattle.schema_model.specs.declared.schema.FieldKind.{FieldKind}
@@ -15,13 +15,17 @@ use Rattle.schema_model.specs.declared.schema.Shape.{Shape}
 use Rattle.schema_model.specs.Parts.{index_of_type}
 use Rattle.row_model.specs.declared.row.Value.{Value}
 use Rattle.closed_rows.specs.Dangling.{IsPlain}
-use Rattle.row_model.specs.PlainTree.{PlainTree, leaf, list, set, trees_of_list}
-use Rattle.record_trees.specs.Tree.{plain}
+use Rattle.row_model.specs.PlainTree.{PlainTree, leaf, list, map as map_tree, pairs_of_list, set, trees_of_list}
+use Rattle.record_trees.specs.Tree.{plain, plain_pairs}
 use Rattle.record_trees.specs.declared.tree.Tree.{Tree}
+use Rattle.record_trees.specs.declared.tree.TreePairs.{TreePairs}
+use Rattle.record_trees.specs.FitsTree.{AreKeysApart}
 use Rattle.json_values.specs.ReadValue.{read_each, read_value}
-use Rattle.record_json.specs.ReadTree.{made, read_at, read_members, read_named, read_present, read_shape, read_typed, read_within}
-use Rattle.record_json.proofs.TreeParts.{opened}
-use Rattle.record_stream.proofs.Converted.{converted-array, converted-object}
+use Rattle.record_json.specs.ReadTree.{key_then, made, read_at, read_map, read_members, read_named, read_pair, read_present, read_shape, read_typed, read_within}
+use Rattle.record_json.proofs.TreeParts.{keys_apart, opened}
+use Rattle.record_trees.proofs.Deciding.{keys_apart_or_not}
+use Rattle.record_stream.proofs.Converted.{converted-array, converted-object, item_read, items_over}
+use Rattle.record_stream.proofs.Listed.{value_shorter}
 use Rattle.record_tokens.specs.declared.unread.Unread.{Unread}
 use Rattle.record_tokens.specs.Taken.{Takes, TakesItems, TakesMembers, scalar}
 
@@ -119,6 +123,11 @@ leaf_taken follow nest kind token tokens rest (Ok tree) is are (json, e, gives) 
 pub same_taken : {A : Type 0} (read : Data → Result A Reason) (nest : ℕ) (tokens same rest : List Token) (found other : A) → tokens ≡ same → found ≡ other → Takes read nest same found rest → Takes read nest tokens other rest
 same_taken read nest tokens same rest found other are is (json, e, gives) = (json, ap (λ ts. converted of_json (value nest ts)) are ∙ e, gives ∙ ap Ok is)
 
+pub named_taken : (read : Data → Result PlainTree Reason) (nest : ℕ) (tokens same rest : List Token) (result : Result Tree Unread) → tokens ≡ same
+    → IfOk result (λ tree. Takes read nest same (plain tree) rest) → IfOk result (λ tree. Takes read nest tokens (plain tree) rest)
+named_taken read nest tokens same rest (Err fault) are taken = tt
+named_taken read nest tokens same rest (Ok tree) are taken = same_taken read nest tokens same rest (plain tree) (plain tree) are refl taken
+
 pub plain_kind : (kind : FieldKind) → ((name : Name) → kind ≡ FieldKind.Reference name → ⊥) → IsPlain kind
 plain_kind (FieldKind.Reference name) not = absurd (not name refl)
 plain_kind kind not = tt
@@ -140,3 +149,42 @@ pub set_read : (schemas : List Schema) (depth below type_index : ℕ) (schema : 
     → (parts : Items) → read_within schemas depth type_index (array parts) ≡ made (λ trees. set (trees_of_list trees)) (read_each (read_named schemas below element) parts)
 set_read schemas depth below type_index schema element some less found is parts =
     opened schemas depth below type_index schema (array parts) some less found ∙ ap (λ shape. read_shape (read_named schemas below) shape (array parts)) is
+
+pub map_read : (schemas : List Schema) (depth below type_index : ℕ) (schema : Schema) (key part : Name) → (depth ≡ 0 → ⊥) → below ≡ depth - 1 → slice_get schemas type_index ≡ Some schema → schema.shape ≡ Shape.Map key part
+    → (parts : Items) → read_within schemas depth type_index (array parts) ≡ read_map (read_each (read_pair (read_named schemas below key) (read_named schemas below part)) parts)
+map_read schemas depth below type_index schema key part some less found is parts =
+    opened schemas depth below type_index schema (array parts) some less found ∙ ap (λ shape. read_shape (read_named schemas below) shape (array parts)) is
+
+-- ---- a pair, and a map of pairs
+
+-- what begins with a value does not begin with the bracket that closes an array
+going : (nest : ℕ) (ts rest : List Token) (json : Data) → converted of_json (value nest ts) ≡ Some (json, rest) → after_end_array ts ≡ None
+going nest [] rest json e = refl
+going nest (Token.end_array ∷ ts) rest json e = absurd (none_some (json, rest) (sym (ap (converted of_json) (value_is nest (Token.end_array ∷ ts))) ∙ e))
+going nest (t ∷ ts) rest json e = refl
+
+pub pair_taken : (read_key read_part : Data → Result PlainTree Reason) (nest : ℕ) (tokens middle end rest : List Token) (key part : PlainTree) → (nest ≡ 0 → ⊥) → Takes read_key (nest - 1) tokens key middle
+    → Takes read_part (nest - 1) middle part end → after_end_array end ≡ Some rest → Takes (read_pair read_key read_part) nest (Token.begin_array ∷ tokens) (key, part) rest
+pair_taken read_key read_part nest tokens middle end rest key part some (first, is_first, key_gives) (second, is_second, part_gives) over =
+    let p = value (nest - 1) in
+    let n = length tokens in
+    let one = value_shorter (nest - 1) tokens middle first is_first in
+    let two = value_shorter (nest - 1) middle end second is_second in
+    let both : converted of_items (items p n tokens) ≡ Some (item first (item second no_items), rest) =
+    item_read p n tokens middle first (omega (arith, one)) (going (nest - 1) tokens middle first is_first) is_first
+    ∙ (ap (parse_map (item first)) (item_read p (n - 1) middle end second (omega (arith, one, two)) (going (nest - 1) middle end second is_second) is_second)
+    ∙ ap (λ o. parse_map (item first) (parse_map (item second) o)) (items_over p (n - 1 - 1) end rest (omega (arith, one, two)) over)) in (
+      array (item first (item second no_items)),
+      ap (converted of_json) (value-begin_array nest tokens (omega (arith, some))) ∙ converted-array (items p n tokens) ∙ ap (parse_map array) both,
+      (λ i. key_then (key_gives i) (part_gives i)),
+    )
+
+pub map_told : (read : Data → Result PlainTree Reason) (read_part : Data → Result (PlainTree × PlainTree) Reason) (nest : ℕ) (all tokens rest : List Token) (pairs : TreePairs) (result : Result Tree Unread) → (nest ≡ 0 → ⊥) → all ≡ Token.begin_array ∷ tokens
+    → ((parts : Items) → read (array parts) ≡ read_map (read_each read_part parts)) → IfOk result (λ tree. (plain tree ≡ map_tree (pairs_of_list (plain_pairs pairs))) × AreKeysApart (pairs_of_list (plain_pairs pairs))) → TakesItems read_part (nest - 1) tokens (plain_pairs pairs) rest
+    → IfOk result (λ tree. Takes read nest all (plain tree) rest)
+map_told read read_part nest all tokens rest pairs (Err fault) some is same told taken = tt
+map_told read read_part nest all tokens rest pairs (Ok tree) some is same told (parts, e, gives) = (
+  array parts,
+  ap (λ ts. converted of_json (value nest ts)) is ∙ (ap (converted of_json) (value-begin_array nest tokens (omega (arith, some))) ∙ converted-array (items (value (nest - 1)) (length tokens) tokens) ∙ ap (parse_map array) e),
+  same parts ∙ ap read_map gives ∙ keys_apart (pairs_of_list (plain_pairs pairs)) (keys_apart_or_not (pairs_of_list (plain_pairs pairs))) told.1 ∙ ap Ok (sym told.0),
+)

@@ -1,6 +1,7 @@
 //! Records with all that they refer to, straight from the tokens of a line.
 #![tactic(auto)]
 
+mod keys;
 mod leaf;
 mod next;
 mod row;

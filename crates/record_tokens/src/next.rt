@@ -33,12 +33,12 @@ pub enum NextTree {
     Record(Record),
     /// The bracket that closes the array, which is passed.
     End,
-    /// It is not told: the next record has not the plain form, or gives no tree. The reader is not to be used any more.
+    /// It is not told: the next record gives no tree, or has a STRING that is an array of units. The reader is not to be used any more.
     Other,
 }
 
-/// The next record of the array in which the reader stands, with all that it refers to, where it has the plain form: the members of each record in it
-/// stand in the order of the fields of its type, and it has no MAP. Where memory is refused, the reader is not to be used any more.
+/// The next record of the array in which the reader stands, with all that it refers to, whatever the order of its members. Where memory is refused, the
+/// reader is not to be used any more.
 pub fn next_tree(
     alloc: Global,
     model: &Model,

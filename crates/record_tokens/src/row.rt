@@ -1,5 +1,5 @@
 //! Records of types without references, each as its row from its tokens.
-ghost use Rattle.std.specs.Prelude.{◌≡◌, ◌++◌, ◌-◌, All, IfOk, List, OnOk, Result, Some, Ok, length, replicate};
+ghost use Rattle.std.specs.Prelude.{◌≡◌, All, IfOk, List, Result, Some, Ok, replicate};
 ghost use Rattle.json.specs.Reads.{token_of};
 ghost use Rattle.serde_json.specs.Data.{Data};
 ghost use Rattle.schema_model.specs.Parts.{field_names};
@@ -16,7 +16,7 @@ ghost use Rattle.record_trees.specs.Rows.{AreStoredOf};
 ghost use Rattle.record_tokens.specs.Taken.{TakesMembers, scalar};
 
 use crate::leaf::value_of;
-use crate::tree::place_from;
+use crate::tree::place_of;
 use crate::unread::Unread;
 use hol_varint::units_of;
 use json::{Reader, Token};
@@ -25,7 +25,8 @@ use row_model::{Value, Values};
 use schema_model::{Field, FieldKind};
 use std::alloc::{AllocError, Global};
 
-/// The values of a record as a blob holds them, whose members stand in the order of its fields; where one is missing its field is null.
+/// The values of a record as a blob holds them, each in its slot, whatever the order of the members. A field that is missing is null, and of a member
+/// that is given twice the last one counts.
 pub(crate) fn values_ahead(
     alloc: Global,
     fields: &[Field],
@@ -37,27 +38,29 @@ pub(crate) fn values_ahead(
     ensures { IfOk result (λ values. (trees : List PlainTree) × AreStoredOf trees values
         × ((follow : SpecName → Data → Result PlainTree Reason) → TakesMembers (read_members follow fields.now) nest reader.old (object (trees_of_list trees)) reader.new)) }
 {
-    let mut values = Values::with_capacity(alloc, fields.len())?;
+    let mut slots = null_values(alloc, fields.len())?;
+    let mut from = 0;
     'members: while let Some(name) = reader.next_key()? {
-        let Some(place) = place_from(fields, values.len(), name) else {
+        let Some(place) = place_of(fields, from, name) else {
             return Err(Unread::Other);
         };
-        fill_values(&mut values, place)?;
         let token = reader.next().ok_or(Unread::Other)?;
-        values.push(stored_leaf(alloc, &fields[place].kind, token)?)?;
+        let value = stored_leaf(alloc, &fields[place].kind, token)?;
+        slots[place] = value;
+        from = place + 1;
     }
-    fill_values(&mut values, fields.len())?;
-    Ok(values)
+    Ok(Values::from_vec(slots))
 }
 
-// Adds nulls at the end, until there are so many values.
-fn fill_values(values: &mut Values, count: usize) -> Result<(), AllocError>
-    ensures { OnOk result (values.new ≡ values.old ++ replicate (count - length values.old) RowValue.Null) }
+// So many slots with nothing in them.
+fn null_values(alloc: Global, count: usize) -> Result<Vec<Value>, AllocError>
+    ensures { IfOk result (λ slots. slots.items ≡ replicate count RowValue.Null) }
 {
-    'filling: while values.len() < count {
-        values.push(Value::Null)?;
+    let mut slots = Vec::with_capacity(alloc, count)?;
+    'filling: while slots.len() < count {
+        slots.push(Value::Null)?;
     }
-    Ok(())
+    Ok(slots)
 }
 
 // The value of a field of a kind without a reference, from its token, as a blob holds it.

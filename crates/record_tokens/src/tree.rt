@@ -1,18 +1,21 @@
 //! Records with all that they refer to, each from its tokens.
-ghost use Rattle.std.specs.Prelude.{◌≡◌, ◌≤◌, ◌<◌, ◌∷◌, ◌++◌, ◌-◌, [], length, replicate, slice_get, IfOk, IfSome, IsSomeAnd, OnOk};
+ghost use Rattle.std.specs.Prelude.{◌≡◌, ◌<◌, ◌∷◌, length, replicate, slice_get, IfOk, IfSome, IsSomeAnd, OnOk};
 ghost use Rattle.json.specs.Reads.{token_of};
-ghost use Rattle.row_model.specs.PlainTree.{object, trees_of_list};
-ghost use Rattle.record_trees.specs.Tree.{plain, plain_trees, trees};
+ghost use Rattle.json.specs.Token.{begin_array};
+ghost use Rattle.row_model.specs.PlainTree.{map as map_tree, object, pairs_of_list, trees_of_list};
+ghost use Rattle.record_trees.specs.Tree.{plain, plain_pair, plain_pairs, plain_trees, trees};
 ghost use Rattle.record_trees.specs.declared.tree.Tree.{Tree as RowTree};
+ghost use Rattle.record_trees.specs.FitsTree.{AreKeysApart};
 ghost use Rattle.schema_model.specs.Parts.{field_names};
-ghost use Rattle.record_json.specs.ReadTree.{read_members, read_named, read_present, read_within};
+ghost use Rattle.record_json.specs.ReadTree.{read_members, read_named, read_pair, read_present, read_within};
 ghost use Rattle.record_json.specs.NamesApart.{AreNamesApart};
 ghost use Rattle.record_tokens.specs.Taken.{Takes, TakesItems, TakesMembers};
 
+use crate::keys::are_keys_apart;
 use crate::leaf::leaf_tree;
 use crate::unread::Unread;
 use json::{Reader, Token};
-use record_trees::{Tree, Trees};
+use record_trees::{Tree, TreePairs, Trees};
 use schema_model::{Field, FieldKind, Model, Name, Shape};
 use std::alloc::{AllocError, Global};
 
@@ -48,6 +51,10 @@ pub(crate) fn tree_behind(
             let parts = elements_ahead(alloc, model, below, element, reader, within)?;
             Ok(Tree::Set(parts))
         }
+        (Shape::Map(key, part), Token::BeginArray) => {
+            let pairs = pairs_ahead(alloc, model, below, key, part, reader, within)?;
+            map_of(pairs)
+        }
         _ => Err(Unread::Other),
     }
 }
@@ -71,7 +78,24 @@ fn named_behind(
     }
 }
 
-// The trees in the fields of a record, whose members stand in the order of its fields; where one is missing its field is null.
+// The same, with its first token.
+#[cycle(taking)]
+fn named_ahead(
+    alloc: Global,
+    model: &Model,
+    depth: u32,
+    name: &Name,
+    reader: &mut Reader<'_>,
+    nest: usize,
+) -> Result<Tree, Unread>
+    ensures { IfOk result (λ tree. Takes (read_named model.now depth name.now) nest reader.old (plain tree) reader.new) }
+{
+    let token = reader.next().ok_or(Unread::Other)?;
+    named_behind(alloc, model, depth, name, token, reader, nest)
+}
+
+// The trees in the fields of a record, each in its slot, whatever the order of the members. A field that is missing is null, and of a member that
+// is given twice the last one counts.
 #[cycle(taking)]
 fn fields_ahead(
     alloc: Global,
@@ -84,21 +108,32 @@ fn fields_ahead(
     requires { AreNamesApart (field_names fields.now) }
     ensures { IfOk result (λ parts. TakesMembers (read_members (read_named model.now depth) fields.now) nest reader.old (object (trees_of_list (plain_trees parts))) reader.new) }
 {
-    let mut parts = Trees::new(alloc);
+    let mut slots = null_slots(alloc, fields.len())?;
+    let mut from = 0;
     'members: while let Some(name) = reader.next_key()? {
-        let Some(place) = place_from(fields, parts.len(), name) else {
+        let Some(place) = place_of(fields, from, name) else {
             return Err(Unread::Other);
         };
-        fill(&mut parts, place)?;
-        parts.push(field_ahead(alloc, model, depth, &fields[place].kind, reader, nest)?)?;
+        let tree = field_ahead(alloc, model, depth, &fields[place].kind, reader, nest)?;
+        slots[place] = tree;
+        from = place + 1;
     }
-    fill(&mut parts, fields.len())?;
-    Ok(parts)
+    Ok(trees_of(alloc, slots)?)
 }
 
-/// The place of the first field of this name, from a place on.
-pub(crate) fn place_from(fields: &[Field], from: usize, name: &str) -> Option<usize>
-    ensures from { IfSome result (λ place. from ≤ place) }
+/// The place of the field of this name, which is looked for from a place on, and then from the first one on.
+pub(crate) fn place_of(fields: &[Field], from: usize, name: &str) -> Option<usize>
+    ensures within { IfSome result (λ place. place < length fields.now) }
+    ensures named { IfSome result (λ place. IsSomeAnd (slice_get fields.now place) (λ field. field.name ≡ name.now)) }
+{
+    match place_from(fields, from, name) {
+        Some(place) => Some(place),
+        None => place_from(fields, 0, name),
+    }
+}
+
+// The place of the first field of this name, from a place on.
+fn place_from(fields: &[Field], from: usize, name: &str) -> Option<usize>
     ensures within { IfSome result (λ place. place < length fields.now) }
     ensures named { IfSome result (λ place. IsSomeAnd (slice_get fields.now place) (λ field. field.name ≡ name.now)) }
 {
@@ -110,14 +145,26 @@ pub(crate) fn place_from(fields: &[Field], from: usize, name: &str) -> Option<us
     None
 }
 
-// Adds nulls at the end, until there are so many trees.
-fn fill(parts: &mut Trees, count: usize) -> Result<(), AllocError>
-    ensures { OnOk result (trees parts.new ≡ trees parts.old ++ replicate (count - length (trees parts.old)) RowTree.Null) }
+// So many slots with nothing in them.
+fn null_slots(alloc: Global, count: usize) -> Result<Vec<Tree>, AllocError>
+    ensures { IfOk result (λ slots. slots.items ≡ replicate count RowTree.Null) }
 {
-    'filling: while parts.len() < count {
-        parts.push(Tree::Null)?;
+    let mut slots = Vec::with_capacity(alloc, count)?;
+    'filling: while slots.len() < count {
+        slots.push(Tree::Null)?;
     }
-    Ok(())
+    Ok(slots)
+}
+
+// The trees in the slots.
+fn trees_of(alloc: Global, slots: Vec<Tree>) -> Result<Trees, AllocError>
+    ensures { IfOk result (λ parts. trees parts ≡ slots.items) }
+{
+    let mut parts = Trees::new(alloc);
+    for slot in slots {
+        parts.push(slot)?;
+    }
+    Ok(parts)
 }
 
 // The tree in a field.
@@ -156,8 +203,74 @@ fn elements_ahead(
 {
     let mut parts = Trees::new(alloc);
     'elements: while !reader.take_end_array() {
-        let token = reader.next().ok_or(Unread::Other)?;
-        parts.push(named_behind(alloc, model, depth, element, token, reader, nest)?)?;
+        parts.push(named_ahead(alloc, model, depth, element, reader, nest)?)?;
     }
     Ok(parts)
+}
+
+// The pairs of a map.
+#[cycle(taking)]
+fn pairs_ahead(
+    alloc: Global,
+    model: &Model,
+    depth: u32,
+    key: &Name,
+    part: &Name,
+    reader: &mut Reader<'_>,
+    nest: usize,
+) -> Result<TreePairs, Unread>
+    ensures { IfOk result (λ pairs. TakesItems (read_pair (read_named model.now depth key.now) (read_named model.now depth part.now)) nest reader.old (plain_pairs pairs) reader.new) }
+{
+    let mut pairs = TreePairs::new(alloc);
+    'each: while !reader.take_end_array() {
+        pairs.push(pair_ahead(alloc, model, depth, key, part, reader, nest)?)?;
+    }
+    Ok(pairs)
+}
+
+// A key of a map and its value.
+#[cycle(taking)]
+fn pair_ahead(
+    alloc: Global,
+    model: &Model,
+    depth: u32,
+    key: &Name,
+    part: &Name,
+    reader: &mut Reader<'_>,
+    nest: usize,
+) -> Result<(Tree, Tree), Unread>
+    ensures { IfOk result (λ pair. Takes (read_pair (read_named model.now depth key.now) (read_named model.now depth part.now)) nest reader.old (plain_pair pair) reader.new) }
+{
+    if nest == 0 {
+        return Err(Unread::Other);
+    }
+    open_pair(reader)?;
+    let first = named_ahead(alloc, model, depth, key, reader, nest - 1)?;
+    let second = named_ahead(alloc, model, depth, part, reader, nest - 1)?;
+    if reader.take_end_array() {
+        Ok((first, second))
+    } else {
+        Err(Unread::Other)
+    }
+}
+
+// The map of these pairs, where no two keys are the same record.
+fn map_of(pairs: TreePairs) -> Result<Tree, Unread>
+    ensures { IfOk result (λ tree. (plain tree ≡ map_tree (pairs_of_list (plain_pairs pairs))) × AreKeysApart (pairs_of_list (plain_pairs pairs))) }
+{
+    if are_keys_apart(pairs.as_slice()) {
+        Ok(Tree::Map(pairs))
+    } else {
+        Err(Unread::Other)
+    }
+}
+
+// Passes the bracket that opens a pair.
+fn open_pair(reader: &mut Reader<'_>) -> Result<(), Unread>
+    ensures { OnOk result (reader.old ≡ begin_array ∷ reader.new) }
+{
+    match reader.next() {
+        Some(Token::BeginArray) => Ok(()),
+        _ => Err(Unread::Other),
+    }
 }

@@ -4,7 +4,7 @@ use std::alloc::AllocError;
 /// Why no record is read from its tokens.
 #[derive(Clone, Copy, PartialEq, Eq)]
 pub(crate) enum Unread {
-    /// It has not the plain form, or is no record of its type.
+    /// It is no record of its type, or has a STRING that is an array of units.
     Other,
     /// Memory was refused.
     Memory,

@@ -15,7 +15,7 @@ use Rattle.row_model.specs.Table.{RowMap}
 use Rattle.type_rows.specs.declared.totals.Totals.{Totals}
 use Rattle.type_rows.specs.Differing.{Difference}
 use Rattle.type_rows.specs.Ends.{IsOfKind, AreOfKind}
-use Rattle.type_rows.specs.Holds.{FitsRow, HoldsRows}
+use Rattle.type_rows.specs.Holds.{FitsRow}
 use Rattle.type_rows.specs.Layout.{Layout, item_bits, items_of_row, places_counted}
 use Rattle.type_rows.specs.WordsHeld.{part_bytes, row_bytes}
 use Rattle.type_rows.specs.Totals.{AreTotals, HasParts}
@@ -28,7 +28,7 @@ use Rattle.type_state.specs.Counted.{AgreeAt, ComeFitting, FitsSomewhere, HoldsL
 use Rattle.type_state.proofs.DifferingRows.{either, get_differing, with_added, with_neither, with_removed}
 use Rattle.type_state.proofs.Lookups.{found_at}
 use Rattle.type_state.proofs.RowSums.{no_more}
-use Rattle.type_state.proofs.Widening.{all_held, fits_beside, held_found}
+use Rattle.type_state.proofs.Widening.{all_held, fits_beside}
 
 -- A row of the kind of its type has no more values than there are fields.
 pub has_parts : (shape : Shape) (fields : ℕ) (row : Row) → length (shape_fields shape) ≡ fields → IsOfKind shape row → HasParts fields row

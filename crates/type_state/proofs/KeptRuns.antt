@@ -15,6 +15,7 @@ use Rattle.std.proofs.lemmas.List.Elements.{All-contains}
 use Rattle.std.proofs.lemmas.List.FromFn.{take-map-range_with_len}
 use Rattle.std.proofs.lemmas.Option.{slice_get_within}
 use Rattle.schema_model.specs.declared.schema.Field.{Field}
+use Rattle.schema_model.specs.declared.schema.FieldKind.{FieldKind}
 use Rattle.schema_model.specs.declared.schema.Shape.{Shape}
 use Rattle.schema_model.specs.Parts.{shape_fields}
 use Rattle.row_model.specs.Areas.{area_of}
@@ -24,6 +25,7 @@ use Rattle.row_model.specs.Table.{RowMap}
 use Rattle.object_codec.specs.ObjectPlace.{IsFieldWidth, IsObject}
 use Rattle.object_codec.specs.Packing.{CanPack, HasRoom, IsPacked as ArePacked, IsRowPut, PacksPlace, areas_for, values_of_place}
 use Rattle.object_codec.specs.Stored.{column, value_at, value_bytes, values_bytes}
+use Rattle.object_codec.proofs.FieldWidths.{fields_small}
 use Rattle.object_codec.proofs.PlacesPacked.{PackedSoFar}
 use Rattle.packed_half.specs.declared.half.HalfShape.{HalfShape}
 use Rattle.packed_half.specs.Half.{areas_in, behind_items, byte_words, place_words, section_in}
@@ -35,6 +37,7 @@ use Rattle.packed_half.proofs.RowPlaces.{place_is, places_long}
 use Rattle.record_runs.specs.Run.{AreStanding, HasRunRoom, IsRunPut, rows_between, run_bytes}
 use Rattle.type_rows.specs.Differing.{Difference}
 use Rattle.type_rows.specs.Layout.{places_of}
+use Rattle.type_rows.specs.WellFormed.{IsWidth}
 use Rattle.type_rows.proofs.Rising.{RiseFrom, from_sorted}
 use Rattle.type_state.specs.declared.differences.Differences.{Differences}
 use Rattle.type_state.specs.Differences.{AreApart, rows_with}
@@ -75,6 +78,21 @@ stands_there shape half words end object packed some below = record {
   below = omega (arith, below, packed.can.few);
   each = λ place inside. packed_place shape half words object packed place (omega (arith, inside, below));
 }
+
+-- the records of a half have few bits
+is_narrow : (max : Option ℕ) (kind : FieldKind) (width : ℕ) → IsWidth max kind width → width ≤ 64
+is_narrow None kind width is = is
+is_narrow (Some max) kind width is = is.0
+
+pub record_small : (shape : Shape) (half : HalfShape) (rows : RowMap) → IsObject shape → CanLay shape half rows → sum half.widths ≤ 65536
+record_small (Shape.Object key fields) half rows object can =
+    fields_small (λ (field : Field) width. IsWidth half.max field.kind width) (λ (field : Field) width is. is_narrow half.max field.kind width is) fields half.widths can.many can.wide
+record_small (Shape.List element) half rows object can = absurd object
+record_small (Shape.Set element) half rows object can = absurd object
+record_small (Shape.Map key value) half rows object can = absurd object
+
+pub kept_small : (shape given : Shape) (half : HalfShape) (words : List ℕ) → shape ≡ given → IsObject given → IsHalf shape half words → IsSome half.max → sum half.widths ≤ 65536
+kept_small shape given half words same object kept some = record_small shape half (half_rows shape half words) (subst IsObject (sym same) object) (packed_by shape half words kept some).can
 
 -- the same by what is lent of the half
 pub run_stands : (shape given : Shape) (half : HalfShape) (words widths first : List ℕ) (areas : List (List ℕ)) (end : ℕ) → shape ≡ given → widths ≡ half.widths → first ≡ (section_in shape half words).first
@@ -390,6 +408,26 @@ pub room_for_row : (shape : Shape) (half : HalfShape) (old : RowMap) (ds : Diffe
 room_for_row shape half old ds removed added widths first areas place row object can widths_are so_far inside is =
     subst (λ (ws : List ℕ). HasRoom shape ws first areas place row) (sym widths_are)
     (record_room shape half (rows_with old ds) object can half.widths first areas place row refl so_far.packed inside is)
+
+-- the row of a place before the first difference is the one that stood there, and there is room for it
+pub room_for_kept : (shape : Shape) (half : HalfShape) (old : RowMap) (ds : Differences) (removed added : List Difference) (widths first : List ℕ) (areas : List (List ℕ)) (place : ℕ) → IsObject shape
+    → CanLay shape half (rows_with old ds) → AreApart ds → widths ≡ half.widths → WrittenSoFar shape half old ds removed added first areas place → place < places_of half.max → place < first_ordinal removed
+    → place < first_ordinal added → HasRoom shape widths first areas place (get old place)
+room_for_kept shape half old ds removed added widths first areas place object can apart widths_are so_far inside before_removed before_added =
+    room_for_row shape half old ds removed added widths first areas place (get old place) object can widths_are so_far inside
+    (sym (row_stays place place old ds removed added apart so_far.removed_left so_far.added_left (omega arith) before_removed before_added))
+
+pub written_kept : (shape : Shape) (half : HalfShape) (old : RowMap) (ds : Differences) (removed added : List Difference) (widths first first' : List ℕ) (areas areas' : List (List ℕ)) (place : ℕ) → IsObject shape
+    → CanLay shape half (rows_with old ds) → AreApart ds → widths ≡ half.widths → WrittenSoFar shape half old ds removed added first areas place → place < places_of half.max → place < first_ordinal removed
+    → place < first_ordinal added → IsRowPut shape widths first areas first' areas' place (get old place) → length first' ≡ length first → WrittenSoFar shape half old ds removed added first' areas' (place + 1)
+written_kept shape half old ds removed added widths first first' areas areas' place object can apart widths_are so_far inside before_removed before_added put long = record {
+  packed = record_more shape half (rows_with old ds) object can half.widths first first' areas areas' place (get old place) so_far.packed inside
+      (sym (row_stays place place old ds removed added apart so_far.removed_left so_far.added_left (omega arith) before_removed before_added))
+      (subst (λ (ws : List ℕ). IsRowPut shape ws first areas first' areas' place (get old place)) widths_are put) long;
+  within = omega arith;
+  removed_left = left_up place (place + 1) ds.removed.items removed so_far.removed_left (omega arith) (omega arith);
+  added_left = left_up place (place + 1) ds.added.items added so_far.added_left (omega arith) (omega arith);
+}
 
 pub written_all : (shape : Shape) (half : HalfShape) (old : RowMap) (ds : Differences) (removed added : List Difference) (first : List ℕ) (areas : List (List ℕ)) (place : ℕ) → IsObject shape → CanLay shape half (rows_with old ds)
     → WrittenSoFar shape half old ds removed added first areas place → places_of half.max ≤ place → ArePacked shape half.widths (places_in (rows_with old ds) (places_of half.max)) first areas

@@ -1,5 +1,5 @@
 -- Which rows that stay fit other widths: those of OBJECT types by the numbers of their fields, where these stand packed.
-use Rattle.std.proofs.Common.{◌≡◌, ℕ, ◌+◌, ◌-◌, ◌^◌, ◌<◌, ◌≤◌, inl, inr, zero, suc, List, [], ◌∷◌, length, get_or, Option, None, Some, refl, sym, ap, subst, ◌∙◌, arith, rules}
+use Rattle.std.proofs.Common.{◌≡◌, ℕ, ◌+◌, ◌<◌, ◌≤◌, inl, inr, zero, suc, List, [], ◌∷◌, length, get_or, Option, None, Some, refl, sym, ap, subst, ◌∙◌, arith}
 use Rattle.std.specs.Prelude.{IsSome, is_some, slice_get, slice_index}
 use Rattle.std.specs.Ordering.{nat_cmp}
 use Rattle.std.specs.FinMap.{entries, find, get, get-entries, values}
@@ -116,23 +116,6 @@ wider_stays rows ds field kind before width is le o row value end at gone has wa
 
 pub numbers_stay : (rows : RowMap) (ds : List Difference) (field : ℕ) (kind : FieldKind) (before width : ℕ) → IsNumbers kind → ((o : ℕ) → find nat_cmp o ds ≡ None → FitsUnder rows field width o) → FieldStays rows ds field kind before width
 numbers_stay rows ds field kind before width is fit o row value end at gone has was = beside_null kind before width end value is (fit o gone row value at has) was
-
-top_bit : (n : ℕ) → 0 < 2 ^ n
-top_bit n = search rules
-
-pub texts_stay : (rows : RowMap) (ds : List Difference) (field : ℕ) (before width : ℕ) → FieldStays rows ds field FieldKind.Text before width
-texts_stay rows ds field before width o row value end at gone has was = top_bit (width - 1)
-
-pub bytes_stay : (rows : RowMap) (ds : List Difference) (field : ℕ) (before width : ℕ) → FieldStays rows ds field FieldKind.Bytes before width
-bytes_stay rows ds field before width o row value end at gone has was = top_bit (width - 1)
-
-pub booleans_stay : (rows : RowMap) (ds : List Difference) (field : ℕ) (before width : ℕ) → width ≡ 2 → FieldStays rows ds field FieldKind.Boolean before width
-booleans_stay rows ds field before width two o row value end at gone has was = two_bits value was
-  where
-    two_bits : (value : Value) → FitsWidth FieldKind.Boolean before end value → FitsWidth FieldKind.Boolean width 0 value
-    two_bits Value.Null was = two
-    two_bits (Value.Bool flag) was = two
-    two_bits _ was = absurd was
 
 -- ---- rows
 

@@ -55,8 +55,7 @@ FitsRecord shape widths row = FitsShape shape row × ((index : ℕ) → IfSome (
 abbrev pub HasRoomFor : Shape → List ℕ → ℕ → Difference → Type 0
 HasRoomFor shape widths places difference = (row : Row) → difference.1 ≡ Some row → difference.0 < places → FitsRecord shape widths row
 
--- A half of records, which may be copied run by run to another one, at the same widths.
-pub record CanCopyRuns (shape : Shape) (before after : HalfShape) : Type 0 where
+-- A half of records, which may be copied run by run to another one.
+pub record CanCopyRuns (shape : Shape) (before : HalfShape) : Type 0 where
   pub object : IsObject shape
   pub places : IsSome before.max
-  pub widths : after.widths ≡ before.widths

@@ -17,7 +17,7 @@ use schema_model::Shape;
 use type_rows::{Section, fixed_words, place_count, words_needed};
 
 /// Whether two rows of widths are the same.
-fn are_same(widths: &[u32], others: &[u32]) -> bool
+pub(crate) fn are_same(widths: &[u32], others: &[u32]) -> bool
     ensures { IsTrue result ↔ (widths.now ≡ others.now) }
 {
     widths == others

@@ -1,5 +1,5 @@
 //! The records and lists of a half that is kept, each copied to a place of other words as it stands.
-ghost use Rattle.std.specs.Prelude.{◌≡◌, IsSome, OnOk, map};
+ghost use Rattle.std.specs.Prelude.{◌≡◌, IsSome, OnOk, map, sum};
 ghost use Rattle.std.specs.FinMap.{get};
 ghost use Rattle.object_codec.specs.Packing.{HasRoom, IsRowPut};
 ghost use Rattle.list_codec.specs.ListPlace.{IsList};
@@ -10,7 +10,9 @@ ghost use Rattle.record_views.specs.Bytes.{bytes_of};
 ghost use Rattle.type_state.specs.Kept.{IsHalf, half_rows};
 ghost use Rattle.type_state.specs.KeptRecords.{AreKept, kept_rows};
 
+use bit_array::total_width;
 use hol_varint::Octets;
+use object_codec::put_row;
 use packed_half::{HalfRows, HalfShape};
 use record_moves::{RecordPlace, WordRecords, copy_list, copy_record};
 use record_views::{PackedBytes, elements_at};
@@ -75,12 +77,53 @@ impl<'a> KeptRecords<'a> {
         ensures { OnOk result (IsRowPut schema.now.shape widths.now first.old areas.old first.new areas.new ordinal (get (kept_rows self.entry) ordinal)) }
     {
         let place = u64::from(ordinal);
+        let widths_there = self.half.widths.as_slice();
+        let size_there = total_width(widths_there) as u64;
+        let size = total_width(widths) as u64;
         let there = RecordPlace {
-            widths: self.half.widths.as_slice(),
+            widths: widths_there,
+            size: size_there,
             place,
         };
-        let here = RecordPlace { widths, place };
+        let here = RecordPlace {
+            widths,
+            size,
+            place,
+        };
         copy_record(alloc, schema, &self.records, there, here, first, areas)
+    }
+
+    /// Copies the record of a place, whose width in bits is given, to the same place in other words, and its bytes behind those of the fields. Where
+    /// no row is live the place is written as an empty one.
+    ///
+    /// Memory is taken for the bytes alone; where it is refused, those of some fields may be there.
+    #[inline(always)]
+    pub(crate) fn copy_place(
+        self,
+        alloc: Global,
+        schema: &Schema,
+        size_there: u64,
+        here: RecordPlace<'_>,
+        first: &mut [u64],
+        areas: &mut [Octets],
+    ) -> Result<(), AllocError>
+        requires kept { AreKept self }
+        requires shape { self.shape.now ≡ schema.now.shape }
+        requires size_there { size_there ≡ sum self.half.now.widths }
+        requires size { here.size ≡ sum here.widths.now }
+        requires room { HasRoom schema.now.shape here.widths.now first.old areas.old here.place (get (kept_rows self) here.place) }
+        ensures { OnOk result (IsRowPut schema.now.shape here.entry.widths.now first.old areas.old first.new areas.new here.entry.place (get (kept_rows self.entry) here.entry.place)) }
+    {
+        let ordinal = here.place as u32;
+        if self.half.live.contains(ordinal) {
+            let there = RecordPlace {
+                widths: self.half.widths.as_slice(),
+                size: size_there,
+                place: here.place,
+            };
+            return copy_record(alloc, schema, &self.records, there, here, first, areas);
+        }
+        put_row(alloc, schema, here.widths, first, areas, here.place, None)
     }
 
     /// Copies the list under a live ordinal to its place in other words, its elements from a start on, and answers where they end. It takes no

@@ -1,4 +1,6 @@
 //! Records of OBJECT types that are copied run by run, with the bytes of their STRING and BYTES, and written one by one where the rows differ.
+//!
+//! A run is copied at once where the widths of both halves are the same, and record by record where they are not.
 ghost use Rattle.std.specs.Prelude.{◌≡◌, [], IfOk, IsTrue, OnOk, length, replicate};
 ghost use Rattle.object_codec.specs.ObjectPlace.{IsObject};
 ghost use Rattle.object_codec.specs.Packing.{IsPacked as ArePacked};
@@ -11,25 +13,28 @@ ghost use Rattle.type_state.specs.Differences.{AreApart, rows_with};
 ghost use Rattle.type_state.specs.KeptRecords.{AreKept, kept_rows};
 ghost use Rattle.type_state.specs.Recorded.{CanCopyRuns};
 
+use crate::copied::are_same;
 use crate::kept_records::KeptRecords;
 use crate::left_differences::{behind, first_ordinal, row_at};
 use crate::moving::Move;
+use bit_array::total_width;
 use hol_varint::Octets;
 use object_codec::put_row;
 use packed_half::{HalfShape, put_areas};
+use record_moves::RecordPlace;
 use record_runs::{Run, copy_run};
 use schema_model::{Schema, Shape};
 use std::alloc::{AllocError, Global};
 use type_rows::{fixed_words, place_count, words_needed};
 
-/// Whether the records of a half may be copied to another one run by run: those of an OBJECT type, at the same widths.
-pub(crate) fn can_copy_runs(shape: &Shape, before: &HalfShape, after: &HalfShape) -> bool
-    ensures { IsTrue result → CanCopyRuns shape.now before.now after.now }
+/// Whether the records of a half may be copied to another one run by run: those of an OBJECT type, in a half that has places.
+pub(crate) fn can_copy_runs(shape: &Shape, before: &HalfShape) -> bool
+    ensures { IsTrue result → CanCopyRuns shape.now before.now }
 {
     let Shape::Object(_, _) = shape else {
         return false;
     };
-    before.max.is_some() && before.widths.as_slice() == after.widths.as_slice()
+    before.max.is_some()
 }
 
 /// No bytes for each field of a half, with room for those that the field has there.
@@ -45,8 +50,8 @@ fn empty_areas(alloc: Global, lengths: &[u64]) -> Result<Vec<Octets>, AllocError
 
 /// Writes the records of the rows of a move at their places, in words of zeros, and the bytes of each field behind one another.
 ///
-/// The records between two differences are copied at once, and those that differ are written from their rows. A place behind those of the half
-/// before has a row only where one comes.
+/// The records between two differences are copied, at once where the widths are the same, and those that differ are written from their rows. A place
+/// behind those of the half before has a row only where one comes.
 fn put_places(
     alloc: Global,
     schema: &Schema,
@@ -57,7 +62,7 @@ fn put_places(
 ) -> Result<(), AllocError>
     requires kept { AreKept kept }
     requires shape { kept.shape.now ≡ schema.now.shape }
-    requires copies { CanCopyRuns schema.now.shape kept.half.now next.now.half }
+    requires copies { CanCopyRuns schema.now.shape kept.half.now }
     requires apart { AreApart next.now.differences }
     requires can { CanLay schema.now.shape next.now.half (rows_with (kept_rows kept) next.now.differences) }
     requires zeros { first.old ≡ replicate (place_words schema.now.shape next.now.half) 0 }
@@ -65,6 +70,10 @@ fn put_places(
     ensures { OnOk result (ArePacked schema.now.shape next.now.half.widths (places_in (rows_with (kept_rows kept.entry) next.now.differences) (places_of next.now.half.max)) first.new areas.new) }
 {
     let widths = next.half.widths.as_slice();
+    let widths_there = kept.half.widths.as_slice();
+    let alike = are_same(widths, widths_there);
+    let size = total_width(widths) as u64;
+    let size_there = total_width(widths_there) as u64;
     let places = place_count(next.half.max);
     let stable = place_count(kept.half.max).min(places);
     let mut removed = next.differences.removed.as_slice();
@@ -75,9 +84,19 @@ fn put_places(
         let come = first_ordinal(added);
         let end = gone.min(come).min(stable);
         if place < end {
-            let run = Run { place, end };
-            copy_run(alloc, schema, widths, &kept.records, run, first, areas)?;
-            place = end;
+            if alike {
+                let run = Run { place, end };
+                copy_run(alloc, schema, widths, &kept.records, run, first, areas)?;
+                place = end;
+                continue;
+            }
+            let here = RecordPlace {
+                widths,
+                size,
+                place,
+            };
+            kept.copy_place(alloc, schema, size_there, here, first, areas)?;
+            place += 1;
             continue;
         }
         let row = row_at(removed, added, place);
@@ -89,7 +108,7 @@ fn put_places(
     Ok(())
 }
 
-/// Lays the rows of a move out in words of zeros, at the widths of the current half. Memory is taken for the bytes of the fields.
+/// Lays the rows of a move out in words of zeros. Memory is taken for the bytes of the fields.
 pub(crate) fn lay_by_runs(
     alloc: Global,
     schema: &Schema,
@@ -99,7 +118,7 @@ pub(crate) fn lay_by_runs(
 ) -> Result<(), AllocError>
     requires kept { AreKept kept }
     requires shape { kept.shape.now ≡ schema.now.shape }
-    requires copies { CanCopyRuns schema.now.shape kept.half.now next.now.half }
+    requires copies { CanCopyRuns schema.now.shape kept.half.now }
     requires apart { AreApart next.now.differences }
     requires can { CanLay schema.now.shape next.now.half (rows_with (kept_rows kept) next.now.differences) }
     requires zeros { words.old ≡ replicate (words_for schema.now.shape next.now.half) 0 }

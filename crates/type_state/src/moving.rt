@@ -119,8 +119,7 @@ pub(crate) fn moved(
 /// Lays the rows that a patch moves others to out in the words of their half. The words are zeros, as many as the half takes; where memory is
 /// refused they may hold anything.
 ///
-/// Run by run where the widths are those of the current half, and else record by record: those that stay are copied, and no row is made of one; rows
-/// of the other kinds are made anew.
+/// Records and lists that stay are copied, and no row is made of one: the records run by run. Rows of the other kinds are made anew.
 pub(crate) fn lay_moved<'a>(
     alloc: Global,
     schema: &'a Schema,
@@ -137,7 +136,7 @@ pub(crate) fn lay_moved<'a>(
 {
     let areas = bytes_of_fields(alloc, current.bytes(), lengths_of(current.half))?;
     let records = KeptRecords::new(&current, areas.as_slice());
-    if can_copy_runs(&schema.shape, current.half, &next.half) {
+    if can_copy_runs(&schema.shape, current.half) {
         return lay_by_runs(alloc, schema, records, next, words);
     }
     let rows = PackedRows::new(schema, current.half, current.words);

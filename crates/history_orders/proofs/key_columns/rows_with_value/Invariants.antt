@@ -1,5 +1,5 @@
 -- The list has the ordinals that were passed whose records have the value.
-use Rattle.history_orders.proofs.Valued.{HasValuedBelow}
+use Rattle.history_orders.specs.Valued.{HasValuedBelow}
 use Rattle.history_orders.proofs.key_columns.rows_with_value.Given as goal
 
 abbrev pub invariant-loop-ordinal : goal.invariant-loop-ordinal

@@ -38,5 +38,5 @@ returns-clause-reserved c =
     let told = c.requires.counts c.in_ok-gone.gone c.in_ok-new.new
     (subst (λ (ps : List ℕ). CountsOnce (map (owner_of c.args.entries.now.slots) ps) c.in_ok-gone.gone) c.as_slice.ensures c.in_ok-gone.ensures)
     (subst (λ (ss : List Slot). CountsOnce (map owner_in ss) c.in_ok-new.new) c.as_slice-2.ensures.value c.in_ok-new.ensures) in
-    made_ready c.args.entries.now c.reserve.new.self _ c.reserve.ensures.values c.reserve.ensures.slots c.requires.rise c.requires.there c.requires.known c.requires.few
+    made_ready c.args.entries.now c.reserve.new.self c.args.coming.items _ c.in_ok-coming.ensures c.reserve.ensures.values c.reserve.ensures.slots c.requires.rise c.requires.there c.requires.known c.requires.few
     (omega (arith, c.in_ok-reserve.ensures.room, c.len-there.ensures, c.len-more.ensures, c.args.coming.ok)) told.1

@@ -1,5 +1,6 @@
 use Rattle.std.proofs.Common.{rules, ◌≡◌, ◌∙◌, ◌-◌, ◌<◌, ◌≤◌, ℕ, All, List, ap, arith, get_or, length, refl, subst, sym}
 use Rattle.std.proofs.lemmas.List.Elements.{Contains-get_or}
+use Rattle.std.proofs.lemmas.List.Sorted.{IsPermutation-refl}
 use Rattle.row_model.specs.Row.{Rises}
 use Rattle.row_model.specs.Table.{IsLive}
 use Rattle.schema_model.specs.Limit.{number_of_limit}
@@ -62,7 +63,7 @@ make_ready-requires-clause-counts g c =
     let told = c.in_ok-coming.ensures in
     ready_counts S T t parts after.values after.slots c.args.removed.now c.args.added.now leaving coming
     (are_ready S T t parts before.values after.values after.values before.slots after.slots c.args.removed.now c.as_slice.result.now c.args.added.now c.as_slice-2.result.now leaving leaving coming coming
-    refl told.slots told.entries c.as_slice.ensures c.as_slice-2.ensures refl refl c.requires.follows c.in_ok-leaving.ensures told.added)
+    refl told.slots told.entries c.as_slice.ensures c.as_slice-2.ensures refl (IsPermutation-refl coming) c.requires.follows c.in_ok-leaving.ensures told.added)
     c.args.keyed (subst (λ (es : List Entry). CountsOwners es c.args.keyed) (sym (same_kept before after told.slots told.entries)) c.requires.counts)
 
 pub returns-clause-next : goal.returns-clause-next

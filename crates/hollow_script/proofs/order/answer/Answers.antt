@@ -3,7 +3,7 @@ use Rattle.hol_orders.specs.Order.{IsOrder}
 use Rattle.hollow_machine.specs.Kept.{reader_of}
 use Rattle.hollow_machine.specs.Puts.{MayPut, OrderPuts}
 use Rattle.hollow_script.proofs.Looking.{of_reader}
-use Rattle.hollow_script.proofs.Ordering.{checks, cycle_halts, cycle_moves, grow_moves, model_moves, reader_moves, restore_moves, same_published, stays_halts, still_published}
+use Rattle.hollow_script.proofs.Ordering.{change_halts, change_moves, checks, cycle_halts, cycle_moves, grow_moves, model_moves, reader_moves, restore_moves, same_published, stays_halts, still_published}
 use Rattle.hollow_script.specs.Kept.{kept_of}
 use Rattle.hollow_script.proofs.order.answer.Goals as goal
 
@@ -29,6 +29,14 @@ returns-in-Cycle-clause-step g c =
     cycle_moves (g.S.BlobStore.seen c.args.store.now).held (kept_of c.args.keep.now) c.cycle.new.producer c.args.order.now c.cycle.result
     (g.S.BlobStore.seen c.cycle.new.store).held c.in-Cycle.next c.in-Cycle.is c.cycle.ensures.step
 
+pub change-requires-clause-order : goal.change-requires-clause-order
+change-requires-clause-order g c = subst IsOrder c.in-Change.is c.requires.order
+
+pub returns-in-Change-clause-step : goal.returns-in-Change-clause-step
+returns-in-Change-clause-step g c =
+    change_moves (g.S.BlobStore.seen c.args.store.now).held (kept_of c.args.keep.now) c.change.new.producer c.args.order.now c.change.result
+    (g.S.BlobStore.seen c.change.new.store).held c.in-Change.next c.in-Change.is c.change.ensures.step
+
 pub restore-requires-clause-order : goal.restore-requires-clause-order
 restore-requires-clause-order g c = subst IsOrder c.in-Restore.is c.requires.order
 
@@ -47,7 +55,7 @@ returns-in-Check-clause-step g c =
 
 pub answer_reader-requires-clause-reader : goal.answer_reader-requires-clause-reader
 answer_reader-requires-clause-reader g c =
-    of_reader c.args.order.now c.in_default.not-Model c.in_default.not-Cycle c.in_default.not-Restore c.in_default.not-Check c.in_default.not-Grow
+    of_reader c.args.order.now c.in_default.not-Model c.in_default.not-Cycle c.in_default.not-Restore c.in_default.not-Check c.in_default.not-Grow c.in_default.not-Change
 
 pub returns-in_default-clause-step : goal.returns-in_default-clause-step
 returns-in_default-clause-step g c =
@@ -85,6 +93,14 @@ pub returns-in-Cycle-clause-halts : goal.returns-in-Cycle-clause-halts
 returns-in-Cycle-clause-halts g c =
     cycle_halts (g.S.BlobStore.seen c.args.store.now).held (g.S.BlobStore.seen c.cycle.new.store).held (kept_of c.args.keep.now) c.args.order.now c.cycle.result
     c.in-Cycle.next c.in-Cycle.is c.cycle.ensures.halts
+
+pub returns-in-Change-clause-halts : goal.returns-in-Change-clause-halts
+returns-in-Change-clause-halts g c =
+    change_halts (g.S.BlobStore.seen c.args.store.now).held (g.S.BlobStore.seen c.change.new.store).held (kept_of c.args.keep.now) c.args.order.now c.change.result
+    c.in-Change.next c.in-Change.is c.change.ensures.halts
+
+pub returns-in-Change-clause-quiet : goal.returns-in-Change-clause-quiet
+returns-in-Change-clause-quiet g c = λ not. absurd (not (subst MayPut (sym c.in-Change.is) refl))
 
 pub returns-in-Cycle-clause-quiet : goal.returns-in-Cycle-clause-quiet
 returns-in-Cycle-clause-quiet g c = λ not. absurd (not (subst MayPut (sym c.in-Cycle.is) refl))

@@ -1,5 +1,5 @@
 use Rattle.hol_orders.specs.declared.order.Order.TheVariants as order
-use Rattle.hollow_script.proofs.Looking.{look_is, unbuilt_looks}
+use Rattle.hollow_script.proofs.Looking.{look_is, no_other_look}
 use Rattle.hollow_script.proofs.order.look.Goals as goal
 
 pub returns-in-Get-clause-reply : goal.returns-in-Get-clause-reply
@@ -29,5 +29,5 @@ returns-in-Past-clause-reply c = look_is c.args.order.now (order.Past c.in-Past.
 pub returns-in-Stat-clause-reply : goal.returns-in-Stat-clause-reply
 returns-in-Stat-clause-reply c = look_is c.args.order.now order.Stat c.args.consumer.now c.stat.result c.in-Stat.is c.stat.ensures.reply
 
-pub returns-in_default-clause-reply : goal.returns-in_default-clause-reply
-returns-in_default-clause-reply c = unbuilt_looks c.args.order.now c.args.consumer.now c.requires c.in_default.not-Get c.in_default.not-Find c.in_default.not-Live c.in_default.not-Row c.in_default.not-Has c.in_default.not-At c.in_default.not-Past c.in_default.not-Stat c.in_default.not-WalkFind
+pub unreachable-requires : goal.unreachable-requires
+unreachable-requires c = no_other_look c.args.order.now c.requires c.in_default.not-Get c.in_default.not-Find c.in_default.not-Live c.in_default.not-Row c.in_default.not-Has c.in_default.not-At c.in_default.not-Past c.in_default.not-Stat c.in_default.not-WalkFind

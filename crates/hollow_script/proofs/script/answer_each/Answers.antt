@@ -3,7 +3,7 @@ use Rattle.hollow_machine.specs.Kept.{IsResting}
 use Rattle.hollow_script.proofs.Answering.{handed_on, reader_starts, starts_answered, takes_none, takes_past, takes_then, told_both, told_next}
 use Rattle.std.proofs.lemmas.Result.{err_from_is_err_and}
 use Rattle.hollow_script.proofs.Halting.{stays_stopped}
-use Rattle.hollow_script.proofs.Keeping.{nothing_read}
+use Rattle.hollow_script.proofs.Keeping.{nothing_edited, nothing_read}
 use Rattle.hollow_script.specs.Scripted.{HasStopped, IsAnswered}
 use Rattle.hollow_script.specs.declared.script_stop.ScriptStop.TheVariants as stop
 use Rattle.hollow_script.proofs.Replying.{end_replied, next_replied, none_replied}
@@ -19,6 +19,7 @@ loop-turn-init g c =
       replied = none_replied (g.O.Sink.taken c.args.out.now) c.args.waiting.now.items c.requires.none_waits;
       resting = subst (λ kept. IfSome kept IsResting) (sym c.requires.fresh.producer) tt;
       reading = nothing_read c.args.keep.now c.requires.fresh;
+      edits = nothing_edited c.args.keep.now c.requires.fresh;
       later = omega arith;
       source_later = omega arith;
       store_later = omega arith;
@@ -47,6 +48,7 @@ loop-turn-preserved g c = record {
       (c.in_ok-also.ensures.replied (g.O.Sink.taken c.args.out.now) c.loop-turn.refused c.loop-turn.invariant.replied);
   resting = c.in_ok-also.ensures.resting;
   reading = c.in_ok-also.ensures.reading;
+  edits = c.in_ok-also.ensures.edits;
   later = omega (arith, c.loop-turn.invariant.later, c.in_ok-also.ensures.later);
   source_later = omega (arith, c.loop-turn.invariant.source_later, c.in_ok-also.ensures.source_later);
   store_later = omega (arith, c.loop-turn.invariant.store_later, c.in_ok-also.ensures.store_later);

@@ -2,7 +2,7 @@ use Rattle.std.proofs.Common.{◌≡◌, ◌≤◌, IfSome}
 use Rattle.hol_io.specs.Lines.{Takes}
 use Rattle.hol_io.specs.Turn.{IsEnded}
 use Rattle.hollow_machine.specs.Kept.{IsResting}
-use Rattle.hollow_script.specs.Kept.{KeepsReader}
+use Rattle.hollow_script.specs.Kept.{KeepsEdits, KeepsReader}
 use Rattle.hollow_script.specs.Scripted.{HasReplied, IsAnswered, longest_input}
 use Rattle.hollow_script.proofs.script.answer_each.Given as goal
 
@@ -14,6 +14,7 @@ invariant-loop-turn g l = record {
   replied : HasReplied (g.O.Sink.taken l.initial.out) (g.O.Sink.taken l.out) l.waiting.items l.refused;
   resting : IfSome l.keep.producer IsResting;
   reading : KeepsReader l.keep;
+  edits : KeepsEdits l.keep;
   later : g.O.Sink.faults l.initial.out ≤ g.O.Sink.faults l.out;
   source_later : g.I.Source.faults l.initial.input ≤ g.I.Source.faults l.input;
   store_later : (g.S.BlobStore.seen l.initial.store).faults ≤ (g.S.BlobStore.seen l.store).faults;

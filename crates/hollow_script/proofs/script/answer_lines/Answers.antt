@@ -1,12 +1,15 @@
 use Rattle.std.proofs.Common.{Some}
 use Rattle.hollow_script.proofs.Answering.{stops_at_start, told_both}
 use Rattle.hollow_script.proofs.Halting.{kept_answered, kept_stopped}
-use Rattle.hollow_script.proofs.Keeping.{nothing_read}
+use Rattle.hollow_script.proofs.Keeping.{nothing_edited, nothing_read}
 use Rattle.std.proofs.lemmas.Result.{err_from_is_err_and}
 use Rattle.hollow_script.proofs.script.answer_lines.Goals as goal
 
 pub returns-in_err-lines-clause-reading : goal.returns-in_err-lines-clause-reading
 returns-in_err-lines-clause-reading g c = nothing_read c.args.keep.now c.requires.fresh
+
+pub returns-in_err-lines-clause-edits : goal.returns-in_err-lines-clause-edits
+returns-in_err-lines-clause-edits g c = nothing_edited c.args.keep.now c.requires.fresh
 
 pub returns-in_err-lines-clause-stops : goal.returns-in_err-lines-clause-stops
 returns-in_err-lines-clause-stops g c =

@@ -1,5 +1,5 @@
 use Rattle.std.proofs.Common.{refl}
-use Rattle.hollow_script.proofs.Keeping.{nothing_read}
+use Rattle.hollow_script.proofs.Keeping.{edited_beside, nothing_read}
 use Rattle.hollow_script.specs.declared.keep.Keep.{Keep}
 use Rattle.hollow_top.proofs.Serving.{made_line, made_part}
 use Rattle.hollow_top.proofs.Stopped.{reply_silent, stays_silent, stops_behind}
@@ -39,3 +39,9 @@ returns-in_err-reply-clause-reading g c = nothing_read c.args.keep.now c.require
 
 pub returns-clause-reading : goal.returns-clause-reading
 returns-clause-reading g c = nothing_read c.args.keep.now c.requires.nothing
+
+pub returns-in_err-reply-clause-edits : goal.returns-in_err-reply-clause-edits
+returns-in_err-reply-clause-edits g c = edited_beside c.args.keep.now c.make.new.producer c.requires.nothing
+
+pub returns-clause-edits : goal.returns-clause-edits
+returns-clause-edits g c = edited_beside c.args.keep.now c.make.new.producer c.requires.nothing

@@ -3,7 +3,7 @@ use Rattle.written_laws.specs.Chain.{Chain}
 use Rattle.written_laws.specs.HoldsChain.{HoldsChain}
 use Rattle.hollow_top.specs.Headline.{LeavesMadeChain}
 use Rattle.hollow_top.specs.Run.{StopsMade}
-use Rattle.hollow_script.proofs.Keeping.{keeps_history, nothing_read}
+use Rattle.hollow_script.proofs.Keeping.{keeps_history, nothing_edited, nothing_read}
 use Rattle.hollow_top.proofs.Stopped.{made_numbers}
 use Rattle.hollow_top.proofs.Serving.{asks_script, cast_status, finishes, make_finishes, make_part, part_written, script_finishes}
 use Rattle.hollow_top.proofs.TrueScripts.{one_made}
@@ -83,3 +83,26 @@ returns-in-Err-Store-clause-history g c = λ held. keeps_history c.args.keep.now
 
 pub returns-in-Err-Memory-clause-history : goal.returns-in-Err-Memory-clause-history
 returns-in-Err-Memory-clause-history g c = λ held. keeps_history c.args.keep.now held (nothing_read c.args.keep.now c.requires)
+
+-- ---- what is kept for changes
+
+pub returns-in_default-clause-edits : goal.returns-in_default-clause-edits
+returns-in_default-clause-edits g c = nothing_edited c.args.keep.now c.requires
+
+pub returns-in-Ok-clause-edits : goal.returns-in-Ok-clause-edits
+returns-in-Ok-clause-edits g c = nothing_edited c.args.keep.now c.requires
+
+pub returns-in-Err-Sink-clause-edits : goal.returns-in-Err-Sink-clause-edits
+returns-in-Err-Sink-clause-edits g c = nothing_edited c.args.keep.now c.requires
+
+pub returns-in-Err-Store-clause-edits : goal.returns-in-Err-Store-clause-edits
+returns-in-Err-Store-clause-edits g c = nothing_edited c.args.keep.now c.requires
+
+pub returns-in-Err-Memory-clause-edits : goal.returns-in-Err-Memory-clause-edits
+returns-in-Err-Memory-clause-edits g c = nothing_edited c.args.keep.now c.requires
+
+pub returns-in-Run-clause-edits : goal.returns-in-Run-clause-edits
+returns-in-Run-clause-edits g c = c.serve_script.ensures.edits
+
+pub returns-in-Make-clause-edits : goal.returns-in-Make-clause-edits
+returns-in-Make-clause-edits g c = c.serve_make.ensures.edits

@@ -1,4 +1,4 @@
-use Rattle.std.proofs.Common.{Err, List, Ok, inl, inr, subst}
+use Rattle.std.proofs.Common.{Err, List, Ok, inl, inr, refl, subst}
 use Rattle.std.proofs.lemmas.Result.{err_from_is_err_and}
 use Rattle.schema_model.specs.declared.schema.Schema.{Schema}
 use Rattle.hollow_machine.specs.CycleOrder.{AreNamed, Publishes}
@@ -49,3 +49,9 @@ returns-clause-ends g c =
     let named = subst (λ (schemas : List Schema). AreNamed schemas changed c.in_ok-changed.changed) c.model.ensures c.in_ok-changed.ensures in
     let told = at_tag (λ t. EndsPublished held (published_of old) old.current c.args.version t c.args.with_snapshot held' now (Ok tt)) c.args.tag c.ranges.tag c.in_ok-publish_state.ensures.ends in
     published held held' (published_of old) now old.current changed c.args.version c.args.tag c.args.with_snapshot c.in_ok-changed.changed publishes named told
+
+pub returns-then-is_empty-clause-rows : goal.returns-then-is_empty-clause-rows
+returns-then-is_empty-clause-rows g c = refl
+
+pub returns-clause-rows : goal.returns-clause-rows
+returns-clause-rows g c = c.in_ok-publish_state.ensures.rows

@@ -35,3 +35,6 @@ returns-clause-ends g c =
 
 pub returns-clause-model : goal.returns-clause-model
 returns-clause-model g c = ap (λ (p : Production). p.schemas) c.advance.ensures
+
+pub returns-clause-rows : goal.returns-clause-rows
+returns-clause-rows g c = ap (λ (p : Production). p.previous) c.advance.ensures

@@ -1,24 +1,18 @@
 use Rattle.std.proofs.Common.{◌+◌, ◌*◌, ℕ, List, get_or, length, ap, subst, sym, ◌∙◌, arith, refl, Fits, w64, set}
 use Rattle.schema_model.specs.declared.schema.Field.{Field}
 use Rattle.object_codec.specs.Cell.{IsWithin}
-use Rattle.object_codec.proofs.FieldWidths.{record_fits, place_fits, widths_long, within, wide_at}
+use Rattle.object_codec.proofs.FieldWidths.{place_fits, widths_long, within, wide_at}
 use Rattle.object_codec.proofs.RowPuts.{area_lent}
 use Rattle.record_moves.proofs.Copied.{CopiedSoFar, ready, copied_none, copied_more, all_copied}
 use Rattle.record_moves.proofs.StoredRows.{put_as_is}
 use Rattle.record_moves.proofs.record.copy_record.Goals as goal
 
-pub overflow_cast-size : goal.overflow_cast-size
-overflow_cast-size g c = omega (arith, c.total_width-size.ensures.total, record_fits _ _ _ _ _ c.requires.holds)
-
-pub overflow_cast-at : goal.overflow_cast-at
-overflow_cast-at g c = omega (arith, c.total_width.ensures.total, record_fits _ _ _ _ _ c.requires.room.2.holds)
-
 pub overflow_mul-at : goal.overflow_mul-at
 overflow_mul-at g c =
-    subst (λ (size : ℕ). Fits w64 (c.args.here.place * size)) (sym c.total_width.ensures.total) (record { fits = place_fits _ _ _ _ _ c.requires.room.2.holds })
+    subst (λ (size : ℕ). Fits w64 (c.args.here.place * size)) (sym c.requires.here_size) (record { fits = place_fits _ _ _ _ _ c.requires.room.2.holds })
 
 pub loop-index-init : goal.loop-index-init
-loop-index-init g c = copied_none _ _ _ _ _ _ _ _ _ c.args.here.place _ c.total_width.result c.total_width.ensures.total refl
+loop-index-init g c = copied_none _ _ _ _ _ _ _ _ _ c.args.here.place _ c.args.here.size c.requires.here_size refl
 
 pub bounds-here-index : goal.bounds-here-index
 bounds-here-index g c =
@@ -52,7 +46,7 @@ take_part-requires-clause-within g c =
     let long = ap (λ (fs : List Field). length fs) c.fields-fields.ensures in
     subst
     (λ (size : ℕ). IsWithin (g.P.PackedRecords.first_words c.args.from.now) size c.args.there.place c.loop-index.before (get_or c.args.there.widths.now c.loop-index.index 0))
-    (sym c.total_width-size.ensures.total)
+    (sym c.requires.there_size)
     (within _ _ _ _ _ c.loop-index.index c.loop-index.before c.requires.holds (omega arith) c.loop-index.invariant.summed)
 
 pub take_part-requires-clause-room : goal.take_part-requires-clause-room
@@ -62,9 +56,9 @@ take_part-requires-clause-room g c =
     let areas = c.loop-index.areas in
     let index = c.loop-index.index in
     let lent = area_lent areas index c.index-areas-index.result (omega (arith, long, done.filled, c.requires.room.2.holds.filled)) ∙ done.left index (omega arith) in
-    let given = ready c.args.schema.now.shape c.fields-fields.result.now _ _ _ _ _ _ _ _ c.requires.room.0 index c.loop-index.before c.total_width-size.result c.index-fields-index.result
+    let given = ready c.args.schema.now.shape c.fields-fields.result.now _ _ _ _ _ _ _ _ c.requires.room.0 index c.loop-index.before c.args.there.size c.index-fields-index.result
     (get_or areas index c.index-areas-index.result) c.requires.holds c.requires.room.1 c.requires.room.2 c.fields-fields.ensures (omega arith) c.index-fields-index.is c.loop-index.invariant.summed
-    c.total_width-size.ensures.total lent in
+    c.requires.there_size lent in
     (given.0, given.2)
 
 pub set_element-requires-clause-width : goal.set_element-requires-clause-width
@@ -88,9 +82,9 @@ set_element-requires-clause-small g c =
     let areas = c.loop-index.areas in
     let index = c.loop-index.index in
     let lent = area_lent areas index c.index-areas-index.result (omega (arith, long, done.filled, c.requires.room.2.holds.filled)) ∙ done.left index (omega arith) in
-    let given = ready c.args.schema.now.shape c.fields-fields.result.now _ _ _ _ _ _ _ _ c.requires.room.0 index c.loop-index.before c.total_width-size.result c.index-fields-index.result
+    let given = ready c.args.schema.now.shape c.fields-fields.result.now _ _ _ _ _ _ _ _ c.requires.room.0 index c.loop-index.before c.args.there.size c.index-fields-index.result
     (get_or areas index c.index-areas-index.result) c.requires.holds c.requires.room.1 c.requires.room.2 c.fields-fields.ensures (omega arith) c.index-fields-index.is c.loop-index.invariant.summed
-    c.total_width-size.ensures.total lent in
+    c.requires.there_size lent in
     (c.in_ok-element.ensures given.0 given.2).below
 
 pub overflow_add-before : goal.overflow_add-before
@@ -123,8 +117,8 @@ loop-index-preserved g c =
     subst (λ (w : ℕ). CopiedSoFar shape fields there from_first from_areas c.args.there.place widths c.args.first.now c.args.areas.now c.set_element.new.words areas c.args.here.place (index + 1) (c.loop-index.before + w) (c.loop-index.at + c.from-at.result)) (sym c.from-before.ensures)
     (subst (λ (w : ℕ). CopiedSoFar shape fields there from_first from_areas c.args.there.place widths c.args.first.now c.args.areas.now c.set_element.new.words areas c.args.here.place (index + 1) (c.loop-index.before + get_or there index 0) (c.loop-index.at + w)) (sym c.from-at.ensures)
     (copied_more shape fields there from_first from_areas c.args.there.place widths c.args.first.now c.args.areas.now c.loop-index.first c.set_element.new.words c.loop-index.areas c.args.here.place index c.loop-index.before
-    c.loop-index.at c.total_width-size.result c.in_ok-element.element (get_or c.loop-index.areas index c.index-areas-index.result) c.take_part.new.area c.index-fields-index.result c.requires.room.0
-    c.loop-index.invariant c.requires.holds c.requires.room.1 c.requires.room.2 c.fields-fields.ensures (omega arith) c.index-fields-index.is c.total_width-size.ensures.total lent c.in_ok-element.ensures
+    c.loop-index.at c.args.there.size c.in_ok-element.element (get_or c.loop-index.areas index c.index-areas-index.result) c.take_part.new.area c.index-fields-index.result c.requires.room.0
+    c.loop-index.invariant c.requires.holds c.requires.room.1 c.requires.room.2 c.fields-fields.ensures (omega arith) c.index-fields-index.is c.requires.there_size lent c.in_ok-element.ensures
     c.set_element.ensures.block c.set_element.ensures.is c.set_element.ensures.others c.set_element.auto.words))
 
 pub returns-clause-put : goal.returns-clause-put

@@ -1,0 +1,7 @@
+mod Changing
+mod GivenLists
+mod KeyedRecords
+mod KeyedTypes
+mod KeysOnce
+mod ReadKeys
+mod ReadRecords

@@ -1,0 +1,33 @@
+use Rattle.std.proofs.Common.{ap, ◌∙◌, ℕ, sym, subst}
+use Rattle.std.proofs.lemmas.Result.{err_from_is_err_and}
+use Rattle.row_model.specs.Table.{Table}
+use Rattle.write_engine.specs.Production.{Production}
+use Rattle.write_engine.specs.declared.producer.Closed.{Closed}
+use Rattle.hol_incremental.specs.EditKeys.{AreReady}
+use Rattle.hollow_machine.specs.Records.{edited}
+use Rattle.state_blobs.specs.Published.{published_of}
+use Rattle.producer_orders.specs.Ends.{IsMemory}
+use Rattle.producer_orders.specs.Making.{AreRefused}
+use Rattle.change_orders.specs.Making.{IsEdit, IsEditedState}
+use Rattle.change_orders.proofs.Changing.{edited_closed, same_end}
+use Rattle.change_orders.proofs.change_order.make_edited.Goals as goal
+
+pub returns-clause-tells : goal.returns-clause-tells
+returns-clause-tells g c = λ asked lists.
+    edited_closed c.args.producer.now c.edit.new.producer c.close.new.self asked c.in_ok-missing.missing c.in_ok-closed.closed c.edit.ensures.kept c.in_ok-closed.ensures.ok (c.in_ok-missing.ensures.tells asked lists)
+    c.in_ok-closed.ensures.changed c.in_ok-closed.ensures.first c.in_ok-closed.ensures.over c.previous-previous.ensures.closed.fits.types c.current-current.ensures.closed.fits.types
+
+pub returns-clause-ready : goal.returns-clause-ready
+returns-clause-ready g c =
+    let old = c.args.producer.now in
+    subst (λ (rows : Table). AreReady old.schemas old.previous rows c.edit.new.edits) (sym (ap (λ (p : Production). p.current) c.in_ok-closed.ensures.ok)) c.in_ok-missing.ensures.ready
+
+pub returns-clause-kept : goal.returns-clause-kept
+returns-clause-kept g c = ap published_of c.in_ok-closed.ensures.ok ∙ ap published_of c.edit.ensures.kept
+
+pub returns-in_err-missing-clause-tells : goal.returns-in_err-missing-clause-tells
+returns-in_err-missing-clause-tells g c = λ asked lists.
+    (let p = err_from_is_err_and c.from_residual.result c.from_residual.ensures.1 in
+    let last = published_of c.args.producer.now in
+    rw (p.1, p.2) (same_end {T = ℕ} {U = ℕ × Closed} (IsEdit last asked c.edit.new.producer.current) (IsEditedState last asked c.edit.new.producer) (AreRefused last (edited asked.put asked.remove)) IsMemory c.in_err-missing.field-0.0
+    (c.in_err-missing.ensures.tells asked lists)))

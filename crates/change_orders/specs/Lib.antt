@@ -1,0 +1,5 @@
+pub mod Given
+pub mod Keeping
+pub mod Keys
+pub mod Making
+pub mod Reading
