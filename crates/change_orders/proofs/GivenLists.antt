@@ -13,7 +13,7 @@ use Rattle.record_trees.specs.declared.tree.Tree.{Tree}
 use Rattle.hol_incremental.specs.Changes.{AreFitting, HaveKeys, HaveOwnKeys, records}
 use Rattle.hol_incremental.specs.Edited.{Keys}
 use Rattle.hol_orders.specs.Parts.{AskedChange}
-use Rattle.hol_orders.specs.Shapes.{AreKeys, AreRecords}
+use Rattle.hol_orders.specs.Shapes.{AreKeys}
 use Rattle.hol_answers.specs.declared.refusal.Refusal.{Refusal}
 use Rattle.hol_answers.specs.declared.refusal.Refusal.TheVariants as refusal
 use Rattle.hollow_machine.specs.ChangeOrder.{AreAllKeyed, ArePut, IsNoChange}
@@ -28,10 +28,6 @@ use Rattle.change_orders.specs.Reading.{IsUnread}
 use Rattle.change_orders.proofs.ReadKeys.{keyed_are}
 
 -- ---- shapes
-
-pub records_object : (json : Data) → AreRecords json → IsAnObject json
-records_object (object parts) are = tt
-records_object _ are = absurd are
 
 pub keys_object : (json : Data) → AreKeys json → IsAnObject json
 keys_object (object parts) are = tt

@@ -1,5 +1,5 @@
 -- The names in the lists of a change, and the types that they name.
-use Rattle.std.proofs.Common.{◌≡◌, ◌∙◌, ◌⊎◌, ◌<◌, ℕ, List, ◌∷◌, length, Bool, true, false, Option, Some, None, Ordering, Less, Equal, Greater, bytes_eq, is_eq, nat_cmp, inl, inr, refl, sym, subst, arith}
+use Rattle.std.proofs.Common.{◌≡◌, ◌∙◌, ◌⊎◌, ◌<◌, ℕ, List, ◌∷◌, length, Bool, true, false, Option, Some, None, Ordering, Less, Equal, Greater, bytes_eq, is_eq, nat_cmp, inl, inr, refl, sym, ap, subst, arith}
 use Rattle.std.specs.Prelude.{Contains, IsSome, IsSomeAnd, is_some, slice_get}
 use Rattle.std.specs.Option.{option_map}
 use Rattle.std.specs.Cmp.Lexicographic.{slice_cmp}
@@ -11,6 +11,7 @@ use Rattle.std.proofs.lemmas.Map.Text.{is_eq-slice_cmp}
 use Rattle.std.proofs.lemmas.Slice.Eq.{bytes_eq-Decides}
 use Rattle.serde_json.specs.Data.{Data, object, Members, no_members, member}
 use Rattle.serde_json.specs.Find.{get, get_member}
+use Rattle.record_stream.specs.RecordLine.{bare}
 use Rattle.schema_model.specs.declared.schema.Schema.{Schema}
 use Rattle.schema_model.specs.Parts.{index_of_type, type_names}
 use Rattle.schema_model.proofs.Indexing.{item_name, name_found}
@@ -23,6 +24,7 @@ use Rattle.hollow_machine.specs.Records.{AreKeyedTypes, AreTypes, names_in, name
 use Rattle.hol_answers.specs.declared.refusal.Refusal.{Refusal}
 use Rattle.hol_answers.specs.declared.refusal.Refusal.TheVariants as refusal
 use Rattle.producer_orders.specs.Parts.{TellsUnknown}
+use Rattle.producer_orders.proofs.KnownTypes.{names_in-bare}
 use Rattle.producer_orders.proofs.Placed.{some_item}
 use Rattle.change_orders.specs.Given.{RefusesUnkeyed, TellsUnkeyed}
 
@@ -113,6 +115,15 @@ found_named f None b json name is found = (
   (λ among. absurd (let some = subst IsSome (sym found) (in_under json name among) in cc)),
 )
 found_named f (Some x) b json name is found = ((λ holds. under_in json name (subst IsSome found refl)), (λ among. is))
+
+-- the same of other JSON with the same names
+pub same_names : (json other : Data) (name : List ℕ) (b : Bool) → names_of json ≡ names_of other → (b ≡ true → Contains (names_of json) name) × (Contains (names_of json) name → b ≡ true)
+    → (b ≡ true → Contains (names_of other) name) × (Contains (names_of other) name → b ≡ true)
+same_names json other name b same told = subst (λ ns. (b ≡ true → Contains ns name) × (Contains ns name → b ≡ true)) same told
+
+-- the names of records that are in a line
+pub named_bare : {line : Data} (json given : Data) (ms : Members) → json ≡ object (bare ms) → given ≡ line → line ≡ object ms → names_of json ≡ names_of given
+named_bare json given ms are stands is = ap names_of are ∙ (names_in-bare ms ∙ ap names_of (sym (stands ∙ is)))
 
 module _ (schemas : List Schema) (asked : AskedChange) (t : ℕ) (schema : Schema) (at : slice_get schemas t ≡ Some schema) where
   pub given_in : Contains (names_of asked.put) schema.name ⊎ Contains (names_of asked.remove) schema.name → IsGivenType schemas asked t

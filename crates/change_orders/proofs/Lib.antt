@@ -3,5 +3,6 @@ mod GivenLists
 mod KeyedRecords
 mod KeyedTypes
 mod KeysOnce
+mod LineRecords
 mod ReadKeys
 mod ReadRecords

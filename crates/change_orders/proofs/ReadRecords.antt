@@ -1,6 +1,6 @@
 -- The records and keys of a change are read one after another.
-use Rattle.std.proofs.Common.{◌≡◌, ℕ, ◌+◌, ◌≤◌, List, [], ◌∷◌, ◌++◌, take, drop, length, Option, Some, Ok, Err, refl, sym, ap, ◌∙◌, subst, append_assoc}
-use Rattle.std.specs.Prelude.{All, IsOk, IsSomeAnd, slice_get}
+use Rattle.std.proofs.Common.{◌≡◌, ℕ, ◌+◌, ◌≤◌, List, [], ◌∷◌, ◌++◌, take, drop, length, Option, Result, Some, Ok, Err, refl, sym, ap, ◌∙◌, subst, append_assoc, append-nil}
+use Rattle.std.specs.Prelude.{All, IsOk, IsSomeAnd, ⊤, slice_get}
 use Rattle.std.specs.List.{flat_map}
 use Rattle.std.specs.Result.{is_ok}
 use Rattle.std.proofs.lemmas.List.Elements.{All-cons, All-nil}
@@ -18,7 +18,7 @@ use Rattle.hollow_machine.specs.ChangeOrder.{IsOfName}
 use Rattle.hollow_machine.specs.Records.{AreRead, Entry, IsFirstUnread, entries, entries_at, entries_of_type, placed, values_under}
 use Rattle.producer_orders.specs.declared.cycle_end.CycleEnd.{CycleEnd}
 use Rattle.producer_orders.specs.declared.cycle_end.CycleEnd.TheVariants as cycle_end
-use Rattle.change_orders.specs.Reading.{IsUnread, TellsBehind, TellsRead}
+use Rattle.change_orders.specs.Reading.{HaveRead, IsUnread, TellsBehind, TellsRead}
 use Rattle.producer_orders.proofs.Placed.{entry_at, front_entries, types_all, types_more, types_rest, values_all, values_more, values_rest}
 
 -- a record more gives its tree
@@ -69,6 +69,15 @@ module _ (schemas : List Schema) (t : ℕ) (values : List Data) (before : List E
           ap (λ es. before ++ es) (sym (values_rest t values (place + 1)) ∙ ap (λ es. es ++ drop (place + 1) (entries_at t values)) (values_more t values place value at))
           ∙ ap (λ es. before ++ es) (append_assoc (take place (entries_at t values)) (entry_at t place value ∷ []) (drop (place + 1) (entries_at t values)))
           ∙ sym (append_assoc before (take place (entries_at t values)) (entry_at t place value ∷ drop (place + 1) (entries_at t values)))
+
+-- none was read yet behind others
+pub from_first : (schemas : List Schema) (before recorded : List Entry) (found : List (ℕ × Tree)) → HaveRead schemas before found → HaveRead schemas (before ++ take 0 recorded) found
+from_first schemas before recorded found had = record { read = subst (λ es. AreRead schemas es (records found)) (sym (append-nil before)) had.read }
+
+-- what is told of records that are a type's
+pub tells_under : (schemas : List Schema) (before : List Entry) (t : ℕ) (values under : List Data) (found : List (ℕ × Tree)) (result : Result ⊤ CycleEnd) → values ≡ under
+    → TellsBehind schemas (before ++ entries_at t values) found result → TellsBehind schemas (before ++ entries_at t under) found result
+tells_under schemas before t values under found result same told = subst (λ (vs : List Data). TellsBehind schemas (before ++ entries_at t vs) found result) same told
 
 -- a record that is the first to give no tree is so with more behind it
 pub unread_more : (schemas : List Schema) (recorded rest all : List Entry) (t place : ℕ) (reason : Reason) → recorded ++ rest ≡ all → IsFirstUnread schemas recorded t place reason → IsFirstUnread schemas all t place reason

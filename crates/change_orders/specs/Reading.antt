@@ -1,5 +1,5 @@
 -- What the reading of a change's records and keys tells.
-use Rattle.std.specs.Prelude.{◌≡◌, ℕ, List, Result, ⊤}
+use Rattle.std.specs.Prelude.{◌≡◌, ◌++◌, ℕ, List, Option, Some, None, Result, ⊤, take}
 use Rattle.std.specs.List.{AllZip}
 use Rattle.serde_json.specs.Data.{Data}
 use Rattle.schema_model.specs.declared.schema.Schema.{Schema}
@@ -29,6 +29,11 @@ TellsRead schemas recorded result = TellsEnd (λ found. HaveRead schemas recorde
 -- The trees of some records behind others are these; or the first record that gives none.
 abbrev pub TellsBehind : List Schema → List Entry → List (ℕ × Tree) → Result ⊤ CycleEnd → Type 0
 TellsBehind schemas recorded found result = TellsEnd (λ _. HaveRead schemas recorded found) (IsUnread schemas recorded) IsMemory result
+
+-- The trees of some records behind others are these; or of those before a place, and of the record at it nothing is told.
+abbrev pub TellsFront : List Schema → List Entry → List Entry → List (ℕ × Tree) → Option ℕ → Type 0
+TellsFront schemas before recorded found None = HaveRead schemas (before ++ recorded) found
+TellsFront schemas before recorded found (Some place) = HaveRead schemas (before ++ take place recorded) found
 
 -- Each entry gives the key of its type.
 abbrev pub GiveKeys : List Schema → List Entry → Keys → Type 0

@@ -1,16 +1,18 @@
 //! The types that a change names: each is one of the model, and has a primary key.
-ghost use Rattle.std.specs.Prelude.{◌<◌, ◌↔◌, IfOk, IsTrue, length};
+ghost use Rattle.std.specs.Prelude.{◌<◌, ◌↔◌, Contains, IfOk, IsTrue, length};
 ghost use Rattle.serde_json.specs.View.{view};
 ghost use Rattle.hol_incremental.specs.Roots.{IsKeyed};
-ghost use Rattle.hol_orders.specs.Parts.{asked_change};
+ghost use Rattle.hol_orders.specs.Parts.{added, asked_change};
+ghost use Rattle.hol_orders.specs.Shapes.{AreRecords};
 ghost use Rattle.hollow_machine.specs.ChangeOrder.{IsGivenType};
+ghost use Rattle.hollow_machine.specs.Records.{names_of};
 ghost use Rattle.producer_orders.specs.Parts.{TellsUnknown};
 ghost use Rattle.change_orders.specs.Given.{IsAnObject, RefusesUnkeyed, TellsGiven, TellsUnkeyed};
 
 use hol_answers::Refusal;
-use hol_orders::StateChange;
+use hol_orders::{Added, StateChange};
 use hol_varint::Duplicate;
-use producer_orders::unknown_among;
+use producer_orders::{unknown_among, unknown_type};
 use schema_model::{Model, Name, Shape};
 use serde_json::Value;
 use std::alloc::{AllocError, Global};
@@ -22,11 +24,11 @@ pub(crate) fn why_not_types(
     model: &Model,
     next: &StateChange,
 ) -> Result<Option<Refusal>, AllocError>
-    requires put { IsAnObject (view next.now.put) }
+    requires put { AreRecords (added next.now.put) }
     requires remove { IsAnObject (view next.now.remove) }
     ensures { IfOk result (TellsGiven model.now (asked_change next.now)) }
 {
-    if let Some(name) = unknown_name(alloc, model, &next.put)? {
+    if let Some(name) = unknown_type(alloc, model, &next.put)? {
         return Ok(Some(Refusal::NoType(name)));
     }
     if let Some(name) = unknown_name(alloc, model, &next.remove)? {
@@ -38,7 +40,7 @@ pub(crate) fn why_not_types(
     }
 }
 
-// The first name of a member that is that of no type.
+// The first name of keys that is that of no type.
 fn unknown_name(alloc: Global, model: &Model, given: &Value) -> Result<Option<Name>, AllocError>
     requires { IsAnObject (view given.now) }
     ensures { IfOk result (TellsUnknown model.now (view given.now)) }
@@ -67,7 +69,17 @@ fn is_given(model: &Model, next: &StateChange, type_index: u32) -> bool
     ensures { IsTrue result ↔ IsGivenType model.now (asked_change next.now) type_index }
 {
     let name = model.schema(type_index).name.text();
-    next.put.get(name).is_some() || next.remove.get(name).is_some()
+    has_name(&next.put, name) || next.remove.get(name).is_some()
+}
+
+// Whether records stand under a name.
+fn has_name(given: &Added, name: &str) -> bool
+    ensures { IsTrue result ↔ Contains (names_of (added given.now)) name.now }
+{
+    match given {
+        Added::Json(json) => json.get(name).is_some(),
+        Added::Line(line) => line.names().get(name).is_some(),
+    }
 }
 
 // Whether a type has a primary key.

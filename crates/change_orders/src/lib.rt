@@ -4,6 +4,7 @@
 mod change_order;
 mod given_types;
 mod keyed_records;
+mod line_records;
 mod put_records;
 mod removed_keys;
 

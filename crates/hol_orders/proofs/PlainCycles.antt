@@ -1,4 +1,4 @@
--- A cycle in its plain form is an order.
+-- A cycle in its plain form is an order, and so is a change.
 use Rattle.std.proofs.Common.{Bool, Option, ◌≡◌, ◌∙◌, ℕ, List, [], ◌∷◌, Ordering, Less, Equal, Greater, nat_cmp, Some, sym, ap, subst}
 use Rattle.std.specs.Prelude.{FitsSigned, IsUtf8}
 use Rattle.std.specs.Int.{w64}
@@ -7,15 +7,18 @@ use Rattle.std.specs.Ordering.{match_ordering}
 use Rattle.serde_json.specs.Data.{Data, Items, Members, array, member, no_members, number, object, put}
 use Rattle.serde_json.specs.Find.{of_integer}
 use Rattle.serde_json.specs.Read.{read}
-use Rattle.serde_json.specs.View.{items_of}
-use Rattle.record_stream.specs.CycleLine.{Typed, added_by, cycle_data, with_types}
+use Rattle.serde_json.specs.View.{items_of, view}
+use Rattle.record_stream.specs.ChangeLine.{change_data}
+use Rattle.record_stream.specs.CycleLine.{cycle_data}
+use Rattle.record_stream.specs.RecordLine.{Typed, added_by, with_types}
 use Rattle.hol_io.specs.Name.{IsVersion}
 use Rattle.hol_orders.specs.declared.added.Added.TheVariants.{Line}
 use Rattle.hol_orders.specs.declared.order.NextState.{NextState}
-use Rattle.hol_orders.specs.declared.order.Order.TheVariants.{Cycle}
+use Rattle.hol_orders.specs.declared.order.Order.TheVariants.{Change, Cycle}
+use Rattle.hol_orders.specs.declared.order.StateChange.{StateChange}
 use Rattle.hol_orders.specs.Order.{Orders}
 use Rattle.hol_orders.specs.Parts.{added, whole}
-use Rattle.hol_orders.specs.Shapes.{AreArrays, AreRecords}
+use Rattle.hol_orders.specs.Shapes.{AreArrays, AreKeys, AreRecords}
 
 arrays_at : (o : Ordering) (k l : List ℕ) (items : Items) (d : Data) (ms more : Members) → AreArrays (member l d ms) → AreArrays more
     → AreArrays (match_ordering o (member k (array items) (member l d ms)) (member l (array items) ms) (member l d more))
@@ -40,4 +43,15 @@ cycle_orders line text kept version tag types snapshot next same utf8 stays read
       (is_version.0, is_tag.0, subst AreRecords (sym (add ∙ adds)) arrays),
       utf8,
       ap read (sym same) ∙ (reads ∙ (λ i. Some (cycle_data (sym is_version.1 i) (sym is_tag.1 i) (sym add i) (sym said i)))),
+    )
+
+pub change_orders : (line text kept : List ℕ) (version tag remove : Data) (types : List Typed) (next : StateChange) → text ≡ line → IsUtf8 line → kept ≡ text → read text ≡ Some (change_data version tag (added_by text) remove)
+    → added_by text ≡ object (with_types types no_members) → IsVersion next.version × (whole next.version ≡ version) → FitsSigned w64 next.tag × (number (of_integer next.tag) ≡ tag) → next.put ≡ Line kept
+    → AreKeys (view next.remove) × (view next.remove ≡ remove) → Orders line (Change next)
+change_orders line text kept version tag remove types next same utf8 stays reads adds is_version is_tag stands removes =
+    let put : added next.put ≡ added_by text = ap added stands ∙ ap added_by stays in
+    let arrays : AreRecords (object (with_types types no_members)) = arrays-with_types types no_members tt in (
+      (is_version.0, is_tag.0, subst AreRecords (sym (put ∙ adds)) arrays, removes.0),
+      utf8,
+      ap read (sym same) ∙ (reads ∙ (λ i. Some (change_data (sym is_version.1 i) (sym is_tag.1 i) (sym put i) (sym removes.1 i)))),
     )

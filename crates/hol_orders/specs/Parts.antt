@@ -3,7 +3,8 @@ use Rattle.std.specs.Prelude.{Bool, ℕ, ℤ, List, map, codes, Option}
 use Rattle.serde_json.specs.Data.{Data, number, unsigned, array, object, no_items, item, Members, no_members, member}
 use Rattle.serde_json.specs.Find.{of_integer}
 use Rattle.serde_json.specs.View.{items_of, view}
-use Rattle.record_stream.specs.CycleLine.{added_by, saying}
+use Rattle.record_stream.specs.CycleLine.{saying}
+use Rattle.record_stream.specs.RecordLine.{added_by}
 use Rattle.hol_orders.specs.declared.added.Added.{Added}
 use Rattle.hol_orders.specs.declared.added.Added.TheVariants.{Json, Line}
 use Rattle.hol_orders.specs.declared.order.NextState.{NextState}
@@ -49,7 +50,7 @@ pub record AskedState : Type 0 where
   pub add : Data
   pub snapshot : Option Bool
 
--- the records that a cycle adds, wherever they are: a value, or what a line adds
+-- the records that a cycle adds or a change puts, wherever they are: a value, or what a line adds
 abbrev pub added : Added → Data
 added (Json add) = view add
 added (Line line) = added_by line
@@ -69,7 +70,7 @@ pub record AskedChange : Type 0 where
   pub remove : Data
 
 abbrev pub asked_change : StateChange → AskedChange
-asked_change change = record { version = change.version; tag = change.tag; put = view change.put; remove = view change.remove }
+asked_change change = record { version = change.version; tag = change.tag; put = added change.put; remove = view change.remove }
 
 abbrev pub change_asked : AskedChange → Data
 change_asked asked = change_data asked.put asked.remove (number (of_integer asked.tag)) (whole asked.version)

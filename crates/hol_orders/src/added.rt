@@ -1,12 +1,12 @@
-//! The records that a cycle adds.
-use record_stream::CycleLine;
+//! The records that a cycle adds, or that a change puts.
+use record_stream::RecordLine;
 use serde_json::Value;
 
-/// The records that a cycle adds by type, still JSON: an object of arrays.
+/// The records that a cycle adds or a change puts, by type, still JSON: an object of arrays.
 #[derive(Debug, Drop)]
 pub enum Added {
     /// As a value.
     Json(Value),
     /// In the line of the order, from which they are read one by one.
-    Line(CycleLine),
+    Line(RecordLine),
 }

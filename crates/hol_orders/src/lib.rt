@@ -2,6 +2,7 @@
 #![tactic(auto)]
 
 mod added;
+mod change_in_line;
 mod cycle_in_line;
 mod find_in_line;
 mod json_parts;

@@ -4,6 +4,7 @@ ghost use Rattle.hol_varint.specs.Yields.{Yields};
 ghost use Rattle.hol_orders.specs.Order.{Orders, TellsOrder, IsFreeOrder, order_data};
 
 use crate::added::Added;
+use crate::change_in_line::change_in_line;
 use crate::cycle_in_line::cycle_in_line;
 use crate::find_in_line::find_in_line;
 use crate::json_parts::only_member;
@@ -38,8 +39,8 @@ pub struct StateChange {
     pub version: u64,
     /// The tag that it is to have.
     pub tag: i64,
-    /// The records that are put, still JSON: an object of arrays, by type.
-    pub put: Value,
+    /// The records that are put.
+    pub put: Added,
     /// The primary keys of the records that are removed, still JSON: an object of arrays of arrays, by type.
     pub remove: Value,
 }
@@ -236,12 +237,15 @@ pub fn order_of(alloc: Global, line: &[u8]) -> Result<Order, OrderFault>
     OrderReader::new(alloc).order(alloc, line)
 }
 
-// The order of a line: a cycle in its plain form stays in its line, a look-up in its plain form is taken from the tokens of its line, and any other
-// line is read whole.
+// The order of a line: the records of a cycle or a change in its plain form stay in their line, a look-up in its plain form is taken from the tokens of
+// its line, and any other line is read whole.
 fn read_order(alloc: Global, scratch: &mut Scratch, line: &[u8]) -> Result<Order, OrderFault>
     ensures { TellsOrder line.now result }
 {
     if let Some(order) = cycle_in_line(alloc, line)? {
+        return Ok(order);
+    }
+    if let Some(order) = change_in_line(alloc, line)? {
         return Ok(order);
     }
     match find_in_line(alloc, scratch, line)? {

@@ -53,7 +53,7 @@ impl FromJson for StateChange {
         Ok(StateChange {
             version,
             tag,
-            put,
+            put: Added::Json(put),
             remove,
         })
     }

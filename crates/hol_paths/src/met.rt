@@ -12,28 +12,35 @@ use row_model::{Rows, Value};
 use schema_model::{WalkPart, WalkPath};
 use std::alloc::{AllocError, Global};
 
+/// So many of the entries that come, from a place on: those of one row.
+#[derive(Clone, Copy)]
+pub(crate) struct Run {
+    pub(crate) start: u32,
+    pub(crate) count: u32,
+}
+
 /// So many ordinals, none of which was met.
-pub(crate) fn none_met(alloc: Global, count: usize) -> Result<Vec<Option<u32>>, AllocError>
+pub(crate) fn none_met(alloc: Global, count: usize) -> Result<Vec<Option<Run>>, AllocError>
     ensures { IfOk result (λ met. (named : ℕ) → met_at met.items named ≡ None) }
 {
     vec![in alloc; None; count]
 }
 
-/// The number that is kept for an ordinal, if it was met.
-pub(crate) fn number_through(met: &[Option<u32>], named: Option<u32>) -> Option<u32>
-    ensures { IfSome result (λ number. (place : ℕ) × (named ≡ Some place) × (met_at met.now place ≡ Some number)) }
+/// The run that is kept for an ordinal, if it was met.
+pub(crate) fn run_through(met: &[Option<Run>], named: Option<u32>) -> Option<Run>
+    ensures { IfSome result (λ run. (place : ℕ) × (named ≡ Some place) × (met_at met.now place ≡ Some run)) }
 {
     let place = named? as usize;
     if place < met.len() { met[place] } else { None }
 }
 
-/// Keeps a number for an ordinal, if there is room for it.
-pub(crate) fn keep_number(met: &mut Vec<Option<u32>>, named: Option<u32>, number: u32)
-    ensures { KeepsMet met.old.items named number met.new.items }
+/// Keeps a run for an ordinal, if there is room for it.
+pub(crate) fn keep_run(met: &mut Vec<Option<Run>>, named: Option<u32>, run: Run)
+    ensures { KeepsMet met.old.items named run met.new.items }
 {
     if let Some(place) = named {
         if (place as usize) < met.len() {
-            met[place as usize] = Some(number);
+            met[place as usize] = Some(run);
         }
     }
 }
@@ -58,8 +65,8 @@ fn part_column<R: ColumnRows>(rows: &R, type_index: u32, part: WalkPart) -> Opti
     rows.column(type_index, field)
 }
 
-/// The ordinal that the row under a live ordinal names by the first part of a path, if that is a field and more parts follow. Where no numbers are kept the row
-/// is not looked at. The column is that of the first part, if there is one.
+/// The ordinal that the row under a live ordinal names by the first part of a path, if that is a field and more parts follow. Where no runs are kept the row is
+/// not looked at. The column is that of the first part, if there is one.
 pub(crate) fn only_named<R: ColumnRows>(
     alloc: Global,
     rows: &R,
@@ -67,7 +74,7 @@ pub(crate) fn only_named<R: ColumnRows>(
     type_index: u32,
     parts: &[WalkPart],
     ordinal: u32,
-    met: &[Option<u32>],
+    met: &[Option<Run>],
 ) -> Result<Option<u32>, AllocError>
     requires live { IsLive (R.table rows.now) type_index ordinal }
     requires column { IfSome column.now (IsFirstColumn (R.table rows.now) type_index parts.now) }

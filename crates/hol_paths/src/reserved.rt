@@ -8,14 +8,14 @@ ghost use Rattle.hol_varint.specs.Yields.{Yields};
 ghost use Rattle.row_model.specs.Reach.{AreEntries};
 ghost use Rattle.schema_model.specs.Limit.{number_of_limit};
 ghost use Rattle.schema_model.specs.declared.limit.Limit.{Limit};
-ghost use Rattle.hol_paths.specs.Met.{AreMet, IsFirstColumn, IsRowPushed, KeepsMet, NamesOnly, ReachesMany};
+ghost use Rattle.hol_paths.specs.Met.{AreMet, IsFirstColumn, IsRowPushed, NamesOnly, ReachesMany, run_of};
 ghost use Rattle.hol_paths.specs.Slots.{AreKnown, AreLeaving, CountsOnce, IsReserved, ReachMany, entries_of, next_of, no_slot, owner_in, owner_of, without_slots};
 ghost use Rattle.hol_paths.specs.Walked.{AreAdded, CountsOwners, FollowsWalk, HasManyEntries, IsFree};
 
 use crate::entries::{Entries, Slot};
 use crate::fault::WalkFault;
 use crate::levels::{rising, type_behind};
-use crate::met::{first_column, keep_number, none_met, number_through, only_named};
+use crate::met::{Run, first_column, keep_run, none_met, only_named, run_through};
 use crate::read::reached_by;
 use column_rows::ColumnRows;
 use hol_io::Steps;
@@ -75,25 +75,32 @@ fn push_entries(
     Ok(())
 }
 
-/// Adds an entry of a row that reaches the value of a number, if there are then not more than so many.
-fn push_met(owner: u32, number: u32, most: usize, coming: &mut Vec<Slot>) -> Result<(), WalkFault>
-    requires { length coming.old.items ≤ most }
-    ensures coming { OnOk result (coming.new.items ≡ coming.old.items ++ record { owner = owner; number = number } ∷ []) }
+/// Adds the entries of a run, of another row, if there are then not more than so many.
+fn push_met(owner: u32, run: Run, most: usize, coming: &mut Vec<Slot>) -> Result<(), WalkFault>
+    requires few { length coming.old.items ≤ most }
+    requires inside { run.start + run.count ≤ length coming.old.items }
+    ensures coming { OnOk result (coming.new.items ≡ coming.old.items ++ run_of owner run coming.old.items) }
     ensures few { OnOk result (length coming.new.items ≤ most) }
-    ensures many { result ≡ Err Fault.Entries → most < length coming.old.items + 1 }
+    ensures many { result ≡ Err Fault.Entries → most < length coming.old.items + run.count }
 {
-    if coming.len() >= most {
+    let count = run.count as usize;
+    if count > most - coming.len() {
         return Err(WalkFault::Entries);
     }
-    push_slot(coming, Slot { owner, number })?;
+    push_run(owner, run, coming)?;
     Ok(())
 }
 
-/// Adds a slot.
-fn push_slot(coming: &mut Vec<Slot>, slot: Slot) -> Result<(), AllocError>
-    ensures { OnOk result (coming.new.items ≡ coming.old.items ++ slot ∷ []) }
+/// Adds the entries of a run, of another row.
+fn push_run(owner: u32, run: Run, coming: &mut Vec<Slot>) -> Result<(), AllocError>
+    requires { run.start + run.count ≤ length coming.old.items }
+    ensures { OnOk result (coming.new.items ≡ coming.old.items ++ run_of owner run coming.old.items) }
 {
-    coming.push(slot)?;
+    let start = run.start as usize;
+    for place in 0..run.count as usize {
+        let number = number_in(coming.as_slice(), start + place);
+        push_slot(coming, Slot { owner, number })?;
+    }
     Ok(())
 }
 
@@ -105,24 +112,15 @@ fn number_in(slots: &[Slot], place: usize) -> u32
     slots[place].number
 }
 
-/// Keeps the number of the one entry that stands behind others for the ordinal that its row names; nothing where there are more entries or none.
-fn keep_read(
-    met: &mut Vec<Option<u32>>,
-    named: Option<u32>,
-    coming: &[Slot],
-    before: usize,
-    count: usize,
-)
-    requires { count ≡ 1 → before < length coming.now }
-    ensures one { count ≡ 1 → KeepsMet met.old.items named (get_or coming.now before no_slot).number met.new.items }
-    ensures other { (count ≡ 1 → ⊥) → met.new.items ≡ met.old.items }
+/// Adds a slot.
+fn push_slot(coming: &mut Vec<Slot>, slot: Slot) -> Result<(), AllocError>
+    ensures { OnOk result (coming.new.items ≡ coming.old.items ++ slot ∷ []) }
 {
-    if count == 1 {
-        keep_number(met, named, number_in(coming, before));
-    }
+    coming.push(slot)?;
+    Ok(())
 }
 
-/// Adds the entries of a row that is read, if there are then not more than so many, and keeps the number of its one value.
+/// Adds the entries of a row that is read, if there are then not more than so many, and keeps where they stand.
 fn push_read<R: ColumnRows>(
     alloc: Global,
     rows: &R,
@@ -131,7 +129,7 @@ fn push_read<R: ColumnRows>(
     named: Option<u32>,
     most: usize,
     entries: &mut Entries,
-    met: &mut Vec<Option<u32>>,
+    met: &mut Vec<Option<Run>>,
     coming: &mut Vec<Slot>,
 ) -> Result<(), WalkFault>
     requires closed { IsClosed (R.schemas rows.now) (R.table rows.now) }
@@ -139,14 +137,15 @@ fn push_read<R: ColumnRows>(
     requires named { IfSome named (NamesOnly (R.table rows.now) path.now.type_index path.now.parts owner) }
     requires known { AreKnown entries.old.values coming.old.items }
     requires few { length coming.old.items ≤ most }
-    requires met { AreMet (R.schemas rows.now) (R.table rows.now) path.now.type_index path.now.parts entries.old.values met.old.items }
+    requires small { most ≤ number_of_limit Limit.Entries }
+    requires met { AreMet (R.schemas rows.now) (R.table rows.now) path.now.type_index path.now.parts (entries_of entries.old.values coming.old.items) met.old.items }
     ensures slots { entries.new.slots ≡ entries.old.slots }
     ensures room { entries.new.room ≡ entries.old.room }
     ensures entries { entries_of entries.new.values entries.old.slots ≡ entries_of entries.old.values entries.old.slots }
     ensures known { OnOk result (AreKnown entries.new.values coming.new.items) }
     ensures pushed { OnOk result (IsRowPushed (R.schemas rows.now) (R.table rows.now) path.now.type_index path.now.parts owner (entries_of entries.old.values coming.old.items) (entries_of entries.new.values coming.new.items)) }
     ensures few { OnOk result (length coming.new.items ≤ most) }
-    ensures met { OnOk result (AreMet (R.schemas rows.now) (R.table rows.now) path.now.type_index path.now.parts entries.new.values met.new.items) }
+    ensures met { OnOk result (AreMet (R.schemas rows.now) (R.table rows.now) path.now.type_index path.now.parts (entries_of entries.new.values coming.new.items) met.new.items) }
     ensures many { result ≡ Err Fault.Entries → ReachesMany (R.schemas rows.now) (R.table rows.now) path.now.type_index path.now.parts owner (length coming.old.items) most }
 {
     let values = reached_by(alloc, rows, path, owner)?;
@@ -156,7 +155,9 @@ fn push_read<R: ColumnRows>(
         return Err(WalkFault::Entries);
     }
     push_entries(entries, owner, values, coming)?;
-    keep_read(met, named, coming.as_slice(), before, count);
+    let start = before as u32;
+    let count = count as u32;
+    keep_run(met, named, Run { start, count });
     Ok(())
 }
 
@@ -169,7 +170,7 @@ fn push_row<R: ColumnRows>(
     owner: u32,
     most: usize,
     entries: &mut Entries,
-    met: &mut Vec<Option<u32>>,
+    met: &mut Vec<Option<Run>>,
     coming: &mut Vec<Slot>,
 ) -> Result<(), WalkFault>
     requires closed { IsClosed (R.schemas rows.now) (R.table rows.now) }
@@ -177,26 +178,27 @@ fn push_row<R: ColumnRows>(
     requires column { IfSome column.now (IsFirstColumn (R.table rows.now) path.now.type_index path.now.parts) }
     requires known { AreKnown entries.old.values coming.old.items }
     requires few { length coming.old.items ≤ most }
-    requires met { AreMet (R.schemas rows.now) (R.table rows.now) path.now.type_index path.now.parts entries.old.values met.old.items }
+    requires small { most ≤ number_of_limit Limit.Entries }
+    requires met { AreMet (R.schemas rows.now) (R.table rows.now) path.now.type_index path.now.parts (entries_of entries.old.values coming.old.items) met.old.items }
     ensures slots { entries.new.slots ≡ entries.old.slots }
     ensures room { entries.new.room ≡ entries.old.room }
     ensures entries { entries_of entries.new.values entries.old.slots ≡ entries_of entries.old.values entries.old.slots }
     ensures known { OnOk result (AreKnown entries.new.values coming.new.items) }
     ensures pushed { OnOk result (IsRowPushed (R.schemas rows.now) (R.table rows.now) path.now.type_index path.now.parts owner (entries_of entries.old.values coming.old.items) (entries_of entries.new.values coming.new.items)) }
     ensures few { OnOk result (length coming.new.items ≤ most) }
-    ensures met { OnOk result (AreMet (R.schemas rows.now) (R.table rows.now) path.now.type_index path.now.parts entries.new.values met.new.items) }
+    ensures met { OnOk result (AreMet (R.schemas rows.now) (R.table rows.now) path.now.type_index path.now.parts (entries_of entries.new.values coming.new.items) met.new.items) }
     ensures many { result ≡ Err Fault.Entries → ReachesMany (R.schemas rows.now) (R.table rows.now) path.now.type_index path.now.parts owner (length coming.old.items) most }
 {
     let parts = path.parts.as_slice();
     let t = path.type_index;
     let named = only_named(alloc, rows, column, t, parts, owner, met.as_slice())?;
-    match number_through(met.as_slice(), named) {
-        Some(number) => push_met(owner, number, most, coming),
+    match run_through(met.as_slice(), named) {
+        Some(kept) => push_met(owner, kept, most, coming),
         None => push_read(alloc, rows, path, owner, named, most, entries, met, coming),
     }
 }
 
-/// For how many ordinals numbers are kept, where so many rows are read: for all that the first part of a path may name, unless they are many more than the rows.
+/// For how many ordinals runs are kept, where so many rows are read: for all that the first part of a path may name, unless they are many more than the rows.
 fn met_room<R: ColumnRows>(rows: &R, path: &WalkPath, count: usize) -> usize {
     let Some(WalkPart::Field(field)) = path.parts.as_slice().first() else {
         return 0;
@@ -221,6 +223,7 @@ pub(crate) fn read_added<R: ColumnRows, L: Ledger>(
     requires closed { IsClosed (R.schemas rows.now) (R.table rows.now) }
     requires rise { Rises added.now }
     requires live { All (IsLive (R.table rows.now) path.now.type_index) added.now }
+    requires small { most ≤ number_of_limit Limit.Entries }
     ensures slots { entries.new.slots ≡ entries.old.slots }
     ensures room { entries.new.room ≡ entries.old.room }
     ensures entries { entries_of entries.new.values entries.old.slots ≡ entries_of entries.old.values entries.old.slots }

@@ -4,6 +4,8 @@
 #[cfg(test)]
 mod orders;
 #[cfg(test)]
+mod plain_changes;
+#[cfg(test)]
 mod plain_cycles;
 #[cfg(test)]
 mod plain_finds;

@@ -7,7 +7,7 @@ use Rattle.serde_json.specs.Data.{Data, array}
 use Rattle.serde_json.specs.Find.{as_array, get}
 use Rattle.serde_json.specs.View.{items_of, view}
 use Rattle.serde_json.specs.declared.value.Value.{Value}
-use Rattle.record_stream.specs.CycleLine.{TellsRecords}
+use Rattle.record_stream.specs.RecordLine.{TellsRecords}
 use Rattle.record_stream.specs.Records.{AreAhead, TellsRecord}
 use Rattle.record_stream.proofs.Ahead.{at_front, past_end}
 use Rattle.schema_model.specs.declared.schema.Schema.{Schema}

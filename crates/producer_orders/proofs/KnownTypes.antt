@@ -11,7 +11,7 @@ use Rattle.serde_json.specs.Data.{Data, Members, array, member, no_members, obje
 use Rattle.serde_json.specs.Find.{as_array, get}
 use Rattle.serde_json.specs.View.{items_of, items_view, members_view, view}
 use Rattle.serde_json.specs.declared.value.Value.{Value}
-use Rattle.record_stream.specs.CycleLine.{bare}
+use Rattle.record_stream.specs.RecordLine.{bare}
 use Rattle.schema_model.specs.declared.schema.Schema.{Schema}
 use Rattle.schema_model.specs.Parts.{index_of_type}
 use Rattle.hol_orders.specs.Shapes.{AreArrays, AreRecords}
@@ -96,7 +96,7 @@ flipped false false is = absurd cc
 
 -- ---- names that stand in an object with no records
 
-names_in-bare : (ms : Members) → names_in (bare ms) ≡ names_in ms
+pub names_in-bare : (ms : Members) → names_in (bare ms) ≡ names_in ms
 names_in-bare no_members = refl
 names_in-bare (member name json rest) = ap (λ ns. name ∷ ns) (names_in-bare rest)
 

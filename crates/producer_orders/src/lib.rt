@@ -18,4 +18,4 @@ pub use cycle_end::CycleEnd;
 pub use cycle_order::{check_follow, cycle, end_cycle, film_cycle};
 pub use grow_order::grow;
 pub use model_order::model;
-pub use types::unknown_among;
+pub use types::{unknown_among, unknown_type};

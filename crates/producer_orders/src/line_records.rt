@@ -2,7 +2,7 @@
 ghost use Rattle.std.specs.Prelude.{◌≡◌, ◌<◌, ◌≤◌, ◌++◌, IfOk, List, Some, drop, false, length, slice_get, take};
 ghost use Rattle.json.specs.Token.{Token};
 ghost use Rattle.serde_json.specs.Data.{Data};
-ghost use Rattle.record_stream.specs.CycleLine.{added_by};
+ghost use Rattle.record_stream.specs.RecordLine.{added_by};
 ghost use Rattle.record_stream.specs.Records.{AreAhead};
 ghost use Rattle.schema_model.specs.declared.schema.Schema.{Schema};
 ghost use Rattle.schema_model.specs.Model.{IsModel};
@@ -13,7 +13,7 @@ ghost use Rattle.producer_orders.specs.Parts.{AreAdded, IsThere, TellsAdded, Tel
 use crate::record_fault::RecordFault;
 use crate::records::{add_record, add_value};
 use json::{Reader, Scratch};
-use record_stream::{CycleLine, next_record, pass_records};
+use record_stream::{RecordLine, next_record, pass_records};
 use record_tokens::{NextTree, next_tree};
 use std::alloc::Global;
 use write_engine::Producer;
@@ -33,7 +33,7 @@ pub(crate) fn add_from_line(
     alloc: Global,
     producer: &mut Producer,
     type_index: u32,
-    line: &CycleLine,
+    line: &RecordLine,
     full: bool,
 ) -> Result<bool, RecordFault>
     requires type_in { type_index < length producer.old.schemas }
@@ -97,7 +97,7 @@ fn add_behind(
     alloc: Global,
     producer: &mut Producer,
     type_index: u32,
-    line: &CycleLine,
+    line: &RecordLine,
     from: u64,
     full: bool,
 ) -> Result<bool, RecordFault>

@@ -1,4 +1,4 @@
-//! The names under which a cycle has records.
+//! The names under which a cycle or a change has records.
 ghost use Rattle.std.specs.Prelude.{IfOk};
 ghost use Rattle.serde_json.specs.Data.{object};
 ghost use Rattle.serde_json.specs.View.{view, members_view};
@@ -11,12 +11,8 @@ use schema_model::{Model, Name};
 use serde_json::{Map, Value};
 use std::alloc::{AllocError, Global};
 
-/// The first name under which records are to be added that is that of no type; `None` exactly where each is that of a type.
-pub(crate) fn unknown_type(
-    alloc: Global,
-    model: &Model,
-    add: &Added,
-) -> Result<Option<Name>, AllocError>
+/// The first name under which records are that is that of no type; `None` exactly where each is that of a type.
+pub fn unknown_type(alloc: Global, model: &Model, add: &Added) -> Result<Option<Name>, AllocError>
     requires { AreRecords (added add.now) }
     ensures { IfOk result (TellsUnknown model.now (added add.now)) }
 {

@@ -1,5 +1,5 @@
--- The members and the types of a cycle are passed over, up to the records of one type.
-use Rattle.std.proofs.Common.{◌≡◌, ◌∙◌, ℕ, ◌+◌, ◌<◌, List, [], ◌∷◌, codes, drop, length, map, Option, Some, None, true, false, bytes_eq, true≢false, sym, ap, subst, arith}
+-- The members and the types of an order are passed over, up to the records of one type.
+use Rattle.std.proofs.Common.{◌≡◌, ◌∙◌, ℕ, ◌+◌, ◌<◌, List, [], ◌∷◌, drop, length, map, Option, Some, None, true, false, bytes_eq, true≢false, sym, ap, subst, arith}
 use Rattle.std.specs.Prelude.{slice_get}
 use Rattle.std.proofs.lemmas.List.Elements.{All-head, All-tail}
 use Rattle.std.proofs.lemmas.Slice.Eq.{bytes_eq-Decides}
@@ -9,7 +9,7 @@ use Rattle.json.specs.Reads.{Yields}
 use Rattle.json.specs.declared.token.Token as declared
 use Rattle.json.proofs.Found.{Some_inj}
 use Rattle.json.proofs.Grammar.{read_key-shorter, skip_value-shorter}
-use Rattle.record_stream.specs.CycleLine.{AreAdded, AreListed, AreMembers, AreOther, IsArray, Named, Typed, part_depth}
+use Rattle.record_stream.specs.RecordLine.{AreAdded, AreListed, AreMembers, AreOther, IsArray, Named, Typed, part_depth}
 use Rattle.record_stream.specs.Records.{AreAhead}
 use Rattle.record_stream.proofs.Ahead.{at_front, from_place}
 use Rattle.record_stream.proofs.Listed.{array_skipped, array_value}
@@ -36,23 +36,23 @@ none_then now none found from named = none_or_some (Some found, from) (sym none 
 pub shorter : (depth : ℕ) (now from behind : List Token) (found : List ℕ) → read_key now ≡ Some (Some found, from) → skip_value depth from ≡ Some behind → length behind < length now
 shorter depth now from behind found named skipped = omega (arith, read_key-shorter now (Some found) from named, skip_value-shorter depth from behind skipped)
 
--- ---- up to the member `add`
+-- ---- up to the member that has a name
 
-differs : (name : List ℕ) → bytes_eq name (codes "add") ≡ false → codes "add" ≡ name → ⊥
-differs name other same = true≢false (sym ((bytes_eq-Decides name (codes "add")).1 (sym same)) ∙ other)
+differs : (sought name : List ℕ) → bytes_eq name sought ≡ false → sought ≡ name → ⊥
+differs sought name other same = true≢false (sym ((bytes_eq-Decides name sought).1 (sym same)) ∙ other)
 
-module _ (now from : List Token) (name : List ℕ) (types : List Typed) (inside end : List Token) (listed : AreListed inside types end) (named : read_key now ≡ Some (Some name, from)) where
-  front_known : (front : List Named) → AreMembers part_depth now front (key (codes "add") ∷ begin_object ∷ inside) → bytes_eq name (codes "add") ≡ false
+module _ (sought : List ℕ) (now from : List Token) (name : List ℕ) (types : List Typed) (inside end : List Token) (listed : AreListed inside types end) (named : read_key now ≡ Some (Some name, from)) where
+  front_known : (front : List Named) → AreMembers part_depth now front (key sought ∷ begin_object ∷ inside) → bytes_eq name sought ≡ false
       → (json : Json) × (rest : List Token) × (value part_depth from ≡ Some (json, rest))
-  front_known [] ahead other = absurd (differs name other (same_key now from (begin_object ∷ inside) name (codes "add") ahead named).0)
+  front_known [] ahead other = absurd (differs sought name other (same_key now from (begin_object ∷ inside) name sought ahead named).0)
   front_known (first ∷ front) (f, b, e, is, more) other =
       let at = same_key now from f name first.0 e named in
       let json = known part_depth f b first.1 is in
       (json.0, b, ap (value part_depth) (sym at.1) ∙ json.1)
 
-  front_passed : (front : List Named) (behind : List Token) → AreMembers part_depth now front (key (codes "add") ∷ begin_object ∷ inside) → AreOther (codes "add") (map (λ (n : Named). n.0) front) → bytes_eq name (codes "add") ≡ false
-      → skip_value part_depth from ≡ Some behind → AreAdded behind types
-  front_passed [] behind ahead none other skipped = absurd (differs name other (same_key now from (begin_object ∷ inside) name (codes "add") ahead named).0)
+  front_passed : (front : List Named) (behind : List Token) → AreMembers part_depth now front (key sought ∷ begin_object ∷ inside) → AreOther sought (map (λ (n : Named). n.0) front) → bytes_eq name sought ≡ false
+      → skip_value part_depth from ≡ Some behind → AreAdded sought behind types
+  front_passed [] behind ahead none other skipped = absurd (differs sought name other (same_key now from (begin_object ∷ inside) name sought ahead named).0)
   front_passed (first ∷ front) behind (f, b, e, is, more) none other skipped =
       let at = same_key now from f name first.0 e named in
       let there : behind ≡ b = known_passed part_depth f behind b first.1 is (ap (skip_value part_depth) at.1 ∙ skipped) in
@@ -60,42 +60,46 @@ module _ (now from : List Token) (name : List ℕ) (types : List Typed) (inside 
         front = front;
         inside = inside;
         behind = end;
-        ahead = subst (λ ts. AreMembers part_depth ts front (key (codes "add") ∷ begin_object ∷ inside)) (sym there) more;
-        none = All-tail (λ n. n ≡ codes "add" → ⊥) first.0 (map (λ (n : Named). n.0) front) none;
+        ahead = subst (λ ts. AreMembers part_depth ts front (key sought ∷ begin_object ∷ inside)) (sym there) more;
+        none = All-tail (λ n. n ≡ sought → ⊥) first.0 (map (λ (n : Named). n.0) front) none;
         listed = listed;
       }
 
-  front_here : (front : List Named) → AreMembers part_depth now front (key (codes "add") ∷ begin_object ∷ inside) → AreOther (codes "add") (map (λ (n : Named). n.0) front) → bytes_eq name (codes "add") ≡ true → begin_object ∷ inside ≡ from
-  front_here [] ahead none same = (same_key now from (begin_object ∷ inside) name (codes "add") ahead named).1
+  front_here : (front : List Named) → AreMembers part_depth now front (key sought ∷ begin_object ∷ inside) → AreOther sought (map (λ (n : Named). n.0) front) → bytes_eq name sought ≡ true → begin_object ∷ inside ≡ from
+  front_here [] ahead none same = (same_key now from (begin_object ∷ inside) name sought ahead named).1
   front_here (first ∷ front) (f, b, e, is, more) none same =
       let at = same_key now from f name first.0 e named in
-      absurd (All-head (λ n. n ≡ codes "add" → ⊥) first.0 (map (λ (n : Named). n.0) front) none (at.0 ∙ (bytes_eq-Decides name (codes "add")).0 same))
+      absurd (All-head (λ n. n ≡ sought → ⊥) first.0 (map (λ (n : Named). n.0) front) none (at.0 ∙ (bytes_eq-Decides name sought).0 same))
 
-front_none : (now inside : List Token) (front : List Named) → AreMembers part_depth now front (key (codes "add") ∷ begin_object ∷ inside) → ((name : List ℕ) (from : List Token) → read_key now ≡ Some (Some name, from) → ⊥) → ⊥
-front_none now inside [] ahead none = no_key now (begin_object ∷ inside) (codes "add") ahead none
-front_none now inside (first ∷ front) (f, b, e, is, more) none = no_key now f first.0 e none
+front_none : (sought : List ℕ) (now inside : List Token) (front : List Named) → AreMembers part_depth now front (key sought ∷ begin_object ∷ inside) → ((name : List ℕ) (from : List Token) → read_key now ≡ Some (Some name, from) → ⊥) → ⊥
+front_none sought now inside [] ahead none = no_key now (begin_object ∷ inside) sought ahead none
+front_none sought now inside (first ∷ front) (f, b, e, is, more) none = no_key now f first.0 e none
 
--- Where `add` lists types from the start on, it does from here on.
-abbrev pub IsStillAdded : List Token → List Token → Type 0
-IsStillAdded start now = (types : List Typed) → AreAdded start types → AreAdded now types
+-- Where the member of this name lists types from the start on, it does from here on.
+abbrev pub IsStillAdded : List ℕ → List Token → List Token → Type 0
+IsStillAdded sought start now = (types : List Typed) → AreAdded sought start types → AreAdded sought now types
 
-module _ (start now from : List Token) (name : List ℕ) (still : IsStillAdded start now) (named : read_key now ≡ Some (Some name, from)) where
-  pub member_known : (types : List Typed) → AreAdded start types → bytes_eq name (codes "add") ≡ false → (json : Json) × (rest : List Token) × (value part_depth from ≡ Some (json, rest))
-  member_known types added other = let here = still types added in front_known now from name types here.inside here.behind here.listed named here.front here.ahead other
+module _ (sought : List ℕ) (start now from : List Token) (name : List ℕ) (still : IsStillAdded sought start now) (named : read_key now ≡ Some (Some name, from)) where
+  pub member_known : (types : List Typed) → AreAdded sought start types → bytes_eq name sought ≡ false → (json : Json) × (rest : List Token) × (value part_depth from ≡ Some (json, rest))
+  member_known types added other = let here = still types added in front_known sought now from name types here.inside here.behind here.listed named here.front here.ahead other
 
-  pub member_passed : (behind : List Token) → bytes_eq name (codes "add") ≡ false → skip_value part_depth from ≡ Some behind → IsStillAdded start behind
+  pub member_passed : (behind : List Token) → bytes_eq name sought ≡ false → skip_value part_depth from ≡ Some behind → IsStillAdded sought start behind
   member_passed behind other skipped = λ types added.
-      (let here = still types added in front_passed now from name types here.inside here.behind here.listed named here.front behind here.ahead here.none other skipped)
+      (let here = still types added in front_passed sought now from name types here.inside here.behind here.listed named here.front behind here.ahead here.none other skipped)
 
-  pub add_entered : (new : List Token) (brace : Option declared.Token) → bytes_eq name (codes "add") ≡ true → Yields from brace new → (types : List Typed) → AreAdded start types → (rest : List Token) × AreListed new types rest
+  pub add_entered : (new : List Token) (brace : Option declared.Token) → bytes_eq name sought ≡ true → Yields from brace new → (types : List Typed) → AreAdded sought start types → (rest : List Token) × AreListed new types rest
   add_entered new brace same next types added =
       let here = still types added in
-      let at = front_here now from name types here.inside here.behind here.listed named here.front here.ahead here.none same in
+      let at = front_here sought now from name types here.inside here.behind here.listed named here.front here.ahead here.none same in
       let is : new ≡ here.inside = behind_next brace from new here.inside begin_object next (sym at) in
       (here.behind, subst (λ ts. AreListed ts types here.behind) (sym is) here.listed)
 
-pub add_there : (start now : List Token) → IsStillAdded start now → ((name : List ℕ) (from : List Token) → read_key now ≡ Some (Some name, from) → ⊥) → (types : List Typed) → AreAdded start types → ⊥
-add_there start now still none types added = let here = still types added in front_none now here.inside here.front here.ahead none
+pub add_there : (sought : List ℕ) (start now : List Token) → IsStillAdded sought start now → ((name : List ℕ) (from : List Token) → read_key now ≡ Some (Some name, from) → ⊥) → (types : List Typed) → AreAdded sought start types → ⊥
+add_there sought start now still none types added = let here = still types added in front_none sought now here.inside here.front here.ahead none
+
+-- the member that is looked for
+pub sought_added : (sought name : List ℕ) (now inside : List Token) (types : List Typed) → sought ≡ name → now ≡ inside → AreAdded name inside types → AreAdded sought now types
+sought_added sought name now inside types same at added = subst (λ n. AreAdded n now types) (sym same) (subst (λ ts. AreAdded name ts types) (sym at) added)
 
 -- ---- up to a type
 

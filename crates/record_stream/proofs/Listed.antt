@@ -7,7 +7,7 @@ use Rattle.json.proofs.Grammar.{left, read_key_is, skip_value-shorter, value-beg
 use Rattle.serde_json.specs.Data.{Data, Items, Members, array, put}
 use Rattle.serde_json.specs.Read.{converted, of_items, of_json, of_members}
 use Rattle.serde_json.specs.View.{items_of}
-use Rattle.record_stream.specs.CycleLine.{AreListed, IsArray, Typed, with_types}
+use Rattle.record_stream.specs.RecordLine.{AreListed, IsArray, Typed, with_types}
 use Rattle.record_stream.specs.Passing.{behind_items}
 use Rattle.record_stream.specs.Records.{record_depth}
 use Rattle.record_stream.proofs.Converted.{converted-array, converted_some, member_read, members_over}

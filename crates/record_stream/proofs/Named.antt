@@ -9,7 +9,7 @@ use Rattle.serde_json.specs.Data.{Data, Members, array, member, no_items, no_mem
 use Rattle.serde_json.specs.Find.{get_member}
 use Rattle.serde_json.specs.View.{items_of}
 use Rattle.serde_json.proofs.Views.{get_member-put, get_member-put_other}
-use Rattle.record_stream.specs.CycleLine.{AreOther, TellsLast, Typed, bare, names_of, with_types}
+use Rattle.record_stream.specs.RecordLine.{AreOther, TellsLast, Typed, bare, names_of, with_types}
 
 bare-match_ordering : (o : Ordering) (a b c : Members) → bare (match_ordering o a b c) ≡ match_ordering o (bare a) (bare b) (bare c)
 bare-match_ordering Less a b c = refl

@@ -9,7 +9,7 @@ use Rattle.serde_json.specs.Data.{Members, array, no_items, no_members, put}
 use Rattle.serde_json.specs.View.{items_view, members_view}
 use Rattle.serde_json.specs.declared.value.Value.{Array, Value}
 use Rattle.serde_json.proofs.Views.{Entry, members_view-insert_entry, view-Array}
-use Rattle.record_stream.specs.CycleLine.{AreListed, Typed, bare, names_of, with_types}
+use Rattle.record_stream.specs.RecordLine.{AreListed, Typed, bare, names_of, with_types}
 use Rattle.record_stream.specs.Parts.{AreNames}
 use Rattle.record_stream.specs.declared.parts.TypeNames.{TypeNames}
 use Rattle.record_stream.specs.Passing.{behind_items}

@@ -1,17 +1,20 @@
--- The line of a cycle as a whole.
-use Rattle.std.proofs.Common.{◌≡◌, ◌∙◌, ℕ, ◌-◌, ◌<◌, ◌≤◌, List, [], ◌∷◌, codes, length, Bool, Option, Some, None, option_map, refl, ap, subst, arith}
-use Rattle.std.specs.Prelude.{option_and_then, unwrap_or}
+-- The line of an order as a whole.
+use Rattle.std.proofs.Common.{◌≡◌, ◌∙◌, ℕ, ◌-◌, ◌<◌, ◌≤◌, List, [], ◌∷◌, length, Bool, Option, Some, None, option_map, refl, ap, subst, arith}
 use Rattle.json.specs.Token.{Token, begin_object, end_object, key}
 use Rattle.json.specs.Json.{members, parse_map, read_key, value}
 use Rattle.json.specs.Lex.{tokens}
 use Rattle.json.proofs.Grammar.{value-begin_object}
-use Rattle.serde_json.specs.Data.{Data, Members, boolean, member, no_members, null, object, put}
-use Rattle.serde_json.specs.Find.{get}
+use Rattle.serde_json.specs.Data.{Data, Members, boolean, member, no_members, object, put}
 use Rattle.serde_json.specs.Read.{converted, of_json, of_members, read}
 use Rattle.serde_json.specs.View.{view}
 use Rattle.serde_json.specs.declared.value.Value.{Value}
-use Rattle.record_stream.specs.CycleLine.{AreMembers, IsCycle, Named, Typed, added_by, cycle_data, part_depth, put_all, saying, with_types}
-use Rattle.record_stream.specs.Parts.{AreNames, HaveFound, IsAdd, parts_data, with_named}
+use Rattle.record_stream.specs.ChangeLine.{change_data}
+use Rattle.record_stream.specs.CycleLine.{cycle_data}
+use Rattle.record_stream.specs.Holder.{records_name, word}
+use Rattle.record_stream.specs.Parts.{AreNames, HaveFound, IsAdd}
+use Rattle.record_stream.specs.RecordLine.{AreMembers, IsHeld, Named, Typed, added_by, holder_data, part_depth, parts_data, put_all, records_of, with_types}
+use Rattle.record_stream.specs.declared.holder.Holder.{Holder}
+use Rattle.record_stream.specs.declared.holder.Holder.TheVariants.{Cycle, Change}
 use Rattle.record_stream.specs.declared.parts.FoundParts.{FoundParts}
 use Rattle.record_stream.specs.declared.parts.TypeNames.{TypeNames}
 use Rattle.record_stream.proofs.Converted.{converted-object, member_read, members_over, whole_read}
@@ -27,58 +30,73 @@ members_json depth (named ∷ parts) ts rest behind n old le (from, after, e, is
     member_read (value depth) old n named.0 ts from after named.1 (omega (arith, le, long)) (ap read_key e) is
     ∙ members_json depth parts after rest behind (n - 1) (put named.0 named.1 old) (omega (arith, le, long, shorter)) more over
 
-pub line_json : (ts : List Token) (version tag : Data) (types : List Typed) (snapshot : Option Bool) → IsCycle ts version tag types snapshot
-    → converted of_json (value 127 ts) ≡ Some (cycle_data version tag (object (with_types types no_members)) snapshot, [])
-line_json ts version tag types snapshot cycle =
+pub line_json : (holder : Holder) (ts : List Token) (version tag : Data) (types : List Typed) (other : Option Data) → IsHeld holder ts version tag types other
+    → converted of_json (value 127 ts) ≡ Some (holder_data holder version tag (object (with_types types no_members)) other, [])
+line_json holder ts version tag types other held =
     let below : 0 < 127 = omega arith in
     let below_that : 0 < 126 = omega arith in
-    let inside = cycle.inside in
+    let inside = held.inside in
     let from = begin_object ∷ inside in
-    let named = key (codes "cycle") ∷ from in
+    let named = key (word holder) ∷ from in
     let n = length named in
     let some : 0 < n = omega arith in
     let enough : 1 ≤ n - 1 = omega arith in
     let within : length inside ≤ length inside = omega arith in
-    let parts : converted of_json (value 126 from) ≡ Some (object (put_all cycle.parts no_members), end_object ∷ []) =
+    let parts : converted of_json (value 126 from) ≡ Some (object (put_all held.parts no_members), end_object ∷ []) =
     ap (converted of_json) (value-begin_object 126 inside below_that)
     ∙ (converted-object (members (value part_depth) (length inside) inside)
-    ∙ ap (parse_map object) (members_json part_depth cycle.parts inside (end_object ∷ end_object ∷ []) (end_object ∷ []) (length inside) no_members within cycle.ahead refl)) in
-    ap (λ t. converted of_json (value 127 t)) cycle.opened
+    ∙ ap (parse_map object) (members_json part_depth held.parts inside (end_object ∷ end_object ∷ []) (end_object ∷ []) (length inside) no_members within held.ahead refl)) in
+    ap (λ t. converted of_json (value 127 t)) held.opened
     ∙ (ap (converted of_json) (value-begin_object 127 named below)
     ∙ (converted-object (members (value 126) n named)
-    ∙ (ap (parse_map object) (member_read (value 126) no_members n (codes "cycle") named from (end_object ∷ []) _ some refl parts ∙ members_over (value 126) _ (n - 1) (end_object ∷ []) [] enough refl)
-    ∙ ap (λ ms. Some (object (member (codes "cycle") (object ms) no_members), [])) cycle.are)))
+    ∙ (ap (parse_map object) (member_read (value 126) no_members n (word holder) named from (end_object ∷ []) _ some refl parts ∙ members_over (value 126) _ (n - 1) (end_object ∷ []) [] enough refl)
+    ∙ ap (λ ms. Some (object (member (word holder) (object ms) no_members), [])) held.are)))
 
-pub cycle_read : (line : List ℕ) (version tag : Data) (types : List Typed) (snapshot : Option Bool) → IsCycle (tokens line) version tag types snapshot
-    → read line ≡ Some (cycle_data version tag (object (with_types types no_members)) snapshot)
-cycle_read line version tag types snapshot cycle = whole_read (value 127 (tokens line)) _ (line_json (tokens line) version tag types snapshot cycle)
+pub line_read : (holder : Holder) (line : List ℕ) (version tag : Data) (types : List Typed) (other : Option Data) → IsHeld holder (tokens line) version tag types other
+    → read line ≡ Some (holder_data holder version tag (object (with_types types no_members)) other)
+line_read holder line version tag types other held = whole_read (value 127 (tokens line)) _ (line_json holder (tokens line) version tag types other held)
 
-pub cycle_adds : (line : List ℕ) (version tag : Data) (types : List Typed) (snapshot : Option Bool) → IsCycle (tokens line) version tag types snapshot → added_by line ≡ object (with_types types no_members)
-cycle_adds line version tag types snapshot cycle =
-    ap (λ (o : Option Data). unwrap_or (option_and_then (get (codes "add")) (option_and_then (get (codes "cycle")) o)) null) (cycle_read line version tag types snapshot cycle)
+-- the records of an order
+records_held : (holder : Holder) (version tag records : Data) (other : Option Data) → records_of (Some (holder_data holder version tag records other)) ≡ records
+records_held Cycle version tag records other = refl
+records_held Change version tag records other = refl
 
--- ---- a cycle whose members were found
+pub line_adds : (holder : Holder) (line : List ℕ) (version tag : Data) (types : List Typed) (other : Option Data) → IsHeld holder (tokens line) version tag types other → added_by line ≡ object (with_types types no_members)
+line_adds holder line version tag types other held =
+    ap records_of (line_read holder line version tag types other held) ∙ records_held holder version tag (object (with_types types no_members)) other
 
-said : (snapshot : Option Bool) (rest : Members) → with_named (codes "snapshot") (option_map boolean snapshot) rest ≡ saying snapshot rest
-said None rest = refl
-said (Some snapshot) rest = refl
+-- ---- an order whose members were found
 
-pub cycle_found : (ts inside : List Token) (found : FoundParts) (version tag : Value) (names : TypeNames) (snapshot : Option Bool) → ts ≡ begin_object ∷ key (codes "cycle") ∷ begin_object ∷ inside
-    → HaveFound inside (end_object ∷ end_object ∷ []) found → found.version ≡ Some version → found.tag ≡ Some tag → found.types ≡ Some names → found.snapshot ≡ snapshot
-    → (types : List Typed) × IsCycle ts (view version) (view tag) types snapshot × AreNames names types
-cycle_found ts inside found version tag names snapshot opened had is_version is_tag are_types is_snapshot =
-    let add = subst (IsAdd inside had.passed had.add) are_types had.added in
-    let parts : parts_data had.add (option_map boolean found.snapshot) (option_map view found.tag) (option_map view found.version)
-    ≡ parts_data (Some (object (with_types add.0 no_members))) (option_map boolean snapshot) (Some (view tag)) (Some (view version)) =
-    (λ i. parts_data (add.1 i) (option_map boolean (is_snapshot i)) (option_map view (is_tag i)) (option_map view (is_version i))) in (
+pub held_found : (holder : Holder) (ts inside : List Token) (found : FoundParts) (version tag : Value) (names : TypeNames) → ts ≡ begin_object ∷ key (word holder) ∷ begin_object ∷ inside
+    → HaveFound holder inside (end_object ∷ end_object ∷ []) found → found.version ≡ Some version → found.tag ≡ Some tag → found.types ≡ Some names
+    → (types : List Typed) × IsHeld holder ts (view version) (view tag) types (option_map view found.other) × AreNames names types
+held_found holder ts inside found version tag names opened had is_version is_tag are_types =
+    let name = records_name holder in
+    let other = option_map view found.other in
+    let add = subst (IsAdd name inside had.passed had.add) are_types had.added in
+    let parts : parts_data holder had.add other (option_map view found.tag) (option_map view found.version)
+    ≡ parts_data holder (Some (object (with_types add.0 no_members))) other (Some (view tag)) (Some (view version)) =
+    (λ i. parts_data holder (add.1 i) other (option_map view (is_tag i)) (option_map view (is_version i))) in (
       add.0,
       record {
         inside = inside;
         opened = opened;
         parts = had.passed;
         ahead = had.ahead;
-        are = had.are ∙ (parts ∙ ap (member (codes "add") (object (with_types add.0 no_members))) (said snapshot (member (codes "tag") (view tag) (member (codes "version") (view version) no_members))));
+        are = had.are ∙ parts;
         added = add.3;
       },
       add.2,
     )
+
+-- ---- as the orders are spelled
+
+said : (version tag add : Data) (snapshot : Option Bool) → holder_data Cycle version tag add (option_map boolean snapshot) ≡ cycle_data version tag add snapshot
+said version tag add None = refl
+said version tag add (Some snapshot) = refl
+
+pub cycle_held : (version tag add : Data) (other : Option Data) (snapshot : Option Bool) → other ≡ option_map boolean snapshot → holder_data Cycle version tag add other ≡ cycle_data version tag add snapshot
+cycle_held version tag add other snapshot is = ap (holder_data Cycle version tag add) is ∙ said version tag add snapshot
+
+pub change_held : (version tag put : Data) (other : Option Data) (remove : Data) → other ≡ Some remove → holder_data Change version tag put other ≡ change_data version tag put remove
+change_held version tag put other remove is = ap (holder_data Change version tag put) is

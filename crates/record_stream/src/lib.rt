@@ -1,8 +1,11 @@
-//! The records of a cycle, one after another, and the parts of a look-up, from the tokens of their line.
+//! The records of a cycle or a change, one after another, and the parts of a look-up, from the tokens of their line.
 #![tactic(auto)]
 
+mod change_line;
 mod cycle_line;
 mod find_line;
+mod held;
+mod holder;
 mod listing;
 mod number;
 mod opening;
@@ -10,9 +13,12 @@ mod parts;
 mod passing;
 mod read_fault;
 mod record;
+mod record_line;
 mod value;
 
-pub use cycle_line::{CycleLine, CycleParts, split_cycle};
+pub use change_line::{ChangeParts, split_change};
+pub use cycle_line::{CycleParts, split_cycle};
 pub use find_line::{FindParts, split_find};
 pub use number::parse_number;
 pub use record::{RECORD_DEPTH, next_record, pass_records};
+pub use record_line::RecordLine;

@@ -1,7 +1,7 @@
-//! The types of a cycle, each with the array of its records.
+//! The types of an order, each with the array of its records.
 ghost use Rattle.std.specs.Prelude.{◌≡◌, ◌<◌, List, IfOk, OnOk, Some, drop, length, map, slice_get, string_bytes};
 ghost use Rattle.json.specs.Token.{Token};
-ghost use Rattle.record_stream.specs.CycleLine.{AreListed, TellsLast, Typed};
+ghost use Rattle.record_stream.specs.RecordLine.{AreListed, TellsLast, Typed};
 ghost use Rattle.record_stream.specs.Parts.{AreNames};
 ghost use Rattle.record_stream.specs.Records.{AreAhead};
 
@@ -14,7 +14,7 @@ use json::Reader;
 use serde_json::{Map, Value};
 use std::alloc::Global;
 
-/// Passes the types of a cycle up to the brace, which is passed too: their names. `Invalid` comes where a type has no array of records that can be read.
+/// Passes the types of an order up to the brace, which is passed too: their names. `Invalid` comes where a type has no array of records that can be read.
 pub(crate) fn pass_types(alloc: Global, reader: &mut Reader<'_>) -> Result<TypeNames, ReadFault>
     ensures listed { IfOk result (λ names. (types : List Typed) × AreListed reader.old types reader.new × AreNames names types) }
     ensures shorter { OnOk result (length reader.new < length reader.old) }

@@ -1,39 +1,41 @@
-//! The start of a cycle's line, up to its records.
-ghost use Rattle.std.specs.Prelude.{◌≡◌, ◌∷◌, [], List, Some, OnOk, IsTrue, codes};
+//! The start of an order's line, up to its records.
+ghost use Rattle.std.specs.Prelude.{◌≡◌, ◌∷◌, [], List, Some, OnOk, IsTrue};
 ghost use Rattle.json.specs.Token.{Token as SpecToken, begin_array, begin_object, end_array, end_object, key};
 ghost use Rattle.json.specs.Json.{Json, skip_value, value};
-ghost use Rattle.record_stream.specs.CycleLine.{AreAdded, AreListed, Typed};
+ghost use Rattle.record_stream.specs.Holder.{word};
+ghost use Rattle.record_stream.specs.RecordLine.{AreAdded, AreListed, Typed};
 
+use crate::holder::Holder;
 use json::{Invalid, Reader, Token};
 
-// How deep arrays and objects may nest in the members of a cycle: two objects are around them.
+// How deep arrays and objects may nest in the members of an order: two objects are around them.
 const PART_DEPTH: usize = 125;
 
-/// Opens a cycle: passes the tokens up to its first member.
-pub(crate) fn open_cycle(reader: &mut Reader<'_>) -> Result<(), Invalid>
-    ensures { OnOk result (reader.old ≡ begin_object ∷ key (codes "cycle") ∷ begin_object ∷ reader.new) }
+/// Opens an order: passes the tokens up to its first member.
+pub(crate) fn open_order(reader: &mut Reader<'_>, holder: Holder) -> Result<(), Invalid>
+    ensures { OnOk result (reader.old ≡ begin_object ∷ key (word holder) ∷ begin_object ∷ reader.new) }
 {
     take_object(reader)?;
-    take_key(reader, "cycle")?;
+    take_key(reader, holder.word())?;
     take_object(reader)
 }
 
-/// Passes the three tokens up to the first member of a cycle.
+/// Passes the three tokens up to the first member of an order.
 pub(crate) fn pass_opening(reader: &mut Reader<'_>)
     ensures { (one two three : SpecToken) (rest : List SpecToken) → reader.old ≡ one ∷ two ∷ three ∷ rest → reader.new ≡ rest }
 {
     let _brace = reader.next();
-    let _cycle = reader.next();
+    let _word = reader.next();
     let _inner_brace = reader.next();
 }
 
-/// Passes the members of a cycle up to the first type behind `add`.
-pub(crate) fn enter_types(reader: &mut Reader<'_>)
-    requires { (types : List Typed) × AreAdded reader.old types }
-    ensures { (types : List Typed) → AreAdded reader.old types → (rest : List SpecToken) × AreListed reader.new types rest }
+/// Passes the members of an order up to the first type behind the one that has this name.
+pub(crate) fn enter_types(reader: &mut Reader<'_>, sought: &str)
+    requires { (types : List Typed) × AreAdded sought.now reader.old types }
+    ensures { (types : List Typed) → AreAdded sought.now reader.old types → (rest : List SpecToken) × AreListed reader.new types rest }
 {
     'members: while let Ok(Some(name)) = reader.next_key() {
-        if name == "add" {
+        if name == sought {
             let _brace = reader.next();
             return;
         }

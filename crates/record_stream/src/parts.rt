@@ -1,20 +1,21 @@
-//! The members of a cycle, in whatever order they stand in its line.
+//! The members of an order, in whatever order they stand in its line.
 ghost use Rattle.std.specs.Prelude.{◌≡◌, ◌<◌, ◌∷◌, [], List, IfOk, OnOk, length};
-ghost use Rattle.json.specs.Token.{Token as SpecToken, boolean as boolean_token, end_object, key};
+ghost use Rattle.json.specs.Token.{Token as SpecToken, end_object, key};
 ghost use Rattle.record_stream.specs.Parts.{HaveFound};
 
+use crate::holder::Holder;
 use crate::listing::pass_types;
 use crate::opening::{is_object_last, take_object};
 use crate::read_fault::ReadFault;
 use crate::value::read_value;
-use json::{Invalid, Reader, Token};
+use json::Reader;
 use serde_json::{Map, Value};
 use std::alloc::Global;
 
-// How deep arrays and objects may nest in the members of a cycle: two objects are around them.
+// How deep arrays and objects may nest in the members of an order: two objects are around them.
 const PART_DEPTH: usize = 125;
 
-/// The names of the types of a cycle.
+/// The names of the types of an order.
 #[derive(Drop)]
 pub(crate) struct TypeNames {
     /// Each once, with an empty array.
@@ -23,32 +24,36 @@ pub(crate) struct TypeNames {
     pub(crate) order: Vec<String>,
 }
 
-/// The members of a cycle that were found.
+/// The members of an order that were found.
 #[derive(Drop)]
 pub(crate) struct FoundParts {
     /// The version, still JSON.
     pub(crate) version: Option<Value>,
     /// The tag, still JSON.
     pub(crate) tag: Option<Value>,
-    /// The types under which records are added.
+    /// The types under which it has records.
     pub(crate) types: Option<TypeNames>,
-    /// Whether a snapshot is put.
-    pub(crate) snapshot: Option<bool>,
+    /// What stands under its other member, still JSON.
+    pub(crate) other: Option<Value>,
 }
 
-/// Reads the members of a cycle, and the end of its line. `Invalid` comes where there is another member than a cycle has, or `add` twice, or a member
+/// Reads the members of an order, and the end of its line. `Invalid` comes where there is another member than it has, or the records twice, or a member
 /// that is none of its kind, or where something follows.
-pub(crate) fn parts_ahead(alloc: Global, reader: &mut Reader<'_>) -> Result<FoundParts, ReadFault>
-    ensures { IfOk result (HaveFound reader.old (end_object ∷ end_object ∷ [])) }
+pub(crate) fn parts_ahead(
+    alloc: Global,
+    reader: &mut Reader<'_>,
+    holder: Holder,
+) -> Result<FoundParts, ReadFault>
+    ensures { IfOk result (HaveFound holder reader.old (end_object ∷ end_object ∷ [])) }
 {
     let mut found = FoundParts {
         version: None,
         tag: None,
         types: None,
-        snapshot: None,
+        other: None,
     };
     'members: while let Some(name) = reader.next_key()? {
-        read_part(alloc, reader, name, &mut found)?;
+        read_part(alloc, reader, holder, name, &mut found)?;
     }
     if is_object_last(reader) {
         Ok(found)
@@ -57,37 +62,28 @@ pub(crate) fn parts_ahead(alloc: Global, reader: &mut Reader<'_>) -> Result<Foun
     }
 }
 
-// Reads the member whose name was read. Of a version, a tag or a snapshot that is given twice the last one counts.
+// Reads the member whose name was read. Of one that is given twice the last one counts, but of the records.
 fn read_part(
     alloc: Global,
     reader: &mut Reader<'_>,
+    holder: Holder,
     name: &str,
     found: &mut FoundParts,
 ) -> Result<(), ReadFault>
-    ensures found { OnOk result ((start now : List SpecToken) → HaveFound start now found.old → now ≡ key name.now ∷ reader.old → HaveFound start reader.new found.new) }
+    ensures found { OnOk result ((start now : List SpecToken) → HaveFound holder start now found.old → now ≡ key name.now ∷ reader.old → HaveFound holder start reader.new found.new) }
     ensures shorter { OnOk result (length reader.new < length reader.old) }
 {
     if name == "version" {
         found.version = Some(read_value(alloc, reader, PART_DEPTH)?);
     } else if name == "tag" {
         found.tag = Some(read_value(alloc, reader, PART_DEPTH)?);
-    } else if name == "snapshot" {
-        found.snapshot = Some(take_flag(reader)?);
-    } else if name == "add" && found.types.is_none() {
+    } else if name == holder.other_name() {
+        found.other = Some(read_value(alloc, reader, PART_DEPTH)?);
+    } else if name == holder.records_name() && found.types.is_none() {
         take_object(reader)?;
         found.types = Some(pass_types(alloc, reader)?);
     } else {
         return Err(ReadFault::Invalid);
     }
     Ok(())
-}
-
-// Takes a truth value.
-fn take_flag(reader: &mut Reader<'_>) -> Result<bool, Invalid>
-    ensures { IfOk result (λ flag. reader.old ≡ boolean_token flag ∷ reader.new) }
-{
-    match reader.next() {
-        Some(Token::Bool(flag)) => Ok(flag),
-        _ => Err(Invalid),
-    }
 }

@@ -13,7 +13,7 @@ use Rattle.record_tokens.specs.Taken.{Takes}
 use Rattle.record_tokens.specs.declared.next.NextTree.TheVariants as next
 use Rattle.record_tokens.specs.declared.next.Record.{Record}
 
-tree_ahead : (schemas : List Schema) (type_index : ℕ) (old new : List Token) (tree : PlainTree) → after_end_array old ≡ None → Takes (read_tree schemas type_index) record_depth old tree new
+pub tree_ahead : (schemas : List Schema) (type_index : ℕ) (old new : List Token) (tree : PlainTree) → after_end_array old ≡ None → Takes (read_tree schemas type_index) record_depth old tree new
     → (records : List Data) (rest : List Token) → AreAhead old records rest → IsTreeAhead schemas type_index records rest tree new
 tree_ahead schemas type_index old new tree going (json, is, gives) records rest ahead =
     let step = stepped old new json records rest going is ahead in

@@ -11,6 +11,8 @@ use Rattle.record_trees.specs.Rows.{IsRowOf}
 use Rattle.record_tokens.specs.Taken.{Takes}
 use Rattle.record_tokens.specs.declared.next.NextTree.{NextTree}
 use Rattle.record_tokens.specs.declared.next.NextTree.TheVariants as next
+use Rattle.record_tokens.specs.declared.next.NextWhole.{NextWhole}
+use Rattle.record_tokens.specs.declared.next.NextWhole.TheVariants as whole
 use Rattle.record_tokens.specs.declared.next.Record.{Record}
 use Rattle.record_tokens.specs.declared.next.Record.TheVariants.{Row, Tree}
 
@@ -37,6 +39,13 @@ abbrev pub TellsTree : List Schema → ℕ → List Data → List Token → Next
 TellsTree schemas type_index records rest (next.Record record_found) now = (tree : PlainTree) × IsTreeAhead schemas type_index records rest tree now × IsRecordOf tree record_found
 TellsTree schemas type_index records rest next.End now = (records ≡ []) × (now ≡ rest)
 TellsTree schemas type_index records rest next.Other now = Unit {0}
+
+-- Where these records are ahead: the first one gives this tree, and the others are ahead; or none is left, and the reader is behind the bracket; or it is
+-- not told.
+abbrev pub TellsWhole : List Schema → ℕ → List Data → List Token → NextWhole → List Token → Type 0
+TellsWhole schemas type_index records rest (whole.Tree tree) now = IsTreeAhead schemas type_index records rest (plain tree) now
+TellsWhole schemas type_index records rest whole.End now = (records ≡ []) × (now ≡ rest)
+TellsWhole schemas type_index records rest whole.Other now = Unit {0}
 
 -- The tokens begin with a record that gives a tree of which this is the record.
 abbrev pub TakesRecord : List Schema → ℕ → List Token → Record → List Token → Type 0

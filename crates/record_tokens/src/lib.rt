@@ -8,4 +8,4 @@ mod row;
 mod tree;
 mod unread;
 
-pub use next::{NextTree, Record, next_tree};
+pub use next::{NextTree, NextWhole, Record, next_tree, next_whole};

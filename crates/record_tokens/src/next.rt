@@ -3,8 +3,11 @@ ghost use Rattle.std.specs.Prelude.{◌<◌, ◌∷◌, List, IfOk, length};
 ghost use Rattle.json.specs.Reads.{token_of};
 ghost use Rattle.json.specs.Token.{Token as SpecToken};
 ghost use Rattle.serde_json.specs.Data.{Data};
-ghost use Rattle.record_stream.specs.Records.{AreAhead};
-ghost use Rattle.record_tokens.specs.Next.{TakesRecord, TellsTree};
+ghost use Rattle.record_json.specs.ReadTree.{read_tree};
+ghost use Rattle.record_stream.specs.Records.{AreAhead, record_depth};
+ghost use Rattle.record_trees.specs.Tree.{plain};
+ghost use Rattle.record_tokens.specs.Next.{TakesRecord, TellsTree, TellsWhole};
+ghost use Rattle.record_tokens.specs.Taken.{Takes};
 
 use crate::row::values_ahead;
 use crate::tree::tree_behind;
@@ -61,6 +64,41 @@ pub fn next_tree(
     }
 }
 
+/// What stands next in the array of the records of a type, as a tree.
+#[derive(Drop)]
+pub enum NextWhole {
+    /// A record with all that it refers to.
+    Tree(Tree),
+    /// The bracket that closes the array, which is passed.
+    End,
+    /// It is not told: the next record gives no tree, or has a STRING that is an array of units. The reader is not to be used any more.
+    Other,
+}
+
+/// The next record of the array in which the reader stands as a tree, whether it refers to others or not. Where memory is refused, the reader is not to be
+/// used any more.
+pub fn next_whole(
+    alloc: Global,
+    model: &Model,
+    type_index: u32,
+    reader: &mut Reader<'_>,
+) -> Result<NextWhole, AllocError>
+    requires { type_index < length model.now }
+    ensures { IfOk result (λ found. (records : List Data) (rest : List SpecToken) → AreAhead reader.old records rest → TellsWhole model.now type_index records rest found reader.new) }
+{
+    if reader.take_end_array() {
+        return Ok(NextWhole::End);
+    }
+    let Some(token) = reader.next() else {
+        return Ok(NextWhole::Other);
+    };
+    match whole_behind(alloc, model, type_index, token, reader) {
+        Ok(tree) => Ok(NextWhole::Tree(tree)),
+        Err(Unread::Other) => Ok(NextWhole::Other),
+        Err(Unread::Memory) => Err(AllocError),
+    }
+}
+
 // The record whose first token was read.
 fn read_behind(
     alloc: Global,
@@ -79,8 +117,22 @@ fn read_behind(
             Ok(Record::Row(Row::Object(values)))
         }
         (_, token) => {
-            let tree = tree_behind(alloc, model, 32, type_index, token, reader, RECORD_DEPTH)?;
+            let tree = whole_behind(alloc, model, type_index, token, reader)?;
             Ok(Record::Tree(tree))
         }
     }
+}
+
+// The same as a tree.
+fn whole_behind(
+    alloc: Global,
+    model: &Model,
+    type_index: u32,
+    token: Token<'_>,
+    reader: &mut Reader<'_>,
+) -> Result<Tree, Unread>
+    requires { type_index < length model.now }
+    ensures { IfOk result (λ tree. Takes (read_tree model.now type_index) record_depth (token_of token.entry ∷ reader.old) (plain tree) reader.new) }
+{
+    tree_behind(alloc, model, 32, type_index, token, reader, RECORD_DEPTH)
 }

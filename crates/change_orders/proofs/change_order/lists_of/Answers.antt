@@ -4,18 +4,18 @@ use Rattle.serde_json.specs.View.{view}
 use Rattle.record_trees.specs.declared.tree.Tree.{Tree}
 use Rattle.hol_incremental.specs.Changes.{records}
 use Rattle.hol_incremental.specs.Edited.{Keys}
-use Rattle.hol_orders.specs.Parts.{asked_change}
+use Rattle.hol_orders.specs.Parts.{added, asked_change}
 use Rattle.hol_answers.specs.declared.refusal.Refusal.{Refusal}
 use Rattle.hollow_machine.specs.Records.{SpellsKeys, entries}
 use Rattle.change_orders.specs.Reading.{HaveRead}
 use Rattle.change_orders.specs.Given.{TellsGiven, TellsKeyed}
 use Rattle.change_orders.specs.Making.{AreLists}
 use Rattle.change_orders.proofs.Changing.{given_keyed, put_keyed}
-use Rattle.change_orders.proofs.GivenLists.{keys_object, lists_are, no_keys_end, put_types, records_object, unread_end}
+use Rattle.change_orders.proofs.GivenLists.{keys_object, lists_are, no_keys_end, put_types, unread_end}
 use Rattle.change_orders.proofs.change_order.lists_of.Goals as goal
 
 pub why_not_types-requires-clause-put : goal.why_not_types-requires-clause-put
-why_not_types-requires-clause-put c = records_object (view c.args.next.now.put) c.requires.order.2
+why_not_types-requires-clause-put c = c.requires.order.2
 
 pub why_not_types-requires-clause-remove : goal.why_not_types-requires-clause-remove
 why_not_types-requires-clause-remove c = keys_object (view c.args.next.now.remove) c.requires.order.3
@@ -32,7 +32,7 @@ returns-in_err-put c =
     rw (p.1, p.2) (unread_end schemas asked (λ (lists : List (ℕ × Tree) × Keys). AreLists schemas asked lists.0 lists.1) c.in_err-put.field-0.0 keyed (λ (found : List (ℕ × Tree)). HaveRead schemas (entries schemas asked.put) found) c.in_err-put.ensures)
 
 pub why_not_keyed-requires : goal.why_not_keyed-requires
-why_not_keyed-requires c = record { types = put_types c.args.model.now (view c.args.next.now.put) c.in_ok-put.put c.in_ok-put.ensures.read }
+why_not_keyed-requires c = record { types = put_types c.args.model.now (added c.args.next.now.put) c.in_ok-put.put c.in_ok-put.ensures.read }
 
 pub returns-in-Some-2 : goal.returns-in-Some-2
 returns-in-Some-2 c =

@@ -3,7 +3,8 @@ use Rattle.std.specs.Prelude.{IfSome, List}
 use Rattle.serde_json.specs.Data.{no_members, object}
 use Rattle.serde_json.specs.Read.{read}
 use Rattle.serde_json.specs.View.{view}
-use Rattle.record_stream.specs.CycleLine.{Typed, added_by, cycle_data, with_types}
+use Rattle.record_stream.specs.CycleLine.{cycle_data}
+use Rattle.record_stream.specs.RecordLine.{Typed, added_by, with_types}
 use Rattle.record_stream.specs.declared.cycle_line.CycleParts.{CycleParts}
 use Rattle.hol_orders.proofs.PlainCycles.{cycle_orders}
 use Rattle.hol_orders.proofs.cycle_in_line.cycle_in_line.Goals as goal

@@ -16,7 +16,7 @@ loop-ordinal-init g c = record {
   known = λ k d within. absurd (omega (arith, within, ap (λ (l : List Slot). length l) c.new-coming.ensures.items));
   added = none_added (g.R.Rows.schemas c.args.rows.now) (g.R.Rows.table c.args.rows.now) c.args.path.now.type_index c.args.path.now.parts c.args.added.now (entries_of c.args.entries.now.values c.new-coming.result.items)
       (ap (entries_of c.args.entries.now.values) c.new-coming.ensures.items);
-  met = none_are_met (g.R.Rows.schemas c.args.rows.now) (g.R.Rows.table c.args.rows.now) c.args.path.now.type_index c.args.path.now.parts c.args.entries.now.values c.in_ok-met.met.items c.in_ok-met.ensures;
+  met = none_are_met (g.R.Rows.schemas c.args.rows.now) (g.R.Rows.table c.args.rows.now) c.args.path.now.type_index c.args.path.now.parts (entries_of c.args.entries.now.values c.new-coming.result.items) c.in_ok-met.met.items c.in_ok-met.ensures;
   few = omega (arith, ap (λ (l : List Slot). length l) c.new-coming.ensures.items);
   counted = omega arith;
 }

@@ -11,7 +11,7 @@ invariant-loop-ordinal g l = record {
   entries : entries_of l.entries.values l.initial.entries.slots ≡ entries_of l.initial.entries.values l.initial.entries.slots;
   known : AreKnown l.entries.values l.coming.items;
   added : AreAdded (g.R.Rows.schemas l.rows) (g.R.Rows.table l.rows) l.path.type_index l.path.parts (take l.ordinal-index l.added) (entries_of l.entries.values l.coming.items);
-  met : AreMet (g.R.Rows.schemas l.rows) (g.R.Rows.table l.rows) l.path.type_index l.path.parts l.entries.values l.met.items;
+  met : AreMet (g.R.Rows.schemas l.rows) (g.R.Rows.table l.rows) l.path.type_index l.path.parts (entries_of l.entries.values l.coming.items) l.met.items;
   few : length l.coming.items ≤ l.most;
   counted : l.steps ≡ l.initial.steps + l.ordinal-index;
 }

@@ -1,5 +1,4 @@
-use Rattle.std.proofs.Common.{Some}
-use Rattle.hollow_script.proofs.Answering.{stops_at_start, told_both}
+use Rattle.hollow_script.proofs.Answering.{stops_at_start}
 use Rattle.hollow_script.proofs.Halting.{kept_answered, kept_stopped}
 use Rattle.hollow_script.proofs.Keeping.{nothing_edited, nothing_read}
 use Rattle.std.proofs.lemmas.Result.{err_from_is_err_and}

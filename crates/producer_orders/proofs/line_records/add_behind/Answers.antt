@@ -1,6 +1,6 @@
 use Rattle.std.proofs.Common.{◌∙◌, ◌≡◌, List, Some, ap, sym}
 use Rattle.std.specs.Prelude.{slice_get}
-use Rattle.record_stream.specs.CycleLine.{added_by}
+use Rattle.record_stream.specs.RecordLine.{added_by}
 use Rattle.schema_model.specs.declared.schema.Schema.{Schema}
 use Rattle.hollow_machine.specs.Records.{values_under}
 use Rattle.producer_orders.proofs.AheadRecords.{ahead_under}

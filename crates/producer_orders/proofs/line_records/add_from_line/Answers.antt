@@ -1,7 +1,7 @@
 use Rattle.std.proofs.Common.{◌∙◌, ◌≡◌, ◌++◌, Ok, Some, ap, subst, sym, take}
 use Rattle.std.specs.Prelude.{slice_get}
 use Rattle.std.proofs.lemmas.Result.{err_from_is_err_and}
-use Rattle.record_stream.specs.CycleLine.{added_by}
+use Rattle.record_stream.specs.RecordLine.{added_by}
 use Rattle.schema_model.specs.Model.{IsModel}
 use Rattle.write_engine.specs.Production.{Production}
 use Rattle.hollow_machine.specs.Records.{entries_at, values_under}

@@ -1,6 +1,6 @@
 use Rattle.std.proofs.Common.{◌≡◌, ◌∙◌, ◌+◌, ◌-◌, ◌<◌, Some, drop, length, map, string_bytes, true≢false, sym, ap, subst, arith}
 use Rattle.std.proofs.lemmas.Slice.Eq.{bytes_eq-Decides}
-use Rattle.record_stream.specs.CycleLine.{AreOther}
+use Rattle.record_stream.specs.RecordLine.{AreOther}
 use Rattle.record_stream.proofs.Named.{name_at, other_before}
 use Rattle.record_stream.proofs.listing.last_place.Goals as goal
 

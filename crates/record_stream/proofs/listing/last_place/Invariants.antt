@@ -1,5 +1,5 @@
 use Rattle.std.proofs.Common.{◌≤◌, drop, length, map, string_bytes}
-use Rattle.record_stream.specs.CycleLine.{AreOther}
+use Rattle.record_stream.specs.RecordLine.{AreOther}
 use Rattle.record_stream.proofs.listing.last_place.Given as goal
 
 abbrev pub invariant-names : goal.invariant-names

@@ -7,7 +7,7 @@ use Rattle.record_stream.proofs.PartsFound.{none_found}
 use Rattle.record_stream.proofs.parts.parts_ahead.Goals as goal
 
 pub members-init : goal.members-init
-members-init c = none_found c.args.reader.now
+members-init c = none_found c.args.holder c.args.reader.now
 
 pub members-smaller : goal.members-smaller
 members-smaller c =
@@ -23,4 +23,4 @@ pub returns-then-is_object_last : goal.returns-then-is_object_last
 returns-then-is_object_last c =
     let over : read_key c.members.reader ≡ Some (None, c.next_key.new.self) = grind arith in
     let at = read_key_is c.members.reader None c.next_key.new.self over ∙ ap (λ ts. end_object ∷ ts) (c.is_object_last.ensures c.if-is_object_last.true) in
-    subst (λ ts. HaveFound c.args.reader.now ts c.members.found) at c.members.invariant
+    subst (λ ts. HaveFound c.args.holder c.args.reader.now ts c.members.found) at c.members.invariant
