@@ -8,6 +8,7 @@ use Rattle.std.proofs.lemmas.Bool.{cases_eq}
 use Rattle.std.proofs.lemmas.List.{length-map}
 use Rattle.std.proofs.lemmas.List.Elements.{All-cons, All-head, All-nil, All-tail}
 use Rattle.std.proofs.lemmas.List.FromFn.{length-range_with_len}
+use Rattle.std.proofs.lemmas.List.Sorted.{length_permutation}
 use Rattle.std.proofs.lemmas.List.Sums.{sum_by-cons}
 use Rattle.std.proofs.lemmas.Option.{slice_get_within}
 use Rattle.bit_array.specs.Element.{element_of}
@@ -22,8 +23,8 @@ use Rattle.row_model.specs.Table.{EachRow, RowMap, Table, row_at}
 use Rattle.row_model.proofs.RowsFrom.{get_in}
 use Rattle.list_codec.specs.ListPlace as lists
 use Rattle.bucket_codec.specs.BucketPlace as buckets
-use Rattle.bucket_codec.specs.Run.{bucket_in}
-use Rattle.record_views.proofs.FoundKeys.{counted_spelled, room_spelled}
+use Rattle.bucket_codec.specs.Run.{bucket_in, taken_of}
+use Rattle.bucket_codec.proofs.TakenBuckets.{taken_fewer}
 use Rattle.type_rows.specs.declared.section.Section.{Section}
 use Rattle.type_rows.specs.Loads.{IsSpelledIn, SectionIs, Spells}
 use Rattle.type_rows.specs.Patches.{places_in}
@@ -62,8 +63,8 @@ pairs_within section place pairs spells =
     let start = buckets.start_at section.widths section.first place in
     let end = buckets.end_at section.widths section.first place in
     let long = run_long section.second (buckets.key_width section.widths) (buckets.value_width section.widths) start (end - start) in
-    let counted = counted_spelled run pairs spells.run in
-    let room = room_spelled run pairs spells.run in
+    let counted = length_permutation (taken_of run) pairs spells.run.same in
+    let room = taken_fewer run spells.run.room.0 spells.run.room.1 spells.run.room.2 in
     let most = spells.span.counted in
     omega (arith, long, counted, room, most)
 

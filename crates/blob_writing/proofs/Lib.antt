@@ -24,3 +24,4 @@ pub mod SpelledTypes
 pub mod WholeBlobs
 pub mod WritingSnapshots
 pub mod WrittenGaps
+mod WordsLaid

@@ -1,65 +1,23 @@
--- Lemmas on the plan of two states: things by type, what goes and comes, and the plan turned.
-use Rattle.std.proofs.Common.{◌≡◌, ◌≢◌, ℕ, zero, suc, ◌+◌, ◌<◌, List, [], ◌∷◌, ◌++◌, length, Some, refl, sym, ◌∙◌, subst, arith}
-use Rattle.std.specs.Prelude.{slice_get}
+-- Lemmas on the plan of two states: what goes and comes, the plan turned, and what was measured as what is chosen.
+use Rattle.std.proofs.Common.{◌≡◌, ◌≢◌, ℕ, ◌+◌, ◌<◌, List, [], ◌∷◌, ◌++◌, get_or, length, take, Some, sym, ap, ◌∙◌, subst, arith}
+use Rattle.std.specs.Prelude.{map, slice_get}
 use Rattle.std.specs.FinMap.{keys}
-use Rattle.std.specs.List.{AllZip, range_with_len}
-use Rattle.std.proofs.lemmas.List.FromFn.{length-range_with_len}
-use Rattle.std.proofs.lemmas.Slice.Zip.{AllZip-long}
+use Rattle.std.proofs.lemmas.List.{map-append, take_more}
 use Rattle.schema_model.specs.declared.schema.Schema.{Schema}
 use Rattle.schema_model.specs.declared.schema.Shape.{Shape}
 use Rattle.row_model.specs.Table.{Table}
 use Rattle.row_model.specs.BothStates.{rows_in}
 use Rattle.row_packing.specs.declared.chosen.Chosen.{Chosen}
+use Rattle.row_packing.specs.declared.measured.Measured.{Measured}
 use Rattle.row_packing.specs.Chosen.{KeepsCounts, IsChosen, Suits, shape_at}
+use Rattle.row_packing.specs.Measured.{AreMeasured, IsMeasured}
 use Rattle.row_packing.specs.Places.{Agree}
 use Rattle.row_packing.specs.States.{AreWritable}
+use Rattle.row_packing.proofs.ByType.{also, as_many, images, of_type}
 use Rattle.blob_writing.specs.Changes.{AreChanged, IsChanged, gone}
 use Rattle.blob_writing.specs.Plan.{AreByType, AreGone, AreLiveIn, AreMoved, IsLiveBeside, IsPlanOf}
 use Rattle.blob_writing.specs.declared.plan.Plan.{Plan}
 use Rattle.blob_writing.proofs.ChangedTypes.{comes_changed, goes_changed, same_where_none}
-use Rattle.blob_writing.proofs.Progress.{pushed}
-use Rattle.blob_writing.proofs.WritingSnapshots.{types_more}
-
--- ---- things by type
-
-module _ {X : Type 0} (Is : ℕ → X → Type 0) where
-  pub one_more : (count : ℕ) (things more : List X) (x : X) → AreByType count Is things → Is count x → more ≡ things ++ x ∷ [] → AreByType (count + 1) Is more
-  one_more count things more x are is put =
-      let indexes = range_with_len 0 count in
-      subst (λ (xs : List X). AreByType (count + 1) Is xs) (sym put)
-      (subst (λ (ts : List ℕ). AllZip Is ts (things ++ x ∷ [])) (types_more count indexes (indexes ++ count ∷ []) refl refl) (pushed Is indexes things count x are is))
-
-  pub as_many : (count : ℕ) (things : List X) → AreByType count Is things → length things ≡ count
-  as_many count things are = AllZip-long Is (range_with_len 0 count) things are ∙ length-range_with_len 0 count
-
-  there_from : (from count place : ℕ) (things : List X) (x : X) → AllZip Is (range_with_len from count) things → slice_get things place ≡ Some x → Is (from + place) x
-  there_from from zero place (y ∷ things) x are at = absurd are
-  there_from from zero zero [] x are at = absurd cc
-  there_from from zero (suc place) [] x are at = absurd cc
-  there_from from (suc count) place [] x are at = absurd are
-  there_from from (suc count) zero (y ∷ things) x are at =
-      let here : from ≡ from + 0 = omega arith in
-      let same : y ≡ x = cc in
-      subst (λ (i : ℕ). Is i x) here (subst (Is from) same are.0)
-  there_from from (suc count) (suc place) (y ∷ things) x are at =
-      let next : from + 1 + place ≡ from + suc place = omega arith in
-      subst (λ (i : ℕ). Is i x) next (there_from (from + 1) count place things x are.1 at)
-
-  -- the thing of a type is as it is said
-  pub of_type : (count type_index : ℕ) (things : List X) (x : X) → AreByType count Is things → slice_get things type_index ≡ Some x → Is type_index x
-  of_type count type_index things x are at = subst (λ (i : ℕ). Is i x) (let zero_more : 0 + type_index ≡ type_index = omega arith in zero_more) (there_from 0 count type_index things x are at)
-
-module _ {X : Type 0} (Is Also : ℕ → X → Type 0) where
-  also_from : (from count : ℕ) (things : List X) → ((type_index : ℕ) (x : X) → type_index < from + count → Is type_index x → Also type_index x) → AllZip Is (range_with_len from count) things
-      → AllZip Also (range_with_len from count) things
-  also_from from zero [] more are = tt
-  also_from from zero (x ∷ things) more are = absurd are
-  also_from from (suc count) [] more are = absurd are
-  also_from from (suc count) (x ∷ things) more are =
-      (more from x (omega arith) are.0, also_from (from + 1) count things (λ i y below is. more i y (omega (arith, below)) is) are.1)
-
-  pub also : (count : ℕ) (things : List X) → ((type_index : ℕ) (x : X) → type_index < count → Is type_index x → Also type_index x) → AreByType count Is things → AreByType count Also things
-  also count things more are = also_from 0 count things (λ i x below is. more i x (omega (arith, below)) is) are
 
 -- ---- what goes and comes
 
@@ -100,6 +58,20 @@ turned_is either_way schemas old new plan can is = record {
     );
   };
 }
+
+-- what was measured of each type has what is chosen for it, where the limits are kept
+pub choices_kept : (schemas : List Schema) (old new : Table) (measured : List Measured) → AreWritable schemas old new → AreMeasured schemas old new measured
+    → AreByType (length schemas) (λ t. IsChosen (shape_at schemas t) old new t) (map (λ one. one.chosen) measured)
+choices_kept schemas old new measured can are =
+    images (λ t one. IsMeasured (shape_at schemas t) old new t one) (λ t. IsChosen (shape_at schemas t) old new t) (λ one. one.chosen) (length schemas) measured (λ t one known is. is.chosen (can.keeps t known)) are
+
+-- one choice more
+pub choice_pushed : (measured : List Measured) (k : ℕ) (one : Measured) (choice : Chosen) (before after : List Chosen) → k < length measured → one ≡ get_or measured k one → choice ≡ one.chosen
+    → before ≡ map (λ m. m.chosen) (take k measured) → after ≡ before ++ choice ∷ [] → after ≡ map (λ m. m.chosen) (take (k + 1) measured)
+choice_pushed measured k one choice before after inside here copied so_far pushed =
+    let choices : List Measured → List Chosen = map (λ m. m.chosen) in
+    let more = ap choices (take_more measured k one inside) ∙ map-append (λ (m : Measured). m.chosen) (take k measured) (get_or measured k one ∷ []) in
+    pushed ∙ ap (λ (cs : List Chosen). cs ++ choice ∷ []) so_far ∙ ap (λ (c : Chosen). choices (take k measured) ++ c ∷ []) (copied ∙ ap (λ (m : Measured). m.chosen) here) ∙ sym more
 
 -- what was gathered of two states is their plan
 module _ (schemas : List Schema) (old new : Table) (count : ℕ) (known : length schemas ≡ count) (can : AreWritable schemas old new) (old_sets new_sets removed added : List (List ℕ))

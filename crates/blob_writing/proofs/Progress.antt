@@ -6,14 +6,7 @@ use Rattle.std.proofs.lemmas.List.{take_all, take_more}
 use Rattle.std.proofs.lemmas.List.Concat.{flat_map-append}
 use Rattle.std.proofs.lemmas.Slice.Zip.{AllZip-long}
 use Rattle.hol_varint.specs.Varint.{varint_bytes}
-
--- one thing more at the end, as it is said of an index more
-pub pushed : {X : Type 0} (R : ℕ → X → Type 0) (indexes : List ℕ) (things : List X) (index : ℕ) (x : X) → AllZip R indexes things → R index x
-    → AllZip R (indexes ++ index ∷ []) (things ++ x ∷ [])
-pushed R [] [] index x are is = (is, tt)
-pushed R [] (y ∷ things) index x are is = absurd are
-pushed R (i ∷ indexes) [] index x are is = absurd are
-pushed R (i ∷ indexes) (y ∷ things) index x are is = (are.0, pushed R indexes things index x are.1 is)
+use Rattle.row_packing.proofs.ByType.{pushed}
 
 module _ {X : Type 0} (R : ℕ → X → Type 0) (bytes : X → List ℕ) where
   -- the things of the first indexes stand behind what stood there

@@ -1,5 +1,5 @@
 -- A snapshot as it is written: the indexes of its types, what is put of each, and when it is too long.
-use Rattle.std.proofs.Common.{◌≡◌, ℕ, ℤ, zero, suc, ◌+◌, ◌^◌, ◌<◌, Some, List, [], ◌∷◌, ◌++◌, length, Result, Ok, Err, sym, ap, ◌∙◌, subst, arith}
+use Rattle.std.proofs.Common.{◌≡◌, ℕ, ℤ, ◌+◌, ◌^◌, ◌<◌, Some, List, [], ◌∷◌, ◌++◌, length, Result, Ok, Err, sym, ap, ◌∙◌, subst, arith}
 use Rattle.std.specs.Prelude.{All, OnOk, slice_get}
 use Rattle.std.specs.List.{range_with_len}
 use Rattle.std.specs.FinMap.{keys}
@@ -16,6 +16,7 @@ use Rattle.row_packing.specs.declared.chosen.Chosen.{Chosen}
 use Rattle.row_packing.specs.Chosen.{shape_at, IsChosen}
 use Rattle.row_packing.specs.Packs.{PacksPlaces}
 use Rattle.row_packing.specs.Places.{snapshot_places}
+use Rattle.row_packing.proofs.ByType.{first_types}
 use Rattle.blob_frame.specs.Written.{schemas_at, schema_list_bytes, header_bytes}
 use Rattle.blob_writing.specs.Carried.{FitBytes}
 use Rattle.blob_writing.specs.Written.{snapshot_type_bytes}
@@ -24,18 +25,8 @@ use Rattle.blob_writing.proofs.OneSnapshot.{all_schemas}
 
 -- ---- the indexes of the types
 
-range_more : (from count : ℕ) → range_with_len from (suc count) ≡ range_with_len from count ++ (from + count) ∷ []
-range_more from zero = let e : from ≡ from + 0 = omega arith in ap (λ (k : ℕ). k ∷ []) e
-range_more from (suc count) =
-    let e : from + 1 + count ≡ from + suc count = omega arith in
-    ap (λ (rest : List ℕ). from ∷ rest) (range_more (from + 1) count ∙ ap (λ (k : ℕ). range_with_len (from + 1) count ++ k ∷ []) e)
-
 pub types_more : (index : ℕ) (types more : List ℕ) → types ≡ range_with_len 0 index → more ≡ types ++ index ∷ [] → more ≡ range_with_len 0 (index + 1)
-types_more index types more so_far pushed =
-    let next : suc index ≡ index + 1 = omega arith in
-    let here : 0 + index ≡ index = omega arith in
-    pushed ∙ ap (λ (ts : List ℕ). ts ++ index ∷ []) so_far ∙ ap (λ (k : ℕ). range_with_len 0 index ++ k ∷ []) (sym here) ∙ sym (range_more 0 index)
-    ∙ ap (λ (k : ℕ). range_with_len 0 k) next
+types_more index types more so_far pushed = pushed ∙ ap (λ (ts : List ℕ). ts ++ index ∷ []) so_far ∙ first_types index
 
 pub in_types : (count : ℕ) (types : List ℕ) → types ≡ range_with_len 0 count → All (λ index. index < count) types
 in_types count types all =

@@ -1,11 +1,15 @@
 //! The items of a section: the max ordinal, widths, word arrays and runs of bytes.
-ghost use Rattle.std.specs.Prelude.{◌≡◌, ◌<◌, ◌^◌, ◌++◌, All, OnOk, OnErr, flat_map, length, take};
+ghost use Rattle.std.specs.Prelude.{◌≡◌, ◌<◌, ◌≤◌, ◌^◌, ◌++◌, All, OnOk, OnErr, flat_map, length, take};
+ghost use Rattle.std.specs.Int.{w64, to_be_bytes};
 ghost use Rattle.hol_varint.specs.Varint.{varint_bytes};
 ghost use Rattle.blob_writing.specs.Carried.{FitWords};
 ghost use Rattle.blob_writing.specs.Written.{max_bytes, word_array_bytes, area_bytes};
 
 use hol_varint::{Octets, put_vint, put_vlong};
 use std::alloc::AllocError;
+
+/// How many words are laid out as bytes at once.
+const BLOCK: usize = 32;
 
 /// Writes the greatest ordinal that has a place at the end, -1 for none, as a VInt. Where memory is refused nothing is
 /// written.
@@ -41,10 +45,26 @@ pub(crate) fn push_words(out: &mut Vec<u8>, words: &[u64]) -> Result<(), AllocEr
 {
     put_vlong(out, words.len() as u64)?;
     out.reserve(words.len().saturating_mul(8))?;
-    for word in words {
-        out.extend_from_slice(&word.to_be_bytes())?;
+    let mut place = 0;
+    while place < words.len() {
+        let end = words.len().min(place + BLOCK);
+        push_block(out, &words[place..end])?;
+        place = end;
     }
     Ok(())
+}
+
+/// Writes each word of a block in 8 bytes, the highest first. Where memory is refused nothing is written.
+fn push_block(out: &mut Vec<u8>, words: &[u64]) -> Result<(), AllocError>
+    requires { length words.now ≤ 32 }
+    ensures ok { OnOk result (out.new.items ≡ out.old.items ++ flat_map (to_be_bytes w64) words.now) }
+    ensures err { OnErr result (out.new.items ≡ out.old.items) }
+{
+    let mut bytes = [[0; 8]; BLOCK];
+    for index in 0..words.len() {
+        bytes[index] = words[index].to_be_bytes();
+    }
+    out.extend_from_slice(bytes[..words.len()].as_flattened())
 }
 
 /// Writes bytes behind their number.

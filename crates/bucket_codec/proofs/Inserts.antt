@@ -7,7 +7,7 @@ use Rattle.std.proofs.lemmas.List.Sums.{fold_push}
 use Rattle.bucket_codec.specs.Run.{Bucket, bucket_at, bucket_in, run_in, place_from}
 use Rattle.bucket_codec.specs.Filled.{IsFree}
 use Rattle.bucket_codec.specs.Inserted.{first_empty, with_pair, inserted}
-use Rattle.bucket_codec.proofs.Buckets.{length-run_in}
+use Rattle.bucket_codec.proofs.RunBuckets.{length-run_in}
 use Rattle.bucket_codec.proofs.Filling.{set_run}
 
 -- the first that passes a test, where those before it fail

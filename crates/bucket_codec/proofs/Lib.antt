@@ -1,11 +1,13 @@
 pub mod BucketCounts
-mod Places
-mod Members
-mod Buckets
+pub mod Places
+pub mod Members
+mod RunBuckets
 mod Sorted
 mod Streaks
-mod Found
-mod TakenPairs
+mod LookUps
+pub mod TakenBuckets
+mod KeysOnce
+mod FoundKeys
 mod Spelled
 mod Filling
 mod Inserts
@@ -16,4 +18,5 @@ mod Fills
 mod Rows
 pub mod Placed
 pub mod PlaceRows
+pub mod PlaceTests
 mod OnePacking

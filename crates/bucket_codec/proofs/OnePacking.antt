@@ -12,7 +12,7 @@ use Rattle.bucket_codec.specs.BucketCount.{bucket_count}
 use Rattle.bucket_codec.specs.Run.{Bucket, bucket_at, bucket_in, value_in, run_in, IsZeroIfEmpty}
 use Rattle.bucket_codec.specs.BucketPlace.{pointer_width, size_width, key_width, value_width, place_width, bucket_width, start_at, end_at, size_at, IsRowOf}
 use Rattle.bucket_codec.specs.Packed.{set_pair, pairs_of, buckets_of, bucket_total, PacksPlace, PacksRows, LaysRun, IsPacked}
-use Rattle.bucket_codec.proofs.Buckets.{bucket_of_run, if_true, if_false}
+use Rattle.bucket_codec.proofs.RunBuckets.{bucket_of_run, if_true, if_false}
 use Rattle.bucket_codec.proofs.Rows.{run_at_is}
 use Rattle.bit_array.proofs.SameWords.{same_both, same_number, same_words}
 

@@ -1,5 +1,5 @@
 -- Lemmas on the row of a place: there is at most one, and not both a row and a reason.
-use Rattle.std.proofs.Common.{◌≡◌, ℕ, ◌-◌, ◌≤◌, List, [], ◌∷◌, length, All, Some, None, Result, Ok, Err, arith, refl, sym, ap, subst, inl, inr, ◌∙◌}
+use Rattle.std.proofs.Common.{◌≡◌, ℕ, ◌-◌, ◌≤◌, List, length, All, Result, Ok, Err, arith, refl, sym, ap, subst, inl, inr, ◌∙◌}
 use Rattle.std.proofs.lemmas.List.Sorted.{All-permutation, IsPermutation-sym, length_permutation}
 use Rattle.hol_varint.specs.Yields.{Yields}
 use Rattle.schema_model.specs.declared.schema.Shape.{Shape}
@@ -10,7 +10,8 @@ use Rattle.bucket_codec.specs.Taken.{HasBadValue, TellsPairs}
 use Rattle.bucket_codec.specs.Run.{Bucket, taken_of, IsPairInRange, SpellsRun}
 use Rattle.bucket_codec.specs.BucketPlace.{run_at, start_at, end_at, key_width, value_width, IsSpan, SpellsPairs, IsRowOf, SpellsBucketRow, FailsBucketRow, TellsBucketRow, TellsPlace, size_at, IsFreePlace}
 use Rattle.bucket_codec.proofs.Sorted.{run_once}
-use Rattle.bucket_codec.proofs.Buckets.{length-run_in}
+use Rattle.bucket_codec.proofs.RunBuckets.{length-run_in}
+use Rattle.bucket_codec.proofs.TakenBuckets.{taken_within}
 
 -- pairs are those of one row of a shape
 row_of_once : (shape : Shape) (a b : Row) (pairs : List (ℕ × ℕ)) → IsRowOf shape a pairs → IsRowOf shape b pairs → a ≡ b
@@ -93,12 +94,6 @@ place_tells widths total first second place count run (Err (PlaceFault.Bad Reaso
 )
 place_tells widths total first second place count run (Err (PlaceFault.Bad _)) span is sized told = absurd told
 place_tells widths total first second place count run (Err PlaceFault.Memory) span is sized told = tt
-
--- no more buckets are taken than there are
-taken_within : (run : List Bucket) → length (taken_of run) ≤ length run
-taken_within [] = omega arith
-taken_within (None ∷ run) = let rest = taken_within run in omega arith
-taken_within (Some p ∷ run) = let rest = taken_within run in omega arith
 
 -- a set or map has no more elements than the total
 pub pairs_within : (widths : List ℕ) (total : ℕ) (first second : List ℕ) (place : ℕ) (pairs : List (ℕ × ℕ)) → SpellsPairs widths total first second place pairs → length pairs ≤ total

@@ -11,7 +11,7 @@ use Rattle.bucket_codec.specs.Run.{Bucket, bucket_at, bucket_in, value_in, run_i
 use Rattle.bucket_codec.specs.Filled.{KeepsFront, IsFilled}
 use Rattle.bucket_codec.specs.BucketPlace.{pointer_width, size_width, key_width, value_width, place_width, bucket_width, start_at, end_at, size_at, run_at, IsSpan, SpellsPairs}
 use Rattle.bucket_codec.specs.Packed.{pairs_of, PacksPairs, LaysRun}
-use Rattle.bucket_codec.proofs.Buckets.{length-run_in}
+use Rattle.bucket_codec.proofs.RunBuckets.{length-run_in}
 use Rattle.bucket_codec.proofs.Filling.{same_run}
 use Rattle.bucket_codec.proofs.Behind.{zero_stays}
 

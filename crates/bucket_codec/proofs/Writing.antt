@@ -6,7 +6,7 @@ use Rattle.bit_array.specs.Element.{element_of}
 use Rattle.bucket_codec.specs.Hash.{hash_of}
 use Rattle.bucket_codec.specs.Run.{Bucket, bucket_in, value_in, bucket_at, run_in, taken_of, place_from, HoldsRun}
 use Rattle.bucket_codec.specs.Filled.{KeepsFront, IsFilled, IsFree}
-use Rattle.bucket_codec.proofs.Buckets.{length-run_in, bucket_of_run, if_true, if_false}
+use Rattle.bucket_codec.proofs.RunBuckets.{length-run_in, bucket_of_run, if_true, if_false}
 use Rattle.bucket_codec.proofs.Filling.{set_run, filled_more, filled_none, all_taken}
 use Rattle.bucket_codec.proofs.Streaks.{steps_are}
 

@@ -8,3 +8,5 @@ pub mod Inserted
 pub mod Filled
 pub mod Packed
 pub mod Widths
+pub mod Buckets
+pub mod BucketRows

@@ -1,5 +1,5 @@
--- Runs of buckets: what each answer tells of those who read a run's pairs.
-use Rattle.std.specs.Prelude.{◌≡◌, ℕ, List, [], ◌∷◌, ◌++◌, length, All, Result, Ok, Err}
+-- Runs of buckets: what each answer tells of the reader of a run's pairs.
+use Rattle.std.specs.Prelude.{◌≡◌, ℕ, List, length, All, Result, Ok, Err}
 use Rattle.schema_model.specs.declared.reason.Reason.{Reason}
 use Rattle.row_model.specs.declared.packed.PlaceFault.{PlaceFault}
 use Rattle.bucket_codec.specs.Run.{Bucket, taken_of, IsPairInRange, SpellsRun}
@@ -7,18 +7,6 @@ use Rattle.bucket_codec.specs.Run.{Bucket, taken_of, IsPairInRange, SpellsRun}
 -- An element, key or value of a taken bucket is no ordinal.
 abbrev pub HasBadValue : List Bucket → Type 0
 HasBadValue run = All IsPairInRange (taken_of run) → ⊥
-
--- The pair of a bucket, where it is taken, is put behind others.
-abbrev pub TellsBucket : Bucket → List (ℕ × ℕ) → List (ℕ × ℕ) → Result (Unit {0}) PlaceFault → Type 0
-TellsBucket bucket old new (Ok _) = (new ≡ old ++ taken_of (bucket ∷ [])) × All IsPairInRange (taken_of (bucket ∷ []))
-TellsBucket bucket old new (Err (PlaceFault.Bad reason)) = (reason ≡ Reason.BadValue) × HasBadValue (bucket ∷ [])
-TellsBucket bucket old new (Err PlaceFault.Memory) = Unit {0}
-
--- The pairs of the taken buckets.
-abbrev pub TellsTaken : List Bucket → Result (List (ℕ × ℕ)) PlaceFault → Type 0
-TellsTaken run (Ok pairs) = (pairs ≡ taken_of run) × All IsPairInRange pairs
-TellsTaken run (Err (PlaceFault.Bad reason)) = (reason ≡ Reason.BadValue) × HasBadValue run
-TellsTaken run (Err PlaceFault.Memory) = Unit {0}
 
 -- The pairs of the set or map that the run spells, of which there are to be so many.
 abbrev pub TellsPairs : List Bucket → ℕ → Result (List (ℕ × ℕ)) PlaceFault → Type 0

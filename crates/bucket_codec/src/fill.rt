@@ -6,8 +6,9 @@ ghost use Rattle.bucket_codec.specs.Packed.{pairs_of, IsBuckets};
 ghost use Rattle.bucket_codec.specs.Filled.{KeepsFront, KeepsBack, FillsRun, IsFilled, IsFree};
 ghost use Rattle.bucket_codec.specs.Inserted.{with_pair};
 
+use crate::buckets::round;
 use crate::hash::hash_int;
-use crate::run::{Run, round};
+use crate::run::Run;
 use bit_array::{all_ones, set_element};
 use row_model::Row;
 
@@ -89,10 +90,11 @@ impl Run {
         requires room { length (taken_of (run_in words.now self.key_width self.value_width self.start self.size)) < self.size }
         ensures { IsFree (run_in words.now self.key_width self.value_width self.start self.size) key result }
     {
+        let buckets = self.buckets(words);
         let home = u64::from(hash_int(key)) % self.size;
         for steps in 0..self.size {
             let place = round(home, steps, self.size);
-            let Some(_) = self.bucket(words, place) else {
+            let Some(_) = buckets.wide_bucket(place) else {
                 return place;
             };
         }

@@ -1,7 +1,10 @@
-//! The rows of SET and MAP types as packed bits, and back: hash buckets, in which sets and maps are looked up without being unpacked.
+//! The rows of SET and MAP types as packed bits, hash buckets: read, tested, looked up where they stand, and written.
 #![tactic(auto)]
 
+mod bucket_rows;
+mod buckets;
 mod fill;
+mod found;
 mod hash;
 pub mod laws;
 mod lookup;
@@ -11,10 +14,12 @@ mod place;
 mod reached;
 mod row;
 mod run;
-mod taken;
+mod test;
+mod tested;
 
+pub use bucket_rows::BucketRows;
+pub use buckets::Buckets;
 pub use hash::{buckets_for, buckets_for_any, hash_int};
 pub use lookup::{at, has};
 pub use packing::{pack, put_row, size_of};
-pub use place::run_length;
 pub use row::read;

@@ -1,9 +1,10 @@
-//! Look-ups in sets and maps as they stand in words, with nothing unpacked.
-ghost use Rattle.std.specs.Prelude.{◌≡◌, ◌+◌, ◌-◌, ◌*◌, ◌^◌, ◌<◌, ◌≤◌, ◌↔◌, ℕ, List, length, All, IsTrue};
+//! Look-ups in the buckets of a set or map between two bounds in words, with nothing unpacked.
+ghost use Rattle.std.specs.Prelude.{◌≡◌, ◌+◌, ◌-◌, ◌*◌, ◌^◌, ◌<◌, ◌≤◌, ◌↔◌, ℕ, List, IsTrue};
 ghost use Rattle.std.specs.List.{Contains};
 ghost use Rattle.bucket_codec.specs.Run.{run_in, keys_of, IsRunWithin, SpellsRun, FindsIn};
+ghost use Rattle.bucket_codec.specs.Buckets.{run_of};
 
-use crate::run::Run;
+use crate::buckets::Buckets;
 
 /// Whether a set has an element: `start` and `end` bound its run, counted in buckets of `w` bits.
 ///
@@ -12,13 +13,7 @@ pub fn has(words: &[u64], start: u64, end: u64, w: u32, e: u32) -> bool
     requires { IsRunWithin words.now w 0 start end }
     ensures { (pairs : List (ℕ × ℕ)) → SpellsRun (run_in words.now w 0 start (end - start)) pairs → IsTrue result ↔ Contains (keys_of pairs) e }
 {
-    let run = Run {
-        key_width: w,
-        value_width: 0,
-        start,
-        size: end - start,
-    };
-    run.find(words, e).is_some()
+    between(words, start, end, w, 0).has(e)
 }
 
 /// The value that a map has beside a key: `start` and `end` bound its run, counted in buckets of a key of `kw` and a value of `vw` bits.
@@ -28,15 +23,19 @@ pub fn at(words: &[u64], start: u64, end: u64, kw: u32, vw: u32, k: u32) -> Opti
     requires { IsRunWithin words.now kw vw start end }
     ensures { (pairs : List (ℕ × ℕ)) → SpellsRun (run_in words.now kw vw start (end - start)) pairs → FindsIn pairs k result }
 {
-    let run = Run {
-        key_width: kw,
-        value_width: vw,
+    between(words, start, end, kw, vw).at(k)
+}
+
+/// The buckets between two bounds.
+fn between(words: &[u64], start: u64, end: u64, key_width: u32, value_width: u32) -> Buckets<'_>
+    requires { IsRunWithin words.now key_width value_width start end }
+    ensures { run_of result ≡ run_in words.now key_width value_width start (end - start) }
+{
+    Buckets {
+        words,
         start,
-        size: end - start,
-    };
-    let value = run.find(words, k)?;
-    if value > 0xFFFF_FFFF {
-        return None;
+        len: end - start,
+        key_width,
+        value_width,
     }
-    Some(value as u32)
 }

@@ -1,51 +1,50 @@
-//! The set or map that a run of buckets spells.
-ghost use Rattle.std.specs.Prelude.{◌≡◌, ◌<◌, length, MatchBool};
-ghost use Rattle.std.specs.Int.{IsPowerOfTwo};
+//! The set or map that buckets spell.
+ghost use Rattle.std.specs.Prelude.{◌≡◌, ◌<◌, length, All, IfOk, MatchBool};
 ghost use Rattle.std.specs.List.Sorted.{IsPermutation, IsNonDecreasingBy};
 ghost use Rattle.row_model.specs.Row.{Rises};
-ghost use Rattle.bucket_codec.specs.Run.{keys_of, run_in, HoldsRun};
+ghost use Rattle.bucket_codec.specs.Run.{keys_of, taken_of, IsPairInRange};
 ghost use Rattle.bucket_codec.specs.Taken.{TellsPairs};
+ghost use Rattle.bucket_codec.specs.Buckets.{run_of};
 
-use crate::run::Run;
+use crate::buckets::Buckets;
 use row_model::{Pairs, PlaceFault};
 use schema_model::Reason;
-use std::alloc::Global;
+use std::alloc::{AllocError, Global};
 
-impl Run {
-    /// The pairs of the set or map that the run spells, by rising key. There are to be so many.
+impl<'a> Buckets<'a> {
+    /// The pairs of the set or map that the buckets spell, by rising key. There are to be so many.
     ///
-    /// `BadValue` where a key or value is no ordinal. `BadBuckets` where the run's length is no power of two, no bucket is empty, other than
-    /// so many are taken, a key stands twice, or a key is not reached from its home over taken buckets.
-    pub fn pairs(self, alloc: Global, words: &[u64], count: u64) -> Result<Pairs, PlaceFault>
-        requires { HoldsRun words.now self.key_width self.value_width self.start self.size }
-        ensures { TellsPairs (run_in words.now self.key_width self.value_width self.start self.size) count result }
+    /// `BadValue` where a key or value is no ordinal. `BadBuckets` where there are no power of two of buckets, none is empty, other than so many
+    /// are taken, a key stands twice, or a key is not reached from its home over taken buckets.
+    pub(crate) fn pairs(self, alloc: Global, count: u64) -> Result<Pairs, PlaceFault>
+        ensures { TellsPairs (run_of self.entry) count result }
     {
-        let taken = self.taken(alloc, words)?;
-        if taken.len() as u64 != count {
+        if let Some(reason) = self.count_fault(count) {
+            return Err(PlaceFault::Bad(reason));
+        }
+        if !self.is_open() {
             return Err(PlaceFault::Bad(Reason::BadBuckets));
         }
-        if !is_power_of_two(self.size) {
-            return Err(PlaceFault::Bad(Reason::BadBuckets));
-        }
-        if !self.is_open(words) {
-            return Err(PlaceFault::Bad(Reason::BadBuckets));
-        }
-        let pairs = by_key(taken);
+        let pairs = by_key(self.taken_pairs(alloc, count)?);
         if !has_rising_keys(pairs.as_slice()) {
             return Err(PlaceFault::Bad(Reason::BadBuckets));
         }
         Ok(pairs)
     }
-}
 
-/// Whether a number is a power of two.
-fn is_power_of_two(number: u64) -> bool
-    ensures { MatchBool result (IsPowerOfTwo number) (IsPowerOfTwo number → ⊥) }
-{
-    if number > 1 << 63 {
-        return false;
+    /// The pairs of the taken buckets, in the order of the buckets. Room for so many is asked for at once.
+    fn taken_pairs(self, alloc: Global, count: u64) -> Result<Pairs, AllocError>
+        requires { All IsPairInRange (taken_of (run_of self)) }
+        ensures { IfOk result (λ pairs. pairs ≡ taken_of (run_of self.entry)) }
+    {
+        let mut pairs = Pairs::with_capacity(alloc, count as usize)?;
+        for index in 0..self.len {
+            if let Some(pair) = self.bucket(index) {
+                pairs.push(pair)?;
+            }
+        }
+        Ok(pairs)
     }
-    number.next_power_of_two() == number
 }
 
 /// The pairs by key, so that none falls.

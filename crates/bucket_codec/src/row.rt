@@ -1,13 +1,14 @@
 //! Rows of sets and maps, read.
-ghost use Rattle.std.specs.Prelude.{◌≡◌, ◌*◌, ◌^◌, ◌<◌, ◌≤◌, length, IfOk, Ok, Err};
+ghost use Rattle.std.specs.Prelude.{◌≡◌, IfOk, Ok, Err};
 ghost use Rattle.hol_varint.specs.Yields.{Yields};
 ghost use Rattle.row_model.specs.declared.row.Row.{Row as StoredRow};
 ghost use Rattle.schema_model.specs.declared.reason.Reason.{Reason};
 ghost use Rattle.row_model.specs.declared.packed.PlaceFault.TheVariants.{Bad};
 ghost use Rattle.bucket_codec.specs.Run.{keys_of};
-ghost use Rattle.bucket_codec.specs.BucketPlace.{HoldsPlace, HoldsPointers, SpellsBucketRow, FailsBucketRow, TellsBucketRow, TellsPlace, IsFreePlace};
+ghost use Rattle.bucket_codec.specs.BucketRows.{HoldsAt};
+ghost use Rattle.bucket_codec.specs.BucketPlace.{HoldsPlace, SpellsBucketRow, FailsBucketRow, TellsBucketRow, TellsPlace, IsFreePlace};
 
-use crate::place::{bounded_run, size};
+use crate::bucket_rows::BucketRows;
 use hol_varint::Ordinals;
 use row_model::{Pairs, Parts, PlaceFault, Row, Widths};
 use schema_model::{Reason, Schema, Shape};
@@ -33,54 +34,39 @@ pub fn read<P: Parts>(
     ensures spelled { (row : StoredRow) → Yields IsFreePlace result (Ok row) (SpellsBucketRow schema.now.shape widths.now total (P.first_words parts.now) (P.second_words parts.now) place row) }
     ensures bad { (reason : Reason) → Yields IsFreePlace result (Err (Bad reason)) (FailsBucketRow widths.now total (P.first_words parts.now) (P.second_words parts.now) place reason) }
 {
-    read_row(alloc, schema, widths, total, parts, place)
-}
-
-/// The same row, by what each answer tells.
-fn read_row<P: Parts>(
-    alloc: Global,
-    schema: &Schema,
-    widths: &Widths,
-    total: u64,
-    parts: &P,
-    place: u64,
-) -> Result<Row, PlaceFault>
-    requires { HoldsPlace schema.now.shape widths.now (P.first_words parts.now) (P.second_words parts.now) place }
-    ensures { TellsBucketRow schema.now.shape widths.now total (P.first_words parts.now) (P.second_words parts.now) place result }
-{
-    let pairs = read_pairs(
-        alloc,
-        widths.as_slice(),
+    let rows = BucketRows {
+        widths: widths.as_slice(),
         total,
-        parts.first(),
-        parts.second(),
-        place,
-    )?;
-    match &schema.shape {
-        Shape::Set(_) => Ok(Row::Set(keys(alloc, pairs.as_slice())?)),
-        Shape::Map(_, _) => Ok(Row::Map(pairs)),
-        _ => unreachable!(),
-    }
+        first: parts.first(),
+        second: parts.second(),
+    };
+    rows.row(alloc, &schema.shape, place)
 }
 
-/// The pairs of the set or map at a place, by rising key.
-fn read_pairs(
-    alloc: Global,
-    widths: &[u32],
-    total: u64,
-    first: &[u64],
-    second: &[u64],
-    place: u64,
-) -> Result<Pairs, PlaceFault>
-    requires three { 3 ≤ length widths.now }
-    requires holds { HoldsPointers widths.now first.now place }
-    requires few { 64 * length second.now < 2 ^ 64 }
-    ensures { TellsPlace widths.now total first.now second.now place result }
-{
-    let Some(run) = bounded_run(widths, total, first, second, place) else {
-        return Err(PlaceFault::Bad(Reason::BadPointers));
-    };
-    run.pairs(alloc, second, size(widths, first, place))
+impl<'a> BucketRows<'a> {
+    /// The set or map at a place of a type of this shape, or why there is none.
+    fn row(&self, alloc: Global, shape: &Shape, place: u64) -> Result<Row, PlaceFault>
+        requires { HoldsPlace shape.now self.now.widths.now self.now.first.now self.now.second.now place }
+        ensures { TellsBucketRow shape.now self.now.widths.now self.now.total self.now.first.now self.now.second.now place result }
+    {
+        let pairs = self.pairs(alloc, place)?;
+        match shape {
+            Shape::Set(_) => Ok(Row::Set(keys(alloc, pairs.as_slice())?)),
+            Shape::Map(_, _) => Ok(Row::Map(pairs)),
+            _ => unreachable!(),
+        }
+    }
+
+    /// The pairs of the set or map at a place, by rising key, or why there is none.
+    pub(crate) fn pairs(&self, alloc: Global, place: u64) -> Result<Pairs, PlaceFault>
+        requires { HoldsAt self.now place }
+        ensures { TellsPlace self.now.widths.now self.now.total self.now.first.now self.now.second.now place result }
+    {
+        let Some(buckets) = self.buckets(place) else {
+            return Err(PlaceFault::Bad(Reason::BadPointers));
+        };
+        buckets.pairs(alloc, self.size(place))
+    }
 }
 
 /// The keys of pairs.

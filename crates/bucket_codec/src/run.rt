@@ -1,9 +1,9 @@
-//! A run of buckets in words.
-ghost use Rattle.std.specs.Prelude.{◌≡◌, ◌+◌, ◌%◌, ◌<◌, ℕ, List};
-ghost use Rattle.bucket_codec.specs.Run.{bucket_at, run_in, HoldsRun, SpellsRun, FindsIn};
+//! A run of buckets in words that are written.
+ghost use Rattle.std.specs.Prelude.{◌≡◌};
+ghost use Rattle.bucket_codec.specs.Run.{run_in, HoldsRun};
+ghost use Rattle.bucket_codec.specs.Buckets.{run_of};
 
-use crate::hash::hash_int;
-use bit_array::{all_ones, element};
+use crate::buckets::Buckets;
 
 /// Where a run stands in words: from an index on, counted in buckets.
 #[derive(Clone, Copy)]
@@ -19,57 +19,18 @@ pub struct Run {
 }
 
 impl Run {
-    /// The key and the value of the bucket at a place of the run; none where the bucket is empty.
-    pub fn bucket(self, words: &[u64], place: u64) -> Option<(u64, u64)>
-        requires held { HoldsRun words.now self.key_width self.value_width self.start self.size }
-        requires inside { place < self.size }
-        ensures { result ≡ bucket_at (run_in words.now self.key_width self.value_width self.start self.size) place }
-    {
-        let at = (self.start + place) * u64::from(self.key_width + self.value_width);
-        let key = element(words, at, self.key_width);
-        if key == all_ones(self.key_width) {
-            return None;
-        }
-        Some((
-            key,
-            element(words, at + u64::from(self.key_width), self.value_width),
-        ))
-    }
-
-    /// The value beside a key: what the way from the key's home on, up to the first empty bucket and at most once round, comes to.
-    pub fn find(self, words: &[u64], key: u32) -> Option<u64>
+    /// The buckets of the run as they stand in the words.
+    pub fn buckets(self, words: &[u64]) -> Buckets<'_>
         requires { HoldsRun words.now self.key_width self.value_width self.start self.size }
-        ensures { (pairs : List (ℕ × ℕ)) → SpellsRun (run_in words.now self.key_width self.value_width self.start self.size) pairs → FindsIn pairs key result }
+        ensures is { run_of result ≡ run_in words.now self.key_width self.value_width self.start self.size }
+        ensures many { result.len ≡ self.size }
     {
-        if self.size == 0 {
-            return None;
+        Buckets {
+            words,
+            start: self.start,
+            len: self.size,
+            key_width: self.key_width,
+            value_width: self.value_width,
         }
-        let home = u64::from(hash_int(key)) % self.size;
-        for steps in 0..self.size {
-            let place = round(home, steps, self.size);
-            let Some((found, value)) = self.bucket(words, place) else {
-                return None;
-            };
-            if found == u64::from(key) {
-                return Some(value);
-            }
-        }
-        None
-    }
-}
-
-/// The place that is so many steps behind another, round a run of so many buckets.
-#[tactic(auto, using(crate::proofs::Places::round_is))]
-pub fn round(place: u64, steps: u64, size: u64) -> u64
-    requires place { place < size }
-    requires steps { steps < size }
-    ensures is { result ≡ (place + steps) % size }
-    ensures inside { result < size }
-{
-    let left = size - place;
-    if steps < left {
-        place + steps
-    } else {
-        steps - left
     }
 }

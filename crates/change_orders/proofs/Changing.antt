@@ -1,6 +1,6 @@
 -- A change from its parts: what the cycle of the edited list answers, a change answers.
 use Rattle.std.proofs.Common.{◌≡◌, ◌∙◌, ◌≤◌, ℕ, List, true, false, Option, Some, None, Result, Ok, Err, inl, refl, sym, ap, subst, length}
-use Rattle.std.specs.Prelude.{IfSome, IsSome, IsSomeAnd, IsTrue, ◌↔◌, ⊤}
+use Rattle.std.specs.Prelude.{IfSome, IsSome, OnOk, IsSomeAnd, IsTrue, ◌↔◌, ⊤}
 use Rattle.std.specs.Option.{option_map}
 use Rattle.hol_io.specs.Store.{Store}
 use Rattle.schema_model.specs.Model.{IsModel}
@@ -10,11 +10,12 @@ use Rattle.row_model.specs.PlainTree.{PlainTree}
 use Rattle.row_model.specs.Table.{Table}
 use Rattle.record_trees.specs.declared.tree.Tree.{Tree}
 use Rattle.write_engine.specs.Agreement.{HoldsOnce}
-use Rattle.write_engine.specs.CycleLimit.{TellsCycle}
+use Rattle.row_packing.specs.Measured.{AreMeasured}
+use Rattle.write_engine.specs.CycleLimit.{IsToPublish, TellsCycle}
 use Rattle.write_engine.specs.Production.{AreChanged, Production, without_rows}
 use Rattle.write_engine.specs.declared.producer.Closed.{Closed}
 use Rattle.hol_incremental.specs.Changes.{CountsMissing, HaveKeys, HaveOwnKeys, records}
-use Rattle.hol_incremental.specs.EditKeys.{AreCounts, AreEditsOf, AreReady, Editing, IsReadied}
+use Rattle.hol_incremental.specs.EditKeys.{AreEditsOf, AreReady, Coming, Editing, IsComing, IsReadied}
 use Rattle.hol_incremental.specs.Edited.{IsNextEdited, Keys}
 use Rattle.hol_incremental.proofs.DecidedRoots.{an_edited_list}
 use Rattle.hol_incremental.proofs.IndexRows.{all_reserved}
@@ -169,10 +170,13 @@ edit_full old asked put remove model once none lists =
 -- a closed cycle of the edited list
 pub edited_closed : (old taken new : Production) (asked : AskedChange) (missing : ℕ) (closed : Closed) → taken ≡ record old { current = taken.current } → new ≡ record taken { closed = true; over = new.over }
     → IsEdit (published_of old) asked taken.current missing → AreChanged taken.previous taken.current closed.changed → (IsTrue closed.first ↔ (taken.version ≡ 0))
-    → TellsCycle taken.schemas taken.previous taken.current taken.version closed.changed new.over → length new.previous ≡ length new.schemas → length new.current ≡ length new.schemas
+    → TellsCycle taken.schemas taken.previous taken.current taken.version closed.changed new.over
+    → (IsToPublish taken.version closed.changed → AreMeasured taken.schemas taken.previous taken.current closed.measured) → length taken.previous ≡ length taken.schemas → length taken.current ≡ length taken.schemas
     → IsEditedState (published_of old) asked new (missing, closed)
-edited_closed old taken new asked missing closed kept ok is are first over previous_types current_types =
-    (is.0, is_made old taken new (edited asked.put asked.remove) closed kept ok is.1 are first over previous_types current_types)
+edited_closed old taken new asked missing closed kept ok is are first over measured previous_types current_types =
+    let before : length new.previous ≡ length new.schemas = subst (λ (p : Production). length p.previous ≡ length p.schemas) (sym ok) previous_types in
+    let after : length new.current ≡ length new.schemas = subst (λ (p : Production). length p.current ≡ length p.schemas) (sym ok) current_types in
+    (is.0, is_made old taken new (edited asked.put asked.remove) closed kept ok is.1 are first over measured before after)
 
 -- an end means the same whatever was to be made
 pub same_end : {T U : Type 0} (Made : T → Type 0) (Other : U → Type 0) (Refuses : Refusal → Type 0) (Stops : OrderStop → Type 0) (end : CycleEnd) → TellsEnd {T = T} Made Refuses Stops (Err end) → TellsEnd {T = U} Other Refuses Stops (Err end)
@@ -217,15 +221,20 @@ pub kept_ok : (old mid new : Production) (edits : Editing) (answer : Reply) (mis
 kept_ok old mid new edits answer missing told is ready same keeps =
     subst (λ (r : Reply). AreKeptOver old new edits (Ok r)) (sym is) (kept_over old mid new edits answer missing ready (ap (λ (p : Published). p.rows) same) keeps)
 
+-- what holds in any case holds behind an answer
+pub answered_too : (result : Result Reply CycleEnd) (P : Type 0) → P → OnOk result P
+answered_too (Ok told) P holds = holds
+answered_too (Err end) P holds = tt
+
 -- something is ready where a state was published
 pub readied : (old new : Production) (edits : Editing) (result : Result Reply CycleEnd) → AreKeptOver old new edits result → publishes result ≡ true → IsReadied edits
 readied old new edits result over is =
     let ready : AreReady old.schemas old.previous new.previous edits = subst (IsReadyOver old new edits) is over.1 in
     record { counts = some_counts edits.next ready.counts; keys = all_reserved old.schemas new.previous edits.keys ready.keys }
   where
-    some_counts : (counts : Option (List (List ℕ))) → IsSomeAnd counts (AreCounts old.schemas new.previous) → IsSome counts
+    some_counts : (next : Option Coming) → IsSomeAnd next (IsComing old.schemas old.previous new.previous) → IsSome next
     some_counts None is' = absurd is'
-    some_counts (Some counts) is' = refl
+    some_counts (Some coming) is' = refl
 
 pub ok_told : (asked : AskedChange) (held held' : Option Store) (last now : Published) (answer : Reply) (missing : ℕ) (told : Reply) → told ≡ change_reply answer missing → Misses last asked.remove missing
     → Steps (cycle_of_change asked) held last held' now (Ok answer) → ChangeSteps asked held last held' now (Ok told)

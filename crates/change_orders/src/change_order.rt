@@ -1,5 +1,5 @@
 //! The order `change`.
-ghost use Rattle.std.specs.Prelude.{◌≡◌, ◌≤◌, ◌<◌, IfOk, IfSome, Ok, OnErr, OnOk, Some, true};
+ghost use Rattle.std.specs.Prelude.{◌≡◌, ◌≤◌, ◌<◌, IfOk, IfSome, IsSome, Ok, OnErr, OnOk, Some, true};
 ghost use Rattle.std.specs.Option.{option_map};
 ghost use Rattle.std.specs.Result.{IsErrOf};
 ghost use Rattle.hol_io.specs.Causes.{Rose};
@@ -21,7 +21,7 @@ ghost use Rattle.state_blobs.specs.Published.{published_of};
 ghost use Rattle.producer_orders.specs.Ends.{HasEndCause, IsMemory, TellsEnd};
 ghost use Rattle.producer_orders.specs.Making.{AreRefused, Follows};
 ghost use Rattle.producer_orders.specs.declared.cycle_end.CycleEnd.TheVariants.{Refused};
-ghost use Rattle.change_orders.specs.Keeping.{AreKeptFor};
+ghost use Rattle.change_orders.specs.Keeping.{AreKeptFor, IsMade};
 ghost use Rattle.change_orders.specs.Making.{AreKeptOver, AreLists, ChangeSteps, IsEdit, IsEditedState, TellsLists, change_reply, publishes};
 
 use crate::given_types::why_not_types;
@@ -42,7 +42,7 @@ use write_engine::{Closed, Producer};
 /// Publishes the next state of the producer as a change of its last one: records are put, each in the place of the one that has its primary key, and others
 /// are removed by theirs. It is the state that a cycle of the edited list makes, under the same ordinals, and is published as by a cycle, with its snapshot.
 ///
-/// What is kept for changes is that of the producer's last state, and is made where nothing is kept. A refusal leaves the store, the producer and what is kept
+/// What is kept for changes is that of the producer's last state, and is made where nothing is kept; it is kept where a change was made. A refusal leaves the store, the producer and what is kept
 /// as they were; a stop leaves the store with the first of the puts. `Store` comes only where the store's count of faults rose.
 pub fn change<S: BlobStore>(
     alloc: Global,
@@ -60,6 +60,7 @@ pub fn change<S: BlobStore>(
     ensures undone { OnErr result (option_map published_of producer.new ≡ option_map published_of producer.old) }
     ensures resting { IfSome producer.new IsResting }
     ensures edits { AreKeptFor producer.new edits.new }
+    ensures held { IfOk result (λ reply. IsMade reply → IsSome edits.new) }
     ensures store_fault { IsErrOf result OrderStop.Store → Rose (S.seen store.old).faults (S.seen store.new).faults }
     ensures later { (S.seen store.old).faults ≤ (S.seen store.new).faults }
 {
@@ -90,6 +91,7 @@ fn change_of<S: BlobStore, L: Ledger>(
     ensures undone { OnErr result (published_of producer.new ≡ published_of producer.old) }
     ensures resting { IsResting producer.new }
     ensures edits { IfSome edits.new (AreEditsOf producer.new.schemas producer.new.previous) }
+    ensures held { IfOk result (λ reply. IsMade reply → IsSome edits.new) }
     ensures store_fault { IsErrOf result OrderStop.Store → Rose (S.seen store.old).faults (S.seen store.new).faults }
     ensures later { (S.seen store.old).faults ≤ (S.seen store.new).faults }
 {
@@ -119,6 +121,7 @@ fn run_change<S: BlobStore, L: Ledger>(
     ensures model { producer.new.schemas ≡ producer.old.schemas }
     ensures kept { OnErr result (published_of producer.new ≡ published_of producer.old) }
     ensures edits { IfSome kept.new (AreEditsOf producer.new.schemas producer.new.previous) }
+    ensures held { OnOk result (IsSome kept.new) }
     ensures cause { HasEndCause (S.seen store.old).faults (S.seen store.new).faults result }
 {
     check_follow(alloc, store, producer.version(), next.version, next.tag)?;
@@ -252,10 +255,8 @@ fn make_edited<L: Ledger>(
     ensures kept { published_of producer.new ≡ published_of producer.old }
 {
     let missing = edit(producer, edits, put, remove, steps)?;
-    let closed = producer.close()?;
-    // Each view tells that it has rows of so many types as the model.
-    let _previous = producer.previous();
-    let _current = producer.current();
+    let measured = edits.measured(&producer.previous(), &producer.current())?;
+    let closed = producer.close_by(measured)?;
     Ok((missing, closed))
 }
 

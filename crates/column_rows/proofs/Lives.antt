@@ -6,12 +6,12 @@ use Rattle.std.proofs.lemmas.List.FromFn.{length-map-range_with_len}
 use Rattle.row_model.specs.declared.row.Row.{Row}
 use Rattle.row_model.specs.Table.{Table, row_at, IsLive}
 use Rattle.bucket_codec.specs.Run.{Bucket, bucket_at, bucket_in, taken_of, SpellsRun, IsPairInRange}
-use Rattle.record_views.specs.declared.elements.Elements.{Elements}
-use Rattle.record_views.specs.declared.buckets.Buckets.{Buckets}
-use Rattle.record_views.specs.Buckets.{run_of}
-use Rattle.record_views.specs.Elements.{elements_of}
-use Rattle.record_views.proofs.ListElements.{elements_long}
-use Rattle.record_views.proofs.TakenBuckets.{taken_from}
+use Rattle.list_codec.specs.declared.elements.Elements.{Elements}
+use Rattle.bucket_codec.specs.declared.buckets.Buckets.{Buckets}
+use Rattle.bucket_codec.specs.Buckets.{run_of}
+use Rattle.list_codec.specs.Elements.{elements_of}
+use Rattle.list_codec.proofs.ListElements.{elements_long}
+use Rattle.bucket_codec.proofs.Members.{taken_from}
 use Rattle.column_rows.specs.declared.items.PackedItems.{PackedItems}
 use Rattle.column_rows.specs.Closed.{IsBucketLive, IsPairLive, ListNamesLive, NamesLiveThere, RunNamesLive}
 use Rattle.column_rows.specs.Items.{AreListsOf, AreRunsOf, HoldsListAt, HoldsRunAt, SpellsListAt, SpellsPairsAt}

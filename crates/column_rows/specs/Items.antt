@@ -1,10 +1,11 @@
 -- The lists, sets and maps of a type, where they stand packed.
-use Rattle.std.specs.Prelude.{◌≡◌, ℕ, ◌*◌, ◌^◌, ◌<◌, ◌≤◌, List, Some, length}
+use Rattle.std.specs.Prelude.{◌≡◌, ℕ, List, Some}
 use Rattle.row_model.specs.declared.row.Row.{Row}
 use Rattle.row_model.specs.Table.{Table, row_at}
 use Rattle.list_codec.specs.ListPlace.{HoldsListPlace, SpellsList}
 use Rattle.bucket_codec.specs.Run.{keys_of}
-use Rattle.bucket_codec.specs.BucketPlace.{HoldsPointers, SpellsPairs}
+use Rattle.bucket_codec.specs.BucketPlace.{SpellsPairs}
+use Rattle.bucket_codec.specs.BucketRows.{HoldsBuckets}
 use Rattle.column_rows.specs.declared.items.PackedItems.{PackedItems}
 
 -- There are the widths and the words for the list at a place.
@@ -12,10 +13,8 @@ abbrev pub HoldsListAt : PackedItems → ℕ → Type 0
 HoldsListAt items place = HoldsListPlace items.widths.now items.first.now place
 
 -- The same for the set or map at a place.
-pub record HoldsRunAt (items : PackedItems) (place : ℕ) : Type 0 where
-  pub three : 3 ≤ length items.widths.now
-  pub holds : HoldsPointers items.widths.now items.first.now place
-  pub few : 64 * length items.second.now < 2 ^ 64
+abbrev pub HoldsRunAt : PackedItems → ℕ → Type 0
+HoldsRunAt items place = HoldsBuckets items.widths.now items.first.now items.second.now place
 
 -- The list at a place is this one.
 abbrev pub SpellsListAt : PackedItems → ℕ → List ℕ → Type 0

@@ -1,16 +1,32 @@
 //! Whether the records of a type name live rows alone, field by field.
 ghost use Rattle.std.specs.Prelude.{ℕ, ◌≡◌, IsTrue, slice_get, Some};
 ghost use Rattle.schema_model.specs.declared.schema.Field.{Field as FieldOf};
+ghost use Rattle.record_views.specs.Columns.{IsReadAt, part_of};
 ghost use Rattle.column_rows.specs.Columns.{IsColumnOf};
 ghost use Rattle.column_rows.specs.Closed.{FieldNamesLive, NamesLiveThere};
 ghost use Rattle.column_rows.specs.Looked.{IsLooked};
 
 use crate::ColumnRows;
 use crate::looked::Looked;
-use record_views::{Column, ValueRef};
+use crate::runs::is_number_live;
+use bit_array::{all_ones, element};
+use record_views::Column;
 use schema_model::{Field, FieldKind};
 
-/// Whether a field of the record under an ordinal, if there is one, names a live row of another type, if it names one.
+/// The element of a field at a place where it can be read.
+#[inline(always)]
+fn element_in(column: &Column, place: u64) -> u64
+    requires { IsReadAt column.now place }
+    ensures { result ≡ (part_of column.now place).element }
+{
+    element(
+        column.first,
+        place * column.size + column.before,
+        column.width,
+    )
+}
+
+/// Whether a REFERENCE of the record under an ordinal, if there is one, names a live row of another type, if it names one.
 #[inline(always)]
 fn is_field_live<R: ColumnRows>(
     rows: &R,
@@ -26,10 +42,11 @@ fn is_field_live<R: ColumnRows>(
     if !rows.is_live(type_index, ordinal) {
         return true;
     }
-    match column.value(u64::from(ordinal)) {
-        ValueRef::Ref(named) => rows.is_live(target, named),
-        _ => true,
+    let number = element_in(column, u64::from(ordinal));
+    if number == all_ones(column.width) {
+        return true;
     }
+    is_number_live(rows, target, number)
 }
 
 /// Whether a field of the records that are looked at in a type names live rows of another type alone.

@@ -1,5 +1,6 @@
 //! The lists, sets or maps of a type where they stand packed.
-use record_views::{Buckets, Elements, buckets_at, elements_at};
+use bucket_codec::{BucketRows, Buckets};
+use list_codec::{Elements, ListRows};
 
 /// The lists, sets or maps of a type where they stand packed: the pointers of each place, and the elements or buckets that they bound.
 #[derive(Clone, Copy)]
@@ -17,8 +18,8 @@ pub struct PackedItems<'a> {
 impl<'a> PackedItems<'a> {
     ghost use Rattle.std.specs.Prelude.{◌≡◌, ℕ, List, IfSome, All};
     ghost use Rattle.bucket_codec.specs.Run.{SpellsRun, taken_of, IsPairInRange};
-    ghost use Rattle.record_views.specs.Buckets.{run_of};
-    ghost use Rattle.record_views.specs.Elements.{elements_of};
+    ghost use Rattle.bucket_codec.specs.Buckets.{run_of};
+    ghost use Rattle.list_codec.specs.Elements.{elements_of};
     ghost use Rattle.column_rows.specs.Items.{HoldsListAt, HoldsRunAt, SpellsListAt, SpellsPairsAt};
 
     /// The elements of the list at a place; none where its pointers bound none that there are.
@@ -27,13 +28,13 @@ impl<'a> PackedItems<'a> {
         requires { HoldsListAt self.now place }
         ensures { IfSome result (λ elements. (ordinals : List ℕ) → SpellsListAt self.now place ordinals → ordinals ≡ elements_of elements) }
     {
-        elements_at(
-            self.widths,
-            self.total,
-            self.first,
-            self.second,
-            u64::from(place),
-        )
+        let rows = ListRows {
+            widths: self.widths,
+            total: self.total,
+            first: self.first,
+            second: self.second,
+        };
+        rows.elements(u64::from(place))
     }
 
     /// The buckets of the set or map at a place; none where its pointers bound none that there are.
@@ -42,12 +43,12 @@ impl<'a> PackedItems<'a> {
         requires { HoldsRunAt self.now place }
         ensures { IfSome result (λ buckets. (pairs : List (ℕ × ℕ)) → SpellsPairsAt self.now place pairs → SpellsRun (run_of buckets) pairs) }
     {
-        buckets_at(
-            self.widths,
-            self.total,
-            self.first,
-            self.second,
-            u64::from(place),
-        )
+        let rows = BucketRows {
+            widths: self.widths,
+            total: self.total,
+            first: self.first,
+            second: self.second,
+        };
+        rows.buckets(u64::from(place))
     }
 }

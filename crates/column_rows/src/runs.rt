@@ -2,20 +2,21 @@
 ghost use Rattle.std.specs.Prelude.{ℕ, ◌≡◌, ◌<◌, IsTrue, All};
 ghost use Rattle.row_model.specs.Table.{IsLive};
 ghost use Rattle.bucket_codec.specs.Run.{taken_of, IsPairInRange};
-ghost use Rattle.record_views.specs.Buckets.{run_of};
-ghost use Rattle.record_views.specs.Elements.{elements_of};
+ghost use Rattle.bucket_codec.specs.Buckets.{run_of};
+ghost use Rattle.list_codec.specs.Elements.{elements_of};
 ghost use Rattle.column_rows.specs.Closed.{IsBucketLive, IsPairLive, ListNamesLive, RunNamesLive};
 ghost use Rattle.column_rows.specs.Items.{AreListsOf, AreRunsOf};
 ghost use Rattle.column_rows.specs.Looked.{IsLooked};
 
 use crate::looked::Looked;
 use crate::{ColumnRows, PackedItems};
-use record_views::{Buckets, Elements};
+use bucket_codec::Buckets;
+use list_codec::Elements;
 use row_model::Rows;
 
 /// Whether a number is a live ordinal of a type.
 #[inline(always)]
-fn is_number_live<R: Rows>(rows: &R, target: u32, number: u64) -> bool
+pub(crate) fn is_number_live<R: Rows>(rows: &R, target: u32, number: u64) -> bool
     ensures { IsTrue result → IsLive (R.table rows.now) target number }
 {
     number <= u64::from(u32::MAX) && rows.is_live(target, number as u32)

@@ -1,14 +1,14 @@
 //! Whether the lists, sets or maps of a type are the same in two states.
 ghost use Rattle.std.specs.Prelude.{ℕ, ◌≡◌, All, IsTrue};
 ghost use Rattle.bucket_codec.specs.Run.{taken_of, IsPairInRange};
-ghost use Rattle.record_views.specs.Buckets.{run_of};
-ghost use Rattle.record_views.specs.Elements.{elements_of};
+ghost use Rattle.bucket_codec.specs.Buckets.{run_of};
+ghost use Rattle.list_codec.specs.Elements.{elements_of};
 ghost use Rattle.column_rows.specs.Items.{AreListsOf, AreRunsOf};
 ghost use Rattle.column_rows.specs.Same.{HaveSameElements, HaveSameLive, HaveSamePairs, IsSoOfBoth};
 
 use crate::{ColumnRows, PackedItems};
-use bucket_codec::laws;
-use record_views::{Buckets, Elements};
+use bucket_codec::{Buckets, laws};
+use list_codec::Elements;
 
 /// Whether these are as many elements, and the same one by one.
 fn are_elements_same(elements: &Elements<'_>, others: &Elements<'_>) -> bool

@@ -1,3 +1,4 @@
 pub mod FirstNames
+mod OrdinalsLine
 mod Rising
 mod Sent

@@ -5,6 +5,7 @@ mod faults;
 pub mod laws;
 mod line;
 mod member;
+mod ordinals_line;
 mod plain;
 mod refusal;
 mod refusal_json;

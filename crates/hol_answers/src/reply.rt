@@ -2,6 +2,7 @@
 ghost use Rattle.std.specs.Prelude.{◌≡◌, ◌++◌, IfOk, OnOk, OnErr, string_bytes};
 ghost use Rattle.hol_answers.specs.Reply.{is_refusal, line_of};
 
+use crate::ordinals_line::put_ordinals_line;
 use crate::plain::PlainValue;
 use crate::reply_json::ReplyView;
 use crate::{Refusal, TypesCounts};
@@ -181,6 +182,35 @@ pub fn put_reply(alloc: Global, out: &mut Vec<u8>, reply: Reply) -> Result<(), A
     ensures put { OnOk result (out.new.items ≡ out.old.items ++ line_of reply) }
     ensures err { OnErr result (out.new.items ≡ out.old.items) }
 {
-    let line = reply_line(alloc, reply)?;
+    put_lent(alloc, out, &reply)
+}
+
+// The same of an answer that is lent. One that lists ordinals is put as it stands.
+fn put_lent(alloc: Global, out: &mut Vec<u8>, reply: &Reply) -> Result<(), AllocError>
+    ensures put { OnOk result (out.new.items ≡ out.old.items ++ line_of reply.now) }
+    ensures err { OnErr result (out.new.items ≡ out.old.items) }
+{
+    match reply {
+        Reply::Find(ordinals) => {
+            put_ordinals_line(out, "{\"ok\":\"find\",\"ordinals\":", ordinals.as_slice())
+        }
+        Reply::Live(ordinals) => {
+            put_ordinals_line(out, "{\"ok\":\"live\",\"ordinals\":", ordinals.as_slice())
+        }
+        Reply::WalkFind(ordinals) => put_ordinals_line(
+            out,
+            "{\"ok\":\"walkfind\",\"ordinals\":",
+            ordinals.as_slice(),
+        ),
+        _ => put_sent(alloc, out, reply),
+    }
+}
+
+// The same by serde's events.
+fn put_sent(alloc: Global, out: &mut Vec<u8>, reply: &Reply) -> Result<(), AllocError>
+    ensures put { OnOk result (out.new.items ≡ out.old.items ++ line_of reply.now) }
+    ensures err { OnErr result (out.new.items ≡ out.old.items) }
+{
+    let line = lent_line(alloc, reply)?;
     out.extend_from_slice(line.as_bytes())
 }

@@ -3,6 +3,7 @@ ghost use Rattle.std.specs.Prelude.{◌≡◌, ◌≤◌, length, IfOk};
 ghost use Rattle.hol_io.specs.Causes.{Rose};
 ghost use Rattle.hol_io.specs.declared.store.PutFault.TheVariants.{Failed};
 
+use crate::fronts::Fronts;
 use hol_io::{BlobName, BlobStore, PutFault, StoreFailed, name_text, parse_name};
 use std::alloc::{AllocError, Global};
 use std::fs::{File, TryLockError};
@@ -18,6 +19,8 @@ const NEW: &str = "hollow.new";
 ///
 /// When a put answers, the blob and its name are durable: the system said so of the file before it took its name, and
 /// then of the folder. Where it does not say so of the folder, the put has failed, though the name may have the blob.
+///
+/// The first 20 bytes of each blob that was put or read are remembered, and not read again.
 ///
 /// Who publishes asks what is announced, or puts. From the first such call on this store keeps a lock on the folder, which
 /// ends with it and with the process. While another one keeps it, these calls fail. Who reads blobs or lists the names
@@ -44,6 +47,7 @@ struct Folder {
     alloc: Global,
     path: String,
     last: Option<OpenBlob>,
+    fronts: Fronts,
     /// The folder itself, open and locked.
     held: Option<File>,
     /// The blob that the calls on the system are for; none for the folder.
@@ -164,6 +168,21 @@ impl Folder {
     fn read(&mut self, name: &BlobName, at: u64, buf: &mut [u8]) -> io::Result<usize>
         ensures { IfOk result (λ count. count ≤ length buf.new) }
     {
+        if at != 0 {
+            return self.read_file(name, at, buf);
+        }
+        if let Some(count) = self.fronts.read(name, buf) {
+            return Ok(count);
+        }
+        let count = self.read_file(name, 0, buf)?;
+        self.fronts.remember(name, &buf[..count]);
+        Ok(count)
+    }
+
+    // The same from the file.
+    fn read_file(&mut self, name: &BlobName, at: u64, buf: &mut [u8]) -> io::Result<usize>
+        ensures { IfOk result (λ count. count ≤ length buf.new) }
+    {
         let is_open = self.last.as_ref().is_some_and(|blob| blob.name == *name);
         if !is_open {
             self.open(name)?;
@@ -175,8 +194,16 @@ impl Folder {
         }
     }
 
-    // Writes a new file, then gives it the name's, and sees to it that both are durable.
+    // Writes a new file, then gives it the name's, and sees to it that both are durable. Its first bytes are remembered.
     fn replace(&mut self, name: &BlobName, bytes: &[u8]) -> io::Result<()> {
+        self.fronts.forget(name);
+        self.replace_file(name, bytes)?;
+        self.fronts.remember(name, bytes);
+        Ok(())
+    }
+
+    // The same of the file alone.
+    fn replace_file(&mut self, name: &BlobName, bytes: &[u8]) -> io::Result<()> {
         self.last = None;
         self.claimed()?;
         self.at = Some(*name);
@@ -222,6 +249,7 @@ impl FolderStore {
             alloc,
             path: String::from_str(alloc, path)?,
             last: None,
+            fronts: Fronts::new(alloc),
             held: None,
             at: None,
         };

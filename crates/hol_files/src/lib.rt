@@ -2,6 +2,7 @@
 #![tactic(auto)]
 
 mod folder;
+mod fronts;
 mod streams;
 
 pub use folder::FolderStore;

@@ -12,10 +12,10 @@ next_taken xs i x is = take_more xs i x (slice_get_within xs i x is) ∙ ap (λ 
 -- ---- the parts of a step
 
 -- one more row of those that left in a part
-pub rows_more : (found : Option PastPart) (rows new : List Row) (i : ℕ) (row copy : Row) → IsSomeAnd found (λ part. rows ≡ take i part.rows) → IsSomeAnd found (λ part. slice_get part.rows i ≡ Some row) → copy ≡ row
-    → new ≡ rows ++ copy ∷ [] → IsSomeAnd found (λ part. new ≡ take (i + 1) part.rows)
-rows_more None rows new i row copy so_far is same put = absurd so_far
-rows_more (Some part) rows new i row copy so_far is same put = put ∙ ap (λ xs. xs ++ copy ∷ []) so_far ∙ ap (λ x. take i part.rows ++ x ∷ []) same ∙ sym (next_taken part.rows i row is)
+pub rows_more : (found : Option PastPart) (rows new : List Row) (i : ℕ) (row : Row) → IsSomeAnd found (λ part. rows ≡ take i part.rows) → IsSomeAnd found (λ part. slice_get part.rows i ≡ Some row)
+    → new ≡ rows ++ row ∷ [] → IsSomeAnd found (λ part. new ≡ take (i + 1) part.rows)
+rows_more None rows new i row so_far is put = absurd so_far
+rows_more (Some part) rows new i row so_far is put = put ∙ ap (λ xs. xs ++ row ∷ []) so_far ∙ sym (next_taken part.rows i row is)
 
 -- one more part of a step
 pub parts_more : (past parts new : List PastPart) (i : ℕ) (part : PastPart) → parts ≡ take i past → slice_get past i ≡ Some part → new ≡ parts ++ part ∷ [] → new ≡ take (i + 1) past

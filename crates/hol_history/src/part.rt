@@ -48,10 +48,7 @@ fn rows_of<L: LeftRows>(
 {
     let mut rows = List::with_capacity(alloc, count)?;
     for index in 0..count {
-        let Some(row) = before.left(type_index, index) else {
-            unreachable!();
-        };
-        rows.push(row.copy(alloc)?)?;
+        rows.push(before.left(alloc, type_index, index)?)?;
     }
     Ok(rows)
 }

@@ -1,5 +1,5 @@
 -- What is added up over the rows of a table, with a row more.
-use Rattle.std.proofs.Common.{◌≡◌, ◌∙◌, ◌+◌, ◌≤◌, ℕ, zero, suc, List, [], ◌∷◌, Option, Some, None, length, slice_get, refl, sym, ap, arith}
+use Rattle.std.proofs.Common.{◌≡◌, ◌∙◌, ◌+◌, ◌≤◌, ◌⊎◌, ℕ, zero, suc, List, [], ◌∷◌, Option, Some, None, length, slice_get, refl, sym, ap, inl, inr, arith}
 use Rattle.std.specs.Prelude.{sum_by, fold, zip}
 use Rattle.std.specs.FinMap.{empty, entries, find, get, get-empty, get-entries}
 use Rattle.std.specs.Ordering.{nat_cmp}
@@ -9,6 +9,7 @@ use Rattle.row_model.specs.BothStates.{rows_from}
 use Rattle.row_model.specs.Table.{RowMap, Table, row_at}
 use Rattle.row_model.proofs.RowEntries.{Entry, skips}
 use Rattle.row_model.proofs.RowsFrom.{rows_past, rows_skip, rows_take}
+use Rattle.row_packing.proofs.RowsUnder.{at_place}
 use Rattle.write_engine.specs.Cycle.{no_rows}
 use Rattle.hol_incremental.specs.Counts.{added_up}
 
@@ -37,6 +38,16 @@ none_above q (e ∷ es) past = skips q e es (λ same. omega (arith, same, past))
 
 bounded : (rows : RowMap) (q : ℕ) → above (entries rows) ≤ q → get rows q ≡ None
 bounded rows q past = get-entries rows q ∙ none_above q (entries rows) past
+
+-- a table without rows has none
+pub none_at : (n t o : ℕ) → row_at (no_rows n) t o ≡ None
+none_at zero t o = refl
+none_at (suc n) zero o = get-empty nat_cmp o
+none_at (suc n) (suc t) o = none_at n t o
+
+-- Under an ordinal there is the row of the one, or that of the other, which the one lacks then.
+abbrev pub Splits : Option Row → Option Row → Option Row → Type 0
+Splits one other both = ((other ≡ None) × (both ≡ one)) ⊎ ((one ≡ None) × (both ≡ other))
 
 -- ---- the rows of a type
 
@@ -103,6 +114,43 @@ module _ (f : Row → ℕ) where
 
   pub rows_same : (rows after : RowMap) → ((q : ℕ) → get after q ≡ get rows q) → sum_by f (rows_from 0 after) ≡ sum_by f (rows_from 0 rows)
   rows_same rows after same = same_from (above (entries rows)) 0 rows after (λ q from. same q) (λ q from. bounded rows q (omega (arith, from)))
+
+  -- each row of a map stands in one of two others
+  one_place : (n : ℕ) (rows : RowMap) (found : Option Row) → get rows n ≡ found → total n rows ≡ at_place f found + total (n + 1) rows
+  one_place n rows (Some row) is = take_one rows n row is
+  one_place n rows None is = let past = skip_one rows n is in omega (arith, past)
+
+  split_step : (n : ℕ) (one other both : RowMap) → Splits (get one n) (get other n) (get both n) → total (n + 1) both ≡ total (n + 1) one + total (n + 1) other → total n both ≡ total n one + total n other
+  split_step n one other both (inl (none, same)) rest =
+      let a = one_place n one (get one n) refl in
+      let b = one_place n other (get other n) refl in
+      let c = one_place n both (get both n) refl in
+      let d = ap (at_place f) none in
+      let e = ap (at_place f) same in
+      omega (arith, a, b, c, d, e, rest)
+  split_step n one other both (inr (none, same)) rest =
+      let a = one_place n one (get one n) refl in
+      let b = one_place n other (get other n) refl in
+      let c = one_place n both (get both n) refl in
+      let d = ap (at_place f) none in
+      let e = ap (at_place f) same in
+      omega (arith, a, b, c, d, e, rest)
+
+  split_from : (k n : ℕ) (one other both : RowMap) → ((q : ℕ) → Splits (get one q) (get other q) (get both q)) → ((q : ℕ) → n + k ≤ q → get one q ≡ None) → ((q : ℕ) → n + k ≤ q → get other q ≡ None)
+      → ((q : ℕ) → n + k ≤ q → get both q ≡ None) → total n both ≡ total n one + total n other
+  split_from zero n one other both splits none nor nobody =
+      let a = past_all one n (λ q from. none q (omega (arith, from))) in
+      let b = past_all other n (λ q from. nor q (omega (arith, from))) in
+      let c = past_all both n (λ q from. nobody q (omega (arith, from))) in
+      omega (arith, a, b, c)
+  split_from (suc k) n one other both splits none nor nobody =
+      split_step n one other both (splits n)
+      (split_from k (n + 1) one other both splits (λ q from. none q (omega (arith, from))) (λ q from. nor q (omega (arith, from))) (λ q from. nobody q (omega (arith, from))))
+
+  pub rows_split : (one other both : RowMap) → ((q : ℕ) → Splits (get one q) (get other q) (get both q)) → sum_by f (rows_from 0 both) ≡ sum_by f (rows_from 0 one) + sum_by f (rows_from 0 other)
+  rows_split one other both splits =
+      split_from (above (entries one) + above (entries other) + above (entries both)) 0 one other both splits (λ q from. bounded one q (omega (arith, from))) (λ q from. bounded other q (omega (arith, from)))
+      (λ q from. bounded both q (omega (arith, from)))
 
 -- ---- the rows of a table
 

@@ -89,17 +89,18 @@ module _ (schemas : List Schema) (model : IsModel schemas) (previous : Table) (c
 
         -- ---- what is left
 
-        module _ (left : Table) (closed_left : IsClosed schemas left) (drop : (start held : Table) → IsHeld schemas leaving start held
+        module _ (left : Table) (drop : (start held : Table) → IsHeld schemas leaving start held
             → IsDropping schemas leaving start held whole (filter (λ row. nat_eq (count_at counts row.0 row.1) 0) leaving) → IsDropping schemas leaving start held left []) where
           end : IsDropping schemas leaving whole fresh.0 left []
           end = drop whole fresh.0 holds dropping
 
-          pub next : IsNextEdited schemas previous puts removes left
-          next =
+          pub next : IsClosed schemas left → IsNextEdited schemas previous puts removes left
+          next closed_left =
               next_of_edited schemas previous whole left puts removes tops model closed stored once fits adds
               (is_left schemas previous fresh.0 whole puts removes tops leaving fresh.1.either fresh.1.reached keyed leaves left end closed_left fresh.1.live)
 
-          both : IsFromEither previous left whole
+          -- the cycle before rows leave holds the rows of both states
+          pub both : IsFromEither previous left whole
           both = record {
             types = fresh.1.either.types;
             first = part;

@@ -1,9 +1,8 @@
 -- Rows are read one after another, and counted.
 use Rattle.std.proofs.Common.{◌≡◌, ◌∙◌, ◌+◌, ◌<◌, ◌≤◌, ◌⊎◌, ℕ, zero, suc, List, [], Option, Some, None, length, slice_get, refl, sym, ap, subst, inl, inr, arith}
 use Rattle.std.specs.Prelude.{IsSome, option_and_then, unwrap_or}
-use Rattle.std.specs.FinMap.{get-empty, insert}
+use Rattle.std.specs.FinMap.{insert}
 use Rattle.std.specs.Option.{option_map}
-use Rattle.std.specs.Ordering.{nat_cmp}
 use Rattle.std.proofs.lemmas.Bool.{cases_eq, cases_lt}
 use Rattle.std.proofs.lemmas.List.{length-replicate}
 use Rattle.schema_model.specs.declared.schema.Schema.{Schema}
@@ -11,13 +10,16 @@ use Rattle.row_model.specs.declared.row.Row.{Row}
 use Rattle.row_model.specs.Table.{IsBound, IsLive, Table, row_at}
 use Rattle.write_engine.specs.Cycle.{no_rows, rows_in, with_row}
 use Rattle.write_engine.proofs.ClosedStates.{length_set}
+use Rattle.kept_sums.specs.Sums.{TypeSums}
 use Rattle.hol_incremental.specs.Beside.{IsPartOf}
 use Rattle.hol_incremental.specs.Counted.{CountsOf, CountsTo}
 use Rattle.hol_incremental.specs.Counts.{added_up, named_at, named_by, size_of, times_among, times_named}
 use Rattle.hol_incremental.specs.EditKeys.{AreCounts, count_at, no_counts}
-use Rattle.hol_incremental.proofs.AddedUp.{added_more, added_none, same_added}
+use Rattle.hol_incremental.specs.Sums.{AddsRowAt, AreSums}
+use Rattle.hol_incremental.proofs.AddedUp.{added_more, added_none, none_at, same_added}
 use Rattle.hol_incremental.proofs.PutRows.{is_there, put_other, put_there}
 use Rattle.hol_incremental.proofs.ShallowTypes.{live_inside, live_row, type_at}
+use Rattle.hol_incremental.proofs.SumLists.{sums_more, sums_same}
 
 -- ---- what the row under an ordinal names
 
@@ -40,22 +42,18 @@ module _ (schemas : List Schema) (table after : Table) (t o : ℕ) (schema : Sch
 
 -- ---- rows are read
 
-none_at : (n t o : ℕ) → row_at (no_rows n) t o ≡ None
-none_at zero t o = refl
-none_at (suc n) zero o = get-empty nat_cmp o
-none_at (suc n) (suc t) o = none_at n t o
-
 no_row : (found : Option Row) → (IsSome found → ⊥) → found ≡ None
 no_row None dead = refl
 no_row (Some row) dead = absurd (dead refl)
 
 module _ (schemas : List Schema) (before whole : Table) (part : IsPartOf before whole) where
   -- at the start none is
-  pub read_start : (counts : List (List ℕ)) (steps : ℕ) → length before ≡ length whole → AreCounts schemas before counts → CountsTo schemas before whole 0 0 steps counts steps
-  read_start counts steps types are = record {
+  pub read_start : (counts : List (List ℕ)) (sums : List TypeSums) (steps : ℕ) → length before ≡ length whole → AreCounts schemas before counts → AreSums schemas before sums → CountsTo schemas before whole 0 0 steps counts sums steps
+  read_start counts sums steps types are summed = record {
     read = before;
     is = record { types = types; below = λ u q early. absurd (none u q early); above = λ u q late. refl };
     counted = are;
+    summed = summed;
     ticked = refl;
   }
     where
@@ -64,8 +62,8 @@ module _ (schemas : List Schema) (before whole : Table) (part : IsPartOf before 
       none u q (inr early) = omega (arith, early.1)
 
   -- a row that the other state lacks
-  module _ (t o start steps : ℕ) (counts counts' : List (List ℕ)) (known : t < length schemas) (types : length whole ≡ length schemas) (live : IsLive whole t o) (dead : IsLive before t o → ⊥)
-      (to : CountsTo schemas before whole t o start counts steps) where
+  module _ (t o start steps : ℕ) (counts counts' : List (List ℕ)) (sums sums' : List TypeSums) (known : t < length schemas) (types : length whole ≡ length schemas) (live : IsLive whole t o) (dead : IsLive before t o → ⊥)
+      (to : CountsTo schemas before whole t o start counts sums steps) where
     found : (schema : Schema) × (slice_get schemas t ≡ Some schema)
     found = type_at schemas t known
 
@@ -112,8 +110,9 @@ module _ (schemas : List Schema) (before whole : Table) (part : IsPartOf before 
     above u q (inl late) = other u q (λ both. (let x = both.0 in omega (arith, x, late))) ∙ to.is.above u q (inl late)
     above u q (inr late) = other u q (λ both. (let x = both.1 in let y = late.1 in omega (arith, x, y))) ∙ to.is.above u q (inr (late.0, (let y = late.1 in omega (arith, y))))
 
-    pub read_row : length counts' ≡ length counts → ((u q : ℕ) → count_at counts' u q ≡ count_at counts u q + times_among u q (named_at schemas whole t o)) → CountsTo schemas before whole t (o + 1) start counts' (steps + 1)
-    read_row lengths raised = record {
+    pub read_row : length counts' ≡ length counts → ((u q : ℕ) → count_at counts' u q ≡ count_at counts u q + times_among u q (named_at schemas whole t o)) → AddsRowAt schemas whole t o sums sums'
+        → CountsTo schemas before whole t (o + 1) start counts' sums' (steps + 1)
+    read_row lengths raised adds = record {
       read = now;
       is = record { types = long ∙ to.is.types; below = below; above = above };
       counted = record {
@@ -125,15 +124,17 @@ module _ (schemas : List Schema) (before whole : Table) (part : IsPartOf before 
             let w = names u q in
             omega (arith, x, y, z, w));
       };
+      summed = sums_more schemas to.read now t o there.0 free here other sums sums' to.summed (adds there.0 there.1);
       ticked = (let x = to.ticked in let y = size_more schemas to.read now t o found.0 there.0 long found.1 free here other in omega (arith, x, y));
     }
 
   -- an ordinal under which both states have the same row, or none
-  pub read_other : (t o start steps : ℕ) (counts : List (List ℕ)) → row_at before t o ≡ row_at whole t o → CountsTo schemas before whole t o start counts steps → CountsTo schemas before whole t (o + 1) start counts steps
-  read_other t o start steps counts same to = record {
+  pub read_other : (t o start steps : ℕ) (counts : List (List ℕ)) (sums : List TypeSums) → row_at before t o ≡ row_at whole t o → CountsTo schemas before whole t o start counts sums steps → CountsTo schemas before whole t (o + 1) start counts sums steps
+  read_other t o start steps counts sums same to = record {
     read = to.read;
     is = record { types = to.is.types; below = below; above = above };
     counted = to.counted;
+    summed = to.summed;
     ticked = to.ticked;
   }
     where
@@ -151,42 +152,65 @@ module _ (schemas : List Schema) (before whole : Table) (part : IsPartOf before 
       above u q (inr late) = to.is.above u q (inr (late.0, (let y = late.1 in omega (arith, y))))
 
   -- an ordinal under which the state has no row
-  pub read_none : (t o start steps : ℕ) (counts : List (List ℕ)) → (IsLive whole t o → ⊥) → CountsTo schemas before whole t o start counts steps → CountsTo schemas before whole t (o + 1) start counts steps
-  read_none t o start steps counts dead to = read_other t o start steps counts (of_option (row_at before t o) refl ∙ sym (no_row (row_at whole t o) dead)) to
+  pub read_none : (t o start steps : ℕ) (counts : List (List ℕ)) (sums : List TypeSums) → (IsLive whole t o → ⊥) → CountsTo schemas before whole t o start counts sums steps → CountsTo schemas before whole t (o + 1) start counts sums steps
+  read_none t o start steps counts sums dead to = read_other t o start steps counts sums (of_option (row_at before t o) refl ∙ sym (no_row (row_at whole t o) dead)) to
     where
       of_option : (found : Option Row) → row_at before t o ≡ found → row_at before t o ≡ None
       of_option None is = is
       of_option (Some row) is = let there = part t o row is in absurd (dead (subst IsSome (sym there) refl))
 
-  -- an ordinal under which both have a row
-  pub read_both : (t o start steps : ℕ) (counts : List (List ℕ)) → IsLive before t o → CountsTo schemas before whole t o start counts steps → CountsTo schemas before whole t (o + 1) start counts steps
-  read_both t o start steps counts live to =
-      let there = live_row (row_at before t o) live in
-      read_other t o start steps counts (there.1 ∙ sym (part t o there.0 there.1)) to
+  -- where one state has a row only if the other one has it, both have the same
+  same_row : (t q : ℕ) → (IsLive whole t q → IsLive before t q) → row_at before t q ≡ row_at whole t q
+  same_row t q stays = of_option (row_at before t q) refl
+    where
+      of_option : (found : Option Row) → row_at before t q ≡ found → row_at before t q ≡ row_at whole t q
+      of_option None is = is ∙ sym (no_row (row_at whole t q) (λ live. (let there = subst IsSome is (stays live) in absurd cc)))
+      of_option (Some row) is = is ∙ sym (part t q row is)
 
-  -- all rows of a type are read
-  pub read_type : (t bound start steps : ℕ) (counts : List (List ℕ)) → IsBound whole t bound → CountsTo schemas before whole t bound start counts steps → CountsTo schemas before whole (t + 1) 0 start counts steps
-  read_type t bound start steps counts past to = record {
+  -- ordinals under which both states have the same rows
+  pub read_past : (t from next start steps : ℕ) (counts : List (List ℕ)) (sums : List TypeSums) → from ≤ next → ((q : ℕ) → from ≤ q → q < next → IsLive whole t q → IsLive before t q)
+      → CountsTo schemas before whole t from start counts sums steps → CountsTo schemas before whole t next start counts sums steps
+  read_past t from next start steps counts sums rises stays to = record {
     read = to.read;
     is = record { types = to.is.types; below = below; above = above };
     counted = to.counted;
+    summed = to.summed;
     ticked = to.ticked;
   }
     where
-      behind : (q : ℕ) → bound ≤ q → row_at to.read t q ≡ row_at whole t q
-      behind q from = to.is.above t q (inr (refl, from)) ∙ of_option (row_at before t q) refl
-        where
-          dead : IsLive whole t q → ⊥
-          dead live = let low = past.above q live in omega (arith, low, from)
+      of_type : (q : ℕ) → q < next → row_at to.read t q ≡ row_at whole t q
+      of_type q low =
+          elim (cases_lt q from) as (λ _. row_at to.read t q ≡ row_at whole t q) [
+            | inl early ↦ to.is.below t q (inr (refl, early))
+            | inr late ↦ to.is.above t q (inr (refl, late)) ∙ same_row t q (stays q late low)
+          ]
 
-          of_option : (found : Option Row) → row_at before t q ≡ found → row_at before t q ≡ row_at whole t q
-          of_option None is = is ∙ sym (no_row (row_at whole t q) dead)
-          of_option (Some row) is = let there = part t q row is in absurd (dead (subst IsSome (sym there) refl))
+      below : (u q : ℕ) → (u < t) ⊎ ((u ≡ t) × (q < next)) → row_at to.read u q ≡ row_at whole u q
+      below u q (inl early) = to.is.below u q (inl early)
+      below u q (inr early) = ap (λ n. row_at to.read n q) early.0 ∙ of_type q early.1 ∙ ap (λ n. row_at whole n q) (sym early.0)
 
+      above : (u q : ℕ) → (t < u) ⊎ ((u ≡ t) × (next ≤ q)) → row_at to.read u q ≡ row_at before u q
+      above u q (inl late) = to.is.above u q (inl late)
+      above u q (inr late) = to.is.above u q (inr (late.0, (let y = late.1 in omega (arith, y, rises))))
+
+  -- all rows of a type are read
+  pub read_rest : (t from start steps : ℕ) (counts : List (List ℕ)) (sums : List TypeSums) → ((q : ℕ) → from ≤ q → IsLive whole t q → IsLive before t q) → CountsTo schemas before whole t from start counts sums steps
+      → CountsTo schemas before whole (t + 1) 0 start counts sums steps
+  read_rest t from start steps counts sums stays to = record {
+    read = to.read;
+    is = record { types = to.is.types; below = below; above = above };
+    counted = to.counted;
+    summed = to.summed;
+    ticked = to.ticked;
+  }
+    where
       of_type : (u q : ℕ) → u ≡ t → row_at to.read u q ≡ row_at whole u q
       of_type u q same =
           ap (λ n. row_at to.read n q) same
-          ∙ elim (cases_lt q bound) as (λ _. row_at to.read t q ≡ row_at whole t q) [ inl low ↦ to.is.below t q (inr (refl, low)) | inr from ↦ behind q from ]
+          ∙ elim (cases_lt q from) as (λ _. row_at to.read t q ≡ row_at whole t q) [
+            | inl low ↦ to.is.below t q (inr (refl, low))
+            | inr late ↦ to.is.above t q (inr (refl, late)) ∙ same_row t q (stays q late)
+          ]
           ∙ ap (λ n. row_at whole n q) (sym same)
 
       below : (u q : ℕ) → (u < t + 1) ⊎ ((u ≡ t + 1) × (q < 0)) → row_at to.read u q ≡ row_at whole u q
@@ -201,10 +225,15 @@ module _ (schemas : List Schema) (before whole : Table) (part : IsPartOf before 
       above u q (inl late) = to.is.above u q (inl (omega (arith, late)))
       above u q (inr late) = to.is.above u q (inl (let e = late.0 in omega (arith, e)))
 
+  -- the same up to its bound
+  pub read_type : (t bound start steps : ℕ) (counts : List (List ℕ)) (sums : List TypeSums) → IsBound whole t bound → CountsTo schemas before whole t bound start counts sums steps → CountsTo schemas before whole (t + 1) 0 start counts sums steps
+  read_type t bound start steps counts sums past to = read_rest t bound start steps counts sums (λ q from live. absurd (let low = past.above q live in omega (arith, low, from))) to
+
   -- all rows are read
-  pub read_all : (count start steps : ℕ) (counts : List (List ℕ)) → count ≡ length whole → CountsTo schemas before whole count 0 start counts steps → CountsOf schemas before whole counts start steps
-  read_all count start steps counts all to = record {
+  pub read_all : (count start steps : ℕ) (counts : List (List ℕ)) (sums : List TypeSums) → count ≡ length whole → CountsTo schemas before whole count 0 start counts sums steps → CountsOf schemas before whole counts sums start steps
+  read_all count start steps counts sums all to = record {
     counted = record { types = to.counted.types; are = λ t o. to.counted.are t o ∙ sum (λ s r. times_among t o (named_by schemas s.shape r)) };
+    summed = sums_same schemas to.read whole (λ u q. sym (same u q)) sums to.summed;
     ticked = to.ticked ∙ ap (λ n. start + n) (sum (λ s r. 1));
   }
     where

@@ -17,8 +17,10 @@ use Rattle.write_engine.proofs.Dropping.{row_stays, row_stood}
 use Rattle.hol_incremental.specs.Beside.{IsPartOf}
 use Rattle.hol_incremental.specs.Counts.{named_at, size_of, times_among, times_named}
 use Rattle.hol_incremental.specs.Drops.{AreUnnamed, FallsFrom, Goes, IsDropping, IsHeld, IsLowered, MayFall}
+use Rattle.kept_sums.specs.Sums.{TypeSums}
 use Rattle.hol_incremental.specs.EditKeys.{AreCounts, count_at}
 use Rattle.hol_incremental.specs.Roots.{IsKeyed, key_texts}
+use Rattle.hol_incremental.specs.Sums.{AreSums, TakesRowAt}
 use Rattle.hol_incremental.proofs.AddedRows.{live_stays, named_stays}
 use Rattle.hol_incremental.proofs.Among.{first_in, none_in, parted}
 use Rattle.hol_incremental.proofs.CountedRows.{named_here, size_more, times_more}
@@ -27,6 +29,7 @@ use Rattle.hol_incremental.proofs.NamedCounts.{among_counted, counted_among, nam
 use Rattle.hol_incremental.proofs.OnceLists.{IsOnce, all_of, among_or, append_once, front_once, last_once}
 use Rattle.hol_incremental.proofs.PutRows.{is_there}
 use Rattle.hol_incremental.proofs.ShallowTypes.{live_inside, live_row, live_type}
+use Rattle.hol_incremental.proofs.SumLists.{sums_less}
 
 -- ---- who is named
 
@@ -117,6 +120,11 @@ module _ (schemas : List Schema) (current : Table) (t o : ℕ) (types : length c
     types = long ∙ are.types;
     are = λ u q. (let x = lowered u q in let y = are.are u q in let z = times_with u q in omega (arith, x, y, z));
   }
+
+  -- the sums without it
+  pub sums_without : (sums sums' : List TypeSums) → AreSums schemas current sums → TakesRowAt schemas current t o sums sums' → (table : Table) → table ≡ after → AreSums schemas table sums'
+  sums_without sums sums' are takes table is =
+      subst (λ (x : Table). AreSums schemas x sums') (sym is) (sums_less schemas after current t o there.0 gone there.1 stay sums sums' are (takes there.0 there.1))
 
   part : IsPartOf after current
   part u q row is = row_stood current t o inside u q row is

@@ -6,8 +6,9 @@ use Rattle.key_index.specs.Indexed.{HaveOneRow, Indexed}
 use Rattle.row_model.specs.Table.{Table, row_at}
 use Rattle.row_model.proofs.RowsFrom.{get_in}
 use Rattle.write_engine.specs.Agreement.{TablesAgree}
-use Rattle.hol_incremental.specs.EditKeys.{AreCounts, AreEditsOf, AreIndexes, AreReady, Editing}
+use Rattle.hol_incremental.specs.EditKeys.{AreCounts, AreEditsOf, AreIndexes, AreReady, Coming, Editing, IsComing}
 use Rattle.hol_incremental.specs.Keeping.{moved, settled}
+use Rattle.hol_incremental.specs.Sums.{AreSums}
 use Rattle.hol_incremental.proofs.IndexRows.{moved_indexes, same_settled}
 use Rattle.hol_incremental.proofs.ShallowTypes.{live_row}
 
@@ -20,18 +21,23 @@ settled_twice [] = refl
 settled_twice (index ∷ keys) = λ i. settled_once index i ∷ settled_twice keys i
 
 -- what is made ready does not matter
-pub kept_edits : (schemas : List Schema) (table : Table) (edits : Editing) → AreEditsOf schemas table edits → (edits' : Editing) → edits'.counts ≡ edits.counts → map settled edits'.keys ≡ map settled edits.keys → AreEditsOf schemas table edits'
-kept_edits schemas table edits are edits' same kept = record {
+pub kept_edits : (schemas : List Schema) (table : Table) (edits : Editing) → AreEditsOf schemas table edits → (edits' : Editing) → edits'.counts ≡ edits.counts → edits'.sums ≡ edits.sums → map settled edits'.keys ≡ map settled edits.keys → AreEditsOf schemas table edits'
+kept_edits schemas table edits are edits' same sums kept = record {
   counts = subst (AreCounts schemas table) (sym same) are.counts;
+  sums = subst (AreSums schemas table) (sym sums) are.sums;
   keys = same_settled schemas table edits.keys edits'.keys kept are.keys;
 }
 
 -- what is made ready becomes what is kept
-pub accepted_edits : (schemas : List Schema) (previous next : Table) (edits : Editing) → AreReady schemas previous next edits → (edits' : Editing) → edits.next ≡ Some edits'.counts → edits'.keys ≡ map moved edits.keys → AreEditsOf schemas next edits'
-accepted_edits schemas previous next edits ready edits' counts keys = record {
-  counts = subst (λ o. IsSomeAnd o (AreCounts schemas next)) counts ready.counts;
-  keys = subst (AreIndexes schemas next) (sym keys) (moved_indexes schemas previous next edits.keys ready.now.keys ready.keys);
-}
+pub accepted_edits : (schemas : List Schema) (previous next : Table) (edits : Editing) → AreReady schemas previous next edits → (coming : Coming) → edits.next ≡ Some coming → (edits' : Editing) → edits'.counts ≡ coming.counts
+    → edits'.sums ≡ coming.sums → edits'.keys ≡ map moved edits.keys → AreEditsOf schemas next edits'
+accepted_edits schemas previous next edits ready coming is edits' counts sums keys =
+    let now = subst (λ o. IsSomeAnd o (IsComing schemas previous next)) is ready.counts in
+    record {
+      counts = subst (AreCounts schemas next) (sym counts) now.counts;
+      sums = subst (AreSums schemas next) (sym sums) now.sums;
+      keys = subst (AreIndexes schemas next) (sym keys) (moved_indexes schemas previous next edits.keys ready.now.keys ready.keys);
+    }
 
 -- tables that agree have one row where both have one
 pub one_row : (previous current before now : Table) → before ≡ previous → now ≡ current → TablesAgree previous current → HaveOneRow before now

@@ -1,68 +1,35 @@
--- The ordinals under which a type has rows in one state and none in another, below an ordinal; and indexes of the first types.
-use Rattle.std.proofs.Common.{◌≡◌, ◌∙◌, ◌↔◌, ◌+◌, ◌<◌, ◌≤◌, ℕ, List, [], ◌∷◌, ◌++◌, Option, Some, length, set, slice_get, refl, sym, ap, subst, inl, inr, arith}
-use Rattle.std.specs.Prelude.{Contains, slice_index_or}
+-- The ordinals under which a type has rows in one state and none in another; and indexes of the first types.
+use Rattle.std.proofs.Common.{◌≡◌, ◌∙◌, ◌↔◌, ◌+◌, ◌<◌, ℕ, List, [], ◌∷◌, ◌++◌, Option, Some, length, set, slice_get, refl, sym, ap, subst, inl, inr, arith}
+use Rattle.std.specs.Prelude.{Contains}
 use Rattle.std.proofs.lemmas.Bool.{cases_eq}
 use Rattle.std.proofs.lemmas.List.{length-append}
-use Rattle.std.proofs.lemmas.List.Elements.{Contains-append_left, Contains-get_or, Contains-push, Contains-push_cases}
-use Rattle.std.proofs.lemmas.List.Quantifiers.{all_pairs_push}
+use Rattle.std.proofs.lemmas.List.Kept.{AllPairs-from_increasing}
 use Rattle.schema_model.specs.declared.schema.Schema.{Schema}
 use Rattle.key_index.specs.Indexed.{Indexed}
-use Rattle.row_model.specs.Row.{Rises}
-use Rattle.row_model.specs.Table.{IsBound, IsLive, Table}
+use Rattle.ordinal_set.specs.Ordinals.{AreOrdinals, lacking}
+use Rattle.ordinal_set.proofs.Beside.{is_member, lacking_member, member_lacking}
+use Rattle.row_model.specs.Table.{IsLive, Table}
 use Rattle.hol_incremental.specs.EditKeys.{AreIndexes, TellsIndex}
-use Rattle.hol_incremental.specs.Keeping.{AddsLacking, AreLacking, IsReadyIndex}
-use Rattle.hol_incremental.proofs.Among.{none_in}
+use Rattle.hol_incremental.specs.Keeping.{AreLacking, IsReadyIndex}
 use Rattle.hol_incremental.proofs.MappedLists.{behind_at, set_beside, set_here}
 
--- the same, of those below an ordinal
-pub record AreLackingBelow (table other : Table) (t bound : ℕ) (ordinals : List ℕ) : Type 0 where
-  pub rising : Rises ordinals
-  pub are : (o : ℕ) → Contains ordinals o ↔ ((o < bound) × IsLive table t o × ¬ IsLive other t o)
+-- the ordinals of two states as sets: those of the one that the other one lacks
+module _ (table other : Table) (t : ℕ) (mine theirs : List ℕ) (here : (o : ℕ) → Contains mine o ↔ IsLive table t o) (there : (o : ℕ) → Contains theirs o ↔ IsLive other t o) where
+  pub comes : (o : ℕ) → Contains (lacking mine theirs) o → IsLive table t o × (IsLive other t o → ⊥)
+  comes o among = let both = lacking_member mine theirs o among in ((here o).0 both.0, λ live. both.1 ((there o).1 live))
 
-module _ (table other : Table) (t : ℕ) where
-  pub lacking_none : (ordinals : List ℕ) → ordinals ≡ [] → AreLackingBelow table other t 0 ordinals
-  lacking_none ordinals none = subst (AreLackingBelow table other t 0) (sym none) (record {
-    rising = λ i j d less inside. absurd (omega (arith, inside));
-    are = λ o. ((λ among. absurd (none_in o among)), (λ there. absurd (let low = there.0 in omega (arith, low))));
+  pub stays : (o : ℕ) → (Contains (lacking mine theirs) o → ⊥) → IsLive table t o → IsLive other t o
+  stays o none live =
+      elim (is_member theirs o) [
+        | inl among ↦ (there o).0 among
+        | inr apart ↦ absurd (none (member_lacking mine theirs o ((here o).1 live) apart))
+      ]
+
+  pub lacking_all : AreOrdinals (lacking mine theirs) → (ordinals : List ℕ) → ordinals ≡ lacking mine theirs → AreLacking table other t ordinals
+  lacking_all are ordinals is = subst (AreLacking table other t) (sym is) (record {
+    rising = AllPairs-from_increasing (lacking mine theirs) are.rising;
+    are = λ o. ((λ among. comes o among), (λ both. member_lacking mine theirs o ((here o).1 both.0) (λ among. both.1 ((there o).0 among))));
   })
-
-  pub lacking_push : (bound : ℕ) (ordinals ordinals' : List ℕ) → AreLackingBelow table other t bound ordinals → IsLive table t bound → (IsLive other t bound → ⊥) → ordinals' ≡ ordinals ++ bound ∷ [] → AreLackingBelow table other t (bound + 1) ordinals'
-  lacking_push bound ordinals ordinals' below live dead is = subst (AreLackingBelow table other t (bound + 1)) (sym is) (record {
-    rising = all_pairs_push (λ earlier later. earlier < later) ordinals bound below.rising (λ k d inside. ((below.are (slice_index_or ordinals k d)).0 (Contains-get_or ordinals k d inside)).0);
-    are = λ o. (
-      (λ among. elim (Contains-push_cases ordinals bound o among) [
-        | inl there ↦ (let is' = (below.are o).0 there in ((let low = is'.0 in omega (arith, low)), is'.1, is'.2))
-        | inr same ↦ (omega (arith, same), subst (IsLive table t) same live, λ here. dead (subst (IsLive other t) (sym same) here))
-      ]),
-      (λ there. elim (cases_eq o bound) [
-        | inl same ↦ subst (Contains (ordinals ++ bound ∷ [])) (sym same) (Contains-push ordinals bound)
-        | inr apart ↦ Contains-append_left ordinals (bound ∷ []) o ((below.are o).1 ((let low = there.0 in omega (arith, low, apart)), there.1, there.2))
-      ]),
-    );
-  })
-
-  pub lacking_skip : (bound : ℕ) (ordinals : List ℕ) → AreLackingBelow table other t bound ordinals → (IsLive table t bound → (IsLive other t bound → ⊥) → ⊥) → AreLackingBelow table other t (bound + 1) ordinals
-  lacking_skip bound ordinals below not = record {
-    rising = below.rising;
-    are = λ o. (
-      (λ among. (let is = (below.are o).0 among in ((let low = is.0 in omega (arith, low)), is.1, is.2))),
-      (λ there. elim (cases_eq o bound) [
-        | inl same ↦ absurd (not (subst (IsLive table t) same there.1) (λ here. there.2 (subst (IsLive other t) (sym same) here)))
-        | inr apart ↦ (below.are o).1 ((let low = there.0 in omega (arith, low, apart)), there.1, there.2)
-      ]),
-    );
-  }
-
-  -- an ordinal more
-  pub lacking_step : (bound : ℕ) (before after : List ℕ) → AreLackingBelow table other t bound before → AddsLacking table other t bound before after → AreLackingBelow table other t (bound + 1) after
-  lacking_step bound before after below (inl (live, dead, is)) = lacking_push bound before after below live dead is
-  lacking_step bound before after below (inr (not, is)) = subst (AreLackingBelow table other t (bound + 1)) (sym is) (lacking_skip bound before below not)
-
-  pub lacking_all : (bound : ℕ) (ordinals : List ℕ) → AreLackingBelow table other t bound ordinals → (end : ℕ) → IsBound table t end → end ≤ bound → AreLacking table other t ordinals
-  lacking_all bound ordinals below end is past = record {
-    rising = below.rising;
-    are = λ o. ((λ among. (let is = (below.are o).0 among in (is.1, is.2))), (λ there. (below.are o).1 ((let low = is.above o there.0 in omega (arith, low, past)), there.0, there.1)));
-  }
 
 -- ---- the indexes of the first types
 

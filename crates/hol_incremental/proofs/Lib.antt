@@ -39,3 +39,4 @@ pub mod PutRows
 pub mod PutSteps
 pub mod RowBits
 pub mod ShallowTypes
+pub mod SumLists

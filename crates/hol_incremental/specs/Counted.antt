@@ -3,7 +3,9 @@ use Rattle.std.specs.Prelude.{List, ℕ, ◌≡◌, ◌<◌, ◌≤◌, ◌+◌,
 use Rattle.schema_model.specs.declared.schema.Schema.{Schema}
 use Rattle.row_model.specs.Table.{Table, row_at}
 use Rattle.hol_incremental.specs.Counts.{size_of}
+use Rattle.kept_sums.specs.Sums.{TypeSums}
 use Rattle.hol_incremental.specs.EditKeys.{AreCounts}
+use Rattle.hol_incremental.specs.Sums.{AreSums}
 
 -- The rows below a type and an ordinal of it are those of the one state, and all others those of the other.
 pub record IsReadTo (before whole : Table) (t ordinal : ℕ) (read : Table) : Type 0 where
@@ -11,19 +13,21 @@ pub record IsReadTo (before whole : Table) (t ordinal : ℕ) (read : Table) : Ty
   pub below : (u q : ℕ) → (u < t) ⊎ ((u ≡ t) × (q < ordinal)) → row_at read u q ≡ row_at whole u q
   pub above : (u q : ℕ) → (t < u) ⊎ ((u ≡ t) × (ordinal ≤ q)) → row_at read u q ≡ row_at before u q
 
--- The counts are those of the rows that are read so far, and so many steps are counted as there are more of them than before.
-pub record CountsTo (schemas : List Schema) (before whole : Table) (t ordinal start : ℕ) (counts : List (List ℕ)) (steps : ℕ) : Type 0 where
+-- The counts and the sums are those of the rows that are read so far, and so many steps are counted as there are more of them than before.
+pub record CountsTo (schemas : List Schema) (before whole : Table) (t ordinal start : ℕ) (counts : List (List ℕ)) (sums : List TypeSums) (steps : ℕ) : Type 0 where
   pub read : Table
   pub is : IsReadTo before whole t ordinal read
   pub counted : AreCounts schemas read counts
+  pub summed : AreSums schemas read sums
   pub ticked : steps + size_of schemas before ≡ start + size_of schemas read
 
--- Where the counts were those of the types below this one, they are now those with this one too.
-abbrev pub CountsMore : List Schema → Table → Table → ℕ → List (List ℕ) → ℕ → List (List ℕ) → ℕ → Type 0
-CountsMore schemas before whole t counts steps counts' steps' =
-    (start : ℕ) → CountsTo schemas before whole t 0 start counts steps → CountsTo schemas before whole (t + 1) 0 start counts' steps'
+-- Where the counts and the sums were those of the types below this one, they are now those with this one too.
+abbrev pub CountsMore : List Schema → Table → Table → ℕ → List (List ℕ) → List TypeSums → ℕ → List (List ℕ) → List TypeSums → ℕ → Type 0
+CountsMore schemas before whole t counts sums steps counts' sums' steps' =
+    (start : ℕ) → CountsTo schemas before whole t 0 start counts sums steps → CountsTo schemas before whole (t + 1) 0 start counts' sums' steps'
 
--- The counts are those of the whole state, and so many steps are counted as it has rows more.
-pub record CountsOf (schemas : List Schema) (before whole : Table) (counts : List (List ℕ)) (start steps : ℕ) : Type 0 where
+-- The counts and the sums are those of the whole state, and so many steps are counted as it has rows more.
+pub record CountsOf (schemas : List Schema) (before whole : Table) (counts : List (List ℕ)) (sums : List TypeSums) (start steps : ℕ) : Type 0 where
   pub counted : AreCounts schemas whole counts
+  pub summed : AreSums schemas whole sums
   pub ticked : steps + size_of schemas before ≡ start + size_of schemas whole

@@ -1,5 +1,5 @@
 -- The indexes of rows by their primary keys, kept from one state to the next.
-use Rattle.std.specs.Prelude.{List, ℕ, ◌≡◌, ◌+◌, ◌↔◌, ◌⊎◌, ◌++◌, ◌∷◌, [], Contains, IsSome, IsSomeAnd, Option, Some, None, length, slice_get}
+use Rattle.std.specs.Prelude.{List, ℕ, ◌≡◌, ◌+◌, ◌↔◌, ◌⊎◌, Contains, IsSome, IsSomeAnd, Option, Some, None, length, slice_get}
 use Rattle.std.specs.Option.{option_map, unwrap_or}
 use Rattle.schema_model.specs.declared.schema.Schema.{Schema}
 use Rattle.row_model.specs.Row.{Rises}
@@ -45,8 +45,3 @@ CountsLacking before next t start steps = (added : List ℕ) × AreLacking next 
 -- the same of a type, if it has a primary key
 abbrev pub CountsComing : List Schema → Table → Table → ℕ → ℕ → ℕ → Type 0
 CountsComing schemas before next t start steps = (IsKeyed schemas t × CountsLacking before next t start steps) ⊎ ((¬ IsKeyed schemas t) × (steps ≡ start))
-
--- the ordinal comes behind others if the type has a row under it in the one state and none in the other
-abbrev pub AddsLacking : Table → Table → ℕ → ℕ → List ℕ → List ℕ → Type 0
-AddsLacking table other t ordinal before after =
-    (IsLive table t ordinal × (¬ IsLive other t ordinal) × (after ≡ before ++ ordinal ∷ [])) ⊎ ((IsLive table t ordinal → ¬ ¬ IsLive other t ordinal) × (after ≡ before))

@@ -9,6 +9,8 @@ pub mod Faults
 pub mod Keeping
 pub mod Leaves
 pub mod Left
+pub mod NextTallies
 pub mod Roots
 pub mod RowSets
+pub mod Sums
 pub mod Tops

@@ -3,7 +3,6 @@ ghost use Rattle.std.specs.Prelude.{◌≡◌, ◌+◌, ◌<◌, ◌^◌, ℕ, I
 ghost use Rattle.hol_incremental.specs.Counts.{one_for};
 ghost use Rattle.hol_incremental.specs.EditKeys.{count_at, no_counts};
 
-use hol_varint::Duplicate;
 use std::alloc::{AllocError, Global};
 use std::marker::Model;
 
@@ -77,7 +76,7 @@ fn copy_lists(alloc: Global, lists: &[Vec<u64>]) -> Result<Vec<Vec<u64>>, AllocE
 {
     let mut copies = Vec::with_capacity(alloc, lists.len())?;
     for list in lists {
-        copies.push(u64::copy_all(alloc, list.as_slice())?)?;
+        copies.push(Vec::from_slice(alloc, list.as_slice())?)?;
     }
     Ok(copies)
 }

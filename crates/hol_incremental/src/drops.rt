@@ -3,12 +3,13 @@ ghost use Rattle.std.specs.Prelude.{◌≡◌, ◌+◌, ◌<◌, ◌≤◌, ◌+
 ghost use Rattle.row_model.specs.Table.{Table};
 ghost use Rattle.hol_incremental.specs.Counts.{size_of, times_among};
 ghost use Rattle.hol_incremental.specs.Drops.{AreUnnamed, IsDropping, IsHeld, IsLowered, MayFall};
-ghost use Rattle.hol_incremental.specs.EditKeys.{AreCounts, count_at};
+ghost use Rattle.hol_incremental.specs.EditKeys.{AreTallied, count_at};
 ghost use Rattle.hol_incremental.specs.Roots.{IsKeyed};
 
 use crate::counts::Counts;
-use crate::references::read_named;
+use crate::references::read_leaving;
 use crate::row_set::RowSet;
+use crate::tally::Tally;
 use hol_io::Steps;
 use schema_model::{Model, Shape};
 use std::alloc::{AllocError, Global};
@@ -20,22 +21,22 @@ use write_engine::Producer;
 pub(crate) fn drop_all<L: Ledger>(
     alloc: Global,
     producer: &mut Producer,
-    counts: &mut Counts,
+    tally: &mut Tally,
     leaving: &RowSet,
     pending: &mut Vec<(u32, u32)>,
     steps: &mut Steps<L>,
 ) -> Result<(), AllocError>
     requires open { producer.old.closed ≡ false }
-    requires counts { AreCounts producer.old.schemas producer.old.current counts.old }
+    requires counts { AreTallied producer.old.schemas producer.old.current tally.old.counts tally.old.sums.items }
     requires unnamed { AreUnnamed producer.old.schemas producer.old.current pending.old.items }
     ensures left { OnOk result ((start held : Table) → IsHeld producer.old.schemas leaving.now start held → IsDropping producer.old.schemas leaving.now start held producer.old.current pending.old.items
         → IsDropping producer.old.schemas leaving.now start held producer.new.current []) }
-    ensures counts { OnOk result (AreCounts producer.old.schemas producer.new.current counts.new) }
+    ensures counts { OnOk result (AreTallied producer.old.schemas producer.new.current tally.new.counts tally.new.sums.items) }
     ensures counted { OnOk result (steps.new + size_of producer.old.schemas producer.new.current ≡ steps.old + size_of producer.old.schemas producer.old.current) }
     ensures kept { producer.new ≡ record producer.old { current = producer.new.current } }
 {
     while let Some(row) = pending.pop() {
-        take_out(alloc, producer, counts, leaving, row, pending, steps)?;
+        take_out(alloc, producer, tally, leaving, row, pending, steps)?;
     }
     Ok(())
 }
@@ -44,26 +45,33 @@ pub(crate) fn drop_all<L: Ledger>(
 fn take_out<L: Ledger>(
     alloc: Global,
     producer: &mut Producer,
-    counts: &mut Counts,
+    tally: &mut Tally,
     leaving: &RowSet,
     row: (u32, u32),
     pending: &mut Vec<(u32, u32)>,
     steps: &mut Steps<L>,
 ) -> Result<(), AllocError>
     requires open { producer.old.closed ≡ false }
-    requires counts { AreCounts producer.old.schemas producer.old.current counts.old }
+    requires counts { AreTallied producer.old.schemas producer.old.current tally.old.counts tally.old.sums.items }
     requires unnamed { AreUnnamed producer.old.schemas producer.old.current (pending.old.items ++ row ∷ []) }
     ensures unnamed { OnOk result (AreUnnamed producer.old.schemas producer.new.current pending.new.items) }
     ensures left { OnOk result ((start held : Table) → IsHeld producer.old.schemas leaving.now start held → IsDropping producer.old.schemas leaving.now start held producer.old.current (pending.old.items ++ row ∷ [])
         → IsDropping producer.old.schemas leaving.now start held producer.new.current pending.new.items) }
-    ensures counts { OnOk result (AreCounts producer.old.schemas producer.new.current counts.new) }
+    ensures counts { OnOk result (AreTallied producer.old.schemas producer.new.current tally.new.counts tally.new.sums.items) }
     ensures counted { OnOk result (steps.new ≡ steps.old + 1) }
     ensures size { OnOk result (size_of producer.old.schemas producer.new.current + 1 ≡ size_of producer.old.schemas producer.old.current) }
     ensures kept { producer.new ≡ record producer.old { current = producer.new.current } }
 {
-    let named = read_named(alloc, &producer.current(), row.0, row.1, steps)?;
+    let rows = producer.current();
+    let named = read_leaving(alloc, &rows, row.0, row.1, &mut tally.sums, steps)?;
     producer.drop_row(row.0, row.1);
-    lower_all(producer.model(), named.as_slice(), counts, leaving, pending)
+    lower_all(
+        producer.model(),
+        named.as_slice(),
+        &mut tally.counts,
+        leaving,
+        pending,
+    )
 }
 
 // One place less names each of these rows; those that nobody names then, and that may leave, come behind the others.

@@ -1,53 +1,70 @@
 //! What is kept beside a producer for changes.
-ghost use Rattle.std.specs.Prelude.{◌≡◌, ◌+◌, ◌≤◌, List, [], Err, IfOk, OnErr, OnOk, false, length};
+ghost use Rattle.std.specs.Prelude.{◌≡◌, ◌+◌, ◌≤◌, List, [], Err, IfOk, None, OnErr, OnOk, false, length};
 ghost use Rattle.hol_varint.specs.Yields.{Yields};
 ghost use Rattle.row_model.specs.Table.{IsClosed, Table};
 ghost use Rattle.schema_model.specs.declared.schema.Schema.{Schema};
+ghost use Rattle.row_packing.specs.Measured.{AreMeasured};
 ghost use Rattle.write_engine.specs.Cycle.{no_rows};
 ghost use Rattle.hol_incremental.specs.Beside.{IsFromEither};
 ghost use Rattle.hol_incremental.specs.Changes.{AreFitting, CountsChange, CountsMissing, HaveKeys, IsFreeChange, records};
 ghost use Rattle.hol_incremental.specs.Counts.{keyed_size_of, size_of};
-ghost use Rattle.hol_incremental.specs.EditKeys.{AreCounts, AreEditsOf, AreReady, IsReadied};
+ghost use Rattle.hol_incremental.specs.EditKeys.{AreEditsOf, AreReady, IsComing, IsReadied};
 ghost use Rattle.hol_incremental.specs.Edited.{IsNextEdited};
+ghost use Rattle.hol_incremental.specs.NextTallies.{coming_of};
 ghost use Rattle.hol_incremental.specs.Leaves.{AreLeaving, CountsUnfound, HasLowKeys};
 
 use crate::counting::{count_all, count_beside};
-use crate::counts::Counts;
 use crate::drops::drop_all;
 use crate::fault::ChangeFault;
 use crate::key_indexes::{build_all, forget_all, reserve_all, update_all};
 use crate::leaving::{add_removed, add_replaced, unnamed_of};
 use crate::lists::{Keys, Records};
+use crate::measuring::measured_all;
 use crate::putting::put_all;
 use crate::row_set::RowSet;
+use crate::tally::Tally;
 use hol_io::Steps;
+use hol_varint::{Duplicate, List};
+use kept_sums::Sums;
 use key_index::KeyIndex;
 use row_model::Rows;
+use row_packing::Measured;
 use std::alloc::{AllocError, Global};
 use std::marker::Model;
 use std::sync::ledger::Ledger;
 use write_engine::Producer;
 
-/// What is kept beside a producer for changes of its state: how often each row is named, and the rows by their primary keys.
+/// What is kept beside a producer for changes of its state: how often each row is named, what the rows of each type take, and the rows by their primary keys.
 #[derive(Drop)]
 pub struct Edits {
     alloc: Global,
-    /// How often each row is named.
-    counts: Counts,
-    /// The same of the next state, where a change has made it.
-    next: Option<Counts>,
+    /// What is counted of the state.
+    tally: Tally,
+    /// What is counted of the next state, where a change has made it.
+    next: Option<NextTally>,
     /// For each type the index of its rows by its primary key, if it has one.
     keys: Vec<Option<KeyIndex>>,
 }
 
+/// What is counted of the state that a change makes.
+#[derive(Drop)]
+pub(crate) struct NextTally {
+    /// That of its rows.
+    tally: Tally,
+    /// For each type the sums of the rows of both states.
+    both: Vec<Sums>,
+}
+
 impl Model for Edits {
+    ghost use Rattle.std.specs.Option.{option_map};
     ghost use Rattle.hol_incremental.specs.EditKeys.{Editing, editing_code};
+    ghost use Rattle.hol_incremental.specs.NextTallies.{coming_of};
 
     ghost Value = { Editing };
 
     ghost coded = { editing_code };
 
-    ghost view = { λ e. record { counts = e.counts; next = e.next; keys = e.keys.items } };
+    ghost view = { λ e. record { counts = e.tally.counts; sums = e.tally.sums.items; next = option_map coming_of e.next; keys = e.keys.items } };
 }
 
 impl Edits {
@@ -61,12 +78,12 @@ impl Edits {
         ensures edits { IfOk result (AreEditsOf (R.schemas rows.now) (R.table rows.now)) }
         ensures counted { OnOk result (steps.new ≡ steps.old + size_of (R.schemas rows.now) (R.table rows.now) + keyed_size_of (R.schemas rows.now) (R.table rows.now)) }
     {
-        let mut counts = Counts::new(alloc, rows.model().len())?;
-        count_all(alloc, rows, &mut counts, steps)?;
+        let mut tally = Tally::new(alloc, rows.model())?;
+        count_all(alloc, rows, &mut tally, steps)?;
         let keys = build_all(alloc, rows, steps)?;
         Ok(Edits {
             alloc,
-            counts,
+            tally,
             next: None,
             keys,
         })
@@ -101,7 +118,7 @@ impl Edits {
         ensures counted { OnOk result (CountsChange producer.old.schemas producer.old.previous producer.new.current steps.old steps.new) }
     {
         let _types = producer.model().len();
-        let mut counts = self.counts.copy(self.alloc)?;
+        let mut tally = self.tally.copy(self.alloc)?;
         let mut tops = RowSet::new(self.alloc);
         producer.keep_all()?;
         put_all(producer, puts.as_slice(), &mut tops)?;
@@ -109,21 +126,22 @@ impl Edits {
             self.alloc,
             &producer.current(),
             &producer.previous(),
-            &mut counts,
+            &mut tally,
             steps,
         )?;
+        let both = Sums::copy_all(self.alloc, tally.sums.as_slice())?;
         let mut leaving = RowSet::new(self.alloc);
         let missing = self.find_leaving(puts, removes, &tops, &mut leaving)?;
-        let mut pending = unnamed_of(self.alloc, leaving.as_slice(), &counts)?;
+        let mut pending = unnamed_of(self.alloc, leaving.as_slice(), &tally.counts)?;
         drop_all(
             self.alloc,
             producer,
-            &mut counts,
+            &mut tally,
             &leaving,
             &mut pending,
             steps,
         )?;
-        self.make_ready(producer, counts, steps)?;
+        self.make_ready(producer, NextTally { tally, both }, steps)?;
         Ok(missing)
     }
 
@@ -145,15 +163,15 @@ impl Edits {
         add_removed(self.alloc, keys, removes.as_slice(), tops, leaving)
     }
 
-    // Makes the indexes ready for the rows of the cycle, and keeps their counts.
+    // Makes the indexes ready for the rows of the cycle, and keeps what is counted of them.
     fn make_ready<L: Ledger>(
         &mut self,
         producer: &Producer,
-        counts: Counts,
+        next: NextTally,
         steps: &mut Steps<L>,
     ) -> Result<(), AllocError>
         requires edits { AreEditsOf producer.now.schemas producer.now.previous self.old }
-        requires counts { AreCounts producer.now.schemas producer.now.current counts }
+        requires counts { IsComing producer.now.schemas producer.now.previous producer.now.current (coming_of next) }
         ensures ready { OnOk result (AreReady producer.now.schemas producer.now.previous producer.now.current self.new) }
         ensures edits { AreEditsOf producer.now.schemas producer.now.previous self.new }
         ensures closed { IsClosed producer.now.schemas producer.now.current }
@@ -167,8 +185,31 @@ impl Edits {
             &producer.current(),
             steps,
         )?;
-        self.next = Some(counts);
+        self.next = Some(next);
         Ok(())
+    }
+
+    /// What is measured of each type over the rows of the previous state and of the one that a change has made, once it has. No row is looked at.
+    pub fn measured<A: Rows, B: Rows>(
+        &self,
+        previous: &A,
+        next: &B,
+    ) -> Result<List<Measured>, AllocError>
+        requires model { A.schemas previous.now ≡ B.schemas next.now }
+        requires ready { AreReady (B.schemas next.now) (A.table previous.now) (B.table next.now) self.now }
+        ensures { IfOk result (AreMeasured (B.schemas next.now) (A.table previous.now) (B.table next.now)) }
+    {
+        let Some(coming) = &self.next else {
+            unreachable!();
+        };
+        measured_all(
+            self.alloc,
+            previous,
+            next,
+            self.tally.sums.as_slice(),
+            coming.tally.sums.as_slice(),
+            coming.both.as_slice(),
+        )
     }
 
     /// What is kept becomes that of the state that a change has made, once the producer has advanced to it. It takes no memory.
@@ -176,14 +217,15 @@ impl Edits {
         requires { IsReadied self.old }
         ensures { (schemas : List Schema) (previous next : Table) → AreReady schemas previous next self.old → AreEditsOf schemas next self.new }
     {
-        if let Some(counts) = self.next.take() {
-            self.counts = counts;
+        if let Some(next) = self.next.take() {
+            self.tally = next.tally;
         }
         update_all(&mut self.keys);
     }
 
     /// What is kept stays that of the previous state, as the change is dropped. It takes no memory.
     pub fn forget(&mut self)
+        ensures dropped { self.new.next ≡ None }
         ensures kept { (schemas : List Schema) (table : Table) → AreEditsOf schemas table self.old → AreEditsOf schemas table self.new }
     {
         self.next = None;

@@ -5,7 +5,7 @@ ghost use Rattle.key_index.specs.Indexed.{HaveOneRow};
 ghost use Rattle.hol_incremental.specs.Beside.{IsFromEither};
 ghost use Rattle.hol_incremental.specs.Counts.{keyed_size_of};
 ghost use Rattle.hol_incremental.specs.EditKeys.{AreIndexes, TellsIndex};
-ghost use Rattle.hol_incremental.specs.Keeping.{AddsLacking, AreLacking, AreReadyKeys, CountsComing, CountsKeyed, IsReadyIndex, IsReserved, moved, settled};
+ghost use Rattle.hol_incremental.specs.Keeping.{AreLacking, AreReadyKeys, CountsComing, CountsKeyed, IsReadyIndex, IsReserved, moved, settled};
 
 use crate::key_paths::key_paths;
 use crate::plain_rows::PlainRows;
@@ -13,6 +13,7 @@ use hol_io::Steps;
 use hol_varint::Ordinals;
 use key_index::KeyIndex;
 use row_model::Rows;
+use row_packing::OrdinalRows;
 use std::alloc::{AllocError, Global};
 use std::sync::ledger::Ledger;
 
@@ -58,7 +59,7 @@ fn build_one<R: Rows, L: Ledger>(
 
 /// Makes each index ready for the rows of the next state. What the indexes answer stays as it is, also where memory is refused. It counts a step for each row
 /// that comes in a type that has one.
-pub(crate) fn reserve_all<A: Rows, B: Rows, L: Ledger>(
+pub(crate) fn reserve_all<A: OrdinalRows, B: OrdinalRows, L: Ledger>(
     alloc: Global,
     keys: &mut [Option<KeyIndex>],
     before: &A,
@@ -84,7 +85,7 @@ pub(crate) fn reserve_all<A: Rows, B: Rows, L: Ledger>(
 
 // The same of a type, if it has an index.
 #[tactic(auto, using(crate::proofs::IndexRows::none_comes))]
-fn reserve_type<A: Rows, B: Rows, L: Ledger>(
+fn reserve_type<A: OrdinalRows, B: OrdinalRows, L: Ledger>(
     alloc: Global,
     index: &mut Option<KeyIndex>,
     before: &A,
@@ -110,7 +111,7 @@ fn reserve_type<A: Rows, B: Rows, L: Ledger>(
 
 // The same of one, which is that of a type.
 #[tactic(auto, using(crate::proofs::IndexRows::some_come))]
-fn reserve_one<A: Rows, B: Rows, L: Ledger>(
+fn reserve_one<A: OrdinalRows, B: OrdinalRows, L: Ledger>(
     alloc: Global,
     index: &mut KeyIndex,
     before: &A,
@@ -134,36 +135,18 @@ fn reserve_one<A: Rows, B: Rows, L: Ledger>(
 }
 
 // The ordinals under which a type has rows in one state and none in another, rising.
-#[tactic(auto, using(crate::proofs::LackingRows::lacking_none, crate::proofs::LackingRows::lacking_step, crate::proofs::LackingRows::lacking_all))]
-fn lacking<A: Rows, B: Rows>(
+fn lacking<A: OrdinalRows, B: OrdinalRows>(
     alloc: Global,
     rows: &A,
     other: &B,
     type_index: u32,
 ) -> Result<Ordinals, AllocError>
+    requires known { type_index < length (A.schemas rows.now) }
+    requires model { B.schemas other.now ≡ A.schemas rows.now }
     ensures { IfOk result (AreLacking (A.table rows.now) (B.table other.now) type_index) }
 {
-    let mut ordinals = Ordinals::new(alloc);
-    for ordinal in 0..rows.bound(type_index) {
-        add_lacking(rows, other, type_index, ordinal, &mut ordinals)?;
-    }
-    Ok(ordinals)
-}
-
-// One of them more, if it is one.
-fn add_lacking<A: Rows, B: Rows>(
-    rows: &A,
-    other: &B,
-    type_index: u32,
-    ordinal: u32,
-    ordinals: &mut Ordinals,
-) -> Result<(), AllocError>
-    ensures { OnOk result (AddsLacking (A.table rows.now) (B.table other.now) type_index ordinal ordinals.old ordinals.new) }
-{
-    if rows.is_live(type_index, ordinal) && !other.is_live(type_index, ordinal) {
-        ordinals.push(ordinal)?;
-    }
-    Ok(())
+    rows.ordinals(type_index)
+        .without(alloc, other.ordinals(type_index))
 }
 
 /// Makes what each index is ready for the keys that it answers by. It takes no memory.

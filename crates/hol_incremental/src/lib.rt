@@ -12,11 +12,13 @@ mod key_paths;
 pub mod laws;
 mod leaving;
 mod lists;
+mod measuring;
 mod plain_rows;
 mod primary;
 mod putting;
 mod references;
 mod row_set;
+mod tally;
 mod tree_key;
 
 pub use edits::Edits;

@@ -1,37 +1,76 @@
 //! The rows that a row names.
-ghost use Rattle.std.specs.Prelude.{◌≡◌, ◌+◌, ◌++◌, ◌∷◌, [], ℕ, IfOk, OnOk, flat_map, map, zip};
+ghost use Rattle.std.specs.Prelude.{◌≡◌, ◌+◌, ◌++◌, ◌∷◌, [], ℕ, IfOk, OnOk, flat_map, length, map, zip};
 ghost use Rattle.row_model.specs.Row.{references_of_value};
 ghost use Rattle.row_model.specs.Table.{IsLive};
 ghost use Rattle.hol_incremental.specs.Counts.{indexed, named_at, named_by};
+ghost use Rattle.hol_incremental.specs.Sums.{AddsRowAt, TakesRowAt};
 
 use hol_io::Steps;
+use kept_sums::Sums;
 use row_model::{Row, Rows, Value};
 use schema_model::{Field, FieldKind, Model, Name, Shape};
 use std::alloc::{AllocError, Global};
 use std::sync::ledger::Ledger;
 
-/// The rows that the row under a live ordinal names, in its order, each by its type and ordinal. It counts a step.
-pub(crate) fn read_named<R: Rows, L: Ledger>(
+/// The rows that the row under a live ordinal names, in its order, each by its type and ordinal; and the row is added to the sums of its type. It counts a step.
+pub(crate) fn read_coming<R: Rows, L: Ledger>(
     alloc: Global,
     rows: &R,
     type_index: u32,
     ordinal: u32,
+    sums: &mut Vec<Sums>,
     steps: &mut Steps<L>,
 ) -> Result<Vec<(u32, u32)>, AllocError>
-    requires { IsLive (R.table rows.now) type_index ordinal }
+    requires live { IsLive (R.table rows.now) type_index ordinal }
+    requires types { length sums.old.items ≡ length (R.schemas rows.now) }
     ensures named { IfOk result (λ named. named.items ≡ named_at (R.schemas rows.now) (R.table rows.now) type_index ordinal) }
+    ensures sums { OnOk result (AddsRowAt (R.schemas rows.now) (R.table rows.now) type_index ordinal sums.old.items sums.new.items) }
     ensures counted { OnOk result (steps.new ≡ steps.old + 1) }
 {
     steps.tick();
     let lent = rows.lend(alloc, type_index, ordinal)?;
     let model = rows.model();
+    let shape = &model.schema(type_index).shape;
+    let named = rows_named(alloc, model, shape, lent.row())?;
+    sums[type_index as usize].add(shape, lent.row())?;
+    Ok(named)
+}
+
+/// The same of a row that leaves: it is taken from the sums of its type.
+pub(crate) fn read_leaving<R: Rows, L: Ledger>(
+    alloc: Global,
+    rows: &R,
+    type_index: u32,
+    ordinal: u32,
+    sums: &mut Vec<Sums>,
+    steps: &mut Steps<L>,
+) -> Result<Vec<(u32, u32)>, AllocError>
+    requires live { IsLive (R.table rows.now) type_index ordinal }
+    requires types { length sums.old.items ≡ length (R.schemas rows.now) }
+    ensures named { IfOk result (λ named. named.items ≡ named_at (R.schemas rows.now) (R.table rows.now) type_index ordinal) }
+    ensures sums { OnOk result (TakesRowAt (R.schemas rows.now) (R.table rows.now) type_index ordinal sums.old.items sums.new.items) }
+    ensures counted { OnOk result (steps.new ≡ steps.old + 1) }
+{
+    steps.tick();
+    let lent = rows.lend(alloc, type_index, ordinal)?;
+    let model = rows.model();
+    let shape = &model.schema(type_index).shape;
+    let named = rows_named(alloc, model, shape, lent.row())?;
+    sums[type_index as usize].take(shape, lent.row())?;
+    Ok(named)
+}
+
+// The rows that a row of a type of this shape names.
+fn rows_named(
+    alloc: Global,
+    model: &Model,
+    shape: &Shape,
+    row: &Row,
+) -> Result<Vec<(u32, u32)>, AllocError>
+    ensures { IfOk result (λ named. named.items ≡ named_by model.now shape.now row.now) }
+{
     let mut named = Vec::new(alloc);
-    push_row(
-        model,
-        &model.schema(type_index).shape,
-        lent.row(),
-        &mut named,
-    )?;
+    push_row(model, shape, row, &mut named)?;
     Ok(named)
 }
 

@@ -3,8 +3,8 @@ use Rattle.std.proofs.Common.{◌++◌, ◌+◌, ◌≤◌, take, get_or, append
 use Rattle.std.specs.Prelude.{All, IfSome, IsSome, slice_get}
 use Rattle.schema_model.specs.declared.model.walk_path.WalkPart.TheVariants.{Element}
 use Rattle.schema_model.specs.declared.schema.Schema.{Schema}
-use Rattle.record_views.specs.declared.elements.Elements.{Elements}
-use Rattle.record_views.specs.Elements.{elements_of}
+use Rattle.list_codec.specs.declared.elements.Elements.{Elements}
+use Rattle.list_codec.specs.Elements.{elements_of}
 use Rattle.row_model.specs.declared.row.Row.{Row}
 use Rattle.row_model.specs.Row.{IsRowInRange}
 use Rattle.row_model.specs.Table.{IsLive, IsTableOf, Table, row_at}

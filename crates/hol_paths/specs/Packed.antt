@@ -1,8 +1,8 @@
 -- A list that stands packed.
 use Rattle.std.specs.Prelude.{◌≡◌, ◌<◌, ◌^◌, ℕ, All}
 use Rattle.schema_model.specs.declared.model.walk_path.WalkPart.TheVariants.{Element}
-use Rattle.record_views.specs.declared.elements.Elements.{Elements}
-use Rattle.record_views.specs.Elements.{elements_of}
+use Rattle.list_codec.specs.declared.elements.Elements.{Elements}
+use Rattle.list_codec.specs.Elements.{elements_of}
 use Rattle.row_model.specs.Table.{Table}
 use Rattle.hol_paths.specs.Reached.{named_at}
 

@@ -1,11 +1,11 @@
 //! The elements of a list that a walk goes through, read where they stand packed.
 ghost use Rattle.std.specs.Prelude.{◌≡◌, ◌++◌, ◌<◌, ◌^◌, All, IfSome, OnOk};
-ghost use Rattle.record_views.specs.Elements.{elements_of};
+ghost use Rattle.list_codec.specs.Elements.{elements_of};
 ghost use Rattle.row_model.specs.Table.{IsLive, IsTableOf};
 ghost use Rattle.hol_paths.specs.Packed.{IsPackedList};
 
 use column_rows::ColumnRows;
-use record_views::Elements;
+use list_codec::Elements;
 use row_model::Rows;
 use std::alloc::AllocError;
 

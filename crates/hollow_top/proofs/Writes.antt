@@ -3,6 +3,7 @@ use Rattle.std.proofs.Common.{◌≡◌, ◌<◌, ◌≤◌, ℕ, List, [], ◌�
 use Rattle.std.specs.List.{slice_get}
 use Rattle.std.specs.Prelude.{IsErrAnd}
 use Rattle.std.specs.Io.KnownBytes.{Appends}
+use Rattle.row_model.specs.declared.row.Row.{Row}
 use Rattle.schema_model.specs.declared.schema.Schema.{Schema}
 use Rattle.row_model.specs.Table.{Table, IsTableOf, row_at}
 use Rattle.hollow_top.specs.declared.stop.Stop.{Stop}
@@ -46,14 +47,11 @@ module _ (schemas : List Schema) (table : Table) (t ordinal : ℕ) (before after
   abbrev pub LeavesRow : Result Unit Stop → Type 0
   LeavesRow r = IfSome (slice_get schemas t) (λ schema. IfSome (row_at table t ordinal) (λ row. HoldsLines ((schema, (ordinal, row)) ∷ []) before after r))
 
-  abbrev pub IsLineThere : List ℕ → Type 0
-  IsLineThere line = IfSome (slice_get schemas t) (λ schema. IfSome (row_at table t ordinal) (λ row. IsRowLine (schema, (ordinal, row)) line))
-
   -- its line was put
-  pub row_put : (line : List ℕ) (r : Result Unit Stop) → IsLineThere line → LeavesText line before after r → LeavesRow r
-  row_put line r there left =
-      if_found (slice_get schemas t) _ (λ schema at. if_found (row_at table t ordinal) _ (λ row live.
-      (line, one_line (schema, (ordinal, row)) line (found_if (row_at table t ordinal) _ row (found_if (slice_get schemas t) _ schema there at) live), left)))
+  pub row_put : (r : Result Unit Stop)
+      → ((schema : Schema) (row : Row) → slice_get schemas t ≡ Some schema → row_at table t ordinal ≡ Some row → (line : List ℕ) × IsRowLine (schema, (ordinal, row)) line × LeavesText line before after r) → LeavesRow r
+  row_put r put = if_found (slice_get schemas t) _ (λ schema at. if_found (row_at table t ordinal) _ (λ row live.
+      (let line = put schema row at live in (line.0, one_line (schema, (ordinal, row)) line.0 line.1, line.2))))
 
   -- its line was not made
   pub row_not_made : IsTableOf schemas table → Appends before.0 after.0 [] → LeavesRow (Err Memory)

@@ -3,14 +3,14 @@ ghost use Rattle.std.specs.Prelude.{◌≡◌, ◌<◌, ◌≤◌, [], ◌∷◌
 ghost use Rattle.std.specs.List.{zip};
 ghost use Rattle.hol_io.specs.Causes.{Rose};
 ghost use Rattle.row_model.specs.Table.{IsTableOf, IsLive, row_at};
-ghost use Rattle.json_rows.specs.LineForm.{IsLineForm};
+ghost use Rattle.json_rows.specs.Standing.{AreLinesIn};
 ghost use Rattle.hollow_top.specs.HeldLines.{HoldsLines, LeavesText};
 ghost use Rattle.hollow_top.specs.RowLines.{LeavesLines, rows_of_type, rows_in_order};
 
 use crate::stop::Stop;
+use column_rows::ColumnRows;
 use hol_io::{Sink, write_all};
-use json_rows::{LineForm, line_form, put_row_line};
-use row_model::Rows;
+use json_rows::{TypeLines, put_row_line, type_lines};
 use std::alloc::Global;
 
 /// Lines wait until they are so many bytes.
@@ -18,7 +18,7 @@ const BATCH: usize = 0x8000;
 
 /// Writes a line for each row of a table: types in model order, and the ordinals of each type rising. Lines are written
 /// many at a time, and the last ones before it ends.
-pub fn show_rows<R: Rows, O: Sink>(alloc: Global, rows: &R, out: &mut O) -> Result<(), Stop>
+pub fn show_rows<R: ColumnRows, O: Sink>(alloc: Global, rows: &R, out: &mut O) -> Result<(), Stop>
     ensures lines { LeavesLines (rows_in_order (R.schemas rows.now) (R.table rows.now))
         (O.taken out.old) (O.taken out.new) result }
     ensures sink_fault { IsErrOf result Stop.Sink → Rose (O.faults out.old) (O.faults out.new) }
@@ -33,7 +33,7 @@ pub fn show_rows<R: Rows, O: Sink>(alloc: Global, rows: &R, out: &mut O) -> Resu
 }
 
 // Puts a line for each row of a type.
-fn show_type<R: Rows, O: Sink>(
+fn show_type<R: ColumnRows, O: Sink>(
     alloc: Global,
     rows: &R,
     type_index: u32,
@@ -48,36 +48,34 @@ fn show_type<R: Rows, O: Sink>(
     ensures sink_fault { IsErrOf result Stop.Sink → Rose (O.faults out.old) (O.faults out.new) }
     ensures later { O.faults out.old ≤ O.faults out.new }
 {
-    let form = line_form(alloc, rows.model().schema(type_index))?;
+    let of_type = type_lines(alloc, rows, type_index)?;
     for ordinal in 0..rows.bound(type_index) {
         if rows.is_live(type_index, ordinal) {
-            put_line(alloc, rows, type_index, ordinal, &form, pending, out)?;
+            put_line(alloc, rows, type_index, ordinal, &of_type, pending, out)?;
         }
     }
     Ok(())
 }
 
 // Puts the line of a row behind those that wait.
-fn put_line<R: Rows, O: Sink>(
+fn put_line<R: ColumnRows, O: Sink>(
     alloc: Global,
     rows: &R,
     type_index: u32,
     ordinal: u32,
-    form: &LineForm<'_>,
+    of_type: &TypeLines<'_>,
     pending: &mut Vec<u8>,
     out: &mut O,
 ) -> Result<(), Stop>
     requires fits { IsTableOf (R.schemas rows.now) (R.table rows.now) }
     requires live { IsLive (R.table rows.now) type_index ordinal }
-    requires formed { IsLineForm form.now }
-    requires schema { slice_get (R.schemas rows.now) type_index ≡ Some form.now.schema.now }
+    requires lines { AreLinesIn (R.schemas rows.now) (R.table rows.now) type_index of_type.now }
     ensures lines { IfSome (slice_get (R.schemas rows.now) type_index) (λ schema. IfSome (row_at (R.table rows.now) type_index ordinal)
         (λ row. HoldsLines ((schema, (ordinal, row)) ∷ []) (O.taken out.old, pending.old.items) (O.taken out.new, pending.new.items) result)) }
     ensures sink_fault { IsErrOf result Stop.Sink → Rose (O.faults out.old) (O.faults out.new) }
     ensures later { O.faults out.old ≤ O.faults out.new }
 {
-    let row = rows.row(alloc, type_index, ordinal)?;
-    put_row_line(alloc, form, ordinal, &row, pending)?;
+    put_row_line(alloc, rows, of_type, type_index, ordinal, pending)?;
     write_many(pending, out)
 }
 

@@ -7,3 +7,5 @@ pub mod Leads
 pub mod Put
 pub mod PlainTexts
 pub mod Behind
+pub mod PackedTexts
+pub mod Stands

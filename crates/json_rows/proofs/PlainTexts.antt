@@ -16,10 +16,10 @@ use Rattle.json_rows.specs.PlainText.{IsPlainUnit}
 use Rattle.json_rows.specs.StoredRow.{IsTextData}
 use Rattle.json_rows.proofs.Once.{text_prints_once}
 
-first_plain : (unit : ℕ) (units : List ℕ) → All IsPlainUnit (unit ∷ units) → IsPlainUnit unit
+pub first_plain : (unit : ℕ) (units : List ℕ) → All IsPlainUnit (unit ∷ units) → IsPlainUnit unit
 first_plain unit units all = all 0 0 (omega arith)
 
-rest_plain : (unit : ℕ) (units : List ℕ) → All IsPlainUnit (unit ∷ units) → All IsPlainUnit units
+pub rest_plain : (unit : ℕ) (units : List ℕ) → All IsPlainUnit (unit ∷ units) → All IsPlainUnit units
 rest_plain unit units all = λ k d fits. all (suc k) d (omega arith)
 
 plain_ascii : (units : List ℕ) → All IsPlainUnit units → IsAscii units

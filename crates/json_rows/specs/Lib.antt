@@ -3,3 +3,4 @@ pub mod FieldOrder
 pub mod RowLine
 pub mod LineForm
 pub mod PlainText
+pub mod Standing

@@ -24,7 +24,7 @@ pub struct LineForm<'a> {
 }
 
 /// What the lines of the rows of a type have in common. It fails only for want of memory.
-pub fn line_form(alloc: Global, schema: &Schema) -> Result<LineForm<'_>, AllocError>
+pub(crate) fn line_form(alloc: Global, schema: &Schema) -> Result<LineForm<'_>, AllocError>
     ensures formed { IfOk result IsLineForm }
     ensures schema { IfOk result (λ form. form.schema.now ≡ schema.now) }
 {

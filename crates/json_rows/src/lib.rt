@@ -1,14 +1,17 @@
 //! Stored rows in JSON.
 #![tactic(auto)]
 
+mod field;
 mod form;
 pub mod laws;
 mod line;
 mod order;
 mod plain;
+mod standing;
 mod stored;
 mod value;
 
-pub use form::{LineForm, line_form};
-pub use line::put_row_line;
+pub use form::LineForm;
+pub use line::{put_ordinals, put_row_line};
+pub use standing::{Standing, TypeLines, type_lines};
 pub use stored::{leaf_value, row_value};

@@ -46,7 +46,7 @@ pub(crate) fn put_unsigned(number: u64, out: &mut Vec<u8>) -> Result<(), AllocEr
 
 // The digits of a number, behind its sign where it is negative.
 #[inline(always)]
-fn put_signed(number: i64, out: &mut Vec<u8>) -> Result<(), AllocError>
+pub(crate) fn put_signed(number: i64, out: &mut Vec<u8>) -> Result<(), AllocError>
     ensures put { OnOk result (out.new.items ≡ out.old.items ++ signed_decimal number) }
     ensures err { OnErr result (out.new.items ≡ out.old.items) }
 {

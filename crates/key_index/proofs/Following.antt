@@ -1,6 +1,7 @@
 -- The keys of the next state, and those of an index that is built.
-use Rattle.std.proofs.Common.{◌≡◌, ◌⊎◌, ◌↔◌, ℕ, zero, suc, ◌+◌, ◌<◌, ◌≤◌, true, false, List, [], ◌∷◌, ◌++◌, Option, Some, None, length, refl, sym, ap, subst, ◌∙◌, inl, inr, arith}
-use Rattle.std.specs.Prelude.{All, Contains, IsSome, MatchOption, is_some, map, slice_index_or}
+use Rattle.std.proofs.Common.{◌≡◌, ◌⊎◌, ◌↔◌, ℕ, zero, suc, ◌+◌, ◌<◌, ◌≤◌, Bool, true, false, ◌&&◌, cond, List, [], ◌∷◌, ◌++◌, Option, Some, None, length, refl, sym, ap, subst, ◌∙◌, inl, inr, arith}
+use Rattle.std.specs.Prelude.{All, Contains, IsSome, IsTrue, MatchOption, is_some, map, slice_index_or}
+use Rattle.std.specs.List.{list_all}
 use Rattle.std.specs.Ordering.{nat_cmp}
 use Rattle.std.specs.FinMap.{get, insert, remove, empty, get-empty}
 use Rattle.std.proofs.lemmas.Bool.{cases_eq}
@@ -15,7 +16,7 @@ use Rattle.row_model.specs.Key.{key_of}
 use Rattle.row_model.specs.Row.{Rises}
 use Rattle.row_model.specs.Table.{IsLive, Table, row_at}
 use Rattle.key_index.specs.Indexed.{AreKeysOf, Follows, KeyMap}
-use Rattle.key_index.specs.Slots.{added_row, next_of, with_added, with_keys, without}
+use Rattle.key_index.specs.Slots.{Fits, Roomy, added_row, fits, is_small, keyed_row, next_of, placed, with_added, with_keys, without}
 use Rattle.key_index.specs.declared.reserved.AddedRow.{AddedRow}
 use Rattle.key_index.specs.declared.reserved.Reserved.{Reserved}
 use Rattle.key_index.proofs.Lists.{contains_either, contains_first, contains_later, contains_none}
@@ -73,22 +74,59 @@ module _ (key : ℕ → Option (List Value)) where
   stay (x ∷ os) m o never = stay os (insert m x (key x)) o (λ h. never (contains_later x o os h)) ∙ get_beside m x o (key x) (λ e. never (contains_first x o os (sym e)))
 
   -- rows that are read come as their ordinals do
-  come_as_read : (os : List ℕ) (m : KeyMap) → with_added m (map (added_row key) os) ≡ with_keys key m os
-  come_as_read [] m = refl
-  come_as_read (o ∷ os) m = come_as_read os (insert m o (key o))
+  come_as_read : (os : List ℕ) (rows : List AddedRow) (m : KeyMap) → map added_row rows ≡ map (keyed_row key) os → with_added m rows ≡ with_keys key m os
+  come_as_read [] [] m read = refl
+  come_as_read [] (row ∷ rows) m read = absurd cc
+  come_as_read (o ∷ os) [] m read = absurd cc
+  come_as_read (o ∷ os) (row ∷ rows) m read =
+      let first : added_row row ≡ keyed_row key o = cc in
+      let later : map added_row rows ≡ map (keyed_row key) os = cc in
+      ap (λ (a : ℕ × Option (Option (List Value))). with_added (placed m a.0 a.1) rows) first ∙ come_as_read os rows (insert m o (key o)) later
 
-  pub next_is : (keys : KeyMap) (removed added : List ℕ) (reserved : Reserved) → reserved.removed ≡ removed → reserved.added ≡ map (added_row key) added → next_of keys reserved ≡ with_keys key (without keys removed) added
+  pub next_is : (keys : KeyMap) (removed added : List ℕ) (reserved : Reserved) → reserved.removed ≡ removed → map added_row reserved.added ≡ map (keyed_row key) added → next_of keys reserved ≡ with_keys key (without keys removed) added
   next_is keys removed added reserved leave comes =
-      (λ i. with_added (without keys (leave i)) (comes i)) ∙ come_as_read added (without keys removed)
+      (λ i. with_added (without keys (leave i)) reserved.added) ∙ come_as_read added reserved.added (without keys removed) comes
 
   -- there is room for the rows that come
-  pub rows_within : (os : List ℕ) (room : ℕ) → All (λ o. o < room) os → All (λ (row : AddedRow). row.ordinal < room) (map (added_row key) os)
-  rows_within [] room within = λ k d low. absurd (omega arith)
-  rows_within (o ∷ os) room within = λ k d low. at (rows_within os room (λ j e short. within (suc j) e (omega arith))) k d low
+  pub rows_within : (os : List ℕ) (rows : List AddedRow) (room : ℕ) → map added_row rows ≡ map (keyed_row key) os → All (λ o. o < room) os → All (λ (row : AddedRow). row.ordinal < room) rows
+  rows_within os [] room read within = λ k d low. absurd (omega arith)
+  rows_within [] (row ∷ rows) room read within = absurd cc
+  rows_within (o ∷ os) (row ∷ rows) room read within = λ k d low. at (rows_within os rows room later (λ j e short. within (suc j) e (omega arith))) k d low
     where
-      at : All (λ (row : AddedRow). row.ordinal < room) (map (added_row key) os) → (k : ℕ) (d : AddedRow) → k < length (map (added_row key) (o ∷ os)) → (slice_index_or (map (added_row key) (o ∷ os)) k d).ordinal < room
-      at later zero d low = within 0 0 (omega arith)
-      at later (suc k) d low = later k d (omega arith)
+      first : added_row row ≡ keyed_row key o
+      first = cc
+
+      later : map added_row rows ≡ map (keyed_row key) os
+      later = cc
+
+      here : row.ordinal ≡ o
+      here = ap (λ (a : ℕ × Option (Option (List Value))). a.0) first
+
+      at : All (λ (r : AddedRow). r.ordinal < room) rows → (k : ℕ) (d : AddedRow) → k < length (row ∷ rows) → (slice_index_or (row ∷ rows) k d).ordinal < room
+      at others zero d low = (let inside = within 0 0 (omega arith) in omega (arith, inside, here))
+      at others (suc k) d low = others k d (omega arith)
+
+-- rows fit where all have small keys, or there is room for keys of any kind
+fits_all : (large : Bool) (rows : List AddedRow) → IsTrue (cond (list_all (λ (row : AddedRow). is_small row.slot) rows) true large) → All (λ (row : AddedRow). IsTrue (fits large row.slot)) rows
+fits_all large [] fit = λ k d low. absurd (omega arith)
+fits_all large (row ∷ rows) fit = λ k d low. at (fits_all large rows (rest (is_small row.slot) (list_all (λ (r : AddedRow). is_small r.slot) rows) fit)) k d low
+  where
+    rest : (b more : Bool) → IsTrue (cond (b && more) true large) → IsTrue (cond more true large)
+    rest true more is = is
+    rest false true is = refl
+    rest false false is = is
+
+    here : (b more : Bool) → IsTrue (cond (b && more) true large) → IsTrue (cond b true large)
+    here true more is = refl
+    here false more is = is
+
+    at : All (λ (r : AddedRow). IsTrue (fits large r.slot)) rows → (k : ℕ) (d : AddedRow) → k < length (row ∷ rows) → IsTrue (fits large (slice_index_or (row ∷ rows) k d).slot)
+    at others zero d low = here (is_small row.slot) (list_all (λ (r : AddedRow). is_small r.slot) rows) fit
+    at others (suc k) d low = others k d (omega arith)
+
+pub rows_fit : (rows : Roomy) (added : List AddedRow) → All (λ (row : AddedRow). row.ordinal < rows.room) added
+    → IsTrue (cond (list_all (λ (row : AddedRow). is_small row.slot) added) true rows.large) → All (Fits rows) added
+rows_fit rows added inside fit = λ k d low. (inside k d low, fits_all rows.large added fit k d low)
 
 -- ---- the keys of the next state
 

@@ -1,10 +1,9 @@
 -- Slots and chains of the keys' hashes stay in agreement, and how many slots have a key.
-use Rattle.std.proofs.Common.{◌≡◌, ℕ, zero, suc, ◌+◌, ◌<◌, ◌≤◌, ◌^◌, true, cond, List, [], ◌∷◌, ◌++◌, Option, Some, None, length, max, refl, sym, ap, subst, ◌∙◌, inl, inr, arith, append_assoc}
+use Rattle.std.proofs.Common.{◌≡◌, ℕ, zero, suc, ◌+◌, ◌<◌, ◌≤◌, ◌^◌, Bool, true, cond, List, [], ◌∷◌, Option, Some, None, length, max, refl, sym, ap, subst, ◌∙◌, inl, inr, arith}
 use Rattle.std.specs.Prelude.{IsSome, count_by, is_some, nat_eq, replicate, slice_set}
 use Rattle.std.specs.Int.{IsPowerOfTwo}
 use Rattle.std.specs.FinMap.{remove}
 use Rattle.std.proofs.lemmas.Bool.{cases_eq, cases_lt}
-use Rattle.std.proofs.lemmas.List.{append-nil, length-append, replicate_more}
 use Rattle.std.proofs.lemmas.List.Sums.{sum_by-append, sum_by-cons}
 use Rattle.std.proofs.lemmas.Nat.{pow_pos}
 use Rattle.linked_slots.specs.Chained.{Chained, IsBuckets, IsReserved, hash_of}
@@ -16,15 +15,15 @@ use Rattle.key_index.specs.declared.slot.Slot.TheVariants.{Free}
 use Rattle.key_index.proofs.SlotKeys.{keys_past, keys_placed, length_set, read_beside, read_more, read_set}
 
 -- what contracts see of slots
-abbrev pub seen : List Slot → Roomy
-seen slots = record { room = length slots; keys = keys_of slots }
+abbrev pub seen : Bool → List Slot → Roomy
+seen large slots = record { room = length slots; large = large; keys = keys_of slots }
 
-pub placed_seen : (slots : List Slot) (o : ℕ) (slot : Slot) → o < length slots → seen (slice_set slots o slot) ≡ record (seen slots) { keys = placed (keys_of slots) o (row_key slot) }
-placed_seen slots o slot inside = λ i. record { room = length_set slots o slot i; keys = keys_placed slots o slot inside i }
+pub placed_seen : (large : Bool) (slots : List Slot) (o : ℕ) (slot : Slot) → o < length slots → seen large (slice_set slots o slot) ≡ record (seen large slots) { keys = placed (keys_of slots) o (row_key slot) }
+placed_seen large slots o slot inside = λ i. record { room = length_set slots o slot i; large = large; keys = keys_placed slots o slot inside i }
 
 -- past the slots there is nothing to remove
-pub removed_past : (slots : List Slot) (o : ℕ) → length slots ≤ o → seen slots ≡ record (seen slots) { keys = remove (keys_of slots) o }
-removed_past slots o past = λ i. record { room = length slots; keys = sym (keys_past slots o past) i }
+pub removed_past : (large : Bool) (slots : List Slot) (o : ℕ) → length slots ≤ o → seen large slots ≡ record (seen large slots) { keys = remove (keys_of slots) o }
+removed_past large slots o past = λ i. record { room = length slots; large = large; keys = sym (keys_past slots o past) i }
 
 -- ---- how many slots have a key
 
@@ -136,15 +135,3 @@ module _ (slots : List Slot) (chains : Chained) (buckets keyed : ℕ) (kept : Ar
       hashed = placed_hashes;
       count = omega (arith, one_less, one_more, kept.count, count_set slots o slot inside, ap one_if (linked_is o));
     }
-
--- ---- further free slots
-
-pub widens_none : (slots : List Slot) (room : ℕ) → Widens slots room slots
-widens_none slots room = record { count = 0; padded = sym (append-nil slots); short = omega arith }
-
-pub widens_more : (slots middle more : List Slot) (room : ℕ) → Widens slots room middle → length middle < room → more ≡ middle ++ Free ∷ [] → Widens slots room more
-widens_more slots middle more room widens below is = record {
-  count = widens.count + 1;
-  padded = is ∙ ap (λ s. s ++ Free ∷ []) widens.padded ∙ append_assoc slots (replicate widens.count Free) (Free ∷ []) ∙ ap (λ s. slots ++ s) (replicate_more widens.count Free);
-  short = omega (arith, ap length is, length-append middle (Free ∷ []), below, widens.short);
-}

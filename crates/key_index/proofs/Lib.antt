@@ -1,5 +1,6 @@
 pub mod Answering
 pub mod Following
+pub mod Forms
 pub mod Keeping
 pub mod KeptKeys
 pub mod Lists

@@ -1,6 +1,6 @@
 -- What stands under each ordinal, the keys of the rows that slots make, and those of the next state.
-use Rattle.std.specs.Prelude.{refl, ◌≡◌, ◌↔◌, ◌+◌, ◌<◌, ◌≤◌, ◌^◌, ℕ, Bool, List, [], ◌∷◌, ◌++◌, Option, Some, None, Contains, max, length, slice_get, count_by, fold, replicate, option_and_then, option_map, is_some, nat_eq, if◌then◌else◌}
-use Rattle.std.specs.Coded.{Coded, code_by, coded×, coded_ℕ}
+use Rattle.std.specs.Prelude.{refl, ◌≡◌, ◌↔◌, ◌+◌, ◌<◌, ◌≤◌, ◌^◌, ℕ, Bool, true, false, List, [], ◌∷◌, ◌++◌, Option, Some, None, Contains, IsTrue, max, length, map, slice_get, count_by, fold, replicate, option_and_then, option_map, is_some, nat_eq, nat_lt, ℤ, pos, negsuc, if◌then◌else◌}
+use Rattle.std.specs.Coded.{Coded, code_by, coded×, coded_bool, coded_ℕ}
 use Rattle.std.specs.FinMap.{from_entries, insert, remove}
 use Rattle.linked_slots.specs.Chained.{Chained, IsBuckets, hash_of}
 use Rattle.row_hash.specs.Hash.{values_hash}
@@ -10,15 +10,19 @@ use Rattle.key_index.specs.declared.reserved.AddedRow.{AddedRow}
 use Rattle.key_index.specs.declared.reserved.Reserved.{Reserved}
 use Rattle.key_index.specs.declared.slot.Slot.{Slot}
 use Rattle.key_index.specs.declared.slot.Slot.TheVariants.{Free, Keyless, One, More}
+use Rattle.key_index.specs.declared.slot.SmallSlot.{SmallSlot}
+use Rattle.key_index.specs.declared.key_slots.KeySlots.{KeySlots}
 use Rattle.key_index.specs.Indexed.{KeyMap, key_map_code}
 
--- for how many ordinals there is room, and the keys of the rows
+-- for how many ordinals there is room, whether it is for keys of any kind, and the keys of the rows
 pub record Roomy : Type 0 where
   pub room : ℕ
+  pub large : Bool
   pub keys : KeyMap
 
 abbrev pub roomy_code : Coded Roomy
-roomy_code = code_by (ℕ × KeyMap) (coded× coded_ℕ key_map_code) (λ r. (r.room, r.keys)) (λ p. record { room = p.0; keys = p.1 }) (λ _. refl)
+roomy_code =
+    code_by (ℕ × (Bool × KeyMap)) (coded× coded_ℕ (coded× coded_bool key_map_code)) (λ r. (r.room, (r.large, r.keys))) (λ p. record { room = p.0; large = p.1.0; keys = p.1.1 }) (λ _. refl)
 
 -- ---- one slot
 
@@ -36,6 +40,41 @@ key_in Keyless = None
 key_in (One value) = Some (value ∷ [])
 key_in (More values) = Some values
 
+-- the same in a slot for keys of any kind
+abbrev pub slot_of : SmallSlot → Slot
+slot_of SmallSlot.Free = Free
+slot_of SmallSlot.Keyless = Keyless
+slot_of (SmallSlot.Int number) = One (Value.Int number)
+slot_of (SmallSlot.Long number) = One (Value.Long number)
+slot_of (SmallSlot.Bool flag) = One (Value.Bool flag)
+slot_of (SmallSlot.Ref ordinal) = One (Value.Ref ordinal)
+
+-- whether a number has 32 bits at most, one of them for its sign
+abbrev pub is_short : ℤ → Bool
+is_short (pos number) = nat_lt number (2 ^ 31)
+is_short (negsuc number) = nat_lt number (2 ^ 31)
+
+-- whether a value has 32 bits at most
+abbrev pub is_small_value : Value → Bool
+is_small_value Value.Null = false
+is_small_value (Value.Int number) = true
+is_small_value (Value.Long number) = is_short number
+is_small_value (Value.Bool flag) = true
+is_small_value (Value.Text units) = false
+is_small_value (Value.Bytes bytes) = false
+is_small_value (Value.Ref ordinal) = true
+
+-- whether a small slot has room for it
+abbrev pub is_small : Slot → Bool
+is_small Free = true
+is_small Keyless = true
+is_small (One value) = is_small_value value
+is_small (More values) = false
+
+-- whether such slots have room for it: those for keys of any kind, or small ones
+abbrev pub fits : Bool → Slot → Bool
+fits large slot = (if is_small slot then true else large)
+
 -- whether there is a row that has a key
 abbrev pub has_key : Slot → Bool
 has_key slot = is_some (key_in slot)
@@ -46,6 +85,16 @@ placed keys ordinal None = remove keys ordinal
 placed keys ordinal (Some key) = insert keys ordinal key
 
 -- ---- all slots
+
+-- what stands under each ordinal
+abbrev pub slots_in : KeySlots → List Slot
+slots_in (KeySlots.Small slots) = map slot_of slots.items
+slots_in (KeySlots.Large slots) = slots.items
+
+-- whether they have room for keys of any kind
+abbrev pub is_large : KeySlots → Bool
+is_large (KeySlots.Small slots) = false
+is_large (KeySlots.Large slots) = true
 
 -- what a reading of the slots gives under an ordinal
 abbrev pub read_at : {X : Type 0} → (Slot → Option X) → List Slot → ℕ → Option X
@@ -116,11 +165,19 @@ with_keys key keys ordinals = fold (λ more ordinal. insert more ordinal (key or
 
 -- keys with those of rows that come
 abbrev pub with_added : KeyMap → List AddedRow → KeyMap
-with_added keys rows = fold (λ more (row : AddedRow). insert more row.ordinal row.key) keys rows
+with_added keys rows = fold (λ more (row : AddedRow). placed more row.ordinal (row_key row.slot)) keys rows
 
--- the row that comes under an ordinal
-abbrev pub added_row : (ℕ → Option (List Value)) → ℕ → AddedRow
-added_row key ordinal = record { ordinal = ordinal; key = key ordinal }
+-- the ordinal of a row that comes, and what stands under it
+abbrev pub added_row : AddedRow → ℕ × Option (Option (List Value))
+added_row row = (row.ordinal, row_key row.slot)
+
+-- a row with its key under an ordinal
+abbrev pub keyed_row : (ℕ → Option (List Value)) → ℕ → ℕ × Option (Option (List Value))
+keyed_row key ordinal = (ordinal, Some (key ordinal))
+
+-- there is room for a row that comes
+abbrev pub Fits : Roomy → AddedRow → Type 0
+Fits rows row = (row.ordinal < rows.room) × IsTrue (fits rows.large row.slot)
 
 -- the keys of the next state
 abbrev pub next_of : KeyMap → Reserved → KeyMap

@@ -29,9 +29,9 @@ pub struct KeyIndex {
 }
 
 impl Model for KeyIndex {
-    ghost use Rattle.std.specs.Prelude.{◌<◌, All, IfSome, option_map};
+    ghost use Rattle.std.specs.Prelude.{All, IfSome, option_map};
     ghost use Rattle.key_index.specs.Indexed.{Indexed, indexed_code};
-    ghost use Rattle.key_index.specs.Slots.{next_of};
+    ghost use Rattle.key_index.specs.Slots.{Fits, next_of};
 
     ghost Value = { Indexed };
 
@@ -39,7 +39,7 @@ impl Model for KeyIndex {
 
     ghost view = { λ a. record { type_index = a.type_index; paths = a.paths; keys = a.rows.keys; next = option_map (next_of a.rows.keys) a.next } };
 
-    ghost invariant = { λ a. IfSome a.next (λ reserved. All (λ row. row.ordinal < a.rows.room) reserved.added) };
+    ghost invariant = { λ a. IfSome a.next (λ reserved. All (Fits a.rows) reserved.added) };
 }
 
 impl KeyIndex {
@@ -67,7 +67,7 @@ impl KeyIndex {
         for ordinal in 0..bound {
             if rows.is_live(type_index, ordinal) {
                 let slot = read_slot(alloc, rows, &column, &paths, type_index, ordinal, steps)?;
-                kept.place(ordinal, slot);
+                kept.add(ordinal, slot)?;
             }
         }
         Ok(KeyIndex {
@@ -109,6 +109,7 @@ impl KeyIndex {
             added,
             steps,
         )?;
+        self.rows.fit(reserved.is_small())?;
         self.next = Some(reserved);
         Ok(())
     }

@@ -3,9 +3,10 @@ ghost use Rattle.std.specs.Prelude.{◌≡◌, ◌≤◌, ◌<◌, ◌+◌, ◌^
 ghost use Rattle.std.specs.Int.{IsPowerOfTwo};
 ghost use Rattle.linked_slots.specs.Chained.{IsBuckets, hash_of};
 ghost use Rattle.row_hash.specs.Hash.{values_hash as hash_of_values};
-ghost use Rattle.key_index.specs.Slots.{AreHashed, AreOnce, has_key, key_hash, key_in, one_if, read_at};
+ghost use Rattle.key_index.specs.Slots.{AreHashed, AreOnce, has_key, key_hash, key_in, one_if, read_at, slots_in};
 
-use crate::slot::{Slot, is_keyed_by};
+use crate::key_slots::KeySlots;
+use crate::slot::Slot;
 use linked_slots::Chains;
 use row_hash::values_hash;
 use row_model::Value;
@@ -57,12 +58,12 @@ pub(crate) fn link(chains: &mut Chains, keyed: &mut u64, ordinal: u32, slot: &Sl
 /// The ordinals whose rows have a key, each once, as they stand in its chain.
 pub(crate) fn found(
     alloc: Global,
-    slots: &[Slot],
+    slots: &KeySlots,
     chains: &Chains,
     key: &[Value],
 ) -> Result<Vec<u32>, AllocError>
-    requires { AreHashed slots.now chains.now }
-    ensures are { IfOk result (λ found. (ordinal : ℕ) → Contains found.items ordinal ↔ (read_at key_in slots.now ordinal ≡ Some key.now)) }
+    requires { AreHashed (slots_in slots.now) chains.now }
+    ensures are { IfOk result (λ found. (ordinal : ℕ) → Contains found.items ordinal ↔ (read_at key_in (slots_in slots.now) ordinal ≡ Some key.now)) }
     ensures once { IfOk result (λ found. AreOnce found.items) }
 {
     let hash = values_hash(key);
@@ -78,10 +79,10 @@ pub(crate) fn found(
 }
 
 // Whether a row with a key of this hash stands under an ordinal. Keys of other hashes are not looked at.
-fn stands_at(slots: &[Slot], chains: &Chains, ordinal: u32, hash: u32, key: &[Value]) -> bool
-    requires linked { AreHashed slots.now chains.now }
+fn stands_at(slots: &KeySlots, chains: &Chains, ordinal: u32, hash: u32, key: &[Value]) -> bool
+    requires linked { AreHashed (slots_in slots.now) chains.now }
     requires hashed { hash ≡ hash_of_values key.now }
-    ensures { IsTrue result ↔ (read_at key_in slots.now ordinal ≡ Some key.now) }
+    ensures { IsTrue result ↔ (read_at key_in (slots_in slots.now) ordinal ≡ Some key.now) }
 {
-    chains.hash(ordinal) == Some(hash) && is_keyed_by(slots, ordinal, key)
+    chains.hash(ordinal) == Some(hash) && slots.is_keyed_by(ordinal, key)
 }

@@ -1,22 +1,25 @@
 //! The rows of a type with their keys, each once: by ordinal, and by key.
-ghost use Rattle.std.specs.Prelude.{◌≡◌, ◌≤◌, ◌<◌, Some, IfOk, OnOk};
-ghost use Rattle.std.specs.FinMap.{empty, insert, remove};
+ghost use Rattle.std.specs.Prelude.{◌≡◌, ◌≤◌, ◌<◌, IfOk, IsTrue, OnOk, true, if◌then◌else◌};
+ghost use Rattle.std.specs.FinMap.{empty, remove};
 ghost use Rattle.key_index.specs.Indexed.{AreUnder, CountsKeys};
-ghost use Rattle.key_index.specs.Slots.{AreOnce, AreSorted, placed, row_key};
+ghost use Rattle.key_index.specs.Slots.{AreOnce, AreSorted, fits, placed, row_key};
 
 use crate::key_chains::{buckets_for, found, link, unlink};
-use crate::slot::{Slot, make_room};
+use crate::key_slots::KeySlots;
+use crate::slot::Slot;
 use hol_varint::Ordinals;
 use linked_slots::Chains;
 use row_model::Values;
 use std::alloc::{AllocError, Global};
 use std::marker::Model;
 
-/// The rows of a type with their keys. Contracts see for how many ordinals there is room, and the rows' keys by ordinal.
+/// The rows of a type with their keys. Contracts see for how many ordinals there is room, whether that is for keys of any kind, and the rows'
+/// keys by ordinal.
 #[derive(Drop)]
 pub(crate) struct KeyRows {
+    alloc: Global,
     /// What stands under each ordinal.
-    slots: Vec<Slot>,
+    slots: KeySlots,
     /// The ordinals of the rows that have a key, by the keys' hashes.
     chains: Chains,
     /// How many buckets the chains have.
@@ -36,24 +39,25 @@ fn rising(mut ordinals: Vec<u32>) -> Ordinals
 
 impl Model for KeyRows {
     ghost use Rattle.std.specs.Prelude.{length};
-    ghost use Rattle.key_index.specs.Slots.{AreKept, Roomy, keys_of, roomy_code};
+    ghost use Rattle.key_index.specs.Slots.{AreKept, Roomy, is_large, keys_of, roomy_code, slots_in};
 
     ghost Value = { Roomy };
 
     ghost coded = { roomy_code };
 
-    ghost view = { λ a. record { room = length a.slots.items; keys = keys_of a.slots.items } };
+    ghost view = { λ a. record { room = length (slots_in a.slots); large = is_large a.slots; keys = keys_of (slots_in a.slots) } };
 
-    ghost invariant = { λ a. AreKept a.slots.items a.chains a.buckets a.keyed };
+    ghost invariant = { λ a. AreKept (slots_in a.slots) a.chains a.buckets a.keyed };
 }
 
 impl KeyRows {
     /// No rows, and no room. It takes no memory.
     pub(crate) fn new(alloc: Global) -> KeyRows
-        ensures { result ≡ record { room = 0; keys = empty } }
+        ensures { result.keys ≡ empty }
     {
         KeyRows {
-            slots: Vec::new(alloc),
+            alloc,
+            slots: KeySlots::new(alloc),
             chains: Chains::new(alloc),
             buckets: 0,
             keyed: 0,
@@ -71,25 +75,42 @@ impl KeyRows {
         let buckets = buckets_for(room, self.buckets);
         self.chains.reserve(room, buckets)?;
         self.buckets = buckets;
-        make_room(&mut self.slots, room)
+        self.slots.make_room(room)
+    }
+
+    /// Makes room for keys of any kind, unless those that come are small. The rows stay as they are, also where memory is refused.
+    pub(crate) fn fit(&mut self, small: bool) -> Result<(), AllocError>
+        ensures keys { self.new.keys ≡ self.old.keys }
+        ensures room { self.new.room ≡ self.old.room }
+        ensures fits { OnOk result (IsTrue (if small then true else self.new.large)) }
+    {
+        if small {
+            Ok(())
+        } else {
+            self.slots.enlarge(self.alloc)
+        }
+    }
+
+    /// Writes the slot of an ordinal, and links it by its key, once there is room for a key of its kind.
+    pub(crate) fn add(&mut self, ordinal: u32, slot: Slot) -> Result<(), AllocError>
+        requires { ordinal < self.old.room }
+        ensures keys { OnOk result (self.new.keys ≡ placed self.old.keys ordinal (row_key slot)) }
+        ensures room { self.new.room ≡ self.old.room }
+    {
+        self.fit(slot.is_small())?;
+        self.place(ordinal, slot);
+        Ok(())
     }
 
     /// Writes the slot of an ordinal, and links it by its key. It takes no memory.
     pub(crate) fn place(&mut self, ordinal: u32, slot: Slot)
-        requires { ordinal < self.old.room }
+        requires inside { ordinal < self.old.room }
+        requires fits { IsTrue (fits self.old.large slot) }
         ensures { self.new ≡ record self.old { keys = placed self.old.keys ordinal (row_key slot) } }
     {
         unlink(&mut self.chains, &mut self.keyed, ordinal);
         link(&mut self.chains, &mut self.keyed, ordinal, &slot);
-        self.slots[ordinal as usize] = slot;
-    }
-
-    /// Puts a row with its key, if it has one, in the place of the one that stands under its ordinal. It takes no memory.
-    pub(crate) fn put(&mut self, ordinal: u32, key: Option<Values>)
-        requires { ordinal < self.old.room }
-        ensures { self.new ≡ record self.old { keys = insert self.old.keys ordinal key } }
-    {
-        self.place(ordinal, Slot::of_row(key));
+        self.slots.set(ordinal, slot);
     }
 
     /// Drops the row under an ordinal, if there is one, and lets its key go. It takes no memory.
@@ -105,7 +126,7 @@ impl KeyRows {
     pub(crate) fn matches(&self, alloc: Global, key: &Values) -> Result<Ordinals, AllocError>
         ensures { IfOk result (AreUnder self.now.keys key.now) }
     {
-        let found = found(alloc, self.slots.as_slice(), &self.chains, key.as_slice())?;
+        let found = found(alloc, &self.slots, &self.chains, key.as_slice())?;
         Ok(rising(found))
     }
 

@@ -4,6 +4,7 @@
 mod index;
 mod key_chains;
 mod key_rows;
+mod key_slots;
 pub mod laws;
 mod read;
 mod reserved;

@@ -4,7 +4,7 @@ ghost use Rattle.record_views.specs.Columns.{Shows};
 ghost use Rattle.row_model.specs.declared.row.Value.{Value as StoredValue};
 ghost use Rattle.row_model.specs.Key.{key_of};
 ghost use Rattle.row_model.specs.Table.{IsClosed, IsLive};
-ghost use Rattle.key_index.specs.SimpleKey.{IsKeyColumn, key_of_value};
+ghost use Rattle.key_index.specs.SimpleKey.{IsKeyColumn};
 ghost use Rattle.key_index.specs.Slots.{row_key};
 
 use crate::read::read_key;
@@ -12,7 +12,7 @@ use crate::slot::Slot;
 use column_rows::ColumnRows;
 use hol_io::Steps;
 use record_views::{Column, ValueRef};
-use row_model::{Rows, Value, Values};
+use row_model::{Rows, Value};
 use schema_model::Paths;
 use std::alloc::{AllocError, Global};
 use std::sync::ledger::Ledger;
@@ -49,49 +49,8 @@ fn plain_value(shown: ValueRef<'_>) -> Option<Value>
     }
 }
 
-/// The key that is one value, none where it is null.
-fn key_of_one(alloc: Global, value: Value) -> Result<Option<Values>, AllocError>
-    ensures { IfOk result (λ key. key ≡ key_of_value value) }
-{
-    match value {
-        Value::Null => Ok(None),
-        value => {
-            let mut key = Values::with_capacity(alloc, 1)?;
-            key.push(value)?;
-            Ok(Some(key))
-        }
-    }
-}
-
-/// The key of the row under a live ordinal, as `read_key` reads it, where this column is that of the keys, if there is one. It counts one step.
-///
-/// The rows are closed.
-pub(crate) fn read_key_by<R: ColumnRows, L: Ledger>(
-    alloc: Global,
-    rows: &R,
-    column: &Option<Column<'_>>,
-    paths: &Paths,
-    type_index: u32,
-    ordinal: u32,
-    steps: &mut Steps<L>,
-) -> Result<Option<Values>, AllocError>
-    requires type_there { type_index < length (R.schemas rows.now) }
-    requires closed { IsClosed (R.schemas rows.now) (R.table rows.now) }
-    requires column { IfSome column.now (IsKeyColumn (R.table rows.now) type_index paths.now) }
-    requires live { IsLive (R.table rows.now) type_index ordinal }
-    ensures key { IfOk result (λ key. key ≡ key_of (R.schemas rows.now) (R.table rows.now) type_index paths.now ordinal) }
-    ensures counted { steps.new ≡ steps.old + 1 }
-{
-    if let Some(column) = column {
-        if let Some(value) = plain_value(column.value(u64::from(ordinal))) {
-            steps.tick();
-            return key_of_one(alloc, value);
-        }
-    }
-    read_key(alloc, rows, paths, type_index, ordinal, steps)
-}
-
-/// The slot of the row under a live ordinal with its key, which this column is that of, if there is one. It counts one step.
+/// The slot of the row under a live ordinal with its key, as `read_key` reads it, where this column is that of the keys, if there is one. It counts
+/// one step.
 ///
 /// The rows are closed.
 pub(crate) fn read_slot<R: ColumnRows, L: Ledger>(

@@ -1,11 +1,5 @@
 //! What stands under an ordinal.
-ghost use Rattle.std.specs.Prelude.{◌≡◌, ◌↔◌, ◌≤◌, IsTrue, OnOk, Some, length};
-ghost use Rattle.std.specs.Option.{option_copied};
-ghost use Rattle.key_index.specs.Slots.{Widens, key_in, read_at};
-
-use row_hash::same_values;
 use row_model::{Value, Values};
-use std::alloc::AllocError;
 use std::slice;
 
 /// What stands under an ordinal: nothing, a row without a key, or a row with its key. A key of one value stands in the slot itself.
@@ -22,10 +16,10 @@ pub(crate) enum Slot {
 }
 
 impl Slot {
-    ghost use Rattle.std.specs.Prelude.{◌≡◌, Some, length};
+    ghost use Rattle.std.specs.Prelude.{◌≡◌, IfSome, Some, is_some, length};
     ghost use Rattle.std.specs.Option.{option_copied};
     ghost use Rattle.key_index.specs.SimpleKey.{key_of_value};
-    ghost use Rattle.key_index.specs.Slots.{key_in, row_key};
+    ghost use Rattle.key_index.specs.Slots.{is_small, key_in, row_key, slot_of};
 
     /// The slot of a row with its key, if it has one.
     pub(crate) fn of_row(key: Option<Values>) -> Slot
@@ -71,37 +65,101 @@ impl Slot {
             Slot::More(values) => Some(values.as_slice()),
         }
     }
-}
 
-/// Makes free slots, up to a number of them.
-pub(crate) fn make_room(slots: &mut Vec<Slot>, room: u32) -> Result<(), AllocError>
-    ensures room { OnOk result (room ≤ length slots.new.items) }
-    ensures widens { Widens slots.old.items room slots.new.items }
-{
-    slots.reserve((room as usize).saturating_sub(slots.len()))?;
-    while slots.len() < room as usize {
-        slots.push(Slot::Free)?;
+    /// Whether a small slot has room for its key.
+    pub(crate) fn is_small(&self) -> bool
+        ensures { result ≡ is_small self.now }
+    {
+        self.small().is_some()
     }
-    Ok(())
-}
 
-/// The key of the row under an ordinal, if there is a row that has one.
-#[inline(always)]
-fn key_at(slots: &[Slot], ordinal: u32) -> Option<&[Value]>
-    ensures { option_copied result ≡ read_at key_in slots.now ordinal }
-{
-    match slots.get(ordinal as usize) {
-        Some(slot) => slot.key(),
-        None => None,
+    /// The same in a small slot, where that has room for its key.
+    pub(crate) fn small(&self) -> Option<SmallSlot>
+        ensures same { IfSome result (λ small. slot_of small ≡ self.now) }
+        ensures fits { is_some result ≡ is_small self.now }
+    {
+        match self {
+            Slot::Free => Some(SmallSlot::Free),
+            Slot::Keyless => Some(SmallSlot::Keyless),
+            Slot::One(Value::Int(number)) => Some(SmallSlot::Int(*number)),
+            Slot::One(Value::Long(number)) => SmallSlot::of_long(*number),
+            Slot::One(Value::Bool(flag)) => Some(SmallSlot::Bool(*flag)),
+            Slot::One(Value::Ref(ordinal)) => Some(SmallSlot::Ref(*ordinal)),
+            _ => None,
+        }
     }
 }
 
-/// Whether the row under an ordinal has this key.
-pub(crate) fn is_keyed_by(slots: &[Slot], ordinal: u32, key: &[Value]) -> bool
-    ensures { IsTrue result ↔ (read_at key_in slots.now ordinal ≡ Some key.now) }
-{
-    match key_at(slots, ordinal) {
-        Some(other) => same_values(other, key),
-        None => false,
+/// What stands under an ordinal, in the room for a number of 32 bits.
+#[derive(Clone, Copy)]
+pub(crate) enum SmallSlot {
+    /// No row.
+    Free,
+    /// A row that has no key.
+    Keyless,
+    /// A row whose key is this value of an INT.
+    Int(i32),
+    /// A row whose key is this value of a LONG, which has 32 bits at most.
+    Long(i32),
+    /// A row whose key is this value of a BOOLEAN.
+    Bool(bool),
+    /// A row whose key is this ordinal, of a REFERENCE.
+    Ref(u32),
+}
+
+impl SmallSlot {
+    ghost use Rattle.std.specs.Prelude.{◌≡◌, ◌↔◌, ◌∷◌, [], IfSome, IsTrue, Some, is_some};
+    ghost use Rattle.key_index.specs.Slots.{is_short, key_in, slot_of};
+    ghost use Rattle.key_index.specs.declared.slot.Slot.TheVariants.{One};
+    ghost use Rattle.row_model.specs.declared.row.Value.{Value as StoredValue};
+
+    // The slot of a row whose key is this value of a LONG, where that has 32 bits at most.
+    fn of_long(number: i64) -> Option<SmallSlot>
+        ensures same { IfSome result (λ small. slot_of small ≡ One (StoredValue.Long number)) }
+        ensures fits { is_some result ≡ is_short number }
+    {
+        match i32::try_from(number) {
+            Ok(short) => Some(SmallSlot::Long(short)),
+            Err(_) => None,
+        }
+    }
+
+    /// The same in a slot for keys of any kind.
+    pub(crate) fn large(self) -> Slot
+        ensures { result ≡ slot_of self }
+    {
+        match self {
+            SmallSlot::Free => Slot::Free,
+            SmallSlot::Keyless => Slot::Keyless,
+            SmallSlot::Int(number) => Slot::One(Value::Int(number)),
+            SmallSlot::Long(number) => Slot::One(Value::Long(i64::from(number))),
+            SmallSlot::Bool(flag) => Slot::One(Value::Bool(flag)),
+            SmallSlot::Ref(ordinal) => Slot::One(Value::Ref(ordinal)),
+        }
+    }
+
+    /// Whether there is a row that has this key.
+    #[inline(always)]
+    pub(crate) fn is_keyed_by(&self, key: &[Value]) -> bool
+        ensures { IsTrue result ↔ (key_in (slot_of self.now) ≡ Some key.now) }
+    {
+        match key {
+            [value] => self.is_value(value),
+            _ => false,
+        }
+    }
+
+    // Whether there is a row whose key is this value.
+    #[inline(always)]
+    fn is_value(&self, value: &Value) -> bool
+        ensures { IsTrue result ↔ (key_in (slot_of self.now) ≡ Some (value.now ∷ [])) }
+    {
+        match (self, value) {
+            (SmallSlot::Int(number), Value::Int(other)) => number == other,
+            (SmallSlot::Long(number), Value::Long(other)) => i64::from(*number) == *other,
+            (SmallSlot::Bool(flag), Value::Bool(other)) => flag == other,
+            (SmallSlot::Ref(ordinal), Value::Ref(other)) => ordinal == other,
+            _ => false,
+        }
     }
 }

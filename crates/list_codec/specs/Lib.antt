@@ -1,3 +1,5 @@
 pub mod ListPlace
 pub mod Packing
 pub mod Widths
+pub mod Elements
+pub mod ListRows

@@ -85,9 +85,3 @@ abbrev pub TellsListRow : List ℕ → ℕ → List ℕ → List ℕ → ℕ →
 TellsListRow widths total first second place (Ok row) = SpellsListRow widths total first second place row
 TellsListRow widths total first second place (Err (PlaceFault.Bad reason)) = FailsListRow widths total first second place reason
 TellsListRow widths total first second place (Err PlaceFault.Memory) = Unit {0}
-
--- What each answer of the reader of elements tells.
-abbrev pub TellsElements : List ℕ → ℕ → ℕ → ℕ → Result (List ℕ) PlaceFault → Type 0
-TellsElements second width start end (Ok ordinals) = (ordinals ≡ elements_between second width start end) × All (λ ordinal. ordinal ≤ 2 ^ 32 - 1) ordinals
-TellsElements second width start end (Err (PlaceFault.Bad reason)) = (reason ≡ Reason.BadValue) × Any IsPastOrdinals (elements_between second width start end)
-TellsElements second width start end (Err PlaceFault.Memory) = Unit {0}

@@ -4,11 +4,11 @@ ghost use Rattle.std.specs.Option.{option_map};
 ghost use Rattle.bit_array.specs.Element.{element_of, number_of, words_of};
 ghost use Rattle.row_model.specs.Lent.{lent_row};
 ghost use Rattle.list_codec.specs.ListPlace.{pointer_width, element_width, end_at, elements_between, SpellsList};
+ghost use Rattle.list_codec.specs.Widths.{elements_of_row};
 ghost use Rattle.list_codec.specs.Packing.{HasRoom, CanPack, IsPacked, WordsOf, elements_of_place, elements_of_places};
 
-use crate::elements::elements_of;
 use bit_array::{set_element, words_for};
-use row_model::{Areas, LentRow, Packed, PlacedRows, Widths, Words};
+use row_model::{Areas, LentRow, Packed, PlacedRows, Row, Widths, Words};
 use schema_model::Schema;
 use std::alloc::{AllocError, Global};
 
@@ -132,5 +132,15 @@ fn put_elements(words: &mut [u64], start: u64, width: u32, elements: &[u32])
     for element in elements {
         set_element(words, at, width, u64::from(*element));
         at += u64::from(width);
+    }
+}
+
+/// The elements of a list, none of a row of another kind.
+pub fn elements_of(row: &Row) -> &[u32]
+    ensures { result.now ≡ elements_of_row row.now }
+{
+    match row {
+        Row::List(ordinals) => ordinals.as_slice(),
+        _ => &[],
     }
 }

@@ -172,7 +172,7 @@ value_taken kind width before area value is wide fits held small are below =
     }
 
 -- the value is the one that is found
-pub found_taken : (kind : FieldKind) (width element : ℕ) (before area : List ℕ) (found : Option Value) (value : Value) → found ≡ Some value → element ≡ element_for kind width (length area) value
+found_taken : (kind : FieldKind) (width element : ℕ) (before area : List ℕ) (found : Option Value) (value : Value) → found ≡ Some value → element ≡ element_for kind width (length area) value
     → area ≡ before ++ value_bytes value → IsKindWidth kind width → IfSome found (FitsKind kind) → IfSome found (HoldsValue width) → IfSome (stored_number value) (λ n. n ≤ greatest_number value)
     → ((units : List ℕ) → value ≡ Value.Text units → AreUnits units) → (HasBytes kind → length before + length (values_bytes (option_to_list found)) < 2 ^ (width - 1))
     → IsTaken kind width element before area found
@@ -181,6 +181,59 @@ found_taken kind width element before area found value there is grown wide fits 
     (subst (λ (e : ℕ). IsTaken kind width e before area (Some value)) (sym is)
     (value_taken kind width before area value grown wide (subst (λ (o : Option Value). IfSome o (FitsKind kind)) there fits) (subst (λ (o : Option Value). IfSome o (HoldsValue width)) there held) small are
     (λ has. subst (λ (o : Option Value). length before + length (values_bytes (option_to_list o)) < 2 ^ (width - 1)) there (below has))))
+
+-- ---- by whether the kind has bytes
+
+text_kind : (kind : FieldKind) (units : List ℕ) → FitsKind kind (Value.Text units) → HasBytes kind
+text_kind FieldKind.Text units fits = tt
+text_kind _ units fits = absurd fits
+
+bytes_kind : (kind : FieldKind) (bytes : List ℕ) → FitsKind kind (Value.Bytes bytes) → HasBytes kind
+bytes_kind FieldKind.Bytes bytes fits = tt
+bytes_kind _ bytes fits = absurd fits
+
+no_bytes : (kind : FieldKind) (value : Value) → FitsKind kind value → (HasBytes kind → ⊥) → value_bytes value ≡ []
+no_bytes kind (Value.Text units) fits none = absurd (none (text_kind kind units fits))
+no_bytes kind (Value.Bytes bytes) fits none = absurd (none (bytes_kind kind bytes fits))
+no_bytes kind _ fits none = refl
+
+element_of_number : (kind : FieldKind) (width end : ℕ) (value : Value) → (HasBytes kind → ⊥) → element_for kind width end value ≡ number_or_null width (stored_number value)
+element_of_number FieldKind.Text width end value none = absurd (none tt)
+element_of_number FieldKind.Bytes width end value none = absurd (none tt)
+element_of_number _ width end value none = refl
+
+-- the value is the one that is found, and none of its kind has bytes
+pub number_taken : (kind : FieldKind) (width element : ℕ) (area : List ℕ) (found : Option Value) (value : Value) → found ≡ Some value → element ≡ unwrap_or (stored_number value) (2 ^ width - 1)
+    → (HasBytes kind → ⊥) → IsKindWidth kind width → IfSome found (FitsKind kind) → IfSome found (HoldsValue width) → IfSome (stored_number value) (λ n. n ≤ greatest_number value)
+    → IsTaken kind width element area area found
+number_taken kind width element area found value there is none wide fits held small =
+    let fit : FitsKind kind value = subst (λ (o : Option Value). IfSome o (FitsKind kind)) there fits in
+    found_taken kind width element area area found value there (is ∙ sym (element_of_number kind width (length area) value none))
+    (sym (append-nil area) ∙ ap (λ (bytes : List ℕ). area ++ bytes) (sym (no_bytes kind value fit none))) wide fits held small
+    (λ units text. absurd (none (text_kind kind units (subst (FitsKind kind) text fit)))) (λ has. absurd (none has))
+
+element_of_end : (kind : FieldKind) (width end : ℕ) (value : Value) → HasBytes kind → element_for kind width end value ≡ end_element width end value
+element_of_end FieldKind.Text width end value has = refl
+element_of_end FieldKind.Bytes width end value has = refl
+element_of_end _ width end value has = absurd has
+
+number_small : (kind : FieldKind) (value : Value) → HasBytes kind → FitsKind kind value → IfSome (stored_number value) (λ n. n ≤ greatest_number value)
+number_small FieldKind.Text Value.Null has fits = tt
+number_small FieldKind.Text (Value.Text units) has fits = tt
+number_small FieldKind.Text _ has fits = absurd fits
+number_small FieldKind.Bytes Value.Null has fits = tt
+number_small FieldKind.Bytes (Value.Bytes bytes) has fits = tt
+number_small FieldKind.Bytes _ has fits = absurd fits
+number_small _ value has fits = absurd has
+
+-- the value is the one that is found, and its bytes are put
+pub bytes_taken : (kind : FieldKind) (width element : ℕ) (before area : List ℕ) (found : Option Value) (value : Value) → found ≡ Some value → element ≡ end_element width (length area) value
+    → area ≡ before ++ value_bytes value → HasBytes kind → IsKindWidth kind width → IfSome found (FitsKind kind) → IfSome found (HoldsValue width)
+    → ((units : List ℕ) → value ≡ Value.Text units → AreUnits units) → (HasBytes kind → length before + length (values_bytes (option_to_list found)) < 2 ^ (width - 1))
+    → IsTaken kind width element before area found
+bytes_taken kind width element before area found value there is grown has wide fits held are below =
+    found_taken kind width element before area found value there (is ∙ sym (element_of_end kind width (length area) value has)) grown wide fits held
+    (number_small kind value has (subst (λ (o : Option Value). IfSome o (FitsKind kind)) there fits)) are below
 
 gap_below : (kind : FieldKind) (width end : ℕ) → IsKindWidth kind width → (HasBytes kind → end < 2 ^ (width - 1)) → gap_element kind end < 2 ^ width
 gap_below FieldKind.Text width end wide below = omega (arith, null_bit_on width wide, below tt)

@@ -1,12 +1,12 @@
 //! The element and the bytes of one value, as they are written.
-ghost use Rattle.std.specs.Prelude.{ℕ, List, ◌≡◌, ◌+◌, ◌-◌, ◌^◌, ◌<◌, ◌≤◌, ◌++◌, length, slice_get, IfOk, IfSome, OnOk};
+ghost use Rattle.std.specs.Prelude.{ℕ, List, ◌≡◌, ◌↔◌, ◌+◌, ◌-◌, ◌^◌, ◌<◌, ◌≤◌, ◌++◌, length, slice_get, unwrap_or, IfOk, IfSome, IsTrue, OnOk};
 ghost use Rattle.hol_varint.specs.TextUnits.{AreUnits};
 ghost use Rattle.row_model.specs.Row.{FitsKind};
 ghost use Rattle.row_model.specs.declared.row.Value.{Value as StoredValue};
 ghost use Rattle.object_codec.specs.ObjectPlace.{IsKindWidth};
 ghost use Rattle.object_codec.specs.Stored.{stored_number as number_of_stored, greatest_number, value_at, value_bytes, values_bytes};
 ghost use Rattle.object_codec.specs.Packing.{HasBytes, HoldsValue};
-ghost use Rattle.object_codec.specs.Encoded.{end_element as end_of_value, element_for, IsTaken, gap_element as element_of_gap};
+ghost use Rattle.object_codec.specs.Encoded.{end_element as end_of_value, IsTaken, gap_element as element_of_gap};
 
 use crate::stored::stored_number;
 use bit_array::all_ones;
@@ -36,8 +36,19 @@ pub(crate) fn take_value(
     let Some(value) = values.get(index) else {
         return Ok(gap_element(kind, area.len() as u64));
     };
+    if !has_bytes(kind) {
+        return Ok(number_element(width, value));
+    }
     push_bytes(alloc, area, value)?;
-    Ok(element_of(kind, width, area.len() as u64, value))
+    Ok(end_element(width, area.len() as u64, value))
+}
+
+/// Whether the values of a field of a kind have bytes.
+#[inline(always)]
+fn has_bytes(kind: &FieldKind) -> bool
+    ensures { IsTrue result ↔ HasBytes kind.now }
+{
+    matches!(kind, FieldKind::Text | FieldKind::Bytes)
 }
 
 /// The element of a field where there is no row, its bytes ending at `end`.
@@ -50,19 +61,14 @@ fn gap_element(kind: &FieldKind, end: u64) -> u64
     }
 }
 
-/// The element of a value in a field of a kind, the field's bytes ending at `end`.
-fn element_of(kind: &FieldKind, width: u32, end: u64, value: &Value) -> u64
-    requires narrow { width ≤ 64 }
-    requires wide { IsKindWidth kind.now width }
-    requires end { HasBytes kind.now → end < 2 ^ (width - 1) }
-    ensures is { result ≡ element_for kind.now width end value.now }
+/// The element of a value that has no bytes: its number, and ones alone for null.
+#[inline(always)]
+fn number_element(width: u32, value: &Value) -> u64
+    requires { width ≤ 64 }
+    ensures is { result ≡ unwrap_or (number_of_stored value.now) (2 ^ width - 1) }
     ensures below { IfSome (number_of_stored value.now) (λ number. number ≤ greatest_number value.now) }
 {
-    let number = stored_number(value);
-    match kind {
-        FieldKind::Text | FieldKind::Bytes => end_element(width, end, value),
-        _ => number.unwrap_or(all_ones(width)),
-    }
+    stored_number(value).unwrap_or(all_ones(width))
 }
 
 /// The element of a STRING or BYTES: where its bytes end, with the null bit for null.

@@ -1,5 +1,5 @@
 //! Records written at their places.
-ghost use Rattle.std.specs.Prelude.{◌≡◌, ◌*◌, [], length, option_copied, replicate, sum, IfOk, OnOk};
+ghost use Rattle.std.specs.Prelude.{◌≡◌, ◌*◌, ◌^◌, ◌<◌, [], length, option_copied, replicate, sum, IfOk, OnOk};
 ghost use Rattle.bit_array.specs.Element.{words_of};
 ghost use Rattle.schema_model.specs.Parts.{shape_fields};
 ghost use Rattle.object_codec.specs.Packing.{HasRoom, IsRowPut, CanPack, IsPacked, values_of_place};
@@ -26,13 +26,12 @@ pub fn pack<P: PlacedRows>(
     ensures packed { IfOk result (λ packed. IsPacked schema.now.shape widths.now (P.places rows.now) packed.first packed.areas) }
     ensures second { IfOk result (λ packed. packed.second ≡ []) }
 {
-    let widths = widths.as_slice();
-    let mut first = zeros(alloc, rows.count() as u64 * total_width(widths) as u64)?;
+    let layout = layout_of(schema, widths.as_slice());
+    let mut first = zeros(alloc, rows.count() as u64 * layout.size)?;
     let mut areas = no_bytes(alloc, schema.shape.fields().len())?;
     put_rows(
         alloc,
-        schema,
-        widths,
+        layout,
         rows,
         first.as_mut_slice(),
         areas.as_mut_slice(),
@@ -42,6 +41,30 @@ pub fn pack<P: PlacedRows>(
         second: Words::new(alloc),
         areas: Areas::from_vec(areas),
     })
+}
+
+/// How the records of a type are laid out.
+#[derive(Clone, Copy)]
+struct Layout<'a> {
+    schema: &'a Schema,
+    /// The widths of the fields, in bits.
+    widths: &'a [u32],
+    /// The width of a record, in bits.
+    size: u64,
+}
+
+/// How the records of a type are laid out whose fields have these widths.
+fn layout_of<'a>(schema: &'a Schema, widths: &'a [u32]) -> Layout<'a>
+    requires { sum widths.now < 2 ^ 64 }
+    ensures schema { result.schema.now ≡ schema.now }
+    ensures widths { result.widths.now ≡ widths.now }
+    ensures size { result.size ≡ sum widths.now }
+{
+    Layout {
+        schema,
+        widths,
+        size: total_width(widths) as u64,
+    }
 }
 
 /// As many words of zeros as so many bits take.
@@ -65,21 +88,21 @@ fn no_bytes(alloc: Global, fields: usize) -> Result<Vec<Octets>, AllocError>
 /// Writes the records of all places into words of zeros.
 fn put_rows<P: PlacedRows>(
     alloc: Global,
-    schema: &Schema,
-    widths: &[u32],
+    layout: Layout<'_>,
     rows: &P,
     first: &mut [u64],
     areas: &mut [Octets],
 ) -> Result<(), AllocError>
-    requires can { CanPack schema.now.shape widths.now (P.places rows.now) }
-    requires zeros { first.old ≡ replicate (words_of (length (P.places rows.now) * sum widths.now)) 0 }
-    requires none { areas.old ≡ replicate (length (shape_fields schema.now.shape)) [] }
-    ensures { OnOk result (IsPacked schema.now.shape widths.now (P.places rows.now) first.new areas.new) }
+    requires size { layout.size ≡ sum layout.widths.now }
+    requires can { CanPack layout.schema.now.shape layout.widths.now (P.places rows.now) }
+    requires zeros { first.old ≡ replicate (words_of (length (P.places rows.now) * sum layout.widths.now)) 0 }
+    requires none { areas.old ≡ replicate (length (shape_fields layout.schema.now.shape)) [] }
+    ensures { OnOk result (IsPacked layout.entry.schema.now.shape layout.entry.widths.now (P.places rows.now) first.new areas.new) }
 {
     for place in 0..rows.count() {
         let lent = rows.place(alloc, place)?;
         let row = row_of_place(&lent);
-        put_row(alloc, schema, widths, first, areas, place as u64, row)?;
+        put_laid(alloc, layout, first, areas, place as u64, row)?;
     }
     Ok(())
 }
@@ -101,9 +124,27 @@ pub fn put_row(
     requires { HasRoom schema.now.shape widths.now first.old areas.old place (option_copied row) }
     ensures { OnOk result (IsRowPut schema.now.shape widths.now first.old areas.old first.new areas.new place (option_copied row.entry)) }
 {
-    let fields = schema.shape.fields();
+    let layout = layout_of(schema, widths);
+    put_laid(alloc, layout, first, areas, place, row)
+}
+
+/// The same, as the records are laid out.
+fn put_laid(
+    alloc: Global,
+    layout: Layout<'_>,
+    first: &mut [u64],
+    areas: &mut [Octets],
+    place: u64,
+    row: Option<&Row>,
+) -> Result<(), AllocError>
+    requires size { layout.size ≡ sum layout.widths.now }
+    requires room { HasRoom layout.schema.now.shape layout.widths.now first.old areas.old place (option_copied row) }
+    ensures { OnOk result (IsRowPut layout.entry.schema.now.shape layout.entry.widths.now first.old areas.old first.new areas.new place (option_copied row.entry)) }
+{
+    let fields = layout.schema.shape.fields();
+    let widths = layout.widths;
     let values = values_in(row);
-    let mut at = place * total_width(widths) as u64;
+    let mut at = place * layout.size;
     for (index, field) in fields.iter().enumerate() {
         let width = widths[index];
         let element = take_value(alloc, &field.kind, width, &mut areas[index], values, index)?;

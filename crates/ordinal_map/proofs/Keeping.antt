@@ -182,6 +182,12 @@ module _ (rows : List (Option Row)) (chains : Chained) (previous current : List 
       subst (λ (s : States). IsTrue answer ↔ IsSome (get s.current o)) seen
       ((λ yes. (has_current rows chains previous current filled kept o).0 (has.0 yes)), (λ live. has.1 ((has_current rows chains previous current filled kept o).1 live)))
 
+  pub seen_before : (o : ℕ) → Contains previous o ↔ IsSome (get states.previous o)
+  seen_before o = subst (λ (s : States). Contains previous o ↔ IsSome (get s.previous o)) seen (has_previous rows chains previous current filled kept o)
+
+  pub seen_now : (o : ℕ) → Contains current o ↔ IsSome (get states.current o)
+  seen_now o = subst (λ (s : States). Contains current o ↔ IsSome (get s.current o)) seen (has_current rows chains previous current filled kept o)
+
   pub seen_taken : (o : ℕ) → IsTaken states.previous states.current o → IsSome (row_under rows o)
   seen_taken o taken = live_taken rows chains previous current filled kept o (subst (λ (s : States). IsTaken s.previous s.current o) (sym seen) taken)
 

@@ -1,5 +1,5 @@
 //! The rows of a type in the previous and the current state, and the ordinals that they get.
-ghost use Rattle.std.specs.Prelude.{◌≡◌, ◌≢◌, ◌↔◌, ℕ, ◌<◌, ◌^◌, Some, None, Ok, Err, OnErr, OnOk, IsSome, IsTrue, MatchBool};
+ghost use Rattle.std.specs.Prelude.{◌≡◌, ◌≢◌, ◌↔◌, ℕ, ◌<◌, ◌^◌, Some, None, Ok, Err, OnErr, OnOk, IsSome, IsTrue, MatchBool, Contains};
 ghost use Rattle.std.specs.FinMap.{get, empty, remove};
 ghost use Rattle.hol_varint.specs.Yields.{Yields};
 ghost use Rattle.row_hash.specs.Hash.{row_hash as hash_of_row};
@@ -83,6 +83,20 @@ impl OrdinalMap {
         ensures agree { Agree self.now.previous self.now.current }
     {
         self.current.contains(ordinal)
+    }
+
+    /// The ordinals of the previous state, to look at two states a word at a time.
+    pub fn previous_ordinals(&self) -> &OrdinalSet
+        ensures { (ordinal : ℕ) → Contains result.now ordinal ↔ IsSome (get self.now.previous ordinal) }
+    {
+        &self.previous
+    }
+
+    /// The ordinals of the current state.
+    pub fn current_ordinals(&self) -> &OrdinalSet
+        ensures { (ordinal : ℕ) → Contains result.now ordinal ↔ IsSome (get self.now.current ordinal) }
+    {
+        &self.current
     }
 
     /// One past the greatest ordinal of the previous state, 0 for none.

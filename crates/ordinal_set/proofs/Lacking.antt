@@ -1,19 +1,18 @@
 -- Lemmas on sets with members taken out.
-use Rattle.std.proofs.Common.{◌≡◌, ℕ, ◌+◌, ◌-◌, ◌*◌, ◌/◌, ◌%◌, ◌^◌, ◌<◌, ◌≤◌, length, get_or, set, w64, Bool, true, false, List, [], ◌∷◌, ◌++◌, refl, sym, ap, ◌∙◌, subst, inl, inr, arith, eqb, cond, append-nil}
+use Rattle.std.proofs.Common.{◌≡◌, ℕ, ◌+◌, ◌-◌, ◌*◌, ◌/◌, ◌%◌, ◌^◌, ◌<◌, ◌≤◌, length, get_or, set, w64, Bool, true, false, List, [], ◌∷◌, refl, sym, ap, ◌∙◌, subst, inl, inr, arith, eqb}
 use Rattle.std.specs.Prelude.{◌==◌, ◌&&◌, not, filter, Contains}
 use Rattle.std.specs.List.{list_any, range_with_len}
-use Rattle.std.specs.List.Sorted.{IsStrictlyIncreasing}
 use Rattle.std.specs.Int.{bit_at, bit_not}
 use Rattle.std.specs.Int.Bits.{bit_and}
 use Rattle.std.proofs.lemmas.List.{get_or-set_same, get_or-set_other}
 use Rattle.std.proofs.lemmas.Nat.Bits.{bit_at_clear_same, bit_at_clear_other}
 use Rattle.std.proofs.lemmas.Bool.{cases_Bool, cases_eq, eq-eqb, ne_eqb}
-use Rattle.std.proofs.lemmas.List.Elements.{All-filter, filter-append, filter_agree}
+use Rattle.std.proofs.lemmas.List.Elements.{All-filter, filter_agree}
 use Rattle.std.proofs.lemmas.List.Kept.{IsStrictlyIncreasing-filter}
-use Rattle.ordinal_set.specs.Ordinals.{AreOrdinals, IsNextMember, without_ordinal, lacking, members_below}
+use Rattle.ordinal_set.specs.Ordinals.{AreOrdinals, without_ordinal, lacking}
 use Rattle.ordinal_set.specs.Population.{has_bit, population_of, FitOrdinals}
 use Rattle.ordinal_set.proofs.Populations.{clear_bit, bit_past}
-use Rattle.ordinal_set.proofs.Members.{Contains-filter, Contains-kept, passes-from_filter, members_below-next, first_or_other, here, there, no_member}
+use Rattle.ordinal_set.proofs.Members.{Contains-filter, Contains-kept, passes-from_filter, first_or_other, here, there, no_member}
 
 -- two filters, one after the other
 filter_both : (p q : ℕ → Bool) (xs : List ℕ) → filter (λ x. p x && q x) xs ≡ filter q (filter p xs)
@@ -121,36 +120,6 @@ no_member_any [] m none = refl
 no_member_any (x ∷ rest) m none =
     let test : (x == m) ≡ false = ne_eqb x m (λ e. none (subst (λ y. Contains (x ∷ rest) y) e (here x rest))) in
     rw test (no_member_any rest m (λ h. none (there x rest m h)))
-
-pub lacking-none : (other : List ℕ) → lacking [] other ≡ []
-unfolding lacking
-lacking-none other = refl
-
--- the filter of one member more
-one_more : (p : ℕ → Bool) (set : List ℕ) (from o : ℕ) → IsStrictlyIncreasing set → IsNextMember from set o
-    → filter p (members_below (o + 1) set) ≡ filter p (members_below from set) ++ cond (p o) (o ∷ []) []
-one_more p set from o rising next =
-    ap (filter p) (members_below-next from o set rising next) ∙ filter-append p (members_below from set) (o ∷ [])
-
--- a member of both is passed over
-pub lacking_passed : (set other : List ℕ) (from o : ℕ) (list : List ℕ) → IsStrictlyIncreasing set → IsNextMember from set o → Contains other o
-    → list ≡ lacking (members_below from set) other → list ≡ lacking (members_below (o + 1) set) other
-unfolding lacking
-lacking_passed set other from o list rising next member done =
-    let p = λ (m : ℕ). not (list_any (λ n. n == m) other) in
-    let gone : p o ≡ false = ap not (any_member other o member) in
-    let more = one_more p set from o rising next in
-    done ∙ sym (append-nil (filter p (members_below from set))) ∙ ap (λ b. filter p (members_below from set) ++ cond b (o ∷ []) []) (sym gone) ∙ sym more
-
--- a member that the other set lacks is listed
-pub lacking_listed : (set other : List ℕ) (from o : ℕ) (list : List ℕ) → IsStrictlyIncreasing set → IsNextMember from set o → (Contains other o → ⊥)
-    → list ≡ lacking (members_below from set) other → list ++ o ∷ [] ≡ lacking (members_below (o + 1) set) other
-unfolding lacking
-lacking_listed set other from o list rising next none done =
-    let p = λ (m : ℕ). not (list_any (λ n. n == m) other) in
-    let kept : p o ≡ true = ap not (no_member_any other o none) in
-    let more = one_more p set from o rising next in
-    ap (λ ms. ms ++ o ∷ []) done ∙ ap (λ b. filter p (members_below from set) ++ cond b (o ∷ []) []) (sym kept) ∙ sym more
 
 pub ordinals-lacking : (set other : List ℕ) → AreOrdinals set → AreOrdinals (lacking set other)
 unfolding lacking

@@ -140,17 +140,15 @@ impl OrdinalSet {
         next_beside(&self.words, &other.words, o)
     }
 
-    /// The numbers of the set that the other one lacks, rising.
+    /// The numbers of the set that the other one lacks, rising. Where the two agree, 64 numbers are passed at a time.
     pub fn without(&self, alloc: Global, other: &OrdinalSet) -> Result<Ordinals, AllocError>
         ensures members { IfOk result (λ list. list ≡ lacking self.now other.now) }
         ensures ordinals { AreOrdinals (lacking self.now other.now) }
     {
         let mut list = Ordinals::new(alloc);
         let mut from = 0;
-        while let Some(o) = self.next_from(from) {
-            if !other.contains(o) {
-                list.push(o)?;
-            }
+        while let Some(o) = self.first_beside(other, from) {
+            list.push(o)?;
             from = o + 1;
         }
         Ok(list)

@@ -1,39 +1,56 @@
 -- Lemmas on look-ups in the sets and maps of a half: what a run's look-up tells is told of the row.
-use Rattle.std.proofs.Common.{◌≡◌, ℕ, ◌+◌, ◌-◌, ◌*◌, ◌^◌, ◌<◌, List, [], ◌∷◌, length, Bool, true, false, Option, Some, None, refl, sym, ap, ◌∙◌, subst, arith}
-use Rattle.std.specs.Prelude.{Contains, IsSome, IsTrue, ◌↔◌, slice_get}
+use Rattle.std.proofs.Common.{◌≡◌, ℕ, ◌^◌, ◌<◌, ◌≤◌, List, [], length, Bool, true, false, Option, Some, None, refl, sym, ap, ◌∙◌, subst, arith}
+use Rattle.std.specs.Prelude.{Contains, IsSome, IsTrue, ◌↔◌}
 use Rattle.std.specs.FinMap.{get}
 use Rattle.std.proofs.lemmas.Bool.{false≢true}
 use Rattle.schema_model.specs.declared.schema.Shape.{Shape}
 use Rattle.row_model.specs.declared.row.Row.{Row}
 use Rattle.row_model.specs.Table.{RowMap}
-use Rattle.list_codec.proofs.Written.{read_is}
-use Rattle.bucket_codec.specs.BucketPlace.{key_width, value_width, start_at, end_at, run_at, HoldsPointers, IsRowOf, SpellsPairs}
-use Rattle.bucket_codec.specs.Run.{run_in, keys_of, FindsIn, IsRunWithin, SpellsRun}
+use Rattle.bucket_codec.specs.BucketPlace.{IsRowOf, IsWidthCount, SpellsPairs}
+use Rattle.bucket_codec.specs.BucketRows.{HoldsAt, HoldsBuckets, SpellsAt}
+use Rattle.bucket_codec.specs.declared.bucket_rows.BucketRows.{BucketRows}
+use Rattle.bucket_codec.specs.Run.{keys_of, FindsIn}
 use Rattle.type_rows.specs.Loads.{Spells}
-use Rattle.type_rows.proofs.Places.{wide_narrow}
 use Rattle.packed_half.specs.declared.half.HalfShape.{HalfShape}
 use Rattle.packed_half.specs.Half.{section_in}
-use Rattle.packed_half.specs.LaidOut.{IsLaidOut, HasRows, HasRowUnder, HasNoneUnder}
+use Rattle.packed_half.specs.LaidOut.{IsLaidOut, HasRows}
 use Rattle.packed_half.specs.Laying.{HasRuns}
-use Rattle.packed_half.specs.Lookup.{elements_of, pairs_of, IsRunUnder}
-use Rattle.packed_half.proofs.Looking.{live_inside, runs_hold, same_live, second_few, spelled_there}
+use Rattle.packed_half.specs.Lookup.{elements_of, pairs_of, AreRunsOf}
+use Rattle.packed_half.proofs.Looking.{live_inside, runs_hold, spelled_there}
 use Rattle.packed_half.proofs.RowPlaces.{not_found, is_found}
 
 -- ---- whether an ordinal is live
 
-pub none_under : (shape : Shape) (half : HalfShape) (words : List ℕ) (ordinal : ℕ) (b : Bool) → IsTrue b ↔ Contains half.live ordinal → b ≡ false → HasNoneUnder shape half words ordinal
+none_under : (shape : Shape) (half : HalfShape) (words : List ℕ) (ordinal : ℕ) (b : Bool) → IsTrue b ↔ Contains half.live ordinal → b ≡ false → (rows : RowMap) → IsLaidOut shape half words rows
+    → get rows ordinal ≡ None
 none_under shape half words ordinal b tells is rows laid = sym (not_found rows half.live ordinal b laid.is.live tells is)
 
-pub one_under : (shape : Shape) (half : HalfShape) (words : List ℕ) (ordinal : ℕ) (b : Bool) → HasRows shape half words → IsTrue b ↔ Contains half.live ordinal → b ≡ true → HasRowUnder shape half words ordinal
-one_under shape half words ordinal b has tells is = (has.0, has.1, is_found has.0 half.live ordinal b has.1.is.live tells is)
+live_under : (shape : Shape) (half : HalfShape) (words : List ℕ) (ordinal : ℕ) (b : Bool) → IsTrue b ↔ Contains half.live ordinal → b ≡ true → (rows : RowMap) → IsLaidOut shape half words rows
+    → IsSome (get rows ordinal)
+live_under shape half words ordinal b tells is rows laid = is_found rows half.live ordinal b laid.is.live tells is
 
-pub pointers_under : (shape : Shape) (half : HalfShape) (words widths first : List ℕ) (ordinal place : ℕ) → HasRuns shape → HasRowUnder shape half words ordinal → widths ≡ half.widths → first ≡ (section_in shape half words).first
-    → place ≡ ordinal → ordinal < 2 ^ 32 → HoldsPointers widths first place
-pointers_under shape half words widths first ordinal place runs has same first_same place_same small =
-    let holds = runs_hold shape half words has.0 ordinal runs has.1 (live_inside shape half words ordinal has) small in
-    subst (λ (ws : List ℕ). HoldsPointers ws first place) (sym same)
-    (subst (λ (ws : List ℕ). HoldsPointers half.widths ws place) (sym first_same)
-    (subst (λ (n : ℕ). HoldsPointers half.widths (section_in shape half words).first n) (sym place_same) holds.pointers))
+-- what holds of the parts of a half holds of the sets or maps that are made of them
+of_runs : (P : List ℕ → ℕ → List ℕ → List ℕ → Type 0) (shape : Shape) (half : HalfShape) (words : List ℕ) (rows : BucketRows) → AreRunsOf shape half words rows
+    → P half.widths half.total (section_in shape half words).first (section_in shape half words).second → P rows.widths.now rows.total rows.first.now rows.second.now
+of_runs P shape half words rows are h =
+    subst (λ (w : List ℕ). P w rows.total rows.first.now rows.second.now) (sym are.widths)
+    (subst (λ (t : ℕ). P half.widths t rows.first.now rows.second.now) (sym are.total)
+    (subst (λ (f : List ℕ). P half.widths half.total f rows.second.now) (sym are.first)
+    (subst (P half.widths half.total (section_in shape half words).first) (sym are.second) h)))
+
+pub holds_under : (shape : Shape) (half : HalfShape) (words : List ℕ) (runs : BucketRows) (ordinal place : ℕ) (b : Bool) → HasRuns shape → HasRows shape half words → AreRunsOf shape half words runs
+    → IsTrue b ↔ Contains half.live ordinal → b ≡ true → place ≡ ordinal → ordinal < 2 ^ 32 → HoldsAt runs place
+holds_under shape half words runs ordinal place b kind has are tells is same small =
+    let holds = runs_hold shape half words has.0 ordinal kind has.1 (live_inside shape half words ordinal (has.0, has.1, live_under shape half words ordinal b tells is has.0 has.1)) small in
+    let long = three_long shape half.widths kind holds.counted in
+    subst (HoldsAt runs) (sym same)
+    (of_runs (λ widths total first second. HoldsBuckets widths first second ordinal) shape half words runs are (record { three = long; holds = holds.pointers; few = holds.few }))
+  where
+    three_long : (shape : Shape) (widths : List ℕ) → HasRuns shape → IsWidthCount shape (length widths) → 3 ≤ length widths
+    three_long (Shape.Set element) widths kind counted = omega (arith, counted)
+    three_long (Shape.Map key value) widths kind counted = omega (arith, counted)
+    three_long (Shape.List element) widths kind counted = absurd kind
+    three_long (Shape.Object key fields) widths kind counted = absurd kind
 
 -- ---- the run of a set or map
 
@@ -57,54 +74,15 @@ row_found rows ordinal live = by_row (get rows ordinal) refl live
     by_row None is some = absurd cc
     by_row (Some row) is some = (row, is)
 
-pub run_within : (shape : Shape) (half : HalfShape) (words second : List ℕ) (ordinal start end : ℕ) → HasRuns shape → IsRunUnder shape half words ordinal start end → second ≡ (section_in shape half words).second
-    → IsRunWithin second (key_width half.widths) (value_width half.widths) start end
-run_within shape half words second ordinal start end runs run same =
-    let rows = run.under.0 in
-    let laid = run.under.1 in
-    let found = row_found rows ordinal run.under.2 in
-    let there = pairs_there shape half words ordinal found.0 runs (spelled_there shape half words rows ordinal found.0 laid found.1) in
-    let span = there.spelled.span in
-    let few = second_few shape half words rows laid in
-    let long = ap (λ (ws : List ℕ). length ws) same in
-    let ends = ap (λ (n : ℕ). n * (key_width half.widths + value_width half.widths)) run.ends in
-    record {
-      narrow_key = wide_narrow shape half.max half.widths laid.wide 2;
-      narrow_value = wide_narrow shape half.max half.widths laid.wide 3;
-      rises = omega (arith, span.rises, run.starts, run.ends);
-      inside = omega (arith, span.held, long, ends);
-      few = omega (arith, few, long);
-    }
-
--- the run that a look-up goes through is that of the place
-run_same : (shape : Shape) (half : HalfShape) (words second : List ℕ) (ordinal start end : ℕ) → IsRunUnder shape half words ordinal start end → second ≡ (section_in shape half words).second
-    → run_at half.widths (section_in shape half words).first (section_in shape half words).second ordinal ≡ run_in second (key_width half.widths) (value_width half.widths) start (end - start)
-run_same shape half words second ordinal start end run same =
-    let section = section_in shape half words in
-    let kw = key_width half.widths in
-    let vw = value_width half.widths in
-    ap (λ (ws : List ℕ). run_in ws kw vw (start_at half.widths section.first ordinal) (end_at half.widths section.first ordinal - start_at half.widths section.first ordinal)) (sym same)
-    ∙ ap (λ (n : ℕ). run_in second kw vw n (end_at half.widths section.first ordinal - n)) (sym run.starts)
-    ∙ ap (λ (n : ℕ). run_in second kw vw start (n - start)) (sym run.ends)
-
-no_values : (element : List ℕ) (half : HalfShape) (words : List ℕ) (rows : RowMap) → IsLaidOut (Shape.Set element) half words rows → value_width half.widths ≡ 0
-no_values element half words rows laid = by_widths half.widths laid.wide.0
-  where
-    by_widths : (widths : List ℕ) → length widths ≡ 3 → value_width widths ≡ 0
-    by_widths [] three = absurd (omega arith)
-    by_widths (a ∷ []) three = absurd (omega arith)
-    by_widths (a ∷ b ∷ []) three = absurd (omega arith)
-    by_widths (a ∷ b ∷ c ∷ []) three = refl
-    by_widths (a ∷ b ∷ c ∷ d ∷ rest) three = absurd (omega arith)
+-- what is told of the sets or maps of a half is told of the pairs under an ordinal
+told_there : (P : List (ℕ × ℕ) → Type 0) (shape : Shape) (half : HalfShape) (words : List ℕ) (runs : BucketRows) (ordinal place : ℕ) (row : Row) → HasRuns shape → AreRunsOf shape half words runs → place ≡ ordinal
+    → ((pairs : List (ℕ × ℕ)) → SpellsAt runs place pairs → P pairs) → Spells shape (section_in shape half words) ordinal row → (pairs : List (ℕ × ℕ)) × IsRowOf shape row pairs × P pairs
+told_there P shape half words runs ordinal place row kind are same tells spells =
+    let there = pairs_there shape half words ordinal row kind spells in
+    let spelled = of_runs (λ widths total first second. SpellsPairs widths total first second ordinal there.pairs) shape half words runs are there.spelled in
+    (there.pairs, there.row_of, tells there.pairs (subst (λ (n : ℕ). SpellsAt runs n there.pairs) (sym same) spelled))
 
 -- ---- sets
-
-pub set_within : (shape : Shape) (element : List ℕ) (half : HalfShape) (words second : List ℕ) (ordinal start end width : ℕ) → shape ≡ Shape.Set element → IsRunUnder shape half words ordinal start end
-    → second ≡ (section_in shape half words).second → slice_get half.widths 2 ≡ Some width → IsRunWithin second width 0 start end
-set_within shape element half words second ordinal start end width is run same at =
-    let within = run_within shape half words second ordinal start end (subst HasRuns (sym is) tt) run same in
-    let none = no_values element half words run.under.0 (subst (λ (s : Shape). IsLaidOut s half words run.under.0) is run.under.1) in
-    subst (λ (w : ℕ). IsRunWithin second w 0 start end) (sym (read_is half.widths 2 width at)) (subst (λ (v : ℕ). IsRunWithin second (key_width half.widths) v start end) none within)
 
 set_of : (element : List ℕ) (row : Row) (pairs : List (ℕ × ℕ)) → IsRowOf (Shape.Set element) row pairs → elements_of (Some row) ≡ keys_of pairs
 set_of element (Row.Set ordinals) pairs is = is
@@ -112,29 +90,18 @@ set_of element (Row.Object values) pairs is = absurd is
 set_of element (Row.List ordinals) pairs is = absurd is
 set_of element (Row.Map entries) pairs is = absurd is
 
-pub set_has : (shape : Shape) (element : List ℕ) (half : HalfShape) (words second : List ℕ) (ordinal start end width sought : ℕ) (b : Bool) → shape ≡ Shape.Set element → IsRunUnder shape half words ordinal start end
-    → second ≡ (section_in shape half words).second → slice_get half.widths 2 ≡ Some width
-    → ((pairs : List (ℕ × ℕ)) → SpellsRun (run_in second width 0 start (end - start)) pairs → IsTrue b ↔ Contains (keys_of pairs) sought)
+pub set_has : (shape : Shape) (element : List ℕ) (half : HalfShape) (words : List ℕ) (runs : BucketRows) (ordinal place sought : ℕ) (live b : Bool) → shape ≡ Shape.Set element → AreRunsOf shape half words runs
+    → IsTrue live ↔ Contains half.live ordinal → live ≡ true → place ≡ ordinal → ((pairs : List (ℕ × ℕ)) → SpellsAt runs place pairs → IsTrue b ↔ Contains (keys_of pairs) sought)
     → (rows : RowMap) → IsLaidOut shape half words rows → IsTrue b ↔ Contains (elements_of (get rows ordinal)) sought
-set_has shape element half words second ordinal start end width sought b is run same at tells rows laid =
-    let found = row_found rows ordinal (same_live shape half words run.under.0 rows ordinal run.under.1 laid run.under.2) in
+set_has shape element half words runs ordinal place sought live b is are among lives same tells rows laid =
+    let found = row_found rows ordinal (live_under shape half words ordinal live among lives rows laid) in
     let spells = spelled_there shape half words rows ordinal found.0 laid found.1 in
-    let there = pairs_there shape half words ordinal found.0 (subst HasRuns (sym is) tt) spells in
-    let none = no_values element half words rows (subst (λ (s : Shape). IsLaidOut s half words rows) is laid) in
-    let through = run_same shape half words second ordinal start end run same
-    ∙ ap (λ (v : ℕ). run_in second (key_width half.widths) v start (end - start)) none
-    ∙ ap (λ (w : ℕ). run_in second w 0 start (end - start)) (sym (read_is half.widths 2 width at)) in
-    let told = tells there.pairs (subst (λ r. SpellsRun r there.pairs) through there.spelled.run) in
-    let elements = ap elements_of found.1 ∙ set_of element found.0 there.pairs (subst (λ (s : Shape). IsRowOf s found.0 there.pairs) is there.row_of) in
-    subst (λ (os : List ℕ). IsTrue b ↔ Contains os sought) (sym elements) told
+    let told =
+    told_there (λ pairs. IsTrue b ↔ Contains (keys_of pairs) sought) shape half words runs ordinal place found.0 (subst HasRuns (sym is) tt) are same tells spells in
+    let elements = ap elements_of found.1 ∙ set_of element found.0 told.0 (subst (λ (s : Shape). IsRowOf s found.0 told.0) is told.1) in
+    subst (λ (os : List ℕ). IsTrue b ↔ Contains os sought) (sym elements) told.2
 
 -- ---- maps
-
-pub map_within : (shape : Shape) (half : HalfShape) (words second : List ℕ) (ordinal start end kw vw : ℕ) → HasRuns shape → IsRunUnder shape half words ordinal start end
-    → second ≡ (section_in shape half words).second → slice_get half.widths 2 ≡ Some kw → slice_get half.widths 3 ≡ Some vw → IsRunWithin second kw vw start end
-map_within shape half words second ordinal start end kw vw runs run same at value_at =
-    subst (λ (w : ℕ). IsRunWithin second w vw start end) (sym (read_is half.widths 2 kw at))
-    (subst (λ (v : ℕ). IsRunWithin second (key_width half.widths) v start end) (sym (read_is half.widths 3 vw value_at)) (run_within shape half words second ordinal start end runs run same))
 
 map_of : (key value : List ℕ) (row : Row) (pairs : List (ℕ × ℕ)) → IsRowOf (Shape.Map key value) row pairs → pairs_of (Some row) ≡ pairs
 map_of key value (Row.Map entries) pairs is = is
@@ -142,20 +109,15 @@ map_of key value (Row.Object values) pairs is = absurd is
 map_of key value (Row.List ordinals) pairs is = absurd is
 map_of key value (Row.Set ordinals) pairs is = absurd is
 
-pub map_at : (shape : Shape) (key value : List ℕ) (half : HalfShape) (words second : List ℕ) (ordinal start end kw vw sought : ℕ) (result : Option ℕ) → shape ≡ Shape.Map key value → IsRunUnder shape half words ordinal start end
-    → second ≡ (section_in shape half words).second → slice_get half.widths 2 ≡ Some kw → slice_get half.widths 3 ≡ Some vw
-    → ((pairs : List (ℕ × ℕ)) → SpellsRun (run_in second kw vw start (end - start)) pairs → FindsIn pairs sought result)
+pub map_at : (shape : Shape) (key value : List ℕ) (half : HalfShape) (words : List ℕ) (runs : BucketRows) (ordinal place sought : ℕ) (live : Bool) (result : Option ℕ) → shape ≡ Shape.Map key value
+    → AreRunsOf shape half words runs → IsTrue live ↔ Contains half.live ordinal → live ≡ true → place ≡ ordinal → ((pairs : List (ℕ × ℕ)) → SpellsAt runs place pairs → FindsIn pairs sought result)
     → (rows : RowMap) → IsLaidOut shape half words rows → FindsIn (pairs_of (get rows ordinal)) sought result
-map_at shape key value half words second ordinal start end kw vw sought result is run same at value_at tells rows laid =
-    let found = row_found rows ordinal (same_live shape half words run.under.0 rows ordinal run.under.1 laid run.under.2) in
+map_at shape key value half words runs ordinal place sought live result is are among lives same tells rows laid =
+    let found = row_found rows ordinal (live_under shape half words ordinal live among lives rows laid) in
     let spells = spelled_there shape half words rows ordinal found.0 laid found.1 in
-    let there = pairs_there shape half words ordinal found.0 (subst HasRuns (sym is) tt) spells in
-    let through = run_same shape half words second ordinal start end run same
-    ∙ ap (λ (w : ℕ). run_in second w (value_width half.widths) start (end - start)) (sym (read_is half.widths 2 kw at))
-    ∙ ap (λ (v : ℕ). run_in second kw v start (end - start)) (sym (read_is half.widths 3 vw value_at)) in
-    let told = tells there.pairs (subst (λ r. SpellsRun r there.pairs) through there.spelled.run) in
-    let pairs = ap pairs_of found.1 ∙ map_of key value found.0 there.pairs (subst (λ (s : Shape). IsRowOf s found.0 there.pairs) is there.row_of) in
-    subst (λ (ps : List (ℕ × ℕ)). FindsIn ps sought result) (sym pairs) told
+    let told = told_there (λ pairs. FindsIn pairs sought result) shape half words runs ordinal place found.0 (subst HasRuns (sym is) tt) are same tells spells in
+    let pairs = ap pairs_of found.1 ∙ map_of key value found.0 told.0 (subst (λ (s : Shape). IsRowOf s found.0 told.0) is told.1) in
+    subst (λ (ps : List (ℕ × ℕ)). FindsIn ps sought result) (sym pairs) told.2
 
 -- ---- no set and no map
 
@@ -202,17 +164,10 @@ never_map shape half words ordinal sought not rows laid = no_pair (pairs_of (get
     by_row None is = refl
     by_row (Some row) is = no_map shape half words ordinal row not (spelled_there shape half words rows ordinal row laid is)
 
--- ---- the bounds of a run
+pub dead_set : (shape : Shape) (half : HalfShape) (words : List ℕ) (ordinal sought : ℕ) (live : Bool) → IsTrue live ↔ Contains half.live ordinal → live ≡ false → (rows : RowMap) → IsLaidOut shape half words rows
+    → IsTrue false ↔ Contains (elements_of (get rows ordinal)) sought
+dead_set shape half words ordinal sought live among dead rows laid = no_element (elements_of (get rows ordinal)) sought (ap elements_of (none_under shape half words ordinal live among dead rows laid))
 
-pub bounded : (shape : Shape) (half : HalfShape) (words widths first : List ℕ) (ordinal place start end : ℕ) → HasRowUnder shape half words ordinal → widths ≡ half.widths → first ≡ (section_in shape half words).first
-    → place ≡ ordinal → start ≡ start_at widths first place → end ≡ end_at widths first place → IsRunUnder shape half words ordinal start end
-bounded shape half words widths first ordinal place start end under same first_same place_same starts ends =
-    record {
-      under = under;
-      starts =
-          starts ∙ ap (λ (ws : List ℕ). start_at ws first place) same ∙ ap (λ (ws : List ℕ). start_at half.widths ws place) first_same
-          ∙ ap (λ (n : ℕ). start_at half.widths (section_in shape half words).first n) place_same;
-      ends =
-          ends ∙ ap (λ (ws : List ℕ). end_at ws first place) same ∙ ap (λ (ws : List ℕ). end_at half.widths ws place) first_same
-          ∙ ap (λ (n : ℕ). end_at half.widths (section_in shape half words).first n) place_same;
-    }
+pub dead_map : (shape : Shape) (half : HalfShape) (words : List ℕ) (ordinal sought : ℕ) (live : Bool) → IsTrue live ↔ Contains half.live ordinal → live ≡ false → (rows : RowMap) → IsLaidOut shape half words rows
+    → FindsIn (pairs_of (get rows ordinal)) sought None
+dead_map shape half words ordinal sought live among dead rows laid = no_pair (pairs_of (get rows ordinal)) sought (ap pairs_of (none_under shape half words ordinal live among dead rows laid))

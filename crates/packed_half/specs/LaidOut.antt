@@ -58,7 +58,3 @@ HasRows shape half words = (rows : RowMap) × IsLaidOut shape half words rows
 -- They are those of some rows, one of which stands under this ordinal.
 abbrev pub HasRowUnder : Shape → HalfShape → List ℕ → ℕ → Type 0
 HasRowUnder shape half words ordinal = (rows : RowMap) × IsLaidOut shape half words rows × IsSome (get rows ordinal)
-
--- None stands under this ordinal of the rows that they are those of.
-abbrev pub HasNoneUnder : Shape → HalfShape → List ℕ → ℕ → Type 0
-HasNoneUnder shape half words ordinal = (rows : RowMap) → IsLaidOut shape half words rows → get rows ordinal ≡ None

@@ -7,7 +7,8 @@ use Rattle.std.proofs.lemmas.List.Elements.{Contains-get_or}
 use Rattle.serde_json.specs.Data.{Data}
 use Rattle.row_model.specs.Table.{Table}
 use Rattle.write_engine.specs.Cycle.{rows_in}
-use Rattle.write_engine.specs.CycleLimit.{TellsCycle}
+use Rattle.row_packing.specs.Measured.{AreMeasured}
+use Rattle.write_engine.specs.CycleLimit.{IsToPublish, TellsCycle}
 use Rattle.write_engine.specs.Production.{AreChanged, Production}
 use Rattle.write_engine.specs.declared.producer.Closed.{Closed}
 use Rattle.schema_model.specs.declared.limit.Limit.TheVariants.{Ordinals}
@@ -40,12 +41,14 @@ changed_within count previous current changed old new are = λ k d within.
 pub is_made : (old taken new : Production) (add : Adding) (closed : Closed) → taken ≡ record old { current = taken.current } → new ≡ record taken { closed = true; over = new.over } →
     AreTaken (published_of old) add taken.current → AreChanged taken.previous taken.current closed.changed →
     (IsTrue closed.first ↔ (taken.version ≡ 0)) → TellsCycle taken.schemas taken.previous taken.current taken.version closed.changed new.over →
-    length new.previous ≡ length new.schemas → length new.current ≡ length new.schemas → IsMade (published_of old) add new closed
-is_made old taken new add closed kept ok (trees, gives, state) are first over previous_types current_types =
+    (IsToPublish taken.version closed.changed → AreMeasured taken.schemas taken.previous taken.current closed.measured) → length new.previous ≡ length new.schemas → length new.current ≡ length new.schemas → IsMade (published_of old) add new closed
+is_made old taken new add closed kept ok (trees, gives, state) are first over measured previous_types current_types =
     let whole : new ≡ record old { current = taken.current; closed = true; over = new.over } = ok ∙ ap (λ (p : Production). record p { closed = true; over = new.over }) kept in
     let same : taken.current ≡ new.current = sym (ap (λ (p : Production). p.current) whole) in
     let changed : AreChanged old.previous taken.current closed.changed = subst (λ (p : Production). AreChanged p.previous p.current closed.changed) kept are in
     let limits : TellsCycle old.schemas old.previous taken.current old.version closed.changed new.over = subst (λ (p : Production). TellsCycle p.schemas p.previous p.current p.version closed.changed new.over) kept over in
+    let sized : IsToPublish old.version closed.changed → AreMeasured old.schemas old.previous taken.current closed.measured =
+    subst (λ (p : Production). IsToPublish p.version closed.changed → AreMeasured p.schemas p.previous p.current closed.measured) kept measured in
     let before : length old.previous ≡ length old.schemas = subst (λ (p : Production). length p.previous ≡ length p.schemas) whole previous_types in
     let after : length taken.current ≡ length old.schemas = subst (λ (p : Production). length p.current ≡ length p.schemas) whole current_types in
     let makes : Makes (published_of old) trees taken.current closed.changed = record { state = state; types = changed } in
@@ -54,6 +57,7 @@ is_made old taken new add closed kept ok (trees, gives, state) are first over pr
       gives = gives;
       makes = subst (λ (rows : Table). Makes (published_of old) trees rows closed.changed) same makes;
       over = subst (λ (rows : Table). TellsCycle old.schemas old.previous rows old.version closed.changed new.over) same limits;
+      measured = subst (λ (rows : Table). IsToPublish old.version closed.changed → AreMeasured old.schemas old.previous rows closed.measured) same sized;
       first = subst (λ (p : Production). IsTrue closed.first ↔ (p.version ≡ 0)) kept first;
       in_model = changed_within (length old.schemas) old.previous taken.current closed.changed before after changed;
       is_closed = ap (λ (p : Production). p.closed) whole;

@@ -5,7 +5,8 @@ use Rattle.schema_model.specs.declared.limit.Limit.TheVariants as limit
 use Rattle.row_model.specs.PlainTree.{PlainTree}
 use Rattle.row_model.specs.Table.{Table}
 use Rattle.write_engine.specs.Cycle.{Next}
-use Rattle.write_engine.specs.CycleLimit.{TellsCycle, TellsTypes}
+use Rattle.row_packing.specs.Measured.{AreMeasured}
+use Rattle.write_engine.specs.CycleLimit.{IsToPublish, TellsCycle, TellsTypes}
 use Rattle.write_engine.specs.Production.{Production}
 use Rattle.write_engine.specs.declared.producer.Closed.{Closed}
 use Rattle.hol_answers.specs.declared.refusal.Refusal.{Refusal}
@@ -25,12 +26,14 @@ use Rattle.producer_orders.specs.Ends.{IsAnyStop, TellsEnd}
 use Rattle.producer_orders.specs.declared.cycle_end.CycleEnd.{CycleEnd}
 use Rattle.state_blobs.specs.declared.write.Blobs.{Blobs}
 
--- A closed cycle: the trees that the records give, the state that these make and the types that it changes, and the limit that it passes.
+-- A closed cycle: the trees that the records give, the state that these make and the types that it changes, the limit that it passes, and what is measured of
+-- each type where it is to be published.
 pub record IsMade (last : Published) (add : Adding) (made : Production) (closed : Closed) : Type 0 where
   pub trees : List (ℕ × PlainTree)
   pub gives : GivesTrees last add trees
   pub makes : Makes last trees made.current closed.changed
   pub over : TellsCycle last.model last.rows made.current last.version closed.changed made.over
+  pub measured : IsToPublish last.version closed.changed → AreMeasured last.model last.rows made.current closed.measured
   pub first : IsTrue closed.first ↔ (last.version ≡ 0)
   pub in_model : All (λ t. t < length last.model) closed.changed
   pub is_closed : made.closed ≡ true

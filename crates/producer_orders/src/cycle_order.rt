@@ -4,7 +4,8 @@ ghost use Rattle.std.specs.Option.{option_map};
 ghost use Rattle.std.specs.Result.{IsErrOf};
 ghost use Rattle.hol_io.specs.Causes.{Rose};
 ghost use Rattle.film_script.specs.Films.{film_schemas};
-ghost use Rattle.write_engine.specs.CycleLimit.{TellsCycle, TellsTypes};
+ghost use Rattle.row_packing.specs.Measured.{AreMeasured};
+ghost use Rattle.write_engine.specs.CycleLimit.{IsToPublish, TellsCycle, TellsTypes};
 ghost use Rattle.hol_orders.specs.Kind.{IsNextState};
 ghost use Rattle.hol_orders.specs.Parts.{asked_state};
 ghost use Rattle.hollow_machine.specs.CycleOrder.{CycleStep};
@@ -26,7 +27,8 @@ use film_script::cycle_tag;
 use hol_answers::{Refusal, Reply};
 use hol_io::BlobStore;
 use hol_orders::{NextState, OrderStop};
-use state_blobs::{Blobs, publish, write_blobs};
+use row_packing::Measured;
+use state_blobs::{Blobs, publish, write_blobs_by};
 use std::alloc::Global;
 use write_engine::{Closed, Producer};
 
@@ -207,6 +209,7 @@ pub fn end_cycle<S: BlobStore>(
     requires first { IsTrue closed.now.first ↔ (producer.old.version ≡ 0) }
     requires in_model { All (λ t. t < length producer.old.schemas) closed.now.changed }
     requires over { TellsCycle producer.old.schemas producer.old.previous producer.old.current producer.old.version closed.now.changed producer.old.over }
+    requires measured { IsToPublish producer.old.version closed.now.changed → AreMeasured producer.old.schemas producer.old.previous producer.old.current closed.now.measured }
     ensures ends { Ends (S.seen store.old).held (published_of producer.old) producer.old.current closed.now.changed version tag with_snapshot
         (S.seen store.new).held (published_of producer.new) result }
     ensures model { producer.new.schemas ≡ producer.old.schemas }
@@ -222,7 +225,16 @@ pub fn end_cycle<S: BlobStore>(
             version,
         });
     }
-    publish_state(alloc, store, producer, version, tag, with_snapshot)?;
+    let measured = closed.measured.as_slice();
+    publish_state(
+        alloc,
+        store,
+        producer,
+        measured,
+        version,
+        tag,
+        with_snapshot,
+    )?;
     Ok(Reply::Cycle {
         changed,
         published: true,
@@ -235,12 +247,14 @@ fn publish_state<S: BlobStore>(
     alloc: Global,
     store: &mut S,
     producer: &mut Producer,
+    measured: &[Measured],
     version: u64,
     tag: i64,
     with_snapshot: bool,
 ) -> Result<(), CycleEnd>
     requires is_closed { producer.old.closed ≡ true }
     requires over { TellsTypes producer.old.schemas producer.old.previous producer.old.current producer.old.over }
+    requires measured { AreMeasured producer.old.schemas producer.old.previous producer.old.current measured.now }
     ensures ends { EndsPublished (S.seen store.old).held (published_of producer.old) producer.old.current version tag with_snapshot
         (S.seen store.new).held (published_of producer.new) result }
     ensures model { producer.new.schemas ≡ producer.old.schemas }
@@ -248,7 +262,7 @@ fn publish_state<S: BlobStore>(
     ensures rows { OnOk result (producer.new.previous ≡ producer.old.current) }
     ensures cause { HasEndCause (S.seen store.old).faults (S.seen store.new).faults result }
 {
-    let blobs = limited_blobs(alloc, producer, version, tag, with_snapshot)?;
+    let blobs = limited_blobs(alloc, producer, measured, version, tag, with_snapshot)?;
     publish(alloc, store, version, &blobs)?;
     producer.advance(tag, version);
     Ok(())
@@ -258,16 +272,18 @@ fn publish_state<S: BlobStore>(
 fn limited_blobs(
     alloc: Global,
     producer: &Producer,
+    measured: &[Measured],
     version: u64,
     tag: i64,
     with_snapshot: bool,
 ) -> Result<Blobs, CycleEnd>
     requires is_closed { producer.now.closed ≡ true }
     requires over { TellsTypes producer.now.schemas producer.now.previous producer.now.current producer.now.over }
+    requires measured { AreMeasured producer.now.schemas producer.now.previous producer.now.current measured.now }
     ensures { TellsEnd (IsWithin (published_of producer.now) producer.now.current version tag with_snapshot) (IsTooLarge (published_of producer.now) producer.now.current version tag with_snapshot) IsMemory result }
 {
     if let Some(limit) = producer.over_limit() {
         return Err(CycleEnd::Refused(Refusal::TooLarge(limit)));
     }
-    Ok(write_blobs(alloc, producer, version, tag, with_snapshot)?)
+    Ok(write_blobs_by(alloc, producer, measured, version, tag, with_snapshot)?)
 }

@@ -2,4 +2,3 @@ pub mod Taken
 pub mod Copied
 pub mod Sources
 pub mod StoredRows
-pub mod CopiedLists

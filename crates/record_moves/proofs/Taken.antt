@@ -13,7 +13,7 @@ use Rattle.object_codec.specs.ObjectPlace.{IsKindWidth}
 use Rattle.object_codec.specs.Packing.{HasBytes, HoldsValue}
 use Rattle.object_codec.specs.Part.{FieldPart, IsOnes, IsSpan, span_of, end_of, SpellsInt, SpellsLong, SpellsReference, SpellsBoolean, SpellsText, SpellsBytes, SpellsValue}
 use Rattle.object_codec.specs.Stored.{element_number, stored_number, greatest_number, value_bytes}
-use Rattle.object_codec.proofs.ValueElements.{found_taken}
+use Rattle.object_codec.proofs.ValueElements.{bytes_taken, number_taken}
 use Rattle.record_moves.specs.Parts.{HasRoomFor, IsRunTaken, widened}
 
 -- ---- the number that the element of a value without bytes holds
@@ -133,12 +133,30 @@ number_element _ width end value not = refl
 
 -- ---- what is written
 
+plain_bytes : (kind : FieldKind) (value : Value) → (HasBytes kind → ⊥) → FitsKind kind value → value_bytes value ≡ []
+plain_bytes FieldKind.Text value not fits = absurd (not tt)
+plain_bytes FieldKind.Bytes value not fits = absurd (not tt)
+plain_bytes kind (Value.Text units) not fits = absurd fits
+plain_bytes kind (Value.Bytes bytes) not fits = absurd fits
+plain_bytes kind _ not fits = refl
+
+plainly_taken : (kind : FieldKind) (width element : ℕ) (before area : List ℕ) (value : Value) → (HasBytes kind → ⊥) → element ≡ element_for kind width (length area) value → area ≡ before ++ value_bytes value
+    → IsKindWidth kind width → FitsKind kind value → HoldsValue width value → IfSome (stored_number value) (λ n. n ≤ greatest_number value) → IsTaken kind width element before area (Some value)
+plainly_taken kind width element before area value not is grown wide fits held small =
+    let same : area ≡ before = grown ∙ ap (λ (bytes : List ℕ). before ++ bytes) (plain_bytes kind value not fits) ∙ append-nil before in
+    subst (λ (bytes : List ℕ). IsTaken kind width element bytes area (Some value)) same
+    (number_taken kind width element area (Some value) value refl (is ∙ number_element kind width (length area) value not) not wide fits held small)
+
 taken : (kind : FieldKind) (width element : ℕ) (before area : List ℕ) (value : Value) → element ≡ element_for kind width (length area) value → area ≡ before ++ value_bytes value → IsKindWidth kind width
     → FitsKind kind value → HoldsValue width value → IfSome (stored_number value) (λ n. n ≤ greatest_number value) → ((units : List ℕ) → value ≡ Value.Text units → AreUnits units)
     → (HasBytes kind → length before + length (value_bytes value) < 2 ^ (width - 1)) → IsTaken kind width element before area (Some value)
-taken kind width element before area value is grown wide fits held small are below =
-    found_taken kind width element before area (Some value) value refl is grown wide fits held small are
+taken FieldKind.Text width element before area value is grown wide fits held small are below =
+    bytes_taken FieldKind.Text width element before area (Some value) value refl is grown tt wide fits held are
     (λ has. subst (λ (bytes : List ℕ). length before + length bytes < 2 ^ (width - 1)) (sym (append-nil (value_bytes value))) (below has))
+taken FieldKind.Bytes width element before area value is grown wide fits held small are below =
+    bytes_taken FieldKind.Bytes width element before area (Some value) value refl is grown tt wide fits held are
+    (λ has. subst (λ (bytes : List ℕ). length before + length bytes < 2 ^ (width - 1)) (sym (append-nil (value_bytes value))) (below has))
+taken kind width element before area value is grown wide fits held small are below = plainly_taken kind width element before area value (λ has. has) is grown wide fits held small
 
 -- the bytes of a null are none
 null_run : (part : FieldPart) → end_of part ≡ part.start → span_of part ≡ []
@@ -160,21 +178,21 @@ text_taken part width element before area (Value.Text units) wide put room =
     (λ others e. let same : units ≡ others = cc in subst AreUnits same room.spelled.2.0) room.ends
 text_taken part width element before area _ wide put room = absurd room.spelled
 
-bytes_taken : (part : FieldPart) (width element : ℕ) (before area : List ℕ) (value : Value) → 1 ≤ width → IsRunTaken part width element before area → HasRoomFor FieldKind.Bytes part width before value
+octets_taken : (part : FieldPart) (width element : ℕ) (before area : List ℕ) (value : Value) → 1 ≤ width → IsRunTaken part width element before area → HasRoomFor FieldKind.Bytes part width before value
     → IsTaken FieldKind.Bytes width element before area (Some value)
-bytes_taken part width element before area Value.Null wide put room =
+octets_taken part width element before area Value.Null wide put room =
     taken FieldKind.Bytes width element before area Value.Null (put.null room.spelled.1)
     (put.grown ∙ ap (λ (bytes : List ℕ). before ++ bytes) (null_run part (room.spelled.0.empty room.spelled.1))) wide tt tt tt (λ units e. absurd cc) room.ends
-bytes_taken part width element before area (Value.Bytes bytes) wide put room =
+octets_taken part width element before area (Value.Bytes bytes) wide put room =
     taken FieldKind.Bytes width element before area (Value.Bytes bytes) (put.some room.spelled.1)
     (put.grown ∙ ap (λ (all : List ℕ). before ++ all) (sym room.spelled.2)) wide tt tt tt (λ units e. absurd cc) room.ends
-bytes_taken part width element before area _ wide put room = absurd room.spelled
+octets_taken part width element before area _ wide put room = absurd room.spelled
 
 -- the bytes of a STRING or BYTES
 pub run_taken : (kind : FieldKind) (part : FieldPart) (width element : ℕ) (before area : List ℕ) → HasBytes kind → 1 ≤ width → IsRunTaken part width element before area
     → (value : Value) → HasRoomFor kind part width before value → IsTaken kind width element before area (Some value)
 run_taken FieldKind.Text part width element before area has wide put value room = text_taken part width element before area value wide put room
-run_taken FieldKind.Bytes part width element before area has wide put value room = bytes_taken part width element before area value wide put room
+run_taken FieldKind.Bytes part width element before area has wide put value room = octets_taken part width element before area value wide put room
 run_taken _ part width element before area has wide put value room = absurd has
 
 -- ---- what is known of a run that has room

@@ -2,11 +2,9 @@
 #![tactic(auto)]
 
 mod cell;
-mod list;
 mod part;
 mod record;
 mod source;
 
-pub use list::copy_list;
 pub use record::{RecordPlace, copy_record};
 pub use source::{PackedRecords, WordRecords};

@@ -37,7 +37,7 @@ module _ (name : List ℕ) (paths values : Data) (first second rest : List Token
       ap (converted of_json) (value-begin_array 126 named below)
       ∙ (converted-array (items (value 125) (length named) named) ∙ ap (parse_map array) (asked_items (length named) (omega arith)))
 
-find_json : (ts first second third : List Token) (name : List ℕ) (paths values : Data) → ts ≡ begin_object ∷ key (codes "find") ∷ begin_array ∷ string_token name ∷ first
+pub find_json : (ts first second third : List Token) (name : List ℕ) (paths values : Data) → ts ≡ begin_object ∷ key (codes "find") ∷ begin_array ∷ string_token name ∷ first
     → converted of_json (value 125 first) ≡ Some (paths, second) → converted of_json (value 125 second) ≡ Some (values, third) → third ≡ end_array ∷ end_object ∷ []
     → converted of_json (value 127 ts) ≡ Some (find_data name paths values, [])
 find_json ts first second third name paths values start is_paths are_values closed =

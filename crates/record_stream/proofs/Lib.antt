@@ -8,6 +8,7 @@ mod Named
 mod Opened
 mod PartsFound
 mod Passed
+mod PlainLines
 pub mod Records
 mod Typing
 mod Whole

@@ -4,5 +4,6 @@ pub mod FindLine
 pub mod Holder
 pub mod Parts
 pub mod Passing
+pub mod PlainFind
 pub mod RecordLine
 pub mod Records

@@ -7,6 +7,7 @@ ghost use Rattle.serde_json.specs.View.{view};
 ghost use Rattle.record_stream.specs.FindLine.{find_data};
 
 use crate::opening::{is_array_closed, is_object_closed, take_array, take_key, take_object};
+use crate::plain_find::plain_find;
 use crate::read_fault::ReadFault;
 use crate::value::read_value;
 use json::{Reader, Scratch, Token};
@@ -36,6 +37,9 @@ pub fn split_find(
 ) -> Result<Option<FindParts>, AllocError>
     ensures { IfOk result (λ found. IfSome found (λ parts. read line.now ≡ Some (find_data (string_bytes parts.type_name) (view parts.paths) (view parts.values)))) }
 {
+    if let Some(parts) = plain_find(alloc, line)? {
+        return Ok(Some(parts));
+    }
     let mut reader = Reader::new(line, scratch)?;
     match find_ahead(alloc, &mut reader) {
         Ok(parts) => Ok(Some(parts)),

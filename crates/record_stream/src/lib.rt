@@ -11,6 +11,7 @@ mod number;
 mod opening;
 mod parts;
 mod passing;
+mod plain_find;
 mod read_fault;
 mod record;
 mod record_line;

@@ -1,14 +1,8 @@
-pub mod BucketRows
 pub mod BytesInWords
 pub mod Faults
-pub mod FoundKeys
-pub mod KeysOnce
-pub mod ListElements
 pub mod PlainTexts
-pub mod RunsInWords
 pub mod Shown
 pub mod Soundness
 pub mod Starts
-pub mod TakenBuckets
 pub mod Texts
 pub mod UnitReaches

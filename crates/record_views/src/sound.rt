@@ -102,8 +102,8 @@ fn first_in_field(
     Ok(first_bad_part(kind, first, before, width, size, area, places))
 }
 
-/// Whether each element of this width has a value in a field of this kind.
-fn is_free(kind: &FieldKind, width: u32) -> bool
+/// Whether each element of this width has a value in a field of this kind, as far as that is told by the width alone.
+pub fn is_free(kind: &FieldKind, width: u32) -> bool
     ensures { IsTrue result → (part : FieldPart) → part.width ≡ width → part.element < 2 ^ part.width → (value : Value) × SpellsValue kind.now part value }
 {
     match kind {

@@ -19,3 +19,4 @@ pub mod RecordsLaid
 pub mod Columns
 pub mod ColumnsLaid
 pub mod PatchOrdinals
+pub mod FreeRecords

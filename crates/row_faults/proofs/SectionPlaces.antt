@@ -7,7 +7,7 @@ use Rattle.schema_model.specs.declared.schema.Shape.{Shape}
 use Rattle.bit_array.specs.Element.{words_of}
 use Rattle.list_codec.specs.ListPlace.{HoldsListPlace, IsList}
 use Rattle.bucket_codec.specs.BucketPlace.{HoldsPointers}
-use Rattle.record_views.specs.Buckets.{IsBucketShape}
+use Rattle.bucket_codec.specs.Buckets.{IsBucketShape}
 use Rattle.type_rows.specs.declared.section.Section.{Section}
 use Rattle.type_rows.specs.Layout.{place_bits, places_of}
 use Rattle.type_rows.specs.WellFormed.{IsReadable}

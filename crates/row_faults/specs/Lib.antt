@@ -6,5 +6,6 @@ pub mod Tests
 pub mod LoadFault
 pub mod MoveFault
 pub mod RunItems
+pub mod Free
 pub mod FieldEnds
 pub mod Sums

@@ -1,12 +1,12 @@
--- Lists, sets and maps where they stand: how many items they have, and what the test of a place tells.
-use Rattle.std.specs.Prelude.{◌<◌, ◌-◌, ℕ, slice_index, Result, Ok, Err}
+-- Lists, sets and maps where they stand: how many items they have, and what the test of their places may lack.
+use Rattle.std.specs.Prelude.{◌≡◌, ◌<◌, ◌-◌, ℕ, slice_index}
 use Rattle.schema_model.specs.declared.schema.Shape.{Shape}
-use Rattle.row_model.specs.declared.packed.PlaceFault.{PlaceFault}
 use Rattle.list_codec.specs.ListPlace as lists
+use Rattle.list_codec.specs.declared.list_rows.ListRows.{ListRows}
 use Rattle.bucket_codec.specs.BucketCount.{bucket_count}
 use Rattle.bucket_codec.specs.BucketPlace as buckets
+use Rattle.bucket_codec.specs.declared.bucket_rows.BucketRows.{BucketRows}
 use Rattle.type_rows.specs.declared.section.Section.{Section}
-use Rattle.row_faults.specs.Places.{Fails, SpellsSome}
 
 -- The items of the row at a place: the elements of a list, and the buckets that the writer makes for the elements of a set or map.
 abbrev pub items_at : Shape → Section → ℕ → ℕ
@@ -27,8 +27,16 @@ abbrev pub HasRuns : Shape → Type 0
 HasRuns (Shape.Object key fields) = ⊥
 HasRuns _ = Unit {0}
 
--- What each answer to the test of a place of a SET or MAP tells.
-abbrev pub TellsPlaceTest : Shape → Section → ℕ → Result (Unit {0}) PlaceFault → Type 0
-TellsPlaceTest shape section place (Ok done) = SpellsSome shape section place
-TellsPlaceTest shape section place (Err (PlaceFault.Bad reason)) = Fails shape section place reason
-TellsPlaceTest shape section place (Err PlaceFault.Memory) = Unit {0}
+-- The sets or maps are those of a section.
+pub record IsOfSection (section : Section) (rows : BucketRows) : Type 0 where
+  pub widths : rows.widths.now ≡ section.widths
+  pub total : rows.total ≡ section.total
+  pub first : rows.first.now ≡ section.first
+  pub second : rows.second.now ≡ section.second
+
+-- The lists are those of a section.
+pub record AreListsOf (section : Section) (rows : ListRows) : Type 0 where
+  pub widths : rows.widths.now ≡ section.widths
+  pub total : rows.total ≡ section.total
+  pub first : rows.first.now ≡ section.first
+  pub second : rows.second.now ≡ section.second

@@ -61,6 +61,7 @@ fn first_bad_added(live: &OrdinalSet, places: u64, added: &[u64]) -> Option<u64>
 pub(crate) fn first_without_place(live: &OrdinalSet, places: u32) -> Option<u32>
     ensures least { MatchOption result (HoldsNowhere (HasNoPlace live.now places)) (IsLeast (HasNoPlace live.now places)) }
     ensures small { IfSome result (λ ordinal. ordinal < 2 ^ 32 - 1) }
+    ensures rising { IsStrictlyIncreasing live.now }
 {
     live.next_from(places)
 }

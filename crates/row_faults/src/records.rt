@@ -1,5 +1,5 @@
 //! Records, tested where they stand.
-ghost use Rattle.std.specs.Prelude.{◌≡◌, ◌↔◌, ◌+◌, ◌-◌, ◌*◌, ◌^◌, ◌<◌, ◌≤◌, ℕ, List, IfOk, IsTrue, MatchOption, MatchResult, length, min, slice_index, sum, take};
+ghost use Rattle.std.specs.Prelude.{◌≡◌, ◌↔◌, ◌+◌, ◌-◌, ◌*◌, ◌^◌, ◌<◌, ◌≤◌, ℕ, List, IfOk, IfSome, IsTrue, MatchOption, MatchResult, length, min, slice_index, sum, take};
 ghost use Rattle.std.specs.FinMap.{values};
 ghost use Rattle.std.specs.List.Sorted.{IsStrictlyIncreasing};
 ghost use Rattle.schema_model.specs.Parts.{shape_fields};
@@ -16,13 +16,14 @@ ghost use Rattle.type_rows.specs.WellFormed.{IsReadable};
 ghost use Rattle.type_rows.specs.WordsHeld.{field_bytes, value_bytes};
 ghost use Rattle.row_faults.specs.LoadFault.{FailsLoad};
 ghost use Rattle.row_faults.specs.Ordinals.{HasNoPlace, HoldsNowhere};
+ghost use Rattle.row_faults.specs.Free.{AreFree, IsFree};
 ghost use Rattle.row_faults.specs.FieldEnds.{AddsRecord, AreLengths, EndFits, EndsFit, run_bytes};
 ghost use Rattle.row_faults.specs.Sums.{AreLaid, IsLaidOut, IsOfRows};
 
 use crate::Sums;
 use bit_array::total_width;
 use hol_varint::Octets;
-use record_views::{Part, first_fault, read_part};
+use record_views::{Part, first_fault, is_free, read_part};
 use row_model::{Words, area_size};
 use schema_model::{Field, FieldKind, Reason, Shape};
 use std::alloc::{AllocError, Global};
@@ -62,6 +63,49 @@ fn has_bytes(kind: &FieldKind) -> bool
         FieldKind::Bytes => true,
         _ => false,
     }
+}
+
+/// Whether each element of this width has a value in a field of this kind, as far as that is told by the width alone, and no variable bytes.
+fn is_field_free(kind: &FieldKind, width: u32) -> bool
+    ensures { IsTrue result → IsFree kind.now width }
+{
+    !has_bytes(kind) && is_free(kind, width)
+}
+
+/// Whether that is so in each of these fields.
+fn are_free(fields: &[Field], widths: &[u32]) -> bool
+    requires { length widths.now ≡ length fields.now }
+    ensures { IsTrue result → AreFree fields.now widths.now (length fields.now) }
+{
+    for (index, field) in fields.iter().enumerate() {
+        if !is_field_free(&field.kind, widths[index]) {
+            return false;
+        }
+    }
+    true
+}
+
+/// What the records of an OBJECT add up to where its widths alone tell that each place spells one, and there are no variable bytes: then no
+/// place is looked at. None where that is not told.
+pub(crate) fn sums_by_widths(
+    alloc: Global,
+    shape: &Shape,
+    section: &Section,
+) -> Result<Option<Sums>, AllocError>
+    requires readable { IsReadable shape.now section.now }
+    requires placed { HoldsNowhere (HasNoPlace section.now.live (places_of section.now.max)) }
+    requires rising { IsStrictlyIncreasing section.now.live }
+    ensures laid { IfOk result (λ found. IfSome found (λ sums. IsLaidOut shape.now section.now sums 0)) }
+    ensures long { IfOk result (λ found. IfSome found (λ sums. length sums.lengths ≡ length (shape_fields shape.now))) }
+{
+    let Shape::Object(_, fields) = shape else {
+        return Ok(None);
+    };
+    if !are_free(fields.as_slice(), section.widths.as_slice()) {
+        return Ok(None);
+    }
+    let lengths = Words::from_vec(vec![in alloc; 0u64; fields.len()]?);
+    Ok(Some(Sums { items: 0, lengths }))
 }
 
 /// How many bytes a part has.

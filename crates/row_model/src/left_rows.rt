@@ -1,8 +1,9 @@
 //! What a step changed: which rows came, and which left.
-ghost use Rattle.std.specs.Prelude.{List, ◌≡◌, ◌<◌, Some, IsSomeAnd, length, slice_get};
+ghost use Rattle.std.specs.Prelude.{List, ◌≡◌, ◌<◌, Some, IsSomeAnd, length, slice_get, IfOk};
 ghost use Rattle.row_model.specs.Before.{PastPart};
 
 use crate::Row;
+use std::alloc::{AllocError, Global};
 
 /// What a step changed of the rows of a state, type by type. With the rows behind the step it gives those before it (`specs/Before.antt`).
 pub trait LeftRows {
@@ -19,8 +20,8 @@ pub trait LeftRows {
         requires { type_index < length (past self.now) }
         ensures { IsSomeAnd (slice_get (past self.now) type_index) (λ part. part.gone ≡ result.now) };
 
-    /// The row of a type that left, by the index of its ordinal among those that left.
-    fn left(&self, type_index: u32, index: usize) -> Option<&Row>
+    /// A copy of the row of a type that left, by the index of its ordinal among those that left.
+    fn left(&self, alloc: Global, type_index: u32, index: usize) -> Result<Row, AllocError>
         requires { IsSomeAnd (slice_get (past self.now) type_index) (λ part. index < length part.rows) }
-        ensures { IsSomeAnd result (λ row. IsSomeAnd (slice_get (past self.now) type_index) (λ part. slice_get part.rows index ≡ Some row.now)) };
+        ensures { IfOk result (λ row. IsSomeAnd (slice_get (past self.now) type_index) (λ part. slice_get part.rows index ≡ Some row)) };
 }

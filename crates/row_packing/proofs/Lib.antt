@@ -1,10 +1,12 @@
 pub mod BucketPlaces
+pub mod ByType
 pub mod EitherWay
 pub mod FitsBoth
 pub mod Fitting
 pub mod Greatest
 pub mod ListPlaces
 pub mod LiveRows
+pub mod Measuring
 pub mod ObjectPlaces
 pub mod PackedOnce
 pub mod PlacesLent

@@ -1,5 +1,5 @@
 -- Lemmas on the live ordinals of a type: they are the keys of its rows, and the set of those below a number grows by one at most.
-use Rattle.std.proofs.Common.{◌≡◌, ℕ, zero, suc, ◌+◌, ◌<◌, ◌≤◌, inl, inr, Option, Some, None, List, [], ◌∷◌, get_or, Bool, true, false, T, refl, sym, ap, ◌∙◌, subst, arith}
+use Rattle.std.proofs.Common.{◌≡◌, ◌↔◌, ℕ, zero, suc, ◌+◌, ◌<◌, ◌≤◌, inl, inr, Option, Some, None, List, [], ◌∷◌, get_or, Bool, true, false, T, refl, sym, ap, ◌∙◌, subst, arith}
 use Rattle.std.specs.Prelude.{All, Contains, is_some, map}
 use Rattle.std.specs.List.Sorted.{IsStrictlyIncreasing}
 use Rattle.std.specs.Cmp.{nat_cmp_total, eq_by_cmp_equiv}
@@ -50,6 +50,11 @@ module _ (table : Table) (type_index : ℕ) where
   is_live ordinal key =
       ap is_some (sym (get_in table type_index ordinal)) ∙ contains_key-keys (rows_in table type_index) ordinal
       ∙ list_any-from_Contains (eq_by_cmp_equiv nat_cmp_total) ordinal (keys (rows_in table type_index)) key
+
+-- a rising list whose members are the live ordinals
+pub members_live : (table : Table) (type_index : ℕ) (set : List ℕ) → IsStrictlyIncreasing set → ((ordinal : ℕ) → Contains set ordinal ↔ IsLive table type_index ordinal) → set ≡ keys (rows_in table type_index)
+members_live table type_index set rising has =
+    same_rising set (keys (rows_in table type_index)) rising (rising_keys (rows_in table type_index)) (λ n inside. live_is table type_index n ((has n).0 inside)) (λ n key. (has n).1 (is_live table type_index n key))
 
 -- ---- the live ordinals below a number
 

@@ -1,30 +1,28 @@
 -- Lemmas on the limits of a type: what is counted of its items and bytes, and of its words as they are laid out.
-use Rattle.std.proofs.Common.{◌≡◌, ℕ, ◌+◌, ◌-◌, ◌*◌, ◌^◌, ◌<◌, ◌≤◌, max, min, inr, List, [], ◌∷◌, ◌++◌, length, Option, Some, None, refl, sym, ap, ◌∙◌, subst, arith, append-nil}
-use Rattle.std.specs.Prelude.{All, is_some, slice_get, sum_by}
-use Rattle.bit_array.specs.Element.{words_of}
+use Rattle.std.proofs.Common.{◌≡◌, ℕ, ◌+◌, ◌-◌, ◌^◌, ◌<◌, ◌≤◌, max, min, inr, List, [], ◌∷◌, ◌++◌, Option, Some, None, refl, ap, ◌∙◌, subst, arith, append-nil}
+use Rattle.std.specs.Prelude.{All, is_some, sum_by}
 use Rattle.std.specs.FinMap.{get}
 use Rattle.std.proofs.lemmas.List.Sums.{sum_by-cons}
-use Rattle.row_model.specs.Table.{Table, IsTableOf, row_at}
+use Rattle.row_model.specs.Table.{Table, row_at}
 use Rattle.row_model.specs.declared.row.Row.{Row}
-use Rattle.schema_model.specs.declared.schema.Schema.{Schema}
 use Rattle.schema_model.specs.declared.schema.Shape.{Shape}
 use Rattle.row_model.specs.BothStates.{rows_in, rows_added, rows_from, rows_of_both}
 use Rattle.row_model.proofs.RowsFrom.{rows_past, added_none, added_live}
 use Rattle.object_codec.specs.Widths.{live_rows, bytes_for}
-use Rattle.type_rows.specs.Layout.{items_of_row, item_count, item_bits, words_needed, fixed_words}
+use Rattle.type_rows.specs.Layout.{items_of_row, item_count, fixed_words}
 use Rattle.row_packing.specs.declared.chosen.Chosen.{Chosen}
-use Rattle.row_packing.specs.Chosen.{shape_at, IsLiveInEither, IsGreatestOrdinal, chosen_total, IsRowOf, KeepsCounts, IsChosen}
+use Rattle.row_packing.specs.Chosen.{IsLiveInEither, IsGreatestOrdinal, chosen_total, IsRowOf, KeepsCounts, IsChosen}
 use Rattle.row_packing.specs.Places.{Agree}
 use Rattle.row_packing.specs.TypeLimit.{KeepsItems, KeepsBytes, KeepsWords, chosen_layout}
-use Rattle.row_packing.proofs.Greatest.{sum_typed}
+use Rattle.row_packing.proofs.EitherWay.{all_back}
+use Rattle.row_packing.proofs.Greatest.{all_left, sum_typed}
 use Rattle.row_packing.proofs.FitsBoth.{item_elements, set_items, map_items}
 use Rattle.row_packing.proofs.RowBytes.{rows_count}
 use Rattle.row_packing.proofs.RowsUnder.{sum_new, sum_old}
-use Rattle.row_packing.proofs.Suiting.{rows_known, shape_is}
 
 -- ---- items
 
-sum_zero : (rows : List Row) → sum_by (λ row. 0) rows ≡ 0
+pub sum_zero : (rows : List Row) → sum_by (λ row. 0) rows ≡ 0
 sum_zero [] = refl
 sum_zero (row ∷ rows) = omega (arith, sum_by-cons (λ (r : Row). 0) row rows, sum_zero rows)
 
@@ -43,7 +41,7 @@ total_items (Shape.Set element) rows all = omega (arith, set_items element rows 
 total_items (Shape.Map key value) rows all = omega (arith, map_items key value rows all)
 
 -- the rows of a state and of itself are its rows
-both_same : (table : Table) (type_index : ℕ) → rows_of_both table table type_index ≡ live_rows table type_index
+pub both_same : (table : Table) (type_index : ℕ) → rows_of_both table table type_index ≡ live_rows table type_index
 both_same table type_index =
     ap (λ (rows : List Row). rows_from 0 (rows_in table type_index) ++ rows) (rows_past (rows_added table table type_index) 0 (λ ordinal from. none_added ordinal (row_at table type_index ordinal) refl))
     ∙ append-nil (rows_from 0 (rows_in table type_index))
@@ -52,23 +50,24 @@ both_same table type_index =
     none_added ordinal None is = added_none table table type_index ordinal is
     none_added ordinal (Some row) is = added_live table table type_index ordinal (ap is_some is)
 
--- the items of one state, as they are counted
-pub state_items : (schemas : List Schema) (table : Table) (type_index items : ℕ) → type_index < length schemas → IsTableOf schemas table → item_count (live_rows table type_index) ≤ 2 ^ 25
-    → items ≡ chosen_total (shape_at schemas type_index) (rows_of_both table table type_index) → items ≡ item_count (live_rows table type_index)
-state_items schemas table type_index items known fits few is =
-    let all = rows_known schemas table table type_index known fits fits in
-    omega (arith, is, total_items (shape_at schemas type_index) (rows_of_both table table type_index) all, ap item_count (both_same table type_index), few)
+-- the items of rows whose total keeps the limit, as they are counted
+pub rows_items : (shape : Shape) (rows : List Row) (items : ℕ) → All (IsRowOf shape) rows → item_count rows ≤ 2 ^ 25 → items ≡ chosen_total shape rows → items ≡ item_count rows
+rows_items shape rows items all few is = omega (arith, is, total_items shape rows all, few)
 
-module _ (schemas : List Schema) (old new : Table) (type_index : ℕ) (agree : Agree old new type_index)
-    (below : (ordinal : ℕ) → IsLiveInEither old new type_index ordinal → ordinal < 2 ^ 22) where
-  both_items : All (IsRowOf (shape_at schemas type_index)) (rows_of_both old new type_index) → KeepsItems (shape_at schemas type_index) old new type_index → item_count (rows_of_both old new type_index) ≤ 2 ^ 25
-  both_items all keeps = omega (arith, keeps, total_items (shape_at schemas type_index) (rows_of_both old new type_index) all)
+module _ (shape : Shape) (old new : Table) (type_index : ℕ) (agree : Agree old new type_index)
+    (below : (ordinal : ℕ) → IsLiveInEither old new type_index ordinal → ordinal < 2 ^ 22) (all : All (IsRowOf shape) (rows_of_both old new type_index)) (keeps : KeepsItems shape old new type_index) where
+  both_items : item_count (rows_of_both old new type_index) ≤ 2 ^ 25
+  both_items = omega (arith, keeps, total_items shape (rows_of_both old new type_index) all)
 
-  pub old_items : All (IsRowOf (shape_at schemas type_index)) (rows_of_both old new type_index) → KeepsItems (shape_at schemas type_index) old new type_index → item_count (live_rows old type_index) ≤ 2 ^ 25
-  old_items all keeps = omega (arith, both_items all keeps, sum_old items_of_row old new type_index)
+  -- the items of either state, as they are counted
+  pub old_items : (items : ℕ) → items ≡ chosen_total shape (live_rows old type_index) → items ≡ item_count (live_rows old type_index)
+  old_items items is =
+      rows_items shape (live_rows old type_index) items (all_left (IsRowOf shape) (live_rows old type_index) _ all) (omega (arith, both_items, sum_old items_of_row old new type_index)) is
 
-  pub new_items : All (IsRowOf (shape_at schemas type_index)) (rows_of_both old new type_index) → KeepsItems (shape_at schemas type_index) old new type_index → item_count (live_rows new type_index) ≤ 2 ^ 25
-  new_items all keeps = omega (arith, both_items all keeps, sum_new items_of_row old new type_index (2 ^ 22) agree (λ ordinal row at. below ordinal (inr (ap is_some at))))
+  pub new_items : (items : ℕ) → items ≡ chosen_total shape (live_rows new type_index) → items ≡ item_count (live_rows new type_index)
+  new_items items is =
+      rows_items shape (live_rows new type_index) items (all_left (IsRowOf shape) (live_rows new type_index) _ (all_back old new type_index agree (IsRowOf shape) all))
+      (omega (arith, both_items, sum_new items_of_row old new type_index (2 ^ 22) agree (λ ordinal row at. below ordinal (inr (ap is_some at))))) is
 
 -- ---- bytes
 
@@ -96,13 +95,13 @@ greatest_one old new type_index (Some a) None first second = absurd (second a fi
 greatest_one old new type_index (Some a) (Some b) first second = let same : a ≡ b = omega (arith, first.1 b second.0, second.1 a first.0) in ap Some same
 
 module _ (shape : Shape) (old new : Table) (type_index : ℕ) (chosen : Chosen) (is : IsChosen shape old new type_index chosen) (old_words new_words : ℕ)
-    (was : old_words ≡ min (fixed_words shape (record { max = chosen.max; widths = chosen.widths }) (live_rows old type_index)) (2 ^ 128 - 1))
-    (now : new_words ≡ min (fixed_words shape (record { max = chosen.max; widths = chosen.widths }) (live_rows new type_index)) (2 ^ 128 - 1)) where
-  words_was : old_words ≡ min (fixed_words shape (chosen_layout shape old new type_index chosen.max) (live_rows old type_index)) (2 ^ 128 - 1)
-  words_was = was ∙ ap (λ (widths : List ℕ). min (fixed_words shape (record { max = chosen.max; widths = widths }) (live_rows old type_index)) (2 ^ 128 - 1)) is.widths
+    (was : old_words ≡ fixed_words shape (record { max = chosen.max; widths = chosen.widths }) (live_rows old type_index))
+    (now : new_words ≡ fixed_words shape (record { max = chosen.max; widths = chosen.widths }) (live_rows new type_index)) where
+  words_was : old_words ≡ fixed_words shape (chosen_layout shape old new type_index chosen.max) (live_rows old type_index)
+  words_was = was ∙ ap (λ (widths : List ℕ). fixed_words shape (record { max = chosen.max; widths = widths }) (live_rows old type_index)) is.widths
 
-  words_now : new_words ≡ min (fixed_words shape (chosen_layout shape old new type_index chosen.max) (live_rows new type_index)) (2 ^ 128 - 1)
-  words_now = now ∙ ap (λ (widths : List ℕ). min (fixed_words shape (record { max = chosen.max; widths = widths }) (live_rows new type_index)) (2 ^ 128 - 1)) is.widths
+  words_now : new_words ≡ fixed_words shape (chosen_layout shape old new type_index chosen.max) (live_rows new type_index)
+  words_now = now ∙ ap (λ (widths : List ℕ). fixed_words shape (record { max = chosen.max; widths = widths }) (live_rows new type_index)) is.widths
 
   pub words_kept : max old_words new_words ≤ 2 ^ 22 → KeepsWords shape old new type_index
   words_kept few most greatest =
@@ -113,24 +112,3 @@ module _ (shape : Shape) (old new : Table) (type_index : ℕ) (chosen : Chosen) 
   words_passed many keeps =
       let both = keeps chosen.max is.max in
       omega (arith, words_was, words_now, many, both.0, both.1)
-
--- the fixed words of a state, as they are counted
-pub words_are : (schemas : List Schema) (table : Table) (type_index : ℕ) (schema : Schema) (most : Option ℕ) (widths lent : List ℕ) (items bits of_places of_items more result : ℕ)
-    → slice_get schemas type_index ≡ Some schema → lent ≡ widths → items ≡ item_count (live_rows table type_index) → bits ≡ item_bits schema.shape lent
-    → of_places ≡ words_needed schema.shape (record { max = most; widths = lent }) → of_items ≡ words_of (items * bits) → more ≡ of_items → result ≡ min (of_places + more) (2 ^ 128 - 1)
-    → result ≡ min (fixed_words (shape_at schemas type_index) (record { max = most; widths = widths }) (live_rows table type_index)) (2 ^ 128 - 1)
-words_are schemas table type_index schema most widths lent items bits of_places of_items more result at same counted wide placed itemed grown summed =
-    let shape = shape_at schemas type_index in
-    let is = sym (shape_is schemas type_index schema at) in
-    let first = placed ∙ ap (λ (ws : List ℕ). words_needed schema.shape (record { max = most; widths = ws })) same ∙ ap (λ (s : Shape). words_needed s (record { max = most; widths = widths })) is in
-    let part = wide ∙ ap (λ (ws : List ℕ). item_bits schema.shape ws) same ∙ ap (λ (s : Shape). item_bits s widths) is in
-    let second = grown ∙ itemed ∙ ap (λ (n : ℕ). words_of (n * bits)) counted ∙ ap (λ (b : ℕ). words_of (item_count (live_rows table type_index) * b)) part in
-    summed ∙ ap (λ (n : ℕ). min (n + more) (2 ^ 128 - 1)) first
-    ∙ ap (λ (n : ℕ). min (words_needed shape (record { max = most; widths = widths }) + n) (2 ^ 128 - 1)) second
-
--- the same by the schemas of the other state
-pub words_by : (old_schemas schemas : List Schema) (table : Table) (type_index : ℕ) (chosen : Chosen) (words : ℕ) → old_schemas ≡ schemas
-    → words ≡ min (fixed_words (shape_at old_schemas type_index) (record { max = chosen.max; widths = chosen.widths }) (live_rows table type_index)) (2 ^ 128 - 1)
-    → words ≡ min (fixed_words (shape_at schemas type_index) (record { max = chosen.max; widths = chosen.widths }) (live_rows table type_index)) (2 ^ 128 - 1)
-words_by old_schemas schemas table type_index chosen words one is =
-    subst (λ (ss : List Schema). words ≡ min (fixed_words (shape_at ss type_index) (record { max = chosen.max; widths = chosen.widths }) (live_rows table type_index)) (2 ^ 128 - 1)) one is

@@ -1,4 +1,5 @@
 pub mod Chosen
+pub mod Measured
 pub mod Packs
 pub mod Places
 pub mod States

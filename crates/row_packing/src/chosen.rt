@@ -3,6 +3,7 @@ ghost use Rattle.std.specs.Prelude.{◌≡◌, ◌<◌, ℕ, length, slice_get, 
 ghost use Rattle.row_model.specs.BothStates.{rows_of_both};
 ghost use Rattle.row_packing.specs.Chosen.{shape_at, chosen_widths, chosen_total, IsGreatestOrdinal, KeepsCounts, IsChosen};
 
+use hol_varint::Duplicate;
 use row_model::{Rows, Widths};
 use row_widths::{buckets, lists, records};
 use schema_model::Shape;
@@ -17,6 +18,16 @@ pub struct Chosen {
     pub widths: Widths,
     /// The number of elements or buckets; 0 for an OBJECT.
     pub total: u64,
+}
+
+impl Duplicate for Chosen {
+    fn copy(&self, alloc: Global) -> Result<Chosen, AllocError> {
+        Ok(Chosen {
+            max: self.max,
+            widths: self.widths.copy(alloc)?,
+            total: self.total,
+        })
+    }
 }
 
 /// What is chosen for a type over the rows of an old and a new state of one model, a row that both have counted once: the greatest ordinal,
@@ -42,7 +53,7 @@ pub fn choose<A: Rows, B: Rows>(
 }
 
 /// The greatest ordinal of a row of either state, none where neither has one.
-fn greatest_ordinal<A: Rows, B: Rows>(old: &A, new: &B, type_index: u32) -> Option<u32>
+pub fn greatest_ordinal<A: Rows, B: Rows>(old: &A, new: &B, type_index: u32) -> Option<u32>
     ensures { IsGreatestOrdinal (A.table old.now) (B.table new.now) type_index result }
 {
     old.bound(type_index)
@@ -51,7 +62,7 @@ fn greatest_ordinal<A: Rows, B: Rows>(old: &A, new: &B, type_index: u32) -> Opti
 }
 
 /// The widths for the rows of both states, by the codec of the kind.
-fn widths<A: Rows, B: Rows>(
+pub(crate) fn widths<A: Rows, B: Rows>(
     alloc: Global,
     old: &A,
     new: &B,

@@ -1,8 +1,10 @@
 //! The live ordinals of a type.
-ghost use Rattle.std.specs.Prelude.{◌≡◌, IfOk};
+ghost use Rattle.std.specs.Prelude.{◌≡◌, ◌<◌, IfOk, length};
 ghost use Rattle.std.specs.FinMap.{keys};
 ghost use Rattle.row_model.specs.BothStates.{rows_in};
 
+use crate::OrdinalRows;
+use hol_varint::Duplicate;
 use ordinal_set::OrdinalSet;
 use row_model::Rows;
 use std::alloc::{AllocError, Global};
@@ -22,4 +24,19 @@ pub fn live_ordinals<R: Rows>(
         }
     }
     Ok(set)
+}
+
+/// The same where they stand as a set, which is copied.
+pub fn live_set<R: OrdinalRows>(
+    alloc: Global,
+    rows: &R,
+    type_index: u32,
+) -> Result<OrdinalSet, AllocError>
+    requires { type_index < length (R.schemas rows.now) }
+    ensures { IfOk result (λ set. set ≡ keys (rows_in (R.table rows.now) type_index)) }
+{
+    let set = rows.ordinals(type_index);
+    // The ordinals of a set rise.
+    let _rises = set.contains(0);
+    set.copy(alloc)
 }

@@ -14,7 +14,7 @@ use Rattle.bucket_codec.specs.Widths.{sizes_of, buckets_of_rows, keys_of_rows, v
 use Rattle.row_widths.specs.BucketSpread.{IsSpread}
 
 -- the greatest of a number that is seen and of others
-greatest_from : (seen : ℕ) (numbers : List ℕ) → fold max seen numbers ≡ max seen (fold max 0 numbers)
+pub greatest_from : (seen : ℕ) (numbers : List ℕ) → fold max seen numbers ≡ max seen (fold max 0 numbers)
 greatest_from seen [] = omega arith
 greatest_from seen (number ∷ rest) =
     let here = greatest_from (max seen number) rest in
@@ -22,7 +22,7 @@ greatest_from seen (number ∷ rest) =
     omega arith
 
 -- the greatest of two lists
-greatest-append : (xs ys : List ℕ) → fold max 0 (xs ++ ys) ≡ max (fold max 0 xs) (fold max 0 ys)
+pub greatest-append : (xs ys : List ℕ) → fold max 0 (xs ++ ys) ≡ max (fold max 0 xs) (fold max 0 ys)
 greatest-append xs ys = fold-append max 0 xs ys ∙ greatest_from (fold max 0 xs) ys
 
 -- the greatest, where it is picked as the code picks it

@@ -10,7 +10,7 @@ use Rattle.row_widths.specs.Walk.{Takes}
 use Rattle.list_codec.specs.Widths.{elements_of_row, greatest}
 
 -- the greatest of two lists
-greatest-append : (xs ys : List ℕ) → greatest (xs ++ ys) ≡ max (greatest xs) (greatest ys)
+pub greatest-append : (xs ys : List ℕ) → greatest (xs ++ ys) ≡ max (greatest xs) (greatest ys)
 unfolding greatest
 greatest-append [] ys = omega arith
 greatest-append (x ∷ xs) ys = let rest = greatest-append xs ys in omega arith

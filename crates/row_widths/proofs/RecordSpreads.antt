@@ -21,7 +21,7 @@ use Rattle.row_widths.specs.RecordSpread.{spread_at, IsSpreadWith, AreSpreads}
 
 -- ---- what values take
 
-digits_some : (number : ℕ) → 1 ≤ digit_count (number + 1)
+pub digits_some : (number : ℕ) → 1 ≤ digit_count (number + 1)
 digits_some number =
     elim (cases_lt (digit_count (number + 1)) 1) [
       | inl few ↦
@@ -40,7 +40,7 @@ pub boolean_none : (values : List Value) → 0 ≡ most_bits values → 0 ≡ wi
 boolean_none [] none = refl
 boolean_none (value ∷ rest) none = let some = bits_some (stored_number value) in absurd (omega (arith, some, none))
 
-most_bits-append : (xs ys : List Value) → most_bits (xs ++ ys) ≡ max (most_bits xs) (most_bits ys)
+pub most_bits-append : (xs ys : List Value) → most_bits (xs ++ ys) ≡ max (most_bits xs) (most_bits ys)
 most_bits-append [] ys = omega arith
 most_bits-append (x ∷ xs) ys = let rest = most_bits-append xs ys in omega arith
 
@@ -177,7 +177,7 @@ gathered_all fields all left rest taken spreads done takes ended =
 
 -- ---- the widths
 
-column_bytes_le : (index : ℕ) (rows : List Row) → byte_count (column index (records_of rows)) ≤ length (rows_bytes rows)
+pub column_bytes_le : (index : ℕ) (rows : List Row) → byte_count (column index (records_of rows)) ≤ length (rows_bytes rows)
 column_bytes_le index [] = omega arith
 column_bytes_le index (row ∷ rows) =
     let parts = byte_count-append (value_at index (values_of_row row)) (column index (records_of rows)) in

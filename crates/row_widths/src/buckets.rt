@@ -81,7 +81,7 @@ impl Spread {
 }
 
 /// The greatest element or key of a row, 0 where it has none.
-fn greatest_key(row: &Row) -> u32
+pub fn greatest_key(row: &Row) -> u32
     ensures { result ≡ fold max 0 (keys_of (pairs_of row.now)) }
 {
     match row {
@@ -97,7 +97,7 @@ fn greatest_key(row: &Row) -> u32
 }
 
 /// The greatest value of a row, 0 where it has none.
-fn greatest_value(row: &Row) -> u32
+pub fn greatest_value(row: &Row) -> u32
     ensures { result ≡ fold max 0 (values_of (pairs_of row.now)) }
 {
     match row {

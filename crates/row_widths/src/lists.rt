@@ -63,7 +63,7 @@ impl Spread {
 }
 
 /// The greatest of some numbers, 0 where there are none.
-fn greatest(numbers: &[u32]) -> u32
+pub fn greatest(numbers: &[u32]) -> u32
     ensures { result ≡ greatest_of numbers.now }
 {
     let mut greatest = 0;

@@ -33,7 +33,8 @@ pub fn widths<A: Rows, B: Rows>(
     let spreads = gather(alloc, old, new, type_index, fields.len())?;
     let mut widths = Widths::new(alloc);
     for (index, field) in fields.iter().enumerate() {
-        widths.push(spreads[index].width(&field.kind))?;
+        let spread = spreads[index];
+        widths.push(field_width(&field.kind, spread.bits, spread.bytes))?;
     }
     Ok(widths)
 }
@@ -100,26 +101,34 @@ impl Spread {
         ensures bits { result.bits ≡ max self.bits (value_bits value.now) }
         ensures bytes { result.bytes ≡ min (self.bytes + length (value_bytes value.now)) (2 ^ 64 - 1) }
     {
-        let bits = match stored_number(value) {
-            Some(number) => digits(number + 1),
-            None => 1,
-        };
         Spread {
-            bits: self.bits.max(bits),
+            bits: self.bits.max(value_bits(value)),
             bytes: self.bytes.saturating_add(value_bytes(value)),
         }
     }
+}
 
-    /// The width of a field of a kind whose values take this.
-    fn width(self, kind: &FieldKind) -> u32
-        requires { self.bytes < 2 ^ 62 }
-        ensures { (values : List StoredValue) → self.bits ≡ most_bits values → self.bytes ≡ byte_count values → result ≡ width_for kind.now values }
-    {
-        match kind {
-            FieldKind::Boolean => if self.bits == 0 { 0 } else { 2 },
-            FieldKind::Text | FieldKind::Bytes => digits(self.bytes + 1) + 1,
-            _ => self.bits,
-        }
+/// How many bits the element of a value takes: the digits of the number after its own, and 1 for null.
+#[inline(always)]
+pub fn value_bits(value: &Value) -> u32
+    ensures is { result ≡ value_bits value.now }
+    ensures few { result ≤ 64 }
+{
+    match stored_number(value) {
+        Some(number) => digits(number + 1),
+        None => 1,
+    }
+}
+
+/// The width of a field of a kind whose values take so many bits at most, and have so many bytes.
+pub fn field_width(kind: &FieldKind, bits: u32, bytes: u64) -> u32
+    requires { bytes < 2 ^ 63 }
+    ensures { (values : List StoredValue) → bits ≡ most_bits values → bytes ≡ byte_count values → result ≡ width_for kind.now values }
+{
+    match kind {
+        FieldKind::Boolean => if bits == 0 { 0 } else { 2 },
+        FieldKind::Text | FieldKind::Bytes => digits(bytes + 1) + 1,
+        _ => bits,
     }
 }
 

@@ -5,4 +5,4 @@ mod puts;
 mod write;
 
 pub use puts::publish;
-pub use write::{Blobs, write_blobs};
+pub use write::{Blobs, write_blobs, write_blobs_by};

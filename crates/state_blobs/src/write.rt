@@ -4,12 +4,14 @@ ghost use Rattle.blob_writing.specs.Limits.{MeansLarge};
 ghost use Rattle.blob_writing.specs.Snapshot.{IsWrittenSnapshot};
 ghost use Rattle.blob_writing.specs.Changes.{IsDeltaBetween};
 ghost use Rattle.blob_writing.specs.Plan.{IsPlanOf};
+ghost use Rattle.row_packing.specs.Measured.{AreMeasured};
 ghost use Rattle.write_engine.specs.CycleLimit.{TellsTypes};
 ghost use Rattle.state_blobs.specs.Published.{published_of};
 ghost use Rattle.state_blobs.specs.Puts.{AreBlobs, AreFirst, AreLater, AreWhole, IsShort};
 ghost use Rattle.state_blobs.specs.Blobs.{AreLong, AreNotShort, puts_in, whole_in};
 
 use blob_writing::{Plan, WriteFault, write_delta, write_snapshot};
+use row_packing::Measured;
 use std::alloc::{AllocError, Global};
 use write_engine::{Producer, laws};
 
@@ -52,10 +54,48 @@ pub fn write_blobs(
     ensures short { IfOk result (λ blobs. All IsShort (puts_in blobs)) }
     ensures large { IfErr result (MeansLarge (AreNotShort (AreBlobs (published_of producer.now) producer.now.current version tag with_snapshot))) }
 {
+    let plan = plan_of(alloc, producer)?;
+    write_planned(alloc, producer, plan, version, tag, with_snapshot)
+}
+
+/// The same by what was measured of each type, with no walk over rows to choose by.
+pub fn write_blobs_by(
+    alloc: Global,
+    producer: &Producer,
+    measured: &[Measured],
+    version: u64,
+    tag: i64,
+    with_snapshot: bool,
+) -> Result<Blobs, WriteFault>
+    requires kept { TellsTypes producer.now.schemas producer.now.previous producer.now.current None }
+    requires measured { AreMeasured producer.now.schemas producer.now.previous producer.now.current measured.now }
+    ensures written { IfOk result (λ blobs. AreBlobs (published_of producer.now) producer.now.current version tag with_snapshot (puts_in blobs)) }
+    ensures short { IfOk result (λ blobs. All IsShort (puts_in blobs)) }
+    ensures large { IfErr result (MeansLarge (AreNotShort (AreBlobs (published_of producer.now) producer.now.current version tag with_snapshot))) }
+{
+    let plan = plan_by(alloc, producer, measured)?;
+    write_planned(alloc, producer, plan, version, tag, with_snapshot)
+}
+
+// The blobs of the cycle by its plan.
+fn write_planned(
+    alloc: Global,
+    producer: &Producer,
+    plan: Plan,
+    version: u64,
+    tag: i64,
+    with_snapshot: bool,
+) -> Result<Blobs, WriteFault>
+    requires kept { TellsTypes producer.now.schemas producer.now.previous producer.now.current None }
+    requires plan { IsPlanOf producer.now.schemas producer.now.previous producer.now.current plan }
+    ensures written { IfOk result (λ blobs. AreBlobs (published_of producer.now) producer.now.current version tag with_snapshot (puts_in blobs)) }
+    ensures short { IfOk result (λ blobs. All IsShort (puts_in blobs)) }
+    ensures large { IfErr result (MeansLarge (AreNotShort (AreBlobs (published_of producer.now) producer.now.current version tag with_snapshot))) }
+{
     if producer.version() == 0 {
-        write_first(alloc, producer, version, tag)
+        write_first(alloc, producer, &plan, version, tag)
     } else {
-        write_later(alloc, producer, version, tag, with_snapshot)
+        write_later(alloc, producer, plan, version, tag, with_snapshot)
     }
 }
 
@@ -63,16 +103,17 @@ pub fn write_blobs(
 fn write_first(
     alloc: Global,
     producer: &Producer,
+    plan: &Plan,
     version: u64,
     tag: i64,
 ) -> Result<Blobs, WriteFault>
     requires kept { TellsTypes producer.now.schemas producer.now.previous producer.now.current None }
+    requires plan { IsPlanOf producer.now.schemas producer.now.previous producer.now.current plan.now }
     ensures written { IfOk result (λ blobs. AreFirst (published_of producer.now) producer.now.current version tag (puts_in blobs)) }
     ensures short { IfOk result (λ blobs. All IsShort (puts_in blobs)) }
     ensures large { IfErr result (MeansLarge (AreNotShort (AreFirst (published_of producer.now) producer.now.current version tag))) }
 {
-    let plan = plan_of(alloc, producer)?;
-    let snapshot = write_whole(alloc, producer, &plan, tag)?;
+    let snapshot = write_whole(alloc, producer, plan, tag)?;
     Ok(Blobs::First { version, snapshot })
 }
 
@@ -80,16 +121,17 @@ fn write_first(
 fn write_later(
     alloc: Global,
     producer: &Producer,
+    plan: Plan,
     version: u64,
     tag: i64,
     with_snapshot: bool,
 ) -> Result<Blobs, WriteFault>
     requires kept { TellsTypes producer.now.schemas producer.now.previous producer.now.current None }
+    requires plan { IsPlanOf producer.now.schemas producer.now.previous producer.now.current plan }
     ensures written { IfOk result (λ blobs. AreLater (published_of producer.now) producer.now.current version tag with_snapshot (puts_in blobs)) }
     ensures short { IfOk result (λ blobs. All IsShort (puts_in blobs)) }
     ensures large { IfErr result (MeansLarge (AreNotShort (AreLater (published_of producer.now) producer.now.current version tag with_snapshot))) }
 {
-    let plan = plan_of(alloc, producer)?;
     let delta = write_forth(alloc, producer, &plan, tag)?;
     let snapshot = write_asked(alloc, producer, &plan, tag, with_snapshot)?;
     let reverse = write_back(alloc, producer, plan, tag)?;
@@ -132,6 +174,18 @@ fn plan_of(alloc: Global, producer: &Producer) -> Result<Plan, AllocError>
     let previous = producer.previous();
     let current = producer.current();
     Plan::new(alloc, &previous, &current)
+}
+
+// The same by what was measured of each type.
+fn plan_by(alloc: Global, producer: &Producer, measured: &[Measured]) -> Result<Plan, AllocError>
+    requires kept { TellsTypes producer.now.schemas producer.now.previous producer.now.current None }
+    requires measured { AreMeasured producer.now.schemas producer.now.previous producer.now.current measured.now }
+    ensures { IfOk result (IsPlanOf producer.now.schemas producer.now.previous producer.now.current) }
+{
+    laws::can_be_written();
+    let previous = producer.previous();
+    let current = producer.current();
+    Plan::of(alloc, measured, &previous, &current)
 }
 
 // The snapshot of the cycle.

@@ -2,15 +2,13 @@
 use Rattle.std.proofs.Common.{◌≡◌, ◌<◌, ◌+◌, ◌-◌, ◌^◌, inl, inr, ℕ, zero, suc, Bool, true, false, List, [], ◌∷◌, ◌++◌, length, get_or, set, take, map, replicate, Option, Some, None, Result, Ok, Err, IfErr, refl, sym, ap, ◌∙◌, subst, arith}
 use Rattle.std.specs.Prelude.{All, IsErrAnd, IsSome, slice_get, unwrap_or}
 use Rattle.std.specs.Ordering.{nat_cmp}
-use Rattle.std.specs.List.{AllZip, cons_option}
 use Rattle.std.specs.FinMap.{empty, get, keys}
 use Rattle.std.specs.Option.{option_map}
-use Rattle.std.proofs.lemmas.Bool.{cases_eq, false≢true}
+use Rattle.std.proofs.lemmas.Bool.{cases_eq}
 use Rattle.std.proofs.lemmas.List.{length-replicate, length-set, take_more}
 use Rattle.std.proofs.lemmas.List.Elements.{All-cons, All-nil, All-head, All-tail}
 use Rattle.std.proofs.lemmas.Option.{slice_get-map, slice_get_within, slice_get-get_or, get_or_from_slice_get}
 use Rattle.ordinal_set.specs.Ordinals.{bound_of}
-use Rattle.row_model.specs.declared.row.Row.{Row}
 use Rattle.schema_model.specs.declared.schema.Schema.{Schema}
 use Rattle.row_model.specs.BothStates.{rows_in}
 use Rattle.row_model.specs.Table.{RowMap, Table}
@@ -24,7 +22,7 @@ use Rattle.blob_faults.specs.Rows.{moves}
 use Rattle.blob_faults.proofs.EachOf.{each_long, fails_next, passes_next}
 use Rattle.state_moves.specs.Halves.{current_halves}
 use Rattle.state_moves.specs.Judged.{IsFreeMove, part_moves}
-use Rattle.row_model.specs.Before.{PastPart, no_part, rows_of_places}
+use Rattle.row_model.specs.Before.{PastPart, no_part}
 use Rattle.state_moves.specs.Moving.{AreMoved, ComesOf, IsReadableIn, MovesState, StaysCurrent, TypeIs, coming_halves, parts_move}
 use Rattle.state_moves.proofs.Judging.{coming_none, coming_set, moved_next, moved_none}
 use Rattle.type_rows.proofs.Entries.{below_bound}
@@ -252,17 +250,3 @@ comes_none states parts named none = record {
 pub fault_exit : {T : Type 0} (Tells : BlobFault → Type 0) (result : Result T BlobFault) (fault : BlobFault) → IsErrAnd result (λ found. found ≡ fault) → Tells fault → IfErr result Tells
 fault_exit Tells (Ok value) fault is tells = absurd is
 fault_exit Tells (Err found) fault is tells = subst Tells (sym is) tells
-
--- ---- what is kept
-
--- the row of a live ordinal, and the rows beside those behind it
-row_beside : (rows : RowMap) (o : ℕ) (ordinals : List ℕ) (behind : List Row) (found : Option Row) → get rows o ≡ found → IsSome found → AllZip (λ q row. get rows q ≡ Some row) ordinals behind
-    → AllZip (λ q row. get rows q ≡ Some row) (o ∷ ordinals) (cons_option found behind)
-row_beside rows o ordinals behind None is some rest = absurd (false≢true some)
-row_beside rows o ordinals behind (Some row) is some rest = (is, rest)
-
--- the rows of live ordinals stand one beside each
-pub rows_beside : (rows : RowMap) (ordinals : List ℕ) → All (λ o. IsSome (get rows o)) ordinals → AllZip (λ o row. get rows o ≡ Some row) ordinals (rows_of_places (map (λ o. get rows o) ordinals))
-rows_beside rows [] live = tt
-rows_beside rows (o ∷ ordinals) live =
-    row_beside rows o ordinals (rows_of_places (map (λ q. get rows q) ordinals)) (get rows o) refl (All-head (λ q. IsSome (get rows q)) o ordinals live) (rows_beside rows ordinals (All-tail (λ q. IsSome (get rows q)) o ordinals live))

@@ -1,9 +1,7 @@
 -- The rows before the last step, ordinal by ordinal.
 use Rattle.std.proofs.Common.{◌≡◌, ◌<◌, ◌≤◌, ◌+◌, ◌-◌, ◌⊎◌, inl, inr, ℕ, zero, suc, List, [], ◌∷◌, length, get_or, Bool, true, false, cond, Option, Some, None, Result, Ok, Err, refl, sym, ap, ◌∙◌, subst, arith, eqb, eq-eqb, eqb-true}
-use Rattle.std.specs.Prelude.{All, IsSome, IsSomeAnd, slice_get, zip, not, is_ok, MatchOption, MatchResult, ◌||◌, ◌↔◌, IsTrue, IfOk}
+use Rattle.std.specs.Prelude.{IsSome, IsSomeAnd, slice_get, zip, not, is_ok, MatchResult, ◌||◌, ◌↔◌, IsTrue, IfOk}
 use Rattle.std.specs.List.{list_any}
-use Rattle.std.specs.Borrow.{Bor}
-use Rattle.std.specs.Option.{option_copied}
 use Rattle.std.specs.declared.alloc.AllocError.{AllocError}
 use Rattle.std.specs.List.Sorted.{IsStrictlyIncreasing, IsStrictlySortedBy, IsBinarySearchResult}
 use Rattle.std.specs.Ordering.{nat_cmp, eq_by_cmp}
@@ -11,15 +9,15 @@ use Rattle.std.specs.declared.cmp.Ordering.TheVariants.{Equal}
 use Rattle.std.specs.Cmp.{nat_cmp_total, ranked}
 use Rattle.std.specs.FinMap.{find, get, retain_keys, get-insert, get-retain_keys}
 use Rattle.std.proofs.lemmas.Bool.{cases_lt, cases_order, false_from_ne_true, false≢true}
-use Rattle.std.proofs.lemmas.List.Elements.{All-head, All-tail}
 use Rattle.std.proofs.lemmas.List.Sorted.{searched}
-use Rattle.std.proofs.lemmas.Option.{get_or_from_slice_get, slice_get-get_or}
+use Rattle.std.proofs.lemmas.Option.{get_or_from_slice_get, slice_get-get_or, slice_get_within}
 use Rattle.std.proofs.lemmas.Map.Keys.{below_from_sorted, sorted_from_strictly_increasing}
 use Rattle.row_model.specs.declared.row.Row.{Row}
 use Rattle.row_model.specs.Table.{RowMap}
 use Rattle.row_model.proofs.RowEntries.{skips, finds}
-use Rattle.row_model.specs.Before.{PastPart, is_new, left_rows, rows_before, rows_of_places, with_rows}
+use Rattle.row_model.specs.Before.{PastPart, is_new, left_rows, rows_before, with_rows}
 use Rattle.type_views.specs.OneType.{IsRowsBound}
+use Rattle.state_moves.specs.Past.{IsLeftAt}
 
 -- ---- numbers that rise
 
@@ -71,16 +69,16 @@ missed [] rs o none = refl
 missed (x ∷ os) [] o none = refl
 missed (x ∷ os) (w ∷ rs) o none = skips o (x, w) (zip os rs) (λ same. none 0 (omega arith) (sym same)) ∙ missed os rs o (λ k inside. none (suc k) (omega arith))
 
-search_row : (part : PastPart) (gone : List ℕ) (o i : ℕ) (r : Row) → gone ≡ part.gone → IsStrictlyIncreasing part.gone → IsBinarySearchResult (λ y. nat_cmp y o) gone (Ok i) → slice_get part.rows i ≡ Some r
-    → find nat_cmp o (left_rows part) ≡ Some r
-search_row part gone o i r same rises at there =
+pub search_left : (part : PastPart) (gone : List ℕ) (o i : ℕ) → gone ≡ part.gone → IsStrictlyIncreasing part.gone → length part.rows ≡ length part.gone → IsBinarySearchResult (λ y. nat_cmp y o) gone (Ok i) → IsLeftAt part o i
+search_left part gone o i same rises long at =
     let told = searched gone o (Ok i) at (not_below gone (subst IsStrictlyIncreasing (sym same) rises)) in
-    found part.gone part.rows o i r (sorted_from_strictly_increasing part.gone rises) (subst (λ (xs : List ℕ). i < length xs) same told.0) (subst (λ (xs : List ℕ). get_or xs i 0 ≡ o) same told.1) there
-
-pub search_left : (part : PastPart) (gone : List ℕ) (o i : ℕ) (lent : Option (Bor Row)) → gone ≡ part.gone → IsStrictlyIncreasing part.gone → IsBinarySearchResult (λ y. nat_cmp y o) gone (Ok i)
-    → IsSomeAnd lent (λ row. slice_get part.rows i ≡ Some row.now) → MatchOption lent (find nat_cmp o (left_rows part) ≡ None) (λ row. find nat_cmp o (left_rows part) ≡ Some row.now)
-search_left part gone o i None same rises at there = absurd there
-search_left part gone o i (Some row) same rises at there = search_row part gone o i row.now same rises at there
+    let among : i < length part.gone = subst (λ (xs : List ℕ). i < length xs) same told.0 in
+    let inside : i < length part.rows = omega (arith, among, long) in
+    let there = slice_get-get_or part.rows i (Row.List []) inside in
+    record {
+      inside = inside;
+      row = found part.gone part.rows o i (get_or part.rows i (Row.List [])) (sorted_from_strictly_increasing part.gone rises) among (subst (λ (xs : List ℕ). get_or xs i 0 ≡ o) same told.1) there ∙ sym there;
+    }
 
 pub search_no_left : (part : PastPart) (gone : List ℕ) (o i : ℕ) → gone ≡ part.gone → IsStrictlyIncreasing part.gone → IsBinarySearchResult (λ y. nat_cmp y o) gone (Err i) → find nat_cmp o (left_rows part) ≡ None
 search_no_left part gone o i same rises not_at =
@@ -89,24 +87,6 @@ search_no_left part gone o i same rises not_at =
       | inl before ↦ omega (arith, told.1 k before, is)
       | inr after ↦ omega (arith, told.2 k after inside, is)
     ]))
-
--- where each place has a row, as many rows stand there as there are places
-pub rows_long : (places : List (Option Row)) → All (λ place. IsSome place) places → length (rows_of_places places) ≡ length places
-rows_long [] full = refl
-rows_long (Some row ∷ places) full = let rest = rows_long places (All-tail (λ place. IsSome place) (Some row) places full) in omega (arith, rest)
-rows_long (None ∷ places) full = absurd (false≢true (All-head (λ place. IsSome place) None places full))
-
-row_stands : (places : List (Option Row)) (i : ℕ) (place : Option Row) → All (λ place. IsSome place) places → slice_get places i ≡ Some place → IsSomeAnd place (λ row. slice_get (rows_of_places places) i ≡ Some row)
-row_stands [] i place full is = absurd cc
-row_stands (None ∷ places) i place full is = absurd (false≢true (All-head (λ place. IsSome place) None places full))
-row_stands (Some row ∷ places) zero place full is = let same : Some row ≡ place = cc in subst (λ (found : Option Row). IsSomeAnd found (λ r. Some row ≡ Some r)) same refl
-row_stands (Some row ∷ places) (suc i) place full is = row_stands places i place (All-tail (λ place. IsSome place) (Some row) places full) is
-
--- the row that is lent of a place
-pub row_lent : (places : List (Option Row)) (i : ℕ) (lent : Option (Bor Row)) (place : Option Row) → All (λ place. IsSome place) places → slice_get places i ≡ Some place → option_copied lent ≡ place
-    → IsSomeAnd lent (λ row. slice_get (rows_of_places places) i ≡ Some row.now)
-row_lent places i None place full is copied = subst (λ (found : Option Row). IsSomeAnd found (λ row. slice_get (rows_of_places places) i ≡ Some row)) (sym copied) (row_stands places i place full is)
-row_lent places i (Some row) place full is copied = subst (λ (found : Option Row). IsSomeAnd found (λ row. slice_get (rows_of_places places) i ≡ Some row)) (sym copied) (row_stands places i place full is)
 
 -- what is found stands among the ordinals
 pub place_of : (os : List ℕ) (rs : List Row) (o : ℕ) (r : Row) → find nat_cmp o (zip os rs) ≡ Some r → (k : ℕ) × (k < length os) × (get_or os k 0 ≡ o)
@@ -192,9 +172,14 @@ pub new_not_live : (now : RowMap) (part : PastPart) (q : ℕ) (new : Bool) → f
 new_not_live now part q new none is came =
     (λ t. absurd (false≢true (sym (ap not came) ∙ t)), λ l. absurd (false≢true (subst IsSome (before_new now part q none (sym is ∙ came)) l)))
 
-pub copy_left : (now : RowMap) (part : PastPart) (q : ℕ) (there : Row) (answer : Result Row AllocError) → find nat_cmp q (left_rows part) ≡ Some there → IfOk answer (λ row. row ≡ there) → IfOk answer (λ row. get (rows_before now part) q ≡ Some row)
-copy_left now part q there (Ok row) is same = before_left now part q there is ∙ ap Some (sym same)
-copy_left now part q there (Err e) is same = tt
+pub left_at_live : (now : RowMap) (part : PastPart) (q place : ℕ) → IsLeftAt part q place → IsSome (get (rows_before now part) q)
+left_at_live now part q place left = left_live now part q (get_or part.rows place (Row.List [])) (left.row ∙ slice_get-get_or part.rows place (Row.List []) left.inside)
+
+-- the row that is given of a place
+pub left_given : {T : Type 0} (row_of : T → Row) (now : RowMap) (part : PastPart) (q place : ℕ) (rows : List Row) (answer : Result T AllocError) → IsLeftAt part q place → rows ≡ part.rows
+    → IfOk answer (λ given. slice_get rows place ≡ Some (row_of given)) → IfOk answer (λ given. get (rows_before now part) q ≡ Some (row_of given))
+left_given row_of now part q place rows (Ok given) left same is = before_left now part q (row_of given) (left.row ∙ ap (λ (rs : List Row). slice_get rs place) (sym same) ∙ is)
+left_given row_of now part q place rows (Err e) left same is = tt
 
 pub live_kept : (now : RowMap) (part : PastPart) (q : ℕ) → find nat_cmp q (left_rows part) ≡ None → IsSome (get (rows_before now part) q) → IsSome (get now q) × (get (rows_before now part) q ≡ get now q)
 live_kept now part q none live = elim (live_before now part q live) [
@@ -215,3 +200,18 @@ above_last gone last rises is k inside =
 
 pub no_last : (gone : List ℕ) (most : ℕ) → None ≡ slice_get gone (length gone - 1) → (k : ℕ) → k < length gone → get_or gone k 0 < most
 no_last gone most is k inside = let at = slice_get-get_or gone (length gone - 1) 0 (omega arith) in absurd cc
+
+-- ---- what left of each type
+
+pub there_within : {A : Type 0} (xs : List A) (i : ℕ) (P : A → Type 0) → IsSomeAnd (slice_get xs i) P → i < length xs
+there_within {A} xs i P some = of_found (slice_get xs i) refl some
+  where
+    of_found : (o : Option A) → slice_get xs i ≡ o → IsSomeAnd o P → i < length xs
+    of_found None is some = absurd some
+    of_found (Some x) is some = slice_get_within xs i x is
+
+pub left_there : (past : List PastPart) (t index : ℕ) (part : PastPart) (rows : List Row) (answer : Result Row AllocError) → slice_get past t ≡ Some part → rows ≡ part.rows → IfOk answer (λ row. slice_get rows index ≡ Some row)
+    → IfOk answer (λ row. IsSomeAnd (slice_get past t) (λ found. slice_get found.rows index ≡ Some row))
+left_there past t index part rows (Ok row) there same is =
+    subst (λ (found : Option PastPart). IsSomeAnd found (λ one. slice_get one.rows index ≡ Some row)) (sym there) (ap (λ (rs : List Row). slice_get rs index) (sym same) ∙ is)
+left_there past t index part rows (Err e) there same is = tt

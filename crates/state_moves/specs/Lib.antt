@@ -2,3 +2,4 @@ pub mod Closing
 pub mod Halves
 pub mod Judged
 pub mod Moving
+pub mod Past

@@ -9,7 +9,6 @@ ghost use Rattle.row_model.specs.Before.{FitsPast, rows_before, table_before};
 
 use crate::past::{PastPart, part_at};
 use column_rows::PackedItems;
-use hol_varint::Duplicate;
 use record_views::Column;
 use row_model::{LentRow, Row};
 use schema_model::Model;
@@ -121,22 +120,22 @@ impl<'a> TypeRows<'a> for RowsBefore<'a> {
     }
 
     fn is_live(&self, ordinal: u32) -> bool {
-        match self.part.left_row(ordinal) {
+        match self.part.place_left(ordinal) {
             Some(_) => true,
             None => !self.part.is_new(ordinal) && self.rows.is_live(ordinal),
         }
     }
 
     fn row(&self, alloc: Global, ordinal: u32) -> Result<Row, AllocError> {
-        match self.part.left_row(ordinal) {
-            Some(row) => row.copy(alloc),
+        match self.part.place_left(ordinal) {
+            Some(place) => self.part.rows().row(alloc, place),
             None => self.rows.row(alloc, ordinal),
         }
     }
 
     fn lend(&self, alloc: Global, ordinal: u32) -> Result<LentRow<'a>, AllocError> {
-        match self.part.left_row(ordinal) {
-            Some(row) => Ok(LentRow::Kept(row)),
+        match self.part.place_left(ordinal) {
+            Some(place) => self.part.rows().lend(alloc, place),
             None => self.rows.lend(alloc, ordinal),
         }
     }

@@ -1,6 +1,7 @@
 //! What the last step changed of each type, as rows that came and left.
 use crate::past::{PastPart, part_at};
 use row_model::{LeftRows, Row};
+use std::alloc::{AllocError, Global};
 
 /// What the last step changed of each type.
 #[derive(Drop)]
@@ -20,7 +21,7 @@ impl LeftRows for Left<'_> {
         part_at(self.parts, type_index).gone().as_slice()
     }
 
-    fn left(&self, type_index: u32, index: usize) -> Option<&Row> {
-        part_at(self.parts, type_index).row_at(index)
+    fn left(&self, alloc: Global, type_index: u32, index: usize) -> Result<Row, AllocError> {
+        part_at(self.parts, type_index).rows().row(alloc, index)
     }
 }

@@ -1,6 +1,5 @@
 //! Moving the types of a state by the parts of a patch, into their next halves.
-ghost use Rattle.std.specs.Prelude.{◌≡◌, ◌<◌, ◌^◌, All, IfErr, IfOk, IsSome, OnOk, false, length, map, replicate};
-ghost use Rattle.std.specs.FinMap.{get};
+ghost use Rattle.std.specs.Prelude.{◌≡◌, ◌<◌, ◌^◌, All, IfErr, IfOk, OnOk, false, length, replicate};
 ghost use Rattle.type_rows.specs.Patches.{FitsOrdinals, IsReadablePatch, patch_layout};
 ghost use Rattle.blob_faults.specs.Judge.{Blames};
 ghost use Rattle.blob_faults.specs.Rows.{moves};
@@ -14,7 +13,6 @@ use blob_faults::blame_rows;
 use blob_frame::BlobFault;
 use delta_blob::PatchPart;
 use hol_varint::Ordinals;
-use row_model::Places;
 use std::alloc::{AllocError, Global};
 use type_rows::PatchSection;
 use type_state::TypeState;
@@ -102,7 +100,7 @@ fn kept_part(
     let _bound = state.bound();
     let came = narrowed(alloc, section.added.as_slice())?;
     let gone = narrowed(alloc, section.removed.as_slice())?;
-    let rows = rows_under(alloc, state, gone.as_slice())?;
+    let rows = state.old_rows(alloc, gone.as_slice())?;
     Ok(PastPart::new(came, gone, rows))
 }
 
@@ -111,21 +109,9 @@ fn narrowed(alloc: Global, ordinals: &[u64]) -> Result<Ordinals, AllocError>
     requires { All (λ ordinal. ordinal < 2 ^ 32) ordinals.now }
     ensures { IfOk result (λ narrow. narrow ≡ ordinals.now) }
 {
-    let mut narrow = Ordinals::new(alloc);
+    let mut narrow = Ordinals::with_capacity(alloc, ordinals.len())?;
     for ordinal in ordinals {
         narrow.push(*ordinal as u32)?;
     }
     Ok(narrow)
-}
-
-// Copies of the current rows under live ordinals.
-fn rows_under(alloc: Global, state: &TypeState, ordinals: &[u32]) -> Result<Places, AllocError>
-    requires { All (λ ordinal. IsSome (get state.now.current.rows ordinal)) ordinals.now }
-    ensures { IfOk result (λ rows. rows ≡ map (λ ordinal. get state.entry.now.current.rows ordinal) ordinals.now) }
-{
-    let mut rows = Places::new(alloc);
-    for ordinal in ordinals {
-        rows.push(Some(state.row(alloc, *ordinal)?))?;
-    }
-    Ok(rows)
 }

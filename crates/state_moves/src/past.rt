@@ -1,13 +1,14 @@
 //! What is kept of a type from the last step, so that the rows before it can still be looked up.
-ghost use Rattle.std.specs.Prelude.{◌≡◌, ◌<◌, All, Some, None, IfOk, IsSome, IsSomeAnd, MatchOption, length, replicate, slice_get};
+ghost use Rattle.std.specs.Prelude.{◌≡◌, ◌<◌, Some, None, IfOk, MatchOption, length, replicate, slice_get};
 ghost use Rattle.std.specs.List.Sorted.{IsStrictlyIncreasing};
 ghost use Rattle.std.specs.FinMap.{find};
 ghost use Rattle.std.specs.Ordering.{nat_cmp};
-ghost use Rattle.row_model.specs.Before.{is_new, left_rows, no_part, rows_of_places};
+ghost use Rattle.row_model.specs.Before.{is_new, left_rows, no_part};
+ghost use Rattle.state_moves.specs.Past.{IsLeftAt};
 
 use hol_varint::{List, Ordinals};
-use row_model::{Places, Row};
 use std::alloc::{AllocError, Global};
+use type_state::OldRows;
 
 /// What the last step changed of a type.
 #[derive(Drop)]
@@ -16,21 +17,18 @@ pub struct PastPart {
     came: Ordinals,
     // The ordinals that left, rising.
     gone: Ordinals,
-    // The row of each that left, each place with its row.
-    rows: Places,
+    // The row of each that left.
+    rows: OldRows,
 }
 
 impl std::marker::Model for PastPart {
-    ghost use Rattle.std.specs.Prelude.{All, IsSome};
-    ghost use Rattle.row_model.specs.Before.{PastPart, past_code, rows_of_places};
+    ghost use Rattle.row_model.specs.Before.{PastPart, past_code};
 
     ghost Value = { PastPart };
 
     ghost coded = { past_code };
 
-    ghost view = { λ p. record { came = p.came; gone = p.gone; rows = rows_of_places p.rows } };
-
-    ghost invariant = { λ p. All (λ place. IsSome place) p.rows };
+    ghost view = { λ p. record { came = p.came; gone = p.gone; rows = p.rows } };
 }
 
 /// What the last step changed of each type, in model order.
@@ -44,14 +42,13 @@ impl PastPart {
         PastPart {
             came: Ordinals::new(alloc),
             gone: Ordinals::new(alloc),
-            rows: Places::new(alloc),
+            rows: OldRows::new(alloc),
         }
     }
 
     /// The part of a type that a step named: the ordinals that came, those that left, and the row of each that left.
-    pub(crate) fn new(came: Ordinals, gone: Ordinals, rows: Places) -> PastPart
-        requires { All (λ place. IsSome place) rows }
-        ensures { result ≡ record { came = came; gone = gone; rows = rows_of_places rows } }
+    pub(crate) fn new(came: Ordinals, gone: Ordinals, rows: OldRows) -> PastPart
+        ensures { result ≡ record { came = came; gone = gone; rows = rows } }
     {
         PastPart { came, gone, rows }
     }
@@ -76,12 +73,11 @@ impl PastPart {
         &self.gone
     }
 
-    /// The row of the ordinal at a place among those that left.
-    pub(crate) fn row_at(&self, place: usize) -> Option<&Row>
-        requires { place < length self.now.rows }
-        ensures { IsSomeAnd result (λ row. slice_get self.now.rows place ≡ Some row.now) }
+    /// The rows of those that left, one for each of these ordinals.
+    pub(crate) fn rows(&self) -> &OldRows
+        ensures { result.now ≡ self.now.rows }
     {
-        self.rows.get(place).as_ref()
+        &self.rows
     }
 
     /// Whether the ordinal came.
@@ -92,15 +88,14 @@ impl PastPart {
         self.came().as_slice().binary_search(&ordinal).is_ok()
     }
 
-    /// The row that an ordinal had that left.
-    pub(crate) fn left_row(&self, ordinal: u32) -> Option<&Row>
+    /// The place of an ordinal among those that left.
+    pub(crate) fn place_left(&self, ordinal: u32) -> Option<usize>
         requires rising { IsStrictlyIncreasing self.now.gone }
         requires rows { length self.now.rows ≡ length self.now.gone }
-        ensures { MatchOption result (find nat_cmp ordinal (left_rows self.now) ≡ None) (λ row. find nat_cmp ordinal (left_rows self.now) ≡ Some row.now) }
+        ensures { MatchOption result (find nat_cmp ordinal (left_rows self.now) ≡ None) (IsLeftAt self.now ordinal) }
     {
-        let gone = self.gone().as_slice();
-        match gone.binary_search(&ordinal) {
-            Ok(place) => self.row_at(place),
+        match self.gone().as_slice().binary_search(&ordinal) {
+            Ok(place) => Some(place),
             Err(_) => None,
         }
     }

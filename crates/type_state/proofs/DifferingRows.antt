@@ -5,7 +5,7 @@ use Rattle.std.specs.Option.{option_map_or}
 use Rattle.std.specs.Ordering.{nat_cmp}
 use Rattle.std.specs.FinMap.{find, get}
 use Rattle.std.specs.Map.{keys_of}
-use Rattle.std.proofs.lemmas.Bool.{cases_eq}
+use Rattle.std.proofs.lemmas.Bool.{cases_eq, false≢true}
 use Rattle.row_model.specs.declared.row.Row.{Row}
 use Rattle.row_model.specs.Table.{RowMap}
 use Rattle.type_rows.specs.Differing.{Difference, differ_at}
@@ -52,6 +52,16 @@ with_removed rows ds q r a none is =
 pub with_neither : (rows : RowMap) (ds : Differences) (q : ℕ) → AreApart ds → find nat_cmp q ds.added.items ≡ None → find nat_cmp q ds.removed.items ≡ None → get (rows_with rows ds) q ≡ get rows q
 with_neither rows ds q a none gone =
     get_with rows ds a q ∙ ap (λ f. either f (either (find nat_cmp q ds.removed.items) (get rows q))) none ∙ ap (λ f. either f (get rows q)) gone
+
+-- Nothing is added under an ordinal that is removed.
+unadded : (ds : Differences) (q : ℕ) (r : Option Row) → AreApart ds → find nat_cmp q ds.removed.items ≡ Some r → find nat_cmp q ds.added.items ≡ None
+unadded ds q r a at = elim (find nat_cmp q ds.added.items) as (λ f. find nat_cmp q ds.added.items ≡ f → f ≡ None) [
+  | None ↦ λ none. refl
+  | Some s ↦ λ there. absurd (false≢true (ap is_some (sym (a.apart q (ap is_some there)) ∙ at)))
+] refl
+
+pub with_gone : (rows : RowMap) (ds : Differences) (q : ℕ) (r : Option Row) → AreApart ds → find nat_cmp q ds.removed.items ≡ Some r → get (rows_with rows ds) q ≡ r
+with_gone rows ds q r a at = with_removed rows ds q r a (unadded ds q r a at) at
 
 -- An answer that tells whether a row is there.
 pub live_by : (there row : Option Row) (answer : Bool) → there ≡ row → answer ≡ is_some row → IsTrue answer ↔ IsSome there

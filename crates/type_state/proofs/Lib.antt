@@ -27,6 +27,7 @@ pub mod MovedHalf
 pub mod Moves
 pub mod MovesExact
 pub mod NextStates
+pub mod OldPlaces
 pub mod PassedOrdinals
 pub mod PlaceReasons
 pub mod ReadPlaces

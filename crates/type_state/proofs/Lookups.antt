@@ -1,11 +1,11 @@
 -- Look-ups among entries of any kind whose ordinals rise.
 use Rattle.std.proofs.Common.{◌≡◌, ℕ, zero, suc, ◌+◌, ◌-◌, ◌<◌, ◌≤◌, inl, inr, List, [], ◌∷◌, length, get_or, cond, true, None, Some, Ok, Err, refl, ap, sym, subst, ◌∙◌, arith}
-use Rattle.std.specs.Prelude.{All, is_some, IsSome, slice_get}
+use Rattle.std.specs.Prelude.{All, is_some, IsSome, ltb, slice_get}
 use Rattle.std.specs.Ordering.{nat_cmp, eq_by_cmp, ordering_index}
 use Rattle.std.specs.FinMap.{find}
 use Rattle.std.specs.Map.{keys_of}
 use Rattle.std.specs.List.Sorted.{IsStrictlySortedBy, IsBinarySearchResult, IsNonDecreasingBy}
-use Rattle.std.proofs.lemmas.Bool.{cases_eq, cases_lt, false≢true}
+use Rattle.std.proofs.lemmas.Bool.{cases_eq, cases_lt, false≢true, ltb-true}
 use Rattle.std.proofs.lemmas.Bool.Decides.{nat_tests}
 use Rattle.std.proofs.lemmas.Cmp.{ranked}
 use Rattle.std.proofs.lemmas.List.{get_or-map, length-map}
@@ -39,6 +39,13 @@ found_at low (e ∷ es) q zero d rise inside is = found q e es (sym is)
 found_at low (e ∷ es) q (suc at) d rise inside is =
     let above = above_first (e.0 + 1) es at d rise.1 (omega arith) in
     skipped q e es (λ same. omega (arith, same, is, above)) ∙ found_at (e.0 + 1) es q at d rise.1 (omega arith) is
+
+-- The same of an entry that a reader of these has at a place.
+pub found_there : {X : Type 0} (es ys : List (ℕ × X)) (q at : ℕ) (e : ℕ × X) → IsStrictlySortedBy nat_cmp (keys_of es) → ys ≡ es → true ≡ ltb at (length ys) → e ≡ get_or ys at e → e.0 ≡ q → find nat_cmp q es ≡ Some e.1
+found_there {X} es ys q at e sorted same within is key =
+    let here = is ∙ ap (λ (zs : List (ℕ × X)). get_or zs at e) same in
+    let inside : at < length es = subst (λ (zs : List (ℕ × X)). at < length zs) same (ltb-true at (length ys) (sym within)) in
+    found_at 0 es q at e (from_sorted (keys_of es) sorted) inside (ap (λ (d : ℕ × X). d.0) (sym here) ∙ key) ∙ ap (λ (d : ℕ × X). Some d.1) (sym here)
 
 -- Where no entry has the key nothing is found.
 pub absent : {X : Type 0} (es : List (ℕ × X)) (q : ℕ) (d : ℕ × X) → ((at : ℕ) → at < length es → (get_or es at d).0 ≡ q → ⊥) → find nat_cmp q es ≡ None

@@ -8,6 +8,8 @@ pub mod Live
 pub mod Lookup
 pub mod Moved
 pub mod Moving
+pub mod OldRecords
+pub mod OldRows
 pub mod PackedRows
 pub mod Recorded
 pub mod SectionRows

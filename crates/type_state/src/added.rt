@@ -44,7 +44,7 @@ pub(crate) fn read_added(
     requires placed { All (λ ordinal. ordinal < places_of patch.now.max) patch.now.added }
     ensures { MatchResult result (λ rows. AreAdded schema.now.shape patch.now rows.items) (FailsAdds schema.now.shape patch.now) }
 {
-    let mut rows = Vec::new(alloc);
+    let mut rows = Vec::with_capacity(alloc, patch.added.len())?;
     for (place, ordinal) in patch.added.as_slice().iter().enumerate() {
         match added_row(alloc, schema, patch, place as u64) {
             Ok(row) => rows.push((*ordinal as u32, Some(row)))?,

@@ -1,6 +1,6 @@
 //! Lists of a section, copied as they stand into the words of a half.
 ghost use Rattle.std.specs.Prelude.{◌≡◌, ◌↔◌, ◌+◌, ◌*◌, ◌^◌, ◌<◌, ◌≤◌, ℕ, Contains, IsTrue, length, replicate};
-ghost use Rattle.list_codec.specs.ListPlace.{HoldsListPlace, end_at, pointer_before, start_at};
+ghost use Rattle.list_codec.specs.ListPlace.{HoldsListPlace, end_at, start_at};
 ghost use Rattle.packed_half.specs.Half.{item_words, place_words, words_for};
 ghost use Rattle.packed_half.specs.LaidOut.{IsLaidOut};
 ghost use Rattle.packed_half.specs.Laying.{CanLay};
@@ -11,31 +11,10 @@ ghost use Rattle.type_rows.specs.WellFormed.{IsReadable};
 ghost use Rattle.type_state.specs.SectionRows.{ListsStandAlike};
 
 use crate::copied::has_layout;
-use bit_array::element_at;
+use list_codec::ListRows;
 use packed_half::HalfShape;
 use schema_model::Shape;
 use type_rows::{Section, fixed_words, place_count, words_needed};
-
-/// The pointer before a place, 0 before the first one.
-fn start(first: &[u64], width: u32, place: u64) -> u64
-    requires narrow { width ≤ 64 }
-    requires within { (place + 1) * width ≤ 64 * length first.now }
-    ensures { result ≡ pointer_before first.now width place }
-{
-    if place == 0 {
-        return 0;
-    }
-    element_at(first, place - 1, width)
-}
-
-/// Whether a list ends where it starts.
-fn is_empty_list(widths: &[u32], first: &[u64], place: u64) -> bool
-    requires { HoldsListPlace widths.now first.now place }
-    ensures { IsTrue result ↔ (end_at widths.now first.now place ≡ start_at widths.now first.now place) }
-{
-    let width = widths[0];
-    element_at(first, place, width) == start(first, width, place)
-}
 
 /// Whether no place without a row has elements.
 fn gaps_are_empty(section: &Section) -> bool
@@ -45,8 +24,14 @@ fn gaps_are_empty(section: &Section) -> bool
 {
     let widths = section.widths.as_slice();
     let first = section.first.as_slice();
+    let lists = ListRows {
+        widths,
+        total: section.total,
+        first,
+        second: section.second.as_slice(),
+    };
     for place in 0..place_count(section.max) {
-        if !section.live.contains(place as u32) && !is_empty_list(widths, first, place) {
+        if !section.live.contains(place as u32) && !lists.is_empty(place) {
             return false;
         }
     }

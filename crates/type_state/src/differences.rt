@@ -61,6 +61,19 @@ impl Differences {
         }
     }
 
+    /// The same. The difference under the ordinal is looked for at a place of those that are removed first.
+    pub(crate) fn is_live_at(&self, rows: &PackedRows<'_>, place: usize, ordinal: u32) -> bool
+        requires { AreApart self.now }
+        ensures { IsTrue result ↔ IsSome (get (rows_with rows.now.rows self.now) ordinal) }
+    {
+        if let Some(difference) = self.removed.as_slice().get(place) {
+            if difference.0 == ordinal {
+                return difference.1.is_some();
+            }
+        }
+        self.is_live(rows, ordinal)
+    }
+
     /// What stands under an ordinal with a difference, a row or none; without one it is what stood there.
     pub(crate) fn at(&self, ordinal: u32) -> Option<&Option<Row>>
         requires { AreApart self.now }

@@ -12,10 +12,11 @@ ghost use Rattle.type_state.specs.KeptRecords.{AreKept, kept_rows};
 
 use bit_array::total_width;
 use hol_varint::Octets;
+use list_codec::{ListRows, copy_list};
 use object_codec::put_row;
 use packed_half::{HalfRows, HalfShape};
-use record_moves::{RecordPlace, WordRecords, copy_list, copy_record};
-use record_views::{PackedBytes, elements_at};
+use record_moves::{RecordPlace, WordRecords, copy_record};
+use record_views::PackedBytes;
 use row_model::{Parts, Widths};
 use schema_model::{Schema, Shape};
 use std::alloc::{AllocError, Global};
@@ -144,13 +145,13 @@ impl<'a> KeptRecords<'a> {
     {
         let place = u64::from(ordinal);
         let there = self.half.widths.as_slice();
-        match elements_at(
-            there,
-            self.half.total,
-            self.records.first,
-            self.second,
-            place,
-        ) {
+        let lists = ListRows {
+            widths: there,
+            total: self.half.total,
+            first: self.records.first,
+            second: self.second,
+        };
+        match lists.elements(place) {
             Some(elements) => copy_list(elements, widths.as_slice(), first, second, place, start),
             None => unreachable!(),
         }

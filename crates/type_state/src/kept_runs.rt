@@ -38,7 +38,7 @@ pub(crate) fn can_copy_runs(shape: &Shape, before: &HalfShape) -> bool
 }
 
 /// No bytes for each field of a half, with room for those that the field has there.
-fn empty_areas(alloc: Global, lengths: &[u64]) -> Result<Vec<Octets>, AllocError>
+pub(crate) fn empty_areas(alloc: Global, lengths: &[u64]) -> Result<Vec<Octets>, AllocError>
     ensures { IfOk result (λ areas. areas.items ≡ replicate (length lengths.now) []) }
 {
     let mut areas = Vec::with_capacity(alloc, lengths.len())?;

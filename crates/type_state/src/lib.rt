@@ -19,6 +19,8 @@ mod live;
 mod loading;
 mod moved_rows;
 mod moving;
+mod old_records;
+mod old_rows;
 mod packed_rows;
 mod place;
 mod planning;
@@ -29,6 +31,7 @@ mod staying;
 mod turning;
 mod views;
 
+pub use old_rows::OldRows;
 pub use packed_rows::PackedRows;
 pub use state::TypeState;
 pub use states::{TypeStates, state_at};

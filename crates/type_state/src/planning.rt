@@ -44,7 +44,7 @@ fn removals(alloc: Global, ordinals: &[u64]) -> Result<Vec<Difference>, AllocErr
     requires { All (λ ordinal. ordinal < 2 ^ 32) ordinals.now }
     ensures { IfOk result (λ differences. differences.items ≡ map removal ordinals.now) }
 {
-    let mut differences = Vec::new(alloc);
+    let mut differences = Vec::with_capacity(alloc, ordinals.len())?;
     for ordinal in ordinals {
         differences.push((*ordinal as u32, None))?;
     }
@@ -64,16 +64,27 @@ fn first_bound(bound: u32, differences: &Differences) -> u32
     }
 }
 
-/// One past the greatest ordinal that has a row with the differences.
+/// The place before, where a difference stands at a place that is of a greater ordinal, or none does.
+fn place_back(differences: &[Difference], place: usize, ordinal: u32) -> usize {
+    match differences.get(place) {
+        Some(difference) if difference.0 <= ordinal => place,
+        _ => place.saturating_sub(1),
+    }
+}
+
+/// One past the greatest ordinal that has a row with the differences. Those that are removed are gone through beside the ordinals, from the last one.
 fn bound_with(rows: &PackedRows<'_>, differences: &Differences) -> u32
     requires apart { AreApart differences.now }
     requires small { AreBelow (2 ^ 32 - 1) differences.now.added.items }
     requires removed { AreBelow (bound_of (keys rows.now.rows)) differences.now.removed.items }
     ensures { result ≡ bound_of (keys (rows_with rows.now.rows differences.now)) }
 {
+    let removed = differences.removed.as_slice();
     let mut above = first_bound(rows.bound(), differences);
+    let mut place = removed.len();
     while above > 0 {
-        if differences.is_live(rows, above - 1) {
+        place = place_back(removed, place, above - 1);
+        if differences.is_live_at(rows, place, above - 1) {
             return above;
         }
         above -= 1;

@@ -1,10 +1,10 @@
 //! The state of one type: its current rows, and those of the state before or of the next one.
-ghost use Rattle.std.specs.Prelude.{◌≡◌, ◌↔◌, Some, IsSome, IfErr, IfOk, IsTrue, MatchResult, OnOk};
+ghost use Rattle.std.specs.Prelude.{◌≡◌, ◌↔◌, All, Some, IsSome, IfErr, IfOk, IsTrue, MatchResult, OnOk};
 ghost use Rattle.std.specs.FinMap.{get, keys, values};
 ghost use Rattle.ordinal_set.specs.Ordinals.{bound_of};
 ghost use Rattle.hol_varint.specs.Yields.{Yields};
 ghost use Rattle.row_model.specs.Table.{RowMap};
-ghost use Rattle.std.specs.List.{Contains};
+ghost use Rattle.std.specs.List.{AllZip, Contains};
 ghost use Rattle.bucket_codec.specs.Run.{FindsIn};
 ghost use Rattle.type_state.specs.Lookup.{elements_of, pairs_of};
 ghost use Rattle.type_rows.specs.WellFormed.{IsReadable};
@@ -21,6 +21,7 @@ ghost use Rattle.type_state.specs.WordsHeld.{words_held};
 
 use crate::loading::{half_of_section, lay_section_next};
 use crate::moving::{Move, moved};
+use crate::old_rows::OldRows;
 use crate::packed_rows::PackedRows;
 use crate::turning::{clear_next, lay_moved_next};
 use ordinal_set::OrdinalSet;
@@ -250,6 +251,19 @@ impl TypeState {
         ensures { IfOk result (λ row. get self.entry.now.current.rows ordinal ≡ Some row) }
     {
         self.current().row(alloc, ordinal)
+    }
+
+    /// The rows of the current state under live ordinals, to be kept beside these when they leave.
+    pub fn old_rows(&self, alloc: Global, ordinals: &[u32]) -> Result<OldRows, AllocError>
+        requires { All (λ ordinal. IsSome (get self.now.current.rows ordinal)) ordinals.now }
+        ensures { IfOk result (AllZip (λ ordinal row. get self.entry.now.current.rows ordinal ≡ Some row) ordinals.now) }
+    {
+        let current = HalfRows {
+            shape: &self.schema.shape,
+            half: &self.now,
+            words: self.twin.current(),
+        };
+        OldRows::of(alloc, &self.schema, current, ordinals)
     }
 
     /// Whether the current rows are seen to be those of another type of the same shape, with none of them looked at: both halves are described in

@@ -1,6 +1,6 @@
 -- One of the two states of all types, read as a table.
 use Rattle.std.proofs.Common.{◌≡◌, ℕ, zero, suc, ◌<◌, length, arith, [], ◌∷◌, List, map, Option, Some, None, inl, inr, refl, sym, ap, subst, ◌∙◌}
-use Rattle.std.specs.Prelude.{slice_get, option_map, option_and_then, IsSome, Result, Ok, Err, IfOk}
+use Rattle.std.specs.Prelude.{◌↔◌, Contains, slice_get, option_map, option_and_then, IsSome, Result, Ok, Err, IfOk}
 use Rattle.std.specs.FinMap.{get}
 use Rattle.std.specs.declared.alloc.AllocError.{AllocError}
 use Rattle.std.proofs.lemmas.Option.{slice_get-map}
@@ -39,3 +39,8 @@ within read (s ∷ maps) (suc t) o live = let rest = within read maps t o live i
 pub copied : (result : Result Row AllocError) (row : Row) (found : Option Row) → found ≡ Some row → IfOk result (λ r. r ≡ row) → IfOk result (λ r. found ≡ Some r)
 copied (Ok copy) row found is same = is ∙ ap Some (sym same)
 copied (Err e) row found is same = tt
+
+-- the ordinals of a type's rows in one of the two states
+pub members_of : (read : States → RowMap) (maps : List States) (t : ℕ) (s : States) (set : List ℕ) → slice_get maps t ≡ Some s → ((o : ℕ) → Contains set o ↔ IsSome (get (read s) o))
+    → (o : ℕ) → Contains set o ↔ IsLive (map read maps) t o
+members_of read maps t s set is has o = subst (λ found. Contains set o ↔ IsSome found) (sym (row_of read maps t s o is)) (has o)

@@ -1,17 +1,24 @@
 -- What the types of a cycle pass, and what can be written where they keep all.
-use Rattle.std.proofs.Common.{◌≡◌, ℕ, ◌+◌, ◌<◌, ◌^◌, List, [], length, Option, Some, None, inl, inr, subst}
-use Rattle.std.specs.Prelude.{slice_get, option_and_then, IsSome}
+use Rattle.std.proofs.Common.{◌≡◌, ℕ, ◌+◌, ◌<◌, ◌^◌, true, false, List, [], length, Option, Some, None, inl, inr, sym, subst}
+use Rattle.std.specs.Prelude.{slice_get, is_some, option_and_then, IsSome}
+use Rattle.std.specs.List.{AllZip, range_with_len}
 use Rattle.std.specs.Option.{unwrap_or}
 use Rattle.std.specs.FinMap.{get, empty}
 use Rattle.std.proofs.lemmas.Bool.{false≢true}
 use Rattle.row_model.specs.declared.row.Row.{Row}
+use Rattle.schema_model.specs.declared.limit.Limit.{Limit}
 use Rattle.schema_model.specs.declared.schema.Schema.{Schema}
+use Rattle.schema_model.specs.declared.schema.Shape.{Shape}
 use Rattle.row_model.specs.Table.{RowMap, Table}
+use Rattle.row_packing.specs.declared.measured.Measured.{Measured}
+use Rattle.row_packing.specs.Measured.{IsMeasured, AreMeasured}
 use Rattle.row_packing.specs.Chosen.{IsLiveInEither, KeepsCounts, shape_at}
 use Rattle.row_packing.specs.Places.{Agree}
 use Rattle.row_packing.specs.States.{AreWritable}
 use Rattle.row_packing.specs.TypeLimit.{TellsLimit}
+use Rattle.row_packing.proofs.ByType.{as_many, of_type}
 use Rattle.row_packing.proofs.EitherWay.{agree_back, keeps_back}
+use Rattle.row_packing.proofs.Suiting.{shape_is}
 use Rattle.row_packing.proofs.TypeLimits.{counts_kept}
 use Rattle.write_engine.specs.Agreement.{TablesAgree}
 use Rattle.write_engine.specs.CycleLimit.{TellsTypes}
@@ -47,6 +54,45 @@ module _ (schemas : List Schema) (previous current : Table) where
     | inl low ↦ below t low
     | inr is ↦ subst (λ n. TellsLimit (shape_at schemas n) previous current n None) is here
   ]
+
+-- ---- by what was measured
+
+-- what is measured of a type is so of equal states
+pub measured_there : (schemas schemas' : List Schema) (previous previous' current current' : Table) (t : ℕ) (one : Measured) → schemas ≡ schemas' → previous ≡ previous' → current ≡ current'
+    → IsMeasured (shape_at schemas t) previous current t one → IsMeasured (shape_at schemas' t) previous' current' t one
+measured_there schemas schemas' previous previous' current current' t one same was now is =
+    subst (λ (table : Table). IsMeasured (shape_at schemas' t) previous' table t one) now
+    (subst (λ (table : Table). IsMeasured (shape_at schemas' t) table current t one) was (subst (λ (ss : List Schema). IsMeasured (shape_at ss t) previous current t one) same is))
+
+-- there is what is measured of the first types
+abbrev pub MeasuredBelow : List Schema → Table → Table → ℕ → List Measured → Type 0
+MeasuredBelow schemas previous current k measured = AllZip (λ t one. IsMeasured (shape_at schemas t) previous current t one) (range_with_len 0 k) measured
+
+pub measured_count : (schemas : List Schema) (previous current : Table) (measured : List Measured) → AreMeasured schemas previous current measured → length measured ≡ length schemas
+measured_count schemas previous current measured are = as_many (λ t one. IsMeasured (shape_at schemas t) previous current t one) (length schemas) measured are
+
+-- the limit is that which the type passes, in any states of which this is measured
+abbrev pub TellsMeasured : Shape → Measured → Option Limit → Type 0
+TellsMeasured shape one limit =
+    (old new : Table) (t : ℕ) → Agree old new t → ((ordinal : ℕ) → IsLiveInEither old new t ordinal → ordinal < 2 ^ 22) → IsMeasured shape old new t one → TellsLimit shape old new t limit
+
+module _ (schemas : List Schema) (previous current : Table) (agree : TablesAgree previous current) (measured : List Measured) (are : AreMeasured schemas previous current measured) (k : ℕ) where
+  pub limit_told : (one : Measured) (schema : Schema) (limit : Option Limit) → slice_get measured k ≡ Some one → slice_get schemas k ≡ Some schema → TellsMeasured schema.shape one limit
+      → TellsLimit (shape_at schemas k) previous current k limit
+  limit_told one schema limit at there tells =
+      let is = of_type (λ t m. IsMeasured (shape_at schemas t) previous current t m) (length schemas) k measured one are at in
+      let same = shape_is schemas k schema there in
+      subst (λ (shape : Shape). TellsLimit shape previous current k limit) (sym same)
+      (tells previous current k (type_agrees previous current agree k) (type_low previous current agree k) (subst (λ (shape : Shape). IsMeasured shape previous current k one) same is))
+
+module _ (schemas : List Schema) (previous current : Table) (k : ℕ) (inside : k < length schemas) (below : KeepBelow schemas previous current k) where
+  pub first_passed : (limit : Option Limit) → is_some limit ≡ true → TellsLimit (shape_at schemas k) previous current k limit → TellsTypes schemas previous current limit
+  first_passed None some told = absurd cc
+  first_passed (Some limit) some told = (k, inside, below, told)
+
+  pub one_kept : (limit : Option Limit) → is_some limit ≡ false → TellsLimit (shape_at schemas k) previous current k limit → KeepBelow schemas previous current (k + 1)
+  one_kept None none told = keep_more schemas previous current k below told
+  one_kept (Some limit) none told = absurd cc
 
 -- ---- what can be written
 

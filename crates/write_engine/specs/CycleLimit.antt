@@ -13,6 +13,10 @@ TellsTypes schemas previous current (Some limit) =
     (t : ℕ) × (t < length schemas) × ((earlier : ℕ) → earlier < t → TellsLimit (shape_at schemas earlier) previous current earlier None)
     × TellsLimit (shape_at schemas t) previous current t (Some limit)
 
+-- A state of these changed types is to be published: it is the first one, or it changes a type. (the last version, the changed types)
+abbrev pub IsToPublish : ℕ → List ℕ → Type 0
+IsToPublish version changed = (version ≡ 0) ⊎ (changed ≢ [])
+
 -- What a closed cycle passes: no limit where it is not the first and changes nothing, and else the first limit that a type passes.
 -- (schemas, previous, current, version, the changed types, the limit)
 abbrev pub TellsCycle : List Schema → Table → Table → ℕ → List ℕ → Option Limit → Type 0

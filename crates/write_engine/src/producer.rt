@@ -5,10 +5,11 @@ ghost use Rattle.schema_model.specs.Growth.{Grows};
 ghost use Rattle.row_model.specs.Table.{Table, IsClosed, IsLive};
 ghost use Rattle.row_model.specs.PlainTree.{PlainTree};
 ghost use Rattle.record_trees.specs.Tree.{plain};
+ghost use Rattle.row_packing.specs.Measured.{AreMeasured};
 ghost use Rattle.ordinal_map.specs.Assign.{IsFreePut, IsPut};
 ghost use Rattle.write_engine.specs.Agreement.{HoldsOnce, TablesAgree};
 ghost use Rattle.write_engine.specs.Cycle.{Adds, PutsRow, no_rows, rows_in, with_row};
-ghost use Rattle.write_engine.specs.CycleLimit.{TellsCycle};
+ghost use Rattle.write_engine.specs.CycleLimit.{IsToPublish, TellsCycle};
 ghost use Rattle.write_engine.specs.Grown.{grown_to};
 ghost use Rattle.record_trees.specs.FitsTree.{FitsTree};
 ghost use Rattle.record_trees.specs.Rows.{IsRowOf};
@@ -21,15 +22,16 @@ ghost use Rattle.write_engine.specs.StoredRows.{AreStored};
 
 use crate::adding::{add_tree, put_row};
 use crate::growing::grow_maps;
-use crate::limits::cycle_limit;
+use crate::limits::{cycle_limit, measure_cycle};
 use crate::restoring::{RestoreFault, restore_states};
 use crate::states::{advance_all, changed_types, drop_row, keep_all, make_states, undo_all};
 use crate::views::{Current, Previous};
-use hol_varint::Ordinals;
+use hol_varint::{List, Ordinals};
 use model_rules::copy_model;
 use ordinal_map::{OrdinalMap, PutRowFault};
 use record_trees::Tree;
 use row_model::{Row, Rows};
+use row_packing::Measured;
 use schema_model::{Limit, Model};
 use std::alloc::{AllocError, Global};
 
@@ -40,6 +42,8 @@ pub struct Closed {
     pub changed: Ordinals,
     /// Whether the producer's version is 0.
     pub first: bool,
+    /// What is measured of each type, in model order; nothing where the state is not the first and no type is changed.
+    pub measured: List<Measured>,
 }
 
 /// The previous state with its tag and version, and the rows of the cycle that makes the next one.
@@ -341,18 +345,47 @@ impl Producer {
         ensures changed { IfOk result (λ closed. AreChanged self.old.previous self.old.current closed.changed) }
         ensures first { IfOk result (λ closed. IsTrue closed.first ↔ (self.old.version ≡ 0)) }
         ensures over { IfOk result (λ closed. TellsCycle self.old.schemas self.old.previous self.old.current self.old.version closed.changed self.new.over) }
+        ensures measured { IfOk result (λ closed. IsToPublish self.old.version closed.changed → AreMeasured self.old.schemas self.old.previous self.old.current closed.measured) }
         ensures ok { OnOk result (self.new ≡ record self.old { closed = true; over = self.new.over }) }
         ensures err { OnErr result (self.new ≡ self.old) }
     {
         let maps = self.maps.as_slice();
         let changed = changed_types(self.alloc, maps, self.model.len())?;
-        let over = cycle_limit(self.alloc, &self.model, maps, self.version, &changed)?;
-        self.over = over;
+        let measured = measure_cycle(self.alloc, &self.model, maps, self.version, &changed)?;
+        Ok(self.close_with(changed, measured))
+    }
+
+    /// The same by what was measured of each type, with no walk over rows.
+    pub fn close_by(&mut self, measured: List<Measured>) -> Result<Closed, AllocError>
+        requires open { self.old.closed ≡ false }
+        requires measured { AreMeasured self.old.schemas self.old.previous self.old.current measured }
+        ensures changed { IfOk result (λ closed. AreChanged self.old.previous self.old.current closed.changed) }
+        ensures first { IfOk result (λ closed. IsTrue closed.first ↔ (self.old.version ≡ 0)) }
+        ensures over { IfOk result (λ closed. TellsCycle self.old.schemas self.old.previous self.old.current self.old.version closed.changed self.new.over) }
+        ensures measured { IfOk result (λ closed. IsToPublish self.old.version closed.changed → AreMeasured self.old.schemas self.old.previous self.old.current closed.measured) }
+        ensures ok { OnOk result (self.new ≡ record self.old { closed = true; over = self.new.over }) }
+        ensures err { OnErr result (self.new ≡ self.old) }
+    {
+        let changed = changed_types(self.alloc, self.maps.as_slice(), self.model.len())?;
+        Ok(self.close_with(changed, measured))
+    }
+
+    // Closes the cycle, which has changed these types, by what was measured of each.
+    fn close_with(&mut self, changed: Ordinals, measured: List<Measured>) -> Closed
+        requires changed { AreChanged self.old.previous self.old.current changed }
+        requires measured { IsToPublish self.old.version changed → AreMeasured self.old.schemas self.old.previous self.old.current measured }
+        ensures is { result ≡ record { changed = changed; first = result.first; measured = measured } }
+        ensures first { IsTrue result.first ↔ (self.old.version ≡ 0) }
+        ensures over { TellsCycle self.old.schemas self.old.previous self.old.current self.old.version changed self.new.over }
+        ensures closed { self.new ≡ record self.old { closed = true; over = self.new.over } }
+    {
+        self.over = cycle_limit(&self.model, self.version, &changed, measured.as_slice());
         self.closed = true;
-        Ok(Closed {
+        Closed {
             changed,
             first: self.version == 0,
-        })
+            measured,
+        }
     }
 
     /// The limit that the closed cycle passes, none where it keeps all. It takes no memory.

@@ -5,7 +5,9 @@ ghost use Rattle.write_engine.specs.Production.{current_of, previous_of};
 
 use hol_varint::Duplicate;
 use ordinal_map::OrdinalMap;
+use ordinal_set::OrdinalSet;
 use row_model::{LentRow, Row, Rows};
+use row_packing::OrdinalRows;
 use schema_model::Model;
 use std::alloc::{AllocError, Global};
 
@@ -77,6 +79,12 @@ impl<'a> Rows for Previous<'a> {
     }
 }
 
+impl<'a> OrdinalRows for Previous<'a> {
+    fn ordinals(&self, type_index: u32) -> &OrdinalSet {
+        self.maps[type_index as usize].previous_ordinals()
+    }
+}
+
 /// The rows of a producer's cycle so far.
 #[derive(Drop)]
 pub struct Current<'a> {
@@ -142,5 +150,11 @@ impl<'a> Rows for Current<'a> {
         ordinal: u32,
     ) -> Result<LentRow<'_>, AllocError> {
         Ok(LentRow::Kept(self.maps[type_index as usize].row(ordinal)))
+    }
+}
+
+impl<'a> OrdinalRows for Current<'a> {
+    fn ordinals(&self, type_index: u32) -> &OrdinalSet {
+        self.maps[type_index as usize].current_ordinals()
     }
 }

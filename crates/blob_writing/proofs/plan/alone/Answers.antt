@@ -3,7 +3,7 @@ use Rattle.std.specs.FinMap.{keys}
 use Rattle.row_model.specs.BothStates.{rows_in}
 use Rattle.blob_writing.specs.Changes.{gone}
 use Rattle.blob_writing.proofs.OneDelta.{gone_as}
-use Rattle.blob_writing.proofs.Planning.{of_type, one_more}
+use Rattle.row_packing.proofs.ByType.{of_type, one_more}
 use Rattle.blob_writing.proofs.plan.alone.Goals as goal
 
 pub loop-type_index-preserved : goal.loop-type_index-preserved

@@ -1,5 +1,5 @@
 use Rattle.row_packing.specs.Chosen.{shape_at, IsChosen}
-use Rattle.blob_writing.proofs.Planning.{one_more}
+use Rattle.row_packing.proofs.ByType.{one_more}
 use Rattle.blob_writing.proofs.plan.choices.Goals as goal
 
 pub loop-type_index-preserved : goal.loop-type_index-preserved

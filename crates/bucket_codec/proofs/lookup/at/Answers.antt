@@ -1,8 +1,6 @@
-use Rattle.std.proofs.Common.{arith, ◌<◌, ◌^◌}
-use Rattle.bucket_codec.proofs.Found.{found_fits}
+use Rattle.std.proofs.Common.{sym, subst}
+use Rattle.bucket_codec.specs.Run.{SpellsRun}
 use Rattle.bucket_codec.proofs.lookup.at.Goals as goal
 
-pub returns-then-value-gt4294967295 : goal.returns-then-value-gt4294967295
-returns-then-value-gt4294967295 c = λ pairs spelled v h.
-    let fits : c.in_ok-value.value < 2 ^ 32 = found_fits _ pairs c.args.k c.in_ok-value.value spelled (c.in_ok-value.ensures pairs spelled) in
-    omega arith
+pub returns : goal.returns
+returns c = λ pairs spelled. c.at.ensures pairs (subst (λ run. SpellsRun run pairs) (sym c.between.ensures) spelled)

@@ -1,5 +1,6 @@
-use Rattle.bucket_codec.proofs.Found.{has_is}
+use Rattle.std.proofs.Common.{sym, subst}
+use Rattle.bucket_codec.specs.Run.{SpellsRun}
 use Rattle.bucket_codec.proofs.lookup.has.Goals as goal
 
 pub returns : goal.returns
-returns c = λ pairs spelled. has_is pairs c.args.e c.find.result c.is_some.result c.is_some.ensures (c.find.ensures pairs spelled)
+returns c = λ pairs spelled. c.has.ensures pairs (subst (λ run. SpellsRun run pairs) (sym c.between.ensures) spelled)

@@ -1,7 +1,8 @@
 use Rattle.std.proofs.Common.{Err, Ok, ℕ, arith, ap, refl, subst, sym, ◌∙◌, ◌≡◌, true}
 use Rattle.std.specs.Prelude.{All, IsTrue, ◌↔◌, ◌<◌, length}
 use Rattle.std.proofs.lemmas.Result.{err_from_is_err_and}
-use Rattle.write_engine.specs.CycleLimit.{TellsCycle}
+use Rattle.row_packing.specs.Measured.{AreMeasured}
+use Rattle.write_engine.specs.CycleLimit.{IsToPublish, TellsCycle}
 use Rattle.write_engine.specs.declared.producer.Closed.{Closed}
 use Rattle.hol_orders.specs.Parts.{asked_change}
 use Rattle.hol_answers.specs.declared.reply.Reply.{Reply}
@@ -52,6 +53,12 @@ pub end_cycle-requires-clause-over : goal.end_cycle-requires-clause-over
 end_cycle-requires-clause-over g c =
     let mid = c.make_edited.new.producer in
     subst (λ (p : Published). TellsCycle p.model p.rows mid.current p.version c.in_ok-missing.closed.changed mid.over) (sym c.make_edited.ensures.kept) (c.in_ok-missing.ensures.tells (asked_change c.args.next.now) c.requires.lists).1.over
+
+pub end_cycle-requires-clause-measured : goal.end_cycle-requires-clause-measured
+end_cycle-requires-clause-measured g c =
+    let mid = c.make_edited.new.producer in
+    subst (λ (p : Published). IsToPublish p.version c.in_ok-missing.closed.changed → AreMeasured p.model p.rows mid.current c.in_ok-missing.closed.measured) (sym c.make_edited.ensures.kept)
+    (c.in_ok-missing.ensures.tells (asked_change c.args.next.now) c.requires.lists).1.measured
 
 pub returns-in_err-reply-clause-steps : goal.returns-in_err-reply-clause-steps
 returns-in_err-reply-clause-steps g c = λ follows.

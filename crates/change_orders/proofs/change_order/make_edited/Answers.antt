@@ -1,6 +1,8 @@
-use Rattle.std.proofs.Common.{ap, ◌∙◌, ℕ, sym, subst}
+use Rattle.std.proofs.Common.{ap, ◌∙◌, ℕ, List, sym, subst}
 use Rattle.std.proofs.lemmas.Result.{err_from_is_err_and}
+use Rattle.schema_model.specs.declared.schema.Schema.{Schema}
 use Rattle.row_model.specs.Table.{Table}
+use Rattle.row_packing.specs.Measured.{AreMeasured}
 use Rattle.write_engine.specs.Production.{Production}
 use Rattle.write_engine.specs.declared.producer.Closed.{Closed}
 use Rattle.hol_incremental.specs.EditKeys.{AreReady}
@@ -14,8 +16,8 @@ use Rattle.change_orders.proofs.change_order.make_edited.Goals as goal
 
 pub returns-clause-tells : goal.returns-clause-tells
 returns-clause-tells g c = λ asked lists.
-    edited_closed c.args.producer.now c.edit.new.producer c.close.new.self asked c.in_ok-missing.missing c.in_ok-closed.closed c.edit.ensures.kept c.in_ok-closed.ensures.ok (c.in_ok-missing.ensures.tells asked lists)
-    c.in_ok-closed.ensures.changed c.in_ok-closed.ensures.first c.in_ok-closed.ensures.over c.previous-previous.ensures.closed.fits.types c.current-current.ensures.closed.fits.types
+    edited_closed c.args.producer.now c.edit.new.producer c.close_by.new.self asked c.in_ok-missing.missing c.in_ok-closed.closed c.edit.ensures.kept c.in_ok-closed.ensures.ok (c.in_ok-missing.ensures.tells asked lists)
+    c.in_ok-closed.ensures.changed c.in_ok-closed.ensures.first c.in_ok-closed.ensures.over c.in_ok-closed.ensures.measured c.previous.ensures.closed.fits.types c.current.ensures.closed.fits.types
 
 pub returns-clause-ready : goal.returns-clause-ready
 returns-clause-ready g c =
@@ -31,3 +33,16 @@ returns-in_err-missing-clause-tells g c = λ asked lists.
     let last = published_of c.args.producer.now in
     rw (p.1, p.2) (same_end {T = ℕ} {U = ℕ × Closed} (IsEdit last asked c.edit.new.producer.current) (IsEditedState last asked c.edit.new.producer) (AreRefused last (edited asked.put asked.remove)) IsMemory c.in_err-missing.field-0.0
     (c.in_err-missing.ensures.tells asked lists)))
+
+pub measured-requires-clause-ready : goal.measured-requires-clause-ready
+measured-requires-clause-ready g c =
+    rw (c.current.ensures.schemas, c.previous.ensures.table, c.current.ensures.table)
+    (subst (λ (p : Production). AreReady p.schemas p.previous c.edit.new.producer.current c.edit.new.edits) (sym c.edit.ensures.kept) c.in_ok-missing.ensures.ready)
+
+pub close_by-requires-clause-measured : goal.close_by-requires-clause-measured
+close_by-requires-clause-measured g c =
+    let made = c.edit.new.producer in
+    let measured = c.in_ok-measured.measured in
+    subst (λ (schemas : List Schema). AreMeasured schemas made.previous made.current measured) c.current.ensures.schemas
+    (subst (λ (rows : Table). AreMeasured c.current.result.schemas made.previous rows measured) c.current.ensures.table
+    (subst (λ (rows : Table). AreMeasured c.current.result.schemas rows c.current.result.table measured) c.previous.ensures.table c.in_ok-measured.ensures))

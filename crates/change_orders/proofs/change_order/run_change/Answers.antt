@@ -1,4 +1,4 @@
-use Rattle.std.proofs.Common.{Err, Ok, List, Option, ℕ, subst, sym}
+use Rattle.std.proofs.Common.{Err, Ok, List, Option, ℕ, refl, subst, sym}
 use Rattle.std.proofs.lemmas.Result.{err_from_is_err_and}
 use Rattle.hol_io.specs.Store.{Store}
 use Rattle.schema_model.specs.declared.schema.Schema.{Schema}
@@ -15,7 +15,7 @@ use Rattle.state_blobs.proofs.Tags.{at_tag}
 use Rattle.producer_orders.specs.Making.{Follows}
 use Rattle.producer_orders.proofs.Cycling.{follow_ends}
 use Rattle.change_orders.specs.Making.{AreLists, ChangeSteps, TellsLists}
-use Rattle.change_orders.proofs.Changing.{err_steps, lists_err, memory_cause, readied, stops_early}
+use Rattle.change_orders.proofs.Changing.{answered_too, err_steps, lists_err, memory_cause, readied, stops_early}
 use Rattle.change_orders.proofs.change_order.run_change.Goals as goal
 
 pub returns-in_err-check_follow-clause-steps : goal.returns-in_err-check_follow-clause-steps
@@ -77,6 +77,9 @@ returns-clause-edits g c =
     let now = c.make_change-ended.new.producer in
     subst (λ (schemas : List Schema). AreEditsOf schemas now.previous c.settle.new.edits) (sym c.make_change-ended.ensures.model)
     (c.settle.ensures c.args.producer.now now c.make_change-ended.ensures.edits)
+
+pub returns-clause-held : goal.returns-clause-held
+returns-clause-held g c = answered_too c.make_change-ended.result _ refl
 
 pub returns-in_err-put-clause-cause : goal.returns-in_err-put-clause-cause
 returns-in_err-put-clause-cause g c =

@@ -1,5 +1,5 @@
 use Rattle.std.proofs.Common.{ℕ, ◌<◌}
-use Rattle.record_views.specs.Buckets.{run_of}
+use Rattle.bucket_codec.specs.Buckets.{run_of}
 use Rattle.column_rows.specs.Closed.{IsBucketLive}
 use Rattle.column_rows.proofs.runs.buckets_live.Given as goal
 

@@ -1,7 +1,7 @@
 use Rattle.std.proofs.Common.{ℕ, arith, subst, below_more}
 use Rattle.std.specs.Prelude.{slice_index}
 use Rattle.row_model.specs.Table.{IsLive}
-use Rattle.record_views.specs.Elements.{elements_of}
+use Rattle.list_codec.specs.Elements.{elements_of}
 use Rattle.column_rows.proofs.Lives.{all_elements}
 use Rattle.column_rows.proofs.runs.elements_live.Goals as goal
 

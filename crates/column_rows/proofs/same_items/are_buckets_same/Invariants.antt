@@ -1,6 +1,6 @@
 use Rattle.std.proofs.Common.{◌≡◌, ◌<◌, ℕ}
 use Rattle.bucket_codec.specs.Run.{bucket_at}
-use Rattle.record_views.specs.Buckets.{run_of}
+use Rattle.bucket_codec.specs.Buckets.{run_of}
 use Rattle.column_rows.proofs.same_items.are_buckets_same.Given as goal
 
 -- the first buckets are the same

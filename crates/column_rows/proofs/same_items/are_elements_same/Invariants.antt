@@ -1,6 +1,6 @@
 use Rattle.std.proofs.Common.{◌≡◌, ◌<◌, ℕ}
 use Rattle.std.specs.Prelude.{slice_index}
-use Rattle.record_views.specs.Elements.{elements_of}
+use Rattle.list_codec.specs.Elements.{elements_of}
 use Rattle.column_rows.proofs.same_items.are_elements_same.Given as goal
 
 -- the first elements are the same

@@ -10,8 +10,8 @@ pub loop-type_index-init : goal.loop-type_index-init
 loop-type_index-init g c =
     let S = g.R.Rows.schemas c.args.rows.now in
     let W = g.R.Rows.table c.args.rows.now in
-    read_start S (no_rows (length S)) W (none_part (length S) W) c.args.counts.now c.args.steps.now (length-replicate (length S) empty ∙ sym c.model.ensures.fits.types)
-    (subst (λ (x : List (List ℕ)). AreCounts S (no_rows (length S)) x) (sym c.requires.none) (none_counted S))
+    read_start S (no_rows (length S)) W (none_part (length S) W) c.args.tally.now.counts c.args.tally.now.sums.items c.args.steps.now (length-replicate (length S) empty ∙ sym c.model.ensures.fits.types)
+    (subst (λ (x : List (List ℕ)). AreCounts S (no_rows (length S)) x) (sym c.requires.none) (none_counted S)) c.requires.sums
 
 pub loop-type_index-preserved : goal.loop-type_index-preserved
 loop-type_index-preserved g c = c.in_ok-count_type.ensures c.args.steps.now c.loop-type_index.invariant
@@ -26,4 +26,4 @@ returns g c =
     let all = ap (λ s. length s) c.model.ensures.model in
     let types = c.model.ensures.fits.types in
     let end : c.loop-type_index.type_index ≡ length W = omega (arith, high, low, count, all, types) in
-    read_all S (no_rows (length S)) W (none_part (length S) W) c.loop-type_index.type_index c.args.steps.now c.loop-type_index.steps c.loop-type_index.counts end c.loop-type_index.invariant
+    read_all S (no_rows (length S)) W (none_part (length S) W) c.loop-type_index.type_index c.args.steps.now c.loop-type_index.steps c.loop-type_index.tally.counts c.loop-type_index.tally.sums.items end c.loop-type_index.invariant

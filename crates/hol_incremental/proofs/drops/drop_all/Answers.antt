@@ -3,7 +3,7 @@ use Rattle.schema_model.specs.declared.schema.Schema.{Schema}
 use Rattle.write_engine.specs.Production.{Production}
 use Rattle.hol_incremental.specs.Counts.{size_of}
 use Rattle.hol_incremental.specs.Drops.{AreUnnamed, IsDropping, IsHeld}
-use Rattle.hol_incremental.specs.EditKeys.{AreCounts}
+use Rattle.hol_incremental.specs.EditKeys.{AreTallied}
 use Rattle.hol_incremental.proofs.drops.drop_all.Goals as goal
 
 -- a cycle whose rows alone have changed, and then once more
@@ -17,7 +17,7 @@ loop-row-preserved g c =
     let s : c.loop-row.producer.schemas ≡ c.args.producer.now.schemas = ap (λ (p : Production). p.schemas) inv.kept in
     record {
       kept = kept_then c.args.producer.now c.loop-row.producer c.take_out.new.producer inv.kept done.kept;
-      counts = subst (λ (x : List Schema). AreCounts x c.take_out.new.producer.current c.take_out.new.counts) s done.counts;
+      counts = subst (λ (x : List Schema). AreTallied x c.take_out.new.producer.current c.take_out.new.tally.counts c.take_out.new.tally.sums.items) s done.counts;
       unnamed = subst (λ (x : List Schema). AreUnnamed x c.take_out.new.producer.current c.take_out.new.pending.items) s done.unnamed;
       left = λ start held holds dropping.
           (let before = inv.left start held holds dropping in

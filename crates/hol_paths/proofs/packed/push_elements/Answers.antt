@@ -1,6 +1,6 @@
 use Rattle.std.proofs.Common.{arith}
-use Rattle.record_views.specs.Elements.{elements_of}
-use Rattle.record_views.proofs.ListElements.{elements_long}
+use Rattle.list_codec.specs.Elements.{elements_of}
+use Rattle.list_codec.proofs.ListElements.{elements_long}
 use Rattle.hol_paths.proofs.PackedLists.{element_more, elements_done}
 use Rattle.hol_paths.proofs.packed.push_elements.Goals as goal
 

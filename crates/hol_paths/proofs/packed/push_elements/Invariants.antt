@@ -1,5 +1,5 @@
 use Rattle.std.proofs.Common.{◌≡◌, ◌++◌, take}
-use Rattle.record_views.specs.Elements.{elements_of}
+use Rattle.list_codec.specs.Elements.{elements_of}
 use Rattle.hol_paths.proofs.packed.push_elements.Given as goal
 
 abbrev pub invariant-loop-index : goal.invariant-loop-index

@@ -4,8 +4,8 @@ use Rattle.hollow_top.specs.HeldLines.{Held}
 use Rattle.hollow_top.proofs.row_lines.show_type.Goals as goal
 use Rattle.hollow_top.proofs.row_lines.show_type.Goals.{then-is_live+in_ok-put_line, else-is_live}
 
-pub returns-in_err-form-clause-lines : goal.returns-in_err-form-clause-lines
-returns-in_err-form-clause-lines g c =
+pub returns-in_err-of_type-clause-lines : goal.returns-in_err-of_type-clause-lines
+returns-in_err-of_type-clause-lines g c =
     type_not_made (g.R.Rows.schemas c.args.rows.now) (g.R.Rows.table c.args.rows.now) c.args.type_index (g.O.Sink.taken c.args.out.now, c.args.pending.now.items)
     c.from_residual.result c.from_residual.ensures.1 c.requires.fits
 

@@ -1,50 +1,17 @@
-use Rattle.std.proofs.Common.{arith}
-use Rattle.row_packing.specs.Chosen.{shape_at}
-use Rattle.row_packing.proofs.TypeLimits.{bytes_kept, bytes_passed, counts_kept, old_items, new_items, words_kept, words_passed, words_by}
+use Rattle.std.proofs.Common.{sym, ap, ◌∙◌, subst, slice_get, List}
+use Rattle.schema_model.specs.declared.schema.Schema.{Schema}
+use Rattle.schema_model.specs.declared.schema.Shape.{Shape}
+use Rattle.row_packing.specs.Measured.{IsMeasured}
+use Rattle.row_packing.specs.TypeLimit.{TellsLimit}
+use Rattle.row_packing.proofs.Suiting.{shape_is}
 use Rattle.row_packing.proofs.limit.type_limit.Goals as goal
 
-pub returns-then-max-gt-MAX_BYTES : goal.returns-then-max-gt-MAX_BYTES
-returns-then-max-gt-MAX_BYTES g c = (
-  omega (arith, c.in_ok-total.ensures, c.if-branch-gt-MAX_ITEMS.false),
-  bytes_passed (g.A.Rows.table c.args.old.now) (g.B.Rows.table c.args.new.now) c.args.type_index c.in_ok-old_bytes.old_bytes c.in_ok-new_bytes.new_bytes c.in_ok-old_bytes.ensures c.in_ok-new_bytes.ensures
-      (omega (arith, c.max.ensures, c.if-max-gt-MAX_BYTES.true)),
-)
-
-pub choose-requires-clause-keeps : goal.choose-requires-clause-keeps
-choose-requires-clause-keeps g c =
-    counts_kept (shape_at (g.B.Rows.schemas c.args.new.now) c.args.type_index) (g.A.Rows.table c.args.old.now) (g.B.Rows.table c.args.new.now) c.args.type_index c.requires.ordinals
-    (omega (arith, c.in_ok-total.ensures, c.if-branch-gt-MAX_ITEMS.false))
-    (bytes_kept (g.A.Rows.table c.args.old.now) (g.B.Rows.table c.args.new.now) c.args.type_index c.in_ok-old_bytes.old_bytes c.in_ok-new_bytes.new_bytes c.in_ok-old_bytes.ensures c.in_ok-new_bytes.ensures
-    (omega (arith, c.max.ensures, c.if-max-gt-MAX_BYTES.false)))
-
-pub words-requires-clause-items : goal.words-requires-clause-items
-words-requires-clause-items g c =
-    old_items (g.B.Rows.schemas c.args.new.now) (g.A.Rows.table c.args.old.now) (g.B.Rows.table c.args.new.now) c.args.type_index c.requires.agree c.requires.ordinals c.in_ok-chosen.ensures.rows
-    (omega (arith, c.in_ok-total.ensures, c.if-branch-gt-MAX_ITEMS.false))
-
-pub words-requires-2-clause-items : goal.words-requires-2-clause-items
-words-requires-2-clause-items g c =
-    new_items (g.B.Rows.schemas c.args.new.now) (g.A.Rows.table c.args.old.now) (g.B.Rows.table c.args.new.now) c.args.type_index c.requires.agree c.requires.ordinals c.in_ok-chosen.ensures.rows
-    (omega (arith, c.in_ok-total.ensures, c.if-branch-gt-MAX_ITEMS.false))
-
-pub returns-then-max-from : goal.returns-then-max-from
-returns-then-max-from g c = (
-  omega (arith, c.in_ok-total.ensures, c.if-branch-gt-MAX_ITEMS.false),
-  bytes_kept (g.A.Rows.table c.args.old.now) (g.B.Rows.table c.args.new.now) c.args.type_index c.in_ok-old_bytes.old_bytes c.in_ok-new_bytes.new_bytes c.in_ok-old_bytes.ensures c.in_ok-new_bytes.ensures
-      (omega (arith, c.max.ensures, c.if-max-gt-MAX_BYTES.false)),
-  words_passed (shape_at (g.B.Rows.schemas c.args.new.now) c.args.type_index) (g.A.Rows.table c.args.old.now) (g.B.Rows.table c.args.new.now) c.args.type_index c.in_ok-chosen.chosen c.in_ok-chosen.ensures
-      c.in_ok-old_words.old_words c.in_ok-new_words.new_words
-      (words_by (g.A.Rows.schemas c.args.old.now) (g.B.Rows.schemas c.args.new.now) (g.A.Rows.table c.args.old.now) c.args.type_index c.in_ok-chosen.chosen c.in_ok-old_words.old_words c.requires.model c.in_ok-old_words.ensures)
-      c.in_ok-new_words.ensures (omega (arith, c.max-2.ensures, c.from.ensures, c.if-max-from.true)),
-)
-
 pub returns : goal.returns
-returns g c = (
-  omega (arith, c.in_ok-total.ensures, c.if-branch-gt-MAX_ITEMS.false),
-  bytes_kept (g.A.Rows.table c.args.old.now) (g.B.Rows.table c.args.new.now) c.args.type_index c.in_ok-old_bytes.old_bytes c.in_ok-new_bytes.new_bytes c.in_ok-old_bytes.ensures c.in_ok-new_bytes.ensures
-      (omega (arith, c.max.ensures, c.if-max-gt-MAX_BYTES.false)),
-  words_kept (shape_at (g.B.Rows.schemas c.args.new.now) c.args.type_index) (g.A.Rows.table c.args.old.now) (g.B.Rows.table c.args.new.now) c.args.type_index c.in_ok-chosen.chosen c.in_ok-chosen.ensures
-      c.in_ok-old_words.old_words c.in_ok-new_words.new_words
-      (words_by (g.A.Rows.schemas c.args.old.now) (g.B.Rows.schemas c.args.new.now) (g.A.Rows.table c.args.old.now) c.args.type_index c.in_ok-chosen.chosen c.in_ok-old_words.old_words c.requires.model c.in_ok-old_words.ensures)
-      c.in_ok-new_words.ensures (omega (arith, c.max-2.ensures, c.from.ensures, c.if-max-from.false)),
-)
+returns g c =
+    let old = g.A.Rows.table c.args.old.now in
+    let new = g.B.Rows.table c.args.new.now in
+    let t = c.args.type_index in
+    let at = ap (λ (ss : List Schema). slice_get ss t) (sym c.model.ensures.model) ∙ c.schema.ensures.value in
+    let is = shape_is (g.B.Rows.schemas c.args.new.now) t c.schema.result.now at in
+    subst (λ (shape : Shape). TellsLimit shape old new t c.limit_of.result) (sym is)
+    (c.limit_of.ensures old new t c.requires.agree c.requires.ordinals (subst (λ (shape : Shape). IsMeasured shape old new t c.in_ok-measured.measured) is c.in_ok-measured.ensures))

@@ -10,7 +10,7 @@ use Rattle.state_blobs.proofs.write.write_first.Goals as goal
 
 pub returns-in_err-snapshot-clause-large : goal.returns-in_err-snapshot-clause-large
 returns-in_err-snapshot-clause-large c =
-    let p = err_from_is_err_and c.from_residual-in_err-snapshot.result c.from_residual-in_err-snapshot.ensures.1 in
+    let p = err_from_is_err_and c.from_residual.result c.from_residual.ensures.1 in
     let made = c.args.producer.now in
     let fault = c.in_err-snapshot.field-0.0 in
     let means = at_tag (λ t. MeansLarge (AreLong (IsWrittenSnapshot made.schemas made.previous made.current made.tag t)) fault) c.args.tag c.ranges.tag c.in_err-snapshot.ensures.large in

@@ -12,7 +12,7 @@ use Rattle.state_blobs.proofs.write.write_later.Goals as goal
 
 pub returns-in_err-delta-clause-large : goal.returns-in_err-delta-clause-large
 returns-in_err-delta-clause-large c =
-    let p = err_from_is_err_and c.from_residual-in_err-delta.result c.from_residual-in_err-delta.ensures.1 in
+    let p = err_from_is_err_and c.from_residual.result c.from_residual.ensures.1 in
     let made = c.args.producer.now in
     let fault = c.in_err-delta.field-0.0 in
     let means = at_tag (λ t. MeansLarge (AreLong (IsDeltaBetween made.schemas made.previous made.current made.tag t)) fault) c.args.tag c.ranges.tag c.in_err-delta.ensures.large in

@@ -6,7 +6,7 @@ use Rattle.type_state.proofs.AddedRows.{all_read, begun, first_failed, read_on}
 use Rattle.type_state.proofs.added.read_added.Goals as goal
 
 pub loop-place-init : goal.loop-place-init
-loop-place-init c = begun c.args.schema.now.shape c.args.patch.now c.new-rows.result.items c.new-rows.ensures.items
+loop-place-init c = begun c.args.schema.now.shape c.args.patch.now c.in_ok-rows.rows.items c.in_ok-rows.ensures.items
 
 pub loop-place-preserved : goal.loop-place-preserved
 loop-place-preserved c =

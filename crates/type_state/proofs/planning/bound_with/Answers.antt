@@ -11,8 +11,8 @@ pub loop-above-init : goal.loop-above-init
 loop-above-init c =
     none_above c.args.rows.now.rows c.args.differences.now (bound_of (keys c.args.rows.now.rows)) c.first_bound-above.result c.requires.apart refl (omega (arith, c.first_bound-above.ensures.before, bound_of_rows c.args.rows.now.rows c.bound.result c.bound.ensures)) c.first_bound-above.ensures.added c.requires.removed
 
-pub returns-then-is_live : goal.returns-then-is_live
-returns-then-is_live c =
+pub returns-then-is_live_at : goal.returns-then-is_live_at
+returns-then-is_live_at c =
     let live : IsSome (get (rows_with c.args.rows.now.rows c.args.differences.now) (c.loop-above.above - 1)) = search rules in
     least_bound (rows_with c.args.rows.now.rows c.args.differences.now) c.loop-above.above c.loop-above.invariant (inr (c.loop-above.above - 1, omega (arith, c.loop-above-test.true), live))
 

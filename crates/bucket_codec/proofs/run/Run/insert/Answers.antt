@@ -1,7 +1,7 @@
 use Rattle.std.proofs.Common.{arith, ◌≡◌, ◌+◌, ◌*◌, ◌≤◌, ◌∙◌, ap, Some}
 use Rattle.std.proofs.Math.Nat.{mul-le-mul_right}
 use Rattle.bucket_codec.specs.Run.{bucket_in}
-use Rattle.bucket_codec.proofs.Buckets.{length-run_in}
+use Rattle.bucket_codec.proofs.RunBuckets.{length-run_in}
 use Rattle.bucket_codec.proofs.Writing.{inserted, put_taken}
 use Rattle.bucket_codec.proofs.Behind.{zeros_but_taken}
 use Rattle.bucket_codec.proofs.Inserts.{one_put}

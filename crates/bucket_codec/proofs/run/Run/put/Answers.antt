@@ -1,6 +1,6 @@
 use Rattle.std.proofs.Common.{arith, ◌≡◌, ◌+◌, ◌*◌, ◌≤◌, ◌⊎◌, ap, subst, ℕ}
 use Rattle.bit_array.specs.Element.{element_of}
-use Rattle.bucket_codec.proofs.Buckets.{key_within}
+use Rattle.bucket_codec.proofs.RunBuckets.{key_within}
 use Rattle.bucket_codec.proofs.Writing.{both_written, buckets_stay}
 use Rattle.bucket_codec.proofs.Behind.{back_of_two}
 use Rattle.bucket_codec.proofs.run.Run.put.Goals as goal

@@ -1,7 +1,9 @@
-use Rattle.std.proofs.Common.{◌∙◌, Some, ap, map, subst, sym}
+use Rattle.std.proofs.Common.{◌∙◌, ap, map, subst, sym}
 use Rattle.std.specs.Prelude.{IsSome}
+use Rattle.std.specs.Option.{option_map}
 use Rattle.hol_incremental.specs.EditKeys.{AreReady}
 use Rattle.hol_incremental.specs.Keeping.{moved}
+use Rattle.hol_incremental.specs.NextTallies.{coming_of}
 use Rattle.hol_incremental.proofs.KeptEdits.{accepted_edits}
 use Rattle.hol_incremental.proofs.edits.Edits.accept.Goals.{in-Some, in_default}
 use Rattle.hol_incremental.proofs.edits.Edits.accept.Goals as goal
@@ -10,7 +12,8 @@ pub returns : goal.returns
 returns c = λ schemas previous next ready.
     elim c.match-take.branch [
       | in-Some w ↦
-          accepted_edits schemas previous next _ (subst (AreReady schemas previous next) (sym c.self.view_is) ready) _ (sym c.take.ensures.value ∙ w.in-Some.is ∙ ap (λ s. Some s.counts) (sym w.self-inside-is))
-          (c.update_all.ensures ∙ ap (λ s. map moved s.keys.items) w.self-inside-is)
-      | in_default w ↦ absurd (let e = subst IsSome (ap (λ x. x.next) (sym c.self.view_is) ∙ sym c.take.ensures.value ∙ w.in_default.is) c.requires.counts in cc)
+          accepted_edits schemas previous next _ (subst (AreReady schemas previous next) (sym c.self.view_is) ready) (coming_of w.in-Some.next) (ap (option_map coming_of) (sym c.take.ensures.value ∙ w.in-Some.is)) _
+          (ap (λ s. s.tally.counts) w.self-inside-is) (ap (λ s. s.tally.sums.items) w.self-inside-is) (c.update_all.ensures ∙ ap (λ s. map moved s.keys.items) w.self-inside-is)
+      | in_default w ↦
+          absurd (let e = subst IsSome (ap (λ x. x.next) (sym c.self.view_is) ∙ ap (option_map coming_of) (sym c.take.ensures.value ∙ w.in_default.is)) c.requires.counts in cc)
     ]

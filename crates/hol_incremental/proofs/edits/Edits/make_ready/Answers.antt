@@ -14,13 +14,13 @@ reserve_all-requires-clause-agree g c =
 pub returns-in_err-reserve_all-clause-edits : goal.returns-in_err-reserve_all-clause-edits
 returns-in_err-reserve_all-clause-edits g c =
     let items = with_items_is c.self.inside.keys c.reserve_all.new.keys (omega (arith, c.reserve_all.auto.keys, c.as_mut_slice.ensures.len)) in
-    kept_edits c.args.producer.now.schemas c.args.producer.now.previous _ (subst (AreEditsOf c.args.producer.now.schemas c.args.producer.now.previous) (sym c.self.view_is) c.requires.edits) _ refl
+    kept_edits c.args.producer.now.schemas c.args.producer.now.previous _ (subst (AreEditsOf c.args.producer.now.schemas c.args.producer.now.previous) (sym c.self.view_is) c.requires.edits) _ refl refl
     (ap (map settled) items ∙ c.reserve_all.ensures.kept ∙ ap (map settled) c.as_mut_slice.ensures.value)
 
 pub returns-clause-edits : goal.returns-clause-edits
 returns-clause-edits g c =
     let items = with_items_is c.self.inside.keys c.reserve_all.new.keys (omega (arith, c.reserve_all.auto.keys, c.as_mut_slice.ensures.len)) in
-    kept_edits c.args.producer.now.schemas c.args.producer.now.previous _ (subst (AreEditsOf c.args.producer.now.schemas c.args.producer.now.previous) (sym c.self.view_is) c.requires.edits) _ refl
+    kept_edits c.args.producer.now.schemas c.args.producer.now.previous _ (subst (AreEditsOf c.args.producer.now.schemas c.args.producer.now.previous) (sym c.self.view_is) c.requires.edits) _ refl refl
     (ap (map settled) items ∙ c.reserve_all.ensures.kept ∙ ap (map settled) c.as_mut_slice.ensures.value)
 
 pub returns-clause-ready : goal.returns-clause-ready
@@ -29,7 +29,7 @@ returns-clause-ready g c =
     let next = c.args.producer.now.current in
     let items = with_items_is c.self.inside.keys c.reserve_all.new.keys (omega (arith, c.reserve_all.auto.keys, c.as_mut_slice.ensures.len)) in
     record {
-      now = kept_edits S c.args.producer.now.previous _ (subst (AreEditsOf S c.args.producer.now.previous) (sym c.self.view_is) c.requires.edits) _ refl
+      now = kept_edits S c.args.producer.now.previous _ (subst (AreEditsOf S c.args.producer.now.previous) (sym c.self.view_is) c.requires.edits) _ refl refl
           (ap (map settled) items ∙ c.reserve_all.ensures.kept ∙ ap (map settled) c.as_mut_slice.ensures.value);
       counts = c.requires.counts;
       keys = subst (AreReadyKeys S next) (sym items)

@@ -2,12 +2,12 @@ use Rattle.std.proofs.Common.{true, not, refl, subst}
 use Rattle.std.specs.Prelude.{◌↔◌, IsSome, IsTrue}
 use Rattle.std.specs.FinMap.{get}
 use Rattle.row_model.specs.Table.{RowMap}
-use Rattle.state_moves.proofs.PastRows.{left_live, not_new_live, new_not_live}
+use Rattle.state_moves.proofs.PastRows.{left_at_live, not_new_live, new_not_live}
 use Rattle.state_moves.proofs.before.RowsBeforeTypeRows.is_live.Goals as goal
 
 pub returns-in-Some : goal.returns-in-Some
 returns-in-Some c =
-    subst (λ (rows : RowMap). IsTrue true ↔ IsSome (get rows c.args.ordinal)) c.self.view_is (λ t. left_live c.self.inside.rows.rows c.self.inside.part.now c.args.ordinal c.in-Some.field-0.now c.in-Some.ensures, λ live. refl)
+    subst (λ (rows : RowMap). IsTrue true ↔ IsSome (get rows c.args.ordinal)) c.self.view_is (λ t. left_at_live c.self.inside.rows.rows c.self.inside.part.now c.args.ordinal c.in-Some.field-0 c.in-Some.ensures, λ live. refl)
 
 pub returns-then-not-is_new : goal.returns-then-not-is_new
 returns-then-not-is_new c =

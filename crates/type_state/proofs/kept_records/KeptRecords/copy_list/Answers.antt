@@ -3,13 +3,13 @@ use Rattle.std.specs.Prelude.{All}
 use Rattle.std.specs.FinMap.{get}
 use Rattle.list_codec.specs.Packing.{HasRoom, elements_of_place}
 use Rattle.packed_half.specs.Laying.{IsListPut}
-use Rattle.record_views.specs.Elements.{elements_of}
+use Rattle.list_codec.specs.Elements.{elements_of}
 use Rattle.type_state.specs.KeptRecords.{kept_rows}
 use Rattle.type_state.proofs.KeptRecords.{list_holds_there, list_spelled}
 use Rattle.type_state.proofs.kept_records.KeptRecords.copy_list.Goals as goal
 
-pub elements_at-requires : goal.elements_at-requires
-elements_at-requires c =
+pub elements-requires : goal.elements-requires
+elements-requires c =
     let kept = c.args.self in
     list_holds_there kept.shape.now kept.half.now kept.words.now c.as_slice-there.result.now kept.records.first.now kept.second.now c.from-place.result c.args.ordinal
     c.as_slice-there.ensures c.requires.kept.first c.requires.kept.second c.from-place.ensures c.requires.kept.half c.requires.list c.requires.live

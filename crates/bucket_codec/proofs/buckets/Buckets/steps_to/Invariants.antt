@@ -1,0 +1,6 @@
+use Rattle.bucket_codec.specs.Buckets.{run_of}
+use Rattle.bucket_codec.proofs.FoundKeys.{IsPassed}
+use Rattle.bucket_codec.proofs.buckets.Buckets.steps_to.Given as goal
+
+abbrev pub invariant-loop-steps : goal.invariant-loop-steps
+invariant-loop-steps l = IsPassed (run_of l.self) l.key l.index l.steps

@@ -1,0 +1,7 @@
+use Rattle.std.proofs.Common.{◌≡◌, ◌≤◌, length}
+use Rattle.bucket_codec.specs.Run.{run_in, taken_of}
+use Rattle.bucket_codec.proofs.buckets.Buckets.taken.Given as goal
+
+abbrev pub invariant-loop-index : goal.invariant-loop-index
+invariant-loop-index l =
+    (l.count ≤ l.index) × (l.count ≡ length (taken_of (run_in l.self.words.now l.self.key_width l.self.value_width l.self.start l.index)))

@@ -1,6 +1,0 @@
-use Rattle.record_views.specs.Elements.{elements_of}
-use Rattle.list_codec.proofs.Written.{WrittenSoFar}
-use Rattle.record_moves.proofs.list.copy_elements.Given as goal
-
-abbrev pub invariant-loop-index : goal.invariant-loop-index
-invariant-loop-index l = WrittenSoFar l.initial.words l.words l.width l.start l.index l.at (elements_of l.from)

@@ -1,6 +1,0 @@
-use Rattle.std.proofs.Common.{ℕ, ◌<◌}
-use Rattle.record_views.specs.Buckets.{run_of, FitsAt}
-use Rattle.record_views.proofs.buckets.Buckets.are_in_range.Given as goal
-
-abbrev pub invariant-loop-index : goal.invariant-loop-index
-invariant-loop-index l = (place : ℕ) → place < l.index → FitsAt (run_of l.self) place

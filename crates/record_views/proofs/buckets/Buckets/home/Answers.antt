@@ -1,6 +1,0 @@
-use Rattle.std.proofs.Common.{◌-◌, ◌∙◌, refl}
-use Rattle.record_views.proofs.FoundKeys.{home_masked}
-use Rattle.record_views.proofs.buckets.Buckets.home.Goals as goal
-
-pub returns-clause-is : goal.returns-clause-is
-returns-clause-is c = home_masked c.args.self.len c.args.key c.from.result (c.args.self.len - 1) c.requires (c.from.ensures ∙ c.hash_int.ensures) refl
