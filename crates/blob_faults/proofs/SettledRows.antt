@@ -27,15 +27,16 @@ use Rattle.type_rows.specs.WellFormed.{IsWidth}
 use Rattle.type_rows.specs.WordsHeld.{bytes_held}
 use Rattle.row_faults.specs.LoadFault.{FailsLoad, load_tests}
 use Rattle.row_faults.specs.Ordinals.{HasNoPlace, HoldsNowhere}
-use Rattle.row_faults.specs.Places.{Fails, SpellsSome}
+use Rattle.type_rows.specs.Fails.{Fails}
+use Rattle.row_faults.specs.Places.{SpellsSome}
 use Rattle.row_faults.specs.Sums.{IsOfRows}
 use Rattle.row_faults.specs.Tests.{LeadsHeld}
 use Rattle.row_faults.specs.Widths.{FirstUnheld}
 use Rattle.row_faults.proofs.FirstPlaces.{SpellBefore, failed_here, rows_tested, spelled_more, spelled_none}
 use Rattle.row_faults.proofs.FoundRows.{listed_below}
-use Rattle.spelled_rows.specs.Rows.{pairs_at}
-use Rattle.spelled_rows.proofs.ReadRuns.{pairs_or_fail}
-use Rattle.spelled_rows.proofs.ReadValues.{record_or_fails}
+use Rattle.type_rows.specs.Rows.{pairs_at}
+use Rattle.type_rows.proofs.ReadRuns.{pairs_or_fail}
+use Rattle.type_rows.proofs.ReadValues.{record_or_fails}
 use Rattle.blob_faults.specs.Blame.{row_blame}
 use Rattle.blob_faults.specs.Rows.{loads}
 use Rattle.blob_faults.specs.Settles.{Settles}

@@ -24,7 +24,7 @@ use Rattle.row_packing.proofs.Suiting.{shape_is, can_pack_delta}
 use Rattle.blob_frame.specs.Written.{schemas_at, schema_list_bytes, header_bytes}
 use Rattle.blob_sections.specs.declared.section.PackedRows.{PackedRows}
 use Rattle.blob_writing.specs.Carried.{FitBytes, FitGaps}
-use Rattle.blob_writing.specs.Written.{delta_type_bytes}
+use Rattle.blob_writing.specs.Written.{rows_by, delta_type_bytes}
 use Rattle.blob_writing.proofs.ListLength.{header_long}
 use Rattle.blob_writing.proofs.Once.{inside, one_greatest, rows_once, same_schema}
 use Rattle.blob_writing.proofs.Progress.{counted_once}
@@ -139,23 +139,16 @@ module _ (law : ArePlacesPackedOnce) (schemas : List Schema) (model : IsModel sc
         let here = ap (λ (l : List ℕ). length l) (whole.2 ∙ ap (λ (h : List ℕ). h ++ body_bytes whole.0) (sym is)) in
         omega (arith, over, here)
 
--- what was put of a type, with a copy of the widths, is what is carried of it
-pub put_changed : {T E : Type 0} (schemas : List Schema) (old new : Table) (index : ℕ) (schema : Schema) (chosen : Chosen) (widths : List ℕ) (packed : Packed) (removed added : List ℕ) (result : Result T E) (out more : List ℕ)
-    → slice_get schemas index ≡ Some schema → IsChosen (shape_at schemas index) old new index chosen → widths ≡ chosen.widths
+-- what was put of a type is what is carried of it
+pub put_changed : {T E : Type 0} (schemas : List Schema) (old new : Table) (index : ℕ) (schema : Schema) (chosen : Chosen) (packed : Packed) (removed added : List ℕ) (result : Result T E) (out more : List ℕ)
+    → slice_get schemas index ≡ Some schema → IsChosen (shape_at schemas index) old new index chosen
     → PacksPlaces (shape_at schemas index) chosen.widths (places_under new index added) packed.first packed.second packed.areas → removed ≡ gone old new index → added ≡ gone new old index
-    → OnOk result (more ≡ out ++ delta_type_bytes schema chosen.max removed added (record { widths = widths; total = chosen.total; packed = packed }))
-    → OnOk result (FitGaps removed × FitGaps added × FitBytes schema.shape (record { widths = widths; total = chosen.total; packed = packed }))
+    → OnOk result (more ≡ out ++ delta_type_bytes schema chosen.max removed added (rows_by chosen packed))
+    → OnOk result (FitGaps removed × FitGaps added × FitBytes schema.shape (rows_by chosen packed))
     → OnOk result ((change : TypeChange) × IsChangeOf schemas old new index change × (more ≡ out ++ change_bytes change))
-put_changed schemas old new index schema chosen widths packed removed added (Ok x) out more there is same packs goes comes put fits = (
-  record { schema = schema; max = chosen.max; removed = removed; added = added; rows = record { widths = widths; total = chosen.total; packed = packed } },
-  record {
-    schema = there;
-    chosen = subst (λ (ws : List ℕ). IsChosen (shape_at schemas index) old new index (record { max = chosen.max; widths = ws; total = chosen.total })) (sym same) is;
-    removed = goes;
-    added = comes;
-    packed = subst (λ (ws : List ℕ). PacksPlaces (shape_at schemas index) ws (places_under new index added) packed.first packed.second packed.areas) (sym same) packs;
-    fits = fits.2;
-  },
+put_changed schemas old new index schema chosen packed removed added (Ok x) out more there is packs goes comes put fits = (
+  record { schema = schema; max = chosen.max; removed = removed; added = added; rows = rows_by chosen packed },
+  record { schema = there; chosen = is; removed = goes; added = comes; packed = packs; fits = fits.2 },
   put,
 )
-put_changed schemas old new index schema chosen widths packed removed added (Err e) out more there is same packs goes comes put fits = tt
+put_changed schemas old new index schema chosen packed removed added (Err e) out more there is packs goes comes put fits = tt

@@ -1,6 +1,6 @@
 -- Records that can be packed: there are words and bytes of them.
 use Rattle.std.proofs.Common.{◌≡◌, ℕ, ◌+◌, ◌-◌, ◌*◌, ◌^◌, ◌<◌, ◌≤◌, suc, zero, List, [], ◌∷◌, ◌++◌, length, get_or, set, take, refl, sym, subst, arith, rules, Bool, true, false}
-use Rattle.std.specs.Prelude.{All, Option, Some, None, IfSome, pos, negsuc, replicate, slice_get, sum, unwrap_or, if◌then◌else◌}
+use Rattle.std.specs.Prelude.{All, Option, Some, None, IfSome, pos, negsuc, replicate, slice_get, sum, if◌then◌else◌}
 use Rattle.std.specs.Option.{option_to_list}
 use Rattle.std.proofs.lemmas.List.{get_or_default}
 use Rattle.bit_array.specs.Element.{AreWords, words_of}
@@ -13,14 +13,14 @@ use Rattle.row_model.specs.Areas.{area_of}
 use Rattle.row_model.specs.Row.{FitsKind, IsValueInRange, IsRowInRange, is_least}
 use Rattle.row_model.specs.declared.row.Row.{Row}
 use Rattle.row_model.specs.declared.row.Value.{Value}
-use Rattle.object_codec.specs.Encoded.{end_element, gap_element, IsTaken}
+use Rattle.object_codec.specs.Encoded.{element_for, gap_element, IsTaken}
 use Rattle.object_codec.specs.ObjectPlace.{IsKindWidth}
 use Rattle.object_codec.specs.Packing.{CanPack, HasBytes, HoldsValue, IsPacked, values_of_place}
 use Rattle.object_codec.specs.Stored.{element_number, greatest_number, stored_number, value_at, value_bytes, values_bytes}
 use Rattle.object_codec.proofs.FieldWidths.{wide_at, within}
 use Rattle.object_codec.proofs.PlacesPacked.{PackedSoFar, packed_all, packed_more, packed_none, place_room}
 use Rattle.object_codec.proofs.RowPuts.{PutSoFar, Room, put_more, put_none, room, row_put}
-use Rattle.object_codec.proofs.ValueElements.{bytes_taken, none_taken, number_taken}
+use Rattle.object_codec.proofs.ValueElements.{found_taken, none_taken}
 use Rattle.blob_writing.proofs.SettingBlocks.{sets, zero_words}
 
 -- ---- numbers
@@ -55,17 +55,6 @@ record Taken (kind : FieldKind) (width : ℕ) (before : List ℕ) (found : Optio
   area : List ℕ
   is : IsTaken kind width element before area found
 
-put_taken : (kind : FieldKind) (width : ℕ) (before : List ℕ) (value : Value) → HasBytes kind → IsKindWidth kind width → FitsKind kind value → HoldsValue width value → IsValueInRange value
-    → (HasBytes kind → length before + length (values_bytes (value ∷ [])) < 2 ^ (width - 1)) → Taken kind width before (Some value)
-put_taken kind width before value has wide fits held range below =
-    let area = before ++ value_bytes value in
-    let element = end_element width (length area) value in
-    record {
-      element = element;
-      area = area;
-      is = bytes_taken kind width element before area (Some value) value refl refl refl has wide fits held (λ units is. subst IsValueInRange is range) below;
-    }
-
 taken : (kind : FieldKind) (width : ℕ) (before : List ℕ) (found : Option Value) → IsKindWidth kind width → IfSome found (FitsKind kind) → IfSome found (HoldsValue width)
     → IfSome found IsValueInRange → (HasBytes kind → length before + length (values_bytes (option_to_list found)) < 2 ^ (width - 1)) → Taken kind width before found
 taken kind width before None wide fits held range below = record {
@@ -73,14 +62,13 @@ taken kind width before None wide fits held range below = record {
   area = before;
   is = none_taken kind width (gap_element kind (length before)) before None refl refl wide below;
 }
-taken FieldKind.Text width before (Some value) wide fits held range below = put_taken FieldKind.Text width before value tt wide fits held range below
-taken FieldKind.Bytes width before (Some value) wide fits held range below = put_taken FieldKind.Bytes width before value tt wide fits held range below
 taken kind width before (Some value) wide fits held range below =
-    let element = unwrap_or (stored_number value) (2 ^ width - 1) in
+    let area = before ++ value_bytes value in
+    let element = element_for kind width (length area) value in
     record {
       element = element;
-      area = before;
-      is = number_taken kind width element before (Some value) value refl refl (λ has. has) wide fits held (at_most value range);
+      area = area;
+      is = found_taken kind width element before area (Some value) value refl refl refl wide fits held (at_most value range) (λ units is. subst IsValueInRange is range) below;
     }
 
 -- ---- a record

@@ -1,4 +1,4 @@
--- Lemmas on the plan of two states: what goes and comes, the plan turned, and what was measured as what is chosen.
+-- Lemmas on the plan of two states: what goes and comes, the plan turned, and what was measured as what is chosen; and on lent sections.
 use Rattle.std.proofs.Common.{◌≡◌, ◌≢◌, ℕ, ◌+◌, ◌<◌, List, [], ◌∷◌, ◌++◌, get_or, length, take, Some, sym, ap, ◌∙◌, subst, arith}
 use Rattle.std.specs.Prelude.{map, slice_get}
 use Rattle.std.specs.FinMap.{keys}
@@ -14,6 +14,8 @@ use Rattle.row_packing.specs.Measured.{AreMeasured, IsMeasured}
 use Rattle.row_packing.specs.Places.{Agree}
 use Rattle.row_packing.specs.States.{AreWritable}
 use Rattle.row_packing.proofs.ByType.{also, as_many, images, of_type}
+use Rattle.kept_sections.specs.Sections.{AreSectionsFor, IsPackedFor}
+use Rattle.kept_sections.specs.declared.section.PackedSection.{PackedSection}
 use Rattle.blob_writing.specs.Changes.{AreChanged, IsChanged, gone}
 use Rattle.blob_writing.specs.Plan.{AreByType, AreGone, AreLiveIn, AreMoved, IsLiveBeside, IsPlanOf}
 use Rattle.blob_writing.specs.declared.plan.Plan.{Plan}
@@ -139,3 +141,12 @@ module _ (schemas : List Schema) (old new : Table) (plan : Plan) (is : IsPlanOf 
 
   pub suits_new : AreWritable schemas old new → type_index < length schemas → (chosen : Chosen) → slice_get plan.chosen type_index ≡ Some chosen → Suits (shape_at schemas type_index) new type_index chosen
   suits_new can known chosen there = record { old = old; agree = can.agree type_index known; keeps = can.keeps type_index known; is = chosen_there chosen there }
+
+-- ---- what lent sections have of a type
+
+module _ (schemas : List Schema) (old new : Table) (sections : List PackedSection) (are : AreSectionsFor schemas old new sections) (type_index : ℕ) where
+  pub has_section : type_index < length schemas → type_index < length sections
+  has_section known = let many = as_many (λ t. IsPackedFor (shape_at schemas t) old new t) (length schemas) sections are in omega (arith, known, many)
+
+  pub section_there : (section : PackedSection) → slice_get sections type_index ≡ Some section → IsPackedFor (shape_at schemas type_index) old new type_index section
+  section_there section there = of_type (λ t. IsPackedFor (shape_at schemas t) old new t) (length schemas) type_index sections section are there

@@ -19,7 +19,7 @@ use Rattle.row_packing.specs.Places.{snapshot_places}
 use Rattle.row_packing.proofs.ByType.{first_types}
 use Rattle.blob_frame.specs.Written.{schemas_at, schema_list_bytes, header_bytes}
 use Rattle.blob_writing.specs.Carried.{FitBytes}
-use Rattle.blob_writing.specs.Written.{snapshot_type_bytes}
+use Rattle.blob_writing.specs.Written.{rows_by, snapshot_type_bytes}
 use Rattle.blob_writing.specs.Snapshot.{TypeRows, type_bytes, body_bytes, IsCarriedOf, AreCarriedOf, IsFrontLong, IsWrittenSnapshot}
 use Rattle.blob_writing.proofs.OneSnapshot.{all_schemas}
 
@@ -40,25 +40,19 @@ rising_types count types all = subst Rises (sym all) (AllPairs-from_increasing (
 
 -- ---- a type
 
--- what was put of a type, with a copy of the widths, is what is carried of it
-pub put_carried : {T E : Type 0} (schemas : List Schema) (old new : Table) (index : ℕ) (schema : Schema) (chosen : Chosen) (widths : List ℕ) (packed : Packed) (live : List ℕ) (result : Result T E) (out more : List ℕ)
-    → slice_get schemas index ≡ Some schema → IsChosen (shape_at schemas index) old new index chosen → widths ≡ chosen.widths
+-- what was put of a type is what is carried of it
+pub put_carried : {T E : Type 0} (schemas : List Schema) (old new : Table) (index : ℕ) (schema : Schema) (chosen : Chosen) (packed : Packed) (live : List ℕ) (result : Result T E) (out more : List ℕ)
+    → slice_get schemas index ≡ Some schema → IsChosen (shape_at schemas index) old new index chosen
     → PacksPlaces (shape_at schemas index) chosen.widths (snapshot_places new index chosen.max) packed.first packed.second packed.areas → live ≡ keys (rows_in new index)
-    → OnOk result ((bytes : List ℕ) × (more ≡ out ++ snapshot_type_bytes schema chosen.max (record { widths = widths; total = chosen.total; packed = packed }) bytes) × IsPopulation live chosen.max bytes)
-    → OnOk result (FitBytes schema.shape (record { widths = widths; total = chosen.total; packed = packed }))
+    → OnOk result ((bytes : List ℕ) × (more ≡ out ++ snapshot_type_bytes schema chosen.max (rows_by chosen packed) bytes) × IsPopulation live chosen.max bytes)
+    → OnOk result (FitBytes schema.shape (rows_by chosen packed))
     → OnOk result ((carried : TypeRows) × IsCarriedOf schemas old new index carried × (more ≡ out ++ type_bytes carried))
-put_carried schemas old new index schema chosen widths packed live (Ok x) out more there is same packs all put fits = (
-  record { schema = schema; max = chosen.max; rows = record { widths = widths; total = chosen.total; packed = packed }; population = put.0 },
-  record {
-    schema = there;
-    chosen = subst (λ (ws : List ℕ). IsChosen (shape_at schemas index) old new index (record { max = chosen.max; widths = ws; total = chosen.total })) (sym same) is;
-    packed = subst (λ (ws : List ℕ). PacksPlaces (shape_at schemas index) ws (snapshot_places new index chosen.max) packed.first packed.second packed.areas) (sym same) packs;
-    fits = fits;
-    population = subst (λ (set : List ℕ). IsPopulation set chosen.max put.0) all put.2;
-  },
+put_carried schemas old new index schema chosen packed live (Ok x) out more there is packs all put fits = (
+  record { schema = schema; max = chosen.max; rows = rows_by chosen packed; population = put.0 },
+  record { schema = there; chosen = is; packed = packs; fits = fits; population = subst (λ (set : List ℕ). IsPopulation set chosen.max put.0) all put.2 },
   put.1,
 )
-put_carried schemas old new index schema chosen widths packed live (Err e) out more there is same packs all put fits = tt
+put_carried schemas old new index schema chosen packed live (Err e) out more there is packs all put fits = tt
 
 -- ---- the whole
 

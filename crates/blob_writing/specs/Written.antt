@@ -4,6 +4,7 @@ use Rattle.std.specs.Int.{w64, to_be_bytes}
 use Rattle.hol_varint.specs.Varint.{varint_bytes}
 use Rattle.ordinal_set.specs.Gaps.{gap_bytes}
 use Rattle.row_model.specs.declared.packed.Packed.{Packed}
+use Rattle.row_packing.specs.declared.chosen.Chosen.{Chosen}
 use Rattle.schema_model.specs.declared.schema.Schema.{Schema}
 use Rattle.schema_model.specs.declared.schema.Shape.{Shape}
 use Rattle.schema_model.specs.Schema.{schema_bytes}
@@ -37,6 +38,10 @@ records_bytes packed = word_array_bytes packed.first ++ flat_map area_bytes pack
 -- behind the widths of a LIST, SET or MAP: the total, the words of its places, and those of its elements or buckets
 abbrev pub runs_bytes : ℕ → Packed → List ℕ
 runs_bytes total packed = varint_bytes total ++ (word_array_bytes packed.first ++ word_array_bytes packed.second)
+
+-- rows that are packed by what was chosen for them
+abbrev pub rows_by : Chosen → Packed → PackedRows
+rows_by chosen packed = record { widths = chosen.widths; total = chosen.total; packed = packed }
 
 -- the packed rows of a type of this shape: the widths, and what its kind has behind them
 abbrev pub packed_bytes : Shape → PackedRows → List ℕ

@@ -14,8 +14,7 @@ use crate::header::{check_length, put_limited_header};
 use crate::plan::Plan;
 use crate::shared::shared_model;
 use crate::types::put_delta_type;
-use blob_sections::PackedRows;
-use hol_varint::{Duplicate, put_vlong};
+use hol_varint::put_vlong;
 use row_model::Rows;
 use row_packing::delta_rows;
 use schema_model::Model;
@@ -127,11 +126,6 @@ fn put_change<A: Rows, B: Rows>(
     let removed = plan.before.alone.get(place);
     let added = plan.after.alone.get(place);
     let packed = delta_rows(alloc, new, type_index, chosen, added)?;
-    let rows = PackedRows {
-        widths: chosen.widths.copy(alloc)?,
-        total: chosen.total,
-        packed,
-    };
     let schema = new.model().schema(type_index);
-    put_delta_type(out, schema, chosen.max, removed, added, &rows)
+    put_delta_type(out, schema, chosen, removed, added, &packed)
 }

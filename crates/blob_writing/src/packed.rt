@@ -1,39 +1,49 @@
 //! The packed rows of a type.
 ghost use Rattle.std.specs.Prelude.{◌≡◌, ◌<◌, ◌^◌, ◌++◌, All, OnOk, OnErr, length, take};
 ghost use Rattle.blob_writing.specs.Carried.{FitWords, FitBytes};
-ghost use Rattle.blob_writing.specs.Written.{records_bytes, runs_bytes, packed_bytes};
+ghost use Rattle.blob_writing.specs.Written.{records_bytes, runs_bytes, packed_bytes, rows_by};
 
 use crate::items::{or_undone, push_areas, push_widths, push_words};
-use blob_sections::PackedRows;
 use hol_varint::put_vlong;
 use row_model::Packed;
+use row_packing::Chosen;
 use schema_model::Shape;
 use std::alloc::AllocError;
 
-/// Writes the packed rows of a type of this shape at the end: their widths; of an OBJECT the words of the records and the
+/// Writes the packed rows of a type of this shape at the end: the widths that are chosen for them; of an OBJECT the words of the records and the
 /// bytes of each field, and of a LIST, SET or MAP the total, the words of the places and those of the elements or
 /// buckets. Where memory is refused nothing is written.
-pub fn put_packed(out: &mut Vec<u8>, shape: &Shape, rows: &PackedRows) -> Result<(), AllocError>
-    ensures ok { OnOk result (out.new.items ≡ out.old.items ++ packed_bytes shape.now rows.now) }
-    ensures fits { OnOk result (FitBytes shape.now rows.now) }
+pub fn put_packed(
+    out: &mut Vec<u8>,
+    shape: &Shape,
+    chosen: &Chosen,
+    packed: &Packed,
+) -> Result<(), AllocError>
+    ensures ok { OnOk result (out.new.items ≡ out.old.items ++ packed_bytes shape.now (rows_by chosen.now packed.now)) }
+    ensures fits { OnOk result (FitBytes shape.now (rows_by chosen.now packed.now)) }
     ensures err { OnErr result (out.new.items ≡ out.old.items) }
 {
     let start = out.len();
-    let written = push_packed(out, shape, rows);
+    let written = push_packed(out, shape, chosen, packed);
     or_undone(out, start, written)
 }
 
 // The same, but that the first of it may stand at the end where memory is refused. So it is with all that follow.
-fn push_packed(out: &mut Vec<u8>, shape: &Shape, rows: &PackedRows) -> Result<(), AllocError>
-    ensures ok { OnOk result (out.new.items ≡ out.old.items ++ packed_bytes shape.now rows.now) }
-    ensures fits { OnOk result (FitBytes shape.now rows.now) }
+fn push_packed(
+    out: &mut Vec<u8>,
+    shape: &Shape,
+    chosen: &Chosen,
+    packed: &Packed,
+) -> Result<(), AllocError>
+    ensures ok { OnOk result (out.new.items ≡ out.old.items ++ packed_bytes shape.now (rows_by chosen.now packed.now)) }
+    ensures fits { OnOk result (FitBytes shape.now (rows_by chosen.now packed.now)) }
     ensures kept { take (length out.old.items) out.new.items ≡ out.old.items }
 {
-    push_widths(out, rows.widths.as_slice())?;
+    push_widths(out, chosen.widths.as_slice())?;
     match shape {
-        Shape::Object(_, _) => push_records(out, &rows.packed),
+        Shape::Object(_, _) => push_records(out, packed),
         Shape::List(_) | Shape::Set(_) | Shape::Map(_, _) => {
-            push_runs(out, rows.total, &rows.packed)
+            push_runs(out, chosen.total, packed)
         }
     }
 }

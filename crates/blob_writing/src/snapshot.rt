@@ -1,9 +1,11 @@
 //! Writing a snapshot.
-ghost use Rattle.std.specs.Prelude.{◌≡◌, ◌<◌, ◌≤◌, ◌^◌, ◌++◌, All, IfErr, IfOk, List, ℕ, OnOk, Err, length};
+ghost use Rattle.std.specs.Prelude.{◌≡◌, ◌<◌, ◌≤◌, ◌^◌, ◌++◌, All, IfErr, IfOk, IfSome, List, ℕ, OnOk, Err, length, option_copied};
 ghost use Rattle.std.specs.List.{range_with_len};
 ghost use Rattle.hol_varint.specs.Yields.{Yields};
 ghost use Rattle.schema_model.specs.Model.{IsModel};
+ghost use Rattle.row_packing.specs.Chosen.{shape_at, IsChosen};
 ghost use Rattle.row_packing.specs.States.{AreWritable};
+ghost use Rattle.kept_sections.specs.Sections.{AreSectionsFor, IsSection};
 ghost use Rattle.blob_writing.specs.Limits.{HasFewPathsAt, HaveFewPaths, IsFreeWrite, IsTooLarge, MeansLarge};
 ghost use Rattle.blob_writing.specs.declared.fault.WriteFault.TheVariants.{Large};
 ghost use Rattle.blob_writing.specs.Plan.{IsPlanOf};
@@ -14,29 +16,33 @@ use crate::header::{check_length, put_limited_header};
 use crate::plan::Plan;
 use crate::shared::shared_model;
 use crate::types::put_snapshot_type;
-use blob_sections::PackedRows;
-use hol_varint::{Duplicate, Ordinals, put_vlong};
-use row_model::Rows;
-use row_packing::snapshot_rows;
+use hol_varint::{Ordinals, put_vlong};
+use kept_sections::PackedSections;
+use row_model::{Packed, Rows};
+use row_packing::{Chosen, snapshot_rows};
 use schema_model::Model;
 use std::alloc::{AllocError, Global};
 
 /// Writes the snapshot of a new state that follows an old one of the same model, from one tag to another: a header with all
 /// schemas, and each type's new rows and population, with the widths that are chosen over both states.
 ///
-/// The states agree, and keep the limits on ordinals, items and bytes, and the plan is theirs. `Large` comes exactly where the
-/// blob has more than 2^28 bytes.
+/// Where sections are lent, the rows are written as they stand packed in them; else they are packed first.
+///
+/// The states agree, and keep the limits on ordinals, items and bytes, and the plan and the sections are theirs. `Large` comes
+/// exactly where the blob has more than 2^28 bytes.
 pub fn write_snapshot<A: Rows, B: Rows>(
     alloc: Global,
     old: &A,
     new: &B,
     plan: &Plan,
+    sections: Option<&PackedSections>,
     origin: i64,
     destination: i64,
 ) -> Result<Vec<u8>, WriteFault>
     requires model { A.schemas old.now ≡ B.schemas new.now }
     requires states { AreWritable (B.schemas new.now) (A.table old.now) (B.table new.now) }
     requires plan { IsPlanOf (B.schemas new.now) (A.table old.now) (B.table new.now) plan.now }
+    requires sections { IfSome (option_copied sections) (AreSectionsFor (B.schemas new.now) (A.table old.now) (B.table new.now)) }
     ensures written { IfOk result (λ blob. IsWrittenSnapshot (B.schemas new.now) (A.table old.now) (B.table new.now) origin destination blob.items) }
     ensures short { IfOk result (λ blob. length blob.items ≤ 2 ^ 28) }
     ensures front { IfErr result (MeansLarge (IsLongSnapshot (B.schemas new.now) (A.table old.now) (B.table new.now) origin destination)) }
@@ -45,7 +51,7 @@ pub fn write_snapshot<A: Rows, B: Rows>(
 {
     row_packing::laws::one_packing_of_places();
     let model = shared_model(old, new);
-    limited_snapshot(alloc, old, new, model, plan, origin, destination)
+    limited_snapshot(alloc, old, new, model, plan, sections, origin, destination)
 }
 
 // The same, by what each answer means: `Large`, that each such blob has more than 2^28 bytes.
@@ -55,6 +61,7 @@ fn limited_snapshot<A: Rows, B: Rows>(
     new: &B,
     model: &Model,
     plan: &Plan,
+    sections: Option<&PackedSections>,
     origin: i64,
     destination: i64,
 ) -> Result<Vec<u8>, WriteFault>
@@ -63,6 +70,7 @@ fn limited_snapshot<A: Rows, B: Rows>(
     requires sound { IsModel (B.schemas new.now) }
     requires states { AreWritable (B.schemas new.now) (A.table old.now) (B.table new.now) }
     requires plan { IsPlanOf (B.schemas new.now) (A.table old.now) (B.table new.now) plan.now }
+    requires sections { IfSome (option_copied sections) (AreSectionsFor (B.schemas new.now) (A.table old.now) (B.table new.now)) }
     ensures written { IfOk result (λ blob. IsWrittenSnapshot (B.schemas new.now) (A.table old.now) (B.table new.now) origin destination blob.items) }
     ensures short { IfOk result (λ blob. length blob.items ≤ 2 ^ 28) }
     ensures front { IfErr result (MeansLarge (IsLongSnapshot (B.schemas new.now) (A.table old.now) (B.table new.now) origin destination)) }
@@ -71,7 +79,7 @@ fn limited_snapshot<A: Rows, B: Rows>(
     let types = all_types(alloc, model)?;
     let mut out = Vec::new(alloc);
     put_limited_header(&mut out, origin, destination, model, &types)?;
-    put_types(&mut out, old, new, plan, &types)?;
+    put_types(&mut out, old, new, plan, sections, &types)?;
     Ok(out)
 }
 
@@ -93,6 +101,7 @@ fn put_types<A: Rows, B: Rows>(
     old: &A,
     new: &B,
     plan: &Plan,
+    sections: Option<&PackedSections>,
     types: &Ordinals,
 ) -> Result<(), WriteFault>
     requires model { A.schemas old.now ≡ B.schemas new.now }
@@ -101,6 +110,7 @@ fn put_types<A: Rows, B: Rows>(
     requires few { HaveFewPaths (B.schemas new.now) types.now }
     requires states { AreWritable (B.schemas new.now) (A.table old.now) (B.table new.now) }
     requires plan { IsPlanOf (B.schemas new.now) (A.table old.now) (B.table new.now) plan.now }
+    requires sections { IfSome (option_copied sections) (AreSectionsFor (B.schemas new.now) (A.table old.now) (B.table new.now)) }
     ensures written { OnOk result ((carried : List TypeRows) × AreCarriedOf (B.schemas new.now) (A.table old.now) (B.table new.now) types.now carried × (out.new.items ≡ out.old.items ++ body_bytes carried)) }
     ensures short { OnOk result (length out.new.items ≤ 2 ^ 28) }
     ensures front { IfErr result (MeansLarge (IsFrontLong (B.schemas new.now) (A.table old.now) (B.table new.now) types.now out.old.items)) }
@@ -111,17 +121,18 @@ fn put_types<A: Rows, B: Rows>(
     let indexes = types.as_slice();
     for type_index in indexes {
         check_length(out.as_slice())?;
-        put_type(out, old, new, plan, *type_index)?;
+        put_type(out, old, new, plan, sections, *type_index)?;
     }
     check_length(out.as_slice())
 }
 
-// Writes a type at the end. Where memory is refused nothing is written.
+// Writes a type at the end, from its section where there are some. Where memory is refused nothing is written.
 fn put_type<A: Rows, B: Rows>(
     out: &mut Vec<u8>,
     old: &A,
     new: &B,
     plan: &Plan,
+    sections: Option<&PackedSections>,
     type_index: u32,
 ) -> Result<(), AllocError>
     requires model { A.schemas old.now ≡ B.schemas new.now }
@@ -129,18 +140,46 @@ fn put_type<A: Rows, B: Rows>(
     requires few { HasFewPathsAt (B.schemas new.now) type_index }
     requires states { AreWritable (B.schemas new.now) (A.table old.now) (B.table new.now) }
     requires plan { IsPlanOf (B.schemas new.now) (A.table old.now) (B.table new.now) plan.now }
+    requires sections { IfSome (option_copied sections) (AreSectionsFor (B.schemas new.now) (A.table old.now) (B.table new.now)) }
     ensures { OnOk result ((carried : TypeRows) × IsCarriedOf (B.schemas new.now) (A.table old.now) (B.table new.now) type_index carried × (out.new.items ≡ out.old.items ++ type_bytes carried)) }
 {
-    let alloc = *out.allocator();
-    schema_bytes::laws::spellable_model();
     let place = type_index as usize;
+    if let Some(sections) = sections {
+        let section = sections.get(place);
+        return put_section(
+            out,
+            old,
+            new,
+            plan,
+            &section.chosen,
+            &section.packed,
+            type_index,
+        );
+    }
     let chosen = plan.chosen.get(place);
-    let packed = snapshot_rows(alloc, new, type_index, chosen)?;
-    let rows = PackedRows {
-        widths: chosen.widths.copy(alloc)?,
-        total: chosen.total,
-        packed,
-    };
-    let live = plan.after.ordinals.get(place);
-    put_snapshot_type(out, new.model().schema(type_index), chosen.max, &rows, live)
+    let packed = snapshot_rows(*out.allocator(), new, type_index, chosen)?;
+    put_section(out, old, new, plan, chosen, &packed, type_index)
+}
+
+// Writes a type at the end, of which the rows are packed.
+fn put_section<A: Rows, B: Rows>(
+    out: &mut Vec<u8>,
+    old: &A,
+    new: &B,
+    plan: &Plan,
+    chosen: &Chosen,
+    packed: &Packed,
+    type_index: u32,
+) -> Result<(), AllocError>
+    requires model { A.schemas old.now ≡ B.schemas new.now }
+    requires known { type_index < length (B.schemas new.now) }
+    requires few { HasFewPathsAt (B.schemas new.now) type_index }
+    requires plan { IsPlanOf (B.schemas new.now) (A.table old.now) (B.table new.now) plan.now }
+    requires chosen { IsChosen (shape_at (B.schemas new.now) type_index) (A.table old.now) (B.table new.now) type_index chosen.now }
+    requires packed { IsSection (shape_at (B.schemas new.now) type_index) (B.table new.now) type_index chosen.now packed.now }
+    ensures { OnOk result ((carried : TypeRows) × IsCarriedOf (B.schemas new.now) (A.table old.now) (B.table new.now) type_index carried × (out.new.items ≡ out.old.items ++ type_bytes carried)) }
+{
+    schema_bytes::laws::spellable_model();
+    let live = plan.after.ordinals.get(type_index as usize);
+    put_snapshot_type(out, new.model().schema(type_index), chosen, packed, live)
 }

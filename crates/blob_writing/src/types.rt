@@ -4,15 +4,16 @@ ghost use Rattle.std.specs.List.Sorted.{IsStrictlyIncreasing};
 ghost use Rattle.ordinal_set.specs.Population.{AreUpTo, IsPopulation};
 ghost use Rattle.schema_model.specs.Schema.{IsSpellable};
 ghost use Rattle.blob_writing.specs.Carried.{FitBytes, FitGaps};
-ghost use Rattle.blob_writing.specs.Written.{snapshot_type_bytes, delta_type_bytes};
+ghost use Rattle.blob_writing.specs.Written.{snapshot_type_bytes, delta_type_bytes, rows_by};
 
 use crate::head::put_type_head;
 use crate::items::{or_undone, put_max};
 use crate::ordinals::put_ordinals;
 use crate::packed::put_packed;
-use blob_sections::PackedRows;
 use hol_varint::Ordinals;
 use ordinal_set::OrdinalSet;
+use row_model::Packed;
+use row_packing::Chosen;
 use schema_model::Schema;
 use std::alloc::AllocError;
 
@@ -22,18 +23,18 @@ use std::alloc::AllocError;
 pub fn put_snapshot_type(
     out: &mut Vec<u8>,
     schema: &Schema,
-    max: Option<u32>,
-    rows: &PackedRows,
+    chosen: &Chosen,
+    packed: &Packed,
     live: &OrdinalSet,
 ) -> Result<(), AllocError>
     requires spellable { IsSpellable schema.now }
-    requires up_to { AreUpTo max live.now }
-    ensures ok { OnOk result ((bytes : List ℕ) × (out.new.items ≡ out.old.items ++ snapshot_type_bytes schema.now max rows.now bytes) × IsPopulation live.now max bytes) }
-    ensures fits { OnOk result (FitBytes schema.now.shape rows.now) }
+    requires up_to { AreUpTo chosen.now.max live.now }
+    ensures ok { OnOk result ((bytes : List ℕ) × (out.new.items ≡ out.old.items ++ snapshot_type_bytes schema.now chosen.now.max (rows_by chosen.now packed.now) bytes) × IsPopulation live.now chosen.now.max bytes) }
+    ensures fits { OnOk result (FitBytes schema.now.shape (rows_by chosen.now packed.now)) }
     ensures err { OnErr result (out.new.items ≡ out.old.items) }
 {
     let start = out.len();
-    let written = push_snapshot_type(out, schema, max, rows, live);
+    let written = push_snapshot_type(out, schema, chosen, packed, live);
     or_undone(out, start, written)
 }
 
@@ -41,20 +42,20 @@ pub fn put_snapshot_type(
 fn push_snapshot_type(
     out: &mut Vec<u8>,
     schema: &Schema,
-    max: Option<u32>,
-    rows: &PackedRows,
+    chosen: &Chosen,
+    packed: &Packed,
     live: &OrdinalSet,
 ) -> Result<(), AllocError>
     requires spellable { IsSpellable schema.now }
-    requires up_to { AreUpTo max live.now }
-    ensures ok { OnOk result ((bytes : List ℕ) × (out.new.items ≡ out.old.items ++ snapshot_type_bytes schema.now max rows.now bytes) × IsPopulation live.now max bytes) }
-    ensures fits { OnOk result (FitBytes schema.now.shape rows.now) }
+    requires up_to { AreUpTo chosen.now.max live.now }
+    ensures ok { OnOk result ((bytes : List ℕ) × (out.new.items ≡ out.old.items ++ snapshot_type_bytes schema.now chosen.now.max (rows_by chosen.now packed.now) bytes) × IsPopulation live.now chosen.now.max bytes) }
+    ensures fits { OnOk result (FitBytes schema.now.shape (rows_by chosen.now packed.now)) }
     ensures kept { take (length out.old.items) out.new.items ≡ out.old.items }
 {
     put_type_head(out, schema)?;
-    put_max(out, max)?;
-    put_packed(out, &schema.shape, rows)?;
-    live.put_population(out, max)
+    put_max(out, chosen.max)?;
+    put_packed(out, &schema.shape, chosen, packed)?;
+    live.put_population(out, chosen.max)
 }
 
 /// Writes a type of a delta at the end: its head, the max ordinal, the ordinals that the delta removes and adds, and the
@@ -64,40 +65,40 @@ fn push_snapshot_type(
 pub fn put_delta_type(
     out: &mut Vec<u8>,
     schema: &Schema,
-    max: Option<u32>,
+    chosen: &Chosen,
     removed: &Ordinals,
     added: &Ordinals,
-    rows: &PackedRows,
+    packed: &Packed,
 ) -> Result<(), AllocError>
     requires spellable { IsSpellable schema.now }
     requires removed { IsStrictlyIncreasing removed.now }
     requires added { IsStrictlyIncreasing added.now }
-    ensures ok { OnOk result (out.new.items ≡ out.old.items ++ delta_type_bytes schema.now max removed.now added.now rows.now) }
-    ensures fits { OnOk result (FitGaps removed.now × FitGaps added.now × FitBytes schema.now.shape rows.now) }
+    ensures ok { OnOk result (out.new.items ≡ out.old.items ++ delta_type_bytes schema.now chosen.now.max removed.now added.now (rows_by chosen.now packed.now)) }
+    ensures fits { OnOk result (FitGaps removed.now × FitGaps added.now × FitBytes schema.now.shape (rows_by chosen.now packed.now)) }
     ensures err { OnErr result (out.new.items ≡ out.old.items) }
 {
     let start = out.len();
-    let written = push_delta_type(out, schema, max, removed, added, rows);
+    let written = push_delta_type(out, schema, chosen, removed, added, packed);
     or_undone(out, start, written)
 }
 
 fn push_delta_type(
     out: &mut Vec<u8>,
     schema: &Schema,
-    max: Option<u32>,
+    chosen: &Chosen,
     removed: &Ordinals,
     added: &Ordinals,
-    rows: &PackedRows,
+    packed: &Packed,
 ) -> Result<(), AllocError>
     requires spellable { IsSpellable schema.now }
     requires removed { IsStrictlyIncreasing removed.now }
     requires added { IsStrictlyIncreasing added.now }
-    ensures ok { OnOk result (out.new.items ≡ out.old.items ++ delta_type_bytes schema.now max removed.now added.now rows.now) }
-    ensures fits { OnOk result (FitGaps removed.now × FitGaps added.now × FitBytes schema.now.shape rows.now) }
+    ensures ok { OnOk result (out.new.items ≡ out.old.items ++ delta_type_bytes schema.now chosen.now.max removed.now added.now (rows_by chosen.now packed.now)) }
+    ensures fits { OnOk result (FitGaps removed.now × FitGaps added.now × FitBytes schema.now.shape (rows_by chosen.now packed.now)) }
     ensures kept { take (length out.old.items) out.new.items ≡ out.old.items }
 {
     put_type_head(out, schema)?;
-    put_max(out, max)?;
+    put_max(out, chosen.max)?;
     put_ordinals(out, removed, added)?;
-    put_packed(out, &schema.shape, rows)
+    put_packed(out, &schema.shape, chosen, packed)
 }

@@ -1,11 +1,13 @@
 //! The order `change`.
-ghost use Rattle.std.specs.Prelude.{◌≡◌, ◌≤◌, ◌<◌, IfOk, IfSome, IsSome, Ok, OnErr, OnOk, Some, true};
+ghost use Rattle.std.specs.Prelude.{◌≡◌, ◌≤◌, ◌<◌, ◌↔◌, IfOk, IfSome, IsSome, IsTrue, None, Ok, OnErr, OnOk, Some, true};
 ghost use Rattle.std.specs.Option.{option_map};
 ghost use Rattle.std.specs.Result.{IsErrOf};
 ghost use Rattle.hol_io.specs.Causes.{Rose};
 ghost use Rattle.schema_model.specs.Model.{IsModel};
 ghost use Rattle.schema_model.specs.declared.limit.Limit.TheVariants.{Ordinals};
+ghost use Rattle.row_packing.specs.Measured.{AreMeasured};
 ghost use Rattle.write_engine.specs.Agreement.{HoldsOnce};
+ghost use Rattle.write_engine.specs.CycleLimit.{IsToPublish, TellsCycle, TellsTypes};
 ghost use Rattle.write_engine.specs.Production.{Production};
 ghost use Rattle.hol_orders.specs.Kind.{IsStateChange};
 ghost use Rattle.hol_incremental.specs.Changes.{AreFitting, HaveKeys, records};
@@ -229,6 +231,7 @@ fn make_change<S: BlobStore, L: Ledger>(
         store,
         producer,
         &closed,
+        edits.packed(),
         next.version,
         next.tag,
         true,
@@ -257,7 +260,38 @@ fn make_edited<L: Ledger>(
     let missing = edit(producer, edits, put, remove, steps)?;
     let measured = edits.measured(&producer.previous(), &producer.current())?;
     let closed = producer.close_by(measured)?;
+    pack(producer, edits, &closed)?;
     Ok((missing, closed))
+}
+
+// Packs the rows of a closed cycle for its snapshot, where it is to be published and passes no limit.
+fn pack(producer: &Producer, edits: &mut Edits, closed: &Closed) -> Result<(), AllocError>
+    requires is_closed { producer.now.closed ≡ true }
+    requires first { IsTrue closed.now.first ↔ (producer.now.version ≡ 0) }
+    requires over { TellsCycle producer.now.schemas producer.now.previous producer.now.current producer.now.version closed.now.changed producer.now.over }
+    requires measured { IsToPublish producer.now.version closed.now.changed → AreMeasured producer.now.schemas producer.now.previous producer.now.current closed.now.measured }
+    requires ready { AreReady producer.now.schemas producer.now.previous producer.now.current edits.old }
+    ensures ready { AreReady producer.now.schemas producer.now.previous producer.now.current edits.new }
+{
+    if !is_within(producer, closed) {
+        return Ok(());
+    }
+    write_engine::laws::can_be_written();
+    let previous = producer.previous();
+    let current = producer.current();
+    edits.pack(&previous, &current, closed.measured.as_slice())
+}
+
+// Whether a closed cycle is to be published, and passes no limit.
+fn is_within(producer: &Producer, closed: &Closed) -> bool
+    requires is_closed { producer.now.closed ≡ true }
+    requires first { IsTrue closed.now.first ↔ (producer.now.version ≡ 0) }
+    requires over { TellsCycle producer.now.schemas producer.now.previous producer.now.current producer.now.version closed.now.changed producer.now.over }
+    ensures published { IsTrue result → IsToPublish producer.now.version closed.now.changed }
+    ensures within { IsTrue result → TellsTypes producer.now.schemas producer.now.previous producer.now.current None }
+{
+    let changes = closed.first || !closed.changed.is_empty();
+    changes && producer.over_limit().is_none()
 }
 
 // Makes the cycle the state of the edited list; tells how many of the keys are those of no row.

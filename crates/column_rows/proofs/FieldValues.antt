@@ -10,7 +10,7 @@ use Rattle.row_model.specs.declared.row.Value.{Value}
 use Rattle.row_model.specs.Key.{value_in}
 use Rattle.row_model.specs.Table.{Table, row_at, IsLive}
 use Rattle.object_codec.specs.Stored.{values_of_row}
-use Rattle.record_views.specs.declared.column.Column.{Column}
+use Rattle.object_codec.specs.declared.column.Column.{Column}
 use Rattle.column_rows.specs.Columns.{HasValue, IsColumnOf}
 
 there_some : {A : Type 0} (o : Option A) → IsSome o → (x : A) × (o ≡ Some x)

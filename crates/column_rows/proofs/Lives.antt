@@ -1,10 +1,11 @@
 -- Lemmas on lists, sets and maps that name live rows, where they stand packed.
-use Rattle.std.proofs.Common.{◌≡◌, ℕ, zero, suc, ◌<◌, List, [], ◌∷◌, length, get_or, Option, None, Some, refl, sym, ap, subst, ◌∙◌, arith}
+use Rattle.std.proofs.Common.{◌≡◌, ℕ, zero, suc, ◌*◌, ◌<◌, ◌≤◌, List, [], ◌∷◌, length, get_or, Option, None, Some, inl, inr, refl, sym, ap, subst, ◌∙◌, arith}
 use Rattle.std.specs.Prelude.{All, IsSome, slice_index}
 use Rattle.std.proofs.lemmas.List.Sorted.{All-permutation, IsPermutation-sym}
 use Rattle.std.proofs.lemmas.List.FromFn.{length-map-range_with_len}
+use Rattle.std.proofs.Math.Nat.{mul-le-mul_right}
 use Rattle.row_model.specs.declared.row.Row.{Row}
-use Rattle.row_model.specs.Table.{Table, row_at, IsLive}
+use Rattle.row_model.specs.Table.{Table, row_at, IsBound, IsLive}
 use Rattle.bucket_codec.specs.Run.{Bucket, bucket_at, bucket_in, taken_of, SpellsRun, IsPairInRange}
 use Rattle.list_codec.specs.declared.elements.Elements.{Elements}
 use Rattle.bucket_codec.specs.declared.buckets.Buckets.{Buckets}
@@ -14,6 +15,9 @@ use Rattle.list_codec.proofs.ListElements.{elements_long}
 use Rattle.bucket_codec.proofs.Members.{taken_from}
 use Rattle.column_rows.specs.declared.items.PackedItems.{PackedItems}
 use Rattle.column_rows.specs.Closed.{IsBucketLive, IsPairLive, ListNamesLive, NamesLiveThere, RunNamesLive}
+use Rattle.object_codec.specs.declared.column.Column.{Column}
+use Rattle.object_codec.specs.Columns.{IsReadAt}
+use Rattle.column_rows.specs.Columns.{IsColumnOf}
 use Rattle.column_rows.specs.Items.{AreListsOf, AreRunsOf, HoldsListAt, HoldsRunAt, SpellsListAt, SpellsPairsAt}
 
 some_there : {A : Type 0} (o : Option A) (x : A) → o ≡ Some x → IsSome o
@@ -107,3 +111,20 @@ run_ranges table type_index ordinal items buckets are live stand =
 
 pub dead_field : (table : Table) (type_index field target ordinal : ℕ) → (IsLive table type_index ordinal → ⊥) → NamesLiveThere table type_index field target ordinal
 dead_field table type_index field target ordinal dead row named at has = absurd (dead (some_there (row_at table type_index ordinal) row at))
+
+-- no record is there, past the last one
+pub past_field : (table : Table) (type_index field target end ordinal : ℕ) → IsBound table type_index end → end ≤ ordinal → NamesLiveThere table type_index field target ordinal
+past_field table type_index field target end ordinal is past =
+    dead_field table type_index field target ordinal (λ live. let inside = is.above ordinal live in omega (arith, inside, past))
+
+-- where the last record is read, each place before it is
+pub read_below : (table : Table) (type_index field end ordinal : ℕ) (column : Column) → IsColumnOf table type_index field column → IsBound table type_index end → ordinal < end → IsReadAt column ordinal
+read_below table type_index field end ordinal column of is inside = elim is.least [
+  | inl none ↦ absurd (omega (arith, none, inside))
+  | inr last ↦
+      let at = there_some (row_at table type_index last.0) last.2 in
+      let read = (of last.0 at.0 at.1).2.reads in
+      let before : ordinal ≤ last.0 = omega (arith, last.1, inside) in
+      let less : ordinal * column.size ≤ last.0 * column.size = mul-le-mul_right column.size before in
+      record { narrow = read.narrow; wide = read.wide; record_holds = read.record_holds; words_hold = omega (arith, less, read.words_hold); fits = omega (arith, less, read.fits) }
+]

@@ -18,13 +18,13 @@ use Rattle.row_model.specs.Table.{Table, IsTableOf, row_at}
 use Rattle.object_codec.specs.Part.{SpellsValue}
 use Rattle.bucket_codec.specs.Run.{Bucket, SpellsRun, bucket_at}
 use Rattle.bucket_codec.specs.declared.buckets.Buckets.{Buckets}
-use Rattle.record_views.specs.declared.bytes.PackedBytes.{PackedBytes}
-use Rattle.record_views.specs.declared.column.Column.{Column}
+use Rattle.object_codec.specs.declared.bytes.PackedBytes.{PackedBytes}
+use Rattle.object_codec.specs.declared.column.Column.{Column}
 use Rattle.list_codec.specs.declared.elements.Elements.{Elements}
-use Rattle.record_views.specs.declared.value_ref.ValueRef.{ValueRef}
+use Rattle.object_codec.specs.declared.value_ref.ValueRef.{ValueRef}
 use Rattle.bucket_codec.specs.Buckets.{run_of}
-use Rattle.record_views.specs.Bytes.{bytes_of}
-use Rattle.record_views.specs.Columns.{Shows, part_of}
+use Rattle.object_codec.specs.Bytes.{bytes_of}
+use Rattle.object_codec.specs.Columns.{Shows, part_of}
 use Rattle.list_codec.specs.Elements.{elements_of}
 use Rattle.list_codec.proofs.ListElements.{elements_long}
 use Rattle.column_rows.specs.declared.items.PackedItems.{PackedItems}

@@ -8,8 +8,8 @@ use Rattle.row_model.specs.declared.row.Value.{Value}
 use Rattle.object_codec.specs.Part.{SpellsValue}
 use Rattle.object_codec.specs.ObjectPlace.{part_at, parts_from, HoldsPlace, IsKindWidth, SpellsFields, SpellsObject}
 use Rattle.object_codec.proofs.FieldWidths.{within, wide_at}
-use Rattle.record_views.specs.declared.column.Column.{Column}
-use Rattle.record_views.specs.Bytes.{bytes_of}
+use Rattle.object_codec.specs.declared.column.Column.{Column}
+use Rattle.object_codec.specs.Bytes.{bytes_of}
 use Rattle.column_rows.specs.Columns.{HasValueOf}
 
 sum-cons : (width : ℕ) (widths : List ℕ) → sum (width ∷ widths) ≡ width + sum widths

@@ -5,8 +5,8 @@ use Rattle.row_model.specs.declared.row.Value.{Value}
 use Rattle.row_model.specs.Table.{Table, row_at}
 use Rattle.object_codec.specs.Part.{SpellsValue}
 use Rattle.object_codec.specs.Stored.{values_of_row}
-use Rattle.record_views.specs.declared.column.Column.{Column}
-use Rattle.record_views.specs.Columns.{IsReadAt, part_of}
+use Rattle.object_codec.specs.declared.column.Column.{Column}
+use Rattle.object_codec.specs.Columns.{IsReadAt, part_of}
 
 -- The column has this value under an ordinal.
 pub record HasValue (column : Column) (ordinal : ℕ) (value : Value) : Type 0 where

@@ -1,16 +1,17 @@
 //! Whether the records of a type name live rows alone, field by field.
 ghost use Rattle.std.specs.Prelude.{ℕ, ◌≡◌, IsTrue, slice_get, Some};
 ghost use Rattle.schema_model.specs.declared.schema.Field.{Field as FieldOf};
-ghost use Rattle.record_views.specs.Columns.{IsReadAt, part_of};
+ghost use Rattle.row_model.specs.Table.{IsLive};
+ghost use Rattle.object_codec.specs.Columns.{IsReadAt, part_of};
 ghost use Rattle.column_rows.specs.Columns.{IsColumnOf};
 ghost use Rattle.column_rows.specs.Closed.{FieldNamesLive, NamesLiveThere};
 ghost use Rattle.column_rows.specs.Looked.{IsLooked};
 
 use crate::ColumnRows;
 use crate::looked::Looked;
-use crate::runs::is_number_live;
 use bit_array::{all_ones, element};
-use record_views::Column;
+use object_codec::Column;
+use row_model::Rows;
 use schema_model::{Field, FieldKind};
 
 /// The element of a field at a place where it can be read.
@@ -26,7 +27,16 @@ fn element_in(column: &Column, place: u64) -> u64
     )
 }
 
-/// Whether a REFERENCE of the record under an ordinal, if there is one, names a live row of another type, if it names one.
+/// Whether a number is a live ordinal of a type; its ordinals are below the bound.
+#[inline(always)]
+fn is_live_below<R: Rows>(rows: &R, target: u32, bound: u32, number: u64) -> bool
+    ensures { IsTrue result → IsLive (R.table rows.now) target number }
+{
+    number < u64::from(bound) && rows.is_live(target, number as u32)
+}
+
+/// Whether a REFERENCE of the record under an ordinal, if there is one, names a live row of another type, if it names one. What stands at the place is
+/// tried first, and only where it names no live row, whether there is a record.
 #[inline(always)]
 fn is_field_live<R: ColumnRows>(
     rows: &R,
@@ -34,19 +44,21 @@ fn is_field_live<R: ColumnRows>(
     type_index: u32,
     field: u32,
     target: u32,
+    bound: u32,
     ordinal: u32,
 ) -> bool
-    requires { IsColumnOf (R.table rows.now) type_index field column.now }
+    requires column_of { IsColumnOf (R.table rows.now) type_index field column.now }
+    requires read { IsReadAt column.now ordinal }
     ensures { IsTrue result → NamesLiveThere (R.table rows.now) type_index field target ordinal }
 {
-    if !rows.is_live(type_index, ordinal) {
+    let number = element_in(column, u64::from(ordinal));
+    if is_live_below(rows, target, bound, number) {
         return true;
     }
-    let number = element_in(column, u64::from(ordinal));
     if number == all_ones(column.width) {
         return true;
     }
-    is_number_live(rows, target, number)
+    !rows.is_live(type_index, ordinal)
 }
 
 /// Whether a field of the records that are looked at in a type names live rows of another type alone.
@@ -61,10 +73,14 @@ fn field_live<R: ColumnRows>(
     requires { IsColumnOf (R.table rows.now) type_index field column.now }
     ensures { IsTrue result → (ordinal : ℕ) → IsLooked looked.entry ordinal → NamesLiveThere (R.table rows.now) type_index field target ordinal }
 {
-    let count = looked.count(rows.bound(type_index));
+    let end = rows.bound(type_index);
+    let bound = rows.bound(target);
+    let count = looked.count(end);
     for index in 0..count {
         let ordinal = looked.ordinal(index);
-        if !is_field_live(rows, column, type_index, field, target, ordinal) {
+        if ordinal < end
+            && !is_field_live(rows, column, type_index, field, target, bound, ordinal)
+        {
             return false;
         }
     }

@@ -4,11 +4,11 @@ ghost use Rattle.std.specs.List.{AllZip};
 ghost use Rattle.row_model.specs.Areas.{area_of};
 ghost use Rattle.row_model.specs.declared.row.Value.{Value};
 ghost use Rattle.object_codec.specs.ObjectPlace.{HoldsPlace, IsFieldWidth, SpellsObject};
-ghost use Rattle.record_views.specs.Bytes.{bytes_of};
+ghost use Rattle.object_codec.specs.Bytes.{bytes_of};
 ghost use Rattle.column_rows.specs.Columns.{HasValueOf};
 
 use bit_array::total_width;
-use record_views::{Column, PackedBytes};
+use object_codec::{Column, PackedBytes};
 use schema_model::{Field, FieldKind};
 
 /// The column of the field at an index, whose bytes are given.

@@ -4,7 +4,7 @@ ghost use Rattle.column_rows.specs.Columns.{IsColumnOf};
 ghost use Rattle.column_rows.specs.Items.{AreListsOf, AreRunsOf};
 
 use crate::PackedItems;
-use record_views::Column;
+use object_codec::Column;
 use row_model::Rows;
 
 /// Rows of which a type is looked at as a whole where its rows stand packed. None is answered of a type of another kind, and may be answered of any

@@ -1,13 +1,13 @@
 //! Whether the records of a type have the same values in two states, field by field.
 ghost use Rattle.std.specs.Prelude.{ℕ, ◌≡◌, ◌<◌, IsTrue};
 ghost use Rattle.row_model.specs.declared.row.Value.{Value};
-ghost use Rattle.record_views.specs.Bytes.{bytes_of};
-ghost use Rattle.record_views.specs.Columns.{Shows};
+ghost use Rattle.object_codec.specs.Bytes.{bytes_of};
+ghost use Rattle.object_codec.specs.Columns.{Shows};
 ghost use Rattle.column_rows.specs.Columns.{IsColumnOf};
 ghost use Rattle.column_rows.specs.Same.{HaveSameLive, HaveSameValue, IsSoOfBoth};
 
 use crate::ColumnRows;
-use record_views::{Column, PackedBytes, ValueRef};
+use object_codec::{Column, PackedBytes, ValueRef};
 
 /// Whether the bytes that stand in two places are the same.
 fn are_bytes_same(bytes: PackedBytes<'_>, others: PackedBytes<'_>) -> bool

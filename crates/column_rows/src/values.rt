@@ -5,12 +5,12 @@ ghost use Rattle.hol_varint.specs.TextUnits.{AreUnitsIn};
 ghost use Rattle.row_model.specs.declared.row.Value.{Value as ValueOf};
 ghost use Rattle.row_model.specs.Key.{value_in as field_of};
 ghost use Rattle.row_model.specs.Table.{IsLive, row_at};
-ghost use Rattle.record_views.specs.Bytes.{bytes_of};
-ghost use Rattle.record_views.specs.Columns.{Shows};
+ghost use Rattle.object_codec.specs.Bytes.{bytes_of};
+ghost use Rattle.object_codec.specs.Columns.{Shows};
 
 use crate::ColumnRows;
 use hol_varint::{Duplicate, Octets, Units, UnitsFault, get_units};
-use record_views::{PackedBytes, ValueRef};
+use object_codec::{PackedBytes, ValueRef};
 use row_model::{Row, Value};
 use std::alloc::{AllocError, Global};
 

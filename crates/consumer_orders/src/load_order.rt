@@ -14,6 +14,7 @@ use read_engine::Consumer;
 /// The consumer becomes the state of the snapshot of a version, which is its version then, no older states are kept of it, and the answer tells its tag; or
 /// the snapshot is refused, with its first fault: `NoBlob`, `TooLarge` or `BadBlob`. After a refusal or a stop the consumer, its version and its history are
 /// as before. The store stays as it is. `Store` comes only where the store's count of faults rose.
+#[inline(never)]
 pub fn load<S: BlobStore>(
     store: &mut S,
     consumer: &mut Consumer,

@@ -27,6 +27,7 @@ use std::sync::ledger::{Blank, Ledger};
 /// After a refusal, or a stop with `Store`, the consumer, its version and its history are as before. Where memory is refused they are, or the consumer has
 /// moved, and its history is empty: it leads to where the consumer stands in each case. The store stays as it is. `Store` comes only where the store's count of
 /// faults rose.
+#[inline(never)]
 pub fn step<S: BlobStore>(
     store: &mut S,
     consumer: &mut Consumer,

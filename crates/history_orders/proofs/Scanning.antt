@@ -14,8 +14,8 @@ use Rattle.row_model.specs.Table.{IsLive, Table, row_at}
 use Rattle.object_codec.specs.ObjectPlace.{IsKindWidth}
 use Rattle.object_codec.specs.Part.{FieldPart, SpellsInt, SpellsLong, SpellsReference, SpellsBoolean, SpellsText, SpellsBytes, SpellsValue}
 use Rattle.object_codec.specs.Stored.{element_number, stored_number}
-use Rattle.record_views.specs.declared.column.Column.{Column}
-use Rattle.record_views.specs.Columns.{part_of}
+use Rattle.object_codec.specs.declared.column.Column.{Column}
+use Rattle.object_codec.specs.Columns.{part_of}
 use Rattle.column_rows.specs.Columns.{IsColumnOf}
 use Rattle.column_rows.proofs.FieldValues.{column_value}
 use Rattle.history_orders.specs.Left.{HasAll}

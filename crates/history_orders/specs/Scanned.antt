@@ -1,7 +1,7 @@
 -- Which records of a column a pass over its packed words goes through.
 use Rattle.std.specs.Prelude.{◌≡◌, ◌≢◌, ℕ, ◌+◌, ◌*◌, ◌^◌, ◌<◌, ◌≤◌, List, Contains, length}
 use Rattle.object_codec.specs.ObjectPlace.{element_at}
-use Rattle.record_views.specs.declared.column.Column.{Column}
+use Rattle.object_codec.specs.declared.column.Column.{Column}
 use Rattle.row_model.specs.Table.{IsLive, Table}
 
 -- The element that a column has at a place.

@@ -3,7 +3,7 @@ ghost use Rattle.std.specs.Prelude.{◌≡◌, ◌+◌, ◌*◌, ◌^◌, ◌<�
 ghost use Rattle.bit_array.specs.Element.{element_of};
 ghost use Rattle.history_orders.specs.Scanned.{HasWordsBelow, LacksNumber};
 
-use record_views::Column;
+use object_codec::Column;
 
 /// How many of the first records of a column, of so many, begin before the last word: of these an element is read from two words, whatever bit it begins at.
 pub(crate) fn near(column: &Column<'_>, bound: u32) -> u32

@@ -1,16 +1,26 @@
--- What is kept beside a producer for changes: how often each row of its state is named, the sums of the rows of each type, and the indexes of the rows by their
--- primary keys; and the same of the state that a change makes.
-use Rattle.std.specs.Prelude.{refl, List, [], ℕ, ◌≡◌, Option, None, Some, IsSome, IsSomeAnd, All, get_or, length, replicate, slice_get}
+-- What is kept beside a producer for changes: how often each row of its state is named, the sums of the rows of each type, these as they stand packed in its
+-- snapshot, and the indexes of the rows by their primary keys; and the same of the state that a change makes.
+use Rattle.std.specs.Prelude.{refl, List, [], ℕ, ◌≡◌, Option, None, Some, IfSome, IsSome, IsSomeAnd, All, get_or, length, replicate, slice_get}
 use Rattle.std.specs.Coded.{Coded, code_by, coded×, coded_ℕ, coded_list, coded_option}
 use Rattle.schema_model.specs.declared.model.path.Path.{Path}
 use Rattle.schema_model.specs.declared.schema.Schema.{Schema}
 use Rattle.row_model.specs.Table.{Table}
 use Rattle.key_index.specs.Indexed.{Indexed, IsIndexBy, indexed_code}
 use Rattle.kept_sums.specs.Sums.{TypeSums, sums_code}
+use Rattle.kept_sections.specs.contracts.section.PackedSection as section_contract
+use Rattle.kept_sections.specs.declared.section.PackedSection.{PackedSection}
+use Rattle.kept_sections.specs.Sections.{AreSections, AreSectionsFor}
 use Rattle.hol_incremental.specs.Counts.{times_named}
 use Rattle.hol_incremental.specs.Keeping.{AreReadyKeys, IsReserved}
 use Rattle.hol_incremental.specs.Roots.{AreKeyPaths, IsKeyed}
 use Rattle.hol_incremental.specs.Sums.{AreSums, AreSumsOfBoth}
+
+-- the packed rows of each type, where they are kept
+abbrev pub MaybeSections : Type 0
+MaybeSections = Option (List PackedSection)
+
+abbrev pub sections_code : Coded MaybeSections
+sections_code = coded_option (coded_list (section_contract.the_row).coded)
 
 -- What is counted of the state that a change makes: how often each of its rows is named, by type and ordinal, the sums of the rows of each type, and those of
 -- the rows of both states.
@@ -24,19 +34,22 @@ coming_code =
     code_by (List (List ℕ) × (List TypeSums × List TypeSums)) (coded× (coded_list (coded_list coded_ℕ)) (coded× (coded_list sums_code) (coded_list sums_code))) (λ n. (n.counts, (n.sums, n.both)))
     (λ p. record { counts = p.0; sums = p.1.0; both = p.1.1 }) (λ _. refl)
 
--- The counts of the state, by type and ordinal, the sums of the rows of each type, what is counted of the next state once a change has made it, and for each type
--- the index of its rows by its primary key, if it has one.
+-- The counts of the state, by type and ordinal, the sums of the rows of each type, and these as they stand packed in its snapshot, where they are kept; what is counted
+-- of the next state once a change has made it, and its rows once they are packed; and for each type the index of its rows by its primary key, if it has one.
 pub record Editing : Type 0 where
   pub counts : List (List ℕ)
   pub sums : List TypeSums
+  pub sections : MaybeSections
   pub next : Option Coming
+  pub next_sections : MaybeSections
   pub keys : List (Option Indexed)
 
 abbrev pub editing_code : Coded Editing
 editing_code =
-    code_by (List (List ℕ) × (List TypeSums × (Option Coming × List (Option Indexed))))
-    (coded× (coded_list (coded_list coded_ℕ)) (coded× (coded_list sums_code) (coded× (coded_option coming_code) (coded_list (coded_option indexed_code)))))
-    (λ e. (e.counts, (e.sums, (e.next, e.keys)))) (λ p. record { counts = p.0; sums = p.1.0; next = p.1.1.0; keys = p.1.1.1 }) (λ _. refl)
+    code_by (List (List ℕ) × (List TypeSums × (MaybeSections × (Option Coming × (MaybeSections × List (Option Indexed))))))
+    (coded× (coded_list (coded_list coded_ℕ)) (coded× (coded_list sums_code) (coded× sections_code (coded× (coded_option coming_code) (coded× sections_code (coded_list (coded_option indexed_code)))))))
+    (λ e. (e.counts, (e.sums, (e.sections, (e.next, (e.next_sections, e.keys))))))
+    (λ p. record { counts = p.0; sums = p.1.0; sections = p.1.1.0; next = p.1.1.1.0; next_sections = p.1.1.1.1.0; keys = p.1.1.1.1.1 }) (λ _. refl)
 
 -- the count of a row; 0 where none is kept
 abbrev pub count_at : List (List ℕ) → ℕ → ℕ → ℕ
@@ -75,6 +88,7 @@ pub record AreIndexes (schemas : List Schema) (table : Table) (keys : List (Opti
 pub record AreEditsOf (schemas : List Schema) (table : Table) (edits : Editing) : Type 0 where
   pub counts : AreCounts schemas table edits.counts
   pub sums : AreSums schemas table edits.sums
+  pub sections : IfSome edits.sections (AreSections schemas table)
   pub keys : AreIndexes schemas table edits.keys
 
 -- What is counted of the next state is that of its rows, and of those of both states.
@@ -87,6 +101,7 @@ pub record IsComing (schemas : List Schema) (previous next : Table) (coming : Co
 pub record AreReady (schemas : List Schema) (previous next : Table) (edits : Editing) : Type 0 where
   pub now : AreEditsOf schemas previous edits
   pub counts : IsSomeAnd edits.next (IsComing schemas previous next)
+  pub sections : IfSome edits.next_sections (AreSectionsFor schemas previous next)
   pub keys : AreReadyKeys schemas next edits.keys
 
 -- Something is ready.

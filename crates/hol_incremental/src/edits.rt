@@ -1,9 +1,11 @@
 //! What is kept beside a producer for changes.
-ghost use Rattle.std.specs.Prelude.{◌≡◌, ◌+◌, ◌≤◌, List, [], Err, IfOk, None, OnErr, OnOk, false, length};
+ghost use Rattle.std.specs.Prelude.{◌≡◌, ◌+◌, ◌≤◌, List, [], Err, IfOk, IfSome, None, OnErr, OnOk, false, length, option_copied};
 ghost use Rattle.hol_varint.specs.Yields.{Yields};
 ghost use Rattle.row_model.specs.Table.{IsClosed, Table};
 ghost use Rattle.schema_model.specs.declared.schema.Schema.{Schema};
 ghost use Rattle.row_packing.specs.Measured.{AreMeasured};
+ghost use Rattle.row_packing.specs.States.{AreWritable};
+ghost use Rattle.kept_sections.specs.Sections.{AreSectionsFor};
 ghost use Rattle.write_engine.specs.Cycle.{no_rows};
 ghost use Rattle.hol_incremental.specs.Beside.{IsFromEither};
 ghost use Rattle.hol_incremental.specs.Changes.{AreFitting, CountsChange, CountsMissing, HaveKeys, IsFreeChange, records};
@@ -25,23 +27,29 @@ use crate::row_set::RowSet;
 use crate::tally::Tally;
 use hol_io::Steps;
 use hol_varint::{Duplicate, List};
+use kept_sections::{PackedSections, sections_of};
 use kept_sums::Sums;
 use key_index::KeyIndex;
 use row_model::Rows;
-use row_packing::Measured;
+use row_packing::{Measured, OrdinalRows};
 use std::alloc::{AllocError, Global};
 use std::marker::Model;
 use std::sync::ledger::Ledger;
 use write_engine::Producer;
 
-/// What is kept beside a producer for changes of its state: how often each row is named, what the rows of each type take, and the rows by their primary keys.
+/// What is kept beside a producer for changes of its state: how often each row is named, what the rows of each type take, these as they stand packed in its snapshot,
+/// and the rows by their primary keys.
 #[derive(Drop)]
 pub struct Edits {
     alloc: Global,
     /// What is counted of the state.
     tally: Tally,
+    /// The rows of the state as they stand packed in its snapshot, where a change has made it.
+    sections: Option<PackedSections>,
     /// What is counted of the next state, where a change has made it.
     next: Option<NextTally>,
+    /// The rows of the next state, once they are packed for its snapshot.
+    next_sections: Option<PackedSections>,
     /// For each type the index of its rows by its primary key, if it has one.
     keys: Vec<Option<KeyIndex>>,
 }
@@ -64,7 +72,7 @@ impl Model for Edits {
 
     ghost coded = { editing_code };
 
-    ghost view = { λ e. record { counts = e.tally.counts; sums = e.tally.sums.items; next = option_map coming_of e.next; keys = e.keys.items } };
+    ghost view = { λ e. record { counts = e.tally.counts; sums = e.tally.sums.items; sections = e.sections; next = option_map coming_of e.next; next_sections = e.next_sections; keys = e.keys.items } };
 }
 
 impl Edits {
@@ -84,7 +92,9 @@ impl Edits {
         Ok(Edits {
             alloc,
             tally,
+            sections: None,
             next: None,
+            next_sections: None,
             keys,
         })
     }
@@ -186,6 +196,7 @@ impl Edits {
             steps,
         )?;
         self.next = Some(next);
+        self.next_sections = None;
         Ok(())
     }
 
@@ -212,14 +223,45 @@ impl Edits {
         )
     }
 
+    /// Packs the rows of the state that a change has made for its snapshot, by what was measured of each type. Of a type whose rows stand packed for the previous
+    /// state only those that left or came are looked at, where they have no variable bytes and their widths stay.
+    ///
+    /// The two states keep the limits on ordinals, items and bytes.
+    pub fn pack<A: OrdinalRows, B: OrdinalRows>(
+        &mut self,
+        previous: &A,
+        next: &B,
+        measured: &[Measured],
+    ) -> Result<(), AllocError>
+        requires model { A.schemas previous.now ≡ B.schemas next.now }
+        requires states { AreWritable (B.schemas next.now) (A.table previous.now) (B.table next.now) }
+        requires measured { AreMeasured (B.schemas next.now) (A.table previous.now) (B.table next.now) measured.now }
+        requires ready { AreReady (B.schemas next.now) (A.table previous.now) (B.table next.now) self.old }
+        ensures ready { AreReady (B.schemas next.now) (A.table previous.now) (B.table next.now) self.new }
+    {
+        let kept = self.sections.as_ref();
+        let sections = sections_of(self.alloc, kept, previous, next, measured)?;
+        self.next_sections = Some(sections);
+        Ok(())
+    }
+
+    /// The rows of the state that a change has made as they are packed for its snapshot, where they are.
+    pub fn packed(&self) -> Option<&PackedSections>
+        ensures { (schemas : List Schema) (previous next : Table) → AreReady schemas previous next self.now → IfSome (option_copied result) (AreSectionsFor schemas previous next) }
+    {
+        self.next_sections.as_ref()
+    }
+
     /// What is kept becomes that of the state that a change has made, once the producer has advanced to it. It takes no memory.
     pub fn accept(&mut self)
         requires { IsReadied self.old }
         ensures { (schemas : List Schema) (previous next : Table) → AreReady schemas previous next self.old → AreEditsOf schemas next self.new }
     {
+        kept_sections::laws::kept_for_next();
         if let Some(next) = self.next.take() {
             self.tally = next.tally;
         }
+        self.sections = self.next_sections.take();
         update_all(&mut self.keys);
     }
 
@@ -229,6 +271,7 @@ impl Edits {
         ensures kept { (schemas : List Schema) (table : Table) → AreEditsOf schemas table self.old → AreEditsOf schemas table self.new }
     {
         self.next = None;
+        self.next_sections = None;
         forget_all(&mut self.keys);
     }
 }

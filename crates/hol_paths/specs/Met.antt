@@ -5,7 +5,7 @@ use Rattle.schema_model.specs.declared.model.walk_path.WalkPart.TheVariants.{Fie
 use Rattle.schema_model.specs.declared.schema.Schema.{Schema}
 use Rattle.row_model.specs.declared.row.Value.{Value}
 use Rattle.row_model.specs.Table.{Table}
-use Rattle.record_views.specs.declared.column.Column.{Column}
+use Rattle.object_codec.specs.declared.column.Column.{Column}
 use Rattle.column_rows.specs.Columns.{IsColumnOf}
 use Rattle.hol_paths.specs.declared.entries.Slot.{Slot}
 use Rattle.hol_paths.specs.declared.met.Run.{Run}

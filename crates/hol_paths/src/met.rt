@@ -2,12 +2,12 @@
 ghost use Rattle.std.specs.Prelude.{◌≡◌, ◌∷◌, ℕ, [], IfOk, IfSome, None, Some};
 ghost use Rattle.row_model.specs.declared.row.Value.{Value as ValueOf};
 ghost use Rattle.row_model.specs.Table.{IsLive};
-ghost use Rattle.record_views.specs.Columns.{Shows};
+ghost use Rattle.object_codec.specs.Columns.{Shows};
 ghost use Rattle.hol_paths.specs.Met.{IsFirstColumn, IsPartColumn, KeepsMet, NamesOnly, met_at};
 ghost use Rattle.hol_paths.specs.Reached.{named_at};
 
 use column_rows::{ColumnRows, field_value};
-use record_views::{Column, ValueRef};
+use object_codec::{Column, ValueRef};
 use row_model::{Rows, Value};
 use schema_model::{WalkPart, WalkPath};
 use std::alloc::{AllocError, Global};

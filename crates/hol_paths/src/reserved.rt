@@ -20,7 +20,7 @@ use crate::read::reached_by;
 use column_rows::ColumnRows;
 use hol_io::Steps;
 use hol_varint::Ordinals;
-use record_views::Column;
+use object_codec::Column;
 use row_model::{Rows, Values};
 use schema_model::{WalkPart, WalkPath};
 use std::alloc::{AllocError, Global};

@@ -7,5 +7,6 @@ pub mod VarReading
 pub mod VarWriting
 pub mod Varints
 pub mod Windows
+pub mod AsciiUnits
 pub mod OneUnit
 pub mod UnitCounts

@@ -1,5 +1,5 @@
 //! The UTF-16 units of texts, and the bytes of a STRING: a number of variable length for each unit.
-ghost use Rattle.std.specs.Prelude.{◌≡◌, ℕ, List, ◌<◌, ◌≤◌, ◌↔◌, ◌++◌, ◌-◌, ◌^◌, length, min, take, drop, IsAscii, IfOk, IfSome, IsSomeAnd, IsNone, OnOk, OnErr};
+ghost use Rattle.std.specs.Prelude.{◌≡◌, ℕ, List, ◌<◌, ◌≤◌, ◌↔◌, ◌++◌, ◌-◌, ◌^◌, length, min, take, drop, All, IsAscii, IsTrue, IfOk, IfSome, IsSomeAnd, IsNone, OnOk, OnErr};
 ghost use Rattle.std.specs.Char.Escape.{encode_utf16};
 ghost use Rattle.std.specs.String.{string_bytes};
 ghost use Rattle.hol_varint.specs.TextUnits.{AreUnits, AreUnitsIn, IsBadText, IsFreeUnits, IsTextOf, AreWellFormed, TellsUnits, TellsUnitAt, units_bytes, text_units};
@@ -26,37 +26,60 @@ pub fn put_units(out: &mut Vec<u8>, units: &Units) -> Result<(), AllocError>
 }
 
 // The same, but that the first units may stand at the end where memory is refused.
-#[tactic(auto, using(crate::proofs::Runs::are_units))]
+#[tactic(auto, using(crate::proofs::Runs::are_units, crate::proofs::AsciiUnits::ascii_bytes))]
 fn push_units(out: &mut Vec<u8>, units: &[u16]) -> Result<(), AllocError>
     ensures ok { OnOk result (out.new.items ≡ out.old.items ++ units_bytes units.now) }
     ensures kept { take (length out.old.items) out.new.items ≡ out.old.items }
     ensures are { AreUnits units.now }
 {
+    if are_ascii(units) {
+        return push_ascii(out, units);
+    }
     out.reserve(units.len())?;
     for unit in units {
-        push_unit(out, *unit)?;
+        put_vint(out, u32::from(*unit))?;
     }
     Ok(())
 }
 
-// Adds a unit at the end; one of ASCII in the room that is there.
-#[tactic(auto, using(crate::proofs::VarWriting::one_group))]
-fn push_unit(out: &mut Vec<u8>, unit: u16) -> Result<(), AllocError>
-    ensures ok { OnOk result (out.new.items ≡ out.old.items ++ varint_bytes unit) }
+// Whether all units are of ASCII, so that each is a byte of its own in a STRING.
+fn are_ascii(units: &[u16]) -> bool
+    ensures { IsTrue result ↔ All (λ unit. unit < 128) units.now }
+{
+    units.iter().all(|unit| *unit < 0x80)
+}
+
+// Adds units of ASCII at the end, all at once.
+fn push_ascii(out: &mut Vec<u8>, units: &[u16]) -> Result<(), AllocError>
+    requires { All (λ unit. unit < 128) units.now }
+    ensures ok { OnOk result (out.new.items ≡ out.old.items ++ units.now) }
     ensures err { OnErr result (out.new.items ≡ out.old.items) }
 {
-    if unit < 0x80 && out.len() < out.capacity() {
-        out.push_reserved(unit as u8);
-        return Ok(());
+    let start = out.len();
+    out.resize(start + units.len(), 0)?;
+    write_ascii(&mut out[start..], units);
+    Ok(())
+}
+
+// Writes units of ASCII into as many bytes.
+fn write_ascii(bytes: &mut [u8], units: &[u16])
+    requires long { length bytes.old ≡ length units.now }
+    requires ascii { All (λ unit. unit < 128) units.now }
+    ensures { bytes.new ≡ units.now }
+{
+    for index in 0..units.len() {
+        bytes[index] = units[index] as u8;
     }
-    put_vint(out, u32::from(unit))
 }
 
 /// How many bytes these units take in a STRING; the greatest number where they are more.
-#[tactic(auto, using(crate::proofs::UnitCounts::units_counted))]
+#[tactic(auto, using(crate::proofs::UnitCounts::units_counted, crate::proofs::AsciiUnits::ascii_len))]
 pub fn units_len(units: &[u16]) -> u64
     ensures { result ≡ min (length (units_bytes units.now)) (2 ^ 64 - 1) }
 {
+    if are_ascii(units) {
+        return units.len() as u64;
+    }
     let mut len: u64 = 0;
     for unit in units {
         len = len.saturating_add(unit_len(*unit));

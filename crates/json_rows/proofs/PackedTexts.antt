@@ -7,10 +7,10 @@ use Rattle.serde_json.specs.Written.{compact_text}
 use Rattle.row_model.specs.declared.row.Row.{Row}
 use Rattle.row_model.specs.declared.row.Value.{Value}
 use Rattle.row_model.specs.Key.{value_in}
-use Rattle.record_views.specs.declared.bytes.PackedBytes.{PackedBytes}
-use Rattle.record_views.specs.declared.value_ref.ValueRef.{ValueRef}
-use Rattle.record_views.specs.Bytes.{bytes_of}
-use Rattle.record_views.specs.Columns.{Shows}
+use Rattle.object_codec.specs.declared.bytes.PackedBytes.{PackedBytes}
+use Rattle.object_codec.specs.declared.value_ref.ValueRef.{ValueRef}
+use Rattle.object_codec.specs.Bytes.{bytes_of}
+use Rattle.object_codec.specs.Columns.{Shows}
 use Rattle.column_rows.proofs.FieldValues.{same_units}
 use Rattle.json_rows.specs.PlainText.{IsPlainUnit}
 use Rattle.json_rows.specs.RowLine.{PutsAll}

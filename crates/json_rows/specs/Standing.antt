@@ -5,7 +5,7 @@ use Rattle.schema_model.specs.declared.schema.Shape.{Shape}
 use Rattle.schema_model.specs.Parts.{shape_fields}
 use Rattle.row_model.specs.declared.row.Row.{Row}
 use Rattle.row_model.specs.Table.{Table, row_at}
-use Rattle.record_views.specs.declared.column.Column.{Column}
+use Rattle.object_codec.specs.declared.column.Column.{Column}
 use Rattle.column_rows.specs.Columns.{IsColumnOf}
 use Rattle.column_rows.specs.Items.{AreListsOf}
 use Rattle.json_rows.specs.LineForm.{IsLineForm}

@@ -10,7 +10,7 @@ ghost use Rattle.json_rows.specs.StoredRow.{IsValueData};
 use crate::plain::{is_plain_text, put_plain_text};
 use crate::value::{put_signed, put_unsigned, put_value};
 use column_rows::{ColumnRows, field_value};
-use record_views::{Column, ValueRef};
+use object_codec::{Column, ValueRef};
 use std::alloc::{AllocError, Global};
 
 // The value of a field of the record under a live ordinal, which stands in this column.

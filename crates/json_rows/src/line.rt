@@ -16,7 +16,7 @@ use crate::standing::{Standing, TypeLines};
 use crate::value::{put_unsigned, put_value};
 use column_rows::{ColumnRows, PackedItems};
 use list_codec::Elements;
-use record_views::Column;
+use object_codec::Column;
 use row_model::{Row, Value};
 use std::alloc::{AllocError, Global};
 

@@ -1,9 +1,9 @@
 //! Texts whose units are bytes that stand in JSON as they are.
 ghost use Rattle.std.specs.Prelude.{◌≡◌, ◌++◌, ◌∷◌, [], length, take, All, IsTrue, OnOk};
-ghost use Rattle.record_views.specs.Bytes.{bytes_of};
+ghost use Rattle.object_codec.specs.Bytes.{bytes_of};
 ghost use Rattle.json_rows.specs.PlainText.{IsPlainUnit};
 
-use record_views::PackedBytes;
+use object_codec::PackedBytes;
 use std::alloc::AllocError;
 
 // Whether each unit stands in JSON as the byte that it is.

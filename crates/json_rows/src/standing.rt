@@ -4,7 +4,7 @@ ghost use Rattle.json_rows.specs.Standing.{AreColumnsOf, AreLinesIn, IsStandingI
 
 use crate::form::{LineForm, line_form};
 use column_rows::{ColumnRows, PackedItems};
-use record_views::Column;
+use object_codec::Column;
 use schema_model::{Field, Shape};
 use std::alloc::{AllocError, Global};
 

@@ -27,7 +27,7 @@ removed_past large slots o past = λ i. record { room = length slots; large = la
 
 -- ---- how many slots have a key
 
-count_cons : (slot : Slot) (slots : List Slot) → count_by has_key (slot ∷ slots) ≡ one_if (has_key slot) + count_by has_key slots
+pub count_cons : (slot : Slot) (slots : List Slot) → count_by has_key (slot ∷ slots) ≡ one_if (has_key slot) + count_by has_key slots
 count_cons slot slots = sum_by-cons (λ s. one_if (has_key s)) slot slots
 
 count_set : (slots : List Slot) (o : ℕ) (slot : Slot) → o < length slots → count_by has_key (slice_set slots o slot) + one_if (is_some (read_at key_in slots o)) ≡ count_by has_key slots + one_if (has_key slot)
@@ -53,22 +53,14 @@ greater_power fresh before power (inr power') = elim (cases_lt fresh before) [
   | inr above ↦ (power.0, omega (arith, power.1, above))
 ]
 
-some_buckets : (buckets : ℕ) → IsPowerOfTwo buckets → 0 < buckets
+pub some_buckets : (buckets : ℕ) → IsPowerOfTwo buckets → 0 < buckets
 some_buckets buckets power = omega (arith, power.1, pow_pos power.0)
 
 -- ---- the invariant
 
-pub kept_nothing : (slots : List Slot) (chains : Chained) → slots ≡ [] → chains ≡ record { slots = 0; chains = [] } → AreKept slots chains 0 0
-kept_nothing slots chains none unlinked =
-    subst (λ ss. AreKept ss chains 0 0) (sym none) (subst (λ cs. AreKept [] cs 0 0) (sym unlinked) record {
-      few = omega arith;
-      room = omega arith;
-      buckets_are = refl;
-      powered = inl refl;
-      bucketed = λ some. some;
-      hashed = λ o. refl;
-      count = refl;
-    })
+pub some_hash : (key : Option (List Value)) → is_some (key_hash key) ≡ is_some key
+some_hash None = refl
+some_hash (Some key) = refl
 
 module _ (slots : List Slot) (chains : Chained) (buckets keyed : ℕ) (kept : AreKept slots chains buckets keyed) where
   -- more chain places and buckets
@@ -98,10 +90,6 @@ module _ (slots : List Slot) (chains : Chained) (buckets keyed : ℕ) (kept : Ar
             kept.count
             ∙ omega (arith, sum_by-append (λ s. one_if (has_key s)) slots (replicate widens.count Free), count_free widens.count, ap (count_by has_key) widens.padded);
       }
-
-  some_hash : (key : Option (List Value)) → is_some (key_hash key) ≡ is_some key
-  some_hash None = refl
-  some_hash (Some key) = refl
 
   pub linked_is : (o : ℕ) → is_some (hash_of chains o) ≡ is_some (read_at key_in slots o)
   linked_is o = ap is_some (kept.hashed o) ∙ some_hash (read_at key_in slots o)

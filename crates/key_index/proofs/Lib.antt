@@ -3,6 +3,7 @@ pub mod Following
 pub mod Forms
 pub mod Keeping
 pub mod KeptKeys
+pub mod Linking
 pub mod Lists
 pub mod SimpleKeys
 pub mod SlotKeys

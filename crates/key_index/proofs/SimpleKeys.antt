@@ -6,8 +6,8 @@ use Rattle.row_model.specs.declared.row.Value.{Value}
 use Rattle.row_model.specs.Key.{key_of, unless_null, value_along, with_first}
 use Rattle.row_model.specs.Table.{Table, IsLive}
 use Rattle.object_codec.specs.Part.{SpellsValue}
-use Rattle.record_views.specs.declared.column.Column.{Column}
-use Rattle.record_views.specs.Columns.{part_of}
+use Rattle.object_codec.specs.declared.column.Column.{Column}
+use Rattle.object_codec.specs.Columns.{part_of}
 use Rattle.column_rows.proofs.FieldValues.{column_value}
 use Rattle.key_index.specs.SimpleKey.{IsKeyColumn, key_of_value}
 

@@ -5,7 +5,7 @@ use Rattle.schema_model.specs.declared.model.path.Path.{Path}
 use Rattle.row_model.specs.declared.row.Value.{Value}
 use Rattle.row_model.specs.Key.{unless_null}
 use Rattle.row_model.specs.Table.{Table}
-use Rattle.record_views.specs.declared.column.Column.{Column}
+use Rattle.object_codec.specs.declared.column.Column.{Column}
 use Rattle.column_rows.specs.Columns.{IsColumnOf}
 
 -- The only path of a key is one field of the records of the type, and the column is that of this field.

@@ -5,6 +5,7 @@ ghost use Rattle.row_model.specs.Table.{IsClosed};
 ghost use Rattle.key_index.specs.Indexed.{AreKeysOf, AreUnder, CountsKeys, CountsLive, Follows, IsIndexBy};
 
 use crate::key_rows::KeyRows;
+use crate::key_slots::KeySlots;
 use crate::reserved::Reserved;
 use crate::simple_key::{key_column, read_slot};
 use column_rows::ColumnRows;
@@ -61,15 +62,16 @@ impl KeyIndex {
         ensures counted { OnOk result (CountsLive (R.table rows.now) type_index steps.old steps.new) }
     {
         let bound = rows.bound(type_index);
-        let mut kept = KeyRows::new(alloc);
-        kept.reserve(bound)?;
+        let mut slots = KeySlots::new(alloc);
+        slots.make_room(bound)?;
         let column = key_column(rows, &paths, type_index);
         for ordinal in 0..bound {
             if rows.is_live(type_index, ordinal) {
                 let slot = read_slot(alloc, rows, &column, &paths, type_index, ordinal, steps)?;
-                kept.add(ordinal, slot)?;
+                slots.put(alloc, ordinal, slot)?;
             }
         }
+        let kept = KeyRows::of_slots(alloc, slots)?;
         Ok(KeyIndex {
             alloc,
             type_index,

@@ -1,5 +1,5 @@
 //! Rows found by their keys, along the chains of the keys' hashes.
-ghost use Rattle.std.specs.Prelude.{◌≡◌, ◌≤◌, ◌<◌, ◌+◌, ◌^◌, ◌↔◌, ℕ, Some, None, Contains, IfOk, IsSome, IsTrue, is_some, length, nat_eq, if◌then◌else◌};
+ghost use Rattle.std.specs.Prelude.{◌≡◌, ◌≤◌, ◌<◌, ◌+◌, ◌^◌, ◌↔◌, ℕ, Some, None, Contains, count_by, IfOk, IsSome, IsTrue, is_some, length, nat_eq, if◌then◌else◌};
 ghost use Rattle.std.specs.Int.{IsPowerOfTwo};
 ghost use Rattle.linked_slots.specs.Chained.{IsBuckets, hash_of};
 ghost use Rattle.row_hash.specs.Hash.{values_hash as hash_of_values};
@@ -51,6 +51,41 @@ pub(crate) fn link(chains: &mut Chains, keyed: &mut u64, ordinal: u32, slot: &Sl
 {
     if let Some(key) = slot.key() {
         chains.link(ordinal, values_hash(key));
+        *keyed += 1;
+    }
+}
+
+/// Links the ordinals of all slots in empty chains, each by the key of its slot, if that has one: how many have one. It takes no memory.
+pub(crate) fn link_all(chains: &mut Chains, slots: &KeySlots) -> u64
+    requires few { length (slots_in slots.now) < 2 ^ 32 }
+    requires reserved { length (slots_in slots.now) ≤ chains.old.slots }
+    requires buckets { 0 < length chains.old.chains }
+    requires empty { (ordinal : ℕ) → hash_of chains.old ordinal ≡ None }
+    ensures hashed { AreHashed (slots_in slots.now) chains.new }
+    ensures slots { chains.new.slots ≡ chains.old.slots }
+    ensures buckets { length chains.new.chains ≡ length chains.old.chains }
+    ensures count { result ≡ count_by has_key (slots_in slots.now) }
+{
+    let mut keyed = 0;
+    for ordinal in 0..slots.len() as u32 {
+        link_hash(chains, &mut keyed, ordinal, slots.hash_at(ordinal));
+    }
+    keyed
+}
+
+// Links an ordinal by the hash of its key, if it has one, and counts one key more then. It takes no memory.
+fn link_hash(chains: &mut Chains, keyed: &mut u64, ordinal: u32, hash: Option<u32>)
+    requires reserved { ordinal < chains.old.slots }
+    requires buckets { 0 < length chains.old.chains }
+    requires free { hash_of chains.old ordinal ≡ None }
+    requires few { keyed.old < 2 ^ 32 }
+    ensures hashes { (other : ℕ) → hash_of chains.new other ≡ (if nat_eq other ordinal then hash else hash_of chains.old other) }
+    ensures slots { chains.new.slots ≡ chains.old.slots }
+    ensures buckets { length chains.new.chains ≡ length chains.old.chains }
+    ensures keyed { keyed.new ≡ keyed.old + one_if (is_some hash) }
+{
+    if let Some(hash) = hash {
+        chains.link(ordinal, hash);
         *keyed += 1;
     }
 }

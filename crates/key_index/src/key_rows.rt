@@ -4,7 +4,7 @@ ghost use Rattle.std.specs.FinMap.{empty, remove};
 ghost use Rattle.key_index.specs.Indexed.{AreUnder, CountsKeys};
 ghost use Rattle.key_index.specs.Slots.{AreOnce, AreSorted, fits, placed, row_key};
 
-use crate::key_chains::{buckets_for, found, link, unlink};
+use crate::key_chains::{buckets_for, found, link, link_all, unlink};
 use crate::key_slots::KeySlots;
 use crate::slot::Slot;
 use hol_varint::Ordinals;
@@ -51,17 +51,26 @@ impl Model for KeyRows {
 }
 
 impl KeyRows {
-    /// No rows, and no room. It takes no memory.
-    pub(crate) fn new(alloc: Global) -> KeyRows
-        ensures { result.keys ≡ empty }
+    ghost use Rattle.std.specs.Prelude.{◌^◌, length};
+    ghost use Rattle.key_index.specs.Slots.{keys_of, slots_in};
+
+    /// The rows that stand in slots. Their keys are linked once all are there, one behind another, so that the waits for memory overlap.
+    pub(crate) fn of_slots(alloc: Global, slots: KeySlots) -> Result<KeyRows, AllocError>
+        requires few { length (slots_in slots) < 2 ^ 32 }
+        ensures { IfOk result (λ rows. rows.keys ≡ keys_of (slots_in slots)) }
     {
-        KeyRows {
+        let room = slots.len() as u32;
+        let buckets = buckets_for(room, 0);
+        let mut chains = Chains::new(alloc);
+        chains.reserve(room, buckets)?;
+        let keyed = link_all(&mut chains, &slots);
+        Ok(KeyRows {
             alloc,
-            slots: KeySlots::new(alloc),
-            chains: Chains::new(alloc),
-            buckets: 0,
-            keyed: 0,
-        }
+            slots,
+            chains,
+            buckets,
+            keyed,
+        })
     }
 
     /// Makes room for so many ordinals. The rows stay as they are, also where memory is refused.
@@ -84,22 +93,7 @@ impl KeyRows {
         ensures room { self.new.room ≡ self.old.room }
         ensures fits { OnOk result (IsTrue (if small then true else self.new.large)) }
     {
-        if small {
-            Ok(())
-        } else {
-            self.slots.enlarge(self.alloc)
-        }
-    }
-
-    /// Writes the slot of an ordinal, and links it by its key, once there is room for a key of its kind.
-    pub(crate) fn add(&mut self, ordinal: u32, slot: Slot) -> Result<(), AllocError>
-        requires { ordinal < self.old.room }
-        ensures keys { OnOk result (self.new.keys ≡ placed self.old.keys ordinal (row_key slot)) }
-        ensures room { self.new.room ≡ self.old.room }
-    {
-        self.fit(slot.is_small())?;
-        self.place(ordinal, slot);
-        Ok(())
+        self.slots.fit(self.alloc, small)
     }
 
     /// Writes the slot of an ordinal, and links it by its key. It takes no memory.

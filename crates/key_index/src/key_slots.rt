@@ -1,10 +1,10 @@
 //! What stands under each ordinal, in slots that are no larger than the keys ask for.
 ghost use Rattle.std.specs.Prelude.{◌≡◌, ◌↔◌, ◌≤◌, IfOk, IsTrue, OnOk, Some, length, map, slice_get};
 ghost use Rattle.std.specs.Option.{option_copied};
-ghost use Rattle.key_index.specs.Slots.{Widens, key_in, read_at, slot_of};
+ghost use Rattle.key_index.specs.Slots.{Widens, key_hash, key_in, read_at, slot_of};
 
 use crate::slot::{Slot, SmallSlot};
-use row_hash::same_values;
+use row_hash::{same_values, values_hash};
 use row_model::Value;
 use std::alloc::{AllocError, Global};
 
@@ -18,8 +18,8 @@ pub(crate) enum KeySlots {
 }
 
 impl KeySlots {
-    ghost use Rattle.std.specs.Prelude.{◌≡◌, ◌↔◌, ◌<◌, ◌≤◌, [], IsTrue, OnOk, Some, length, slice_set};
-    ghost use Rattle.key_index.specs.Slots.{Widens, fits, is_large, key_in, read_at, slots_in};
+    ghost use Rattle.std.specs.Prelude.{◌≡◌, ◌↔◌, ◌<◌, ◌≤◌, [], IsTrue, OnOk, Some, if◌then◌else◌, length, slice_set, true};
+    ghost use Rattle.key_index.specs.Slots.{Widens, fits, is_large, key_hash, key_in, read_at, slots_in};
 
     /// No slots. It takes no memory.
     pub(crate) fn new(alloc: Global) -> KeySlots
@@ -61,6 +61,24 @@ impl KeySlots {
         Ok(())
     }
 
+    /// Makes the slots such as take any key, unless the keys that come are small. What stands in them stays, also where memory is refused.
+    pub(crate) fn fit(&mut self, alloc: Global, small: bool) -> Result<(), AllocError>
+        ensures slots { slots_in self.new ≡ slots_in self.old }
+        ensures fits { OnOk result (IsTrue (if small then true else is_large self.new)) }
+    {
+        if small { Ok(()) } else { self.enlarge(alloc) }
+    }
+
+    /// Writes one slot, once there is room for a key of its kind.
+    pub(crate) fn put(&mut self, alloc: Global, ordinal: u32, slot: Slot) -> Result<(), AllocError>
+        requires { ordinal < length (slots_in self.old) }
+        ensures { OnOk result (slots_in self.new ≡ slice_set (slots_in self.old) ordinal slot) }
+    {
+        self.fit(alloc, slot.is_small())?;
+        self.set(ordinal, slot);
+        Ok(())
+    }
+
     /// Writes one slot. It takes no memory.
     pub(crate) fn set(&mut self, ordinal: u32, slot: Slot)
         requires inside { ordinal < length (slots_in self.old) }
@@ -75,6 +93,17 @@ impl KeySlots {
                 }
             }
             KeySlots::Large(slots) => slots[ordinal as usize] = slot,
+        }
+    }
+
+    /// The hash of the key of the row under an ordinal, if there is a row that has one.
+    #[inline(always)]
+    pub(crate) fn hash_at(&self, ordinal: u32) -> Option<u32>
+        ensures { result ≡ key_hash (read_at key_in (slots_in self.now) ordinal) }
+    {
+        match self {
+            KeySlots::Small(slots) => small_hash(slots, ordinal),
+            KeySlots::Large(slots) => large_hash(slots, ordinal),
         }
     }
 
@@ -161,5 +190,26 @@ fn is_large_key(slots: &[Slot], ordinal: u32, key: &[Value]) -> bool
     match key_at(slots, ordinal) {
         Some(other) => same_values(other, key),
         None => false,
+    }
+}
+
+// The hash of the key that stands in a small slot, if one does.
+#[inline(always)]
+fn small_hash(slots: &[SmallSlot], ordinal: u32) -> Option<u32>
+    ensures { result ≡ key_hash (read_at key_in (map slot_of slots.now) ordinal) }
+{
+    match small_at(slots, ordinal) {
+        Some(slot) => slot.large().hash(),
+        None => None,
+    }
+}
+
+// The hash of the key that stands in a slot, if one does.
+fn large_hash(slots: &[Slot], ordinal: u32) -> Option<u32>
+    ensures { result ≡ key_hash (read_at key_in slots.now ordinal) }
+{
+    match key_at(slots, ordinal) {
+        Some(key) => Some(values_hash(key)),
+        None => None,
     }
 }

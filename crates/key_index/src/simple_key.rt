@@ -1,6 +1,6 @@
 //! Keys that are one field of the records of a type, read where these stand packed.
 ghost use Rattle.std.specs.Prelude.{◌≡◌, ◌+◌, ◌<◌, IfOk, IfSome, Some, length};
-ghost use Rattle.record_views.specs.Columns.{Shows};
+ghost use Rattle.object_codec.specs.Columns.{Shows};
 ghost use Rattle.row_model.specs.declared.row.Value.{Value as StoredValue};
 ghost use Rattle.row_model.specs.Key.{key_of};
 ghost use Rattle.row_model.specs.Table.{IsClosed, IsLive};
@@ -11,7 +11,7 @@ use crate::read::read_key;
 use crate::slot::Slot;
 use column_rows::ColumnRows;
 use hol_io::Steps;
-use record_views::{Column, ValueRef};
+use object_codec::{Column, ValueRef};
 use row_model::{Rows, Value};
 use schema_model::Paths;
 use std::alloc::{AllocError, Global};

@@ -1,4 +1,5 @@
 //! What stands under an ordinal.
+use row_hash::values_hash;
 use row_model::{Value, Values};
 use std::slice;
 
@@ -19,7 +20,7 @@ impl Slot {
     ghost use Rattle.std.specs.Prelude.{◌≡◌, IfSome, Some, is_some, length};
     ghost use Rattle.std.specs.Option.{option_copied};
     ghost use Rattle.key_index.specs.SimpleKey.{key_of_value};
-    ghost use Rattle.key_index.specs.Slots.{is_small, key_in, row_key, slot_of};
+    ghost use Rattle.key_index.specs.Slots.{is_small, key_hash, key_in, row_key, slot_of};
 
     /// The slot of a row with its key, if it has one.
     pub(crate) fn of_row(key: Option<Values>) -> Slot
@@ -63,6 +64,17 @@ impl Slot {
             Slot::Free | Slot::Keyless => None,
             Slot::One(value) => Some(slice::from_ref(value)),
             Slot::More(values) => Some(values.as_slice()),
+        }
+    }
+
+    /// The hash of the key of the row, if there is a row that has one.
+    #[inline(always)]
+    pub(crate) fn hash(&self) -> Option<u32>
+        ensures { result ≡ key_hash (key_in self.now) }
+    {
+        match self.key() {
+            Some(key) => Some(values_hash(key)),
+            None => None,
         }
     }
 

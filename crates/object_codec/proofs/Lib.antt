@@ -10,3 +10,12 @@ pub mod ValueElements
 pub mod Values
 pub mod SameParts
 pub mod OnePacking
+pub mod BytesInWords
+pub mod Faults
+pub mod PlainTexts
+pub mod Shown
+pub mod Soundness
+pub mod Starts
+pub mod Texts
+pub mod UnitReaches
+pub mod PartValues

@@ -172,7 +172,7 @@ value_taken kind width before area value is wide fits held small are below =
     }
 
 -- the value is the one that is found
-found_taken : (kind : FieldKind) (width element : ℕ) (before area : List ℕ) (found : Option Value) (value : Value) → found ≡ Some value → element ≡ element_for kind width (length area) value
+pub found_taken : (kind : FieldKind) (width element : ℕ) (before area : List ℕ) (found : Option Value) (value : Value) → found ≡ Some value → element ≡ element_for kind width (length area) value
     → area ≡ before ++ value_bytes value → IsKindWidth kind width → IfSome found (FitsKind kind) → IfSome found (HoldsValue width) → IfSome (stored_number value) (λ n. n ≤ greatest_number value)
     → ((units : List ℕ) → value ≡ Value.Text units → AreUnits units) → (HasBytes kind → length before + length (values_bytes (option_to_list found)) < 2 ^ (width - 1))
     → IsTaken kind width element before area found

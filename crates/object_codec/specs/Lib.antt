@@ -5,3 +5,8 @@ pub mod Packing
 pub mod Part
 pub mod Stored
 pub mod Widths
+pub mod Bytes
+pub mod Columns
+pub mod Parts
+pub mod Sound
+pub mod Texts

@@ -1,5 +1,5 @@
 -- OBJECT rows of a blob: which value the bits and bytes of one field give at a place, and when they give none.
-use Rattle.std.specs.Prelude.{◌≡◌, ℕ, ◌-◌, ◌%◌, ◌^◌, ◌<◌, ◌≤◌, List, take, drop, length, if◌then◌else◌, Option, None, Some, Result, Ok, Err}
+use Rattle.std.specs.Prelude.{◌≡◌, ℕ, ◌-◌, ◌%◌, ◌^◌, ◌<◌, ◌≤◌, List, take, drop, length, if◌then◌else◌, Result, Ok, Err}
 use Rattle.hol_varint.specs.Zigzag.{unzigzag}
 use Rattle.hol_varint.specs.TextUnits.{AreUnitsIn, IsBadText}
 use Rattle.schema_model.specs.declared.schema.FieldKind.{FieldKind}
@@ -121,10 +121,3 @@ abbrev pub TellsValue : FieldKind → FieldPart → Result Value PlaceFault → 
 TellsValue kind part (Ok value) = SpellsValue kind part value
 TellsValue kind part (Err (PlaceFault.Bad reason)) = FailsValue kind part reason
 TellsValue kind part (Err PlaceFault.Memory) = Unit {0}
-
--- What each answer of the reader of a STRING's or BYTES' bytes tells: none for a null.
-abbrev pub TellsSpan : FieldPart → Result (Option (List ℕ)) PlaceFault → Type 0
-TellsSpan part (Ok None) = IsSpan part × HasNullBit part
-TellsSpan part (Ok (Some bytes)) = IsSpan part × (HasNullBit part → ⊥) × (bytes ≡ span_of part)
-TellsSpan part (Err (PlaceFault.Bad reason)) = (reason ≡ Reason.BadPointers) × (IsSpan part → ⊥)
-TellsSpan part (Err PlaceFault.Memory) = Unit {0}

@@ -7,8 +7,7 @@ ghost use Rattle.schema_model.specs.declared.reason.Reason.{Reason};
 ghost use Rattle.row_model.specs.declared.packed.PlaceFault.TheVariants.{Bad};
 ghost use Rattle.object_codec.specs.ObjectPlace.{IsObject, HoldsPlace, SpellsObjectRow, FailsObjectRow, IsFreePlace, TellsObject, TellsObjectRow};
 
-use crate::cell::Cell;
-use crate::value::value;
+use crate::value::{Cell, value};
 use bit_array::total_width;
 use row_model::{Parts, PlaceFault, Row, Values, Widths};
 use schema_model::{Field, Schema};

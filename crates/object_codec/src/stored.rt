@@ -1,10 +1,12 @@
 //! The values of a record as they are written.
-ghost use Rattle.std.specs.Prelude.{◌≡◌, ◌≤◌, ◌-◌, ◌^◌, length, min, IfSome};
+ghost use Rattle.std.specs.Prelude.{◌≡◌, ◌↔◌, ◌≤◌, ◌-◌, ◌^◌, length, min, IfSome, IsTrue};
 ghost use Rattle.row_model.specs.declared.row.Value.{Value as StoredValue};
+ghost use Rattle.object_codec.specs.Packing.{HasBytes};
 ghost use Rattle.object_codec.specs.Stored.{values_of_row, stored_number as number_of_stored, greatest_number, value_bytes as bytes_of_value};
 
 use hol_varint::{units_len, zigzag32, zigzag64};
 use row_model::{Row, Value};
+use schema_model::FieldKind;
 
 /// The values of a record, none of a row of another kind.
 pub fn values_of(row: &Row) -> &[Value]
@@ -50,6 +52,14 @@ fn long_number(number: i64) -> Option<u64>
         return None;
     }
     Some(zigzag64(number))
+}
+
+/// Whether the values of a field of this kind have variable bytes.
+#[inline(always)]
+pub fn has_bytes(kind: &FieldKind) -> bool
+    ensures { IsTrue result ↔ HasBytes kind.now }
+{
+    matches!(kind, FieldKind::Text | FieldKind::Bytes)
 }
 
 /// How many variable bytes a value has, up to the greatest number.

@@ -165,6 +165,11 @@ pub found_none : (seen rows : List (Option Row)) (row : Row) (found : Option ℕ
 found_none seen rows row None same finds e q here = finds q (ap (λ rs. row_under rs q) same ∙ here)
 found_none seen rows row (Some o) same finds e q here = absurd cc
 
+-- what holds a row is taken
+pub taken_by : (previous current : RowMap) (row : Row) (o : ℕ) → Holds previous current row o → IsTaken previous current o
+taken_by previous current row o (inl before) = inl (is_some_row (get previous o) row before)
+taken_by previous current row o (inr now) = inr (is_some_row (get current o) row now)
+
 -- want of memory leaves both states
 pub refused : (old : States) (row : Row) (new : States) (result : Result ℕ PutRowFault) → IsErrAnd result (λ fault. fault ≡ Memory) → new ≡ old → TellsPut old row new result
 refused old row new (Ok o) failed same = absurd failed
@@ -193,6 +198,9 @@ module _ (rows : List (Option Row)) (chains : Chained) (previous current : List 
 
   pub seen_holds : (row : Row) (o : ℕ) → row_under rows o ≡ Some row → Holds states.previous states.current row o
   seen_holds row o is = subst (λ (s : States). Holds s.previous s.current row o) seen (holds rows chains previous current filled kept row o is)
+
+  pub seen_held : (row : Row) (o : ℕ) → Holds states.previous states.current row o → row_under rows o ≡ Some row
+  seen_held row o here = held rows previous current row o (subst (λ (s : States). Holds s.previous s.current row o) (sym seen) here)
 
   pub seen_past_previous : (bound : ℕ) → bound ≡ bound_of previous → IsPast states.previous bound
   seen_past_previous bound is =

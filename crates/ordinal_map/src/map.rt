@@ -4,12 +4,13 @@ ghost use Rattle.std.specs.FinMap.{get, empty, remove};
 ghost use Rattle.hol_varint.specs.Yields.{Yields};
 ghost use Rattle.row_hash.specs.Hash.{row_hash as hash_of_row};
 ghost use Rattle.ordinal_map.specs.Assign.{Agree, Holds, IsFreePut, IsPast, IsPut, IsTaken, TellsPut};
+ghost use Rattle.row_model.specs.declared.row.Row.{Row as StoredRow};
 ghost use Rattle.ordinal_map.specs.Restored.{IsFreeRestore, IsUnknown, TellsRestore};
 
 use crate::changes::{free_beside, free_row, place_row};
 use crate::fault::{PutRowFault, RestoreRowFault};
 use crate::kept_rows::row_at;
-use crate::row_chains::find;
+use crate::row_chains::{find, is_row_at};
 use hol_varint::Duplicate;
 use linked_slots::Chains;
 use ordinal_set::OrdinalSet;
@@ -143,26 +144,33 @@ impl OrdinalMap {
         ensures too_many { Yields IsFreePut result (Err PutRowFault.TooMany) (IsPut self.old.previous self.old.current row (2 ^ 22)) }
         ensures agree { Agree self.new.previous self.new.current }
     {
+        let expected = self.expected;
+        if is_row_at(self.rows.as_slice(), expected, &row) {
+            return self.enter(expected);
+        }
         let hash = row_hash(&row);
         self.put_hashed(hash, row)
     }
 
-    // The same of a row whose hash is known, by what each answer tells; the states agree before it.
+    // Puts the row that one of the two states has under an ordinal into the current one; the states agree before it.
+    fn enter(&mut self, ordinal: u32) -> Result<u32, PutRowFault>
+        requires { IsTaken self.old.previous self.old.current ordinal }
+        ensures tells { (row : StoredRow) → Holds self.old.previous self.old.current row ordinal → TellsPut self.old row self.new result }
+        ensures agree { Agree self.old.previous self.old.current }
+    {
+        self.current.insert(ordinal)?;
+        self.expected = ordinal + 1;
+        Ok(ordinal)
+    }
+
+    // Puts a row whose hash is known, wherever it stands, by what each answer tells; the states agree before it.
     fn put_hashed(&mut self, hash: u32, row: Row) -> Result<u32, PutRowFault>
         requires { hash ≡ hash_of_row row }
         ensures tells { TellsPut self.old row self.new result }
         ensures agree { Agree self.old.previous self.old.current }
     {
-        if let Some(ordinal) = find(
-            self.rows.as_slice(),
-            &self.chains,
-            self.expected,
-            hash,
-            &row,
-        ) {
-            self.current.insert(ordinal)?;
-            self.expected = ordinal + 1;
-            return Ok(ordinal);
+        if let Some(ordinal) = find(self.rows.as_slice(), &self.chains, hash, &row) {
+            return self.enter(ordinal);
         }
         let ordinal = self.previous.least_free_from(&self.current, self.filled);
         if ordinal >= MAX_ORDINALS {
@@ -207,13 +215,7 @@ impl OrdinalMap {
         ensures tells { TellsRestore self.old ordinal row self.new result }
         ensures agree { Agree self.new.previous self.new.current }
     {
-        if let Some(other) = find(
-            self.rows.as_slice(),
-            &self.chains,
-            self.expected,
-            hash,
-            &row,
-        ) {
+        if let Some(other) = find(self.rows.as_slice(), &self.chains, hash, &row) {
             return Err(RestoreRowFault::Equal(other));
         }
         place_row(

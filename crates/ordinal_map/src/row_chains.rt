@@ -10,26 +10,8 @@ use row_hash::same_row;
 use row_model::Row;
 use std::alloc::AllocError;
 
-/// The ordinal under which a row with this hash stands, if it does. It is looked for under one ordinal first, and then in its chain.
-pub(crate) fn find(
-    rows: &[Option<Row>],
-    chains: &Chains,
-    expected: u32,
-    hash: u32,
-    row: &Row,
-) -> Option<u32>
-    requires linked { AreHashed rows.now chains.now }
-    requires hashed { hash ≡ hash_of_row row.now }
-    ensures { Finds rows.now row.now result }
-{
-    if is_row_at(rows, expected, row) {
-        return Some(expected);
-    }
-    find_in_chain(rows, chains, hash, row)
-}
-
-// The same along the chain alone.
-fn find_in_chain(rows: &[Option<Row>], chains: &Chains, hash: u32, row: &Row) -> Option<u32>
+/// The ordinal under which a row with this hash stands, if it does: it is looked for along its chain.
+pub(crate) fn find(rows: &[Option<Row>], chains: &Chains, hash: u32, row: &Row) -> Option<u32>
     requires linked { AreHashed rows.now chains.now }
     requires hashed { hash ≡ hash_of_row row.now }
     ensures { Finds rows.now row.now result }
@@ -53,8 +35,8 @@ fn stands_at(rows: &[Option<Row>], chains: &Chains, ordinal: u32, hash: u32, row
     chains.hash(ordinal) == Some(hash) && is_row_at(rows, ordinal, row)
 }
 
-// Whether the row under an ordinal is this one.
-fn is_row_at(rows: &[Option<Row>], ordinal: u32, row: &Row) -> bool
+/// Whether the row under an ordinal is this one.
+pub(crate) fn is_row_at(rows: &[Option<Row>], ordinal: u32, row: &Row) -> bool
     ensures { IsTrue result ↔ (row_under rows.now ordinal ≡ Some row.now) }
 {
     match row_at(rows, ordinal) {

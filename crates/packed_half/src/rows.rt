@@ -7,7 +7,7 @@ ghost use Rattle.packed_half.specs.Half.{behind_items, section_in};
 ghost use Rattle.packed_half.specs.LaidOut.{HasRowUnder, IsLaidOut};
 
 use crate::HalfShape;
-use row_model::{Parts, PlaceFault, Row};
+use row_model::{PlaceFault, Row};
 use schema_model::{Schema, Shape};
 use std::alloc::{AllocError, Global};
 
@@ -72,31 +72,5 @@ impl<'a> HalfRows<'a> {
             Shape::List(_) => list_codec::read(alloc, schema, widths, total, &parts, place),
             _ => bucket_codec::read(alloc, schema, widths, total, &parts, place),
         }
-    }
-}
-
-impl Parts for HalfRows<'_> {
-    ghost use Rattle.packed_half.specs.Half.{section_in};
-
-    ghost first_words = { λ view. (section_in view.shape.now view.half.now view.words.now).first };
-
-    ghost second_words = { λ view. (section_in view.shape.now view.half.now view.words.now).second };
-
-    ghost area_bytes = { λ view. (section_in view.shape.now view.half.now view.words.now).areas };
-
-    fn first(&self) -> &[u64] {
-        self.cut().first
-    }
-
-    fn second(&self) -> &[u64] {
-        self.cut().second
-    }
-
-    fn area(&self, field: u32) -> u64 {
-        self.cut().area(field)
-    }
-
-    fn byte(&self, field: u32, at: u64) -> u8 {
-        self.cut().byte(field, at)
     }
 }

@@ -22,6 +22,7 @@ use std::alloc::Global;
 ///
 /// A stop may come behind some of the blobs, which stay applied; the history leads to where the consumer stands in each case. The store stays as it is. `Store`
 /// comes only where the store's count of faults rose.
+#[inline(never)]
 pub fn goto<S: BlobStore>(
     alloc: Global,
     store: &mut S,

@@ -1,10 +1,11 @@
 //! The order `cycle`, and the cycles of the script of `make`.
-ghost use Rattle.std.specs.Prelude.{◌≡◌, ◌≤◌, ◌<◌, ◌↔◌, All, IfOk, IfSome, IsTrue, OnErr, OnOk, Some, None, true, length};
+ghost use Rattle.std.specs.Prelude.{◌≡◌, ◌≤◌, ◌<◌, ◌↔◌, All, IfOk, IfSome, IsTrue, OnErr, OnOk, Some, None, true, length, option_copied};
 ghost use Rattle.std.specs.Option.{option_map};
 ghost use Rattle.std.specs.Result.{IsErrOf};
 ghost use Rattle.hol_io.specs.Causes.{Rose};
 ghost use Rattle.film_script.specs.Films.{film_schemas};
 ghost use Rattle.row_packing.specs.Measured.{AreMeasured};
+ghost use Rattle.kept_sections.specs.Sections.{AreSectionsFor};
 ghost use Rattle.write_engine.specs.CycleLimit.{IsToPublish, TellsCycle, TellsTypes};
 ghost use Rattle.hol_orders.specs.Kind.{IsNextState};
 ghost use Rattle.hol_orders.specs.Parts.{asked_state};
@@ -27,6 +28,7 @@ use film_script::cycle_tag;
 use hol_answers::{Refusal, Reply};
 use hol_io::BlobStore;
 use hol_orders::{NextState, OrderStop};
+use kept_sections::PackedSections;
 use row_packing::Measured;
 use state_blobs::{Blobs, publish, write_blobs_by};
 use std::alloc::Global;
@@ -35,6 +37,7 @@ use write_engine::{Closed, Producer};
 /// Publishes the next state of the producer, where a type changes by its records or it is the first state. Its snapshot is put where the order does
 /// not say that it is not to be, and that of a first state in any case. A refusal leaves the store and the producer as they were. A stop leaves the
 /// producer as it was too, and the store with the first of the puts. `Store` comes only where the store's count of faults rose.
+#[inline(never)]
 pub fn cycle<S: BlobStore>(
     alloc: Global,
     store: &mut S,
@@ -174,7 +177,16 @@ fn run_cycle<S: BlobStore>(
 {
     check_follow(alloc, store, producer.version(), version, tag)?;
     let closed = make_state(alloc, producer, records)?;
-    end_cycle(alloc, store, producer, &closed, version, tag, with_snapshot)
+    end_cycle(
+        alloc,
+        store,
+        producer,
+        &closed,
+        None,
+        version,
+        tag,
+        with_snapshot,
+    )
 }
 
 /// Refuses a state that may not follow the last one.
@@ -195,12 +207,14 @@ pub fn check_follow<S: BlobStore>(
     }
 }
 
-/// Publishes a closed cycle, if it is the first one or changes a type, and tells what it changes.
+/// Publishes a closed cycle, if it is the first one or changes a type, and tells what it changes. Where its rows are lent as they are packed for its snapshot, it is
+/// written of these.
 pub fn end_cycle<S: BlobStore>(
     alloc: Global,
     store: &mut S,
     producer: &mut Producer,
     closed: &Closed,
+    sections: Option<&PackedSections>,
     version: u64,
     tag: i64,
     with_snapshot: bool,
@@ -210,6 +224,7 @@ pub fn end_cycle<S: BlobStore>(
     requires in_model { All (λ t. t < length producer.old.schemas) closed.now.changed }
     requires over { TellsCycle producer.old.schemas producer.old.previous producer.old.current producer.old.version closed.now.changed producer.old.over }
     requires measured { IsToPublish producer.old.version closed.now.changed → AreMeasured producer.old.schemas producer.old.previous producer.old.current closed.now.measured }
+    requires sections { IfSome (option_copied sections) (AreSectionsFor producer.old.schemas producer.old.previous producer.old.current) }
     ensures ends { Ends (S.seen store.old).held (published_of producer.old) producer.old.current closed.now.changed version tag with_snapshot
         (S.seen store.new).held (published_of producer.new) result }
     ensures model { producer.new.schemas ≡ producer.old.schemas }
@@ -231,6 +246,7 @@ pub fn end_cycle<S: BlobStore>(
         store,
         producer,
         measured,
+        sections,
         version,
         tag,
         with_snapshot,
@@ -248,6 +264,7 @@ fn publish_state<S: BlobStore>(
     store: &mut S,
     producer: &mut Producer,
     measured: &[Measured],
+    sections: Option<&PackedSections>,
     version: u64,
     tag: i64,
     with_snapshot: bool,
@@ -255,6 +272,7 @@ fn publish_state<S: BlobStore>(
     requires is_closed { producer.old.closed ≡ true }
     requires over { TellsTypes producer.old.schemas producer.old.previous producer.old.current producer.old.over }
     requires measured { AreMeasured producer.old.schemas producer.old.previous producer.old.current measured.now }
+    requires sections { IfSome (option_copied sections) (AreSectionsFor producer.old.schemas producer.old.previous producer.old.current) }
     ensures ends { EndsPublished (S.seen store.old).held (published_of producer.old) producer.old.current version tag with_snapshot
         (S.seen store.new).held (published_of producer.new) result }
     ensures model { producer.new.schemas ≡ producer.old.schemas }
@@ -262,7 +280,15 @@ fn publish_state<S: BlobStore>(
     ensures rows { OnOk result (producer.new.previous ≡ producer.old.current) }
     ensures cause { HasEndCause (S.seen store.old).faults (S.seen store.new).faults result }
 {
-    let blobs = limited_blobs(alloc, producer, measured, version, tag, with_snapshot)?;
+    let blobs = limited_blobs(
+        alloc,
+        producer,
+        measured,
+        sections,
+        version,
+        tag,
+        with_snapshot,
+    )?;
     publish(alloc, store, version, &blobs)?;
     producer.advance(tag, version);
     Ok(())
@@ -273,6 +299,7 @@ fn limited_blobs(
     alloc: Global,
     producer: &Producer,
     measured: &[Measured],
+    sections: Option<&PackedSections>,
     version: u64,
     tag: i64,
     with_snapshot: bool,
@@ -280,10 +307,19 @@ fn limited_blobs(
     requires is_closed { producer.now.closed ≡ true }
     requires over { TellsTypes producer.now.schemas producer.now.previous producer.now.current producer.now.over }
     requires measured { AreMeasured producer.now.schemas producer.now.previous producer.now.current measured.now }
+    requires sections { IfSome (option_copied sections) (AreSectionsFor producer.now.schemas producer.now.previous producer.now.current) }
     ensures { TellsEnd (IsWithin (published_of producer.now) producer.now.current version tag with_snapshot) (IsTooLarge (published_of producer.now) producer.now.current version tag with_snapshot) IsMemory result }
 {
     if let Some(limit) = producer.over_limit() {
         return Err(CycleEnd::Refused(Refusal::TooLarge(limit)));
     }
-    Ok(write_blobs_by(alloc, producer, measured, version, tag, with_snapshot)?)
+    Ok(write_blobs_by(
+        alloc,
+        producer,
+        measured,
+        sections,
+        version,
+        tag,
+        with_snapshot,
+    )?)
 }

@@ -10,7 +10,7 @@ use blob_frame::BlobFault;
 use chain_check::Walk;
 use column_rows::{ColumnRows, PackedItems};
 use hol_io::{BlobName, BlobStore, Steps};
-use record_views::Column;
+use object_codec::Column;
 use row_model::{LentRow, Row, Rows};
 use schema_model::Model;
 use state_moves::{Now, has_same_rows_in, now_of};

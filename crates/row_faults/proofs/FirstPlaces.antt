@@ -15,7 +15,8 @@ use Rattle.type_rows.specs.declared.fault.RowFault.{RowFault}
 use Rattle.type_rows.specs.Layout.{places_of}
 use Rattle.row_faults.specs.LoadFault.{FailsLoad}
 use Rattle.row_faults.specs.Ordinals.{HasNoPlace, HoldsNowhere}
-use Rattle.row_faults.specs.Places.{Fails, FirstPlaceFails, SpellsSome}
+use Rattle.type_rows.specs.Fails.{Fails}
+use Rattle.row_faults.specs.Places.{FirstPlaceFails, SpellsSome}
 use Rattle.row_faults.specs.Sums.{IsOfRows}
 use Rattle.row_faults.proofs.OnceFirst.{some_once}
 use Rattle.row_faults.proofs.FoundRows.{rows_found}

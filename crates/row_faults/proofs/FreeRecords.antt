@@ -16,8 +16,8 @@ use Rattle.row_model.specs.Areas.{area_of}
 use Rattle.row_model.specs.Table.{RowMap}
 use Rattle.object_codec.specs.Packing.{HasBytes}
 use Rattle.object_codec.specs.ObjectPlace.{IsObject, part_at}
-use Rattle.record_views.specs.Sound.{SpellSome}
-use Rattle.record_views.proofs.Soundness.{sound_all}
+use Rattle.object_codec.specs.Sound.{SpellSome}
+use Rattle.object_codec.proofs.Soundness.{sound_all}
 use Rattle.type_rows.specs.declared.section.Section.{Section}
 use Rattle.type_rows.specs.Layout.{places_of}
 use Rattle.type_rows.specs.Loads.{SectionIs}

@@ -9,7 +9,8 @@ use Rattle.row_model.specs.declared.row.Row.{Row}
 use Rattle.type_rows.specs.declared.section.Section.{Section}
 use Rattle.type_rows.specs.Holds.{HoldsRow, HoldsRows}
 use Rattle.row_faults.specs.First.{FirstFails, NoneFails}
-use Rattle.row_faults.specs.Places.{Fails, FirstPlaceFails, SpellsSome}
+use Rattle.type_rows.specs.Fails.{Fails}
+use Rattle.row_faults.specs.Places.{FirstPlaceFails, SpellsSome}
 use Rattle.row_faults.specs.Widths.{FirstUnheld}
 use Rattle.row_faults.proofs.PlaceReasons.{reason_once, row_or_reason}
 

@@ -9,7 +9,7 @@ use Rattle.object_codec.proofs.Rows as records
 use Rattle.bucket_codec.proofs.PlaceRows as buckets
 use Rattle.type_rows.specs.declared.section.Section.{Section}
 use Rattle.type_rows.specs.Loads.{Spells}
-use Rattle.row_faults.specs.Places.{Fails}
+use Rattle.type_rows.specs.Fails.{Fails}
 
 list_reason_once : (widths : List ℕ) (total : ℕ) (first second : List ℕ) (place : ℕ) (a b : Reason) → FailsListRow widths total first second place a → FailsListRow widths total first second place b → a ≡ b
 list_reason_once widths total first second place Reason.BadPointers Reason.BadPointers f g = refl

@@ -10,7 +10,7 @@ use Rattle.schema_model.specs.Parts.{shape_fields}
 use Rattle.row_model.specs.declared.row.Row.{Row}
 use Rattle.row_model.specs.declared.row.Value.{Value}
 use Rattle.object_codec.specs.ObjectPlace.{FailsObject, HoldsPlace, IsObject, SpellsObject}
-use Rattle.record_views.specs.Sound.{IsFirstFault, SpellSome}
+use Rattle.object_codec.specs.Sound.{IsFirstFault, SpellSome}
 use Rattle.type_rows.specs.declared.section.Section.{Section}
 use Rattle.type_rows.specs.declared.fault.RowFault.{RowFault}
 use Rattle.type_rows.specs.Layout.{places_of}
@@ -18,7 +18,8 @@ use Rattle.type_rows.specs.WellFormed.{IsReadable}
 use Rattle.type_rows.proofs.Places.{holds_object}
 use Rattle.row_faults.specs.LoadFault.{FailsLoad}
 use Rattle.row_faults.specs.Ordinals.{HasNoPlace, HoldsNowhere}
-use Rattle.row_faults.specs.Places.{Fails, SpellsSome}
+use Rattle.type_rows.specs.Fails.{Fails}
+use Rattle.row_faults.specs.Places.{SpellsSome}
 use Rattle.row_faults.specs.Sums.{IsOfRows}
 use Rattle.row_faults.proofs.OnceFirst.{some_once}
 use Rattle.row_faults.proofs.FoundRows.{listed_below, read_there}

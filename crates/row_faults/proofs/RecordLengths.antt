@@ -12,8 +12,8 @@ use Rattle.object_codec.specs.Packing.{HasBytes}
 use Rattle.object_codec.specs.Part.{FailsValue, FieldPart, IsSpan, SpellsValue, end_of, span_of}
 use Rattle.object_codec.specs.ObjectPlace.{IsKindWidth}
 use Rattle.object_codec.proofs.Values.{spelled_or_failed}
-use Rattle.record_views.specs.declared.part.Part.{Part}
-use Rattle.record_views.specs.Parts.{GivesPart, GivesRun}
+use Rattle.object_codec.specs.declared.part.Part.{Part}
+use Rattle.object_codec.specs.Parts.{GivesPart, GivesRun}
 use Rattle.type_rows.specs.WordsHeld.{value_bytes}
 use Rattle.type_rows.specs.Holds.{FitsWidth}
 use Rattle.row_faults.specs.FieldEnds.{EndFits, run_bytes}

@@ -18,7 +18,8 @@ use Rattle.bucket_codec.specs.declared.bucket_rows.BucketRows.{BucketRows}
 use Rattle.type_rows.specs.declared.section.Section.{Section}
 use Rattle.type_rows.specs.Layout.{places_of}
 use Rattle.type_rows.specs.WellFormed.{IsReadable}
-use Rattle.row_faults.specs.Places.{Fails, SpellsSome}
+use Rattle.type_rows.specs.Fails.{Fails}
+use Rattle.row_faults.specs.Places.{SpellsSome}
 use Rattle.row_faults.specs.RunItems.{AreListsOf, IsOfSection, items_at}
 use Rattle.row_faults.proofs.SectionPlaces.{holds_buckets, holds_some_list}
 

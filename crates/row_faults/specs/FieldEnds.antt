@@ -6,7 +6,7 @@ use Rattle.schema_model.specs.declared.schema.FieldKind.{FieldKind}
 use Rattle.schema_model.specs.declared.schema.Shape.{Shape}
 use Rattle.row_model.specs.declared.row.Value.{Value}
 use Rattle.row_model.specs.Table.{RowMap}
-use Rattle.record_views.specs.declared.part.Part.{Part}
+use Rattle.object_codec.specs.declared.part.Part.{Part}
 use Rattle.type_rows.specs.declared.section.Section.{Section}
 use Rattle.type_rows.specs.WordsHeld.{field_bytes, value_bytes}
 use Rattle.type_rows.specs.Ends.{end_after}

@@ -3,18 +3,9 @@ use Rattle.std.specs.Prelude.{◌≡◌, ◌<◌, ℕ, List, Some, slice_get}
 use Rattle.schema_model.specs.declared.schema.Shape.{Shape}
 use Rattle.schema_model.specs.declared.reason.Reason.{Reason}
 use Rattle.row_model.specs.declared.row.Row.{Row}
-use Rattle.object_codec.specs.ObjectPlace.{FailsObjectRow}
-use Rattle.list_codec.specs.ListPlace.{FailsListRow}
-use Rattle.bucket_codec.specs.BucketPlace.{FailsBucketRow}
 use Rattle.type_rows.specs.declared.section.Section.{Section}
+use Rattle.type_rows.specs.Fails.{Fails}
 use Rattle.type_rows.specs.Loads.{Spells}
-
--- The place of a section spells no row, for this reason, by the codec of the kind.
-abbrev pub Fails : Shape → Section → ℕ → Reason → Type 0
-Fails (Shape.Object key fields) section = FailsObjectRow (Shape.Object key fields) section.widths section.first section.areas
-Fails (Shape.List element) section = FailsListRow section.widths section.total section.first section.second
-Fails (Shape.Set element) section = FailsBucketRow section.widths section.total section.first section.second
-Fails (Shape.Map key value) section = FailsBucketRow section.widths section.total section.first section.second
 
 -- The place of a section spells some row.
 abbrev pub SpellsSome : Shape → Section → ℕ → Type 0

@@ -5,7 +5,6 @@ ghost use Rattle.std.specs.List.Sorted.{IsStrictlyIncreasing};
 ghost use Rattle.schema_model.specs.Parts.{shape_fields};
 ghost use Rattle.row_model.specs.Table.{RowMap};
 ghost use Rattle.row_model.specs.declared.row.Value.{Value};
-ghost use Rattle.object_codec.specs.Packing.{HasBytes};
 ghost use Rattle.object_codec.specs.Part.{SpellsValue};
 ghost use Rattle.object_codec.specs.ObjectPlace.{HoldsPlace, IsKindWidth, IsObject, SpellsObject, part_at};
 ghost use Rattle.type_rows.specs.Ends.{end_after};
@@ -23,7 +22,7 @@ ghost use Rattle.row_faults.specs.Sums.{AreLaid, IsLaidOut, IsOfRows};
 use crate::Sums;
 use bit_array::total_width;
 use hol_varint::Octets;
-use record_views::{Part, first_fault, is_free, read_part};
+use object_codec::{Part, first_fault, has_bytes, is_free, read_part};
 use row_model::{Words, area_size};
 use schema_model::{Field, FieldKind, Reason, Shape};
 use std::alloc::{AllocError, Global};
@@ -51,17 +50,6 @@ fn test_records(
     match found {
         None => Ok(()),
         Some((place, reason)) => Err(RowFault::At(reason, u64::from(place))),
-    }
-}
-
-/// Whether the values of a field of this kind have variable bytes.
-fn has_bytes(kind: &FieldKind) -> bool
-    ensures { IsTrue result ↔ HasBytes kind.now }
-{
-    match kind {
-        FieldKind::Text => true,
-        FieldKind::Bytes => true,
-        _ => false,
     }
 }
 

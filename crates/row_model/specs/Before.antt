@@ -1,7 +1,7 @@
 -- What is kept of a type from the last step, and the rows that the type had before it.
-use Rattle.std.specs.Prelude.{◌≡◌, ◌==◌, ◌<◌, ◌-◌, ◌^◌, ℕ, Bool, not, List, [], ◌∷◌, Option, None, IsSome, All, zip, length, refl}
+use Rattle.std.specs.Prelude.{◌≡◌, ◌==◌, ◌<◌, ◌-◌, ◌^◌, ℕ, Bool, not, List, [], ◌∷◌, None, IsSome, All, zip, length, refl}
 use Rattle.std.specs.Coded.{Coded, code_by, coded×, coded_ℕ, coded_list}
-use Rattle.std.specs.List.{AllZip, filter_map, list_any}
+use Rattle.std.specs.List.{AllZip, list_any}
 use Rattle.std.specs.List.Sorted.{IsStrictlyIncreasing}
 use Rattle.std.specs.FinMap.{get, insert, retain_keys}
 use Rattle.row_model.specs.declared.row.Row.{Row}
@@ -14,10 +14,6 @@ pub record PastPart : Type 0 where
   pub came : List ℕ
   pub gone : List ℕ
   pub rows : List Row
-
--- the rows that stand at some places
-abbrev pub rows_of_places : List (Option Row) → List Row
-rows_of_places places = filter_map (λ place. place) places
 
 -- whether the ordinal came in the last step
 abbrev pub is_new : PastPart → ℕ → Bool

@@ -18,7 +18,7 @@ use Rattle.row_model.specs.declared.row.Value.{Value}
 use Rattle.row_model.specs.BothStates.{rows_of_both}
 use Rattle.object_codec.specs.Packing.{HasBytes}
 use Rattle.object_codec.specs.Widths.{live_rows, bytes_for}
-use Rattle.fixed_records.specs.Fixed.{AreFixed}
+use Rattle.record_copies.specs.Fixed.{AreFixed}
 use Rattle.type_rows.specs.Layout.{item_count, item_bits, words_needed, fixed_words}
 use Rattle.type_rows.specs.WordsHeld.{value_bytes, row_bytes}
 use Rattle.row_packing.specs.declared.chosen.Chosen.{Chosen}

@@ -11,7 +11,7 @@ mod packed;
 mod places;
 
 pub use chosen::{Chosen, choose, greatest_ordinal};
-pub use limit::{limit_of, type_limit};
+pub use limit::limit_of;
 pub use live::{live_ordinals, live_set};
 pub use measured::{Held, Measured, measure};
 pub use ordinal_rows::OrdinalRows;

@@ -1,44 +1,25 @@
 //! The limits on a type, as a cycle tries them.
-ghost use Rattle.std.specs.Prelude.{◌≡◌, ◌<◌, ℕ, List, length, IfOk};
+ghost use Rattle.std.specs.Prelude.{◌≡◌, ◌<◌, ℕ, List};
 ghost use Rattle.schema_model.specs.declared.limit.Limit.TheVariants.{Ordinals};
 ghost use Rattle.schema_model.specs.Limit.{number_of_limit};
 ghost use Rattle.row_model.specs.declared.row.Row.{Row};
 ghost use Rattle.row_model.specs.Table.{Table};
 ghost use Rattle.type_rows.specs.Layout.{item_count, fixed_words};
-ghost use Rattle.row_packing.specs.Chosen.{shape_at, IsLiveInEither};
+ghost use Rattle.row_packing.specs.Chosen.{IsLiveInEither};
 ghost use Rattle.row_packing.specs.Measured.{IsMeasured};
 ghost use Rattle.row_packing.specs.Places.{Agree};
 ghost use Rattle.row_packing.specs.TypeLimit.{TellsLimit};
 
 use crate::chosen::Chosen;
-use crate::measured::{Held, Measured, measure};
-use row_model::Rows;
+use crate::measured::{Held, Measured};
 use schema_model::{Limit, MAX_BYTES, MAX_ITEMS, MAX_WORDS, Shape};
-use std::alloc::{AllocError, Global};
 use type_rows::fixed_words;
 
-/// The first of the limits on items, bytes and words that a type passes in an old and a new state, none where it keeps them.
+/// The first of the limits on items, bytes and words that a type passes in an old and a new state, none where it keeps them, by what was measured of it.
 ///
 /// `Items` are the elements or buckets of the rows of both states, a row that both have counted once. `Bytes` are the variable bytes of each
 /// state, and `Words` the fixed words of each, laid out by what `choose` answers. The states have one model and agree on the ordinals that both
 /// have live, and these keep their limit.
-pub fn type_limit<A: Rows, B: Rows>(
-    alloc: Global,
-    old: &A,
-    new: &B,
-    type_index: u32,
-) -> Result<Option<Limit>, AllocError>
-    requires model { A.schemas old.now ≡ B.schemas new.now }
-    requires known { type_index < length (B.schemas new.now) }
-    requires agree { Agree (A.table old.now) (B.table new.now) type_index }
-    requires ordinals { (ordinal : ℕ) → IsLiveInEither (A.table old.now) (B.table new.now) type_index ordinal → ordinal < number_of_limit Ordinals }
-    ensures { IfOk result (TellsLimit (shape_at (B.schemas new.now) type_index) (A.table old.now) (B.table new.now) type_index) }
-{
-    let measured = measure(alloc, old, new, type_index)?;
-    Ok(limit_of(&new.model().schema(type_index).shape, &measured))
-}
-
-/// The same limit, by what was measured of the type, with no walk over its rows.
 pub fn limit_of(shape: &Shape, measured: &Measured) -> Option<Limit>
     ensures { (old new : Table) (type_index : ℕ) → Agree old new type_index → ((ordinal : ℕ) → IsLiveInEither old new type_index ordinal → ordinal < number_of_limit Ordinals)
         → IsMeasured shape.now old new type_index measured.now → TellsLimit shape.now old new type_index result }

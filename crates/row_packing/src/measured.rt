@@ -9,7 +9,7 @@ ghost use Rattle.row_packing.specs.Chosen.{shape_at, chosen_total, chosen_widths
 ghost use Rattle.row_packing.specs.Measured.{IsHeld, IsMeasured};
 
 use crate::chosen::{Chosen, greatest_ordinal, total, widths};
-use fixed_records::is_fixed;
+use record_copies::is_fixed;
 use row_model::{Rows, Widths};
 use row_widths::records;
 use schema_model::{MAX_BYTES, MAX_ITEMS};

@@ -6,7 +6,7 @@ use Rattle.schema_model.specs.declared.schema.FieldKind.{FieldKind}
 use Rattle.row_model.specs.declared.row.Value.{Value}
 use Rattle.object_codec.specs.Part.{FieldPart, FailsValue, HasNullBit, IsSpan, SpellsValue, offset_in}
 use Rattle.object_codec.proofs.Values.{spelled_or_failed}
-use Rattle.spelled_rows.proofs.Values.{value_given}
+use Rattle.type_rows.proofs.Values.{value_given}
 use Rattle.seen_patches.specs.Nulls.{null_element, null_width}
 
 -- where the bytes of a null start

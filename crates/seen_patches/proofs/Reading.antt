@@ -16,7 +16,7 @@ use Rattle.type_rows.specs.declared.patch.PatchSection.{PatchSection}
 use Rattle.type_rows.specs.Loads.{Spells}
 use Rattle.type_rows.specs.Patches.{places_in}
 use Rattle.type_rows.specs.WellFormed.{IsWidth}
-use Rattle.spelled_rows.specs.Fails.{Fails}
+use Rattle.type_rows.specs.Fails.{Fails}
 use Rattle.seen_patches.specs.ByName.{item_named}
 use Rattle.seen_patches.specs.Elements.{elements_of}
 use Rattle.seen_patches.specs.Patch.{HasColumns}

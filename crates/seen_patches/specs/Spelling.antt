@@ -12,7 +12,7 @@ use Rattle.object_codec.specs.ObjectPlace.{parts_of}
 use Rattle.object_codec.specs.Part.{FieldPart, FailsValue, SpellsValue}
 use Rattle.type_rows.specs.declared.section.Section.{Section}
 use Rattle.type_rows.specs.Loads.{Spells}
-use Rattle.spelled_rows.specs.Fails.{Fails}
+use Rattle.type_rows.specs.Fails.{Fails}
 use Rattle.seen_patches.specs.ByName.{item_named}
 
 -- What the blob has of a field gives this value; a field that it lacks is null.

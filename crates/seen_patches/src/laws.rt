@@ -12,7 +12,7 @@ ghost use Rattle.type_rows.specs.Layout.{own_bits};
 ghost use Rattle.type_rows.specs.Loads.{Spells};
 ghost use Rattle.type_rows.specs.Patches.{AddsRows, IsReadablePatch, patch_layout, places_in};
 ghost use Rattle.type_rows.specs.WordsHeld.{field_bytes};
-ghost use Rattle.spelled_rows.specs.Fails.{Fails};
+ghost use Rattle.type_rows.specs.Fails.{Fails};
 ghost use Rattle.seen_patches.specs.ByName.{field_in};
 ghost use Rattle.seen_patches.specs.Patch.{AddsSeen, HasColumns, KeepsOrdinals, layout_for, own_for};
 ghost use Rattle.seen_patches.specs.Seen.{IsSeen, seen_widths};

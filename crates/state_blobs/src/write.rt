@@ -1,16 +1,18 @@
 //! The blobs of a closed cycle are written.
-ghost use Rattle.std.specs.Prelude.{◌≡◌, ◌≤◌, ℕ, true, ◌^◌, None, All, IfErr, IfOk, length};
+ghost use Rattle.std.specs.Prelude.{◌≡◌, ◌≤◌, ℕ, true, ◌^◌, None, All, IfErr, IfOk, IfSome, length, option_copied};
 ghost use Rattle.blob_writing.specs.Limits.{MeansLarge};
 ghost use Rattle.blob_writing.specs.Snapshot.{IsWrittenSnapshot};
 ghost use Rattle.blob_writing.specs.Changes.{IsDeltaBetween};
 ghost use Rattle.blob_writing.specs.Plan.{IsPlanOf};
 ghost use Rattle.row_packing.specs.Measured.{AreMeasured};
+ghost use Rattle.kept_sections.specs.Sections.{AreSectionsFor};
 ghost use Rattle.write_engine.specs.CycleLimit.{TellsTypes};
 ghost use Rattle.state_blobs.specs.Published.{published_of};
 ghost use Rattle.state_blobs.specs.Puts.{AreBlobs, AreFirst, AreLater, AreWhole, IsShort};
 ghost use Rattle.state_blobs.specs.Blobs.{AreLong, AreNotShort, puts_in, whole_in};
 
 use blob_writing::{Plan, WriteFault, write_delta, write_snapshot};
+use kept_sections::PackedSections;
 use row_packing::Measured;
 use std::alloc::{AllocError, Global};
 use write_engine::{Producer, laws};
@@ -55,26 +57,29 @@ pub fn write_blobs(
     ensures large { IfErr result (MeansLarge (AreNotShort (AreBlobs (published_of producer.now) producer.now.current version tag with_snapshot))) }
 {
     let plan = plan_of(alloc, producer)?;
-    write_planned(alloc, producer, plan, version, tag, with_snapshot)
+    write_planned(alloc, producer, plan, None, version, tag, with_snapshot)
 }
 
-/// The same by what was measured of each type, with no walk over rows to choose by.
+/// The same by what was measured of each type, with no walk over rows to choose by. Where the rows of the cycle are lent as they are packed for its snapshot, it is
+/// written of these.
 pub fn write_blobs_by(
     alloc: Global,
     producer: &Producer,
     measured: &[Measured],
+    sections: Option<&PackedSections>,
     version: u64,
     tag: i64,
     with_snapshot: bool,
 ) -> Result<Blobs, WriteFault>
     requires kept { TellsTypes producer.now.schemas producer.now.previous producer.now.current None }
     requires measured { AreMeasured producer.now.schemas producer.now.previous producer.now.current measured.now }
+    requires sections { IfSome (option_copied sections) (AreSectionsFor producer.now.schemas producer.now.previous producer.now.current) }
     ensures written { IfOk result (λ blobs. AreBlobs (published_of producer.now) producer.now.current version tag with_snapshot (puts_in blobs)) }
     ensures short { IfOk result (λ blobs. All IsShort (puts_in blobs)) }
     ensures large { IfErr result (MeansLarge (AreNotShort (AreBlobs (published_of producer.now) producer.now.current version tag with_snapshot))) }
 {
     let plan = plan_by(alloc, producer, measured)?;
-    write_planned(alloc, producer, plan, version, tag, with_snapshot)
+    write_planned(alloc, producer, plan, sections, version, tag, with_snapshot)
 }
 
 // The blobs of the cycle by its plan.
@@ -82,20 +87,22 @@ fn write_planned(
     alloc: Global,
     producer: &Producer,
     plan: Plan,
+    sections: Option<&PackedSections>,
     version: u64,
     tag: i64,
     with_snapshot: bool,
 ) -> Result<Blobs, WriteFault>
     requires kept { TellsTypes producer.now.schemas producer.now.previous producer.now.current None }
     requires plan { IsPlanOf producer.now.schemas producer.now.previous producer.now.current plan }
+    requires sections { IfSome (option_copied sections) (AreSectionsFor producer.now.schemas producer.now.previous producer.now.current) }
     ensures written { IfOk result (λ blobs. AreBlobs (published_of producer.now) producer.now.current version tag with_snapshot (puts_in blobs)) }
     ensures short { IfOk result (λ blobs. All IsShort (puts_in blobs)) }
     ensures large { IfErr result (MeansLarge (AreNotShort (AreBlobs (published_of producer.now) producer.now.current version tag with_snapshot))) }
 {
     if producer.version() == 0 {
-        write_first(alloc, producer, &plan, version, tag)
+        write_first(alloc, producer, &plan, sections, version, tag)
     } else {
-        write_later(alloc, producer, plan, version, tag, with_snapshot)
+        write_later(alloc, producer, plan, sections, version, tag, with_snapshot)
     }
 }
 
@@ -104,16 +111,18 @@ fn write_first(
     alloc: Global,
     producer: &Producer,
     plan: &Plan,
+    sections: Option<&PackedSections>,
     version: u64,
     tag: i64,
 ) -> Result<Blobs, WriteFault>
     requires kept { TellsTypes producer.now.schemas producer.now.previous producer.now.current None }
     requires plan { IsPlanOf producer.now.schemas producer.now.previous producer.now.current plan.now }
+    requires sections { IfSome (option_copied sections) (AreSectionsFor producer.now.schemas producer.now.previous producer.now.current) }
     ensures written { IfOk result (λ blobs. AreFirst (published_of producer.now) producer.now.current version tag (puts_in blobs)) }
     ensures short { IfOk result (λ blobs. All IsShort (puts_in blobs)) }
     ensures large { IfErr result (MeansLarge (AreNotShort (AreFirst (published_of producer.now) producer.now.current version tag))) }
 {
-    let snapshot = write_whole(alloc, producer, plan, tag)?;
+    let snapshot = write_whole(alloc, producer, plan, sections, tag)?;
     Ok(Blobs::First { version, snapshot })
 }
 
@@ -122,18 +131,20 @@ fn write_later(
     alloc: Global,
     producer: &Producer,
     plan: Plan,
+    sections: Option<&PackedSections>,
     version: u64,
     tag: i64,
     with_snapshot: bool,
 ) -> Result<Blobs, WriteFault>
     requires kept { TellsTypes producer.now.schemas producer.now.previous producer.now.current None }
     requires plan { IsPlanOf producer.now.schemas producer.now.previous producer.now.current plan }
+    requires sections { IfSome (option_copied sections) (AreSectionsFor producer.now.schemas producer.now.previous producer.now.current) }
     ensures written { IfOk result (λ blobs. AreLater (published_of producer.now) producer.now.current version tag with_snapshot (puts_in blobs)) }
     ensures short { IfOk result (λ blobs. All IsShort (puts_in blobs)) }
     ensures large { IfErr result (MeansLarge (AreNotShort (AreLater (published_of producer.now) producer.now.current version tag with_snapshot))) }
 {
     let delta = write_forth(alloc, producer, &plan, tag)?;
-    let snapshot = write_asked(alloc, producer, &plan, tag, with_snapshot)?;
+    let snapshot = write_asked(alloc, producer, &plan, sections, tag, with_snapshot)?;
     let reverse = write_back(alloc, producer, plan, tag)?;
     Ok(Blobs::Later {
         last: producer.version(),
@@ -149,17 +160,19 @@ fn write_asked(
     alloc: Global,
     producer: &Producer,
     plan: &Plan,
+    sections: Option<&PackedSections>,
     tag: i64,
     with_snapshot: bool,
 ) -> Result<Option<Vec<u8>>, WriteFault>
     requires kept { TellsTypes producer.now.schemas producer.now.previous producer.now.current None }
     requires plan { IsPlanOf producer.now.schemas producer.now.previous producer.now.current plan.now }
+    requires sections { IfSome (option_copied sections) (AreSectionsFor producer.now.schemas producer.now.previous producer.now.current) }
     ensures written { IfOk result (λ snapshot. (version : ℕ) → AreWhole with_snapshot (published_of producer.now) producer.now.current version tag (whole_in version snapshot)) }
     ensures short { IfOk result (λ snapshot. (version : ℕ) → All IsShort (whole_in version snapshot)) }
     ensures large { IfErr result (MeansLarge ((with_snapshot ≡ true) × AreLong (IsWrittenSnapshot producer.now.schemas producer.now.previous producer.now.current producer.now.tag tag))) }
 {
     if with_snapshot {
-        Ok(Some(write_whole(alloc, producer, plan, tag)?))
+        Ok(Some(write_whole(alloc, producer, plan, sections, tag)?))
     } else {
         Ok(None)
     }
@@ -193,10 +206,12 @@ fn write_whole(
     alloc: Global,
     producer: &Producer,
     plan: &Plan,
+    sections: Option<&PackedSections>,
     tag: i64,
 ) -> Result<Vec<u8>, WriteFault>
     requires kept { TellsTypes producer.now.schemas producer.now.previous producer.now.current None }
     requires plan { IsPlanOf producer.now.schemas producer.now.previous producer.now.current plan.now }
+    requires sections { IfSome (option_copied sections) (AreSectionsFor producer.now.schemas producer.now.previous producer.now.current) }
     ensures written { IfOk result (λ blob. IsWrittenSnapshot producer.now.schemas producer.now.previous producer.now.current producer.now.tag tag blob.items) }
     ensures short { IfOk result (λ blob. length blob.items ≤ 2 ^ 28) }
     ensures large { IfErr result (MeansLarge (AreLong (IsWrittenSnapshot producer.now.schemas producer.now.previous producer.now.current producer.now.tag tag))) }
@@ -204,7 +219,15 @@ fn write_whole(
     laws::can_be_written();
     let previous = producer.previous();
     let current = producer.current();
-    write_snapshot(alloc, &previous, &current, plan, producer.tag(), tag)
+    write_snapshot(
+        alloc,
+        &previous,
+        &current,
+        plan,
+        sections,
+        producer.tag(),
+        tag,
+    )
 }
 
 // The delta from the last state to the cycle.

@@ -3,7 +3,7 @@ use Rattle.std.proofs.Common.{◌≡◌, ℕ, List, [], Option, Some, None, refl
 use Rattle.std.specs.Prelude.{IfSome, IsSome, zip}
 use Rattle.std.specs.FinMap.{find, get}
 use Rattle.std.specs.Ordering.{nat_cmp}
-use Rattle.record_views.specs.declared.column.Column.{Column}
+use Rattle.object_codec.specs.declared.column.Column.{Column}
 use Rattle.row_model.specs.declared.row.Row.{Row}
 use Rattle.row_model.specs.Table.{RowMap}
 use Rattle.column_rows.specs.declared.items.PackedItems.{PackedItems}

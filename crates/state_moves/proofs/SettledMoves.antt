@@ -34,7 +34,8 @@ use Rattle.row_faults.specs.First.{FirstFails, NoneFails}
 use Rattle.row_faults.specs.LoadFault.{FailsLoad}
 use Rattle.row_faults.specs.MoveFault.{AddedPass, FailsMove, LeadsTo, OrdinalsPass, RemovedPass, StayingPass, move_tests}
 use Rattle.row_faults.specs.Ordinals.{FailsAdded, FailsRemoved, StaysOutside}
-use Rattle.row_faults.specs.Places.{Fails, FirstPlaceFails}
+use Rattle.type_rows.specs.Fails.{Fails}
+use Rattle.row_faults.specs.Places.{FirstPlaceFails}
 use Rattle.row_faults.specs.Sums.{IsOfRows}
 use Rattle.row_faults.specs.Tests.{LeadsHeld}
 use Rattle.row_faults.specs.Widths.{FirstUnheld}

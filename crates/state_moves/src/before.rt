@@ -9,7 +9,7 @@ ghost use Rattle.row_model.specs.Before.{FitsPast, rows_before, table_before};
 
 use crate::past::{PastPart, part_at};
 use column_rows::PackedItems;
-use record_views::Column;
+use object_codec::Column;
 use row_model::{LentRow, Row};
 use schema_model::Model;
 use std::alloc::{AllocError, Global};

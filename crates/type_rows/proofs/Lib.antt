@@ -11,3 +11,15 @@ pub mod Rising
 pub mod SectionRows
 pub mod DifferingAt
 pub mod Takings
+pub mod Deciding
+pub mod Keyed
+pub mod LiveRows
+pub mod ReadRows
+pub mod ReadRuns
+pub mod ReadValues
+pub mod Rows
+pub mod SameBits
+pub mod SameRows
+pub mod Values
+pub mod WorkedRows
+pub mod PlaceReasons

@@ -8,3 +8,8 @@ pub mod Differing
 pub mod Totals
 pub mod WellFormed
 pub mod WordsHeld
+pub mod Fails
+pub mod Rows
+pub mod SameBits
+pub mod Value
+pub mod Worked

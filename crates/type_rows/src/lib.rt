@@ -11,6 +11,7 @@ mod outline;
 mod patch;
 mod place;
 mod section;
+pub mod spelled;
 mod totals;
 mod words;
 
@@ -19,6 +20,7 @@ pub use ends::Ends;
 pub use fault::RowFault;
 pub use outline::Outline;
 pub use patch::PatchSection;
+pub use place::read_place;
 pub use section::Section;
 pub use totals::Totals;
 pub use words::{counted_words, fixed_words, own_bits, place_count, words_needed};

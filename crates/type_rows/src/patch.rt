@@ -1,6 +1,7 @@
 //! One type's part of a delta, before its rows are read.
-ghost use Rattle.std.specs.Prelude.{◌<◌, All, length};
+ghost use Rattle.std.specs.Prelude.{◌<◌, All, IfErr, length};
 ghost use Rattle.std.specs.List.Sorted.{IsStrictlyIncreasing};
+ghost use Rattle.type_rows.specs.Fails.{FailsPlace};
 ghost use Rattle.type_rows.specs.Layout.{places_of};
 ghost use Rattle.type_rows.specs.Loads.{TellsPlace};
 ghost use Rattle.type_rows.specs.Patches.{IsReadablePatch, places_in};
@@ -36,13 +37,14 @@ pub struct PatchSection {
 }
 
 impl PatchSection {
-    /// The row at a place: place k is that of the k-th added ordinal. `Bad` comes where the place spells no row.
+    /// The row at a place, or why it spells none: place k is that of the k-th added ordinal.
     pub fn row_at(&self, alloc: Global, schema: &Schema, place: u64) -> Result<Row, PlaceFault>
         requires readable { IsReadablePatch schema.now.shape self.now }
         requires place { place < length self.now.added }
         requires rising { IsStrictlyIncreasing self.now.added }
         requires placed { All (λ ordinal. ordinal < places_of self.now.max) self.now.added }
-        ensures { TellsPlace schema.now.shape (places_in self.now) place result }
+        ensures tells { TellsPlace schema.now.shape (places_in self.now) place result }
+        ensures reason { IfErr result (FailsPlace schema.now.shape (places_in self.now) place) }
     {
         read_place(alloc, schema, &self.widths, self.total, self, place)
     }

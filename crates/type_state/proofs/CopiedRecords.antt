@@ -13,15 +13,15 @@ use Rattle.schema_model.specs.Parts.{shape_fields}
 use Rattle.row_model.specs.declared.row.Row.{Row}
 use Rattle.row_model.specs.Table.{RowMap}
 use Rattle.object_codec.specs.ObjectPlace.{SpellsObjectRow}
-use Rattle.fixed_records.specs.Fixed.{AreFixed, AreOthersKept, record_at}
-use Rattle.fixed_records.proofs.RecordBits.{empty_place, row_moved}
+use Rattle.record_copies.specs.Fixed.{AreFixed, AreOthersKept, record_at}
+use Rattle.record_copies.proofs.RecordBits.{empty_place, row_moved}
 use Rattle.packed_half.specs.declared.half.HalfShape.{HalfShape}
 use Rattle.packed_half.specs.Half.{areas_in, item_words, place_words, words_for, words_for_bytes}
 use Rattle.packed_half.specs.LaidOut.{IsLaidOut, IsTight}
 use Rattle.packed_half.specs.Laying.{ArePlaced, CanLay, parts_in}
 use Rattle.packed_half.proofs.Parted.{IsCut, whole}
 use Rattle.packed_half.proofs.RowPlaces.{entry_of, key_of, key_there, placed_in}
-use Rattle.spelled_rows.specs.Rows.{rows_in}
+use Rattle.type_rows.specs.Rows.{rows_in}
 use Rattle.type_rows.specs.declared.section.Section.{Section}
 use Rattle.type_rows.specs.Layout.{Layout, item_bits, place_bits, places_of, words_needed}
 use Rattle.type_rows.specs.Loads.{IsSpelledIn, Loads, SectionIs}

@@ -16,7 +16,7 @@ use Rattle.packed_half.specs.Laying.{ArePlaced, CanLay, parts_in}
 use Rattle.packed_half.proofs.Parted.{IsCut, whole}
 use Rattle.packed_half.proofs.PlacedLists.{list_bits}
 use Rattle.packed_half.proofs.RowPlaces.{entry_of, key_of}
-use Rattle.spelled_rows.specs.Rows.{rows_in}
+use Rattle.type_rows.specs.Rows.{rows_in}
 use Rattle.type_rows.specs.declared.section.Section.{Section}
 use Rattle.type_rows.specs.Layout.{Layout, places_of}
 use Rattle.type_rows.specs.Loads.{IsSpelledIn, Loads, SectionIs}

@@ -6,8 +6,8 @@ use Rattle.std.proofs.lemmas.List.{length-drop}
 use Rattle.std.proofs.lemmas.List.Sums.{sum_by-cons}
 use Rattle.bit_array.specs.Element.{element_of}
 use Rattle.bit_array.proofs.Elements.{element_of_one_word}
-use Rattle.record_views.specs.declared.bytes.PackedBytes.{PackedBytes}
-use Rattle.record_views.specs.Bytes.{bytes_of}
+use Rattle.object_codec.specs.declared.bytes.PackedBytes.{PackedBytes}
+use Rattle.object_codec.specs.Bytes.{bytes_of}
 use Rattle.row_model.specs.Areas.{area_of}
 use Rattle.packed_half.specs.Half.{areas_in, byte_in, byte_words, bytes_in, words_for_bytes}
 

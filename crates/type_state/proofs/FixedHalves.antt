@@ -17,8 +17,8 @@ use Rattle.row_model.specs.declared.row.Row.{Row}
 use Rattle.row_model.specs.Table.{RowMap}
 use Rattle.object_codec.specs.ObjectPlace.{IsFieldWidth, IsObject, SpellsObjectRow}
 use Rattle.object_codec.specs.Packing.{PacksPlace}
-use Rattle.fixed_records.specs.Fixed.{AreFixed, HasFront, record_at, whole_words}
-use Rattle.fixed_records.proofs.RecordBits.{empty_place}
+use Rattle.record_copies.specs.Fixed.{AreFixed, HasFront, record_at, whole_words}
+use Rattle.record_copies.proofs.RecordBits.{empty_place}
 use Rattle.packed_half.specs.declared.half.HalfShape.{HalfShape}
 use Rattle.packed_half.specs.Half.{areas_in, behind_items, item_words, place_words, section_in, words_for, words_for_bytes}
 use Rattle.packed_half.specs.LaidOut.{IsLaidOut, IsTight, lengths_of}

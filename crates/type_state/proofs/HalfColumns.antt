@@ -15,7 +15,7 @@ use Rattle.object_codec.specs.ObjectPlace.{HoldsPlace, IsFieldWidth, SpellsObjec
 use Rattle.object_codec.specs.Stored.{values_of_row}
 use Rattle.list_codec.specs.ListPlace.{HoldsListPlace, SpellsList}
 use Rattle.bucket_codec.specs.BucketPlace.{HoldsPointers, SpellsPairs, IsRowOf, IsWidthCount}
-use Rattle.record_views.specs.declared.column.Column.{Column}
+use Rattle.object_codec.specs.declared.column.Column.{Column}
 use Rattle.column_rows.specs.Columns.{HasValueOf}
 use Rattle.column_rows.specs.Items.{IsListThere, IsOfPairs}
 use Rattle.column_rows.specs.declared.items.PackedItems.{PackedItems}

@@ -11,8 +11,8 @@ use Rattle.packed_half.specs.declared.half.HalfShape.{HalfShape}
 use Rattle.packed_half.specs.Half.{section_in}
 use Rattle.packed_half.specs.LaidOut.{HasRows, IsLaidOut}
 use Rattle.packed_half.specs.Laying.{CanLay}
-use Rattle.spelled_rows.specs.Rows.{row_in, rows_in}
-use Rattle.spelled_rows.proofs.LiveRows.{live_found, none_found, rows_are}
+use Rattle.type_rows.specs.Rows.{row_in, rows_in}
+use Rattle.type_rows.proofs.LiveRows.{live_found, none_found, rows_are}
 use Rattle.type_state.specs.Lookup.{elements_of, pairs_of}
 use Rattle.type_state.specs.State.{empty_half}
 use Rattle.type_state.specs.Kept.{IsBare, IsHalf, half_in, half_rows}

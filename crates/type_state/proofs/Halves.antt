@@ -13,7 +13,7 @@ use Rattle.row_model.specs.Table.{RowMap}
 use Rattle.packed_half.specs.declared.half.HalfShape.{HalfShape}
 use Rattle.packed_half.specs.Half.{section_in}
 use Rattle.packed_half.specs.Laying.{EachRowOf}
-use Rattle.spelled_rows.proofs.LiveRows.{live_found, none_found}
+use Rattle.type_rows.proofs.LiveRows.{live_found, none_found}
 use Rattle.type_rows.specs.Ends.{AreOfKind}
 use Rattle.type_rows.specs.Holds.{HoldsRows}
 use Rattle.type_rows.proofs.Entries.{entries_rise, no_entry}

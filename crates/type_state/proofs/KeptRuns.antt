@@ -34,7 +34,7 @@ use Rattle.packed_half.specs.Laying.{ArePlaced, CanLay, places_in}
 use Rattle.packed_half.proofs.Parted.{IsCut, whole}
 use Rattle.packed_half.proofs.PlacedRecords.{can_pack, packed_lengths, record_more, record_room, records_begun, records_done, records_placed}
 use Rattle.packed_half.proofs.RowPlaces.{place_is, places_long}
-use Rattle.record_runs.specs.Run.{AreStanding, HasRunRoom, IsRunPut, rows_between, run_bytes}
+use Rattle.record_copies.specs.Run.{AreStanding, HasRunRoom, IsRunPut, rows_between, run_bytes}
 use Rattle.type_rows.specs.Differing.{Difference}
 use Rattle.type_rows.specs.Layout.{places_of}
 use Rattle.type_rows.specs.WellFormed.{IsWidth}

@@ -29,7 +29,6 @@ pub mod MovesExact
 pub mod NextStates
 pub mod OldPlaces
 pub mod PassedOrdinals
-pub mod PlaceReasons
 pub mod ReadPlaces
 pub mod RecordedRows
 pub mod RowSums

@@ -13,7 +13,7 @@ use Rattle.ordinal_set.specs.Ordinals.{with_ordinal, without_ordinal}
 use Rattle.ordinal_set.proofs.Members.{Contains-filter, Contains-kept, Contains-with_ordinal_cases, Contains-with_ordinal_itself, Contains-with_ordinal_kept, passes-from_filter, rising-with_ordinal, same_rising, there}
 use Rattle.row_model.specs.declared.row.Row.{Row}
 use Rattle.row_model.specs.Table.{RowMap}
-use Rattle.spelled_rows.proofs.Keyed.{entries_rise}
+use Rattle.type_rows.proofs.Keyed.{entries_rise}
 use Rattle.type_rows.specs.Differing.{Difference, differ_at}
 use Rattle.type_rows.proofs.DifferingAt.{differs_here, differs_there}
 use Rattle.type_state.specs.declared.differences.Differences.{Differences}

@@ -17,13 +17,13 @@ use Rattle.row_model.specs.declared.packed.PlaceFault.{PlaceFault}
 use Rattle.row_model.specs.declared.row.Row.{Row}
 use Rattle.object_codec.specs.ObjectPlace.{HoldsPlace, IsFieldWidth, IsFreePlace, IsObject, SpellsObjectRow}
 use Rattle.object_codec.proofs.FieldWidths.{fields_small}
-use Rattle.fixed_records.specs.Fixed.{record_at}
-use Rattle.fixed_records.proofs.RecordBits.{row_moved}
+use Rattle.record_copies.specs.Fixed.{record_at}
+use Rattle.record_copies.proofs.RecordBits.{row_moved}
 use Rattle.packed_half.specs.declared.half.HalfShape.{HalfShape}
 use Rattle.packed_half.specs.Half.{behind_items, place_words, section_in}
 use Rattle.packed_half.proofs.Looking.{object_holds}
 use Rattle.packed_half.proofs.RowPlaces.{entry_of, placed_in}
-use Rattle.spelled_rows.proofs.Rows.{spelled}
+use Rattle.type_rows.proofs.Rows.{spelled}
 use Rattle.type_rows.specs.declared.section.Section.{Section}
 use Rattle.type_rows.specs.Layout.{places_of}
 use Rattle.type_rows.specs.Loads.{IsSpelledIn, Spells, parts_up_to}

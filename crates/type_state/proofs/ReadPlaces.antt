@@ -5,9 +5,9 @@ use Rattle.std.specs.FinMap.{get}
 use Rattle.schema_model.specs.declared.schema.Shape.{Shape}
 use Rattle.row_model.specs.declared.row.Row.{Row}
 use Rattle.packed_half.proofs.RowPlaces.{entry_of, key_there, placed_in}
-use Rattle.spelled_rows.specs.Rows.{rows_in}
-use Rattle.spelled_rows.proofs.LiveRows.{live_found}
-use Rattle.spelled_rows.proofs.Rows.{spelled}
+use Rattle.type_rows.specs.Rows.{rows_in}
+use Rattle.type_rows.proofs.LiveRows.{live_found}
+use Rattle.type_rows.proofs.Rows.{spelled}
 use Rattle.type_rows.specs.declared.section.Section.{Section}
 use Rattle.type_rows.specs.Layout.{places_of}
 use Rattle.type_rows.specs.Loads.{IsSpelledIn, Spells, parts_up_to}

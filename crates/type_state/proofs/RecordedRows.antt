@@ -12,8 +12,8 @@ use Rattle.row_model.specs.Row.{stored_row}
 use Rattle.row_model.specs.Table.{RowMap}
 use Rattle.object_codec.specs.ObjectPlace.{SpellsObjectRow}
 use Rattle.object_codec.specs.Packing.{PacksPlace}
-use Rattle.fixed_records.specs.Fixed.{AreFixed, AreOthersKept, HasRecordRoom, record_at}
-use Rattle.fixed_records.proofs.RecordBits.{empty_place, gap_row_moved, row_moved}
+use Rattle.record_copies.specs.Fixed.{AreFixed, AreOthersKept, HasRecordRoom, record_at}
+use Rattle.record_copies.proofs.RecordBits.{empty_place, gap_row_moved, row_moved}
 use Rattle.type_rows.specs.Differing.{Difference, differ_at}
 use Rattle.type_rows.proofs.DifferingAt.{differs_here, differs_there}
 use Rattle.type_state.specs.Differences.{differing}

@@ -17,8 +17,8 @@ use Rattle.row_faults.specs.LoadFault.{FailsLoad}
 use Rattle.row_faults.specs.Sums.{AreSums}
 use Rattle.row_faults.specs.declared.sums.Sums.{Sums}
 use Rattle.row_faults.proofs.LoadFaults.{load_or_fault}
-use Rattle.spelled_rows.specs.Rows.{rows_in}
-use Rattle.spelled_rows.proofs.LiveRows.{rows_are}
+use Rattle.type_rows.specs.Rows.{rows_in}
+use Rattle.type_rows.proofs.LiveRows.{rows_are}
 use Rattle.type_rows.specs.declared.section.Section.{Section}
 use Rattle.type_rows.specs.declared.fault.RowFault.{RowFault}
 use Rattle.type_rows.specs.Holds.{Holds, KeepsLimits}

@@ -5,7 +5,6 @@ use Rattle.std.specs.FinMap.{keys, values}
 use Rattle.schema_model.specs.declared.schema.Shape.{Shape}
 use Rattle.schema_model.specs.declared.reason.Reason.{Reason}
 use Rattle.schema_model.specs.declared.limit.Limit.TheVariants.{Words, Bytes}
-use Rattle.row_model.specs.declared.packed.PlaceFault.{PlaceFault}
 use Rattle.row_model.specs.declared.row.Row.{Row}
 use Rattle.row_model.specs.Table.{RowMap}
 use Rattle.type_rows.specs.declared.ends.Ends.{Ends}
@@ -15,17 +14,12 @@ use Rattle.type_rows.specs.declared.section.Section.{Section}
 use Rattle.type_rows.specs.Layout.{Layout}
 use Rattle.type_rows.specs.Holds.{HoldsRows}
 use Rattle.type_rows.specs.Patches.{places_in}
-use Rattle.row_faults.specs.Places.{Fails, FirstPlaceFails}
+use Rattle.row_faults.specs.Places.{FirstPlaceFails}
 use Rattle.row_faults.specs.Tests.{PassBytes, PassWords}
 use Rattle.row_faults.specs.Widths.{FirstUnheld}
 use Rattle.type_state.specs.Moving.{FitsSlot}
 
--- The place spells no row, for this reason; want of memory may come in place of any answer, here as below.
-abbrev pub FailsPlace : Shape → Section → ℕ → PlaceFault → Type 0
-FailsPlace shape section place (PlaceFault.Bad reason) = Fails shape section place reason
-FailsPlace shape section place PlaceFault.Memory = Unit {0}
-
--- The place of an added ordinal is the first that spells no row.
+-- The place of an added ordinal is the first that spells no row; want of memory may come in place of any answer, here as below.
 abbrev pub FailsAdds : Shape → PatchSection → RowFault → Type 0
 FailsAdds shape patch (RowFault.At reason ordinal) = FirstPlaceFails shape (places_in patch) (range_with_len 0 (length patch.added)) patch.added reason ordinal
 FailsAdds shape patch RowFault.Memory = Unit {0}

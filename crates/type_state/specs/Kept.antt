@@ -6,7 +6,7 @@ use Rattle.packed_half.specs.declared.half.HalfShape.{HalfShape}
 use Rattle.packed_half.specs.Half.{section_in, words_for}
 use Rattle.packed_half.specs.LaidOut.{IsLaidOut}
 use Rattle.packed_half.specs.Laying.{CanLay}
-use Rattle.spelled_rows.specs.Rows.{rows_in}
+use Rattle.type_rows.specs.Rows.{rows_in}
 use Rattle.type_state.specs.State.{Half}
 
 -- The rows that the words of a half spell.

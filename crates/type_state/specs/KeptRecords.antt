@@ -5,7 +5,7 @@ use Rattle.schema_model.specs.declared.schema.Shape.{Shape}
 use Rattle.schema_model.specs.contracts.schema.Shape as shape_contract
 use Rattle.row_model.specs.Table.{RowMap}
 use Rattle.packed_half.specs.Half.{section_in}
-use Rattle.record_views.specs.Bytes.{bytes_of}
+use Rattle.object_codec.specs.Bytes.{bytes_of}
 use Rattle.type_state.specs.declared.kept_records.KeptRecords.{KeptRecords}
 use Rattle.type_state.specs.PackedRows.{rows_code}
 use Rattle.type_state.specs.Kept.{IsHalf, half_rows}

@@ -8,10 +8,10 @@ use Rattle.schema_model.specs.declared.schema.Shape.{Shape}
 use Rattle.row_model.specs.declared.row.Row.{Row}
 use Rattle.row_model.specs.contracts.row.Row as row_contract
 use Rattle.object_codec.specs.ObjectPlace.{HoldsPlace, IsObject, SpellsObjectRow}
-use Rattle.fixed_records.specs.Fixed.{AreFixed}
+use Rattle.record_copies.specs.Fixed.{AreFixed}
 use Rattle.packed_half.specs.declared.half.HalfShape.{HalfShape}
 use Rattle.type_rows.specs.Loads.{parts_up_to}
-use Rattle.spelled_rows.specs.Rows.{row_in}
+use Rattle.type_rows.specs.Rows.{row_in}
 
 abbrev pub rows_code : Coded (List Row)
 rows_code = coded_list (row_contract.the_row).coded

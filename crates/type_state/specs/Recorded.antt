@@ -10,7 +10,7 @@ use Rattle.row_model.specs.declared.row.Row.{Row}
 use Rattle.object_codec.specs.ObjectPlace.{IsFieldWidth, IsObject}
 use Rattle.object_codec.specs.Packing.{HoldsValue, PacksPlace}
 use Rattle.object_codec.specs.Stored.{values_of_row}
-use Rattle.fixed_records.specs.Fixed.{AreFixed, whole_words}
+use Rattle.record_copies.specs.Fixed.{AreFixed, whole_words}
 use Rattle.packed_half.specs.declared.half.HalfShape.{HalfShape}
 use Rattle.packed_half.specs.Half.{words_for}
 use Rattle.type_rows.specs.Differing.{Difference}

@@ -7,7 +7,7 @@ use Rattle.schema_model.specs.Parts.{shape_fields}
 use Rattle.row_model.specs.contracts.row.Row as row_contract
 use Rattle.row_model.specs.Table.{RowMap}
 use Rattle.object_codec.specs.ObjectPlace.{IsObject}
-use Rattle.fixed_records.specs.Fixed.{AreFixed}
+use Rattle.record_copies.specs.Fixed.{AreFixed}
 use Rattle.list_codec.specs.ListPlace.{IsList, end_at, start_at}
 use Rattle.packed_half.specs.declared.half.HalfShape.{HalfShape}
 use Rattle.packed_half.specs.Half.{item_words, layout_in, place_words}
@@ -15,7 +15,7 @@ use Rattle.type_rows.specs.declared.section.Section.{Section}
 use Rattle.type_rows.specs.Layout.{places_of}
 use Rattle.type_rows.specs.Loads.{SectionIs, layout_of}
 use Rattle.type_rows.specs.WellFormed.{IsReadable}
-use Rattle.spelled_rows.specs.Rows.{rows_in}
+use Rattle.type_rows.specs.Rows.{rows_in}
 
 abbrev pub rows_code : Coded RowMap
 rows_code = code coded_ℕ (row_contract.the_row).coded

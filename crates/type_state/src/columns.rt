@@ -7,8 +7,8 @@ ghost use Rattle.type_state.specs.Kept.{IsHalf, half_rows};
 
 use crate::field_bytes::bytes_of_field;
 use column_rows::{PackedItems, column_of};
+use object_codec::Column;
 use packed_half::HalfRows;
-use record_views::Column;
 use schema_model::Shape;
 
 /// A field of the records of a half; none where the type has no such field, and where there is no place.

@@ -1,6 +1,6 @@
 //! Records of a section without STRING and BYTES, copied as they stand into the words of a half.
 ghost use Rattle.std.specs.Prelude.{◌≡◌, ◌↔◌, ◌*◌, ◌^◌, ◌<◌, ◌≤◌, ℕ, Contains, IsTrue, length, replicate, sum};
-ghost use Rattle.fixed_records.specs.Fixed.{record_at};
+ghost use Rattle.record_copies.specs.Fixed.{record_at};
 ghost use Rattle.packed_half.specs.Half.{layout_in, words_for};
 ghost use Rattle.packed_half.specs.LaidOut.{IsLaidOut};
 ghost use Rattle.packed_half.specs.Laying.{CanLay};
@@ -10,9 +10,9 @@ ghost use Rattle.type_rows.specs.Loads.{Loads, layout_of};
 ghost use Rattle.type_rows.specs.WellFormed.{IsReadable};
 ghost use Rattle.type_state.specs.SectionRows.{StandAlike};
 
-use fixed_records::{clear_record, copy_records, is_fixed};
 use ordinal_set::OrdinalSet;
 use packed_half::HalfShape;
+use record_copies::{clear_record, copy_records, is_fixed};
 use schema_model::Shape;
 use type_rows::{Section, fixed_words, place_count, words_needed};
 

@@ -2,9 +2,9 @@
 ghost use Rattle.std.specs.Prelude.{◌≡◌, ◌^◌, ◌<◌, ◌≤◌, IfOk, drop, length, map};
 ghost use Rattle.row_model.specs.Areas.{area_of};
 ghost use Rattle.packed_half.specs.Half.{areas_in, byte_words, bytes_in, words_for_bytes};
-ghost use Rattle.record_views.specs.Bytes.{bytes_of};
+ghost use Rattle.object_codec.specs.Bytes.{bytes_of};
 
-use record_views::PackedBytes;
+use object_codec::PackedBytes;
 use std::alloc::{AllocError, Global};
 
 /// The first bytes of some words.

@@ -5,7 +5,7 @@ ghost use Rattle.schema_model.specs.Parts.{shape_fields};
 ghost use Rattle.packed_half.specs.LaidOut.{IsLaidOut};
 ghost use Rattle.packed_half.specs.Laying.{CanLay};
 ghost use Rattle.object_codec.specs.ObjectPlace.{IsObject};
-ghost use Rattle.fixed_records.specs.Fixed.{AreFixed, HasFront, whole_words};
+ghost use Rattle.record_copies.specs.Fixed.{AreFixed, HasFront, whole_words};
 ghost use Rattle.type_rows.specs.Differing.{differ_at};
 ghost use Rattle.type_rows.specs.Layout.{places_of};
 ghost use Rattle.type_state.specs.Differences.{AreApart, differing, rows_with};
@@ -14,9 +14,8 @@ ghost use Rattle.type_state.specs.Recorded.{AreRecorded, CanCopy, HasPlaces, Has
 
 use crate::differences::Difference;
 use crate::moving::Move;
-use fixed_records::{clear_record, copy_rest, is_fixed, put_record, whole_words};
 use packed_half::{HalfRows, HalfShape};
-use row_model::Parts;
+use record_copies::{clear_record, copy_rest, is_fixed, put_record, whole_words};
 use schema_model::{Schema, Shape};
 use type_rows::{place_count, words_needed};
 
@@ -81,7 +80,7 @@ fn copy_places(current: HalfRows<'_>, widths: &[u32], first: &mut [u64], places:
 {
     copy_rest(
         widths,
-        current.first(),
+        current.places(),
         place_count(current.half.max),
         first,
         places,

@@ -6,18 +6,17 @@ ghost use Rattle.list_codec.specs.ListPlace.{IsList};
 ghost use Rattle.list_codec.specs.Packing.{HasRoom as HasListRoom, elements_of_place};
 ghost use Rattle.packed_half.specs.Half.{section_in};
 ghost use Rattle.packed_half.specs.Laying.{IsListPut};
-ghost use Rattle.record_views.specs.Bytes.{bytes_of};
+ghost use Rattle.object_codec.specs.Bytes.{bytes_of};
 ghost use Rattle.type_state.specs.Kept.{IsHalf, half_rows};
 ghost use Rattle.type_state.specs.KeptRecords.{AreKept, kept_rows};
 
 use bit_array::total_width;
 use hol_varint::Octets;
 use list_codec::{ListRows, copy_list};
-use object_codec::put_row;
+use object_codec::{PackedBytes, put_row};
 use packed_half::{HalfRows, HalfShape};
-use record_moves::{RecordPlace, WordRecords, copy_record};
-use record_views::PackedBytes;
-use row_model::{Parts, Widths};
+use record_copies::{RecordPlace, WordRecords, copy_record};
+use row_model::Widths;
 use schema_model::{Schema, Shape};
 use std::alloc::{AllocError, Global};
 
@@ -47,7 +46,7 @@ impl<'a> KeptRecords<'a> {
         ensures rows { kept_rows result ≡ half_rows current.now.shape.now current.now.half.now current.now.words.now }
     {
         let records = WordRecords {
-            first: current.first(),
+            first: current.places(),
             areas,
         };
         KeptRecords {
@@ -55,7 +54,7 @@ impl<'a> KeptRecords<'a> {
             half: current.half,
             words: current.words,
             records,
-            second: current.second(),
+            second: current.items(),
         }
     }
 

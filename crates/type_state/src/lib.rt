@@ -22,7 +22,6 @@ mod moving;
 mod old_records;
 mod old_rows;
 mod packed_rows;
-mod place;
 mod planning;
 mod section_rows;
 mod state;

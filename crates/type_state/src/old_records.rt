@@ -8,10 +8,10 @@ ghost use Rattle.type_state.specs.OldRecords.{AreCopies, CanPack, HasCopies, Hol
 
 use crate::kept_runs::empty_areas;
 use bit_array::{copy_bits, total_width, words_for};
-use fixed_records::is_fixed;
 use hol_varint::Duplicate;
 use packed_half::{HalfRows, HalfShape};
-use row_model::{Areas, Packed, Parts, PlaceFault, Row, Widths, Words};
+use record_copies::is_fixed;
+use row_model::{Areas, Packed, PlaceFault, Row, Widths, Words};
 use schema_model::{Schema, Shape};
 use std::alloc::{AllocError, Global};
 use std::marker::Model;
@@ -101,7 +101,7 @@ impl OldRecords {
         ensures { IfOk result (AllZip (λ ordinal row. get (half_rows schema.now.shape current.entry.half.now current.entry.words.now) ordinal ≡ Some row) ordinals.now) }
     {
         let size = total_width(current.half.widths.as_slice()) as u64;
-        let first = copies_of(alloc, current.first(), ordinals, size)?;
+        let first = copies_of(alloc, current.places(), ordinals, size)?;
         let areas = empty_areas(alloc, current.half.lengths.as_slice())?;
         Ok(OldRecords {
             schema: schema.copy(alloc)?,

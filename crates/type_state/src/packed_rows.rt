@@ -6,9 +6,9 @@ ghost use Rattle.type_state.specs.Kept.{IsHalf, half_rows};
 
 use crate::columns::{column_in, lists_in, runs_in};
 use column_rows::PackedItems;
+use object_codec::Column;
 use ordinal_set::OrdinalSet;
 use packed_half::{HalfRows, HalfShape, bytes_of_half};
-use record_views::Column;
 use row_model::{LentRow, Row};
 use schema_model::Schema;
 use std::alloc::{AllocError, Global};

@@ -1,16 +1,15 @@
 //! The rows of a section of a snapshot, each read at its place when it is laid out.
 ghost use Rattle.std.specs.Prelude.{◌≡◌, IfOk, IsSome, Some};
 ghost use Rattle.std.specs.FinMap.{get};
-ghost use Rattle.spelled_rows.specs.Rows.{rows_in};
+ghost use Rattle.type_rows.specs.Rows.{rows_in};
 ghost use Rattle.type_state.specs.SectionRows.{HasRows};
 
-use crate::place::read_place;
 use packed_half::NewRows;
 use row_model::{PlaceFault, Row};
 use schema_model::Schema;
 use std::alloc::{AllocError, Global};
 use std::marker::Model;
-use type_rows::Section;
+use type_rows::{Section, read_place};
 
 /// The rows of a section.
 #[derive(Drop)]
@@ -21,7 +20,7 @@ pub(crate) struct SectionRows<'a> {
 
 impl<'a> Model for SectionRows<'a> {
     ghost use Rattle.row_model.specs.Table.{RowMap};
-    ghost use Rattle.spelled_rows.specs.Rows.{rows_in};
+    ghost use Rattle.type_rows.specs.Rows.{rows_in};
     ghost use Rattle.type_state.specs.SectionRows.{HasRows, rows_code};
 
     ghost Value = { RowMap };

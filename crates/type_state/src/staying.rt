@@ -5,7 +5,7 @@ ghost use Rattle.std.specs.Ordering.{nat_cmp};
 ghost use Rattle.row_model.specs.declared.row.Value.{Value};
 ghost use Rattle.schema_model.specs.declared.schema.Field.{Field as FieldOf};
 ghost use Rattle.object_codec.specs.Part.{SpellsValue};
-ghost use Rattle.record_views.specs.Columns.{IsReadAt, part_of};
+ghost use Rattle.object_codec.specs.Columns.{IsReadAt, part_of};
 ghost use Rattle.type_rows.specs.Holds.{HoldsRows};
 ghost use Rattle.type_rows.specs.Layout.{width_count};
 ghost use Rattle.type_views.specs.OneType.{IsColumnIn};
@@ -15,7 +15,7 @@ ghost use Rattle.type_state.specs.Staying.{FieldStays, FitsBesideNull, FitsUnder
 use crate::differences::Difference;
 use crate::packed_rows::PackedRows;
 use bit_array::{all_ones, element};
-use record_views::Column;
+use object_codec::Column;
 use schema_model::{Field, FieldKind, Shape};
 use type_views::{TypeColumns, TypeRows};
 

@@ -4,7 +4,7 @@ use Rattle.std.specs.FinMap.{get}
 use Rattle.row_model.specs.declared.row.Row.{Row}
 use Rattle.row_model.specs.Table.{RowMap}
 use Rattle.object_codec.specs.Stored.{values_of_row}
-use Rattle.record_views.specs.declared.column.Column.{Column}
+use Rattle.object_codec.specs.declared.column.Column.{Column}
 use Rattle.column_rows.specs.declared.items.PackedItems.{PackedItems}
 use Rattle.column_rows.specs.Columns.{HasValueOf}
 use Rattle.column_rows.specs.Items.{IsListThere, IsRunThere}

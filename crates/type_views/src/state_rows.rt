@@ -8,7 +8,7 @@ ghost use Rattle.type_views.specs.Content.{Content};
 
 use crate::{OneType, TypeColumns, TypeRows};
 use column_rows::{ColumnRows, PackedItems};
-use record_views::Column;
+use object_codec::Column;
 use row_model::{LentRow, Row, Rows};
 use schema_model::Model;
 use std::alloc::{AllocError, Global};

@@ -6,7 +6,7 @@ ghost use Rattle.row_model.specs.Table.{RowMap};
 ghost use Rattle.type_views.specs.OneType.{AreListsIn, AreRunsIn, IsColumnIn, IsRowsBound};
 
 use column_rows::PackedItems;
-use record_views::Column;
+use object_codec::Column;
 use row_model::{LentRow, Row};
 use std::alloc::{AllocError, Global};
 

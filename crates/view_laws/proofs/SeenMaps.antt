@@ -28,7 +28,7 @@ use Rattle.type_rows.specs.declared.patch.PatchSection.{PatchSection}
 use Rattle.type_rows.specs.Patches.{FitsOrdinals, MovesRows}
 use Rattle.type_rows.specs.WellFormed.{IsWidth}
 use Rattle.type_rows.specs.WordsHeld.{bytes_held}
-use Rattle.spelled_rows.proofs.Keyed.{entries_back, entries_rise, sorted_from}
+use Rattle.type_rows.proofs.Keyed.{entries_back, entries_rise, sorted_from}
 use Rattle.seen_rows.proofs.Views.{get_seen, own_row}
 use Rattle.seen_patches.specs.Nulls.{null_width}
 use Rattle.seen_patches.specs.Patch.{HasColumns, own_for, widths_of}

@@ -57,9 +57,9 @@ returns g c =
     let new = g.B.Rows.table c.args.new.now in
     let index = c.args.type_index in
     let plan = c.args.plan.now in
-    put_changed schemas old new index c.schema-schema.result.now c.get-chosen.result.now c.in_ok-copy.field-0 c.in_ok-packed.packed c.get-removed.result.now c.get-added.result.now
+    put_changed schemas old new index c.schema-schema.result.now c.get-chosen.result.now c.in_ok-packed.packed c.get-removed.result.now c.get-added.result.now
     c.put_delta_type.result c.args.out.now.items c.put_delta_type.new.out.items
     (ap (λ (ss : List Schema). slice_get ss index) (sym c.model.ensures.model) ∙ c.schema-schema.ensures.value)
-    (chosen_there schemas old new plan c.requires.plan index c.get-chosen.result.now c.get-chosen.ensures) c.in_ok-copy.ensures c.in_ok-packed.ensures
+    (chosen_there schemas old new plan c.requires.plan index c.get-chosen.result.now c.get-chosen.ensures) c.in_ok-packed.ensures
     (removed_there schemas old new plan c.requires.plan index c.get-removed.result.now c.get-removed.ensures)
     (added_there schemas old new plan c.requires.plan index c.get-added.result.now c.get-added.ensures) c.put_delta_type.ensures.ok c.put_delta_type.ensures.fits

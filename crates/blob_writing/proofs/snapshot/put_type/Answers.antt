@@ -1,11 +1,31 @@
-use Rattle.std.proofs.Common.{◌∙◌, List, sym, ap, subst}
-use Rattle.std.specs.Prelude.{slice_get}
-use Rattle.ordinal_set.specs.Population.{AreUpTo}
-use Rattle.schema_model.specs.declared.schema.Schema.{Schema}
-use Rattle.row_packing.proofs.LiveRows.{up_to_greatest}
-use Rattle.blob_writing.proofs.Planning.{chosen_there, has_chosen, has_live, live_there, suits_new}
-use Rattle.blob_writing.proofs.WritingSnapshots.{put_carried}
+use Rattle.std.proofs.Common.{subst}
+use Rattle.std.specs.Prelude.{IfSome, option_copied}
+use Rattle.kept_sections.specs.Sections.{AreSectionsFor}
+use Rattle.blob_writing.proofs.Planning.{chosen_there, has_chosen, has_section, section_there, suits_new}
 use Rattle.blob_writing.proofs.snapshot.put_type.Goals as goal
+
+pub get-section-requires : goal.get-section-requires
+get-section-requires g c =
+    let schemas = g.B.Rows.schemas c.args.new.now in
+    let old = g.A.Rows.table c.args.old.now in
+    let new = g.B.Rows.table c.args.new.now in
+    has_section schemas old new c.in-Some.sections.now (subst (λ lent. IfSome (option_copied lent) (AreSectionsFor schemas old new)) c.in-Some.is c.requires.sections) c.args.type_index c.requires.known
+
+pub put_section-requires-clause-chosen : goal.put_section-requires-clause-chosen
+put_section-requires-clause-chosen g c =
+    let schemas = g.B.Rows.schemas c.args.new.now in
+    let old = g.A.Rows.table c.args.old.now in
+    let new = g.B.Rows.table c.args.new.now in
+    let are = subst (λ lent. IfSome (option_copied lent) (AreSectionsFor schemas old new)) c.in-Some.is c.requires.sections in
+    (section_there schemas old new c.in-Some.sections.now are c.args.type_index c.get-section.result.now c.get-section.ensures).chosen
+
+pub put_section-requires-clause-packed : goal.put_section-requires-clause-packed
+put_section-requires-clause-packed g c =
+    let schemas = g.B.Rows.schemas c.args.new.now in
+    let old = g.A.Rows.table c.args.old.now in
+    let new = g.B.Rows.table c.args.new.now in
+    let are = subst (λ lent. IfSome (option_copied lent) (AreSectionsFor schemas old new)) c.in-Some.is c.requires.sections in
+    (section_there schemas old new c.in-Some.sections.now are c.args.type_index c.get-section.result.now c.get-section.ensures).packed
 
 pub get-chosen-requires : goal.get-chosen-requires
 get-chosen-requires g c =
@@ -16,32 +36,6 @@ snapshot_rows-requires-clause-chosen g c =
     suits_new (g.B.Rows.schemas c.args.new.now) (g.A.Rows.table c.args.old.now) (g.B.Rows.table c.args.new.now) c.args.plan.now c.requires.plan c.args.type_index c.requires.states c.requires.known
     c.get-chosen.result.now c.get-chosen.ensures
 
-pub get-live-requires : goal.get-live-requires
-get-live-requires g c =
-    has_live (g.B.Rows.schemas c.args.new.now) (g.A.Rows.table c.args.old.now) (g.B.Rows.table c.args.new.now) c.args.plan.now c.requires.plan c.args.type_index c.requires.known
-
-pub put_snapshot_type-requires-clause-spellable : goal.put_snapshot_type-requires-clause-spellable
-put_snapshot_type-requires-clause-spellable g c =
-    c.spellable_model.ensures c.model.result.now c.args.type_index c.schema.result.now c.schema.ensures.model c.schema.ensures.value
-    (c.requires.few c.schema.result.now (ap (λ (ss : List Schema). slice_get ss c.args.type_index) (sym c.model.ensures.model) ∙ c.schema.ensures.value))
-
-pub put_snapshot_type-requires-clause-up_to : goal.put_snapshot_type-requires-clause-up_to
-put_snapshot_type-requires-clause-up_to g c =
-    let schemas = g.B.Rows.schemas c.args.new.now in
-    let old = g.A.Rows.table c.args.old.now in
-    let new = g.B.Rows.table c.args.new.now in
-    let chosen = chosen_there schemas old new c.args.plan.now c.requires.plan c.args.type_index c.get-chosen.result.now c.get-chosen.ensures in
-    subst (AreUpTo c.get-chosen.result.now.max) (sym (live_there schemas old new c.args.plan.now c.requires.plan c.args.type_index c.get-live.result.now c.get-live.ensures))
-    (up_to_greatest old new c.args.type_index c.get-chosen.result.now.max chosen.max)
-
-pub returns : goal.returns
-returns g c =
-    let schemas = g.B.Rows.schemas c.args.new.now in
-    let old = g.A.Rows.table c.args.old.now in
-    let new = g.B.Rows.table c.args.new.now in
-    let index = c.args.type_index in
-    put_carried schemas old new index c.schema.result.now c.get-chosen.result.now c.in_ok-copy.field-0 c.in_ok-packed.packed c.get-live.result.now c.put_snapshot_type.result c.args.out.now.items
-    c.put_snapshot_type.new.out.items
-    (ap (λ (ss : List Schema). slice_get ss index) (sym c.model.ensures.model) ∙ c.schema.ensures.value)
-    (chosen_there schemas old new c.args.plan.now c.requires.plan index c.get-chosen.result.now c.get-chosen.ensures) c.in_ok-copy.ensures c.in_ok-packed.ensures
-    (live_there schemas old new c.args.plan.now c.requires.plan index c.get-live.result.now c.get-live.ensures) c.put_snapshot_type.ensures.ok c.put_snapshot_type.ensures.fits
+pub put_section-requires-2-clause-chosen : goal.put_section-requires-2-clause-chosen
+put_section-requires-2-clause-chosen g c =
+    chosen_there (g.B.Rows.schemas c.args.new.now) (g.A.Rows.table c.args.old.now) (g.B.Rows.table c.args.new.now) c.args.plan.now c.requires.plan c.args.type_index c.get-chosen.result.now c.get-chosen.ensures

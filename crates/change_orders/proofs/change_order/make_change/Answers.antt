@@ -1,7 +1,8 @@
 use Rattle.std.proofs.Common.{Err, Ok, ℕ, arith, ap, refl, subst, sym, ◌∙◌, ◌≡◌, true}
-use Rattle.std.specs.Prelude.{All, IsTrue, ◌↔◌, ◌<◌, length}
+use Rattle.std.specs.Prelude.{All, IfSome, IsTrue, ◌↔◌, ◌<◌, length, option_copied}
 use Rattle.std.proofs.lemmas.Result.{err_from_is_err_and}
 use Rattle.row_packing.specs.Measured.{AreMeasured}
+use Rattle.kept_sections.specs.Sections.{AreSectionsFor}
 use Rattle.write_engine.specs.CycleLimit.{IsToPublish, TellsCycle}
 use Rattle.write_engine.specs.declared.producer.Closed.{Closed}
 use Rattle.hol_orders.specs.Parts.{asked_change}
@@ -59,6 +60,13 @@ end_cycle-requires-clause-measured g c =
     let mid = c.make_edited.new.producer in
     subst (λ (p : Published). IsToPublish p.version c.in_ok-missing.closed.changed → AreMeasured p.model p.rows mid.current c.in_ok-missing.closed.measured) (sym c.make_edited.ensures.kept)
     (c.in_ok-missing.ensures.tells (asked_change c.args.next.now) c.requires.lists).1.measured
+
+pub end_cycle-requires-clause-sections : goal.end_cycle-requires-clause-sections
+end_cycle-requires-clause-sections g c =
+    let mid = c.make_edited.new.producer in
+    let old = c.args.producer.now in
+    subst (λ (p : Published). IfSome (option_copied c.packed.result) (AreSectionsFor p.model p.rows mid.current)) (sym c.make_edited.ensures.kept)
+    (c.packed.ensures old.schemas old.previous mid.current c.in_ok-missing.ensures.ready)
 
 pub returns-in_err-reply-clause-steps : goal.returns-in_err-reply-clause-steps
 returns-in_err-reply-clause-steps g c = λ follows.

@@ -3,6 +3,7 @@ use Rattle.std.proofs.lemmas.Result.{err_from_is_err_and}
 use Rattle.schema_model.specs.declared.schema.Schema.{Schema}
 use Rattle.row_model.specs.Table.{Table}
 use Rattle.row_packing.specs.Measured.{AreMeasured}
+use Rattle.write_engine.specs.CycleLimit.{TellsCycle}
 use Rattle.write_engine.specs.Production.{Production}
 use Rattle.write_engine.specs.declared.producer.Closed.{Closed}
 use Rattle.hol_incremental.specs.EditKeys.{AreReady}
@@ -11,7 +12,7 @@ use Rattle.state_blobs.specs.Published.{published_of}
 use Rattle.producer_orders.specs.Ends.{IsMemory}
 use Rattle.producer_orders.specs.Making.{AreRefused}
 use Rattle.change_orders.specs.Making.{IsEdit, IsEditedState}
-use Rattle.change_orders.proofs.Changing.{edited_closed, same_end}
+use Rattle.change_orders.proofs.Changing.{closed_ready, edited_closed, made_ready, same_end}
 use Rattle.change_orders.proofs.change_order.make_edited.Goals as goal
 
 pub returns-clause-tells : goal.returns-clause-tells
@@ -19,10 +20,25 @@ returns-clause-tells g c = λ asked lists.
     edited_closed c.args.producer.now c.edit.new.producer c.close_by.new.self asked c.in_ok-missing.missing c.in_ok-closed.closed c.edit.ensures.kept c.in_ok-closed.ensures.ok (c.in_ok-missing.ensures.tells asked lists)
     c.in_ok-closed.ensures.changed c.in_ok-closed.ensures.first c.in_ok-closed.ensures.over c.in_ok-closed.ensures.measured c.previous.ensures.closed.fits.types c.current.ensures.closed.fits.types
 
-pub returns-clause-ready : goal.returns-clause-ready
-returns-clause-ready g c =
+pub pack-requires-clause-ready : goal.pack-requires-clause-ready
+pack-requires-clause-ready g c =
+    closed_ready c.args.producer.now c.edit.new.producer c.close_by.new.self c.edit.new.edits c.edit.ensures.kept c.in_ok-closed.ensures.ok c.in_ok-missing.ensures.ready
+
+pub pack-requires-clause-over : goal.pack-requires-clause-over
+pack-requires-clause-over g c =
+    subst (λ (p : Production). TellsCycle p.schemas p.previous p.current p.version c.in_ok-closed.closed.changed p.over) (sym c.in_ok-closed.ensures.ok) c.in_ok-closed.ensures.over
+
+pub returns-in_err-pack-clause-refused : goal.returns-in_err-pack-clause-refused
+returns-in_err-pack-clause-refused g c =
     let old = c.args.producer.now in
-    subst (λ (rows : Table). AreReady old.schemas old.previous rows c.edit.new.edits) (sym (ap (λ (p : Production). p.current) c.in_ok-closed.ensures.ok)) c.in_ok-missing.ensures.ready
+    let p = err_from_is_err_and c.from_residual-in_err-pack.result c.from_residual-in_err-pack.ensures.1 in
+    rw p.1 (made_ready old c.edit.new.producer c.close_by.new.self c.pack.new.edits c.edit.ensures.kept c.in_ok-closed.ensures.ok c.pack.ensures.ready).now
+
+pub returns-in_err-pack-clause-kept : goal.returns-in_err-pack-clause-kept
+returns-in_err-pack-clause-kept g c = ap published_of c.in_ok-closed.ensures.ok ∙ ap published_of c.edit.ensures.kept
+
+pub returns-clause-ready : goal.returns-clause-ready
+returns-clause-ready g c = made_ready c.args.producer.now c.edit.new.producer c.close_by.new.self c.pack.new.edits c.edit.ensures.kept c.in_ok-closed.ensures.ok c.pack.ensures.ready
 
 pub returns-clause-kept : goal.returns-clause-kept
 returns-clause-kept g c = ap published_of c.in_ok-closed.ensures.ok ∙ ap published_of c.edit.ensures.kept

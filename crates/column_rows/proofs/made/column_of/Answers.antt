@@ -7,7 +7,7 @@ use Rattle.object_codec.specs.ObjectPlace.{IsFieldWidth}
 use Rattle.object_codec.proofs.FieldWidths.{fields_small}
 use Rattle.column_rows.proofs.Spelled.{has_value_of}
 use Rattle.std.proofs.lemmas.List.{length-take}
-use Rattle.record_views.specs.Bytes.{bytes_of}
+use Rattle.object_codec.specs.Bytes.{bytes_of}
 use Rattle.column_rows.proofs.made.column_of.Goals as goal
 
 pub overflow_cast-size : goal.overflow_cast-size

@@ -1,6 +1,6 @@
 use Rattle.std.proofs.Common.{◌≡◌, ◌<◌, ℕ}
 use Rattle.std.specs.Prelude.{slice_index}
-use Rattle.record_views.specs.Bytes.{bytes_of}
+use Rattle.object_codec.specs.Bytes.{bytes_of}
 use Rattle.column_rows.proofs.same_values.are_bytes_same.Given as goal
 
 -- the first bytes are the same

@@ -1,6 +1,6 @@
 use Rattle.std.proofs.Common.{subst, sym}
 use Rattle.object_codec.specs.Part.{SpellsValue}
-use Rattle.record_views.specs.Columns.{part_of}
+use Rattle.object_codec.specs.Columns.{part_of}
 use Rattle.column_rows.proofs.SameRows.{value_both}
 use Rattle.column_rows.proofs.same_values.is_value_same.Goals as goal
 

@@ -1,6 +1,6 @@
 use Rattle.std.proofs.Common.{Some, sym, ap, subst, ◌∙◌}
 use Rattle.object_codec.specs.Part.{SpellsValue}
-use Rattle.record_views.specs.Columns.{part_of}
+use Rattle.object_codec.specs.Columns.{part_of}
 use Rattle.column_rows.proofs.FieldValues.{column_value}
 use Rattle.column_rows.proofs.values.field_value.Goals as goal
 

@@ -1,5 +1,5 @@
 use Rattle.std.proofs.Common.{ap, arith, length}
-use Rattle.record_views.proofs.BytesInWords.{bytes_long}
+use Rattle.object_codec.proofs.BytesInWords.{bytes_long}
 use Rattle.history_orders.proofs.key_columns.are_bytes.Goals as goal
 
 pub returns-then-packed-bytes : goal.returns-then-packed-bytes

@@ -1,7 +1,7 @@
 use Rattle.std.proofs.Common.{ap, sym, subst, ◌∙◌}
 use Rattle.row_model.specs.Key.{unless_null}
 use Rattle.object_codec.specs.Part.{SpellsValue}
-use Rattle.record_views.specs.Columns.{part_of}
+use Rattle.object_codec.specs.Columns.{part_of}
 use Rattle.column_rows.proofs.FieldValues.{column_value}
 use Rattle.history_orders.proofs.key_columns.may_have.Goals as goal
 

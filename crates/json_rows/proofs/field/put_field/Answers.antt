@@ -2,8 +2,8 @@ use Rattle.std.proofs.Common.{sym, subst}
 use Rattle.std.proofs.lemmas.Result.{on_ok_weaker}
 use Rattle.object_codec.specs.Part.{SpellsValue}
 use Rattle.row_model.specs.Table.{row_at}
-use Rattle.record_views.specs.declared.value_ref.ValueRef.{ValueRef}
-use Rattle.record_views.specs.Columns.{Shows, part_of}
+use Rattle.object_codec.specs.declared.value_ref.ValueRef.{ValueRef}
+use Rattle.object_codec.specs.Columns.{Shows, part_of}
 use Rattle.column_rows.proofs.FieldValues.{column_value}
 use Rattle.json_rows.proofs.PackedTexts.{text_put}
 use Rattle.json_rows.proofs.field.put_field.Goals as goal

@@ -1,7 +1,7 @@
 use Rattle.std.proofs.Common.{All, get_or, subst, arith, rules}
 use Rattle.std.proofs.lemmas.List.{take_all}
-use Rattle.record_views.proofs.BytesInWords.{bytes_long}
-use Rattle.record_views.specs.Bytes.{bytes_of}
+use Rattle.object_codec.proofs.BytesInWords.{bytes_long}
+use Rattle.object_codec.specs.Bytes.{bytes_of}
 use Rattle.json_rows.specs.PlainText.{IsPlainUnit}
 use Rattle.json_rows.proofs.PlainTexts.{plain_more}
 use Rattle.json_rows.proofs.plain.is_plain_text.Goals as goal

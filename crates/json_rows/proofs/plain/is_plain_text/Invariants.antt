@@ -1,5 +1,5 @@
 use Rattle.std.proofs.Common.{All, take}
-use Rattle.record_views.specs.Bytes.{bytes_of}
+use Rattle.object_codec.specs.Bytes.{bytes_of}
 use Rattle.json_rows.specs.PlainText.{IsPlainUnit}
 use Rattle.json_rows.proofs.plain.is_plain_text.Given as goal
 

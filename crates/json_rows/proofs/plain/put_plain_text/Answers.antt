@@ -1,6 +1,6 @@
 use Rattle.std.proofs.Common.{[], ◌∷◌, ◌++◌, ap, ◌∙◌, arith}
-use Rattle.record_views.specs.Bytes.{bytes_of}
-use Rattle.record_views.proofs.BytesInWords.{bytes_long, put_more, put_all}
+use Rattle.object_codec.specs.Bytes.{bytes_of}
+use Rattle.object_codec.proofs.BytesInWords.{bytes_long, put_more, put_all}
 use Rattle.json_rows.proofs.PackedTexts.{quoted_put}
 use Rattle.json_rows.proofs.plain.put_plain_text.Goals as goal
 

@@ -1,5 +1,5 @@
 use Rattle.std.proofs.Common.{◌≡◌, ℕ, [], ◌∷◌, List, Some, length, length-append, slice_get, sym, ap, subst, arith}
-use Rattle.record_views.specs.declared.column.Column.{Column}
+use Rattle.object_codec.specs.declared.column.Column.{Column}
 use Rattle.column_rows.specs.Columns.{IsColumnOf}
 use Rattle.json_rows.proofs.Stands.{each_more}
 use Rattle.json_rows.proofs.standing.columns_of.Goals as goal

@@ -1,6 +1,6 @@
 use Rattle.std.proofs.Common.{rules, ◌<◌, ◌*◌, ◌^◌, arith, refl, sym, subst}
 use Rattle.object_codec.proofs.FieldWidths.{place_fits, record_fits, wide_at, widths_long}
-use Rattle.record_views.proofs.Faults.{area_at}
+use Rattle.object_codec.proofs.Faults.{area_at}
 use Rattle.row_faults.proofs.RecordWalks.{Next, adding_begun, adding_ends, adding_fails, adding_more, next_fits, next_inside, next_within}
 use Rattle.row_faults.proofs.records.add_record.Goals as goal
 

@@ -1,8 +1,8 @@
 use Rattle.std.proofs.Common.{length, subst, sym}
 use Rattle.std.specs.Prelude.{slice_index}
 use Rattle.object_codec.specs.ObjectPlace.{HoldsPlace}
-use Rattle.record_views.specs.Sound.{IsFirstFault, SpellSome}
-use Rattle.record_views.proofs.Soundness.{was_none, was_some}
+use Rattle.object_codec.specs.Sound.{IsFirstFault, SpellSome}
+use Rattle.object_codec.proofs.Soundness.{was_none, was_some}
 use Rattle.type_rows.specs.declared.fault.RowFault.{RowFault}
 use Rattle.row_faults.specs.LoadFault.{FailsLoad}
 use Rattle.row_faults.proofs.RecordFaults.{holds_listed, of_records, record_failed, records_tested, to_records}

@@ -2,7 +2,7 @@ use Rattle.std.proofs.Common.{ℕ, List, arith, subst, sym}
 use Rattle.list_codec.specs.ListPlace.{FailsListRow, SpellsList}
 use Rattle.list_codec.specs.ListRows.{FailsAt, SpellsAt}
 use Rattle.row_faults.specs.RunItems.{AreListsOf}
-use Rattle.record_views.proofs.Soundness.{was_none, was_some}
+use Rattle.object_codec.proofs.Soundness.{was_none, was_some}
 use Rattle.row_faults.proofs.FirstPlaces.{failed_here, rows_tested, spelled_more}
 use Rattle.row_faults.proofs.FoundRows.{listed_below, read_there}
 use Rattle.row_faults.proofs.RunFaults.{holds_lists, list_fails, list_spells, of_lists}

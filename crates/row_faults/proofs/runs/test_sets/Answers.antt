@@ -1,7 +1,7 @@
 use Rattle.std.proofs.Common.{ℕ, List, arith}
 use Rattle.bucket_codec.specs.BucketPlace.{FailsBucketRow}
 use Rattle.bucket_codec.specs.BucketRows.{FailsAt, SpellsAt}
-use Rattle.record_views.proofs.Soundness.{was_none, was_some}
+use Rattle.object_codec.proofs.Soundness.{was_none, was_some}
 use Rattle.row_faults.proofs.RunFaults.{SpellsSomePairs, buckets_fail, buckets_spell, holds_at, of_section}
 use Rattle.row_faults.proofs.FoundRows.{listed_below, read_there}
 use Rattle.row_faults.proofs.FirstPlaces.{failed_here, rows_tested, spelled_more}

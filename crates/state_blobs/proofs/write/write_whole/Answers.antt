@@ -7,3 +7,6 @@ write_snapshot-requires-clause-states c =
 
 pub write_snapshot-requires-clause-plan : goal.write_snapshot-requires-clause-plan
 write_snapshot-requires-clause-plan c = rw (c.current-current.ensures.schemas, c.previous-previous.ensures.table, c.current-current.ensures.table) c.requires.plan
+
+pub write_snapshot-requires-clause-sections : goal.write_snapshot-requires-clause-sections
+write_snapshot-requires-clause-sections c = rw (c.current-current.ensures.schemas, c.previous-previous.ensures.table, c.current-current.ensures.table) c.requires.sections

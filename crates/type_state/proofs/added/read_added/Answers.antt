@@ -1,7 +1,8 @@
 use Rattle.std.proofs.Common.{arith, subst, sym, ap, length, get_or}
 use Rattle.type_rows.specs.declared.fault.RowFault.{RowFault}
 use Rattle.type_rows.specs.Patches.{places_in}
-use Rattle.type_state.specs.FirstFaults.{FailsAdds, FailsPlace}
+use Rattle.type_rows.specs.Fails.{FailsPlace}
+use Rattle.type_state.specs.FirstFaults.{FailsAdds}
 use Rattle.type_state.proofs.AddedRows.{all_read, begun, first_failed, read_on}
 use Rattle.type_state.proofs.added.read_added.Goals as goal
 

@@ -1,6 +1,6 @@
 use Rattle.std.proofs.Common.{rules, arith, ◌≡◌, ◌<◌, None, length}
 use Rattle.type_state.proofs.HalfColumns.{column_given, packed_by_max, there_given, wide_given}
-use Rattle.record_views.specs.Bytes.{bytes_of}
+use Rattle.object_codec.specs.Bytes.{bytes_of}
 use Rattle.type_state.proofs.columns.column_in.Goals as goal
 
 pub bytes_of_field-area-requires-clause-there : goal.bytes_of_field-area-requires-clause-there

@@ -1,7 +1,7 @@
 use Rattle.std.proofs.Common.{List, ℕ, ap, sym, subst, ◌∙◌}
 use Rattle.std.specs.Prelude.{All, replicate}
 use Rattle.std.proofs.lemmas.List.{length-replicate}
-use Rattle.fixed_records.specs.Fixed.{HasFront, whole_words}
+use Rattle.record_copies.specs.Fixed.{HasFront, whole_words}
 use Rattle.packed_half.specs.Half.{place_words}
 use Rattle.type_rows.specs.Layout.{places_of, words_needed}
 use Rattle.type_rows.specs.Differing.{Difference}

@@ -1,6 +1,6 @@
 use Rattle.std.proofs.Common.{◌+◌, ℕ, List, ap, arith, map, subst, sym, ◌∙◌}
 use Rattle.std.specs.Prelude.{option_copied, sum}
-use Rattle.record_views.specs.Bytes.{bytes_of}
+use Rattle.object_codec.specs.Bytes.{bytes_of}
 use Rattle.type_rows.specs.Differing.{Difference}
 use Rattle.type_state.specs.Differences.{rows_with}
 use Rattle.type_state.specs.KeptRecords.{kept_rows}

@@ -12,8 +12,8 @@ pub returns : goal.returns
 returns c = λ schemas previous next ready.
     elim c.match-take.branch [
       | in-Some w ↦
-          accepted_edits schemas previous next _ (subst (AreReady schemas previous next) (sym c.self.view_is) ready) (coming_of w.in-Some.next) (ap (option_map coming_of) (sym c.take.ensures.value ∙ w.in-Some.is)) _
-          (ap (λ s. s.tally.counts) w.self-inside-is) (ap (λ s. s.tally.sums.items) w.self-inside-is) (c.update_all.ensures ∙ ap (λ s. map moved s.keys.items) w.self-inside-is)
+          accepted_edits c.kept_for_next.ensures schemas previous next _ (subst (AreReady schemas previous next) (sym c.self.view_is) ready) (coming_of w.in-Some.next) (ap (option_map coming_of) (sym c.take.ensures.value ∙ w.in-Some.is)) _
+          (ap (λ s. s.tally.counts) w.self-inside-is) (ap (λ s. s.tally.sums.items) w.self-inside-is) (c.take-2.ensures.value ∙ ap (λ s. s.next_sections) w.self-inside-is) (c.update_all.ensures ∙ ap (λ s. map moved s.keys.items) w.self-inside-is)
       | in_default w ↦
           absurd (let e = subst IsSome (ap (λ x. x.next) (sym c.self.view_is) ∙ ap (option_map coming_of) (sym c.take.ensures.value ∙ w.in_default.is)) c.requires.counts in cc)
     ]

@@ -7,5 +7,5 @@ use Rattle.hol_incremental.proofs.edits.Edits.forget.Goals as goal
 pub returns : goal.returns
 returns c = record {
   dropped = refl;
-  kept = λ schemas table are. kept_edits schemas table _ (subst (AreEditsOf schemas table) (sym c.self.view_is) are) _ refl refl (ap (map settled) c.forget_all.ensures ∙ settled_twice c.self.inside.keys.items);
+  kept = λ schemas table are. kept_edits schemas table _ (subst (AreEditsOf schemas table) (sym c.self.view_is) are) _ refl refl refl (ap (map settled) c.forget_all.ensures ∙ settled_twice c.self.inside.keys.items);
 }

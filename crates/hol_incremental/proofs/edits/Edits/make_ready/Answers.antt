@@ -14,13 +14,13 @@ reserve_all-requires-clause-agree g c =
 pub returns-in_err-reserve_all-clause-edits : goal.returns-in_err-reserve_all-clause-edits
 returns-in_err-reserve_all-clause-edits g c =
     let items = with_items_is c.self.inside.keys c.reserve_all.new.keys (omega (arith, c.reserve_all.auto.keys, c.as_mut_slice.ensures.len)) in
-    kept_edits c.args.producer.now.schemas c.args.producer.now.previous _ (subst (AreEditsOf c.args.producer.now.schemas c.args.producer.now.previous) (sym c.self.view_is) c.requires.edits) _ refl refl
+    kept_edits c.args.producer.now.schemas c.args.producer.now.previous _ (subst (AreEditsOf c.args.producer.now.schemas c.args.producer.now.previous) (sym c.self.view_is) c.requires.edits) _ refl refl refl
     (ap (map settled) items ∙ c.reserve_all.ensures.kept ∙ ap (map settled) c.as_mut_slice.ensures.value)
 
 pub returns-clause-edits : goal.returns-clause-edits
 returns-clause-edits g c =
     let items = with_items_is c.self.inside.keys c.reserve_all.new.keys (omega (arith, c.reserve_all.auto.keys, c.as_mut_slice.ensures.len)) in
-    kept_edits c.args.producer.now.schemas c.args.producer.now.previous _ (subst (AreEditsOf c.args.producer.now.schemas c.args.producer.now.previous) (sym c.self.view_is) c.requires.edits) _ refl refl
+    kept_edits c.args.producer.now.schemas c.args.producer.now.previous _ (subst (AreEditsOf c.args.producer.now.schemas c.args.producer.now.previous) (sym c.self.view_is) c.requires.edits) _ refl refl refl
     (ap (map settled) items ∙ c.reserve_all.ensures.kept ∙ ap (map settled) c.as_mut_slice.ensures.value)
 
 pub returns-clause-ready : goal.returns-clause-ready
@@ -29,9 +29,10 @@ returns-clause-ready g c =
     let next = c.args.producer.now.current in
     let items = with_items_is c.self.inside.keys c.reserve_all.new.keys (omega (arith, c.reserve_all.auto.keys, c.as_mut_slice.ensures.len)) in
     record {
-      now = kept_edits S c.args.producer.now.previous _ (subst (AreEditsOf S c.args.producer.now.previous) (sym c.self.view_is) c.requires.edits) _ refl refl
+      now = kept_edits S c.args.producer.now.previous _ (subst (AreEditsOf S c.args.producer.now.previous) (sym c.self.view_is) c.requires.edits) _ refl refl refl
           (ap (map settled) items ∙ c.reserve_all.ensures.kept ∙ ap (map settled) c.as_mut_slice.ensures.value);
       counts = c.requires.counts;
+      sections = tt;
       keys = subst (AreReadyKeys S next) (sym items)
           (subst (λ (table : Table). AreReadyKeys S table c.reserve_all.new.keys) c.current.ensures.table
           (subst (λ (schemas : List Schema). AreReadyKeys schemas c.current.result.table c.reserve_all.new.keys) c.previous.ensures.schemas c.in_ok-reserve_all.ensures.ready));

@@ -2,7 +2,7 @@ use Rattle.std.proofs.Common.{ℕ, List, Option, map, ap, refl, sym, subst, ◌�
 use Rattle.std.specs.Prelude.{OnOk, sum}
 use Rattle.row_model.specs.declared.row.Row.{Row}
 use Rattle.object_codec.specs.Packing.{HasRoom, IsRowPut}
-use Rattle.record_views.specs.Bytes.{bytes_of}
+use Rattle.object_codec.specs.Bytes.{bytes_of}
 use Rattle.type_state.proofs.Halves.{is_there, not_there}
 use Rattle.type_state.proofs.KeptRecords.{record_holds, record_put, record_room}
 use Rattle.type_state.proofs.kept_records.KeptRecords.copy_place.Goals as goal

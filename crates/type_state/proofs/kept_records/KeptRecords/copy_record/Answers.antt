@@ -1,6 +1,6 @@
 use Rattle.std.proofs.Common.{arith, map}
 use Rattle.object_codec.proofs.FieldWidths.{record_fits}
-use Rattle.record_views.specs.Bytes.{bytes_of}
+use Rattle.object_codec.specs.Bytes.{bytes_of}
 use Rattle.type_state.proofs.KeptRecords.{record_holds, record_put, record_room}
 use Rattle.type_state.proofs.kept_records.KeptRecords.copy_record.Goals as goal
 

@@ -1,3 +1,0 @@
-pub mod Copies
-pub mod RecordBits
-pub mod RecordPuts

@@ -1,0 +1,5 @@
+pub mod Changing
+pub mod FixedAreas
+pub mod MovedPlaces
+pub mod MovedRows
+pub mod SectionLists

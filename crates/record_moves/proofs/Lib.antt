@@ -1,4 +1,0 @@
-pub mod Taken
-pub mod Copied
-pub mod Sources
-pub mod StoredRows

@@ -1,6 +1,0 @@
-mod Shifts
-mod WordBytes
-mod Parts
-mod Offsets
-mod Moves
-mod Runs

@@ -1,5 +1,0 @@
-use Rattle.record_runs.proofs.Shifts.{ShiftedSoFar}
-use Rattle.record_runs.proofs.column.Column.shift.Given as goal
-
-abbrev pub invariant-loop-place : goal.invariant-loop-place
-invariant-loop-place l = ShiftedSoFar l.self l.initial.words l.words l.fn.run l.less l.more l.place

@@ -1,5 +1,0 @@
-use Rattle.record_views.proofs.BytesInWords.{bytes_between}
-use Rattle.record_views.proofs.bytes.PackedBytes.between.Goals as goal
-
-pub returns : goal.returns
-returns c = bytes_between c.args.self.words.now c.args.self.start c.args.self.len c.args.start c.args.end c.requires.rises c.requires.within

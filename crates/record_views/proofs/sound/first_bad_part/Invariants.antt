@@ -1,5 +1,0 @@
-use Rattle.record_views.specs.Sound.{HaveValues, parts_in}
-use Rattle.record_views.proofs.sound.first_bad_part.Given as goal
-
-abbrev pub invariant-loop-index : goal.invariant-loop-index
-invariant-loop-index l = HaveValues l.kind (parts_in l.first l.size l.before l.width l.area) l.places l.index

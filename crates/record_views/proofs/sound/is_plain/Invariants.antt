@@ -1,6 +1,0 @@
-use Rattle.std.proofs.Common.{ℕ, ◌<◌, ◌≤◌, get_or}
-use Rattle.record_views.specs.Sound.{ArePlain}
-use Rattle.record_views.proofs.sound.is_plain.Given as goal
-
-abbrev pub invariant-loop-byte : goal.invariant-loop-byte
-invariant-loop-byte l = ((k : ℕ) → k < l.byte-index → get_or l.bytes k 0 ≤ l.greatest) × (ArePlain l.bytes → l.greatest < 128)

@@ -1,5 +1,0 @@
-use Rattle.spelled_rows.proofs.SameBits as same
-use Rattle.spelled_rows.proofs.laws.same_bits.Goals as goal
-
-pub returns : goal.returns
-returns c = record { within = same.bits_within; joined = same.bits_joined }

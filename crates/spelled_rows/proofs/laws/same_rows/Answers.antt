@@ -1,5 +1,0 @@
-use Rattle.spelled_rows.proofs.SameRows as same
-use Rattle.spelled_rows.proofs.laws.same_rows.Goals as goal
-
-pub returns : goal.returns
-returns c = record { fixed = same.record_same; parts = same.parts_move; list = same.list_same; set = same.set_same; map = same.map_same }

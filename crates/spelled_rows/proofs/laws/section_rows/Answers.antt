@@ -1,5 +1,0 @@
-use Rattle.spelled_rows.proofs.LiveRows as rows
-use Rattle.spelled_rows.proofs.laws.section_rows.Goals as goal
-
-pub returns : goal.returns
-returns c = record { only = rows.rows_are; is = rows.section_is }

@@ -1,5 +1,0 @@
-use Rattle.spelled_rows.proofs.WorkedRows as worked
-use Rattle.spelled_rows.proofs.laws.worked_rows.Goals as goal
-
-pub returns : goal.returns
-returns c = record { number = worked.number; null = worked.null; set = worked.set; round = worked.round; units = worked.units }
