@@ -15,6 +15,7 @@ use std::alloc::Global;
 /// afresh. The answer tells how many were compared, and how many versions there are.
 /// It is refused for the first blob that cannot be taken on the way, or with `Mismatch` at the first version at which the states differ. The
 /// store stays as it is. `Store` comes only where the store's count of faults rose.
+#[inline(never)]
 pub fn check<S: BlobStore>(
     alloc: Global,
     store: &mut S,

@@ -24,6 +24,7 @@ use write_engine::{Producer, RestoreFault};
 /// cause, where the store announces no version, what it announces is none, or it is another one; then where the snapshot cannot be loaded; then
 /// where it has two equal rows. After a refusal or a stop the producer is as before. The store stays as it is. `Store` comes only where the
 /// store's count of faults rose.
+#[inline(never)]
 pub fn restore<S: BlobStore>(
     alloc: Global,
     store: &mut S,

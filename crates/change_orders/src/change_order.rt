@@ -46,6 +46,7 @@ use write_engine::{Closed, Producer};
 ///
 /// What is kept for changes is that of the producer's last state, and is made where nothing is kept; it is kept where a change was made. A refusal leaves the store, the producer and what is kept
 /// as they were; a stop leaves the store with the first of the puts. `Store` comes only where the store's count of faults rose.
+#[inline(never)]
 pub fn change<S: BlobStore>(
     alloc: Global,
     store: &mut S,

@@ -23,6 +23,7 @@ use std::sync::ledger::{Blank, Ledger};
 /// The consumer keeps an index of a type by the values at the ends of paths, and the answer tells how many rows have a key; one that is kept already is
 /// answered again. No path stands for the primary key. Refused with `NoState`, `NoType`, `WrongKind`, `BadPath` and `TooLarge`, in this order: the last
 /// where the index is not kept and there is no room for another one. After a refusal or a stop the consumer is as before.
+#[inline(never)]
 pub fn index(
     alloc: Global,
     consumer: &mut Consumer,

@@ -12,6 +12,7 @@ use schema_model::Name;
 use std::alloc::{AllocError, Global};
 
 /// Tells the live ordinals of a type, rising. Refused with `NoState` and `NoType`, in this order.
+#[inline(never)]
 pub fn live(alloc: Global, consumer: &Consumer, name: &Name) -> Result<Reply, OrderStop>
     ensures reply { IfOk result (λ reply. LiveReply consumer.now name.now reply) }
     ensures stop { IfErr result (λ stop. stop ≡ OrderStop.Memory) }

@@ -16,6 +16,7 @@ use std::alloc::Global;
 
 /// Shows the records of the rows of a type that were live before the last step and are not now, by rising ordinal, as they were before it. Refused with
 /// `NoState`, `NoType` and `TooLarge`, in this order: the last where the records have more than `MAX_NODES` nodes together.
+#[inline(never)]
 pub fn past(alloc: Global, consumer: &Consumer, name: &Name) -> Result<Reply, OrderStop>
     ensures reply { IfOk result (λ reply. PastReply consumer.now name.now reply) }
     ensures stop { IfErr result (λ stop. stop ≡ OrderStop.Memory) }

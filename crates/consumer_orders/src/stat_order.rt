@@ -12,6 +12,7 @@ use std::alloc::{AllocError, Global};
 
 /// Tells of each type how many rows are live, the greatest ordinal that has a place, and how many words and bytes the rows take. Refused with `NoState`.
 #[tactic(auto, using(crate::proofs::Counting::no_state, crate::proofs::Counting::has_state, crate::proofs::Counting::stat_told))]
+#[inline(never)]
 pub fn stat(alloc: Global, consumer: &Consumer) -> Result<Reply, OrderStop>
     ensures reply { IfOk result (StatReply consumer.now) }
     ensures stop { IfErr result (λ stop. stop ≡ OrderStop.Memory) }

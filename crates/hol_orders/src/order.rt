@@ -1,6 +1,9 @@
 //! The orders, and the reading of one from a line.
-ghost use Rattle.std.specs.Prelude.{◌≡◌, ◌⊎◌, Ok, Err, IsErrAnd};
+ghost use Rattle.std.specs.Prelude.{◌≡◌, ◌⊎◌, ℕ, List, Some, Ok, Err, IsErrAnd, IsUtf8};
 ghost use Rattle.hol_varint.specs.Yields.{Yields};
+ghost use Rattle.serde_json.specs.Data.{member, no_members, object};
+ghost use Rattle.serde_json.specs.Read.{read};
+ghost use Rattle.serde_json.specs.View.{view};
 ghost use Rattle.hol_orders.specs.Order.{Orders, TellsOrder, IsFreeOrder, order_data};
 
 use crate::added::Added;
@@ -12,8 +15,10 @@ use crate::kind::Kind;
 use crate::shapes::order_with;
 use hol_varint::List;
 use json::Scratch;
+use record_stream::split_plain;
 use schema_model::Name;
 use serde_json::Value;
+use simdutf8::basic::from_utf8;
 use std::alloc::{AllocError, AllocFailed, Global};
 
 /// Versions that are walked, in their order.
@@ -238,7 +243,7 @@ pub fn order_of(alloc: Global, line: &[u8]) -> Result<Order, OrderFault>
 }
 
 // The order of a line: the records of a cycle or a change in its plain form stay in their line, a look-up in its plain form is taken from the tokens of
-// its line, and any other line is read whole.
+// its line, another order of few parts is cut where it stands, and any other line is read whole.
 fn read_order(alloc: Global, scratch: &mut Scratch, line: &[u8]) -> Result<Order, OrderFault>
     ensures { TellsOrder line.now result }
 {
@@ -250,12 +255,24 @@ fn read_order(alloc: Global, scratch: &mut Scratch, line: &[u8]) -> Result<Order
     }
     match find_in_line(alloc, scratch, line)? {
         Some(order) => Ok(order),
+        None => order_in_parts(alloc, line),
+    }
+}
+
+// The same of a line that is cut, where it is one of few parts.
+fn order_in_parts(alloc: Global, line: &[u8]) -> Result<Order, OrderFault>
+    ensures { TellsOrder line.now result }
+{
+    let Ok(text) = from_utf8(line) else {
+        return order_in_json(alloc, line);
+    };
+    match split_plain(alloc, text)? {
+        Some(plain) => order_under(alloc, plain.word, plain.content),
         None => order_in_json(alloc, line),
     }
 }
 
 // The same of a line that is read whole.
-#[tactic(auto, using(crate::proofs::Told::told_kind))]
 fn order_in_json(alloc: Global, line: &[u8]) -> Result<Order, OrderFault>
     ensures { TellsOrder line.now result }
 {
@@ -267,7 +284,15 @@ fn order_in_json(alloc: Global, line: &[u8]) -> Result<Order, OrderFault>
     let Some((word, content)) = only_member(value) else {
         return Err(OrderFault::BadOrder);
     };
-    match Kind::of_word(word.as_str()) {
+    order_under(alloc, word.as_str(), content)
+}
+
+// The order of a line whose one member has this name and this content.
+#[tactic(auto, using(crate::proofs::Told::told_kind))]
+fn order_under(alloc: Global, word: &str, content: Value) -> Result<Order, OrderFault>
+    ensures { (line : List ℕ) → IsUtf8 line → read line ≡ Some (object (member word.now (view content) no_members)) → TellsOrder line result }
+{
+    match Kind::of_word(word) {
         Some(kind) => order_with(alloc, kind, content),
         None => Err(OrderFault::BadOrder),
     }

@@ -15,7 +15,7 @@
 //! consumer.load(store, 1)?;
 //! consumer.step(store, &BlobName::Delta(1, 2), &mut steps)?;
 //! let rows = consumer.now();
-//! let record = tree_value(rt.alloc(), rows, type_index, ordinal, &mut nodes)?;
+//! let record = tree_value(rt.alloc(), &rows, type_index, ordinal, &mut nodes)?;
 //! ```
 //!
 //! The program library_example has these calls, each where what it asks for is proved. Contracts name definitions of the crates below; `specs` passes

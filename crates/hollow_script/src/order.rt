@@ -53,6 +53,7 @@ pub fn answer<S: BlobStore>(
     ensures store_fault { IsErrOf result OrderStop.Store → Rose (S.seen store.old).faults (S.seen store.new).faults }
     ensures later { (S.seen store.old).faults ≤ (S.seen store.new).faults }
 {
+    // The functions of orders that are rare or take long are not inlined, so that the others get by with a small frame.
     match order {
         Order::Model(schemas) => {
             keep.edits = None;

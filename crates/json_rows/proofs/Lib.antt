@@ -7,5 +7,6 @@ pub mod Leads
 pub mod Put
 pub mod PlainTexts
 pub mod Behind
+pub mod Decimals
 pub mod PackedTexts
 pub mod Stands

@@ -1,6 +1,7 @@
 //! Stored rows in JSON.
 #![tactic(auto)]
 
+mod digits;
 mod field;
 mod form;
 pub mod laws;

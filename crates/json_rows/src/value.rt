@@ -4,6 +4,7 @@ ghost use Rattle.std.specs.Fmt.{signed_decimal};
 ghost use Rattle.json_rows.specs.RowLine.{PutsAll};
 ghost use Rattle.json_rows.specs.StoredRow.{IsValueData};
 
+use crate::digits::put_few;
 use crate::leaf_value;
 use crate::plain::{is_plain, put_plain};
 use row_model::Value;
@@ -41,6 +42,11 @@ pub(crate) fn put_unsigned(number: u64, out: &mut Vec<u8>) -> Result<(), AllocEr
     ensures put { OnOk result (out.new.items ≡ out.old.items ++ decimal number) }
     ensures err { OnErr result (out.new.items ≡ out.old.items) }
 {
+    if number < 100_000_000 {
+        out.reserve(8)?;
+        put_few(number, out);
+        return Ok(());
+    }
     out.extend_from_slice(itoa::Buffer::new().format(number).as_bytes())
 }
 
@@ -50,5 +56,8 @@ pub(crate) fn put_signed(number: i64, out: &mut Vec<u8>) -> Result<(), AllocErro
     ensures put { OnOk result (out.new.items ≡ out.old.items ++ signed_decimal number) }
     ensures err { OnErr result (out.new.items ≡ out.old.items) }
 {
+    if number >= 0 {
+        return put_unsigned(number.unsigned_abs(), out);
+    }
     out.extend_from_slice(itoa::Buffer::new().format(number).as_bytes())
 }

@@ -123,3 +123,15 @@ module _ (slots : List Slot) (chains : Chained) (buckets keyed : ℕ) (kept : Ar
       hashed = placed_hashes;
       count = omega (arith, one_less, one_more, kept.count, count_set slots o slot inside, ap one_if (linked_is o));
     }
+
+  -- the slot of an ordinal is freed
+  pub freed_kept : (o : ℕ) (unlinked : Chained) (less : ℕ) → o < length slots → ((q : ℕ) → hash_of unlinked q ≡ cond (nat_eq q o) None (hash_of chains q)) → unlinked.slots ≡ chains.slots →
+      length unlinked.chains ≡ length chains.chains → less + one_if (is_some (hash_of chains o)) ≡ keyed → AreKept (slice_set slots o Free) unlinked buckets less
+  freed_kept o unlinked less inside leaves places parts one_less = placed_kept o inside unlinked unlinked less less Free leaves stays places parts one_less (omega arith)
+    where
+      stays : (q : ℕ) → hash_of unlinked q ≡ cond (nat_eq q o) None (hash_of unlinked q)
+      stays q =
+          elim (cases_eq q o) [
+            | inl e ↦ leaves q ∙ same_test q o None (hash_of chains q) e ∙ sym (same_test q o None (hash_of unlinked q) e)
+            | inr apart ↦ sym (other_test q o None (hash_of unlinked q) apart)
+          ]

@@ -107,12 +107,21 @@ impl KeyRows {
         self.slots.set(ordinal, slot);
     }
 
+    // Frees the slot of an ordinal, and lets its key go. It takes no memory.
+    fn clear(&mut self, ordinal: u32)
+        requires { ordinal < self.old.room }
+        ensures { self.new ≡ record self.old { keys = remove self.old.keys ordinal } }
+    {
+        unlink(&mut self.chains, &mut self.keyed, ordinal);
+        self.slots.set(ordinal, Slot::Free);
+    }
+
     /// Drops the row under an ordinal, if there is one, and lets its key go. It takes no memory.
     pub(crate) fn remove(&mut self, ordinal: u32)
         ensures { self.new ≡ record self.old { keys = remove self.old.keys ordinal } }
     {
         if (ordinal as usize) < self.slots.len() {
-            self.place(ordinal, Slot::Free);
+            self.clear(ordinal);
         }
     }
 

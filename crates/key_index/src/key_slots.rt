@@ -80,6 +80,7 @@ impl KeySlots {
     }
 
     /// Writes one slot. It takes no memory.
+    #[inline(always)]
     pub(crate) fn set(&mut self, ordinal: u32, slot: Slot)
         requires inside { ordinal < length (slots_in self.old) }
         requires fits { IsTrue (fits (is_large self.old) slot) }

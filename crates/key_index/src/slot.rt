@@ -86,6 +86,7 @@ impl Slot {
     }
 
     /// The same in a small slot, where that has room for its key.
+    #[inline(always)]
     pub(crate) fn small(&self) -> Option<SmallSlot>
         ensures same { IfSome result (λ small. slot_of small ≡ self.now) }
         ensures fits { is_some result ≡ is_small self.now }

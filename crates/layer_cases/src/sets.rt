@@ -1,132 +1,130 @@
 //! Sets of ordinals: their members, runs of gaps that are written and populations.
-use crate::case::{Subject, pass};
 use hol_varint::Ordinals;
 use ordinal_set::{OrdinalSet, put_gaps};
 use std::alloc::{AllocError, Global};
-use std::test::Fail;
 
-/// What is told of four members (`four`), which are looked up (`among`), of a population (`words`), of two sets (`two`), of a
-/// run of gaps behind a byte (`gaps`), and of the populations of no rows (`none`) and of one.
-pub fn told(alloc: Global, word: &str) -> Result<String, AllocError> {
-    match word.as_bytes() {
-        b"four" => four_told(alloc),
-        b"among" => among_told(alloc),
-        b"words" => words_told(alloc),
-        b"two" => two_told(alloc),
-        b"gaps" => gaps_told(alloc),
-        b"none" => none_told(alloc),
-        _ => one_told(alloc),
+/// Tells of four members (`four`), which are looked up (`among`), of a population (`words`), of two sets (`two`), of a
+/// run of gaps behind a byte (`gaps`), or of the population of no rows (`none`) or of one.
+pub fn tell(out: &mut String, alloc: Global, word: &str) -> Result<(), AllocError> {
+    match word {
+        "four" | "among" => tell_four(out, alloc, word),
+        "words" => tell_words(out, alloc),
+        "two" => tell_two(out, alloc),
+        "gaps" => tell_gaps(out, alloc),
+        _ => tell_population(out, alloc, word),
     }
 }
 
-/// The set of 3, 63, 64 and 200, of which one is put in twice.
-fn four(alloc: Global) -> Result<OrdinalSet, AllocError> {
+fn tell_four(out: &mut String, alloc: Global, word: &str) -> Result<(), AllocError> {
     let mut set = OrdinalSet::new(alloc);
+    fill(&mut set)?;
+    match word {
+        "four" => tell_set(out, alloc, &set),
+        _ => tell_among(out, alloc, &set),
+    }
+}
+
+/// Puts in 3, 63, 64 and 200, of which one is put in twice.
+fn fill(set: &mut OrdinalSet) -> Result<(), AllocError> {
     for member in [200, 3, 64, 3, 63] {
         set.insert(member)?;
     }
-    Ok(set)
+    Ok(())
 }
 
-/// Its bound, the members from 4, 65 and 201 on, and all members.
-fn four_told(alloc: Global) -> Result<String, AllocError> {
-    let set = four(alloc)?;
-    let list = set.ordinals(alloc)?;
+/// The bound of a set, the members from 4, 65 and 201 on, and all members.
+fn tell_set(out: &mut String, alloc: Global, set: &OrdinalSet) -> Result<(), AllocError> {
     let next = [set.next_from(4), set.next_from(65), set.next_from(201)];
-    format!(in alloc; "{} {next:?} {:?}", set.bound(), list.as_slice())
+    write!(out, "{} {next:?} ", set.bound())?;
+    tell_members(out, alloc, set)
 }
 
-/// Whether 63, 62 and the greatest number are in it, and the bound of no members.
-fn among_told(alloc: Global) -> Result<String, AllocError> {
-    let set = four(alloc)?;
+fn tell_members(out: &mut String, alloc: Global, set: &OrdinalSet) -> Result<(), AllocError> {
+    write!(out, "{:?}", set.ordinals(alloc)?.as_slice())
+}
+
+/// Whether 63, 62 and the greatest number are in a set, and the bound of no members.
+fn tell_among(out: &mut String, alloc: Global, set: &OrdinalSet) -> Result<(), AllocError> {
     let found = [set.contains(63), set.contains(62), set.contains(u32::MAX)];
-    format!(in alloc; "{found:?} {}", OrdinalSet::new(alloc).bound())
+    write!(out, "{found:?} {}", OrdinalSet::new(alloc).bound())
 }
 
 /// The members in three words.
-fn words_told(alloc: Global) -> Result<String, AllocError> {
-    let set = OrdinalSet::from_words(vec![in alloc; 3, 0, 1 << 63]?);
-    format!(in alloc; "{:?}", set.ordinals(alloc)?.as_slice())
+fn tell_words(out: &mut String, alloc: Global) -> Result<(), AllocError> {
+    let words = vec![in alloc; 3, 0, 1 << 63]?;
+    tell_members(out, alloc, &OrdinalSet::from_words(words))
+}
+
+/// What is told of a first set and of a second one that has 65 and 66.
+fn tell_two(out: &mut String, alloc: Global) -> Result<(), AllocError> {
+    let mut set = OrdinalSet::from_words(vec![in alloc; u64::MAX, 0b1011]?);
+    let other = OrdinalSet::from_words(vec![in alloc; 0, 0b0110]?);
+    tell_least(out, &mut set, &other)?;
+    tell_lacking(out, alloc, &mut set, &other)
 }
 
 /// The least number in neither of two sets, before and after 3 was removed from the first.
-fn least_told(
-    alloc: Global,
+fn tell_least(
+    out: &mut String,
     set: &mut OrdinalSet,
     other: &OrdinalSet,
-) -> Result<String, AllocError> {
+) -> Result<(), AllocError> {
     let before = set.least_free(other);
     set.remove(3);
     set.remove(500);
-    format!(in alloc; "{before} {}", set.least_free(other))
+    write!(out, "{before} {}", set.least_free(other))
 }
 
 /// The members of a set without another's, once it was cleared and has 66 and 70.
-fn lacking_told(
+fn tell_lacking(
+    out: &mut String,
     alloc: Global,
     set: &mut OrdinalSet,
     other: &OrdinalSet,
-) -> Result<String, AllocError> {
+) -> Result<(), AllocError> {
     set.clear();
-    for member in [66, 70] {
-        set.insert(member)?;
-    }
-    let list = set.without(alloc, other)?;
-    format!(in alloc; " {:?}", list.as_slice())
-}
-
-/// Both of a first set and of a second one that has 65 and 66.
-fn two_told(alloc: Global) -> Result<String, AllocError> {
-    let mut set = OrdinalSet::from_words(vec![in alloc; u64::MAX, 0b1011]?);
-    let other = OrdinalSet::from_words(vec![in alloc; 0, 0b0110]?);
-    let mut text = least_told(alloc, &mut set, &other)?;
-    text.push_str(lacking_told(alloc, &mut set, &other)?.as_str())?;
-    Ok(text)
+    set.insert(66)?;
+    set.insert(70)?;
+    write!(out, " {:?}", set.without(alloc, other)?.as_slice())
 }
 
 /// The run of 3, 4 and 300 behind a byte.
-fn gaps_told(alloc: Global) -> Result<String, AllocError> {
-    let mut out = vec![in alloc; 9]?;
+fn tell_gaps(out: &mut String, alloc: Global) -> Result<(), AllocError> {
+    let mut bytes = vec![in alloc; 9]?;
     let list = Ordinals::from_vec(vec![in alloc; 3, 4, 300]?);
-    put_gaps(&mut out, &list)?;
-    hex::encode(alloc, out.as_slice())
+    put_gaps(&mut bytes, &list)?;
+    write!(out, "{:?}", bytes.as_slice())
 }
 
-/// How many bytes the population of no rows has.
-fn none_told(alloc: Global) -> Result<String, AllocError> {
-    let mut out = Vec::new(alloc);
-    OrdinalSet::new(alloc).put_population(&mut out, None)?;
-    format!(in alloc; "{}", out.len())
+/// How many bytes a population has, and whether they begin with 512 words, of which the first has bit 1.
+fn tell_population(out: &mut String, alloc: Global, word: &str) -> Result<(), AllocError> {
+    let mut bytes = Vec::new(alloc);
+    put_population(&mut bytes, alloc, word)?;
+    let begins = bytes
+        .as_slice()
+        .starts_with(&[0, 0, 2, 0, 0, 0, 0, 0, 0, 0, 0, 2]);
+    write!(out, "{} {begins}", bytes.len())
+}
+
+fn put_population(bytes: &mut Vec<u8>, alloc: Global, word: &str) -> Result<(), AllocError> {
+    match word {
+        "none" => OrdinalSet::new(alloc).put_population(bytes, None),
+        _ => put_one(bytes, alloc),
+    }
 }
 
 /// The population of a row under ordinal 1, the greatest having been 16384.
-fn one_written(alloc: Global) -> Result<Vec<u8>, AllocError> {
+fn put_one(bytes: &mut Vec<u8>, alloc: Global) -> Result<(), AllocError> {
     let mut set = OrdinalSet::new(alloc);
     set.insert(1)?;
-    let mut out = Vec::new(alloc);
-    set.put_population(&mut out, Some(16384))?;
-    Ok(out)
-}
-
-/// How many bytes that population has, and whether they begin with 512 words, of which the first has bit 1.
-fn one_told(alloc: Global) -> Result<String, AllocError> {
-    let out = one_written(alloc)?;
-    let begins = out
-        .as_slice()
-        .starts_with(&[0, 0, 2, 0, 0, 0, 0, 0, 0, 0, 0, 2]);
-    format!(in alloc; "{} {begins}", out.len())
+    set.put_population(bytes, Some(16384))
 }
 
 /// Sets, and what is told of them.
-const SETS: &str = "four = 201 [Some(63), Some(200), None] [3, 63, 64, 200]
+pub const SETS: &str = "four = 201 [Some(63), Some(200), None] [3, 63, 64, 200]
 among = [true, false, false] 0
 words = [0, 1, 191]
 two = 68 3 [70]
-gaps = 0903018228
-none = 2052
+gaps = [9, 3, 1, 130, 40]
+none = 2052 false
 one = 4100 true";
-
-#[test]
-fn sets(rt: HostRuntime) -> Result<(), Fail> {
-    pass(&rt, rt.alloc(), Subject::Sets, SETS)
-}

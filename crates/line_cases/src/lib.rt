@@ -1,6 +1,8 @@
-//! Worked cases of the crates of lines, with ample memory: what no order of the program prints yet. Nothing stands on this crate.
+//! Worked cases of the crates of lines, with ample memory, by calls of these crates alone. Nothing stands on this crate.
 #![tactic(auto)]
 
+#[cfg(test)]
+mod case;
 #[cfg(test)]
 mod orders;
 #[cfg(test)]
@@ -9,6 +11,8 @@ mod plain_changes;
 mod plain_cycles;
 #[cfg(test)]
 mod plain_finds;
+#[cfg(test)]
+mod plain_lines;
 #[cfg(test)]
 mod plain_records;
 #[cfg(test)]

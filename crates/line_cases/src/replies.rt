@@ -29,18 +29,19 @@ fn progress(alloc: Global) -> Result<Reply, AllocError> {
     }))
 }
 
-/// The lines of null, of a model of one type, of that blob, and of what no order of the program answers yet.
-fn lines(alloc: Global) -> Result<Vec<u8>, AllocError> {
-    let mut out = Vec::new(alloc);
-    put_line(alloc, &mut out, &Value::Null)?;
-    put_reply(alloc, &mut out, Reply::Model(1))?;
-    put_reply(alloc, &mut out, Reply::Refused(bad_row(alloc)?))?;
-    put_reply(alloc, &mut out, progress(alloc)?)?;
-    put_reply(alloc, &mut out, Reply::Plan(Blobs::new(alloc)))?;
-    put_reply(alloc, &mut out, Reply::History(2))?;
-    let none = Refusal::NoPlan { from: None, to: 9 };
-    put_reply(alloc, &mut out, Reply::Refused(none))?;
-    Ok(out)
+/// Puts the lines of null, and of several answers and refusals, one behind the other.
+fn put_lines(alloc: Global, out: &mut Vec<u8>) -> Result<(), AllocError> {
+    put_line(alloc, out, &Value::Null)?;
+    put_reply(alloc, out, Reply::Model(1))?;
+    put_reply(alloc, out, Reply::Refused(bad_row(alloc)?))?;
+    put_reply(alloc, out, progress(alloc)?)?;
+    put_reply(alloc, out, Reply::Plan(Blobs::new(alloc)))?;
+    put_reply(alloc, out, Reply::History(2))?;
+    put_reply(
+        alloc,
+        out,
+        Reply::Refused(Refusal::NoPlan { from: None, to: 9 }),
+    )
 }
 
 /// What they are.
@@ -55,7 +56,8 @@ const LINES: &str = r#"null
 
 #[test]
 fn lines_in_a_row(rt: HostRuntime) -> Result<(), AllocError> {
-    let out = lines(rt.alloc())?;
+    let mut out = Vec::new(rt.alloc());
+    put_lines(rt.alloc(), &mut out)?;
     assert!(rt; out.as_slice() == LINES.as_bytes());
     Ok(())
 }

@@ -7,7 +7,7 @@ use Rattle.std.proofs.lemmas.Option.{slice_get-get_or, slice_get_past, slice_get
 use Rattle.linked_slots.specs.Chained.{Chained, bucket_of, hash_of, links_under, without}
 use Rattle.linked_slots.specs.Links.{AreFor, before_set, next_set, chains_from, free_link, front_or, hash_at, none, with_before}
 use Rattle.linked_slots.specs.declared.link.Link.{Link}
-use Rattle.linked_slots.proofs.Writes.{link_written}
+use Rattle.linked_slots.proofs.Writes.{link_written, neighbour_hidden}
 use Rattle.linked_slots.proofs.Walks.{chains_are, closed, hash_is}
 use Rattle.linked_slots.proofs.Changes.{link_hashes, link_made, unlink_hashes, unlink_made}
 
@@ -90,8 +90,8 @@ module _ (heads : List ℕ) (links : List Link) (now : Chained) (inside : AreFor
 
   -- ---- link
 
-  module _ (more : List Link) (slot hash b next : ℕ) (reserved : slot < now.slots) (free : hash_of now slot ≡ None) (b_is : b ≡ bucket_of now hash) (within : b < length now.chains)
-      (next_is : next ≡ get_or heads b next) (reads : (t : ℕ) → slice_get more t ≡ before_set next slot (slice_get links) t) (same : length more ≡ length links) where
+  module _ (more : List Link) (slot hash b next place : ℕ) (reserved : slot < now.slots) (free : hash_of now slot ≡ None) (b_is : b ≡ bucket_of now hash) (within : b < length now.chains)
+      (next_is : next ≡ get_or heads b next) (place_is : place ≡ cond (nat_eq next none) slot next) (reads : (t : ℕ) → slice_get more t ≡ before_set place slot (slice_get links) t) (same : length more ≡ length links) where
     new_link : Link
     new_link = record { linked = true; hash = hash; before = none; next = next }
 
@@ -103,6 +103,7 @@ module _ (heads : List ℕ) (links : List Link) (now : Chained) (inside : AreFor
     writes t =
         link_written more slot t (record { linked = true; hash = hash; before = none; next = next }) (let s : length links ≡ now.slots = long in omega arith)
         ∙ ap (λ o. cond (nat_eq t slot) (Some (record { linked = true; hash = hash; before = none; next = next })) o) (reads t)
+        ∙ neighbour_hidden links next slot place slot t (Some (record { linked = true; hash = hash; before = none; next = next })) opened.few place_is
         ∙ ap (λ (k : ℕ). cond (nat_eq t slot) (Some (record { linked = true; hash = hash; before = none; next = k })) (before_set k slot (slice_get links) t)) front_is
 
     free_at : hash_at (slice_get links slot) ≡ None
@@ -126,9 +127,9 @@ module _ (heads : List ℕ) (links : List Link) (now : Chained) (inside : AreFor
 
   -- ---- unlink
 
-  module _ (heads_new : List ℕ) (one two : List Link) (slot b : ℕ) (link : Link) (is_linked : IsSome (hash_of now slot)) (link_is : link ≡ get_or links slot link)
+  module _ (heads_new : List ℕ) (one two : List Link) (slot b place : ℕ) (link : Link) (is_linked : IsSome (hash_of now slot)) (link_is : link ≡ get_or links slot link)
       (b_is : b ≡ bucket_of now link.hash) (within : b < length now.chains) (heads_are : heads_new ≡ cond (nat_eq link.before none) (set heads b link.next) heads)
-      (reads_one : (t : ℕ) → slice_get one t ≡ next_set link.before link.next (slice_get links) t) (reads_two : (t : ℕ) → slice_get two t ≡ before_set link.next link.before (slice_get one) t)
+      (place_is : place ≡ cond (nat_eq link.next none) slot link.next) (reads_one : (t : ℕ) → slice_get one t ≡ next_set link.before link.next (slice_get links) t) (reads_two : (t : ℕ) → slice_get two t ≡ before_set place link.before (slice_get one) t)
       (same_one : length one ≡ length links) (same_two : length two ≡ length one) where
     there : slice_get links slot ≡ Some link
     there = slice_get-get_or links slot link (linked_within slot is_linked) ∙ ap (λ (l : Link). Some l) (sym link_is)
@@ -143,7 +144,9 @@ module _ (heads : List ℕ) (links : List Link) (now : Chained) (inside : AreFor
     gone : (t : ℕ) → slice_get (set two slot free_link) t ≡ cond (nat_eq t slot) (Some free_link) (before_set link.next link.before (next_set link.before link.next (slice_get links)) t)
     gone t =
         link_written two slot t free_link (let w : slot < length links = linked_within slot is_linked in omega arith)
-        ∙ ap (λ o. cond (nat_eq t slot) (Some free_link) o) (reads_two t ∙ ap (λ (o : Option Link). cond (nat_eq t link.next) (option_map (with_before link.before) o) o) (reads_one t))
+        ∙ ap (λ o. cond (nat_eq t slot) (Some free_link) o) (reads_two t)
+        ∙ neighbour_hidden one link.next slot place link.before t (Some free_link) (omega (arith, same_one, opened.few)) place_is
+        ∙ ap (λ (o : Option Link). cond (nat_eq t slot) (Some free_link) (cond (nat_eq t link.next) (option_map (with_before link.before) o) o)) (reads_one t)
 
     pub unlink_long : length (set two slot free_link) ≡ now.slots
     unlink_long = length-set two slot free_link ∙ same_two ∙ same_one ∙ long

@@ -3,7 +3,7 @@ ghost use Rattle.std.specs.Prelude.{◌≡◌, ◌<◌, ◌↔◌, ℕ, [], ◌�
 ghost use Rattle.std.specs.Int.{IsPowerOfTwo};
 ghost use Rattle.linked_slots.specs.Chained.{Among, AreApart, IsAt, IsBuckets, Shows, fallen, IsReserved, IsSpread, IsWhole, all_of, hash_among, with_hash, bucket_of, chain_of, hash_of, left_at, links_under, without};
 
-use crate::link::{Link, NONE, all_links, set_before, set_follower, some_slot};
+use crate::link::{Link, NONE, all_links, neighbour_or, set_before, set_follower, some_slot};
 use std::alloc::{AllocError, Global};
 use std::marker::Model;
 
@@ -126,6 +126,7 @@ impl Chains {
     }
 
     // The bucket of a hash: its low bits, since the number of buckets is a power of two.
+    #[inline(always)]
     fn bucket(&self, hash: u32) -> usize
         requires { 0 < length self.now.chains }
         ensures is { result ≡ bucket_of self.now hash }
@@ -145,7 +146,8 @@ impl Chains {
     {
         let bucket = self.bucket(hash);
         let next = self.heads[bucket];
-        set_before(&mut self.links, next, slot);
+        let place = neighbour_or(next, slot);
+        set_before(&mut self.links, place, slot);
         self.links[slot as usize] = Link {
             linked: true,
             hash,
@@ -171,11 +173,13 @@ impl Chains {
             link.before,
             link.next,
         );
-        set_before(&mut self.links, link.next, link.before);
+        let place = neighbour_or(link.next, slot);
+        set_before(&mut self.links, place, link.before);
         self.links[slot as usize] = Link::free();
     }
 
     /// Whether a slot is linked.
+    #[inline(always)]
     pub fn linked(&self, slot: u32) -> bool
         ensures { result ≡ is_some (hash_of self.now slot) }
     {
@@ -186,6 +190,7 @@ impl Chains {
     }
 
     /// The hash with which a slot is linked, if it is.
+    #[inline(always)]
     pub fn hash(&self, slot: u32) -> Option<u32>
         ensures { result ≡ hash_of self.now slot }
     {
@@ -196,6 +201,7 @@ impl Chains {
     }
 
     /// The first slot of the chain of a hash, where a walk along it begins.
+    #[inline(always)]
     pub fn first(&self, hash: u32) -> Option<u32>
         ensures first { result ≡ slice_get (chain_of self.now hash) 0 }
         ensures left { left_at self.now hash result ≡ chain_of self.now hash }
@@ -209,6 +215,7 @@ impl Chains {
     }
 
     /// The slot that follows one in its chain: the next step of a walk.
+    #[inline(always)]
     pub fn following(&self, slot: u32) -> Option<u32>
         requires linked { IsSome (hash_of self.now slot) }
         ensures left { (hash : ℕ) → IsAt self.now hash (Some slot) → left_at self.now hash (Some slot) ≡ slot ∷ left_at self.now hash result }

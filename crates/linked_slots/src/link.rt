@@ -85,7 +85,17 @@ pub(crate) fn set_follower(
     set_next(links, before, next);
 }
 
+/// The neighbour of a slot, or the slot itself where it has none. A slot that is then written whole has so its neighbour written without a branch: one
+/// that is guessed wrong makes all that follows wait for what tells whether there is a neighbour.
+#[inline(always)]
+pub(crate) fn neighbour_or(neighbour: u32, slot: u32) -> u32
+    ensures { result ≡ (if nat_eq neighbour none then slot else neighbour) }
+{
+    if neighbour == NONE { slot } else { neighbour }
+}
+
 /// A slot, where it is one.
+#[inline(always)]
 pub(crate) fn some_slot(slot: u32) -> Option<u32>
     ensures { result ≡ (if nat_eq slot none then None else Some slot) }
 {

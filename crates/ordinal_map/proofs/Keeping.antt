@@ -1,6 +1,6 @@
 -- The rows and their chains stay in agreement, and what they say of the two states.
 use Rattle.std.proofs.Common.{◌≡◌, ℕ, zero, suc, ◌<◌, ◌≤◌, ◌^◌, ◌∷◌, Bool, true, false, List, [], Option, Some, None, length, refl, sym, ap, subst, ◌∙◌, inl, inr, arith, ◌⊎◌}
-use Rattle.std.specs.Prelude.{◌≢◌, Contains, Result, Ok, Err, IsErrAnd, IsSome, IsTrue, MatchBool, ◌↔◌, is_some, option_map}
+use Rattle.std.specs.Prelude.{◌≢◌, Contains, Result, Ok, Err, IfSome, IsErrAnd, IsSome, IsTrue, MatchBool, ◌↔◌, is_some, option_map}
 use Rattle.std.specs.FinMap.{get}
 use Rattle.std.proofs.lemmas.Bool.{cases_lt}
 use Rattle.row_model.specs.declared.row.Row.{Row}
@@ -160,6 +160,10 @@ agree_seen rows chains previous current filled states kept seen = subst (λ (s :
 pub found_at : (seen rows : List (Option Row)) (row : Row) (found : Option ℕ) (o : ℕ) → seen ≡ rows → Finds seen row found → found ≡ Some o → row_under rows o ≡ Some row
 found_at seen rows row None o same finds e = absurd cc
 found_at seen rows row (Some q) o same finds e = let place : q ≡ o = cc in ap (λ rs. row_under rs o) (sym same) ∙ ap (row_under seen) (sym place) ∙ finds
+
+pub expected_at : (seen rows : List (Option Row)) (row : Row) (found : Option ℕ) (o : ℕ) → seen ≡ rows → IfSome found (λ ordinal. row_under seen ordinal ≡ Some row) → found ≡ Some o → row_under rows o ≡ Some row
+expected_at seen rows row None o same stands e = absurd cc
+expected_at seen rows row (Some q) o same stands e = let place : q ≡ o = cc in ap (λ rs. row_under rs o) (sym same) ∙ ap (row_under seen) (sym place) ∙ stands
 
 pub found_none : (seen rows : List (Option Row)) (row : Row) (found : Option ℕ) → seen ≡ rows → Finds seen row found → found ≡ None → (q : ℕ) → row_under rows q ≡ Some row → ⊥
 found_none seen rows row None same finds e q here = finds q (ap (λ rs. row_under rs q) same ∙ here)

@@ -10,7 +10,7 @@ ghost use Rattle.ordinal_map.specs.Restored.{IsFreeRestore, IsUnknown, TellsRest
 use crate::changes::{free_beside, free_row, place_row};
 use crate::fault::{PutRowFault, RestoreRowFault};
 use crate::kept_rows::row_at;
-use crate::row_chains::{find, is_row_at};
+use crate::row_chains::{NOWHERE, find, find_expected, make_links, next_beside};
 use hol_varint::Duplicate;
 use linked_slots::Chains;
 use ordinal_set::OrdinalSet;
@@ -35,8 +35,10 @@ pub struct OrdinalMap {
     current: OrdinalSet,
     /// The ordinals of the rows by the rows' hashes.
     chains: Chains,
-    /// Where the next row is looked for first: behind the ordinal that was given last, for rows that come in the order of the cycle before.
+    /// Where the next row is looked for first: one further with each row that is put, for rows that come in the order of the cycle before.
     expected: u32,
+    /// Where it is looked for next: behind the last one that was found elsewhere. `NOWHERE` where none was.
+    beside: u32,
     /// The ordinals below it are taken.
     filled: u32,
 }
@@ -66,6 +68,7 @@ impl OrdinalMap {
             current: OrdinalSet::new(alloc),
             chains: Chains::new(alloc),
             expected: 0,
+            beside: NOWHERE,
             filled: 0,
         }
     }
@@ -134,6 +137,15 @@ impl OrdinalMap {
             || self.previous.first_beside(&self.current, 0).is_some()
     }
 
+    /// Makes room for the links of rows up to an ordinal, so that they are not made anew while these rows are put: 16 bytes an ordinal, and 8 for
+    /// the heads of the chains, of as many as the next power of two. Both states stay as they are, also where memory is refused.
+    pub fn reserve(&mut self, ordinal: u32) -> Result<(), AllocError>
+        requires { ordinal < 2 ^ 22 }
+        ensures { self.new ≡ self.old }
+    {
+        make_links(&mut self.chains, ordinal)
+    }
+
     /// Puts a row into the current state, and gives its ordinal: the one under which one of the two states has it, else the least number
     /// that is in neither.
     ///
@@ -144,9 +156,13 @@ impl OrdinalMap {
         ensures too_many { Yields IsFreePut result (Err PutRowFault.TooMany) (IsPut self.old.previous self.old.current row (2 ^ 22)) }
         ensures agree { Agree self.new.previous self.new.current }
     {
-        let expected = self.expected;
-        if is_row_at(self.rows.as_slice(), expected, &row) {
-            return self.enter(expected);
+        if let Some(ordinal) = find_expected(
+            self.rows.as_slice(),
+            self.expected,
+            self.beside,
+            &row,
+        ) {
+            return self.enter(ordinal);
         }
         let hash = row_hash(&row);
         self.put_hashed(hash, row)
@@ -159,7 +175,8 @@ impl OrdinalMap {
         ensures agree { Agree self.old.previous self.old.current }
     {
         self.current.insert(ordinal)?;
-        self.expected = ordinal + 1;
+        self.beside = next_beside(self.expected, self.beside, ordinal);
+        self.expected = self.expected.saturating_add(1);
         Ok(ordinal)
     }
 
@@ -184,7 +201,7 @@ impl OrdinalMap {
             hash,
             row,
         )?;
-        self.expected = ordinal + 1;
+        self.expected = self.expected.saturating_add(1);
         self.filled = ordinal + 1;
         Ok(ordinal)
     }
@@ -269,6 +286,7 @@ impl OrdinalMap {
         mem::swap(&mut self.previous, &mut self.current);
         self.current.clear();
         self.expected = 0;
+        self.beside = NOWHERE;
         self.filled = 0;
     }
 
@@ -284,6 +302,7 @@ impl OrdinalMap {
         );
         self.current.clear();
         self.expected = 0;
+        self.beside = NOWHERE;
         self.filled = 0;
     }
 }

@@ -1,5 +1,5 @@
 //! Where a row stands, found along the chains of the rows' hashes.
-ghost use Rattle.std.specs.Prelude.{ℕ, ◌≡◌, ◌<◌, ◌^◌, ◌↔◌, Some, IsTrue, OnOk, OnErr};
+ghost use Rattle.std.specs.Prelude.{ℕ, ◌≡◌, ◌<◌, ◌^◌, ◌↔◌, Some, IfSome, IsTrue, OnOk, OnErr};
 ghost use Rattle.linked_slots.specs.Chained.{hash_of};
 ghost use Rattle.row_hash.specs.Hash.{row_hash as hash_of_row};
 ghost use Rattle.ordinal_map.specs.KeptRows.{AreHashed, Finds, IsRoomy, row_under};
@@ -9,6 +9,36 @@ use linked_slots::Chains;
 use row_hash::same_row;
 use row_model::Row;
 use std::alloc::AllocError;
+
+/// No place: no row stands there.
+pub(crate) const NOWHERE: u32 = u32::MAX;
+
+/// The one of two places at which a row stands, if it does. They are where it is looked for first.
+#[inline(always)]
+pub(crate) fn find_expected(
+    rows: &[Option<Row>],
+    expected: u32,
+    beside: u32,
+    row: &Row,
+) -> Option<u32>
+    ensures { IfSome result (λ ordinal. row_under rows.now ordinal ≡ Some row.now) }
+{
+    if is_row_at(rows, expected, row) {
+        return Some(expected);
+    }
+    if is_row_at(rows, beside, row) {
+        return Some(beside);
+    }
+    None
+}
+
+/// Where the next row is looked for beside the expected place, once one was found under an ordinal: behind it, if that was not where it was expected.
+pub(crate) fn next_beside(expected: u32, beside: u32, ordinal: u32) -> u32 {
+    if ordinal == expected {
+        return beside;
+    }
+    ordinal.saturating_add(1)
+}
 
 /// The ordinal under which a row with this hash stands, if it does: it is looked for along its chain.
 pub(crate) fn find(rows: &[Option<Row>], chains: &Chains, hash: u32, row: &Row) -> Option<u32>
@@ -35,8 +65,8 @@ fn stands_at(rows: &[Option<Row>], chains: &Chains, ordinal: u32, hash: u32, row
     chains.hash(ordinal) == Some(hash) && is_row_at(rows, ordinal, row)
 }
 
-/// Whether the row under an ordinal is this one.
-pub(crate) fn is_row_at(rows: &[Option<Row>], ordinal: u32, row: &Row) -> bool
+// Whether the row under an ordinal is this one.
+fn is_row_at(rows: &[Option<Row>], ordinal: u32, row: &Row) -> bool
     ensures { IsTrue result ↔ (row_under rows.now ordinal ≡ Some row.now) }
 {
     match row_at(rows, ordinal) {

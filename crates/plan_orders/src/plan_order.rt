@@ -13,6 +13,7 @@ use std::alloc::Global;
 /// Shows the fewest blobs of the store that lead a consumer from its version, or from none, to the one that is wanted, in the order in which `goto` applies
 /// them: none where it is the consumer's own. Refused with `NoPlan` where no blobs lead there. The store stays as it is. `Store` comes only where the store's
 /// count of faults rose.
+#[inline(never)]
 pub fn plan<S: BlobStore>(
     alloc: Global,
     store: &mut S,

@@ -16,20 +16,44 @@ ghost use Rattle.producer_orders.specs.Making.{AreRefused, AreTaken};
 use crate::asked::FilmCycle;
 use crate::cycle_end::CycleEnd;
 use film_rows::FilmRows;
-use film_script::is_shown;
+use film_script::{FILM_TYPE, is_shown};
 use hol_answers::Refusal;
 use hol_orders::OrderStop;
 use ordinal_map::PutRowFault;
 use schema_model::Limit;
-use std::alloc::Global;
+use std::alloc::{AllocError, Global};
 use write_engine::Producer;
 
-/// Adds the films that a cycle shows, one by one. It is refused where they are too many.
+// So many films have room made for their links before they come: 6 MB at most. That of more is made as they come.
+const MOST_RESERVED: u32 = 0x4_0000;
+
+/// Adds the films that a cycle shows, one by one, behind room for them. It is refused where they are too many.
 pub(crate) fn take_films(
     alloc: Global,
     producer: &mut Producer,
     script: FilmCycle,
 ) -> Result<(), CycleEnd>
+    requires resting { IsResting producer.old }
+    requires model { producer.old.schemas ≡ film_schemas }
+    requires script { IsFilmCycle script }
+    ensures tells { TellsEnd (λ _. AreTaken (published_of producer.old) (given (films script.seed script.rows script.cycle)) producer.new.current)
+        (AreRefused (published_of producer.old) (given (films script.seed script.rows script.cycle))) IsMemory result }
+    ensures kept { producer.new ≡ record producer.old { current = producer.new.current } }
+{
+    make_room(producer, script.rows)?;
+    add_films(alloc, producer, script)
+}
+
+// Makes room for the links of so many films. The producer stays as it is.
+fn make_room(producer: &mut Producer, count: u32) -> Result<(), AllocError>
+    requires { producer.old.schemas ≡ film_schemas }
+    ensures { producer.new ≡ producer.old }
+{
+    producer.reserve(FILM_TYPE, count.min(MOST_RESERVED).saturating_sub(1))
+}
+
+// Adds the films that a cycle shows, one by one.
+fn add_films(alloc: Global, producer: &mut Producer, script: FilmCycle) -> Result<(), CycleEnd>
     requires resting { IsResting producer.old }
     requires model { producer.old.schemas ≡ film_schemas }
     requires script { IsFilmCycle script }

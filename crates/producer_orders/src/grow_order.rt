@@ -24,6 +24,7 @@ use write_engine::Producer;
 /// where the model does not grow the producer's own: the name of the first type that it does not have, as it was or grown.
 ///
 /// A refusal and a stop leave the producer as it was.
+#[inline(never)]
 pub fn grow(
     alloc: Global,
     value: &Value,

@@ -18,6 +18,7 @@ use write_engine::Producer;
 /// Makes a new producer of the schemas that the value stands for, and tells how many types it has. Refused with `ModelFixed`
 /// exactly where there is a producer, and else with `BadModel` where the schemas are no model: the first rule that is
 /// broken, and the name of the first type that breaks it.
+#[inline(never)]
 pub fn model(
     alloc: Global,
     value: &Value,

@@ -20,6 +20,7 @@ use std::sync::ledger::{Blank, Ledger};
 /// The consumer keeps an index of the rows of a type by the values that they reach along a walk path, and the answer tells how many rows reach a value; one that
 /// is kept already is answered again. Refused with `NoState`, `NoType`, `BadPath` and `TooLarge`, in this order: the last where the index is not kept and there is
 /// no room for another one, or it would have too many entries. After a refusal or a stop the consumer is as before.
+#[inline(never)]
 pub fn walk_index(
     alloc: Global,
     consumer: &mut Consumer,

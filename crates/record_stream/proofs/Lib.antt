@@ -9,6 +9,7 @@ mod Opened
 mod PartsFound
 mod Passed
 mod PlainLines
+mod PlainParts
 pub mod Records
 mod Typing
 mod Whole

@@ -5,5 +5,6 @@ pub mod Holder
 pub mod Parts
 pub mod Passing
 pub mod PlainFind
+pub mod PlainLine
 pub mod RecordLine
 pub mod Records

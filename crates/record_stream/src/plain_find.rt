@@ -62,14 +62,14 @@ fn cut_line(line: &str) -> Option<CutLine<'_>>
 
 // What follows a text's front.
 #[inline(always)]
-fn text_after<'a>(text: &'a str, front: &'a str) -> Option<&'a str>
+pub(crate) fn text_after<'a>(text: &'a str, front: &'a str) -> Option<&'a str>
     ensures { IfSome result (λ rest. text.now ≡ front.now ++ rest.now) }
 {
     text.strip_prefix(front)
 }
 
 // Takes a text without escapes, behind its first quote, and its last one.
-fn take_plain(line: &str) -> Option<(&str, &str)>
+pub(crate) fn take_plain(line: &str) -> Option<(&str, &str)>
     ensures { IfSome result (λ taken. 34 ∷ line.now ≡ quoted taken.0.now ++ taken.1.now) }
 {
     let (text, rest) = line.split_once('"')?;
@@ -94,7 +94,7 @@ fn is_plain(bytes: &[u8]) -> bool
 
 // The number or the text without escapes that a part of a line is.
 #[tactic(auto, using(crate::proofs::PlainLines::text_part))]
-fn value_part(alloc: Global, part: &str) -> Result<Option<Value>, AllocError>
+pub(crate) fn value_part(alloc: Global, part: &str) -> Result<Option<Value>, AllocError>
     ensures { IfOk result (λ found. IfSome found (λ value. IsScalar (view value) part.now)) }
 {
     if let Some(rest) = text_after(part, "\"") {
@@ -113,7 +113,7 @@ fn value_part(alloc: Global, part: &str) -> Result<Option<Value>, AllocError>
 }
 
 // The array of one item.
-fn array_of(alloc: Global, value: Value) -> Result<Value, AllocError>
+pub(crate) fn array_of(alloc: Global, value: Value) -> Result<Value, AllocError>
     ensures { IfOk result (λ found. view found ≡ array (item (view value) no_items)) }
 {
     let mut items = Vec::with_capacity(alloc, 1)?;

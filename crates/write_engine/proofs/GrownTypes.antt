@@ -39,7 +39,7 @@ use Rattle.write_engine.proofs.Duplicates.{once_distinct}
 use Rattle.write_engine.proofs.GrownRows.{seen_padded}
 use Rattle.write_engine.proofs.Producing.{count_types, restored_producing}
 use Rattle.write_engine.proofs.RestoredTypes.{not_live, row_named}
-use Rattle.write_engine.proofs.StateRows.{previous_row_of, row_of}
+use Rattle.write_engine.proofs.StateRows.{row_of, row_there}
 use Rattle.write_engine.proofs.StoredRows.{seen_stored}
 
 -- ---- a type that has grown, or stayed
@@ -164,7 +164,7 @@ module _ (own grown : List Schema) (maps : List States) (may : MayGrow own grown
   pub row_read : (t o : ℕ) (s : States) (row grown_row : Row) (other : Schema) (fields : List Field) → t < length own → s ≡ get_or maps t s → Agree s.previous s.current → IsSome (get s.previous o) → Holds s.previous s.current row o
       → slice_get grown t ≡ Some other → fields ≡ shape_fields other.shape → grown_row ≡ padded_row (length fields) row → row_at seen t o ≡ Some grown_row
   row_read t o s row grown_row other fields inside is agree live holds there are padded =
-      row_grows t o row other inside there (previous_row_of maps t o s row (states_at t s inside is) agree (subst IsSome (sym (read_at t o s inside is)) live) holds)
+      row_grows t o row other inside there (row_there (λ s. s.previous) maps t o s row (λ other here. inl here) (states_at t s inside is) agree (subst IsSome (sym (read_at t o s inside is)) live) holds)
       ∙ ap (λ (fs : List Field). Some (padded_row (length fs) row)) (sym are) ∙ ap Some (sym padded)
 
   -- ---- no row is seen twice

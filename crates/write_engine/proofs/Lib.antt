@@ -15,6 +15,7 @@ pub mod Parts
 pub mod PlainRows
 pub mod Puts
 pub mod Producing
+pub mod Reserving
 pub mod RestoredTypes
 pub mod RisingLists
 pub mod RowPuts

@@ -1,5 +1,5 @@
 -- One of the two states of all types, read as a table.
-use Rattle.std.proofs.Common.{◌≡◌, ℕ, zero, suc, ◌<◌, length, arith, [], ◌∷◌, List, map, Option, Some, None, inl, inr, refl, sym, ap, subst, ◌∙◌}
+use Rattle.std.proofs.Common.{◌≡◌, ℕ, zero, suc, ◌<◌, length, arith, [], ◌∷◌, List, map, Option, Some, None, refl, sym, ap, subst, ◌∙◌}
 use Rattle.std.specs.Prelude.{◌↔◌, Contains, slice_get, option_map, option_and_then, IsSome, Result, Ok, Err, IfOk}
 use Rattle.std.specs.FinMap.{get}
 use Rattle.std.specs.declared.alloc.AllocError.{AllocError}
@@ -14,22 +14,16 @@ module _ (read : States → RowMap) (maps : List States) (t : ℕ) where
   pub row_of : (s : States) (o : ℕ) → slice_get maps t ≡ Some s → row_at (map read maps) t o ≡ get (read s) o
   row_of s o is = ap (option_and_then (λ rows. get rows o)) (slice_get-map read maps t ∙ ap (option_map read) is)
 
--- a row that stands there is the one that one of the two states holds
-held_before : (previous current : RowMap) (row : Row) (o : ℕ) → Agree previous current → (found : Option Row) → get previous o ≡ found → IsSome found → Holds previous current row o → found ≡ Some row
-held_before previous current row o agree None is live holds = absurd (false≢true live)
-held_before previous current row o agree (Some other) is live holds = ap Some (agree.one_row o other row (inl is) holds)
+-- a row that stands in one of the two states is the one that the states hold
+held_there : (rows previous current : RowMap) (row : Row) (o : ℕ) → Agree previous current → ((other : Row) → get rows o ≡ Some other → Holds previous current other o) → (found : Option Row) → get rows o ≡ found → IsSome found
+    → Holds previous current row o → found ≡ Some row
+held_there rows previous current row o agree either None is live holds = absurd (false≢true live)
+held_there rows previous current row o agree either (Some other) is live holds = ap Some (agree.one_row o other row (either other is) holds)
 
-held_now : (previous current : RowMap) (row : Row) (o : ℕ) → Agree previous current → (found : Option Row) → get current o ≡ found → IsSome found → Holds previous current row o → found ≡ Some row
-held_now previous current row o agree None is live holds = absurd (false≢true live)
-held_now previous current row o agree (Some other) is live holds = ap Some (agree.one_row o other row (inr is) holds)
-
-pub previous_row_of : (maps : List States) (t o : ℕ) (s : States) (row : Row) → slice_get maps t ≡ Some s → Agree s.previous s.current → IsLive (map (λ s. s.previous) maps) t o → Holds s.previous s.current row o → row_at (map (λ s. s.previous) maps) t o ≡ Some row
-previous_row_of maps t o s row is agree live holds =
-    row_of (λ s. s.previous) maps t s o is ∙ held_before s.previous s.current row o agree (get s.previous o) refl (subst IsSome (row_of (λ s. s.previous) maps t s o is) live) holds
-
-pub current_row_of : (maps : List States) (t o : ℕ) (s : States) (row : Row) → slice_get maps t ≡ Some s → Agree s.previous s.current → IsLive (map (λ s. s.current) maps) t o → Holds s.previous s.current row o → row_at (map (λ s. s.current) maps) t o ≡ Some row
-current_row_of maps t o s row is agree live holds =
-    row_of (λ s. s.current) maps t s o is ∙ held_now s.previous s.current row o agree (get s.current o) refl (subst IsSome (row_of (λ s. s.current) maps t s o is) live) holds
+pub row_there : (read : States → RowMap) (maps : List States) (t o : ℕ) (s : States) (row : Row) → ((other : Row) → get (read s) o ≡ Some other → Holds s.previous s.current other o) → slice_get maps t ≡ Some s → Agree s.previous s.current
+    → IsLive (map read maps) t o → Holds s.previous s.current row o → row_at (map read maps) t o ≡ Some row
+row_there read maps t o s row either is agree live holds =
+    row_of read maps t s o is ∙ held_there (read s) s.previous s.current row o agree either (get (read s) o) refl (subst IsSome (row_of read maps t s o is) live) holds
 
 pub within : (read : States → RowMap) (maps : List States) (t o : ℕ) → IsLive (map read maps) t o → t < length maps
 within read [] t o live = absurd (false≢true live)

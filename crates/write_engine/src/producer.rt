@@ -24,7 +24,9 @@ use crate::adding::{add_tree, put_row};
 use crate::growing::grow_maps;
 use crate::limits::{cycle_limit, measure_cycle};
 use crate::restoring::{RestoreFault, restore_states};
-use crate::states::{advance_all, changed_types, drop_row, keep_all, make_states, undo_all};
+use crate::states::{
+    advance_all, changed_types, drop_row, keep_all, make_states, reserve, undo_all,
+};
 use crate::views::{Current, Previous};
 use hol_varint::{List, Ordinals};
 use model_rules::copy_model;
@@ -123,6 +125,16 @@ fn put_one(maps: &mut Vec<OrdinalMap>, type_index: u32, row: Row) -> Result<u32,
     ensures tells { TellsRowPut (previous_of maps.old.items) type_index row (current_of maps.old.items) result (current_of maps.new.items) }
 {
     put_row(maps.as_mut_slice(), type_index, row)
+}
+
+// Makes room for rows of a type.
+fn reserve_one(maps: &mut Vec<OrdinalMap>, type_index: u32, ordinal: u32) -> Result<(), AllocError>
+    requires known { type_index < length maps.old.items }
+    requires low { ordinal < 2 ^ 22 }
+    ensures previous { previous_of maps.new.items ≡ previous_of maps.old.items }
+    ensures current { current_of maps.new.items ≡ current_of maps.old.items }
+{
+    reserve(maps.as_mut_slice(), type_index, ordinal)
 }
 
 // Takes out a row of a type.
@@ -299,6 +311,16 @@ impl Producer {
         ensures refused { OnErr result (self.new ≡ self.old) }
     {
         put_one(&mut self.maps, type_index, row)
+    }
+
+    /// Makes room for the links of the rows of a type up to an ordinal, so that they are not made anew while these rows are put: 16 bytes an
+    /// ordinal, and 8 for the heads of the chains, of as many as the next power of two. The producer stays as it is, also where memory is refused.
+    pub fn reserve(&mut self, type_index: u32, ordinal: u32) -> Result<(), AllocError>
+        requires known { type_index < length self.old.schemas }
+        requires low { ordinal < 2 ^ 22 }
+        ensures { self.new ≡ self.old }
+    {
+        reserve_one(&mut self.maps, type_index, ordinal)
     }
 
     /// Opens a cycle that begins with all rows of the previous state, where no cycle is open. Its only memory is a bit for each ordinal.

@@ -1,5 +1,5 @@
 //! The rows of all types, each type's in an ordinal map.
-ghost use Rattle.std.specs.Prelude.{◌≡◌, IfOk, OnErr, OnOk, length, map, replicate};
+ghost use Rattle.std.specs.Prelude.{◌≡◌, ◌<◌, ◌^◌, IfOk, OnErr, OnOk, length, map, replicate};
 ghost use Rattle.row_model.specs.Table.{IsLive};
 ghost use Rattle.write_engine.specs.Cycle.{no_rows};
 ghost use Rattle.write_engine.specs.Production.{AreChanged, advanced, current_of, filled, no_states, previous_of, undone};
@@ -61,6 +61,20 @@ fn keep_some(maps: &mut Vec<OrdinalMap>) -> Result<(), AllocError>
         rows.keep_all()?;
     }
     Ok(())
+}
+
+/// Makes room for rows of a type up to an ordinal. Both states of each type stay.
+pub(crate) fn reserve(
+    maps: &mut [OrdinalMap],
+    type_index: u32,
+    ordinal: u32,
+) -> Result<(), AllocError>
+    requires known { type_index < length maps.old }
+    requires low { ordinal < 2 ^ 22 }
+    ensures previous { previous_of maps.new ≡ previous_of maps.old }
+    ensures current { current_of maps.new ≡ current_of maps.old }
+{
+    maps[type_index as usize].reserve(ordinal)
 }
 
 /// Takes a row of a type out of its current state.

@@ -1,28 +1,26 @@
-use Rattle.std.proofs.lemmas.Result.{err_from_is_err_and}
-use Rattle.film_rows.proofs.Knowing.{ready_unknown}
-use Rattle.producer_orders.proofs.AddingRecords.{holds_once}
-use Rattle.producer_orders.proofs.FilmRecords.{films_end, films_start, films_step, films_stop, takes_films}
+use Rattle.std.proofs.Common.{◌≡◌, subst, sym, refl}
+use Rattle.film_script.specs.Films.{film_schemas, films}
+use Rattle.hollow_machine.specs.Kept.{IsResting}
+use Rattle.hollow_machine.specs.Records.{given}
+use Rattle.state_blobs.specs.Published.{published_of}
+use Rattle.write_engine.specs.Production.{Production}
+use Rattle.producer_orders.specs.Ends.{IsMemory, TellsEnd}
+use Rattle.producer_orders.specs.Making.{AreRefused, AreTaken}
 use Rattle.producer_orders.proofs.films.take_films.Goals as goal
 
-pub loop-place-init : goal.loop-place-init
-loop-place-init c =
-    let old = c.args.producer.now in
-    let filming = takes_films old c.requires.model c.requires.resting.is_open c.current-agreeing.ensures.agree c.current-agreeing.ensures.closed in
-    (films_start c.args.script old c.requires.resting.is_empty, ready_unknown c.in_ok-rows.rows old c.in_ok-rows.ensures filming)
+pub returns-in_err-make_room-clause-kept : goal.returns-in_err-make_room-clause-kept
+returns-in_err-make_room-clause-kept c = subst (λ (p : Production). p ≡ record c.args.producer.now { current = p.current }) (sym c.make_room.ensures) refl
 
-pub returns-in_err-add_film-clause-tells : goal.returns-in_err-add_film-clause-tells
-returns-in_err-add_film-clause-tells c =
-    let old = c.args.producer.now in
-    let p = err_from_is_err_and c.from_residual-in_err-add_film.result c.from_residual-in_err-add_film.ensures.1 in
-    rw (p.1, p.2)
-    (films_stop c.args.script c.loop-place.place old c.loop-place.producer c.add_film.new.producer c.in_err-add_film.field-0.0 c.loop-place-test.true
-    (holds_once old.previous old.current c.current-agreeing.ensures.agree) c.loop-place.invariant.0 c.in_err-add_film.ensures.tells)
+pub add_films-requires-clause-resting : goal.add_films-requires-clause-resting
+add_films-requires-clause-resting c = subst IsResting (sym c.make_room.ensures) c.requires.resting
 
-pub loop-place-preserved : goal.loop-place-preserved
-loop-place-preserved c = (
-  films_step c.args.script c.loop-place.place c.args.producer.now c.loop-place.producer c.add_film.new.producer c.loop-place-test.true c.loop-place.invariant.0 c.add_film.ensures.kept c.in_ok-add_film.ensures.tells,
-  c.in_ok-add_film.ensures.ready,
-)
+pub add_films-requires-clause-model : goal.add_films-requires-clause-model
+add_films-requires-clause-model c = subst (λ (p : Production). p.schemas ≡ film_schemas) (sym c.make_room.ensures) c.requires.model
 
 pub returns-clause-tells : goal.returns-clause-tells
-returns-clause-tells c = films_end c.args.script c.loop-place.place c.args.producer.now c.loop-place.producer c.loop-place-test.false c.loop-place.invariant.0
+returns-clause-tells c =
+    subst (λ (p : Production). TellsEnd (λ _. AreTaken (published_of p) (given (films c.args.script.seed c.args.script.rows c.args.script.cycle)) c.add_films.new.producer.current)
+    (AreRefused (published_of p) (given (films c.args.script.seed c.args.script.rows c.args.script.cycle))) IsMemory c.add_films.result) c.make_room.ensures c.add_films.ensures.tells
+
+pub returns-clause-kept : goal.returns-clause-kept
+returns-clause-kept c = subst (λ (p : Production). c.add_films.new.producer ≡ record p { current = c.add_films.new.producer.current }) c.make_room.ensures c.add_films.ensures.kept

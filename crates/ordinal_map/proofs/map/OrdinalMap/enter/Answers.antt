@@ -15,11 +15,6 @@ insert-requires c =
 pub returns-in_err-insert-clause-agree : goal.returns-in_err-insert-clause-agree
 returns-in_err-insert-clause-agree c = agree_seen c.self.inside.rows.items c.self.inside.chains c.self.inside.previous c.self.inside.current c.self.inside.filled c.args.self.now c.self.invariant c.self.view_is
 
-pub overflow_add-self : goal.overflow_add-self
-overflow_add-self c =
-    let within = inside c.self.inside.rows.items c.args.ordinal (seen_taken c.self.inside.rows.items c.self.inside.chains c.self.inside.previous c.self.inside.current c.self.inside.filled c.self.invariant c.args.self.now c.self.view_is c.args.ordinal c.requires) in
-    record { fits = omega (arith, within, c.self.invariant.few) }
-
 pub invariant_of-self-2 : goal.invariant_of-self-2
 invariant_of-self-2 c =
     let stand = some_row (row_under c.self.inside.rows.items c.args.ordinal) (seen_taken c.self.inside.rows.items c.self.inside.chains c.self.inside.previous c.self.inside.current c.self.inside.filled c.self.invariant c.args.self.now c.self.view_is c.args.ordinal c.requires) in

@@ -2,7 +2,7 @@ use Rattle.std.proofs.Common.{◌≤◌, [], subst, sym, ap, ◌∙◌, arith}
 use Rattle.std.specs.Prelude.{All}
 use Rattle.std.proofs.lemmas.List.Elements.{All-nil, All-push}
 use Rattle.ordinal_set.specs.Ordinals.{with_ordinal, members_below}
-use Rattle.layer_cases.proofs.sets.one_written.Goals as goal
+use Rattle.layer_cases.proofs.sets.put_one.Goals as goal
 
 pub put_population-requires : goal.put_population-requires
 unfolding with_ordinal members_below

@@ -1,5 +1,5 @@
 use Rattle.hol_io.specs.Turn.{IsEnded}
-use Rattle.layer_cases.proofs.outside.turns_told.Given as goal
+use Rattle.layer_cases.proofs.outside.tell_turns.Given as goal
 
 -- Behind its end the source has nothing left.
 abbrev pub invariant-loop : goal.invariant-loop
