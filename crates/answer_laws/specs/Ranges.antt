@@ -33,5 +33,6 @@ HasRanges machine = HoldsOfTables (λ schemas table. EachRow schemas table (λ s
 -- What the record of a live row prints as is read back as that record, where no map of it has two keys that are the same record.
 abbrev pub ReadsBack : List Schema → Table → Type 0
 ReadsBack schemas table =
-    (t ordinal : ℕ) (printed : Data) → IsLive table t ordinal → HasKeysApart (unfold_row schemas table t ordinal) → PrintsTree schemas t (unfold_row schemas table t ordinal) printed
-    → read_tree schemas t printed ≡ Ok (unfold_row schemas table t ordinal)
+    (type_index ordinal : ℕ) (printed : Data) → IsLive table type_index ordinal → HasKeysApart (unfold_row schemas table type_index ordinal)
+    → PrintsTree schemas type_index (unfold_row schemas table type_index ordinal) printed
+    → read_tree schemas type_index printed ≡ Ok (unfold_row schemas table type_index ordinal)

@@ -15,16 +15,16 @@ IsStorableText bytes = IsUtf8 bytes × (length bytes < 2 ^ 63)
 
 -- The number is one without a fraction.
 abbrev pub IsStorableNumber : Num → Type 0
-IsStorableNumber (unsigned n) = Unit {0}
-IsStorableNumber (negative z) = int_lt z (pos 0) ≡ true
-IsStorableNumber (float x) = ⊥
+IsStorableNumber (unsigned value) = Unit {0}
+IsStorableNumber (negative value) = int_lt value (pos 0) ≡ true
+IsStorableNumber (float value) = ⊥
 
 -- Its strings and names are texts, its numbers have no fractions, and no array or string is longer than a `Vec` can be.
 abbrev mutual
   pub IsStorable : Data → Type 0
   IsStorable null = Unit {0}
-  IsStorable (boolean b) = Unit {0}
-  IsStorable (number n) = IsStorableNumber n
+  IsStorable (boolean truth) = Unit {0}
+  IsStorable (number value) = IsStorableNumber value
   IsStorable (string bytes) = IsStorableText bytes
   IsStorable (array items) = (items_len items < 2 ^ 63) × AreStorable items
   IsStorable (object members) = HasStorable members
@@ -40,7 +40,7 @@ abbrev mutual
 -- What the record of a live row of the table prints as can be held.
 abbrev pub PrintsStorable : List Schema → Table → Type 0
 PrintsStorable schemas table =
-    (t ordinal : ℕ) (printed : Data) → IsLive table t ordinal → PrintsTree schemas t (unfold_row schemas table t ordinal) printed → IsStorable printed
+    (type_index ordinal : ℕ) (printed : Data) → IsLive table type_index ordinal → PrintsTree schemas type_index (unfold_row schemas table type_index ordinal) printed → IsStorable printed
 
 -- So it is with the rows of the consumer's state, those from before its last step, and the older ones that are kept.
 abbrev pub HasStorableRows : Machine → Type 0

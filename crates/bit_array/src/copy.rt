@@ -10,13 +10,13 @@ pub fn copy_bits(from: &[u64], at: u64, to: &mut [u64], place: u64, len: u64)
     requires inside { place + len ≤ 64 * length to.old }
     requires counted { (at + len < 2 ^ 64) × (place + len < 2 ^ 64) }
     ensures block { SetsBlock to.old to.new place len (element_of from.now at len) }
-    ensures each { (i v : ℕ) → i + v ≤ len → element_of to.new (place + i) v ≡ element_of from.now (at + i) v }
-    ensures others { (i v : ℕ) → (i + v ≤ place) ⊎ (place + len ≤ i) → element_of to.new i v ≡ element_of to.old i v }
+    ensures each { (bit width : ℕ) → bit + width ≤ len → element_of to.new (place + bit) width ≡ element_of from.now (at + bit) width }
+    ensures others { (bit width : ℕ) → (bit + width ≤ place) ⊎ (place + len ≤ bit) → element_of to.new bit width ≡ element_of to.old bit width }
 {
     copy_block(from, at, to, place, len);
 }
 
-/// The same, by the number that the words stand for.
+/// Copies so many bits of one word array, from bit `at` on, into another one, from bit `place` on: its contract tells of the number that the words stand for.
 fn copy_block(from: &[u64], at: u64, to: &mut [u64], place: u64, len: u64)
     requires source { at + len ≤ 64 * length from.now }
     requires inside { place + len ≤ 64 * length to.old }
@@ -34,7 +34,7 @@ fn copy_block(from: &[u64], at: u64, to: &mut [u64], place: u64, len: u64)
     copy_piece(from, at + done, to, place + done, (len - done) as u32);
 }
 
-/// The same of 64 bits at most.
+/// Copies 64 bits at most of one word array, from bit `at` on, into another one, from bit `place` on.
 fn copy_piece(from: &[u64], at: u64, to: &mut [u64], place: u64, len: u32)
     requires width { len ≤ 64 }
     requires source { at + len ≤ 64 * length from.now }
@@ -44,7 +44,7 @@ fn copy_piece(from: &[u64], at: u64, to: &mut [u64], place: u64, len: u32)
     put_block(to, place, len, element(from, at, len));
 }
 
-/// The same of whole words of the array that is written.
+/// Copies bits of one word array, from bit `at` on, into so many whole words of another one, from word `first` on.
 fn copy_words(from: &[u64], at: u64, to: &mut [u64], first: u64, count: u64)
     requires source { at + 64 * count ≤ 64 * length from.now }
     requires inside { first + count ≤ length to.old }
@@ -59,7 +59,7 @@ fn copy_words(from: &[u64], at: u64, to: &mut [u64], first: u64, count: u64)
     }
 }
 
-/// The same where words of the one array become words of the other.
+/// Copies whole words of one word array, from word `base` on, into as many words of another one, from word `first` on.
 fn copy_whole(from: &[u64], base: u64, to: &mut [u64], first: u64, count: u64)
     requires source { base + count ≤ length from.now }
     requires inside { first + count ≤ length to.old }
@@ -70,7 +70,8 @@ fn copy_whole(from: &[u64], base: u64, to: &mut [u64], first: u64, count: u64)
     to[begin..end].copy_from_slice(&from[start..stop]);
 }
 
-/// The same where each word is made of the end of one word and the front of the next.
+/// Copies bits of one word array, from bit `shift` of word `base` on, into so many whole words of another one: each is made of the end of one word and the
+/// front of the next.
 fn copy_shifted(from: &[u64], base: u64, shift: u32, to: &mut [u64], first: u64, count: u64)
     requires some { 1 ≤ shift }
     requires below { shift < 64 }
@@ -85,7 +86,7 @@ fn copy_shifted(from: &[u64], base: u64, shift: u32, to: &mut [u64], first: u64,
     }
 }
 
-/// Writes a word.
+/// Writes a whole word: the 64 bits from its first one on.
 #[inline(always)]
 fn put_word(words: &mut [u64], place: usize, word: u64)
     requires { place < length words.old }

@@ -4,13 +4,13 @@ ghost use Rattle.bit_array.specs.Digits.{digit_count};
 ghost use Rattle.bit_array.specs.Element.{words_of};
 
 /// How many binary digits a number has, 0 for 0: the least width in bits that holds it.
-pub fn digits(x: u64) -> u32
-    ensures count { result ≡ digit_count x }
-    ensures holds { x < 2 ^ result }
-    ensures least { 0 < x → 2 ^ (result - 1) ≤ x }
+pub fn digits(number: u64) -> u32
+    ensures count { result ≡ digit_count number }
+    ensures holds { number < 2 ^ result }
+    ensures least { 0 < number → 2 ^ (result - 1) ≤ number }
     ensures fits { result ≤ 64 }
 {
-    64 - x.leading_zeros()
+    64 - number.leading_zeros()
 }
 
 /// How many 64-bit words so many bits take.

@@ -88,7 +88,7 @@ pub record Reads {V : Type 0} (form : Form V) (before after : Scene) (answer : R
 
 -- The answer is the value exactly where it stands, and the fault exactly where reading is stuck so, but for the free ones.
 pub record Exactly {V : Type 0} (form : Form V) (blob : List ℕ) (at : ℕ) (answer : Result V BlobFault) : Type 0 where
-  pub found : (v : V) (next : ℕ) → form.Stands blob at v next → (answer ≡ Ok v) ⊎ IsErrAnd answer IsFree
+  pub found : (value : V) (next : ℕ) → form.Stands blob at value next → (answer ≡ Ok value) ⊎ IsErrAnd answer IsFree
   pub stuck : (place : ℕ) (why : Reason) → form.Stuck blob at place why →
       (answer ≡ Err (fault.Bad place why)) ⊎ IsErrAnd answer IsFree
 

@@ -36,15 +36,15 @@ impl Model for Cursor {
 
     ghost Value = { Place };
 
-    ghost view = { λ c. record {
-      name = c.name;
-      size = c.size;
-      at = c.at;
-      ahead = take (c.end - c.begin) (drop c.begin c.buffer.items);
+    ghost view = { λ cursor. record {
+      name = cursor.name;
+      size = cursor.size;
+      at = cursor.at;
+      ahead = take (cursor.end - cursor.begin) (drop cursor.begin cursor.buffer.items);
     } };
 
-    ghost invariant = { λ c. (vec_len c.buffer ≡ 4096) × (c.begin ≤ c.end) × (c.end ≤ 4096)
-        × (c.at + (c.end - c.begin) ≤ c.size) × (c.size ≤ 2 ^ 28) };
+    ghost invariant = { λ cursor. (vec_len cursor.buffer ≡ 4096) × (cursor.begin ≤ cursor.end) × (cursor.end ≤ 4096)
+        × (cursor.at + (cursor.end - cursor.begin) ≤ cursor.size) × (cursor.size ≤ 2 ^ 28) };
 }
 
 impl Cursor {

@@ -13,11 +13,11 @@ use Rattle.blob_grammar.proofs.Judges.{judge_text}
 
 -- A number of a fixed size, its highest byte first.
 unfoldable pub fixed : Width → Form ℕ
-fixed w = record {
-  Stands = λ bytes at v next. (next ≡ at + byte_len w) × (next ≤ length bytes)
-      × (v ≡ from_be_bytes w (take (byte_len w) (drop at bytes)));
-  Stuck = λ bytes at place why. (length bytes < at + byte_len w) × (place ≡ at) × (why ≡ Truncated);
-  decided = decided_fixed w;
+fixed width = record {
+  Stands = λ bytes at value next. (next ≡ at + byte_len width) × (next ≤ length bytes)
+      × (value ≡ from_be_bytes width (take (byte_len width) (drop at bytes)));
+  Stuck = λ bytes at place why. (length bytes < at + byte_len width) × (place ≡ at) × (why ≡ Truncated);
+  decided = decided_fixed width;
 }
 
 -- A signed number of 8 bytes.
@@ -54,10 +54,10 @@ name = judged units IsTextOf (λ us why. (why ≡ BadName) × ((text : List ℕ)
 
 -- A run of this many bytes.
 unfoldable pub run : ℕ → Form (List ℕ)
-run n = record {
-  Stands = λ bytes at v next. (next ≡ at + n) × (next ≤ length bytes) × (v ≡ take n (drop at bytes));
-  Stuck = λ bytes at place why. (length bytes < at + n) × (place ≡ at) × (why ≡ Truncated);
-  decided = decided_run n;
+run count = record {
+  Stands = λ bytes at value next. (next ≡ at + count) × (next ≤ length bytes) × (value ≡ take count (drop at bytes));
+  Stuck = λ bytes at place why. (length bytes < at + count) × (place ≡ at) × (why ≡ Truncated);
+  decided = decided_run count;
 }
 
 -- A run of bytes behind their number.
@@ -73,7 +73,7 @@ skipped n = judged (run n) (λ bytes u. Unit {0}) (λ bytes why. ⊥) judge_any
 -- The end of the blob.
 unfoldable pub end : Form Unit
 end = record {
-  Stands = λ bytes at v next. (at ≡ length bytes) × (next ≡ at);
+  Stands = λ bytes at value next. (at ≡ length bytes) × (next ≡ at);
   Stuck = λ bytes at place why. (at < length bytes) × (place ≡ at) × (why ≡ TrailingBytes);
   decided = decided_end;
 }

@@ -13,7 +13,7 @@ ghost use Rattle.blob_frame.specs.Written.{schema_list_bytes, header_bytes};
 
 /// At each place of a blob at most one item of a kind stands, reading it is stuck for one reason, and never both.
 pub fn one_item()
-    ensures number { (w : Width) → IsDecided (fixed w).Stands (fixed w).Stuck }
+    ensures number { (width : Width) → IsDecided (fixed width).Stands (fixed width).Stuck }
     ensures signed { IsDecided signed.Stands signed.Stuck }
     ensures varint { (limit : ℕ) → IsDecided (varint limit).Stands (varint limit).Stuck }
     ensures name { IsDecided name.Stands name.Stuck }
@@ -36,7 +36,7 @@ pub fn one_header()
 
 /// At each place of each blob an item of each kind, a schema and a header stand, or reading them is stuck.
 pub fn each_place()
-    ensures number { (w : Width) → EachPlace (fixed w).Stands (fixed w).Stuck }
+    ensures number { (width : Width) → EachPlace (fixed width).Stands (fixed width).Stuck }
     ensures signed { EachPlace signed.Stands signed.Stuck }
     ensures varint { (limit : ℕ) → EachPlace (varint limit).Stands (varint limit).Stuck }
     ensures name { EachPlace name.Stands name.Stuck }

@@ -13,7 +13,7 @@ use schema_model::Schema;
 pub struct TypeHead {
     /// The offset of the type's schema in the blob, in bytes.
     pub at: u64,
-    /// The schema.
+    /// The schema of the type, as the blob has it.
     pub schema: Schema,
 }
 

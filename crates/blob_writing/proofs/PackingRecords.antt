@@ -25,9 +25,6 @@ use Rattle.blob_writing.proofs.SettingBlocks.{sets, zero_words}
 
 -- ---- numbers
 
-not_least : (number half : ℕ) → (number ≡ half - 1 → ⊥) → number < half → number < half - 1
-not_least number half other small = grind arith
-
 at_most : (value : Value) → IsValueInRange value → IfSome (stored_number value) (λ n. n ≤ greatest_number value)
 at_most Value.Null range = tt
 at_most (Value.Int (pos n)) range = let small : n < 2 ^ 31 = search rules in omega arith

@@ -15,9 +15,6 @@ module _ {X : Type 0} (R : ℕ → X → Type 0) (bytes : X → List ℕ) where
     pub are : AllZip R (take count indexes) things
     pub is : out ≡ start ++ flat_map bytes things
 
-  pub none_written : (indexes start : List ℕ) → AreWrittenTo indexes 0 start start
-  none_written indexes start = record { things = []; are = tt; is = sym (append-nil start) }
-
   pub one_written : (indexes : List ℕ) (count : ℕ) (start out more : List ℕ) (x : X) → count < length indexes → AreWrittenTo indexes count start out → R (get_or indexes count 0) x → more ≡ out ++ bytes x
       → AreWrittenTo indexes (count + 1) start more
   one_written indexes count start out more x inside to is put = record {

@@ -4,4 +4,4 @@ use Rattle.std.specs.Prelude.{◌+◌, ℕ, List, [], ◌∷◌, length}
 -- What is made of each of them and of the offset at which it stands, where the first stands at this one.
 abbrev pub placed : {A V : Type 0} → (A → List ℕ) → (A → ℕ → V) → List A → ℕ → List V
 placed bytes made [] at = []
-placed bytes made (x ∷ xs) at = made x at ∷ placed bytes made xs (at + length (bytes x))
+placed bytes made (one ∷ others) at = made one at ∷ placed bytes made others (at + length (bytes one))

@@ -48,7 +48,7 @@ pub fn write_delta<A: Rows, B: Rows>(
     limited_delta(alloc, old, new, model, plan, origin, destination)
 }
 
-// The same, by what each answer means: `Large`, that each such blob has more than 2^28 bytes.
+// Writes the delta from an old to a new state of this model. `Large` means that each such blob has more than 2^28 bytes.
 fn limited_delta<A: Rows, B: Rows>(
     alloc: Global,
     old: &A,

@@ -23,7 +23,7 @@ pub fn put_type_head(out: &mut Vec<u8>, schema: &Schema) -> Result<(), AllocErro
     or_undone(out, start, written)
 }
 
-// The same, but that the schema may stand at the end where memory is refused.
+// Writes the head of a type at the end. Where memory is refused its schema may stand there.
 fn push_type_head(out: &mut Vec<u8>, schema: &Schema) -> Result<(), AllocError>
     requires { IsSpellable schema.now }
     ensures ok { OnOk result (out.new.items ≡ out.old.items ++ type_head_bytes schema.now) }

@@ -66,16 +66,16 @@ pub fn written_delta()
 
 /// A snapshot of the same states, between the same tags, is written in one way.
 pub fn one_written_snapshot()
-    ensures { (schemas : List Schema) (old new : Table) (origin destination : ℤ) (a b : List ℕ) → IsModel schemas → AreWritable schemas old new
-        → IsWrittenSnapshot schemas old new origin destination a → IsWrittenSnapshot schemas old new origin destination b → a ≡ b }
+    ensures { (schemas : List Schema) (old new : Table) (origin destination : ℤ) (one another : List ℕ) → IsModel schemas → AreWritable schemas old new
+        → IsWrittenSnapshot schemas old new origin destination one → IsWrittenSnapshot schemas old new origin destination another → one ≡ another }
 {
     laws::one_packing_of_places();
 }
 
 /// A delta between the same states and tags is written in one way.
 pub fn one_written_delta()
-    ensures { (schemas : List Schema) (old new : Table) (origin destination : ℤ) (a b : List ℕ) → IsModel schemas → AreWritable schemas old new
-        → IsDeltaBetween schemas old new origin destination a → IsDeltaBetween schemas old new origin destination b → a ≡ b }
+    ensures { (schemas : List Schema) (old new : Table) (origin destination : ℤ) (one another : List ℕ) → IsModel schemas → AreWritable schemas old new
+        → IsDeltaBetween schemas old new origin destination one → IsDeltaBetween schemas old new origin destination another → one ≡ another }
 {
     laws::one_packing_of_places();
 }

@@ -30,7 +30,7 @@ pub fn put_ordinals(
     or_undone(out, start, written)
 }
 
-// The same, but that the first of it may stand at the end where memory is refused.
+// Writes the ordinals that a delta removes, and behind them those that it adds, at the end. Where memory is refused the first of them may stand there.
 fn push_ordinals(out: &mut Vec<u8>, removed: &Ordinals, added: &Ordinals) -> Result<(), AllocError>
     requires removed { IsStrictlyIncreasing removed.now }
     requires added { IsStrictlyIncreasing added.now }

@@ -28,7 +28,7 @@ pub fn put_packed(
     or_undone(out, start, written)
 }
 
-// The same, but that the first of it may stand at the end where memory is refused. So it is with all that follow.
+// Writes the packed rows of a type of this shape at the end. Where memory is refused the first of it may stand there. So it is with all that follow.
 fn push_packed(
     out: &mut Vec<u8>,
     shape: &Shape,

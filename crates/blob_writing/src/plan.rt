@@ -53,7 +53,7 @@ impl Plan {
         Plan::gather(alloc, chosen, old, new)
     }
 
-    /// The same by what was measured of each type, in model order: no row is looked at.
+    /// The plan of an old and a new state by what was measured of each type, in model order: no row is looked at.
     pub fn of<A: OrdinalRows, B: OrdinalRows>(
         alloc: Global,
         measured: &[Measured],

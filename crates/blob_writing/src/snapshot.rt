@@ -54,7 +54,7 @@ pub fn write_snapshot<A: Rows, B: Rows>(
     limited_snapshot(alloc, old, new, model, plan, sections, origin, destination)
 }
 
-// The same, by what each answer means: `Large`, that each such blob has more than 2^28 bytes.
+// Writes the snapshot of a new state of this model that follows an old one. `Large` means that each such blob has more than 2^28 bytes.
 fn limited_snapshot<A: Rows, B: Rows>(
     alloc: Global,
     old: &A,

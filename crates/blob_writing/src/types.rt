@@ -38,7 +38,7 @@ pub fn put_snapshot_type(
     or_undone(out, start, written)
 }
 
-// The same, but that the first of it may stand at the end where memory is refused. So it is with the one that follows.
+// Writes a type of a snapshot at the end. Where memory is refused the first of it may stand there.
 fn push_snapshot_type(
     out: &mut Vec<u8>,
     schema: &Schema,
@@ -82,6 +82,7 @@ pub fn put_delta_type(
     or_undone(out, start, written)
 }
 
+// Writes a type of a delta at the end. Where memory is refused the first of it may stand there.
 fn push_delta_type(
     out: &mut Vec<u8>,
     schema: &Schema,

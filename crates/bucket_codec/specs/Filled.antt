@@ -9,7 +9,7 @@ use Rattle.bucket_codec.specs.Inserted.{inserted}
 -- As many words as before, of which no bit before the limit has changed.
 pub record KeepsFront (old new : List ℕ) (limit : ℕ) : Type 0 where
   pub long : length new ≡ length old
-  pub front : (i v : ℕ) → i + v ≤ limit → element_of new i v ≡ element_of old i v
+  pub front : (bit width : ℕ) → bit + width ≤ limit → element_of new bit width ≡ element_of old bit width
 
 -- No bit from the limit on has changed.
 abbrev pub KeepsBack : List ℕ → List ℕ → ℕ → Type 0

@@ -11,7 +11,7 @@ use bit_array::{all_ones, element};
 /// They are in the order of the words, which is not that of the keys; some are empty.
 #[derive(Clone, Copy)]
 pub struct Buckets<'a> {
-    /// The words.
+    /// The words in which they stand, maybe beside others.
     pub words: &'a [u64],
     /// How many buckets of the words stand before these.
     pub start: u64,
@@ -45,7 +45,7 @@ impl<'a> Buckets<'a> {
         Some((key as u32, value as u32))
     }
 
-    /// The same of numbers of any width.
+    /// The key and the value of the bucket at an index, numbers of any width, an element of a set with the value 0; none where it is empty.
     #[inline(always)]
     pub(crate) fn wide_bucket(self, index: u64) -> Option<(u64, u64)>
         requires { index < self.len }

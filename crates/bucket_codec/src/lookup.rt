@@ -6,24 +6,31 @@ ghost use Rattle.bucket_codec.specs.Buckets.{run_of};
 
 use crate::buckets::Buckets;
 
-/// Whether a set has an element: `start` and `end` bound its run, counted in buckets of `w` bits.
+/// Whether a set has an element: `start` and `end` bound its run, counted in buckets of `width` bits.
 ///
 /// The answer is that of the set that the run spells; of a run that spells none it says nothing, but it comes.
-pub fn has(words: &[u64], start: u64, end: u64, w: u32, e: u32) -> bool
-    requires { IsRunWithin words.now w 0 start end }
-    ensures { (pairs : List (ℕ × ℕ)) → SpellsRun (run_in words.now w 0 start (end - start)) pairs → IsTrue result ↔ Contains (keys_of pairs) e }
+pub fn has(words: &[u64], start: u64, end: u64, width: u32, element: u32) -> bool
+    requires { IsRunWithin words.now width 0 start end }
+    ensures { (pairs : List (ℕ × ℕ)) → SpellsRun (run_in words.now width 0 start (end - start)) pairs → IsTrue result ↔ Contains (keys_of pairs) element }
 {
-    between(words, start, end, w, 0).has(e)
+    between(words, start, end, width, 0).has(element)
 }
 
-/// The value that a map has beside a key: `start` and `end` bound its run, counted in buckets of a key of `kw` and a value of `vw` bits.
+/// The value that a map has beside a key: `start` and `end` bound its run, counted in buckets of a key of `key_width` and a value of `value_width` bits.
 ///
 /// The answer is that of the map that the run spells, none where it has no such key; of a run that spells none it says nothing, but it comes.
-pub fn at(words: &[u64], start: u64, end: u64, kw: u32, vw: u32, k: u32) -> Option<u32>
-    requires { IsRunWithin words.now kw vw start end }
-    ensures { (pairs : List (ℕ × ℕ)) → SpellsRun (run_in words.now kw vw start (end - start)) pairs → FindsIn pairs k result }
+pub fn at(
+    words: &[u64],
+    start: u64,
+    end: u64,
+    key_width: u32,
+    value_width: u32,
+    key: u32,
+) -> Option<u32>
+    requires { IsRunWithin words.now key_width value_width start end }
+    ensures { (pairs : List (ℕ × ℕ)) → SpellsRun (run_in words.now key_width value_width start (end - start)) pairs → FindsIn pairs key result }
 {
-    between(words, start, end, kw, vw).at(k)
+    between(words, start, end, key_width, value_width).at(key)
 }
 
 /// The buckets between two bounds.

@@ -93,7 +93,7 @@ fn bucket_count(row: Option<&Row>) -> u64
     }
 }
 
-/// How many buckets rows take.
+/// How many buckets the rows of all places take together.
 fn total_buckets<P: PlacedRows>(alloc: Global, rows: &P) -> Result<u64, AllocError>
     requires few { All IsFew (P.places rows.now) }
     requires small { bucket_total (P.places rows.now) < 2 ^ 64 }

@@ -69,7 +69,7 @@ impl<'a> BucketRows<'a> {
     }
 }
 
-/// The keys of pairs.
+/// The keys of pairs, in the order of the pairs.
 fn keys(alloc: Global, pairs: &[(u32, u32)]) -> Result<Ordinals, AllocError>
     ensures { IfOk result (λ keys. keys ≡ keys_of pairs.now) }
 {

@@ -54,7 +54,8 @@ pub fn check<W: Walk, S: BlobStore>(
     check_each(alloc, walker, fresh, store, versions)
 }
 
-// The same, told once for each answer.
+// Leads the walker over versions, and compares it with the fresh one at each of them whose snapshot the store has: gives at how many, or the fault that `check`
+// tells of.
 fn check_each<W: Walk, S: BlobStore>(
     alloc: Global,
     walker: &mut W,

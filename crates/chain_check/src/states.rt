@@ -33,7 +33,8 @@ pub fn first_other_row<W: Walk>(
     Ok(None)
 }
 
-/// The same of rows of one model that are seen in another way, as through it.
+/// The place of the first rows of a model that differ in a state and in rows of the model seen in another way, one of them missing included; `None` exactly
+/// where all rows are the same. They are looked at one by one.
 pub fn first_other_seen<A: Rows, B: Rows>(
     alloc: Global,
     walked: &A,
@@ -73,7 +74,7 @@ fn first_other_of_type<W: Walk>(
     first_other_ordinal(alloc, walked, fresh, type_index)
 }
 
-// The same, row by row.
+// The least ordinal under which the rows of a type differ, looked for row by row; `None` where there is none.
 fn first_other_ordinal<A: Rows, B: Rows>(
     alloc: Global,
     walked: &A,

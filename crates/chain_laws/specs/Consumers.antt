@@ -73,7 +73,8 @@ ModelsOfChainAgree chain = (u v : ℕ) (a b : ChainState) → HasVersion chain u
 -- So do those of the states of these versions.
 abbrev pub ModelsAgreeAmong : Chain → List ℕ → Type 0
 ModelsAgreeAmong chain versions =
-    (u v : ℕ) (a b : ChainState) → Contains versions u → Contains versions v → HasVersion chain u a → HasVersion chain v b → ModelsAgree a.model b.model
+    (first second : ℕ) (one other : ChainState) → Contains versions first → Contains versions second
+    → HasVersion chain first one → HasVersion chain second other → ModelsAgree one.model other.model
 
 -- A consumer that goes to a version arrives: no blob is refused, all are applied, and it sees the state that the chain has under the version.
 pub record Arrives (chain : Chain) (version : ℕ) (progress : Progress) (next : Machine) : Type 0 where

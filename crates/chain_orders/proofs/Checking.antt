@@ -1,6 +1,6 @@
 -- A check of a walker is one of the machine: its calls are those of the orders `load` and `step`.
 use Rattle.std.proofs.Common.{◌≡◌, ℕ, List, [], ◌∷◌, Option, Some, None, Result, Ok, Err, inl, inr, subst}
-use Rattle.std.specs.Prelude.{IfSome, length}
+use Rattle.std.specs.Prelude.{IfOk, IfSome, length}
 use Rattle.hol_io.specs.declared.name.BlobName.{BlobName}
 use Rattle.hol_io.specs.declared.name.BlobName.TheVariants.{Snapshot}
 use Rattle.hol_io.specs.Store.{Store, told}
@@ -112,13 +112,17 @@ module _ (store : Store) where
 
 -- ---- the answers
 
--- the two walkers at the begin of a check have no state, and what is asked are the versions
-begun : (held : Option Store) (versions asked : List ℕ) (walker fresh : Option Position) (now : Both (Option Position)) (result : Result ℕ (CheckFault BlobFault)) → asked ≡ versions → walker ≡ None → fresh ≡ None
-    → TellsCheck walker_calls held asked (record { walker = walker; fresh = fresh }) now result → TellsCheck walker_calls held versions both_new now result
-begun held versions asked walker fresh now result same none bare tells =
-    subst (λ (vs : List ℕ). TellsCheck walker_calls held vs both_new now result) same
-    (subst (λ (f : Option Position). TellsCheck walker_calls held asked (record { walker = None; fresh = f }) now result) bare
-    (subst (λ (w : Option Position). TellsCheck walker_calls held asked (record { walker = w; fresh = fresh }) now result) none tells))
+-- what is told of a walk along versions by two walkers that have no state at its begin
+abbrev Walked : Option Store → List ℕ → Result ℕ (CheckFault BlobFault) → Type 0
+Walked held versions result = (now : Both (Option Position)) × TellsCheck walker_calls held versions both_new now result
+
+pub walked : (held : Option Store) (versions : List ℕ) (walker fresh : Option Position) (now : Both (Option Position)) (result : Result ℕ (CheckFault BlobFault)) → walker ≡ None → fresh ≡ None
+    → TellsCheck walker_calls held versions (record { walker = walker; fresh = fresh }) now result → Walked held versions result
+walked held versions walker fresh now result none bare tells = (
+  now,
+  subst (λ (f : Option Position). TellsCheck walker_calls held versions (record { walker = None; fresh = f }) now result) bare
+      (subst (λ (w : Option Position). TellsCheck walker_calls held versions (record { walker = w; fresh = fresh }) now result) none tells),
+)
 
 -- a walk that passes over versions compares as many as have their snapshots
 counted : (store : Store) (versions : List ℕ) (start now : Both (Option Position)) (compared : ℕ)
@@ -130,27 +134,34 @@ counted store versions start now compared yields passes =
       | inr failed ↦ absurd failed
     ]
 
+pub counts : (held : Option Store) (versions : List ℕ) (start now : Both (Option Position)) (result : Result ℕ (CheckFault BlobFault))
+    → IfSome held (λ store. Yields (IsFree {E = BlobFault}) result (Ok (compared_in store versions)) ((end : Both (Option Position)) × Passes walker_calls (Some store) None versions start end))
+    → TellsCheck walker_calls held versions start now result → IfOk result (λ compared. IfSome held (λ store. compared ≡ compared_in store versions))
+counts held versions start now (Err why) yields tells = tt
+counts None versions start now (Ok compared) yields tells = tt
+counts (Some store) versions start now (Ok compared) yields tells = counted store versions start now compared yields tells
+
 -- each state that is compared is that of its snapshot
-pub checked : (held : Option Store) (versions asked : List ℕ) (walker fresh : Option Position) (now : Both (Option Position)) (compared states : ℕ) → asked ≡ versions → walker ≡ None → fresh ≡ None
-    → states ≡ length versions
-    → IfSome held (λ store. Yields (IsFree {E = BlobFault}) (Ok compared) (Ok (compared_in store asked))
-    ((end : Both (Option Position)) × Passes walker_calls (Some store) None asked (record { walker = walker; fresh = fresh }) end))
-    → TellsCheck walker_calls held asked (record { walker = walker; fresh = fresh }) now (Ok compared) → IfSome held (λ store. CheckReply store versions (reply.Check compared states))
-checked None versions asked walker fresh now compared states same none bare count yields tells = tt
-checked (Some store) versions asked walker fresh now compared states same none bare count yields tells =
-    let many = counted store asked (record { walker = walker; fresh = fresh }) now compared yields tells in
-    let told = begun (Some store) versions asked walker fresh now (Ok compared) same none bare tells in
-    (count, subst (λ (vs : List ℕ). compared ≡ compared_in store vs) same many, (now, passes store None versions both_new now told))
+pub checked : (held : Option Store) (versions asked : List ℕ) (compared states : ℕ) → asked ≡ versions → states ≡ length versions → IfSome held (λ store. compared ≡ compared_in store asked)
+    → Walked held asked (Ok compared) → IfSome held (λ store. CheckReply store versions (reply.Check compared states))
+checked None versions asked compared states same count many told = tt
+checked (Some store) versions asked compared states same count many (now, tells) =
+    let along = subst (λ (vs : List ℕ). TellsCheck walker_calls (Some store) vs both_new now (Ok compared)) same tells in
+    (count, subst (λ (vs : List ℕ). compared ≡ compared_in store vs) same many, (now, passes store None versions both_new now along))
+
+-- what ends a walk along the versions that are asked
+ended : (held : Option Store) (versions asked : List ℕ) (now : Both (Option Position)) (found why : CheckFault BlobFault) → asked ≡ versions → found ≡ why
+    → TellsCheck walker_calls held asked both_new now (Err found) → TellsCheck walker_calls held versions both_new now (Err why)
+ended held versions asked now found why same is tells =
+    subst (λ (f : CheckFault BlobFault). TellsCheck walker_calls held versions both_new now (Err f)) is (subst (λ (vs : List ℕ). TellsCheck walker_calls held vs both_new now (Err found)) same tells)
 
 -- a state differs from that of its snapshot
-pub different : (held : Option Store) (versions asked : List ℕ) (walker fresh : Option Position) (now : Both (Option Position)) (found : CheckFault BlobFault) (version : ℕ) (type_name : Option Name) (ordinal : Option ℕ)
-    → asked ≡ versions → walker ≡ None → fresh ≡ None → found ≡ check_fault.Mismatch version type_name ordinal
-    → TellsCheck walker_calls held asked (record { walker = walker; fresh = fresh }) now (Err found)
+pub different : (held : Option Store) (versions asked : List ℕ) (found : CheckFault BlobFault) (version : ℕ) (type_name : Option Name) (ordinal : Option ℕ)
+    → asked ≡ versions → found ≡ check_fault.Mismatch version type_name ordinal → Walked held asked (Err found)
     → IfSome held (λ store. CheckReply store versions (reply.Refused (refusal.Mismatch (record { version = version; type_name = type_name; ordinal = ordinal }))))
-different None versions asked walker fresh now found version type_name ordinal same none bare is tells = tt
-different (Some store) versions asked walker fresh now found version type_name ordinal same none bare is tells =
-    let told_so = begun (Some store) versions asked walker fresh now (Err found) same none bare tells in
-    (now, differs store versions both_new version type_name ordinal now (subst (λ (f : CheckFault BlobFault). TellsCheck walker_calls (Some store) versions both_new now (Err f)) is told_so))
+different None versions asked found version type_name ordinal same is told = tt
+different (Some store) versions asked found version type_name ordinal same is (now, tells) =
+    (now, differs store versions both_new version type_name ordinal now (ended (Some store) versions asked now found (check_fault.Mismatch version type_name ordinal) same is tells))
 
 -- no fault of a blob is that two states differ
 no_mismatch : (name : BlobName) (found : BlobFault) (difference : Difference) → TellsOf name found (refusal.Mismatch difference) → ⊥
@@ -182,11 +193,9 @@ stopped_reply store versions now name (refusal.Mismatch difference) is = absurd 
 stopped_reply store versions now name _ is = (name, now, is)
 
 -- a blob is refused on the way
-pub refused : (held : Option Store) (versions asked : List ℕ) (walker fresh : Option Position) (now : Both (Option Position)) (found : CheckFault BlobFault) (name : BlobName) (why : BlobFault) (answer : Refusal)
-    → asked ≡ versions → walker ≡ None → fresh ≡ None → found ≡ check_fault.Walk name why → TellsOf name why answer
-    → TellsCheck walker_calls held asked (record { walker = walker; fresh = fresh }) now (Err found) → IfSome held (λ store. CheckReply store versions (reply.Refused answer))
-refused None versions asked walker fresh now found name why answer same none bare is refusal_is tells = tt
-refused (Some store) versions asked walker fresh now found name why answer same none bare is refusal_is tells =
-    let told_so = begun (Some store) versions asked walker fresh now (Err found) same none bare tells in
-    let stopped = subst (λ (f : CheckFault BlobFault). TellsCheck walker_calls (Some store) versions both_new now (Err f)) is told_so in
+pub refused : (held : Option Store) (versions asked : List ℕ) (found : CheckFault BlobFault) (name : BlobName) (why : BlobFault) (answer : Refusal)
+    → asked ≡ versions → found ≡ check_fault.Walk name why → TellsOf name why answer → Walked held asked (Err found) → IfSome held (λ store. CheckReply store versions (reply.Refused answer))
+refused None versions asked found name why answer same is refusal_is told = tt
+refused (Some store) versions asked found name why answer same is refusal_is (now, tells) =
+    let stopped = ended (Some store) versions asked now found (check_fault.Walk name why) same is tells in
     stopped_reply store versions now name answer (stops store versions both_new now name why answer stopped refusal_is)

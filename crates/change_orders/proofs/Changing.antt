@@ -1,10 +1,9 @@
 -- A change from its parts: what the cycle of the edited list answers, a change answers.
-use Rattle.std.proofs.Common.{◌≡◌, ◌∙◌, ◌≤◌, ℕ, List, true, false, Option, Some, None, Result, Ok, Err, inl, inr, refl, sym, ap, subst, length}
+use Rattle.std.proofs.Common.{◌≡◌, ◌∙◌, ◌≤◌, ℕ, List, true, false, Option, Some, None, Result, Ok, Err, inl, refl, sym, ap, subst, length}
 use Rattle.std.specs.Prelude.{IfSome, IsSome, OnOk, IsSomeAnd, IsTrue, ◌↔◌, ⊤}
 use Rattle.std.specs.Option.{option_map}
 use Rattle.hol_io.specs.Store.{Store}
 use Rattle.schema_model.specs.Model.{IsModel}
-use Rattle.schema_model.specs.declared.limit.Limit.{Limit}
 use Rattle.schema_model.specs.declared.limit.Limit.TheVariants as limit
 use Rattle.schema_model.specs.declared.schema.Schema.{Schema}
 use Rattle.row_model.specs.PlainTree.{PlainTree}
@@ -12,7 +11,7 @@ use Rattle.row_model.specs.Table.{Table}
 use Rattle.record_trees.specs.declared.tree.Tree.{Tree}
 use Rattle.write_engine.specs.Agreement.{HoldsOnce}
 use Rattle.row_packing.specs.Measured.{AreMeasured}
-use Rattle.write_engine.specs.CycleLimit.{IsToPublish, TellsCycle, TellsTypes}
+use Rattle.write_engine.specs.CycleLimit.{IsToPublish, TellsCycle}
 use Rattle.write_engine.specs.Production.{AreChanged, Production, without_rows}
 use Rattle.write_engine.specs.declared.producer.Closed.{Closed}
 use Rattle.hol_incremental.specs.Changes.{CountsMissing, HaveKeys, HaveOwnKeys, records}
@@ -196,13 +195,6 @@ module _ (old taken made : Production) (edits : Editing) (kept : taken ≡ recor
       subst (λ (schemas : List Schema). AreReady schemas made.previous made.current edits) (sym same_schemas)
       (subst (λ (rows : Table). AreReady old.schemas rows made.current edits) (sym same_previous)
       (subst (λ (rows : Table). AreReady old.schemas old.previous rows edits) (sym (ap (λ (p : Production). p.current) ok)) ready))
-
--- a cycle that is to be published and passes no limit keeps those of each type
-pub within_limits : (schemas : List Schema) (previous current : Table) (version : ℕ) (changed : List ℕ) (passed : Option Limit) → TellsCycle schemas previous current version changed passed → IsToPublish version changed
-    → passed ≡ None → TellsTypes schemas previous current None
-within_limits schemas previous current version changed passed (inl unchanged) (inl first) none = absurd (unchanged.0 first)
-within_limits schemas previous current version changed passed (inl unchanged) (inr changes) none = absurd (changes unchanged.1)
-within_limits schemas previous current version changed passed (inr told) publishes none = subst (TellsTypes schemas previous current) none told.1
 
 -- an end means the same whatever was to be made
 pub same_end : {T U : Type 0} (Made : T → Type 0) (Other : U → Type 0) (Refuses : Refusal → Type 0) (Stops : OrderStop → Type 0) (end : CycleEnd) → TellsEnd {T = T} Made Refuses Stops (Err end) → TellsEnd {T = U} Other Refuses Stops (Err end)

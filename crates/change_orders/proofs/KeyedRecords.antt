@@ -8,6 +8,7 @@ use Rattle.std.proofs.lemmas.List.{length-map, take-append-drop, take_all}
 use Rattle.std.proofs.lemmas.List.Elements.{All-cons, All-nil}
 use Rattle.std.proofs.lemmas.Option.{get_or_from_slice_get, slice_get-get_or, slice_get_within}
 use Rattle.write_engine.proofs.Members.{apart_test, same_test}
+use Rattle.write_engine.proofs.Parts.{drop_at}
 use Rattle.serde_json.specs.Data.{Data}
 use Rattle.schema_model.specs.Model.{IsKept}
 use Rattle.schema_model.specs.declared.model.path.Path.{Path}
@@ -38,13 +39,6 @@ one_item (y ∷ ys) zero x at =
     let same : y ≡ x = cc in
     ap (λ z. z ∷ []) same
 one_item (y ∷ ys) (suc i) x at = rw add-one (ap (λ zs. y ∷ zs) (rw add-one at (one_item ys i x at)))
-
-rest_at : {A : Type 0} (xs : List A) (i : ℕ) (x : A) → slice_get xs i ≡ Some x → drop i xs ≡ x ∷ drop (i + 1) xs
-rest_at [] i x at = absurd cc
-rest_at (y ∷ ys) zero x at =
-    let same : y ≡ x = cc in
-    ap (λ z. z ∷ ys) same
-rest_at (y ∷ ys) (suc i) x at = rw add-one (rw add-one at (rest_at ys i x at))
 
 module _ {A B : Type 0} (R : A → B → Type 0) where
   pub beside : (xs : List A) (ys : List B) → AllZip R xs ys → (i : ℕ) (y : B) → slice_get ys i ≡ Some y → (x : A) × (slice_get xs i ≡ Some x) × R x y
@@ -109,7 +103,7 @@ all_run schemas json = types_run json 0 schemas 0 0 (inl (refl, refl))
 
 -- the next of a run
 pub run_next : (es : List Entry) (i last next : ℕ) (e : Entry) → slice_get es i ≡ Some e → IsRun last next (drop i es) → (e.place ≡ (if nat_eq e.type_index last then next else 0)) × IsRun e.type_index (e.place + 1) (drop (i + 1) es)
-run_next es i last next e at run = let here = subst (IsRun last next) (rest_at es i e at) run in (here.1, here.2)
+run_next es i last next e at run = let here = subst (IsRun last next) (drop_at es i e at) run in (here.1, here.2)
 
 -- a type and place stand before others
 abbrev pub IsEarlier : ℕ → ℕ → ℕ → ℕ → Type 0
@@ -436,7 +430,7 @@ module _ (schemas : List Schema) (asked : AskedChange) (puts : List (ℕ × Plai
         before = take i recorded;
         value = value;
         rest = drop (i + 1) recorded;
-        split = sym (take-append-drop i recorded) ∙ ap (λ es. take i recorded ++ es) (rest_at recorded i there.0 there.1 ∙ ap (λ (e : Entry). e ∷ drop (i + 1) recorded) here);
+        split = sym (take-append-drop i recorded) ∙ ap (λ es. take i recorded ++ es) (drop_at recorded i there.0 there.1 ∙ ap (λ (e : Entry). e ∷ drop (i + 1) recorded) here);
         keyed = all_keyed (take i recorded) found are;
         keyless = no_key;
       }

@@ -19,14 +19,13 @@ use Rattle.hol_incremental.specs.Roots.{IsKeyed}
 use Rattle.hol_incremental.proofs.Among.{first_in, later_in, none_in, parted}
 use Rattle.hol_incremental.proofs.OnceLists.{all_of}
 use Rattle.hol_orders.specs.Parts.{AskedChange}
-use Rattle.hollow_machine.specs.ChangeOrder.{AreAllKeyed, AreAllTypes, IsFirstUnkeyed, IsGivenType, IsNoChange}
+use Rattle.hollow_machine.specs.ChangeOrder.{AreAllKeyed, IsGivenType}
 use Rattle.hollow_machine.specs.Records.{AreKeyedTypes, AreTypes, names_in, names_of}
-use Rattle.hol_answers.specs.declared.refusal.Refusal.{Refusal}
 use Rattle.hol_answers.specs.declared.refusal.Refusal.TheVariants as refusal
 use Rattle.producer_orders.specs.Parts.{TellsUnknown}
 use Rattle.producer_orders.proofs.KnownTypes.{names_in-bare}
 use Rattle.producer_orders.proofs.Placed.{some_item}
-use Rattle.change_orders.specs.Given.{RefusesUnkeyed, TellsUnkeyed}
+use Rattle.change_orders.specs.Given.{TellsUnkeyed}
 
 -- ---- names
 
@@ -99,12 +98,6 @@ module _ (schemas : List Schema) (asked : AskedChange) (keyed : TellsUnkeyed sch
 
   pub all_keyed : AreTypes schemas asked.put → AreTypes schemas asked.remove → AreAllKeyed schemas asked
   all_keyed put remove = ((put, remove), keyed_names asked.put (λ name among. inl among) put, keyed_names asked.remove (λ name among. inr among) remove)
-
--- why the first type without a primary key is refused
-pub unkeyed_is : (schemas : List Schema) (asked : AskedChange) (t : ℕ) (why : Refusal) → AreAllTypes schemas asked → IsFirstUnkeyed schemas asked t → RefusesUnkeyed schemas t why → IsNoChange schemas asked why
-unkeyed_is schemas asked t (refusal.WrongKind name) types first is = (types, (t, first, is.0, is.1))
-unkeyed_is schemas asked t (refusal.BadPath path) types first is = (types, is.0, (t, first, is.1))
-unkeyed_is schemas asked t _ types first is = absurd is
 
 -- ---- what is found under a name
 

@@ -1,9 +1,9 @@
 -- Keys are looked up by their hashes among those before them, and the first that stands there is the first that stands twice.
 use Rattle.std.proofs.Common.{◌≡◌, ◌∙◌, ℕ, zero, suc, ◌+◌, ◌<◌, ◌≤◌, List, [], ◌∷◌, take, length, Bool, Option, Some, None, inl, inr, refl, sym, ap, subst, arith}
-use Rattle.std.specs.Prelude.{Contains, IsSomeAnd, if◌then◌else◌, nat_eq, option_map, slice_get, slice_set}
+use Rattle.std.specs.Prelude.{IsSomeAnd, if◌then◌else◌, nat_eq, option_map, slice_get, slice_set}
 use Rattle.std.proofs.lemmas.Bool.{cases_eq, cases_lt}
 use Rattle.write_engine.proofs.Members.{apart_test, same_test}
-use Rattle.linked_slots.specs.Chained.{Chained, IsAt, IsWhole, bucket_of, chain_of, hash_of, left_at}
+use Rattle.linked_slots.specs.Chained.{Chained, hash_of}
 use Rattle.row_hash.specs.Hash.{values_hash}
 use Rattle.change_orders.specs.declared.keyed_records.KeyAt.{KeyAt}
 use Rattle.change_orders.specs.Keys.{AreApartTo, AreHashed, HasKeyOf, HaveSameKey, IsSameAt, TellsAgain}
@@ -22,20 +22,6 @@ take_past [] (suc n) k past = refl
 take_past (x ∷ xs) zero k past = refl
 take_past (x ∷ xs) (suc n) zero past = absurd (omega (arith, past))
 take_past (x ∷ xs) (suc n) (suc k) past = take_past xs n k (omega (arith, past))
-
-module _ (found : List KeyAt) (chains : Chained) (one : KeyAt) (hash : ℕ) (hashed : AreHashed found chains) (is : hash ≡ values_hash one.key) where
-  linked_by : (place : ℕ) → HasKeyOf found one place → hash_of chains place ≡ Some hash
-  linked_by place has = by_item (slice_get found place) (hashed place) has
-    where
-      by_item : (item : Option KeyAt) → hash_of chains place ≡ option_map (λ (k : KeyAt). values_hash k.key) item → IsSomeAnd item (λ other. HaveSameKey other one) → hash_of chains place ≡ Some hash
-      by_item None linked has = absurd has
-      by_item (Some other) linked has = linked ∙ ap (λ key. Some (values_hash key)) has.1 ∙ ap (λ h. Some h) (sym is)
-
-  -- a walk along the chain of the hash has all places with the key ahead
-  pub all_ahead : (at : Option ℕ) → left_at chains hash at ≡ chain_of chains hash → IsWhole chains hash → (place : ℕ) → HasKeyOf found one place → Contains (left_at chains hash at) place
-  all_ahead at whole chain place has =
-      let there : IsAt chains hash (Some place) = subst (λ (o : Option ℕ). IsSomeAnd o (λ other. bucket_of chains other ≡ bucket_of chains hash)) (sym (linked_by place has)) refl in
-      subst (λ (slots : List ℕ). Contains slots place) (sym whole) ((chain.holds place).1 there)
 
 module _ (found : List KeyAt) (place : ℕ) (one : KeyAt) (at : slice_get found place ≡ Some one) where
   -- the key at a place is linked behind those before it
@@ -75,21 +61,6 @@ module _ (found : List KeyAt) (place : ℕ) (one : KeyAt) (at : slice_get found 
       by_first None is got same = absurd same
       by_first (Some x) is got same =
           subst (λ (o : Option KeyAt). IsSomeAnd o (λ other. HaveSameKey other one)) (sym is) (subst (λ (o : Option KeyAt). IsSomeAnd o (λ y. HaveSameKey x y)) got same)
-
-  -- a key before that is the same is found
-  pub same_found : (first : ℕ) → HasKeyOf (take place found) one first → (first < place) × IsSameAt found first place
-  same_found first has = elim (cases_lt first place) [
-    | inl below ↦ (
-      below,
-      subst (λ (o : Option KeyAt). IsSomeAnd o (λ x. IsSomeAnd (slice_get found place) (λ y. HaveSameKey x y))) (get_take found place first below)
-          (by_item (slice_get (take place found) first) has),
-    )
-    | inr past ↦ absurd (subst (λ (o : Option KeyAt). IsSomeAnd o (λ other. HaveSameKey other one)) (take_past found place first past) has)
-  ]
-    where
-      by_item : (item : Option KeyAt) → IsSomeAnd item (λ other. HaveSameKey other one) → IsSomeAnd item (λ x. IsSomeAnd (slice_get found place) (λ y. HaveSameKey x y))
-      by_item None has = absurd has
-      by_item (Some x) has = subst (λ (o : Option KeyAt). IsSomeAnd o (λ y. HaveSameKey x y)) (sym at) has
 
 -- behind the last place no two keys are the same
 pub none_again : (found : List KeyAt) (place : ℕ) → length found ≤ place → AreApartTo found place → TellsAgain found None

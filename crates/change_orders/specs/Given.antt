@@ -23,14 +23,14 @@ TellsGiven schemas asked (Some refusal) = IsNoChange schemas asked refusal
 
 -- Each type that is named has a primary key; or this is the first one without.
 abbrev pub TellsUnkeyed : List Schema → AskedChange → Option ℕ → Type 0
-TellsUnkeyed schemas asked None = (t : ℕ) → t < length schemas → IsGivenType schemas asked t → IsKeyed schemas t
-TellsUnkeyed schemas asked (Some t) = (t < length schemas) × IsFirstUnkeyed schemas asked t
+TellsUnkeyed schemas asked None = (type_index : ℕ) → type_index < length schemas → IsGivenType schemas asked type_index → IsKeyed schemas type_index
+TellsUnkeyed schemas asked (Some type_index) = (type_index < length schemas) × IsFirstUnkeyed schemas asked type_index
 
 -- Why a type without a primary key is refused.
 abbrev pub RefusesUnkeyed : List Schema → ℕ → Refusal → Type 0
-RefusesUnkeyed schemas t (WrongKind name) = IsOfName schemas t name × ¬ HasShape IsObject schemas t
-RefusesUnkeyed schemas t (BadPath path) = (path ≡ []) × HasShape IsObject schemas t
-RefusesUnkeyed schemas t _ = ⊥
+RefusesUnkeyed schemas type_index (WrongKind name) = IsOfName schemas type_index name × ¬ HasShape IsObject schemas type_index
+RefusesUnkeyed schemas type_index (BadPath path) = (path ≡ []) × HasShape IsObject schemas type_index
+RefusesUnkeyed schemas type_index _ = ⊥
 
 -- Each record that is put has a key, and no two of a type the same; or why not.
 abbrev pub TellsKeyed : List Schema → AskedChange → List (ℕ × PlainTree) → Option Refusal → Type 0

@@ -53,8 +53,8 @@ TellsFound schemas asked found (Some refusal) = IsNoChange schemas asked refusal
 
 -- the refusal of a record without a key names its type and place
 abbrev pub IsKeyless : List Schema → ℕ → ℕ → Refusal → Type 0
-IsKeyless schemas t place (NoKey name index) = IsOfName schemas t name × (index ≡ place)
-IsKeyless schemas t place _ = ⊥
+IsKeyless schemas type_index place (NoKey name index) = IsOfName schemas type_index name × (index ≡ place)
+IsKeyless schemas type_index place _ = ⊥
 
 -- the refusal names the type and the places of two records
 abbrev pub NamesTwo : List Schema → KeyAt → KeyAt → Refusal → Type 0

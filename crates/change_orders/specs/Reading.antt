@@ -15,7 +15,7 @@ use Rattle.producer_orders.specs.declared.cycle_end.CycleEnd.{CycleEnd}
 
 -- One of these records, the first, gives no tree.
 abbrev pub IsUnread : List Schema → List Entry → Refusal → Type 0
-IsUnread schemas recorded (BadRecord fault) = (t : ℕ) × IsOfName schemas t fault.type_name × IsFirstUnread schemas recorded t fault.index fault.reason
+IsUnread schemas recorded (BadRecord fault) = (type_index : ℕ) × IsOfName schemas type_index fault.type_name × IsFirstUnread schemas recorded type_index fault.index fault.reason
 IsUnread schemas recorded _ = ⊥
 
 -- The records give these trees, each with its type.

@@ -44,8 +44,8 @@ use write_engine::{Closed, Producer};
 /// Publishes the next state of the producer as a change of its last one: records are put, each in the place of the one that has its primary key, and others
 /// are removed by theirs. It is the state that a cycle of the edited list makes, under the same ordinals, and is published as by a cycle, with its snapshot.
 ///
-/// What is kept for changes is that of the producer's last state, and is made where nothing is kept; it is kept where a change was made. A refusal leaves the store, the producer and what is kept
-/// as they were; a stop leaves the store with the first of the puts. `Store` comes only where the store's count of faults rose.
+/// What is kept for changes is that of the producer's last state, and is made where nothing is kept; it is kept where a change was made. A refusal leaves the
+/// store and the producer as they were; a stop leaves the store with the first of the puts. `Store` comes only where the store's count of faults rose.
 #[inline(never)]
 pub fn change<S: BlobStore>(
     alloc: Global,
@@ -73,7 +73,8 @@ pub fn change<S: BlobStore>(
     }
 }
 
-// The same of a producer. What a change leaves that is not published is dropped, and what is kept is that of the last state again.
+// Publishes the next state of this producer as a change of its last one. What a change leaves that is not published is dropped, and what is kept is that of the
+// last state again.
 fn change_of<S: BlobStore, L: Ledger>(
     blank: Blank,
     alloc: Global,

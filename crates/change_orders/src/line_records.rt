@@ -62,7 +62,7 @@ fn trees_in(
     }
 }
 
-// The same of the records that are ahead.
+// The records that are ahead as trees behind others, up to the first one that is not told to be one: its place, where there is one.
 fn trees_ahead(
     alloc: Global,
     model: &Model,
@@ -105,7 +105,7 @@ fn values_in(
     }
 }
 
-// The same of the records that are ahead.
+// The records that are ahead as values.
 fn values_ahead(alloc: Global, reader: &mut Reader<'_>) -> Result<Vec<Value>, AllocError>
     requires { (records : List Data) × (rest : List Token) × AreAhead reader.old records rest }
     ensures { (records : List Data) (rest : List Token) → AreAhead reader.old records rest → IfOk result (λ values. map view values.items ≡ records) }

@@ -132,7 +132,7 @@ fn value_live<R: Rows>(rows: &R, kind: &FieldKind, value: &Value) -> bool
     }
 }
 
-// The same of each field that has a value.
+// Whether the rows that the values of some fields name are live. Fields without a value, and values that name no row, are passed over.
 fn values_live<R: Rows>(rows: &R, fields: &[Field], values: &[Value]) -> bool
     ensures { result ≡ list_all (λ part. are_live (R.schemas rows.now) (R.table rows.now) (references_of_value part.0.kind part.1)) (zip fields.now values.now) }
 {

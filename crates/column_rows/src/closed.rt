@@ -21,7 +21,7 @@ pub fn are_closed<R: ColumnRows>(rows: &R, type_index: u32) -> bool
     is_shape_closed(rows, type_index, shape, Looked::All)
 }
 
-/// The same of the rows under some ordinals, where there are such.
+/// Whether the rows that a type has under some ordinals name live rows alone; false also where that is not seen since they do not stand packed.
 pub fn are_closed_at<R: ColumnRows>(rows: &R, type_index: u32, ordinals: &[u32]) -> bool
     requires { type_index < length (R.schemas rows.now) }
     ensures { IsTrue result → All (IsClosedAt (R.schemas rows.now) (R.table rows.now) type_index) ordinals.now }
@@ -30,7 +30,7 @@ pub fn are_closed_at<R: ColumnRows>(rows: &R, type_index: u32, ordinals: &[u32])
     is_shape_closed(rows, type_index, shape, Looked::At(ordinals))
 }
 
-/// The same of the rows that are looked at in a type of this shape.
+/// Whether the rows that are looked at in a type of this shape name live rows alone; false also where that is not seen.
 fn is_shape_closed<R: ColumnRows>(
     rows: &R,
     type_index: u32,
@@ -47,7 +47,7 @@ fn is_shape_closed<R: ColumnRows>(
     }
 }
 
-/// The same of the lists of a type, whose elements are of the type of this name.
+/// Whether the lists that are looked at name live rows alone, their elements of the type of this name; false also where that is not seen.
 fn are_lists_closed<R: ColumnRows>(
     rows: &R,
     type_index: u32,
@@ -65,7 +65,7 @@ fn are_lists_closed<R: ColumnRows>(
     lists_live(rows, &lists, type_index, target, looked)
 }
 
-/// The same of sets.
+/// Whether the sets that are looked at name live rows alone, their elements of the type of this name; false also where that is not seen.
 fn are_sets_closed<R: ColumnRows>(
     rows: &R,
     type_index: u32,
@@ -83,7 +83,7 @@ fn are_sets_closed<R: ColumnRows>(
     runs_live(rows, &runs, type_index, target, None, looked)
 }
 
-/// The same of maps, whose keys and values are of the types of these names.
+/// Whether the maps that are looked at name live rows alone, their keys and values of the types of these names; false also where that is not seen.
 fn are_maps_closed<R: ColumnRows>(
     rows: &R,
     type_index: u32,

@@ -109,7 +109,7 @@ fn is_field_closed<R: ColumnRows>(
     field_live(rows, &column, type_index, field, target, looked)
 }
 
-/// Whether each of these fields does.
+/// The same of each of these fields, each by its index.
 pub(crate) fn fields_closed<R: ColumnRows>(
     rows: &R,
     type_index: u32,

@@ -3,7 +3,7 @@
 /// Which rows of a type are looked at: all, or those under some ordinals.
 #[derive(Clone, Copy)]
 pub(crate) enum Looked<'a> {
-    /// All.
+    /// All: each ordinal below the bound of the type is gone through.
     All,
     /// Those under these ordinals, where there are such.
     At(&'a [u32]),
@@ -25,7 +25,7 @@ impl Looked<'_> {
         }
     }
 
-    /// The ordinal at an index of these.
+    /// The ordinal at an index, which is below `count`.
     #[inline(always)]
     pub(crate) fn ordinal(self, index: usize) -> u32
         requires { IsIndex self index }

@@ -88,7 +88,7 @@ fn is_field_same<A: ColumnRows, B: ColumnRows>(
     true
 }
 
-/// Whether each of so many fields has.
+/// The same of each of the first `count` fields.
 pub(crate) fn are_fields_same<A: ColumnRows, B: ColumnRows>(
     rows: &A,
     others: &B,

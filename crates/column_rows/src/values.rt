@@ -32,7 +32,7 @@ pub fn field_value<R: ColumnRows>(
     }
 }
 
-/// The same by the row.
+/// The value of a field of the row under a live ordinal, copied out of the row, which is lent; none where the row has no such field.
 fn lent_value<R: ColumnRows>(
     alloc: Global,
     rows: &R,

@@ -9,7 +9,7 @@ use Rattle.consumer_orders.specs.declared.type_order.Asked.TheVariants as asked
 
 -- The type of this name, or why there is none.
 abbrev pub TellsType : Option Position → Name → Asked → Type 0
-TellsType None name (asked.At t) = ⊥
+TellsType None name (asked.At type_index) = ⊥
 TellsType None name (asked.Refused why) = why ≡ NoState
-TellsType (Some now) name (asked.At t) = index_of_type now.schemas name ≡ Some t
+TellsType (Some now) name (asked.At type_index) = index_of_type now.schemas name ≡ Some type_index
 TellsType (Some now) name (asked.Refused why) = (index_of_type now.schemas name ≡ None) × (why ≡ NoType name)

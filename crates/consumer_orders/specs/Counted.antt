@@ -14,5 +14,5 @@ CountsLive table t count = (ordinals : List ℕ) × AreLive table t ordinals × 
 
 -- This is told of the type at an index.
 abbrev pub AreCountsAt : Position → ℕ → TypeCounts → Type 0
-AreCountsAt now t counts =
-    (schema : Schema) × (half : Half) × (slice_get now.schemas t ≡ Some schema) × (slice_get now.halves t ≡ Some half) × (counts ≡ counts_of schema half)
+AreCountsAt now type_index counts =
+    (schema : Schema) × (half : Half) × (slice_get now.schemas type_index ≡ Some schema) × (slice_get now.halves type_index ≡ Some half) × (counts ≡ counts_of schema half)

@@ -24,35 +24,35 @@ use Rattle.consumer_orders.specs.declared.look_up.Found.TheVariants as found
 
 -- Each text resolves to its path from the type at an index, or one is the first that does not.
 abbrev pub TellsResolved : List Schema → ℕ → List (List ℕ) → KeyPaths → Type 0
-TellsResolved schemas t texts (key_paths.Resolved paths) = AllZip (λ text path. Resolves schemas t text path) texts paths
-TellsResolved schemas t texts (key_paths.Refused (BadPath lost)) = IsFirstLost schemas t texts lost
-TellsResolved schemas t texts (key_paths.Refused _) = ⊥
+TellsResolved schemas type_index texts (key_paths.Resolved paths) = AllZip (λ text path. Resolves schemas type_index text path) texts paths
+TellsResolved schemas type_index texts (key_paths.Refused (BadPath lost)) = IsFirstLost schemas type_index texts lost
+TellsResolved schemas type_index texts (key_paths.Refused _) = ⊥
 
 -- The paths of a key of the type at an index, which has this name, or why there are none.
 abbrev pub TellsKeyPaths : List Schema → ℕ → Name → List (List ℕ) → KeyPaths → Type 0
-TellsKeyPaths schemas t name texts (key_paths.Resolved paths) = HasShape IsObject schemas t × AreKeyPaths schemas t texts paths
-TellsKeyPaths schemas t name texts (key_paths.Refused why) = PathsRefusal schemas t name texts why
+TellsKeyPaths schemas type_index name texts (key_paths.Resolved paths) = HasShape IsObject schemas type_index × AreKeyPaths schemas type_index texts paths
+TellsKeyPaths schemas type_index name texts (key_paths.Refused why) = PathsRefusal schemas type_index name texts why
 
 -- The rows of the type at an index that have the key along resolved paths, or why none are looked up.
 abbrev pub TellsAlong : List Path → Data → Position → ℕ → Found → Type 0
-TellsAlong paths values now t (found.Ordinals ordinals) =
-    Contains now.indexes (index_by t paths)
-    × ((key : List Value) × SpellsKey now.schemas paths values key × AreMatches now.schemas (rows_now now) t paths key ordinals)
-TellsAlong paths values now t (found.Refused NoIndex) = ¬ Contains now.indexes (index_by t paths)
-TellsAlong paths values now t (found.Refused BadKey) =
-    Contains now.indexes (index_by t paths) × ((key : List Value) → ¬ SpellsKey now.schemas paths values key)
-TellsAlong paths values now t (found.Refused _) = ⊥
+TellsAlong paths values now type_index (found.Ordinals ordinals) =
+    Contains now.indexes (index_by type_index paths)
+    × ((key : List Value) × SpellsKey now.schemas paths values key × AreMatches now.schemas (rows_now now) type_index paths key ordinals)
+TellsAlong paths values now type_index (found.Refused NoIndex) = ¬ Contains now.indexes (index_by type_index paths)
+TellsAlong paths values now type_index (found.Refused BadKey) =
+    Contains now.indexes (index_by type_index paths) × ((key : List Value) → ¬ SpellsKey now.schemas paths values key)
+TellsAlong paths values now type_index (found.Refused _) = ⊥
 
 -- The rows of the type at an index, which has this name, that have the key, or why none are looked up.
 abbrev pub TellsFound : Name → List (List ℕ) → Data → Position → ℕ → Found → Type 0
-TellsFound name texts values now t (found.Ordinals ordinals) = FindsUnder texts values now t ordinals
-TellsFound name texts values now t (found.Refused why) = LookUpRefusal name texts values now t why
+TellsFound name texts values now type_index (found.Ordinals ordinals) = FindsUnder texts values now type_index ordinals
+TellsFound name texts values now type_index (found.Refused why) = LookUpRefusal name texts values now type_index why
 
 -- The index of the type at an index, which has this name, that a position keeps from then on, or why it keeps none.
 abbrev pub TellsKept : Name → List (List ℕ) → Position → ℕ → Option Position → Reply → Type 0
-TellsKept name texts now t after (reply.Index keys) =
-    HasShape IsObject now.schemas t
-    × ((paths : List Path) × AreKeyPaths now.schemas t texts paths × CountsKeyed now (index_by t paths) keys
-    × ((indexes : List Index) × KeepsIndex now.indexes (index_by t paths) indexes × (after ≡ Some (record now { indexes = indexes }))))
-TellsKept name texts now t after (reply.Refused why) = RefusesIndex name texts now t why × (after ≡ Some now)
-TellsKept name texts now t after _ = ⊥
+TellsKept name texts now type_index after (reply.Index keys) =
+    HasShape IsObject now.schemas type_index
+    × ((paths : List Path) × AreKeyPaths now.schemas type_index texts paths × CountsKeyed now (index_by type_index paths) keys
+    × ((indexes : List Index) × KeepsIndex now.indexes (index_by type_index paths) indexes × (after ≡ Some (record now { indexes = indexes }))))
+TellsKept name texts now type_index after (reply.Refused why) = RefusesIndex name texts now type_index why × (after ≡ Some now)
+TellsKept name texts now type_index after _ = ⊥

@@ -29,7 +29,7 @@ pub fn at(
     }
 }
 
-// The same of the type at an index, which has this name.
+// Tells the value beside a key in the map under an ordinal of the type at an index, which has this name. Refused with `WrongKind` and `NoRow`, in this order.
 fn at_in(
     alloc: Global,
     consumer: &Consumer,

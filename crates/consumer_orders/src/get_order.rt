@@ -35,7 +35,7 @@ pub fn get(
     }
 }
 
-// The same of the type at an index, which has this name.
+// Shows the one record of the type at an index, which has this name, that has these values as its primary key, and tells its ordinal.
 fn get_at(
     alloc: Global,
     consumer: &Consumer,

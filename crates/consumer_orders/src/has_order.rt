@@ -28,7 +28,7 @@ pub fn has(
     }
 }
 
-// The same of the type at an index, which has this name.
+// Tells whether the set under an ordinal of the type at an index, which has this name, has an element. Refused with `WrongKind` and `NoRow`, in this order.
 fn has_in(
     alloc: Global,
     consumer: &Consumer,

@@ -44,7 +44,8 @@ pub fn index(
     keep_index::<Brand>(Blank::new(1), alloc, consumer, name, type_index, &texts)
 }
 
-// The same of the type at an index, which has this name. The steps of indexes are counted on a blank that nobody reads.
+// The consumer keeps an index of the type at an index, which has this name, by the values at the ends of the paths of the texts. The steps of indexes are
+// counted on a blank that nobody reads.
 fn keep_index<L: Ledger>(
     blank: Blank,
     alloc: Global,

@@ -16,7 +16,7 @@ use std::alloc::{AllocError, Global};
 pub enum KeyPaths {
     /// To values: the resolved paths.
     Resolved(Paths),
-    /// There is no such key.
+    /// There is no such key: `WrongKind` or `BadPath`.
     Refused(Refusal),
 }
 

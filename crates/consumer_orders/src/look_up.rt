@@ -21,7 +21,7 @@ use std::alloc::{AllocError, Global};
 pub(crate) enum Found {
     /// The ordinals of the rows that have the key, rising.
     Ordinals(Ordinals),
-    /// No rows are looked up.
+    /// No rows are looked up, for this reason.
     Refused(Refusal),
 }
 
@@ -48,7 +48,8 @@ pub(crate) fn look_up(
     }
 }
 
-// The same, where the paths of the texts are made.
+// The rows of the type at an index, which has this name, that have the key of these values along the paths of the texts, which are made here. Refused as
+// `look_up` refuses.
 fn look_up_anew(
     alloc: Global,
     consumer: &Consumer,
@@ -71,7 +72,8 @@ fn look_up_anew(
     }
 }
 
-// The same along resolved paths of the type, where this is the consumer's model.
+// The rows of the type that have the key of these values along its resolved paths, where this is the consumer's model. Refused with `NoIndex` and `BadKey`, in
+// this order.
 fn look_up_along(
     alloc: Global,
     consumer: &Consumer,
@@ -90,7 +92,8 @@ fn look_up_along(
     }
 }
 
-// The same in the index of this number, which is kept by these paths of some type.
+// The rows that the index of this number, which is kept by these paths of some type, finds by the key of these values. Refused with `BadKey` where the values
+// are no key.
 fn look_up_in(
     alloc: Global,
     consumer: &Consumer,
@@ -100,9 +103,9 @@ fn look_up_in(
     values: &Value,
 ) -> Result<Found, AllocError>
     requires model { IsSomeAnd consumer.now (λ now. now.schemas ≡ model.now) }
-    requires kept { (t : ℕ) × All (IsResolved model.now t) paths.now × IsSomeAnd consumer.now (λ now. slice_get now.indexes number ≡ Some (index_by t paths.now)) }
-    ensures { (t : ℕ) → IsSomeAnd consumer.now (λ now. slice_get now.indexes number ≡ Some (index_by t paths.now))
-        → IfOk result (λ found. IsSomeAnd consumer.now (λ now. TellsAlong paths.now (view values.now) now t found)) }
+    requires kept { (type_index : ℕ) × All (IsResolved model.now type_index) paths.now × IsSomeAnd consumer.now (λ now. slice_get now.indexes number ≡ Some (index_by type_index paths.now)) }
+    ensures { (type_index : ℕ) → IsSomeAnd consumer.now (λ now. slice_get now.indexes number ≡ Some (index_by type_index paths.now))
+        → IfOk result (λ found. IsSomeAnd consumer.now (λ now. TellsAlong paths.now (view values.now) now type_index found)) }
 {
     match key_from(alloc, model, paths, values) {
         Ok(key) => Ok(Found::Ordinals(consumer.find(number, &key)?)),

@@ -104,7 +104,7 @@ fn step_along<S: BlobStore>(
     move_along::<S, Brand>(Blank::new(1), store, consumer, version, history, name, to)
 }
 
-// The same of a consumer that has a state. The steps of indexes are counted on a blank that nobody reads.
+// The consumer, which has a state, moves along the blob of this name, to this version. The steps of indexes are counted on a blank that nobody reads.
 fn move_along<S: BlobStore, L: Ledger>(
     blank: Blank,
     store: &mut S,

@@ -8,12 +8,12 @@ use read_engine::Consumer;
 use schema_model::Name;
 use std::alloc::{AllocError, Global};
 
-/// What an order asks of.
+/// The type of the consumer's model that an order names, or why there is none.
 #[derive(Drop)]
 pub enum Asked {
     /// The type at this index of the consumer's model.
     At(u32),
-    /// There is no such type.
+    /// There is none: the consumer has no state (`NoState`), or its model has no type of the name (`NoType`).
     Refused(Refusal),
 }
 

@@ -9,14 +9,14 @@ use Rattle.delta_blob.specs.declared.part.DeltaPart.{DeltaPart}
 use Rattle.delta_blob.specs.declared.patch.PatchPart.{PatchPart}
 
 -- The type at this index is the first one of the schema's name, and has this schema.
-pub record IsMeant (schemas : List Schema) (schema : Schema) (t : ℕ) (mine : Schema) : Type 0 where
-  pub first : index_of_type schemas schema.name ≡ Some t
-  pub stands : slice_get schemas t ≡ Some mine
+pub record IsMeant (schemas : List Schema) (schema : Schema) (type_index : ℕ) (mine : Schema) : Type 0 where
+  pub first : index_of_type schemas schema.name ≡ Some type_index
+  pub stands : slice_get schemas type_index ≡ Some mine
 
 -- The schema agrees with the type at this index, which is the first one of its name.
-pub record AgreesAt (schemas : List Schema) (schema : Schema) (t : ℕ) : Type 0 where
+pub record AgreesAt (schemas : List Schema) (schema : Schema) (type_index : ℕ) : Type 0 where
   pub mine : Schema
-  pub meant : IsMeant schemas schema t mine
+  pub meant : IsMeant schemas schema type_index mine
   pub agree : Agree mine schema
 
 -- The schema does not agree with the first type of its name.

@@ -78,8 +78,8 @@ IsWholePart schemas part = (schema : Schema) × (slice_get schemas part.type_ind
 abbrev pub TellsDelta : BlobName → ℤ → List Schema → Option (List ℕ) → Result Patch BlobFault → Type 0
 TellsDelta name current schemas None answer = (answer ≡ Err (fault.NoBlob name)) ⊎ IsErrAnd answer IsFree
 TellsDelta name current schemas (Some blob) (Ok patch) =
-    (head : Header) × (n : ℕ) × HeaderIs blob n head × (head.origin ≡ current) × (head.destination ≡ patch.destination) × (length blob ≡ patch.length)
-    × (length blob ≤ number_of_limit Blob) × IsPatchAt blob n schemas patch.parts
+    (head : Header) × (behind : ℕ) × HeaderIs blob behind head × (head.origin ≡ current) × (head.destination ≡ patch.destination) × (length blob ≡ patch.length)
+    × (length blob ≤ number_of_limit Blob) × IsPatchAt blob behind schemas patch.parts
 TellsDelta name current schemas (Some blob) (Err found) = Blames (delta_of blob current schemas) IsFree found
 
 -- A delta of this length with this header and these types.

@@ -37,17 +37,17 @@ pub fn each_place()
 /// A header at the start of a blob and the types behind it, up to the end of the blob, are a delta; and a delta begins with its header, behind
 /// which its types stand.
 pub fn header_and_body()
-    ensures items { (blob : List ℕ) (head : Header) (n : ℕ) (parts : List DeltaPart) → HeaderIs blob n head → body.Stands blob n parts (length blob)
+    ensures items { (blob : List ℕ) (head : Header) (behind : ℕ) (parts : List DeltaPart) → HeaderIs blob behind head → body.Stands blob behind parts (length blob)
         → delta.Stands blob 0 (head, parts) (length blob) }
     ensures begins { (schemas : List Schema) (blob : List ℕ) (origin destination : ℤ) (patch : List TypePatch) → (is : DeltaIs schemas blob origin destination patch)
-        → (n : ℕ) × HeaderIs blob n is.head × body.Stands blob n is.parts (length blob) }
+        → (behind : ℕ) × HeaderIs blob behind is.head × body.Stands blob behind is.parts (length blob) }
 {}
 
 /// Behind the header of a blob that is a delta against a model, within the limits of a table, stand types of the model, as `read_patch` answers
 /// them.
 pub fn parts_of_model()
     ensures { (schemas : List Schema) (blob : List ℕ) (origin destination : ℤ) (patch : List TypePatch) (table : Table) → (is : DeltaIs schemas blob origin destination patch)
-        → Within table patch → KeepItems schemas is.parts → (n : ℕ) × HeaderIs blob n is.head × ((named : List PatchPart) × IsPatchAt blob n schemas named) }
+        → Within table patch → KeepItems schemas is.parts → (behind : ℕ) × HeaderIs blob behind is.head × ((named : List PatchPart) × IsPatchAt blob behind schemas named) }
 {}
 
 /// Types that stand in a blob are those of a model exactly where what is tried of them passes.

@@ -24,7 +24,7 @@ pub struct DeltaPart {
     pub at: u64,
     /// Its schema.
     pub schema: Schema,
-    /// What changes of its rows.
+    /// Its section: the ordinals that leave and those that come, the layout, and the packed rows that come.
     pub section: PatchSection,
 }
 
@@ -84,7 +84,7 @@ fn delta_part<S: BlobStore>(cursor: &mut Cursor, store: &mut S) -> Result<DeltaP
     })
 }
 
-// So many types.
+// So many types, one behind the other.
 fn delta_parts<S: BlobStore>(
     alloc: Global,
     cursor: &mut Cursor,

@@ -14,9 +14,9 @@ use Rattle.film_rows.specs.declared.adding.FilmRows.{FilmRows}
 
 -- What an answer tells of a record that is to be added: its ordinal and the rows after; or that there are none.
 abbrev pub TellsAdded : Table → ℕ → PlainTree → Table → Result ℕ PutRowFault → Table → Type 0
-TellsAdded previous t tree before (Ok ordinal) after = Adds film_schemas previous t tree before ordinal after
-TellsAdded previous t tree before (Err TooMany) after = (ordinal : ℕ) (last : Table) → ¬ Adds film_schemas previous t tree before ordinal last
-TellsAdded previous t tree before (Err Memory) after = Unit {0}
+TellsAdded previous type_index tree before (Ok ordinal) after = Adds film_schemas previous type_index tree before ordinal after
+TellsAdded previous type_index tree before (Err TooMany) after = (ordinal : ℕ) (last : Table) → ¬ Adds film_schemas previous type_index tree before ordinal last
+TellsAdded previous type_index tree before (Err Memory) after = Unit {0}
 
 -- A producer of the films' model, whose cycle is open.
 pub record IsFilming (producer : Production) : Type 0 where
@@ -28,7 +28,7 @@ pub record IsFilming (producer : Production) : Type 0 where
 -- Each row that the one producer has in its cycle the other has too, under the same ordinal.
 pub record HasGrown (before after : Production) : Type 0 where
   pub filming : IsFilming after
-  pub keeps : (t ordinal : ℕ) (row : Row) → row_at before.current t ordinal ≡ Some row → row_at after.current t ordinal ≡ Some row
+  pub keeps : (type_index ordinal : ℕ) (row : Row) → row_at before.current type_index ordinal ≡ Some row → row_at after.current type_index ordinal ≡ Some row
 
 -- the titles that are known by their numbers
 abbrev pub AreTitles : Table → List (Option ℕ) → Type 0

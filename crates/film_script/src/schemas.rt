@@ -6,16 +6,16 @@ ghost use Rattle.schema_model.specs.declared.schema.FieldKind.TheVariants as kin
 use schema_model::{Field, FieldKind, Fields, Name, Names, Schema, Schemas, Shape};
 use std::alloc::{AllocError, Global};
 
-/// The index of Text.
+/// The type index of Text in the model of `film_schemas`.
 pub const TEXT_TYPE: u32 = 0;
 
-/// The index of Tags.
+/// The type index of Tags in that model.
 pub const TAGS_TYPE: u32 = 1;
 
-/// The index of Film, the type of the records.
+/// The type index of Film in that model, the type of the records.
 pub const FILM_TYPE: u32 = 2;
 
-/// The schemas, in the order of the model.
+/// The schemas of the model, by type index. It fails only for want of memory.
 pub fn film_schemas(alloc: Global) -> Result<Schemas, AllocError>
     ensures { IfOk result (λ schemas. schemas ≡ film_schemas) }
 {

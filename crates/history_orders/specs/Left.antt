@@ -17,8 +17,9 @@ HasAll old among = (ordinal : ℕ) → Contains old ordinal → Contains among o
 -- Where a row that left in a step stands under its ordinal in a table, and has the key there, the ordinal is among these. It stands at the place of its ordinal.
 abbrev pub HasLeft : PastPart → List Path → List Value → List ℕ → Type 0
 HasLeft part paths key among =
-    (schemas : List Schema) (table : Table) (t place ordinal : ℕ) (row : Row) → slice_get part.gone place ≡ Some ordinal → slice_get part.rows place ≡ Some row → row_at table t ordinal ≡ Some row →
-    key_of schemas table t paths ordinal ≡ Some key → Contains among ordinal
+    (schemas : List Schema) (table : Table) (type_index place ordinal : ℕ) (row : Row) → slice_get part.gone place ≡ Some ordinal
+    → slice_get part.rows place ≡ Some row → row_at table type_index ordinal ≡ Some row
+    → key_of schemas table type_index paths ordinal ≡ Some key → Contains among ordinal
 
 -- The same of the newest steps, so many.
 abbrev pub HasLeftIn : List PastStep → ℕ → ℕ → List Path → List Value → List ℕ → Type 0

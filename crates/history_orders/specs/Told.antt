@@ -25,16 +25,16 @@ use Rattle.hollow_machine.specs.RowOrders.{AnswersAt}
 
 -- The record of a row as JSON, or that it has too many nodes.
 abbrev pub TellsRecord : List Schema → Table → ℕ → ℕ → Result json.Value PrintFault → Type 0
-TellsRecord schemas table t ordinal (Ok value) =
-    (node_count (unfold_row schemas table t ordinal) ≤ number_of_limit Nodes) × PrintsTree schemas t (unfold_row schemas table t ordinal) (view value)
-TellsRecord schemas table t ordinal (Err PrintFault.Nodes) = number_of_limit Nodes < node_count (unfold_row schemas table t ordinal)
-TellsRecord schemas table t ordinal (Err PrintFault.Memory) = Unit {0}
+TellsRecord schemas table type_index ordinal (Ok value) =
+    (node_count (unfold_row schemas table type_index ordinal) ≤ number_of_limit Nodes) × PrintsTree schemas type_index (unfold_row schemas table type_index ordinal) (view value)
+TellsRecord schemas table type_index ordinal (Err PrintFault.Nodes) = number_of_limit Nodes < node_count (unfold_row schemas table type_index ordinal)
+TellsRecord schemas table type_index ordinal (Err PrintFault.Memory) = Unit {0}
 
 -- The live ordinals of a type whose rows have the key that the JSON spells, or that it spells none.
 abbrev pub TellsKeyed : List Schema → Table → ℕ → List Path → Data → Result (List ℕ) KeyFault → Type 0
-TellsKeyed schemas table t paths values (Ok ordinals) = (key : List Value) × SpellsKey schemas paths values key × AreMatches schemas table t paths key ordinals
-TellsKeyed schemas table t paths values (Err KeyFault.Shape) = (key : List Value) → ¬ SpellsKey schemas paths values key
-TellsKeyed schemas table t paths values (Err KeyFault.Memory) = Unit {0}
+TellsKeyed schemas table type_index paths values (Ok ordinals) = (key : List Value) × SpellsKey schemas paths values key × AreMatches schemas table type_index paths key ordinals
+TellsKeyed schemas table type_index paths values (Err KeyFault.Shape) = (key : List Value) → ¬ SpellsKey schemas paths values key
+TellsKeyed schemas table type_index paths values (Err KeyFault.Memory) = Unit {0}
 
 -- What `wasget` answers of a type in the rows of where a consumer stands.
 abbrev pub AnswersNow : Name → Data → Reply → Position → Type 0

@@ -20,8 +20,8 @@ HasLed schemas table t fields value among = (ordinal : ℕ) → IsLive table t o
 
 -- The live ordinals of a type whose records name in the field one of some rows are among these.
 abbrev pub HasNaming : Table → ℕ → ℕ → List ℕ → List ℕ → Type 0
-HasNaming table t field named among =
-    (ordinal other : ℕ) → IsLive table t ordinal → ordinal_in (value_in (row_at table t ordinal) field) ≡ Some other → Contains named other → Contains among ordinal
+HasNaming table type_index field named among =
+    (ordinal other : ℕ) → IsLive table type_index ordinal → ordinal_in (value_in (row_at table type_index ordinal) field) ≡ Some other → Contains named other → Contains among ordinal
 
 -- These are the bytes of the value, if it is a text or bytes.
 abbrev pub AreBytesOf : Value → List ℕ → Type 0

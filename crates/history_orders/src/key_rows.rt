@@ -32,7 +32,7 @@ pub(crate) fn rows_with_key<R: Rows>(
     Ok(ordinals)
 }
 
-/// The same of a type in which such rows are among those under these ordinals.
+/// The live ordinals of a type whose rows have a key along these paths, rising, where all of them are among these ordinals. These stand in any order.
 pub(crate) fn rows_among<R: Rows>(
     alloc: Global,
     rows: &R,
@@ -51,7 +51,7 @@ pub(crate) fn rows_among<R: Rows>(
     matches_among(alloc, rows, type_index, paths, key, among.as_slice())
 }
 
-// The same where the ordinals rise.
+// The live ordinals of a type whose rows have a key along these paths, rising, where all of them are among these ordinals, which rise.
 fn matches_among<R: Rows>(
     alloc: Global,
     rows: &R,

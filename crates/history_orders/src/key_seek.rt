@@ -51,7 +51,8 @@ pub(crate) fn seek_rows<R: Rows>(
     }
 }
 
-// The same, where those rows are among the ones under the ordinals that are found, or may be any.
+// The live ordinals of a type whose rows have a key along these paths, rising. Where ordinals are found, these have all of them; else each
+// row of the type is looked at.
 fn rows_found<R: Rows>(
     alloc: Global,
     rows: &R,

@@ -56,7 +56,7 @@ fn add_left(
 // Whether a row may have a key, wherever it stands: false only where its own field at the end of the first path has another value.
 #[inline(always)]
 fn may_have_key(row: &Row, paths: &Paths, key: &Values) -> bool
-    ensures { (schemas : List Schema) (table : Table) (t ordinal : ℕ) → row_at table t ordinal ≡ Some row.now → key_of schemas table t paths.now ordinal ≡ Some key.now → IsTrue result }
+    ensures { (schemas : List Schema) (table : Table) (type_index ordinal : ℕ) → row_at table type_index ordinal ≡ Some row.now → key_of schemas table type_index paths.now ordinal ≡ Some key.now → IsTrue result }
 {
     let [path, ..] = paths.as_slice() else {
         return true;
@@ -70,7 +70,7 @@ fn may_have_key(row: &Row, paths: &Paths, key: &Values) -> bool
 // Whether fields may lead from a row to a value, wherever it stands: false only where they are one field, which has another value.
 #[inline(always)]
 fn may_lead(row: &Row, fields: &[u32], value: &Value) -> bool
-    ensures { (schemas : List Schema) (table : Table) (t ordinal : ℕ) → row_at table t ordinal ≡ Some row.now → value_along schemas table t ordinal fields.now ≡ Some value.now → IsTrue result }
+    ensures { (schemas : List Schema) (table : Table) (type_index ordinal : ℕ) → row_at table type_index ordinal ≡ Some row.now → value_along schemas table type_index ordinal fields.now ≡ Some value.now → IsTrue result }
 {
     let [field] = fields else {
         return true;

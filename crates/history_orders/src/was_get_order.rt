@@ -66,7 +66,8 @@ pub fn was_get(
     )
 }
 
-// The same of the consumer's own version: by the index that is kept on the primary key, and where there is none by the rows.
+// Shows the one record of a type that has a primary key in the consumer's own version, and tells its ordinal: by the index that is kept on the primary key, and
+// where there is none by the rows.
 fn was_get_own(
     alloc: Global,
     consumer: &Consumer,
@@ -91,7 +92,8 @@ fn was_get_own(
     }
 }
 
-// The same of an older version, where these are the rows that the history stands on.
+// Shows the one record of a type that has a primary key in an older version, and tells its ordinal, over the rows that the history stands on. Refused first
+// with `NotKept`.
 fn was_get_old<R: Rows>(
     alloc: Global,
     consumer: &Consumer,
@@ -116,7 +118,7 @@ fn was_get_old<R: Rows>(
     was_get_in(alloc, &seek, &history.then(rows, wanted), name, values)
 }
 
-// The same of the rows of the version.
+// Shows the one record of the type of this name that has these values as its primary key, and tells its ordinal, where these are the rows of the version.
 fn was_get_in<R: Rows>(
     alloc: Global,
     seek: &KeySeek<'_>,
@@ -136,7 +138,8 @@ fn was_get_in<R: Rows>(
     }
 }
 
-// The same of the type at an index, which has this name.
+// Shows the one record of the type at an index, which has this name, that has these values as its primary key, and tells its ordinal, where these are the rows
+// of the version.
 fn was_get_of<R: Rows>(
     alloc: Global,
     seek: &KeySeek<'_>,
@@ -159,7 +162,8 @@ fn was_get_of<R: Rows>(
     }
 }
 
-// The same along the paths of its primary key.
+// Shows the one record of the type at an index that has these values along the paths of its primary key, and tells its ordinal, where these are the rows of the
+// version.
 fn was_get_along<R: Rows>(
     alloc: Global,
     seek: &KeySeek<'_>,

@@ -44,7 +44,7 @@ pub fn was(
     was_old(alloc, &now, history, wanted, type_name, ordinal)
 }
 
-// The same of an older version, where these are the rows that the history stands on.
+// Shows the record of a row as an older version had it, over the rows that the history stands on. Refused first with `NotKept`.
 fn was_old<R: Rows>(
     alloc: Global,
     rows: &R,
@@ -65,7 +65,7 @@ fn was_old<R: Rows>(
     was_in(alloc, &history.then(rows, wanted), name, ordinal)
 }
 
-// The same of the rows of the version.
+// Shows the record of a row of the type of this name, where these are the rows of the version. Refused with `NoType`, `NoRow` and `TooLarge`, in this order.
 fn was_in<R: Rows>(alloc: Global, rows: &R, name: &Name, ordinal: u32) -> Result<Reply, OrderStop>
     requires closed { IsClosed (R.schemas rows.now) (R.table rows.now) }
     ensures reply { (now : Position) → now.schemas ≡ R.schemas rows.now
@@ -78,7 +78,8 @@ fn was_in<R: Rows>(alloc: Global, rows: &R, name: &Name, ordinal: u32) -> Result
     }
 }
 
-// The same of the type at an index, which has this name.
+// Shows the record of a row of the type at an index, which has this name, where these are the rows of the version. Refused with `NoRow` and `TooLarge`, in this
+// order.
 fn was_row<R: Rows>(
     alloc: Global,
     rows: &R,

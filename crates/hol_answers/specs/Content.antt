@@ -13,8 +13,8 @@ use Rattle.hol_answers.specs.Reply.{schema_name}
 abbrev pub content_data : Content → Data
 content_data Null = null
 content_data (Bool truth) = boolean truth
-content_data (Number n) = whole n
-content_data (Integer z) = integer z
+content_data (Number held) = whole held
+content_data (Integer held) = integer held
 content_data (Text text) = string text.now
 content_data (Blob blob) = string (text_of_name blob.now)
 content_data (Schemas schemas) = list_of schema_name schemas.now
@@ -22,7 +22,7 @@ content_data (Schemas schemas) = list_of schema_name schemas.now
 -- members before others, each name with what it holds
 abbrev pub members_before : List (Bor (List ℕ) × Content) → Members → Members
 members_before [] rest = rest
-members_before (m ∷ front) rest = member m.0.now (content_data m.1) (members_before front rest)
+members_before (one ∷ front) rest = member one.0.now (content_data one.1) (members_before front rest)
 
 -- the members of an object
 abbrev pub members_of : List (Bor (List ℕ) × Content) → Members

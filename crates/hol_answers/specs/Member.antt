@@ -24,7 +24,7 @@ Member = List ℕ × Data
 -- The members of an object, and the object that has them.
 abbrev pub joined : List Member → Members
 joined [] = no_members
-joined (m ∷ members) = member m.0 m.1 (joined members)
+joined (one ∷ members) = member one.0 one.1 (joined members)
 
 abbrev pub says : List Member → Data
 says members = object (joined members)

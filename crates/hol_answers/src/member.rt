@@ -15,13 +15,13 @@ use std::alloc::Global;
 /// What a member of an object holds.
 #[derive(Drop)]
 pub(crate) enum Content<'a> {
-    /// Nothing.
+    /// Nothing: `null`.
     Null,
     /// A truth value.
     Bool(bool),
     /// A number that is not negative.
     Number(u64),
-    /// An integer.
+    /// A number that may be negative.
     Integer(i64),
     /// A text.
     Text(&'a str),

@@ -6,7 +6,7 @@ use serde_json::Value;
 use std::marker::Model;
 
 /// A JSON value in which no number has a fraction or an exponent.
-#[derive(Debug, Drop)]
+#[derive(Drop)]
 pub struct PlainValue {
     value: Value,
 }
@@ -34,7 +34,7 @@ impl PlainValue {
         PlainValue { value }
     }
 
-    /// The value.
+    /// The value, as it is to be written: no number in it has a fraction or an exponent.
     pub fn value(&self) -> &Value
         ensures value { result.now ≡ self.now }
         ensures plain { IsPlain result.now }

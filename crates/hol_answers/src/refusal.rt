@@ -6,16 +6,16 @@ use schema_model::{Limit, Name, Reason, Rule};
 pub const MAX_LINE_BYTES: u64 = 0x400_0000;
 
 /// A row, by the name of its type and its ordinal.
-#[derive(Debug, Drop)]
+#[derive(Drop)]
 pub struct RowPlace {
     /// The name of the row's type.
     pub type_name: Name,
-    /// The row's ordinal.
+    /// The ordinal under which it was asked for or stands.
     pub ordinal: u64,
 }
 
 /// A record of an order that does not fit its type.
-#[derive(Debug, Drop)]
+#[derive(Drop)]
 pub struct RefusedRecord {
     /// The name of the type.
     pub type_name: Name,
@@ -26,20 +26,20 @@ pub struct RefusedRecord {
 }
 
 /// An item of a blob that cannot be read or breaks a rule.
-#[derive(Debug, Drop)]
+#[derive(Drop)]
 pub struct ItemFault {
     /// The blob's name.
     pub blob: BlobName,
     /// The offset of the item, and for a row that of its type's schema.
     pub at: u64,
-    /// Why it is refused.
+    /// Why it cannot be read, or which rule it breaks.
     pub reason: Reason,
     /// The row, where it is a row that breaks the rule.
     pub row: Option<RowPlace>,
 }
 
 /// A blob that does not start from the consumer's state.
-#[derive(Debug, Drop)]
+#[derive(Drop)]
 pub struct OriginFault {
     /// The blob's name.
     pub blob: BlobName,
@@ -50,9 +50,9 @@ pub struct OriginFault {
 }
 
 /// Where a state that was walked to differs from its snapshot.
-#[derive(Debug, Drop)]
+#[derive(Drop)]
 pub struct Difference {
-    /// The version of both.
+    /// The version of the state and of the snapshot.
     pub version: u64,
     /// The name of the type in which they differ, where their tags are the same.
     pub type_name: Option<Name>,
@@ -61,30 +61,30 @@ pub struct Difference {
 }
 
 /// Two equal rows of a type.
-#[derive(Debug, Drop)]
+#[derive(Drop)]
 pub struct EqualRows {
     /// The name of the type.
     pub type_name: Name,
-    /// The ordinal of the first one.
+    /// The lesser one of their ordinals.
     pub first: u32,
-    /// The ordinal of the second one.
+    /// The greater one of their ordinals.
     pub second: u32,
 }
 
 /// Two records of an order that have one key.
-#[derive(Debug, Drop)]
+#[derive(Drop)]
 pub struct EqualKeys {
     /// The name of their type.
     pub type_name: Name,
     /// The place of the first one among those of its type, from 0.
     pub first: u64,
-    /// The place of the second one.
+    /// The place of the second one, counted in the same way.
     pub second: u64,
 }
 
 /// Why a command or an order is refused. Each refusal has a number of its own, which its line tells beside its name and
 /// its members.
-#[derive(Debug, Drop)]
+#[derive(Drop)]
 pub enum Refusal {
     /// 10: the line is not one JSON value in UTF-8, or has the shape of no order.
     BadOrder,
@@ -125,9 +125,9 @@ pub enum Refusal {
     NoMatch,
     /// 26: two or more live rows have the key.
     Ambiguous {
-        /// The ordinal of the first one.
+        /// The least of their ordinals.
         first: u32,
-        /// The ordinal of the second one.
+        /// The least but one.
         second: u32,
     },
     /// 27: the state that was walked to differs from the snapshot.

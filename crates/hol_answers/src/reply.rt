@@ -16,20 +16,20 @@ use std::alloc::{AllocError, Global};
 pub type PastRows = List<(u32, PlainValue)>;
 
 /// What the command `make` has published.
-#[derive(Debug, Drop)]
+#[derive(Drop)]
 pub struct Made {
-    /// How many states.
+    /// How many states it has published.
     pub published: u64,
     /// How many rows of Film the last one has.
     pub films: u64,
-    /// How many rows of Tags it has.
+    /// How many rows of Tags that one has.
     pub tags: u64,
-    /// How many rows of Text it has.
+    /// How many rows of Text that one has.
     pub texts: u64,
 }
 
 /// How far a consumer went along a list of blobs.
-#[derive(Debug, Drop)]
+#[derive(Drop)]
 pub struct Progress {
     /// How many blobs were applied.
     pub applied: u64,
@@ -42,13 +42,13 @@ pub struct Progress {
 }
 
 /// The next state of a producer, as a change of the one before.
-#[derive(Debug, Drop)]
+#[derive(Drop)]
 pub struct Change {
     /// The names of the types that changed, in model order.
     pub changed: Names,
     /// How many of the keys to be removed no row of the state before has.
     pub missing: u64,
-    /// Whether blobs were put.
+    /// Whether blobs were put: so it is with a first state, and where a type changed.
     pub published: bool,
     /// The version that was asked for.
     pub version: u64,
@@ -58,7 +58,7 @@ pub struct Change {
 pub type Blobs = List<BlobName>;
 
 /// What a command or an order answers in one line.
-#[derive(Debug, Drop)]
+#[derive(Drop)]
 pub enum Reply {
     /// The header of a blob.
     Head(Header),
@@ -68,7 +68,7 @@ pub enum Reply {
     Cycle {
         /// The names of the types that changed, in model order.
         changed: Names,
-        /// Whether blobs were put.
+        /// Whether blobs were put: so it is with a first state, and where a type changed.
         published: bool,
         /// The version that was asked for.
         version: u64,
@@ -88,16 +88,16 @@ pub enum Reply {
     Index(u64),
     /// The record that has a primary key.
     Get {
-        /// Its ordinal.
+        /// The ordinal of its row.
         ordinal: u32,
-        /// The record.
+        /// The record, with all that it refers to.
         row: PlainValue,
     },
     /// The ordinals of the rows that have a key, rising.
     Find(Ordinals),
     /// The live ordinals of a type, rising.
     Live(Ordinals),
-    /// The record of a row.
+    /// The record of a row, with all that it refers to.
     Row(PlainValue),
     /// Whether a set has an element.
     Has(bool),
@@ -135,13 +135,13 @@ pub enum Reply {
     WalkFind(Ordinals),
     /// So many old states are kept.
     History(u32),
-    /// The record of a row of an old state.
+    /// The record of a row of an old state, with all that it refers to.
     Was(PlainValue),
     /// The record that has a primary key in an old state.
     WasGet {
-        /// Its ordinal.
+        /// The ordinal of its row.
         ordinal: u32,
-        /// The record.
+        /// The record, with all that it refers to.
         row: PlainValue,
     },
     /// Why the command or the order is refused.
@@ -162,10 +162,12 @@ impl Reply {
 pub fn reply_line(alloc: Global, reply: Reply) -> Result<String, AllocError>
     ensures { IfOk result (λ line. string_bytes line ≡ line_of reply) }
 {
-    lent_line(alloc, &reply)
+    let line = lent_line(alloc, &reply);
+    drop(reply);
+    line
 }
 
-// The same of an answer that is lent.
+// The line of an answer that is lent.
 fn lent_line(alloc: Global, reply: &Reply) -> Result<String, AllocError>
     ensures { IfOk result (λ line. string_bytes line ≡ line_of reply.now) }
 {
@@ -182,10 +184,12 @@ pub fn put_reply(alloc: Global, out: &mut Vec<u8>, reply: Reply) -> Result<(), A
     ensures put { OnOk result (out.new.items ≡ out.old.items ++ line_of reply) }
     ensures err { OnErr result (out.new.items ≡ out.old.items) }
 {
-    put_lent(alloc, out, &reply)
+    let put = put_lent(alloc, out, &reply);
+    drop(reply);
+    put
 }
 
-// The same of an answer that is lent. One that lists ordinals is put as it stands.
+// Appends the line of an answer that is lent. One that lists ordinals is put as it stands. Where memory is refused `out` stays as it was.
 fn put_lent(alloc: Global, out: &mut Vec<u8>, reply: &Reply) -> Result<(), AllocError>
     ensures put { OnOk result (out.new.items ≡ out.old.items ++ line_of reply.now) }
     ensures err { OnErr result (out.new.items ≡ out.old.items) }
@@ -206,7 +210,7 @@ fn put_lent(alloc: Global, out: &mut Vec<u8>, reply: &Reply) -> Result<(), Alloc
     }
 }
 
-// The same by serde's events.
+// Appends the line of an answer that is lent, by serde's events. Where memory is refused `out` stays as it was.
 fn put_sent(alloc: Global, out: &mut Vec<u8>, reply: &Reply) -> Result<(), AllocError>
     ensures put { OnOk result (out.new.items ≡ out.old.items ++ line_of reply.now) }
     ensures err { OnErr result (out.new.items ≡ out.old.items) }

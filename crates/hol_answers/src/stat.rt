@@ -12,7 +12,7 @@ use serde::Serializer;
 use std::alloc::Global;
 
 /// What a consumer keeps of one type.
-#[derive(Debug, Drop)]
+#[derive(Drop)]
 pub struct TypeCounts {
     /// The name of the type.
     pub type_name: Name,
@@ -20,7 +20,7 @@ pub struct TypeCounts {
     pub live: u64,
     /// The greatest ordinal that has a place, none where there is no place.
     pub max: Option<u32>,
-    /// How many words the rows take where they stand.
+    /// How many words of 64 bits the rows take where they stand.
     pub words: u64,
     /// How many bytes of STRING and BYTES fields the rows have.
     pub bytes: u64,

@@ -179,7 +179,7 @@ impl Folder {
         Ok(count)
     }
 
-    // The same from the file.
+    // Places the bytes of a name's file from `at` on at the front of `buf`, and gives their number; 0 where the file is not there.
     fn read_file(&mut self, name: &BlobName, at: u64, buf: &mut [u8]) -> io::Result<usize>
         ensures { IfOk result (λ count. count ≤ length buf.new) }
     {
@@ -202,7 +202,7 @@ impl Folder {
         Ok(())
     }
 
-    // The same of the file alone.
+    // Writes a new file, then gives it the name's, and sees to it that both are durable. No first bytes are remembered or forgotten.
     fn replace_file(&mut self, name: &BlobName, bytes: &[u8]) -> io::Result<()> {
         self.last = None;
         self.claimed()?;

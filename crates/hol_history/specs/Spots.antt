@@ -36,8 +36,8 @@ IsGreatest spots t number greatest = (o n : ℕ) → o < 2 ^ 32 → n < number �
 
 -- The spots of a kind are in, or out, and all others as they were.
 pub record Sets (inside : Bool) (named : ℕ → ℕ → ℕ → Bool) (old new : BTreeSet Spot) : Type 0 where
-  pub are : (t o n : ℕ) → named t o n ≡ true → has new t o n ≡ inside
-  pub others : (t o n : ℕ) → named t o n ≡ false → has new t o n ≡ has old t o n
+  pub are : (type_index ordinal number : ℕ) → named type_index ordinal number ≡ true → has new type_index ordinal number ≡ inside
+  pub others : (type_index ordinal number : ℕ) → named type_index ordinal number ≡ false → has new type_index ordinal number ≡ has old type_index ordinal number
 
 -- Spots that are not of a kind are as they were.
 abbrev pub KeepsOthers : (ℕ → ℕ → ℕ → Bool) → BTreeSet Spot → BTreeSet Spot → Type 0

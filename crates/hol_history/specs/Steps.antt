@@ -43,8 +43,8 @@ step_names past number t o n = (n == number) && touches past t o
 -- These spots are those of the steps. The newest step has the number before the next one, and each older one the number before that of the newer one.
 pub record AreSpots (spots : BTreeSet Spot) (next : ℕ) (steps : List PastStep) : Type 0 where
   pub within : length steps ≤ next
-  pub told : (t o n place : ℕ) → n + place + 1 ≡ next → has spots t o n ≡ touches_at steps place t o
-  pub fresh : (t o n : ℕ) → next ≤ n → has spots t o n ≡ false
+  pub told : (type_index ordinal number place : ℕ) → number + place + 1 ≡ next → has spots type_index ordinal number ≡ touches_at steps place type_index ordinal
+  pub fresh : (type_index ordinal number : ℕ) → next ≤ number → has spots type_index ordinal number ≡ false
 
 -- What is kept agrees: no more steps than the bound, and the spots of those.
 pub record AreKept (spots : BTreeSet Spot) (next bound : ℕ) (steps : List PastStep) : Type 0 where

@@ -235,7 +235,7 @@ impl History {
 
     /// A number that no ordinal exceeds under which a step touched a row of a type.
     pub(crate) fn greatest(&self, type_index: u32) -> u32
-        ensures { (place o : ℕ) → o < 2 ^ 32 → touches_at self.now.steps place type_index o ≡ true → o ≤ result }
+        ensures { (place ordinal : ℕ) → ordinal < 2 ^ 32 → touches_at self.now.steps place type_index ordinal ≡ true → ordinal ≤ result }
     {
         greatest_touched(&self.spots, type_index, self.next)
     }

@@ -67,7 +67,7 @@ impl Step {
         self.parts.get(type_index as usize)
     }
 
-    /// The same, and none where there is no such type.
+    /// What the step changed of a type; none where there is no such type.
     pub(crate) fn part_of(&self, type_index: u32) -> Option<&Part>
         ensures { option_copied result ≡ slice_get self.now.past type_index }
     {

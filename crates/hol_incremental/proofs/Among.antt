@@ -20,18 +20,12 @@ module _ {X : Type 0} where
   pub none_in : (x : X) → Contains [] x → ⊥
   none_in x (k, inside, at) = omega arith
 
-  pub contained_same : (xs ys : List X) (x : X) → xs ≡ ys → Contains xs x → Contains ys x
-  contained_same xs ys x same among = subst (λ zs. Contains zs x) same among
-
   module _ (P : X → Type 0) where
     pub any_here : (x : X) (xs : List X) → P x → Any P (x ∷ xs)
     any_here x xs holds = (0, x, omega arith, refl, holds)
 
     pub any_later : (y : X) (xs : List X) → Any P xs → Any P (y ∷ xs)
     any_later y xs (k, x, inside, at, holds) = (suc k, x, omega arith, at, holds)
-
-    pub any_none : Any P [] → ⊥
-    any_none (k, x, inside, at, holds) = omega arith
 
     pub any_weaker : (Q : X → Type 0) (xs : List X) → ((x : X) → P x → Q x) → Any P xs → Any Q xs
     any_weaker Q xs f (k, x, inside, at, holds) = (k, x, inside, at, f x holds)

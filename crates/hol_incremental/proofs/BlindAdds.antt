@@ -7,19 +7,10 @@ use Rattle.row_model.specs.PlainTree.{PlainTree, PlainTrees, PlainPairs, leaf, o
 use Rattle.row_model.specs.Table.{Table}
 use Rattle.schema_model.specs.declared.schema.Field.{Field}
 use Rattle.schema_model.specs.declared.schema.Schema.{Schema}
-use Rattle.record_trees.specs.FitsTree.{IsLeafOr}
 use Rattle.write_engine.specs.Cycle.{Adds, AddsAll, AddsFields, AddsPairs, with_row}
 use Rattle.write_engine.proofs.Parts.{AddsField}
 use Rattle.hol_incremental.specs.Beside.{SameBeside}
 use Rattle.hol_incremental.proofs.BesideRows.{puts_both}
-
--- what is so in both cases of a leaf
-leaf_both : (tree : PlainTree) (P P' : Value → Type 0) (Q Q' : Type 0) → ((value : Value) → P value → P' value) → (Q → Q') → IsLeafOr tree P Q → IsLeafOr tree P' Q'
-leaf_both (leaf value) P P' Q Q' f g h = f value h
-leaf_both (object trees) P P' Q Q' f g h = g h
-leaf_both (list trees) P P' Q Q' f g h = g h
-leaf_both (set trees) P P' Q Q' f g h = g h
-leaf_both (map pairs) P P' Q Q' f g h = g h
 
 module _ (schemas : List Schema) (previous : Table) where
   -- the tree is added over the other table too, under the same ordinal

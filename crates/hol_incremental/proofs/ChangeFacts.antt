@@ -1,7 +1,6 @@
 -- A change from its first record to its last row: what holds of the tables on the way.
-use Rattle.std.proofs.Common.{◌≡◌, ◌+◌, ◌≤◌, ◌⊎◌, ℕ, List, [], Option, Some, Result, Ok, Err, length, refl, sym, inl, inr, arith}
-use Rattle.std.specs.Prelude.{◌↔◌, Contains, OnOk, filter, nat_eq}
-use Rattle.hol_varint.specs.Yields.{Yields}
+use Rattle.std.proofs.Common.{◌≡◌, ◌+◌, ◌≤◌, ◌⊎◌, ℕ, List, [], Option, Some, length, sym, inl, inr, arith}
+use Rattle.std.specs.Prelude.{◌↔◌, Contains, filter, nat_eq}
 use Rattle.schema_model.specs.declared.schema.Schema.{Schema}
 use Rattle.schema_model.specs.Model.{IsModel}
 use Rattle.row_model.specs.declared.row.Row.{Row}
@@ -12,7 +11,7 @@ use Rattle.write_engine.specs.Agreement.{HoldsOnce, TablesAgree}
 use Rattle.write_engine.specs.Soundness.{IsClosedTableOf}
 use Rattle.write_engine.specs.StoredRows.{AreStored}
 use Rattle.hol_incremental.specs.Beside.{IsFromEither, IsPartOf}
-use Rattle.hol_incremental.specs.Changes.{AreFitting, CountsChange, HaveKeys, IsFreeChange}
+use Rattle.hol_incremental.specs.Changes.{AreFitting, CountsChange, HaveKeys}
 use Rattle.hol_incremental.specs.Counts.{keyed_size_of, size_of}
 use Rattle.hol_incremental.specs.Drops.{AreUnnamed, IsDropping, IsHeld}
 use Rattle.hol_incremental.specs.Edited.{IsNextEdited, Keys, Records, of_first}
@@ -20,8 +19,6 @@ use Rattle.hol_incremental.specs.EditKeys.{AreCounts, AreIndexes, count_at}
 use Rattle.hol_incremental.specs.Leaves.{AreLeaving}
 use Rattle.hol_incremental.specs.Roots.{IsKeyed}
 use Rattle.hol_incremental.specs.Tops.{AddsTops}
-use Rattle.hol_incremental.specs.declared.fault.ChangeFault.{ChangeFault}
-use Rattle.hol_incremental.specs.declared.fault.ChangeFault.TheVariants.{Memory, TooMany}
 use Rattle.hol_incremental.proofs.LeavingRows.{HasGivenKey, given_is, is_given}
 use Rattle.hol_incremental.proofs.LeftRows.{held, is_left, start_dropping, start_unnamed}
 use Rattle.hol_incremental.proofs.NextOfEdited.{edited_adds_puts, next_of_edited}
@@ -40,12 +37,6 @@ module _ (schemas : List Schema) (model : IsModel schemas) (previous : Table) (c
 
   pub none_next : ((rows : List (ℕ × ℕ)) (after : Table) → AddsTops schemas previous (of_first (length schemas) puts) previous rows after → ⊥) → (next : Table) → IsNextEdited schemas previous puts removes next → ⊥
   none_next never next is = let adds = edited_adds_puts schemas previous next puts removes model closed stored once fits is in never adds.0 adds.1 adds.2
-
-  pub yields : (result : Result ℕ ChangeFault) (after : Table) → OnOk result (IsNextEdited schemas previous puts removes after) → (result ≡ Err TooMany → (next : Table) → IsNextEdited schemas previous puts removes next → ⊥)
-      → Yields IsFreeChange result (Err TooMany) ((next : Table) → ¬ IsNextEdited schemas previous puts removes next)
-  yields (Ok missing) after next many = (many, λ none. absurd (none after next))
-  yields (Err TooMany) after next many = (many, λ none. inl refl)
-  yields (Err Memory) after next many = (many, λ none. inr tt)
 
   module _ (have : HaveKeys schemas puts) (tops : List (ℕ × ℕ)) (whole : Table) (adds : AddsTops schemas previous (of_first (length schemas) puts) previous tops whole) where
     first_fits : AreFitting schemas (of_first (length schemas) puts)

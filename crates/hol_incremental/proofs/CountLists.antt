@@ -38,11 +38,6 @@ module _ {A : Type 0} where
   set_beside (y ∷ xs) (suc t) zero x d apart = refl
   set_beside (y ∷ xs) (suc t) (suc u) x d apart = set_beside xs t u x d (λ e. apart (ap suc e))
 
-  pub set_length : (xs : List A) (t : ℕ) (x : A) → length (slice_set xs t x) ≡ length xs
-  set_length [] t x = refl
-  set_length (y ∷ xs) zero x = refl
-  set_length (y ∷ xs) (suc t) x = ap suc (set_length xs t x)
-
 -- ---- one place
 
 pub one_there : (t o u q : ℕ) → IsThere t o u q → one_for u q (t, o) ≡ 1

@@ -42,13 +42,6 @@ named_is_live schemas table closed t o named =
 pub zero_unnamed : (schemas : List Schema) (table : Table) (t o : ℕ) → times_named schemas table t o ≡ 0 → IsNamed schemas table t o → ⊥
 zero_unnamed schemas table t o none named = let above = (named_where_counted schemas table t o).0 named in omega (arith, above, none)
 
-pub unnamed_zero : (schemas : List Schema) (table : Table) (t o : ℕ) → (IsNamed schemas table t o → ⊥) → times_named schemas table t o ≡ 0
-unnamed_zero schemas table t o unnamed =
-    elim (cases_lt 0 (times_named schemas table t o)) [
-      | inl above ↦ absurd (unnamed ((named_where_counted schemas table t o).1 above))
-      | inr none ↦ omega (arith, none)
-    ]
-
 pub named_or : (schemas : List Schema) (table : Table) (t o : ℕ) → IsNamed schemas table t o ⊎ (times_named schemas table t o ≡ 0)
 named_or schemas table t o =
     elim (cases_lt 0 (times_named schemas table t o)) [

@@ -15,6 +15,7 @@ use Rattle.key_index.proofs.KeptKeys.{key_kept}
 use Rattle.row_model.specs.Key.{IsResolved, key_of}
 use Rattle.row_model.specs.Table.{IsClosed, IsLive, Table, row_at}
 use Rattle.row_model.specs.declared.row.Row.{Row}
+use Rattle.write_engine.proofs.Parts.{length_images}
 use Rattle.hol_incremental.specs.EditKeys.{AreIndexes, TellsIndex, TellsKeyPaths}
 use Rattle.hol_incremental.specs.Keeping.{AreLacking, AreReadyKeys, CountsComing, CountsKeyed, IsReadyIndex, IsReserved, moved, settled}
 use Rattle.hol_incremental.specs.Roots.{AreKeyPaths, IsKeyed, key_texts}
@@ -116,10 +117,6 @@ tells_settled : (schemas : List Schema) (table : Table) (t : ℕ) (index : Optio
 tells_settled schemas table t None tells = tells
 tells_settled schemas table t (Some index) tells = (tells.0, record { type_is = tells.1.type_is; paths_are = refl; keys_are = tells.1.keys_are })
 
-length_mapped : {A B : Type 0} (f : A → B) (xs : List A) → length (map f xs) ≡ length xs
-length_mapped f [] = refl
-length_mapped f (x ∷ xs) = ap suc (length_mapped f xs)
-
 mapped_at : {A B : Type 0} (f : A → B) (xs : List A) (t : ℕ) (x : A) → slice_get xs t ≡ Some x → slice_get (map f xs) t ≡ Some (f x)
 mapped_at f xs t x is = slice_get-map f xs t ∙ ap (option_map f) is
 
@@ -131,17 +128,11 @@ at_mapped f (x ∷ xs) (suc t) y is = at_mapped f xs t y is
 -- what the indexes are ready for does not matter
 pub same_settled : (schemas : List Schema) (table : Table) (keys keys' : List (Option Indexed)) → map settled keys' ≡ map settled keys → AreIndexes schemas table keys → AreIndexes schemas table keys'
 same_settled schemas table keys keys' same are = record {
-  types = sym (length_mapped settled keys') ∙ ap (λ (xs : List (Option Indexed)). length xs) same ∙ length_mapped settled keys ∙ are.types;
+  types = sym (length_images settled keys') ∙ ap (λ (xs : List (Option Indexed)). length xs) same ∙ length_images settled keys ∙ are.types;
   each = λ t index at.
       (let there = ap (λ (xs : List (Option Indexed)). slice_get xs t) (sym same) ∙ mapped_at settled keys' t index at in
       let found = at_mapped settled keys t (settled index) there in
       tells_settled schemas table t index (subst (TellsIndex schemas table t) found.2 (settled_tells schemas table t found.0 (are.each t found.0 found.1))));
-}
-
-pub settled_indexes : (schemas : List Schema) (table : Table) (keys : List (Option Indexed)) → AreIndexes schemas table keys → AreIndexes schemas table (map settled keys)
-settled_indexes schemas table keys are = record {
-  types = length_mapped settled keys ∙ are.types;
-  each = λ t index at. (let found = at_mapped settled keys t index at in subst (TellsIndex schemas table t) found.2 (settled_tells schemas table t found.0 (are.each t found.0 found.1)));
 }
 
 moved_tells : (schemas : List Schema) (before next : Table) (t : ℕ) (index : Option Indexed) → TellsIndex schemas before t index → IsReadyIndex schemas next index → TellsIndex schemas next t (moved index)
@@ -155,7 +146,7 @@ moved_tells schemas before next t (Some index) tells ready = (tells.0, record { 
 -- indexes that are ready become those of the next state
 pub moved_indexes : (schemas : List Schema) (before next : Table) (keys : List (Option Indexed)) → AreIndexes schemas before keys → AreReadyKeys schemas next keys → AreIndexes schemas next (map moved keys)
 moved_indexes schemas before next keys are ready = record {
-  types = length_mapped moved keys ∙ are.types;
+  types = length_images moved keys ∙ are.types;
   each = λ t index at. (let found = at_mapped moved keys t index at in subst (TellsIndex schemas next t) found.2 (moved_tells schemas before next t found.0 (are.each t found.0 found.1) (ready t found.0 found.1)));
 }
 

@@ -27,12 +27,13 @@ use Rattle.write_engine.specs.Cycle.{Adds, AddsAll, AddsFields, AddsPairs, IsMap
 use Rattle.write_engine.specs.Soundness.{IsClosedTableOf}
 use Rattle.write_engine.specs.StoredRows.{AreStored}
 use Rattle.write_engine.proofs.Parts.{map_types_are}
+use Rattle.row_packing.proofs.Greatest.{all_left, all_right}
 use Rattle.hol_incremental.specs.Beside.{SameBeside}
 use Rattle.hol_incremental.proofs.AddedRows.{put_stays, stays_then}
 use Rattle.hol_incremental.proofs.BesideRows.{agree_both, itself, puts_again, then_same}
 use Rattle.hol_incremental.proofs.OneRecord.{Stays}
 use Rattle.hol_incremental.proofs.PutRows.{put_cases, put_there}
-use Rattle.hol_incremental.proofs.ShallowTypes.{IsReached, IsShallow, all_left, all_right, live_row, live_type, none_shallow, rows_reached, some_type}
+use Rattle.hol_incremental.proofs.ShallowTypes.{IsReached, IsShallow, live_row, live_type, none_shallow, rows_reached, some_type}
 
 -- a tree that is added is no value
 as_row : (schemas : List Schema) (previous : Table) (tree : PlainTree) (t o : ℕ) (before after : Table) (P : Value → Type 0) (Q : Type 0) → Adds schemas previous t tree before o after → Q → IsLeafOr tree P Q

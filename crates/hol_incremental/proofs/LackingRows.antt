@@ -9,7 +9,7 @@ use Rattle.key_index.specs.Indexed.{Indexed}
 use Rattle.ordinal_set.specs.Ordinals.{AreOrdinals, lacking}
 use Rattle.ordinal_set.proofs.Beside.{is_member, lacking_member, member_lacking}
 use Rattle.row_model.specs.Table.{IsLive, Table}
-use Rattle.hol_incremental.specs.EditKeys.{AreIndexes, TellsIndex}
+use Rattle.hol_incremental.specs.EditKeys.{TellsIndex}
 use Rattle.hol_incremental.specs.Keeping.{AreLacking, IsReadyIndex}
 use Rattle.hol_incremental.proofs.MappedLists.{behind_at, set_beside, set_here}
 
@@ -51,9 +51,6 @@ module _ (schemas : List Schema) (table : Table) where
     ]);
   })
 
-  pub built_all : (count : ℕ) (keys : List (Option Indexed)) → AreBuilt count keys → count ≡ length schemas → AreIndexes schemas table keys
-  built_all count keys built all = record { types = built.types ∙ all; each = built.each }
-
 -- the indexes of the first types are ready
 abbrev pub AreReadyBelow : List Schema → Table → ℕ → List (Option Indexed) → Type 0
 AreReadyBelow schemas next count keys = (t : ℕ) (index : Option Indexed) → t < count → slice_get keys t ≡ Some index → IsReadyIndex schemas next index
@@ -64,12 +61,4 @@ ready_set schemas next count keys index below ready t found low at =
     elim (cases_eq t count) [
       | inl same ↦ subst (IsReadyIndex schemas next) (set_here keys count index found (ap (slice_get (set keys count index)) (sym same) ∙ at)) ready
       | inr other ↦ below t found (omega (arith, low, other)) (set_beside keys count t index found other at)
-    ]
-
-pub ready_skip : (schemas : List Schema) (next : Table) (count : ℕ) (keys : List (Option Indexed)) (index : Option Indexed) → AreReadyBelow schemas next count keys → slice_get keys count ≡ Some index → IsReadyIndex schemas next index
-    → AreReadyBelow schemas next (count + 1) keys
-ready_skip schemas next count keys index below here ready t found low at =
-    elim (cases_eq t count) [
-      | inl same ↦ (let e : Some index ≡ Some found = sym here ∙ ap (slice_get keys) (sym same) ∙ at in let one : index ≡ found = cc in subst (IsReadyIndex schemas next) one ready)
-      | inr other ↦ below t found (omega (arith, low, other)) at
     ]

@@ -6,11 +6,12 @@ use Rattle.row_model.specs.PlainTree.{PlainTree}
 use Rattle.record_trees.specs.Tree.{plain}
 use Rattle.record_trees.specs.declared.tree.Tree.{Tree}
 use Rattle.key_index.specs.Indexed.{Indexed}
+use Rattle.write_engine.proofs.Gathering.{take_whole}
 use Rattle.hol_incremental.specs.Changes.{records}
 use Rattle.hol_incremental.specs.Edited.{Keys}
 use Rattle.hol_incremental.specs.Leaves.{AreLeaving, HasGiven, IsOfRecord, IsUnder, LeaveMore}
 use Rattle.hol_incremental.proofs.Among.{in_image, none_in, of_image}
-use Rattle.hol_incremental.proofs.LeaveSteps.{leave_entry, leave_same, leave_then, taken_all}
+use Rattle.hol_incremental.proofs.LeaveSteps.{leave_entry, leave_same, leave_then}
 use Rattle.hol_incremental.proofs.OnceLists.{none_once}
 
 module _ (keys : List (Option Indexed)) where
@@ -38,7 +39,7 @@ module _ (keys : List (Option Indexed)) where
       (subst (λ (entry : ℕ × List Value). LeaveMore (ByKey entry) tops middle after) is two))
 
   pub taken_keys : (removes : Keys) (tops : List (ℕ × ℕ)) (i : ℕ) (before after : List (ℕ × ℕ)) → length removes ≤ i → LeaveMore (OfKeys (take i removes)) tops before after → LeaveMore (OfKeys removes) tops before after
-  taken_keys removes tops i before after long more = subst (λ (xs : Keys). LeaveMore (OfKeys xs) tops before after) (taken_all removes i long) more
+  taken_keys removes tops i before after long more = subst (λ (xs : Keys). LeaveMore (OfKeys xs) tops before after) (take_whole removes i long) more
 
   -- ---- records that are put
 
@@ -71,7 +72,7 @@ module _ (keys : List (Option Indexed)) where
       (subst (λ (entry : ℕ × Tree). LeaveMore (ByTree entry) tops middle after) is two))
 
   pub taken_trees : (puts : List (ℕ × Tree)) (tops : List (ℕ × ℕ)) (i : ℕ) (before after : List (ℕ × ℕ)) → length puts ≤ i → LeaveMore (OfTrees (take i puts)) tops before after → LeaveMore (OfTrees puts) tops before after
-  taken_trees puts tops i before after long more = subst (λ (xs : List (ℕ × Tree)). LeaveMore (OfTrees xs) tops before after) (taken_all puts i long) more
+  taken_trees puts tops i before after long more = subst (λ (xs : List (ℕ × Tree)). LeaveMore (OfTrees xs) tops before after) (take_whole puts i long) more
 
   -- ---- both
 

@@ -1,5 +1,5 @@
 -- Rows come to leave one after another.
-use Rattle.std.proofs.Common.{◌≡◌, ◌+◌, ◌<◌, ◌≤◌, ◌⊎◌, ℕ, zero, suc, List, [], ◌∷◌, ◌++◌, length, get_or, take, refl, sym, ap, subst, inl, inr, arith}
+use Rattle.std.proofs.Common.{◌≡◌, ◌+◌, ◌<◌, ◌⊎◌, ℕ, List, [], ◌∷◌, ◌++◌, length, get_or, take, refl, sym, ap, subst, inl, inr, arith}
 use Rattle.std.specs.Prelude.{Contains}
 use Rattle.std.proofs.lemmas.List.Elements.{Contains-append_cases, Contains-append_left, Contains-append_right}
 use Rattle.hol_incremental.specs.Leaves.{LeaveMore}
@@ -8,13 +8,6 @@ use Rattle.hol_incremental.proofs.CountLists.{taken_push}
 use Rattle.hol_incremental.proofs.OnceLists.{IsOnce, append_once}
 
 module _ (tops : List (ℕ × ℕ)) where
-  pub leave_none : (leaves : ℕ × ℕ → Type 0) (before : List (ℕ × ℕ)) → ((row : ℕ × ℕ) → leaves row → ⊥) → LeaveMore leaves tops before before
-  leave_none leaves before none = record { once = λ once. once; are = λ row. (inl, λ any. either row any) }
-    where
-      either : (row : ℕ × ℕ) → Contains before row ⊎ (leaves row × ¬ Contains tops row) → Contains before row
-      either row (inl here) = here
-      either row (inr both) = absurd (none row both.0)
-
   -- the same rows, told in other words
   pub leave_same : (leaves other : ℕ × ℕ → Type 0) (before after : List (ℕ × ℕ)) → ((row : ℕ × ℕ) → leaves row → other row) → ((row : ℕ × ℕ) → other row → leaves row) → LeaveMore leaves tops before after
       → LeaveMore other tops before after
@@ -99,12 +92,6 @@ next_in xs i d x inside (inl here) = subst (λ ys. Contains ys x) (sym (taken_pu
 next_in xs i d x inside (inr same) =
     subst (λ ys. Contains ys x) (sym (taken_push xs i d inside))
     (Contains-append_right (take i xs) (get_or xs i d ∷ []) x (subst (λ y. Contains (get_or xs i d ∷ []) y) same (first_in (get_or xs i d) [])))
-
-pub taken_all : {A : Type 0} (xs : List A) (i : ℕ) → length xs ≤ i → take i xs ≡ xs
-taken_all [] zero long = refl
-taken_all [] (suc i) long = refl
-taken_all (x ∷ xs) zero long = absurd (omega (arith, long))
-taken_all (x ∷ xs) (suc i) long = ap (λ rest. x ∷ rest) (taken_all xs i (omega (arith, long)))
 
 -- rows of a type under the first so many ordinals, and the next one
 pub leave_next : (tops : List (ℕ × ℕ)) (t : ℕ) (xs : List ℕ) (i d : ℕ) (before middle after : List (ℕ × ℕ)) → i < length xs → LeaveMore (λ row. (row.0 ≡ t) × Contains (take i xs) row.1) tops before middle

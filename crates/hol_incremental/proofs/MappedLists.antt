@@ -1,6 +1,5 @@
 -- Lists that are changed place by place.
-use Rattle.std.proofs.Common.{◌≡◌, ◌∙◌, ◌+◌, ◌<◌, ◌⊎◌, ℕ, zero, suc, List, [], ◌∷◌, ◌++◌, Some, length, get_or, set, map, take, slice_get, refl, ap, subst, inl, inr, arith}
-use Rattle.std.specs.List.{AllZip}
+use Rattle.std.proofs.Common.{◌≡◌, ◌+◌, ◌<◌, ◌⊎◌, ℕ, zero, suc, List, [], ◌∷◌, ◌++◌, Some, length, get_or, set, map, slice_get, refl, ap, inl, inr, arith}
 
 -- the list, of which so many are changed
 unfoldable pub first_mapped : {A : Type 0} → (A → A) → ℕ → List A → List A
@@ -24,14 +23,6 @@ module _ {A : Type 0} (f : A → A) where
   mapped_more n [] d inside = absurd (omega arith)
   mapped_more zero (x ∷ xs) d inside = refl
   mapped_more (suc n) (x ∷ xs) d inside = ap (λ (rest : List A). f x ∷ rest) (mapped_more n xs d (omega arith))
-
-  pub one_more_mapped : (n : ℕ) (xs now : List A) (d : A) → n < length xs → now ≡ first_mapped f n xs → set now n (f (get_or now n d)) ≡ first_mapped f (n + 1) xs
-  one_more_mapped n xs now d inside is =
-      let next : suc n ≡ n + 1 = omega arith in
-      ap (λ (ys : List A). set ys n (f (get_or ys n d))) is
-      ∙ ap (λ (x : A). set (first_mapped f n xs) n (f x)) (not_mapped n xs d)
-      ∙ mapped_more n xs d inside
-      ∙ ap (λ (k : ℕ). first_mapped f k xs) next
 
   pub all_mapped : (xs : List A) → first_mapped f (length xs) xs ≡ map f xs
   unfolding first_mapped
@@ -65,13 +56,3 @@ pub map_set_same : {A B : Type 0} (f : A → B) (xs : List A) (k : ℕ) (x d : A
 map_set_same f [] k x d same = refl
 map_set_same f (y ∷ xs) zero x d same = ap (λ z. z ∷ map f xs) same
 map_set_same f (y ∷ xs) (suc k) x d same = ap (λ (rest : List _). f y ∷ rest) (map_set_same f xs k x d same)
-
--- items of two lists that stand for one another, and one pair more
-pub zip_more : {X Y : Type 0} (R : X → Y → Type 0) (xs : List X) (ys : List Y) (i : ℕ) (d : X) (y : Y) → i < length xs → AllZip R (take i xs) ys → R (get_or xs i d) y → AllZip R (take (i + 1) xs) (ys ++ y ∷ [])
-zip_more R [] ys i d y inside zip holds = absurd (omega (arith, inside))
-zip_more R (x ∷ xs) [] zero d y inside zip holds = (holds, tt)
-zip_more R (x ∷ xs) (w ∷ ys) zero d y inside zip holds = absurd zip
-zip_more R (x ∷ xs) [] (suc i) d y inside zip holds = absurd zip
-zip_more R (x ∷ xs) (w ∷ ys) (suc i) d y inside zip holds =
-    let next : suc (i + 1) ≡ suc i + 1 = omega arith in
-    subst (λ n. AllZip R (take n (x ∷ xs)) (w ∷ ys ++ y ∷ [])) next (zip.0, zip_more R xs ys i d y (omega (arith, inside)) zip.1 holds)

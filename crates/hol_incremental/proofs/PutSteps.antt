@@ -1,5 +1,5 @@
 -- Records are put one after another, types in model order.
-use Rattle.std.proofs.Common.{◌≡◌, ◌∙◌, ◌+◌, ◌-◌, ◌<◌, ℕ, zero, suc, List, [], ◌∷◌, ◌++◌, Bool, drop, flat_map, length, get_or, take, refl, sym, ap, subst, arith}
+use Rattle.std.proofs.Common.{◌≡◌, ◌∙◌, ◌+◌, ◌-◌, ◌<◌, ℕ, zero, suc, List, [], ◌∷◌, ◌++◌, Bool, drop, flat_map, length, get_or, take, sym, ap, subst, arith}
 use Rattle.std.specs.Prelude.{if◌then◌else◌, nat_eq}
 use Rattle.std.specs.List.{range_with_len}
 use Rattle.std.proofs.lemmas.List.{append_assoc, append-nil, map-append, take-append-drop}
@@ -86,9 +86,6 @@ module _ (puts : Records) where
 -- ---- what is added
 
 module _ (schemas : List Schema) (previous : Table) where
-  pub more_none : (before : Table) (gathered : List (ℕ × ℕ)) → AddsMore schemas previous [] before gathered before gathered
-  more_none before gathered = ([], (refl, refl), sym (append-nil gathered))
-
   pub more_one : (put : Records) (before middle after : Table) (gathered tops tops' : List (ℕ × ℕ)) (t : ℕ) (tree : PlainTree) (ordinal : ℕ) → AddsMore schemas previous put before gathered middle tops
       → Adds schemas previous t tree middle ordinal after → tops' ≡ tops ++ (t, ordinal) ∷ [] → AddsMore schemas previous (put ++ (t, tree) ∷ []) before gathered after tops'
   more_one put before middle after gathered tops tops' t tree ordinal more adds is = (

@@ -12,7 +12,7 @@ pub record IsFromEither (one other both : Table) : Type 0 where
   pub types : length both ≡ length one
   pub first : IsPartOf one both
   pub second : IsPartOf other both
-  pub either : (t ordinal : ℕ) (row : Row) → row_at both t ordinal ≡ Some row → (row_at one t ordinal ≡ Some row) ⊎ (row_at other t ordinal ≡ Some row)
+  pub either : (type_index ordinal : ℕ) (row : Row) → row_at both type_index ordinal ≡ Some row → (row_at one type_index ordinal ≡ Some row) ⊎ (row_at other type_index ordinal ≡ Some row)
 
 -- one of the two tables has the row in the type, under the ordinal
 abbrev pub HasEither : Table → Table → ℕ → ℕ → Row → Type 0
@@ -21,4 +21,4 @@ HasEither previous table t ordinal row = (row_at previous t ordinal ≡ Some row
 -- Together with the first table, the two others have the same rows under the same ordinals; and the two have as many types.
 pub record SameBeside (previous table other : Table) : Type 0 where
   pub types : length table ≡ length other
-  pub same : (t ordinal : ℕ) (row : Row) → HasEither previous table t ordinal row ↔ HasEither previous other t ordinal row
+  pub same : (type_index ordinal : ℕ) (row : Row) → HasEither previous table type_index ordinal row ↔ HasEither previous other type_index ordinal row

@@ -18,7 +18,7 @@ Goes schemas leaving start t ordinal = Contains leaving (t, ordinal) ⊎ ((¬ Is
 
 -- Each row of a table that may leave is named by a row of the table: so none of them does.
 pub record IsHeld (schemas : List Schema) (leaving : List (ℕ × ℕ)) (start held : Table) : Type 0 where
-  pub named : (t ordinal : ℕ) → IsLive held t ordinal → Goes schemas leaving start t ordinal → IsNamed schemas held t ordinal
+  pub named : (type_index ordinal : ℕ) → IsLive held type_index ordinal → Goes schemas leaving start type_index ordinal → IsNamed schemas held type_index ordinal
 
 -- Each of these rows may leave, as no row names it, and none stands there twice.
 pub record AreUnnamed (schemas : List Schema) (current : Table) (pending : List (ℕ × ℕ)) : Type 0 where
@@ -32,8 +32,8 @@ pub record IsDropping (schemas : List Schema) (leaving : List (ℕ × ℕ)) (sta
   pub within : IsPartOf current start
   pub keeps : IsPartOf held current
   pub goes : All (λ row. Goes schemas leaving start row.0 row.1) pending
-  pub gone : (t ordinal : ℕ) → IsLive start t ordinal → IsLive current t ordinal ⊎ Goes schemas leaving start t ordinal
-  pub settled : (t ordinal : ℕ) → IsLive current t ordinal → IsNamed schemas current t ordinal ⊎ (Contains pending (t, ordinal) ⊎ ¬ Goes schemas leaving start t ordinal)
+  pub gone : (type_index ordinal : ℕ) → IsLive start type_index ordinal → IsLive current type_index ordinal ⊎ Goes schemas leaving start type_index ordinal
+  pub settled : (type_index ordinal : ℕ) → IsLive current type_index ordinal → IsNamed schemas current type_index ordinal ⊎ (Contains pending (type_index, ordinal) ⊎ ¬ Goes schemas leaving start type_index ordinal)
 
 -- Those of some named rows come behind others that have the count 0 now and may leave, each once.
 pub record FallsFrom (may : ℕ × ℕ → Type 0) (named : List (ℕ × ℕ)) (counts : List (List ℕ)) (before after : List (ℕ × ℕ)) : Type 0 where
@@ -45,5 +45,5 @@ pub record FallsFrom (may : ℕ × ℕ → Type 0) (named : List (ℕ × ℕ)) (
 -- Some rows are named less often by one for each place, and those of them that fall to 0 and may leave come behind others.
 pub record IsLowered (may : ℕ × ℕ → Type 0) (named : List (ℕ × ℕ)) (counts counts' : List (List ℕ)) (before after : List (ℕ × ℕ)) : Type 0 where
   pub types : length counts' ≡ length counts
-  pub lowered : (t ordinal : ℕ) → count_at counts' t ordinal + times_among t ordinal named ≡ count_at counts t ordinal
+  pub lowered : (type_index ordinal : ℕ) → count_at counts' type_index ordinal + times_among type_index ordinal named ≡ count_at counts type_index ordinal
   pub fallen : FallsFrom may named counts' before after

@@ -62,7 +62,7 @@ no_counts types = replicate types []
 -- These are the counts of the rows of a table: how many places in its rows name each.
 pub record AreCounts (schemas : List Schema) (table : Table) (counts : List (List ℕ)) : Type 0 where
   pub types : length counts ≡ length schemas
-  pub are : (t ordinal : ℕ) → count_at counts t ordinal ≡ times_named schemas table t ordinal
+  pub are : (type_index ordinal : ℕ) → count_at counts type_index ordinal ≡ times_named schemas table type_index ordinal
 
 -- These are the counts of the rows of a table, and the sums of those of each type.
 pub record AreTallied (schemas : List Schema) (table : Table) (counted : List (List ℕ)) (summed : List TypeSums) : Type 0 where
@@ -71,18 +71,18 @@ pub record AreTallied (schemas : List Schema) (table : Table) (counted : List (L
 
 -- these are the paths of a type's primary key, if it has one
 abbrev pub TellsKeyPaths : List Schema → ℕ → Option (List Path) → Type 0
-TellsKeyPaths schemas t None = ¬ IsKeyed schemas t
-TellsKeyPaths schemas t (Some paths) = AreKeyPaths schemas t paths
+TellsKeyPaths schemas type_index None = ¬ IsKeyed schemas type_index
+TellsKeyPaths schemas type_index (Some paths) = AreKeyPaths schemas type_index paths
 
 -- this is the index of a type's rows by its primary key, if it has one
 abbrev pub TellsIndex : List Schema → Table → ℕ → Option Indexed → Type 0
-TellsIndex schemas table t None = ¬ IsKeyed schemas t
-TellsIndex schemas table t (Some index) = AreKeyPaths schemas t index.paths × IsIndexBy schemas table t index.paths index
+TellsIndex schemas table type_index None = ¬ IsKeyed schemas type_index
+TellsIndex schemas table type_index (Some index) = AreKeyPaths schemas type_index index.paths × IsIndexBy schemas table type_index index.paths index
 
 -- These are the indexes of all types.
 pub record AreIndexes (schemas : List Schema) (table : Table) (keys : List (Option Indexed)) : Type 0 where
   pub types : length keys ≡ length schemas
-  pub each : (t : ℕ) (index : Option Indexed) → slice_get keys t ≡ Some index → TellsIndex schemas table t index
+  pub each : (type_index : ℕ) (index : Option Indexed) → slice_get keys type_index ≡ Some index → TellsIndex schemas table type_index index
 
 -- What is kept is that of a state. What is made ready of a next one does not matter.
 pub record AreEditsOf (schemas : List Schema) (table : Table) (edits : Editing) : Type 0 where

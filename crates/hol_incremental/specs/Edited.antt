@@ -31,26 +31,26 @@ abbrev pub IsGivenKey : List Schema → Records → Keys → ℕ → List Value 
 IsGivenKey schemas puts removes t key = Contains removes (t, key) ⊎ ((tree : PlainTree) × Contains puts (t, tree) × IsTreeKey schemas t tree key)
 
 -- The row is a root of the state, and stays in the list: it has no primary key that is removed or put.
-pub record StaysRoot (schemas : List Schema) (previous : Table) (puts : Records) (removes : Keys) (t ordinal : ℕ) : Type 0 where
-  pub root : IsRoot schemas previous t ordinal
-  pub other : (key : List Value) → IsRowKey schemas previous t ordinal key → ¬ IsGivenKey schemas puts removes t key
+pub record StaysRoot (schemas : List Schema) (previous : Table) (puts : Records) (removes : Keys) (type_index ordinal : ℕ) : Type 0 where
+  pub root : IsRoot schemas previous type_index ordinal
+  pub other : (key : List Value) → IsRowKey schemas previous type_index ordinal key → ¬ IsGivenKey schemas puts removes type_index key
 
 -- the records of the rows of a type under some ordinals
 abbrev pub records_of : List Schema → Table → ℕ → List ℕ → Records
 records_of schemas table t ordinals = map (λ ordinal. (t, unfold_row schemas table t ordinal)) ordinals
 
 -- A type's part of the edited list: the records of its roots that stay, by rising ordinal, and then those that are put, in their order.
-pub record IsEditedType (schemas : List Schema) (previous : Table) (puts : Records) (removes : Keys) (t : ℕ) (part : Records) : Type 0 where
+pub record IsEditedType (schemas : List Schema) (previous : Table) (puts : Records) (removes : Keys) (type_index : ℕ) (part : Records) : Type 0 where
   pub roots : List ℕ
   pub rising : Rises roots
-  pub are : (ordinal : ℕ) → (Contains roots ordinal → StaysRoot schemas previous puts removes t ordinal) × (StaysRoot schemas previous puts removes t ordinal → Contains roots ordinal)
-  pub records_are : part ≡ records_of schemas previous t roots ++ of_type t puts
+  pub are : (ordinal : ℕ) → (Contains roots ordinal → StaysRoot schemas previous puts removes type_index ordinal) × (StaysRoot schemas previous puts removes type_index ordinal → Contains roots ordinal)
+  pub records_are : part ≡ records_of schemas previous type_index roots ++ of_type type_index puts
 
 -- The edited list: the parts of the types in model order.
 pub record IsEdited (schemas : List Schema) (previous : Table) (puts : Records) (removes : Keys) (records : Records) : Type 0 where
   pub parts : List Records
   pub many : length parts ≡ length schemas
-  pub each : (t : ℕ) (part : Records) → slice_get parts t ≡ Some part → IsEditedType schemas previous puts removes t part
+  pub each : (type_index : ℕ) (part : Records) → slice_get parts type_index ≡ Some part → IsEditedType schemas previous puts removes type_index part
   pub records_are : records ≡ flat_map (λ part. part) parts
 
 -- The table is the state that the edited list makes next.

@@ -30,9 +30,9 @@ abbrev pub AreReadyKeys : List Schema → Table → List (Option Indexed) → Ty
 AreReadyKeys schemas next keys = (t : ℕ) (index : Option Indexed) → slice_get keys t ≡ Some index → IsReadyIndex schemas next index
 
 -- the ordinals under which a type has rows in one state and none in another, rising
-pub record AreLacking (table other : Table) (t : ℕ) (ordinals : List ℕ) : Type 0 where
+pub record AreLacking (table other : Table) (type_index : ℕ) (ordinals : List ℕ) : Type 0 where
   pub rising : Rises ordinals
-  pub are : (ordinal : ℕ) → Contains ordinals ordinal ↔ (IsLive table t ordinal × ¬ IsLive other t ordinal)
+  pub are : (ordinal : ℕ) → Contains ordinals ordinal ↔ (IsLive table type_index ordinal × ¬ IsLive other type_index ordinal)
 
 -- a count rose by the number of the live rows of a type, if it has a primary key
 abbrev pub CountsKeyed : List Schema → Table → ℕ → ℕ → ℕ → Type 0

@@ -16,5 +16,5 @@ pub record IsLeftOf (schemas : List Schema) (stays : ℕ → ℕ → Type 0) (wh
   pub types : length left ≡ length whole
   pub within : IsPartOf left whole
   pub closed : IsClosed schemas left
-  pub kept : (t ordinal : ℕ) → stays t ordinal → IsLive left t ordinal
-  pub reached : (t ordinal : ℕ) → IsLive left t ordinal → stays t ordinal ⊎ IsNamed schemas left t ordinal
+  pub kept : (type_index ordinal : ℕ) → stays type_index ordinal → IsLive left type_index ordinal
+  pub reached : (type_index ordinal : ℕ) → IsLive left type_index ordinal → stays type_index ordinal ⊎ IsNamed schemas left type_index ordinal

@@ -57,12 +57,12 @@ IsTreeKey schemas t tree key = (paths : List Path) × AreKeyPaths schemas t path
 
 -- this is the primary key of the record, or it has none
 abbrev pub TellsTreeKey : List Schema → ℕ → PlainTree → Option (List Value) → Type 0
-TellsTreeKey schemas t tree None = (key : List Value) → ¬ IsTreeKey schemas t tree key
-TellsTreeKey schemas t tree (Some key) = IsTreeKey schemas t tree key
+TellsTreeKey schemas type_index tree None = (key : List Value) → ¬ IsTreeKey schemas type_index tree key
+TellsTreeKey schemas type_index tree (Some key) = IsTreeKey schemas type_index tree key
 
 -- ---- roots
 
 -- The row is a root: it is live, and its type has a primary key, or no row of the table names it.
-pub record IsRoot (schemas : List Schema) (table : Table) (t ordinal : ℕ) : Type 0 where
-  pub live : IsLive table t ordinal
-  pub own : IsKeyed schemas t ⊎ ¬ IsNamed schemas table t ordinal
+pub record IsRoot (schemas : List Schema) (table : Table) (type_index ordinal : ℕ) : Type 0 where
+  pub live : IsLive table type_index ordinal
+  pub own : IsKeyed schemas type_index ⊎ ¬ IsNamed schemas table type_index ordinal

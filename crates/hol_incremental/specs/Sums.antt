@@ -11,7 +11,7 @@ use Rattle.kept_sums.specs.Sums.{AddsRow, AreSumsOf, TakesRow, TypeSums}
 -- For each type there are the sums of some rows of it.
 pub record AreSumsBy (schemas : List Schema) (rows : ℕ → List Row) (sums : List TypeSums) : Type 0 where
   pub types : length sums ≡ length schemas
-  pub each : (t : ℕ) (one : TypeSums) → slice_get sums t ≡ Some one → AreSumsOf (shape_at schemas t) (rows t) one
+  pub each : (type_index : ℕ) (one : TypeSums) → slice_get sums type_index ≡ Some one → AreSumsOf (shape_at schemas type_index) (rows type_index) one
 
 -- These are the sums of the rows of a table.
 abbrev pub AreSums : List Schema → Table → List TypeSums → Type 0
@@ -22,12 +22,12 @@ abbrev pub AreSumsOfBoth : List Schema → Table → Table → List TypeSums →
 AreSumsOfBoth schemas old new sums = AreSumsBy schemas (rows_of_both old new) sums
 
 -- The sums of a type become others, and those of the other types stay.
-pub record ChangesType (changes : TypeSums → TypeSums → Type 0) (t : ℕ) (before after : List TypeSums) : Type 0 where
+pub record ChangesType (changes : TypeSums → TypeSums → Type 0) (type_index : ℕ) (before after : List TypeSums) : Type 0 where
   pub old : TypeSums
   pub new : TypeSums
-  pub was : slice_get before t ≡ Some old
+  pub was : slice_get before type_index ≡ Some old
   pub changed : changes old new
-  pub is : after ≡ set before t new
+  pub is : after ≡ set before type_index new
 
 -- The row of a type under an ordinal is added to its sums.
 abbrev pub AddsRowAt : List Schema → Table → ℕ → ℕ → List TypeSums → List TypeSums → Type 0

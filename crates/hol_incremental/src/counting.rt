@@ -35,7 +35,7 @@ pub(crate) fn count_all<R: Rows, L: Ledger>(
     Ok(())
 }
 
-// The same of a type.
+// Counts the rows of a type, and what they name. It counts a step for each row.
 fn count_type<R: Rows, L: Ledger>(
     alloc: Global,
     rows: &R,
@@ -80,7 +80,7 @@ pub(crate) fn count_beside<A: OrdinalRows, B: OrdinalRows, L: Ledger>(
     Ok(())
 }
 
-// The same of a type.
+// Counts those rows of a type, and what they name, that another state lacks. It counts a step for each of them.
 fn count_type_beside<A: OrdinalRows, B: OrdinalRows, L: Ledger>(
     alloc: Global,
     rows: &A,
@@ -123,7 +123,7 @@ fn count_row<R: Rows, L: Ledger>(
     requires types { length tally.old.counts ≡ length (R.schemas rows.now) }
     requires sums { length tally.old.sums.items ≡ length (R.schemas rows.now) }
     ensures types { OnOk result (length tally.new.counts ≡ length tally.old.counts) }
-    ensures raised { OnOk result ((t o : ℕ) → count_at tally.new.counts t o ≡ count_at tally.old.counts t o + times_among t o (named_at (R.schemas rows.now) (R.table rows.now) type_index ordinal)) }
+    ensures raised { OnOk result ((other place : ℕ) → count_at tally.new.counts other place ≡ count_at tally.old.counts other place + times_among other place (named_at (R.schemas rows.now) (R.table rows.now) type_index ordinal)) }
     ensures sums { OnOk result (AddsRowAt (R.schemas rows.now) (R.table rows.now) type_index ordinal tally.old.sums.items tally.new.sums.items) }
     ensures counted { OnOk result (steps.new ≡ steps.old + 1) }
 {
@@ -135,7 +135,7 @@ fn count_row<R: Rows, L: Ledger>(
 fn raise_all(counts: &mut Counts, named: &[(u32, u32)]) -> Result<(), AllocError>
     requires { All (λ row. row.0 < length counts.old) named.now }
     ensures types { OnOk result (length counts.new ≡ length counts.old) }
-    ensures raised { OnOk result ((t o : ℕ) → count_at counts.new t o ≡ count_at counts.old t o + times_among t o named.now) }
+    ensures raised { OnOk result ((type_index ordinal : ℕ) → count_at counts.new type_index ordinal ≡ count_at counts.old type_index ordinal + times_among type_index ordinal named.now) }
 {
     for row in named {
         counts.raise(*row)?;

@@ -32,7 +32,7 @@ impl Counts {
         Ok(Counts { counts })
     }
 
-    /// The same counts once more.
+    /// A copy of the counts.
     pub(crate) fn copy(&self, alloc: Global) -> Result<Counts, AllocError>
         ensures { IfOk result (λ copy. copy ≡ self.now) }
     {
@@ -55,7 +55,7 @@ impl Counts {
     pub(crate) fn raise(&mut self, row: (u32, u32)) -> Result<(), AllocError>
         requires { row.0 < length self.old }
         ensures types { OnOk result (length self.new ≡ length self.old) }
-        ensures raised { OnOk result ((t ordinal : ℕ) → count_at self.new t ordinal ≡ count_at self.old t ordinal + one_for t ordinal row) }
+        ensures raised { OnOk result ((type_index ordinal : ℕ) → count_at self.new type_index ordinal ≡ count_at self.old type_index ordinal + one_for type_index ordinal row) }
     {
         raise_at(&mut self.counts[row.0 as usize], row.1 as usize)
     }
@@ -64,13 +64,13 @@ impl Counts {
     pub(crate) fn lower(&mut self, row: (u32, u32))
         requires { 0 < count_at self.old row.0 row.1 }
         ensures types { length self.new ≡ length self.old }
-        ensures lowered { (t ordinal : ℕ) → count_at self.new t ordinal + one_for t ordinal row ≡ count_at self.old t ordinal }
+        ensures lowered { (type_index ordinal : ℕ) → count_at self.new type_index ordinal + one_for type_index ordinal row ≡ count_at self.old type_index ordinal }
     {
         self.counts[row.0 as usize][row.1 as usize] -= 1;
     }
 }
 
-// The same lists once more.
+// A copy of the lists.
 fn copy_lists(alloc: Global, lists: &[Vec<u64>]) -> Result<Vec<Vec<u64>>, AllocError>
     ensures { IfOk result (λ copies. map (λ list. list.items) copies.items ≡ map (λ list. list.items) lists.now) }
 {
@@ -84,7 +84,7 @@ fn copy_lists(alloc: Global, lists: &[Vec<u64>]) -> Result<Vec<Vec<u64>>, AllocE
 // One more at a place, behind zeros where there are fewer.
 fn raise_at(counts: &mut Vec<u64>, place: usize) -> Result<(), AllocError>
     requires { place < 2 ^ 32 }
-    ensures { OnOk result ((k : ℕ) → get_or counts.new.items k 0 ≡ get_or counts.old.items k 0 + (if nat_eq place k then 1 else 0)) }
+    ensures { OnOk result ((other : ℕ) → get_or counts.new.items other 0 ≡ get_or counts.old.items other 0 + (if nat_eq place other then 1 else 0)) }
 {
     if counts.len() <= place {
         counts.resize(place + 1, 0)?;

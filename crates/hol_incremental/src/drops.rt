@@ -83,7 +83,7 @@ fn lower_all(
     pending: &mut Vec<(u32, u32)>,
 ) -> Result<(), AllocError>
     requires known { All (λ row. row.0 < length model.now) named.now }
-    requires enough { (t ordinal : ℕ) → times_among t ordinal named.now ≤ count_at counts.old t ordinal }
+    requires enough { (type_index ordinal : ℕ) → times_among type_index ordinal named.now ≤ count_at counts.old type_index ordinal }
     ensures { OnOk result (IsLowered (MayFall model.now leaving.now) named.now counts.old counts.new pending.old.items pending.new.items) }
 {
     for row in named {

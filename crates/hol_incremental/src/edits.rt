@@ -57,7 +57,7 @@ pub struct Edits {
 /// What is counted of the state that a change makes.
 #[derive(Drop)]
 pub(crate) struct NextTally {
-    /// That of its rows.
+    /// What is counted of its rows.
     tally: Tally,
     /// For each type the sums of the rows of both states.
     both: Vec<Sums>,

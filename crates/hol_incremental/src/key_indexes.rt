@@ -83,7 +83,7 @@ pub(crate) fn reserve_all<A: OrdinalRows, B: OrdinalRows, L: Ledger>(
     Ok(())
 }
 
-// The same of a type, if it has an index.
+// Makes the index of a type, if it has one, ready for the rows of the next state. It counts a step for each row that comes.
 #[tactic(auto, using(crate::proofs::IndexRows::none_comes))]
 fn reserve_type<A: OrdinalRows, B: OrdinalRows, L: Ledger>(
     alloc: Global,
@@ -109,7 +109,7 @@ fn reserve_type<A: OrdinalRows, B: OrdinalRows, L: Ledger>(
     }
 }
 
-// The same of one, which is that of a type.
+// Makes an index, which is that of a type, ready for the rows of the next state. It counts a step for each row that comes.
 #[tactic(auto, using(crate::proofs::IndexRows::some_come))]
 fn reserve_one<A: OrdinalRows, B: OrdinalRows, L: Ledger>(
     alloc: Global,
@@ -159,7 +159,7 @@ pub(crate) fn update_all(keys: &mut Vec<Option<KeyIndex>>)
     }
 }
 
-// The same of one, if there is one.
+// Makes what an index, if there is one, is ready for the keys that it answers by.
 fn update_one(index: &mut Option<KeyIndex>)
     requires { IsReserved index.old }
     ensures { index.new ≡ moved index.old }
@@ -178,7 +178,7 @@ pub(crate) fn forget_all(keys: &mut Vec<Option<KeyIndex>>)
     }
 }
 
-// The same of one, if there is one.
+// Drops what an index, if there is one, is ready for.
 fn forget_one(index: &mut Option<KeyIndex>)
     ensures { index.new ≡ settled index.old }
 {

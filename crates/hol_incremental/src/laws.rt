@@ -20,21 +20,21 @@ ghost use Rattle.hol_incremental.specs.Tops.{AddsTops};
 /// Adding a tree asks for the rows of the previous state and of the cycle together: over tables that hold the same rows beside the previous state it gives the
 /// same ordinal.
 pub fn added_alike()
-    ensures { (schemas : List Schema) (previous before after other : Table) (t : ℕ) (tree : PlainTree) (ordinal : ℕ) → SameBeside previous before other → Adds schemas previous t tree before ordinal after
-        → (after' : Table) × Adds schemas previous t tree other ordinal after' × SameBeside previous after after' }
+    ensures { (schemas : List Schema) (previous before after other : Table) (type_index : ℕ) (tree : PlainTree) (ordinal : ℕ) → SameBeside previous before other → Adds schemas previous type_index tree before ordinal after
+        → (after' : Table) × Adds schemas previous type_index tree other ordinal after' × SameBeside previous after after' }
 {}
 
 /// The tree of a live row of the previous state is added under that row's ordinal, and beside the previous state nothing changes.
 pub fn added_again()
-    ensures { (schemas : List Schema) (previous before : Table) (t ordinal : ℕ) → IsModel schemas → IsClosedTableOf schemas previous → AreStored previous → TablesAgree previous before → length before ≡ length schemas
-        → IsLive previous t ordinal → (after : Table) × Adds schemas previous t (unfold_row schemas previous t ordinal) before ordinal after × SameBeside previous before after }
+    ensures { (schemas : List Schema) (previous before : Table) (type_index ordinal : ℕ) → IsModel schemas → IsClosedTableOf schemas previous → AreStored previous → TablesAgree previous before → length before ≡ length schemas
+        → IsLive previous type_index ordinal → (after : Table) × Adds schemas previous type_index (unfold_row schemas previous type_index ordinal) before ordinal after × SameBeside previous before after }
 {}
 
 /// Each row that records bring is the row of one of them, or a row names it.
 pub fn top_or_named()
     ensures { (schemas : List Schema) (previous before after : Table) (records : Records) (tops : List (ℕ × ℕ)) → length before ≡ length schemas → TablesAgree previous before
-        → All (λ entry. FitsTree schemas entry.0 entry.1) records → AddsTops schemas previous records before tops after → (t ordinal : ℕ) → IsLive after t ordinal
-        → IsLive before t ordinal ⊎ (Contains tops (t, ordinal) ⊎ IsNamed schemas after t ordinal) }
+        → All (λ entry. FitsTree schemas entry.0 entry.1) records → AddsTops schemas previous records before tops after → (type_index ordinal : ℕ) → IsLive after type_index ordinal
+        → IsLive before type_index ordinal ⊎ (Contains tops (type_index, ordinal) ⊎ IsNamed schemas after type_index ordinal) }
 {}
 
 /// What is left of a change is the state that the edited list makes next: the records that are put were added beside the rows of the previous state, and of those
@@ -54,7 +54,7 @@ pub fn edited_adds_puts()
 
 /// A row is named exactly where it is counted.
 pub fn named_where_counted()
-    ensures { (schemas : List Schema) (table : Table) (t ordinal : ℕ) → IsNamed schemas table t ordinal ↔ (0 < times_named schemas table t ordinal) }
+    ensures { (schemas : List Schema) (table : Table) (type_index ordinal : ℕ) → IsNamed schemas table type_index ordinal ↔ (0 < times_named schemas table type_index ordinal) }
 {}
 
 /// A state, the records that are put and the keys of those that are removed have one edited list.

@@ -14,7 +14,7 @@ pub(crate) struct PlainRows<'a, R: Rows> {
 }
 
 impl<'a, R: Rows> PlainRows<'a, R> {
-    /// The rows.
+    /// These rows, looked at one by one where they stand.
     pub(crate) fn new(rows: &'a R) -> PlainRows<'a, R>
         ensures { result.rows.now ≡ rows.now }
     {

@@ -38,7 +38,7 @@ pub(crate) fn put_all(
     Ok(())
 }
 
-// The same of those of a type, in their order.
+// Adds the records of a type to the cycle, in their order, and gathers their top rows. `TooMany` comes where a row of one would get the ordinal 2^22.
 fn put_type(
     producer: &mut Producer,
     type_index: u32,
@@ -60,7 +60,7 @@ fn put_type(
     Ok(())
 }
 
-// The same of one.
+// Adds a record to the cycle, and gathers its top row. `TooMany` comes where a row of it would get the ordinal 2^22.
 fn put_one(
     producer: &mut Producer,
     type_index: u32,

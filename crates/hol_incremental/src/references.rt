@@ -36,7 +36,8 @@ pub(crate) fn read_coming<R: Rows, L: Ledger>(
     Ok(named)
 }
 
-/// The same of a row that leaves: it is taken from the sums of its type.
+/// The rows that the row under a live ordinal names, in its order, each by its type and ordinal; and the row, which leaves, is taken from the sums of its type.
+/// It counts a step.
 pub(crate) fn read_leaving<R: Rows, L: Ledger>(
     alloc: Global,
     rows: &R,

@@ -25,7 +25,7 @@ impl Model for RowSet {
 }
 
 impl RowSet {
-    /// No rows.
+    /// The set without rows. It takes no memory.
     pub(crate) fn new(alloc: Global) -> RowSet
         ensures { result ≡ [] }
     {
@@ -57,7 +57,7 @@ impl RowSet {
         }
     }
 
-    /// The rows.
+    /// The rows, in the order in which they were put in.
     pub(crate) fn as_slice(&self) -> &[(u32, u32)]
         ensures { result.now ≡ self.now }
     {
@@ -68,8 +68,8 @@ impl RowSet {
 // Sets the bit of a row.
 fn put_bit(alloc: Global, sets: &mut Vec<OrdinalSet>, row: (u32, u32)) -> Result<(), AllocError>
     requires { row.1 < 2 ^ 32 - 1 }
-    ensures put { OnOk result ((t ordinal : ℕ) → Contains (get_or sets.new.items t []) ordinal ↔ (Contains (get_or sets.old.items t []) ordinal ⊎ ((t, ordinal) ≡ row))) }
-    ensures refused { OnErr result ((t ordinal : ℕ) → Contains (get_or sets.new.items t []) ordinal ↔ Contains (get_or sets.old.items t []) ordinal) }
+    ensures put { OnOk result ((type_index ordinal : ℕ) → Contains (get_or sets.new.items type_index []) ordinal ↔ (Contains (get_or sets.old.items type_index []) ordinal ⊎ ((type_index, ordinal) ≡ row))) }
+    ensures refused { OnErr result ((type_index ordinal : ℕ) → Contains (get_or sets.new.items type_index []) ordinal ↔ Contains (get_or sets.old.items type_index []) ordinal) }
 {
     widen(alloc, sets, row.0 as usize)?;
     sets[row.0 as usize].insert(row.1)
@@ -77,7 +77,7 @@ fn put_bit(alloc: Global, sets: &mut Vec<OrdinalSet>, row: (u32, u32)) -> Result
 
 // Puts empty sets behind the others until there is one at a place.
 fn widen(alloc: Global, sets: &mut Vec<OrdinalSet>, place: usize) -> Result<(), AllocError>
-    ensures same { (t : ℕ) → get_or sets.new.items t [] ≡ get_or sets.old.items t [] }
+    ensures same { (type_index : ℕ) → get_or sets.new.items type_index [] ≡ get_or sets.old.items type_index [] }
     ensures there { OnOk result (place < length sets.new.items) }
 {
     while sets.len() <= place {

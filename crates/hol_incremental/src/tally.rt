@@ -31,7 +31,7 @@ impl Tally {
         })
     }
 
-    /// The same once more.
+    /// A copy of the tally, with its counts and its sums.
     pub(crate) fn copy(&self, alloc: Global) -> Result<Tally, AllocError>
         ensures counts { IfOk result (λ copy. copy.counts ≡ self.now.counts) }
         ensures sums { IfOk result (λ copy. copy.sums.items ≡ self.now.sums.items) }

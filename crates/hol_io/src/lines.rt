@@ -88,17 +88,17 @@ impl Model for Lines {
 
     ghost Value = { Reading };
 
-    ghost view = { λ l. record {
-      line = (if l.lends then Some l.window.line else None);
-      long = l.long;
-      pending = l.window.pending;
-      taken = l.taken + (if l.over then 1 else 0);
-      line_max = l.line_max;
-      budget = l.budget;
-      ended = l.ended;
+    ghost view = { λ lines. record {
+      line = (if lines.lends then Some lines.window.line else None);
+      long = lines.long;
+      pending = lines.window.pending;
+      taken = lines.taken + (if lines.over then 1 else 0);
+      line_max = lines.line_max;
+      budget = lines.budget;
+      ended = lines.ended;
     } };
 
-    ghost invariant = { λ l. (l.taken ≤ l.budget) × (l.over ≡ true → l.taken ≡ l.budget) };
+    ghost invariant = { λ lines. (lines.taken ≤ lines.budget) × (lines.over ≡ true → lines.taken ≡ lines.budget) };
 }
 
 impl Lines {
@@ -231,7 +231,7 @@ impl Lines {
         }
     }
 
-    // The same, where no line is lent, and the source has not given its end.
+    // What comes next of the lines of the input, which is read on as far as that takes; no line is lent, and the source has not given its end.
     #[tactic(auto, using(crate::proofs::Told::ends))]
     fn next_turn<I: Source>(&mut self, input: &mut I) -> Result<Turn, LineFault>
         requires line { self.old.line ≡ None }
@@ -280,7 +280,7 @@ impl Lines {
         self.held_turn()
     }
 
-    // The same, where no line is lent.
+    // What comes next of the lines of the input where the bytes that were taken tell it, or `None`; no line is lent.
     fn held_turn(&mut self) -> Option<Turn>
         requires { self.old.line ≡ None }
         ensures tells { (left : Option (List ℕ)) → MatchOption result (Carries self.old left self.new left)

@@ -41,7 +41,7 @@ pub fn parse_name(text: &str) -> Option<BlobName>
     read_name(text)
 }
 
-// The same, kind by kind.
+// The name that a text is of, tried kind by kind; `None` exactly where it is of none.
 #[tactic(auto, using(crate::proofs::NameKinds::kinds))]
 fn read_name(text: &str) -> Option<BlobName>
     ensures { TellsName text.now result }

@@ -29,13 +29,13 @@ impl Model for Window {
 
     ghost Value = { Window };
 
-    ghost view = { λ w. record {
-      line = slice_range w.bytes.items w.line w.line_end;
-      pending = slice_range w.bytes.items w.at w.end;
-      room = vec_len w.bytes - w.end;
+    ghost view = { λ window. record {
+      line = slice_range window.bytes.items window.line window.line_end;
+      pending = slice_range window.bytes.items window.at window.end;
+      room = vec_len window.bytes - window.end;
     } };
 
-    ghost invariant = { λ w. (w.line ≤ w.line_end) × (w.line_end ≤ vec_len w.bytes) × (w.at ≤ w.end) × (w.end ≤ vec_len w.bytes) };
+    ghost invariant = { λ window. (window.line ≤ window.line_end) × (window.line_end ≤ vec_len window.bytes) × (window.at ≤ window.end) × (window.end ≤ vec_len window.bytes) };
 }
 
 impl Window {

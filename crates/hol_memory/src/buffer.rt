@@ -13,7 +13,8 @@ pub(crate) fn place(buf: &mut [u8], bytes: &[u8]) -> usize
     count
 }
 
-// The same of the bytes from a place on, of which there are none past the end.
+// Copies bytes from a place on to the front of the buffer, as many as there are and as fit, and gives their number. Past the end there are none; the rest of
+// the buffer stays.
 pub(crate) fn place_from(buf: &mut [u8], bytes: &[u8], at: u64) -> usize
     ensures count { result ≡ min (length buf.old) (length bytes.now - at) }
     ensures placed { take result buf.new ≡ take result (drop at bytes.now) }

@@ -367,7 +367,7 @@ fn version(value: &Value) -> Result<u64, OrderFault>
 // The whole number that a value is.
 #[tactic(auto, using(crate::proofs::Wholes::whole_number))]
 fn whole(value: &Value) -> Option<u64>
-    ensures { MatchOption result ((n : ℕ) → whole_data n ≢ view value.now) (λ n. whole_data n ≡ view value.now) }
+    ensures { MatchOption result ((found : ℕ) → whole_data found ≢ view value.now) (λ found. whole_data found ≡ view value.now) }
 {
     value.as_u64()
 }

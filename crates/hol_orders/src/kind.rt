@@ -1,7 +1,7 @@
 //! The kinds of orders.
 ghost use Rattle.hol_orders.specs.Kind.{TellsKind};
 
-/// Which order it is.
+/// Which order a line is, told by its word alone.
 #[derive(Clone, Copy, Debug, PartialEq, Eq)]
 pub enum Kind {
     /// Makes a new producer.

@@ -25,7 +25,7 @@ use std::alloc::{AllocError, AllocFailed, Global};
 pub type Versions = List<u64>;
 
 /// What a cycle asks for: the next state.
-#[derive(Debug, Drop)]
+#[derive(Drop)]
 pub struct NextState {
     /// The version that it is to have.
     pub version: u64,
@@ -38,7 +38,7 @@ pub struct NextState {
 }
 
 /// What a change asks for: the next state, as a change of the one before.
-#[derive(Debug, Drop)]
+#[derive(Drop)]
 pub struct StateChange {
     /// The version that it is to have.
     pub version: u64,
@@ -51,7 +51,7 @@ pub struct StateChange {
 }
 
 /// What one line of a script asks for. Versions are numbers from 1 to 2^63 - 1.
-#[derive(Debug, Drop)]
+#[derive(Drop)]
 pub enum Order {
     /// `{"model":[S1,S2]}`: makes a new producer of these schemas, which are still JSON.
     Model(Value),
@@ -136,23 +136,23 @@ pub enum Order {
     WalkIndex {
         /// The name of the type.
         type_name: Name,
-        /// The path.
+        /// The text of the path from the type, as it stands in the line.
         path: Name,
     },
     /// `{"walkfind":[type,path,value]}`: lists the rows that reach a value.
     WalkFind {
         /// The name of the type.
         type_name: Name,
-        /// The path.
+        /// The text of the path from the type, as it stands in the line.
         path: Name,
-        /// The value, still JSON.
+        /// The value at the end of the path, still JSON.
         value: Value,
     },
     /// `{"history":n}`: keeps up to n old states, 0 to 1,000.
     History(u32),
     /// `{"was":[V,type,o]}`: shows a row of the state that a version had.
     Was {
-        /// The version.
+        /// The version of the old state.
         version: u64,
         /// The name of the type.
         type_name: Name,
@@ -161,7 +161,7 @@ pub enum Order {
     },
     /// `{"wasget":[V,type,[values]]}`: shows the row that has this primary key in the state that a version had.
     WasGet {
-        /// The version.
+        /// The version of the old state.
         version: u64,
         /// The name of the type.
         type_name: Name,
@@ -232,7 +232,7 @@ impl OrderReader {
     }
 }
 
-/// The same of a line by itself.
+/// The order that a line is, without the newline, as a reader of its own reads it. `BadOrder` comes exactly where the line is no order.
 pub fn order_of(alloc: Global, line: &[u8]) -> Result<Order, OrderFault>
     ensures tells { TellsOrder line.now result }
     ensures found { (order : Order) → Orders line.now order
@@ -259,7 +259,7 @@ fn read_order(alloc: Global, scratch: &mut Scratch, line: &[u8]) -> Result<Order
     }
 }
 
-// The same of a line that is cut, where it is one of few parts.
+// The order of a line, which is cut where it is one of few parts, and else read whole.
 fn order_in_parts(alloc: Global, line: &[u8]) -> Result<Order, OrderFault>
     ensures { TellsOrder line.now result }
 {
@@ -272,7 +272,7 @@ fn order_in_parts(alloc: Global, line: &[u8]) -> Result<Order, OrderFault>
     }
 }
 
-// The same of a line that is read whole.
+// The order of a line that is read whole.
 fn order_in_json(alloc: Global, line: &[u8]) -> Result<Order, OrderFault>
     ensures { TellsOrder line.now result }
 {

@@ -45,14 +45,14 @@ NamesOnly table t parts ordinal named = (1 < length parts) × (named_at table t 
 
 -- Each row that names an ordinal that was met, and no other, reaches the values of the run that is kept for it, and no others.
 abbrev pub AreMet : List Schema → Table → ℕ → List WalkPart → List (ℕ × Value) → List (Option Run) → Type 0
-AreMet schemas table t parts entries met =
+AreMet schemas table type_index parts entries met =
     (named : ℕ) (run : Run) → met_at met named ≡ Some run
-    → (run.start + run.count ≤ length entries) × ((ordinal : ℕ) → NamesOnly table t parts ordinal named → AreReached schemas table t parts ordinal (run_values entries run))
+    → (run.start + run.count ≤ length entries) × ((ordinal : ℕ) → NamesOnly table type_index parts ordinal named → AreReached schemas table type_index parts ordinal (run_values entries run))
 
 -- The entries of one row stand behind those of before: a value each that the row reaches.
-pub record IsRowPushed (schemas : List Schema) (table : Table) (t : ℕ) (parts : List WalkPart) (owner : ℕ) (before after : List (ℕ × Value)) : Type 0 where
+pub record IsRowPushed (schemas : List Schema) (table : Table) (type_index : ℕ) (parts : List WalkPart) (owner : ℕ) (before after : List (ℕ × Value)) : Type 0 where
   pub values : List Value
-  pub reached : AreReached schemas table t parts owner values
+  pub reached : AreReached schemas table type_index parts owner values
   pub behind : after ≡ before ++ map (λ value. (owner, value)) values
 
 -- The row reaches so many values that there are more than so many entries with them.

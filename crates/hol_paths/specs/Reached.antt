@@ -13,18 +13,18 @@ use Rattle.row_model.specs.Row.{Rises}
 use Rattle.row_model.specs.Table.{Table, row_at}
 
 -- These are the values that the row under an ordinal reaches, each once.
-pub record AreReached (schemas : List Schema) (table : Table) (t : ℕ) (parts : List WalkPart) (ordinal : ℕ) (values : List Value) : Type 0 where
+pub record AreReached (schemas : List Schema) (table : Table) (type_index : ℕ) (parts : List WalkPart) (ordinal : ℕ) (values : List Value) : Type 0 where
   pub once : AllPairs (λ earlier later. earlier ≢ later) values
-  pub are : (value : Value) → Contains values value ↔ Reach schemas table t parts ordinal value
+  pub are : (value : Value) → Contains values value ↔ Reach schemas table type_index parts ordinal value
 
 -- The row under one of some ordinals reaches the value.
 abbrev pub ReachFrom : List Schema → Table → ℕ → List WalkPart → List ℕ → Value → Type 0
 ReachFrom schemas table t parts ordinals value = (ordinal : ℕ) × Contains ordinals ordinal × Reach schemas table t parts ordinal value
 
 -- These are the values that the rows under some ordinals reach, each once.
-pub record AreReachedFrom (schemas : List Schema) (table : Table) (t : ℕ) (parts : List WalkPart) (ordinals : List ℕ) (values : List Value) : Type 0 where
+pub record AreReachedFrom (schemas : List Schema) (table : Table) (type_index : ℕ) (parts : List WalkPart) (ordinals : List ℕ) (values : List Value) : Type 0 where
   pub once : AllPairs (λ earlier later. earlier ≢ later) values
-  pub are : (value : Value) → Contains values value ↔ ReachFrom schemas table t parts ordinals value
+  pub are : (value : Value) → Contains values value ↔ ReachFrom schemas table type_index parts ordinals value
 
 -- ---- one level
 

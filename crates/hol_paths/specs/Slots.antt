@@ -119,6 +119,6 @@ pub record AreLeaving (slots : List Slot) (removed leaving : List ℕ) : Type 0 
 
 -- Some rows reach more values than so many, a value that two of them reach counted for both.
 abbrev pub ReachMany : List Schema → Table → ℕ → List WalkPart → List ℕ → ℕ → Type 0
-ReachMany schemas table t parts rows most =
+ReachMany schemas table type_index parts rows most =
     (entries : List Entry) × AllPairs (λ earlier later. earlier ≢ later) entries
-    × ((ordinal : ℕ) (value : Value) → Contains entries (ordinal, value) → Contains rows ordinal × Reach schemas table t parts ordinal value) × (most < length entries)
+    × ((ordinal : ℕ) (value : Value) → Contains entries (ordinal, value) → Contains rows ordinal × Reach schemas table type_index parts ordinal value) × (most < length entries)

@@ -45,22 +45,22 @@ pub record AreWith (entries : List Entry) (value : Value) (ordinals : List ℕ) 
 
 -- The rows have more entries along the parts than an index may keep: so many different pairs of a live ordinal and a value that its row reaches.
 abbrev pub HasManyEntries : List Schema → Table → ℕ → List WalkPart → Type 0
-HasManyEntries schemas table t parts =
+HasManyEntries schemas table type_index parts =
     (entries : List Entry) × AllPairs (λ earlier later. earlier ≢ later) entries
-    × ((ordinal : ℕ) (value : Value) → Contains entries (ordinal, value) → IsLive table t ordinal × Reach schemas table t parts ordinal value) × (number_of_limit Entries < length entries)
+    × ((ordinal : ℕ) (value : Value) → Contains entries (ordinal, value) → IsLive table type_index ordinal × Reach schemas table type_index parts ordinal value) × (number_of_limit Entries < length entries)
 
 -- ---- over a step
 
 -- What `reserve` asks: the live rows of a state are those of the entries without those that are removed and with those that are added, and each that stays
 -- reaches what it reached.
-pub record FollowsWalk (entries : List Entry) (schemas : List Schema) (table : Table) (t : ℕ) (parts : List WalkPart) (removed added : List ℕ) : Type 0 where
+pub record FollowsWalk (entries : List Entry) (schemas : List Schema) (table : Table) (type_index : ℕ) (parts : List WalkPart) (removed added : List ℕ) : Type 0 where
   pub once : AllPairs (λ earlier later. earlier ≢ later) entries
   pub removed_rise : Rises removed
   pub added_rise : Rises added
-  pub added_live : (ordinal : ℕ) → Contains added ordinal → IsLive table t ordinal
-  pub kept : (ordinal : ℕ) (value : Value) → Contains entries (ordinal, value) → ¬ Contains removed ordinal → IsLive table t ordinal × Reach schemas table t parts ordinal value
+  pub added_live : (ordinal : ℕ) → Contains added ordinal → IsLive table type_index ordinal
+  pub kept : (ordinal : ℕ) (value : Value) → Contains entries (ordinal, value) → ¬ Contains removed ordinal → IsLive table type_index ordinal × Reach schemas table type_index parts ordinal value
   pub apart : (ordinal : ℕ) (value : Value) → Contains entries (ordinal, value) → ¬ Contains added ordinal
-  pub stays : (ordinal : ℕ) (value : Value) → IsLive table t ordinal → Reach schemas table t parts ordinal value
+  pub stays : (ordinal : ℕ) (value : Value) → IsLive table type_index ordinal → Reach schemas table type_index parts ordinal value
       → (Contains entries (ordinal, value) × ¬ Contains removed ordinal) ⊎ Contains added ordinal
 
 -- What `build` and `reserve` may answer at any time: memory was refused.
@@ -74,9 +74,9 @@ CountsOwners entries count =
     (ordinals : List ℕ) × AllPairs (λ earlier later. earlier ≢ later) ordinals × ((ordinal : ℕ) → Contains ordinals ordinal ↔ ((value : Value) × Contains entries (ordinal, value))) × (count ≡ length ordinals)
 
 -- These are the entries of the rows that come.
-pub record AreAdded (schemas : List Schema) (table : Table) (t : ℕ) (parts : List WalkPart) (added : List ℕ) (entries : List Entry) : Type 0 where
+pub record AreAdded (schemas : List Schema) (table : Table) (type_index : ℕ) (parts : List WalkPart) (added : List ℕ) (entries : List Entry) : Type 0 where
   pub once : AllPairs (λ earlier later. earlier ≢ later) entries
-  pub are : (ordinal : ℕ) (value : Value) → Contains entries (ordinal, value) ↔ (Contains added ordinal × Reach schemas table t parts ordinal value)
+  pub are : (ordinal : ℕ) (value : Value) → Contains entries (ordinal, value) ↔ (Contains added ordinal × Reach schemas table type_index parts ordinal value)
 
 -- What `update` does: the entries of rows that are removed go, and those of rows that are added come.
 pub record IsTurned (entries : List Entry) (removed : List ℕ) (added turned : List Entry) : Type 0 where
@@ -84,13 +84,13 @@ pub record IsTurned (entries : List Entry) (removed : List ℕ) (added turned : 
   pub are : (ordinal : ℕ) (value : Value) → Contains turned (ordinal, value) ↔ ((Contains entries (ordinal, value) × ¬ Contains removed ordinal) ⊎ Contains added (ordinal, value))
 
 -- The live rows of a type in one state are those of another without those that are removed and with those that are added, which are new.
-pub record IsStepOf (old new : Table) (t : ℕ) (removed added : List ℕ) : Type 0 where
+pub record IsStepOf (old new : Table) (type_index : ℕ) (removed added : List ℕ) : Type 0 where
   pub removed_rise : Rises removed
   pub added_rise : Rises added
-  pub added_free : (ordinal : ℕ) → Contains added ordinal → ¬ IsLive old t ordinal
-  pub live : (ordinal : ℕ) → IsLive new t ordinal ↔ ((IsLive old t ordinal × ¬ Contains removed ordinal) ⊎ Contains added ordinal)
+  pub added_free : (ordinal : ℕ) → Contains added ordinal → ¬ IsLive old type_index ordinal
+  pub live : (ordinal : ℕ) → IsLive new type_index ordinal ↔ ((IsLive old type_index ordinal × ¬ Contains removed ordinal) ⊎ Contains added ordinal)
 
 -- These are the live ordinals of a type, rising.
-pub record AreLiveOf (table : Table) (t : ℕ) (ordinals : List ℕ) : Type 0 where
+pub record AreLiveOf (table : Table) (type_index : ℕ) (ordinals : List ℕ) : Type 0 where
   pub rising : Rises ordinals
-  pub are : (ordinal : ℕ) → Contains ordinals ordinal ↔ IsLive table t ordinal
+  pub are : (ordinal : ℕ) → Contains ordinals ordinal ↔ IsLive table type_index ordinal

@@ -10,23 +10,23 @@ ghost use Rattle.hol_paths.specs.Walked.{AreAdded, Entry, FollowsWalk, IsStepOf,
 
 /// A row that stays from one state to another that agrees with it reaches the same values in both: each row that it names stays too.
 pub fn kept_reach()
-    ensures { (schemas : List Schema) (old new : Table) (t ordinal : ℕ) (parts : List WalkPart) (value : Value)
+    ensures { (schemas : List Schema) (old new : Table) (type_index ordinal : ℕ) (parts : List WalkPart) (value : Value)
         → IsTableOf schemas old → IsTableOf schemas new → IsClosed schemas old → IsClosed schemas new → HaveOneRow old new
-        → IsLive old t ordinal → IsLive new t ordinal
-        → Reach schemas old t parts ordinal value ↔ Reach schemas new t parts ordinal value }
+        → IsLive old type_index ordinal → IsLive new type_index ordinal
+        → Reach schemas old type_index parts ordinal value ↔ Reach schemas new type_index parts ordinal value }
 {}
 
 /// A step between two states that agree gives what an index over the first one asks to be reserved for the second.
 pub fn step_followed()
-    ensures { (schemas : List Schema) (old new : Table) (t : ℕ) (parts : List WalkPart) (entries : List Entry) (removed added : List ℕ)
+    ensures { (schemas : List Schema) (old new : Table) (type_index : ℕ) (parts : List WalkPart) (entries : List Entry) (removed added : List ℕ)
         → IsTableOf schemas old → IsTableOf schemas new → IsClosed schemas old → IsClosed schemas new → HaveOneRow old new
-        → IsStepOf old new t removed added → AreEntries schemas old t parts entries
-        → FollowsWalk entries schemas new t parts removed added }
+        → IsStepOf old new type_index removed added → AreEntries schemas old type_index parts entries
+        → FollowsWalk entries schemas new type_index parts removed added }
 {}
 
 /// The entries that are kept and those that come are the entries of the next state.
 pub fn turned_entries()
-    ensures { (schemas : List Schema) (table : Table) (t : ℕ) (parts : List WalkPart) (entries came turned : List Entry) (removed added : List ℕ)
-        → FollowsWalk entries schemas table t parts removed added → AreAdded schemas table t parts added came
-        → IsTurned entries removed came turned → AreEntries schemas table t parts turned }
+    ensures { (schemas : List Schema) (table : Table) (type_index : ℕ) (parts : List WalkPart) (entries came turned : List Entry) (removed added : List ℕ)
+        → FollowsWalk entries schemas table type_index parts removed added → AreAdded schemas table type_index parts added came
+        → IsTurned entries removed came turned → AreEntries schemas table type_index parts turned }
 {}

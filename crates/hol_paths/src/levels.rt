@@ -90,7 +90,7 @@ pub(crate) fn values_of<R: ColumnRows>(
     }
 }
 
-/// The same of a field.
+/// The values that rows under live ordinals have in a field and that are not null, each once.
 fn field_values<R: ColumnRows>(
     alloc: Global,
     rows: &R,
@@ -131,7 +131,7 @@ fn own_values<R: ColumnRows>(
     Ok(values)
 }
 
-/// A value that is not null.
+/// The value, unless there is none or it is null.
 fn unless_null(value: Option<Value>) -> Option<Value>
     ensures { result ≡ not_null value }
 {

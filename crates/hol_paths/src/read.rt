@@ -31,7 +31,7 @@ pub fn read_walk<R: ColumnRows, L: Ledger>(
     reached_by(alloc, rows, path, ordinal)
 }
 
-/// The same. It counts no step.
+/// The values that the row under a live ordinal of a path's type reaches along the path, each once. The rows are closed, and it counts no step.
 pub(crate) fn reached_by<R: ColumnRows>(
     alloc: Global,
     rows: &R,

@@ -112,7 +112,7 @@ fn number_in(slots: &[Slot], place: usize) -> u32
     slots[place].number
 }
 
-/// Adds a slot.
+/// Adds a slot at the end.
 fn push_slot(coming: &mut Vec<Slot>, slot: Slot) -> Result<(), AllocError>
     ensures { OnOk result (coming.new.items ≡ coming.old.items ++ slot ∷ []) }
 {
@@ -190,8 +190,16 @@ fn push_row<R: ColumnRows>(
     ensures many { result ≡ Err Fault.Entries → ReachesMany (R.schemas rows.now) (R.table rows.now) path.now.type_index path.now.parts owner (length coming.old.items) most }
 {
     let parts = path.parts.as_slice();
-    let t = path.type_index;
-    let named = only_named(alloc, rows, column, t, parts, owner, met.as_slice())?;
+    let type_index = path.type_index;
+    let named = only_named(
+        alloc,
+        rows,
+        column,
+        type_index,
+        parts,
+        owner,
+        met.as_slice(),
+    )?;
     match run_through(met.as_slice(), named) {
         Some(kept) => push_met(owner, kept, most, coming),
         None => push_read(alloc, rows, path, owner, named, most, entries, met, coming),
@@ -265,7 +273,7 @@ fn count_owners(alloc: Global, slots: &[Slot]) -> Result<u64, AllocError>
     Ok(rising(owners).len() as u64)
 }
 
-/// The same entries, those of a value side by side: a walk along the chain of a value then goes through neighbouring slots.
+/// Sorts the entries that come, those of a value side by side: a walk along the chain of a value then goes through neighbouring slots.
 fn by_value(mut coming: Vec<Slot>) -> Result<Vec<Slot>, AllocError>
     ensures { IfOk result (λ sorted. IsPermutation coming.items sorted.items) }
 {
@@ -356,7 +364,7 @@ fn take_out_all(entries: &mut Entries, places: &[u32])
     }
 }
 
-/// Puts entries.
+/// Puts the entries that come behind those that are kept, for which there is room. It takes no memory.
 fn put_all(entries: &mut Entries, coming: &[Slot])
     requires known { AreKnown entries.old.values coming.now }
     requires room { length entries.old.slots + length coming.now ≤ entries.old.room }

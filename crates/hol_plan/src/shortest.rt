@@ -13,7 +13,7 @@ use hol_io::BlobName;
 use hol_varint::List;
 use std::alloc::{AllocError, Global};
 
-/// Names of blobs in an order.
+/// Names of blobs: those that a store lists, or those by which a version is reached, in the order in which they are taken.
 pub type BlobNames = List<BlobName>;
 
 // Shortest ways to a version over the listed deltas.

@@ -29,7 +29,7 @@ pub(crate) enum Begin {
     Behind(Start),
 }
 
-// The start at a version.
+// The start at a version; none where it is not among the versions, or no deltas lead on from it to the end.
 fn start_at(versions: &[u64], ways: &[Option<Way>], version: u64) -> Option<Start>
     requires { IsStrictlyIncreasing versions.now }
     ensures { TellsStart versions.now (way_at ways.now) version result }

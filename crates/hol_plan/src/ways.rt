@@ -60,7 +60,7 @@ fn steps_to(steps: &[Step], place: usize) -> &[Step]
     &steps[first..behind]
 }
 
-/// What is found from a place.
+/// The way that was found from a place; none where none was, or where there is no such place.
 pub(crate) fn found(ways: &[Option<Way>], place: usize) -> Option<Way>
     ensures { result ≡ way_at ways.now place }
 {

@@ -29,17 +29,17 @@ pub enum UtfFault {
 }
 
 impl From<AllocError> for UtfFault {
-    ghost from_gives = { λ _ e. e ≡ utf_memory };
+    ghost from_gives = { λ _ fault. fault ≡ utf_memory };
 
-    fn from(_e: AllocError) -> UtfFault {
+    fn from(_error: AllocError) -> UtfFault {
         UtfFault::Memory
     }
 }
 
 impl<T: Drop> From<AllocFailed<T>> for UtfFault {
-    ghost from_gives = { λ _ e. e ≡ utf_memory };
+    ghost from_gives = { λ _ fault. fault ≡ utf_memory };
 
-    fn from(_e: AllocFailed<T>) -> UtfFault {
+    fn from(_error: AllocFailed<T>) -> UtfFault {
         UtfFault::Memory
     }
 }
@@ -54,17 +54,17 @@ pub enum UnitsFault {
 }
 
 impl From<AllocError> for UnitsFault {
-    ghost from_gives = { λ _ e. e ≡ units_memory };
+    ghost from_gives = { λ _ fault. fault ≡ units_memory };
 
-    fn from(_e: AllocError) -> UnitsFault {
+    fn from(_error: AllocError) -> UnitsFault {
         UnitsFault::Memory
     }
 }
 
 impl<T: Drop> From<AllocFailed<T>> for UnitsFault {
-    ghost from_gives = { λ _ e. e ≡ units_memory };
+    ghost from_gives = { λ _ fault. fault ≡ units_memory };
 
-    fn from(_e: AllocFailed<T>) -> UnitsFault {
+    fn from(_error: AllocFailed<T>) -> UnitsFault {
         UnitsFault::Memory
     }
 }

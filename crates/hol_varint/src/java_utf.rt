@@ -130,7 +130,7 @@ pub fn put_utf(out: &mut Vec<u8>, units: &Units) -> Result<(), AllocError>
     written
 }
 
-// The same, but that a front of the text may stand at the end where memory is refused.
+// Writes a text at the end, its length in bytes first. Where memory is refused a front of the text may stand there, behind a length of 0.
 #[tactic(auto, using(crate::proofs::Runs::are_units))]
 fn push_utf(out: &mut Vec<u8>, units: &[u16]) -> Result<(), AllocError>
     requires { length (java_bytes units.now) < 2 ^ 16 }

@@ -4,7 +4,7 @@ use crate::list::List;
 /// The UTF-16 units of a text, which need not be well formed.
 pub type Units = List<u16>;
 
-/// Bytes.
+/// Bytes: the value of a BYTES field, or the variable bytes of all records of a field, one after another.
 pub type Octets = List<u8>;
 
 /// Ordinals of rows, or indexes of types or fields.

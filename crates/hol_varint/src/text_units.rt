@@ -25,7 +25,7 @@ pub fn put_units(out: &mut Vec<u8>, units: &Units) -> Result<(), AllocError>
     written
 }
 
-// The same, but that the first units may stand at the end where memory is refused.
+// Writes the bytes of a STRING at the end. Where memory is refused those of the first units may stand there.
 #[tactic(auto, using(crate::proofs::Runs::are_units, crate::proofs::AsciiUnits::ascii_bytes))]
 fn push_units(out: &mut Vec<u8>, units: &[u16]) -> Result<(), AllocError>
     ensures ok { OnOk result (out.new.items ≡ out.old.items ++ units_bytes units.now) }
@@ -159,7 +159,7 @@ pub fn units_of(alloc: Global, text: &str) -> Result<Units, AllocError>
     Ok(Units::from_vec(units))
 }
 
-// The same of a text of ASCII, whose units are its bytes.
+// The UTF-16 units of a text of ASCII, which are its bytes.
 fn ascii_units(alloc: Global, text: &str) -> Result<Vec<u16>, AllocError>
     requires { IsAscii text.now }
     ensures ok { IfOk result (λ units. units.items ≡ text_units text.now) }
@@ -173,7 +173,7 @@ fn ascii_units(alloc: Global, text: &str) -> Result<Vec<u16>, AllocError>
     Ok(units)
 }
 
-// The same of any text, character by character.
+// The UTF-16 units of any text, put together character by character.
 fn character_units(alloc: Global, text: &str) -> Result<Vec<u16>, AllocError>
     ensures ok { IfOk result (λ units. units.items ≡ text_units text.now) }
     ensures are { IfOk result (λ units. AreUnits units.items) }

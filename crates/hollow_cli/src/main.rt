@@ -12,7 +12,7 @@ use progress::Shown;
 use std::alloc::Global;
 use std::process::ExitCode;
 use std::rt::{Env, Files};
-use std::{env, io};
+use std::{env, io, mem};
 use usage::{HELP, UsageFault, VERSION};
 
 fn main(rt: HostRuntime) -> ExitCode {
@@ -91,5 +91,8 @@ fn served(rt: &HostRuntime, folder: &str, words: &[String]) -> u8 {
         ),
         _ => {}
     }
+
+    // The process ends here, and the system takes its memory back at once: no row is given back by itself.
+    mem::forget(keep);
     status
 }

@@ -40,10 +40,10 @@ abbrev pub IsGivenType : List Schema → AskedChange → ℕ → Type 0
 IsGivenType schemas asked t = IsSomeAnd (slice_get schemas t) (λ schema. Contains (names_of asked.put) schema.name ⊎ Contains (names_of asked.remove) schema.name)
 
 -- The first type, in model order, that one of the two lists names and that has no primary key.
-pub record IsFirstUnkeyed (schemas : List Schema) (asked : AskedChange) (t : ℕ) : Type 0 where
-  pub named : IsGivenType schemas asked t
-  pub unkeyed : ¬ IsKeyed schemas t
-  pub earlier : (u : ℕ) → u < t → IsGivenType schemas asked u → IsKeyed schemas u
+pub record IsFirstUnkeyed (schemas : List Schema) (asked : AskedChange) (type_index : ℕ) : Type 0 where
+  pub named : IsGivenType schemas asked type_index
+  pub unkeyed : ¬ IsKeyed schemas type_index
+  pub earlier : (before : ℕ) → before < type_index → IsGivenType schemas asked before → IsKeyed schemas before
 
 -- ---- the records that are put
 
@@ -52,13 +52,13 @@ abbrev pub HasKey : List Schema → Entry → List Value → Type 0
 HasKey schemas entry key = (tree : PlainTree) × (read_tree schemas entry.type_index entry.value ≡ Ok tree) × IsTreeKey schemas entry.type_index tree key
 
 -- The first record that has no key has this type and place.
-pub record IsFirstKeyless (schemas : List Schema) (recorded : List Entry) (t place : ℕ) : Type 0 where
+pub record IsFirstKeyless (schemas : List Schema) (recorded : List Entry) (type_index place : ℕ) : Type 0 where
   pub before : List Entry
   pub value : Data
   pub rest : List Entry
-  pub split : recorded ≡ before ++ record { type_index = t; place = place; value = value } ∷ rest
+  pub split : recorded ≡ before ++ record { type_index = type_index; place = place; value = value } ∷ rest
   pub keyed : All (λ entry. (key : List Value) × HasKey schemas entry key) before
-  pub keyless : (key : List Value) → ¬ HasKey schemas (record { type_index = t; place = place; value = value }) key
+  pub keyless : (key : List Value) → ¬ HasKey schemas (record { type_index = type_index; place = place; value = value }) key
 
 -- the record of a type at a place has this key
 abbrev pub HasKeyAt : List Schema → List Entry → ℕ → ℕ → List Value → Type 0
@@ -69,11 +69,11 @@ abbrev pub HaveOneKey : List Schema → List Entry → ℕ → ℕ → ℕ → T
 HaveOneKey schemas recorded t first second = (first < second) × ((key : List Value) × HasKeyAt schemas recorded t first key × HasKeyAt schemas recorded t second key)
 
 -- Those that are named: of the first type in which two have one key, the least second, and then the least first.
-pub record IsFirstTwice (schemas : List Schema) (recorded : List Entry) (t first second : ℕ) : Type 0 where
-  pub twice : HaveOneKey schemas recorded t first second
-  pub types : (u a b : ℕ) → u < t → ¬ HaveOneKey schemas recorded u a b
-  pub seconds : (a b : ℕ) → HaveOneKey schemas recorded t a b → second ≤ b
-  pub firsts : (a : ℕ) → HaveOneKey schemas recorded t a second → first ≤ a
+pub record IsFirstTwice (schemas : List Schema) (recorded : List Entry) (type_index first second : ℕ) : Type 0 where
+  pub twice : HaveOneKey schemas recorded type_index first second
+  pub types : (before one other : ℕ) → before < type_index → ¬ HaveOneKey schemas recorded before one other
+  pub seconds : (one other : ℕ) → HaveOneKey schemas recorded type_index one other → second ≤ other
+  pub firsts : (one : ℕ) → HaveOneKey schemas recorded type_index one second → first ≤ one
 
 -- These are the records that are put: all types have a primary key, and each record gives a tree.
 abbrev pub ArePut : List Schema → AskedChange → List (ℕ × PlainTree) → Type 0
@@ -86,15 +86,15 @@ ArePut schemas asked puts = AreAllKeyed schemas asked × AreRead schemas (entrie
 abbrev pub IsNoChange : List Schema → AskedChange → Refusal → Type 0
 IsNoChange schemas asked (NoType name) = IsFirstUnknown schemas asked.put name ⊎ (AreTypes schemas asked.put × IsFirstUnknown schemas asked.remove name)
 IsNoChange schemas asked (WrongKind name) =
-    AreAllTypes schemas asked × ((t : ℕ) × IsFirstUnkeyed schemas asked t × IsOfName schemas t name × ¬ HasShape IsObject schemas t)
-IsNoChange schemas asked (BadPath path) = AreAllTypes schemas asked × (path ≡ []) × ((t : ℕ) × IsFirstUnkeyed schemas asked t × HasShape IsObject schemas t)
+    AreAllTypes schemas asked × ((type_index : ℕ) × IsFirstUnkeyed schemas asked type_index × IsOfName schemas type_index name × ¬ HasShape IsObject schemas type_index)
+IsNoChange schemas asked (BadPath path) = AreAllTypes schemas asked × (path ≡ []) × ((type_index : ℕ) × IsFirstUnkeyed schemas asked type_index × HasShape IsObject schemas type_index)
 IsNoChange schemas asked (BadRecord fault) =
-    AreAllKeyed schemas asked × ((t : ℕ) × IsOfName schemas t fault.type_name × IsFirstUnread schemas (entries schemas asked.put) t fault.index fault.reason)
+    AreAllKeyed schemas asked × ((type_index : ℕ) × IsOfName schemas type_index fault.type_name × IsFirstUnread schemas (entries schemas asked.put) type_index fault.index fault.reason)
 IsNoChange schemas asked (NoKey name place) =
-    (puts : List (ℕ × PlainTree)) × ArePut schemas asked puts × ((t : ℕ) × IsOfName schemas t name × IsFirstKeyless schemas (entries schemas asked.put) t place)
+    (puts : List (ℕ × PlainTree)) × ArePut schemas asked puts × ((type_index : ℕ) × IsOfName schemas type_index name × IsFirstKeyless schemas (entries schemas asked.put) type_index place)
 IsNoChange schemas asked (KeyTwice keys) =
     (puts : List (ℕ × PlainTree)) × ArePut schemas asked puts × HaveKeys schemas puts
-    × ((t : ℕ) × IsOfName schemas t keys.type_name × IsFirstTwice schemas (entries schemas asked.put) t keys.first keys.second)
+    × ((type_index : ℕ) × IsOfName schemas type_index keys.type_name × IsFirstTwice schemas (entries schemas asked.put) type_index keys.first keys.second)
 IsNoChange schemas asked BadKey =
     (puts : List (ℕ × PlainTree)) × ArePut schemas asked puts × HaveKeys schemas puts × HaveOwnKeys schemas puts
     × ((removes : Keys) → ¬ SpellsKeys schemas asked.remove removes)

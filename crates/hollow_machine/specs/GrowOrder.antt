@@ -24,13 +24,13 @@ grown_producer schemas last = record last { model = schemas; rows = view schemas
 abbrev pub GrowsNot : Data → List ℕ → Published → Type 0
 GrowsNot value name last =
     (schemas : List Schema) × StandsFor value schemas × IsModel schemas
-    × (t : ℕ) × IsNotGrown last.model schemas t × IsSomeAnd (slice_get last.model t) (λ schema. schema.name ≡ name)
+    × (type_index : ℕ) × IsNotGrown last.model schemas type_index × IsSomeAnd (slice_get last.model type_index) (λ schema. schema.name ≡ name)
 
 -- Why the order is refused: there is no producer; or there is one, and this is the first rule that is broken, and the name of the first type that breaks it;
 -- or none is broken, and the model does not grow the producer's own in the type of this name.
 abbrev pub GrowRefusal : Machine → Data → Refusal → Type 0
 GrowRefusal machine value NoModel = machine.producer ≡ None
-GrowRefusal machine value (BadModel rule name) = IsSome machine.producer × ((t : ℕ) × BreaksRule value rule t × IsNamed value t name)
+GrowRefusal machine value (BadModel rule name) = IsSome machine.producer × ((type_index : ℕ) × BreaksRule value rule type_index × IsNamed value type_index name)
 GrowRefusal machine value (NotGrown name) = IsSomeAnd machine.producer (GrowsNot value name)
 GrowRefusal machine value _ = ⊥
 

@@ -49,9 +49,9 @@ AnswersOld (Some now) current past version name Answers answer = AnswersThen now
 
 -- What `was` answers of a type: the record that a version had under an ordinal.
 abbrev pub ShowsOld : Name → ℕ → Table → Position → ℕ → Reply → Type 0
-ShowsOld name ordinal table now t (reply.Was value) = ShowsRowIn table ordinal now t (view value)
-ShowsOld name ordinal table now t (reply.Refused refusal) = RowRefusalIn table name ordinal now t refusal
-ShowsOld name ordinal table now t _ = ⊥
+ShowsOld name ordinal table now type_index (reply.Was value) = ShowsRowIn table ordinal now type_index (view value)
+ShowsOld name ordinal table now type_index (reply.Refused refusal) = RowRefusalIn table name ordinal now type_index refusal
+ShowsOld name ordinal table now type_index _ = ⊥
 
 abbrev pub WasReply : Option Position → Option ℕ → List (ℕ × Table) → ℕ → Name → ℕ → Reply → Type 0
 WasReply consumer current past version name ordinal answer = AnswersOld consumer current past version name (ShowsOld name ordinal) answer
@@ -65,26 +65,26 @@ HasPrimaryKey now t paths = HasShape IsObject now.schemas t × AreKeyPaths now.s
 
 -- These are the live ordinals of a type of a table whose rows have the primary key that the JSON spells.
 abbrev pub HaveKey : Data → Table → Position → ℕ → List ℕ → Type 0
-HaveKey values table now t ordinals =
-    (paths : List Path) × HasPrimaryKey now t paths × ((key : List Value) × SpellsKey now.schemas paths values key × AreMatches now.schemas table t paths key ordinals)
+HaveKey values table now type_index ordinals =
+    (paths : List Path) × HasPrimaryKey now type_index paths × ((key : List Value) × SpellsKey now.schemas paths values key × AreMatches now.schemas table type_index paths key ordinals)
 
 -- Why the record with a primary key is not shown: the JSON spells no key; no row has the key, or two or more have it, of which the first two are told; the
 -- record has too many nodes; or there is no such key.
 abbrev pub OldKeyRefusal : Name → Data → Table → Position → ℕ → Refusal → Type 0
-OldKeyRefusal name values table now t BadKey = (paths : List Path) × HasPrimaryKey now t paths × ((key : List Value) → ¬ SpellsKey now.schemas paths values key)
-OldKeyRefusal name values table now t NoMatch = HaveKey values table now t []
-OldKeyRefusal name values table now t (Ambiguous first second) = (rest : List ℕ) × HaveKey values table now t (first ∷ second ∷ rest)
-OldKeyRefusal name values table now t (TooLarge Nodes) =
-    (ordinal : ℕ) × HaveKey values table now t (ordinal ∷ []) × (number_of_limit Nodes < node_count (record_at now table t ordinal))
-OldKeyRefusal name values table now t refusal = PathsRefusal now.schemas t name [] refusal
+OldKeyRefusal name values table now type_index BadKey = (paths : List Path) × HasPrimaryKey now type_index paths × ((key : List Value) → ¬ SpellsKey now.schemas paths values key)
+OldKeyRefusal name values table now type_index NoMatch = HaveKey values table now type_index []
+OldKeyRefusal name values table now type_index (Ambiguous first second) = (rest : List ℕ) × HaveKey values table now type_index (first ∷ second ∷ rest)
+OldKeyRefusal name values table now type_index (TooLarge Nodes) =
+    (ordinal : ℕ) × HaveKey values table now type_index (ordinal ∷ []) × (number_of_limit Nodes < node_count (record_at now table type_index ordinal))
+OldKeyRefusal name values table now type_index refusal = PathsRefusal now.schemas type_index name [] refusal
 
 -- What `wasget` answers of a type: the one record of a version that has the primary key, and its ordinal.
 abbrev pub ShowsOldKey : Name → Data → Table → Position → ℕ → Reply → Type 0
-ShowsOldKey name values table now t (reply.WasGet ordinal value) =
-    HaveKey values table now t (ordinal ∷ []) × (node_count (record_at now table t ordinal) ≤ number_of_limit Nodes)
-    × PrintsTree now.schemas t (record_at now table t ordinal) (view value)
-ShowsOldKey name values table now t (reply.Refused refusal) = OldKeyRefusal name values table now t refusal
-ShowsOldKey name values table now t _ = ⊥
+ShowsOldKey name values table now type_index (reply.WasGet ordinal value) =
+    HaveKey values table now type_index (ordinal ∷ []) × (node_count (record_at now table type_index ordinal) ≤ number_of_limit Nodes)
+    × PrintsTree now.schemas type_index (record_at now table type_index ordinal) (view value)
+ShowsOldKey name values table now type_index (reply.Refused refusal) = OldKeyRefusal name values table now type_index refusal
+ShowsOldKey name values table now type_index _ = ⊥
 
 abbrev pub WasGetReply : Option Position → Option ℕ → List (ℕ × Table) → ℕ → Name → Data → Reply → Type 0
 WasGetReply consumer current past version name values answer = AnswersOld consumer current past version name (ShowsOldKey name values) answer

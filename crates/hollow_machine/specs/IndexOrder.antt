@@ -17,9 +17,9 @@ use Rattle.hollow_machine.specs.Forms.{OrderForm, moving}
 
 -- Why no index of the type at an index is kept: there is no such key; or there is no room.
 abbrev pub RefusesIndex : Name → List (List ℕ) → Position → ℕ → Refusal → Type 0
-RefusesIndex name texts now t (TooLarge Indexes) =
-    HasShape IsObject now.schemas t × ((paths : List Path) × AreKeyPaths now.schemas t texts paths × HasNoRoom now (index_by t paths))
-RefusesIndex name texts now t refusal = PathsRefusal now.schemas t name texts refusal
+RefusesIndex name texts now type_index (TooLarge Indexes) =
+    HasShape IsObject now.schemas type_index × ((paths : List Path) × AreKeyPaths now.schemas type_index texts paths × HasNoRoom now (index_by type_index paths))
+RefusesIndex name texts now type_index refusal = PathsRefusal now.schemas type_index name texts refusal
 
 -- Why the order is refused: the consumer has no state, its model has no such type, or what there is to the type.
 abbrev pub IndexRefusal : Option Position → Name → List (List ℕ) → Refusal → Type 0
@@ -31,9 +31,9 @@ IndexRefusal consumer name texts refusal =
 -- The consumer keeps the index of the type by the paths, and so many live rows have a key; or the order is refused and all stays.
 abbrev pub IndexStep : Machine → Name → List (List ℕ) → Reply → Machine → Type 0
 IndexStep machine name texts (reply.Index keys) next =
-    IsSomeAnd machine.consumer (λ now. IsSomeAnd (index_of_type now.schemas name) (λ t. HasShape IsObject now.schemas t
-    × ((paths : List Path) × AreKeyPaths now.schemas t texts paths × CountsKeyed now (index_by t paths) keys
-    × ((after : List Index) × KeepsIndex now.indexes (index_by t paths) after × (next ≡ with_consumer machine (Some (record now { indexes = after })))))))
+    IsSomeAnd machine.consumer (λ now. IsSomeAnd (index_of_type now.schemas name) (λ type_index. HasShape IsObject now.schemas type_index
+    × ((paths : List Path) × AreKeyPaths now.schemas type_index texts paths × CountsKeyed now (index_by type_index paths) keys
+    × ((after : List Index) × KeepsIndex now.indexes (index_by type_index paths) after × (next ≡ with_consumer machine (Some (record now { indexes = after })))))))
 IndexStep machine name texts (reply.Refused refusal) next = IndexRefusal machine.consumer name texts refusal × (next ≡ machine)
 IndexStep machine name texts _ next = ⊥
 

@@ -27,42 +27,42 @@ IsKept texts now t paths = HasShape IsObject now.schemas t × AreKeyPaths now.sc
 
 -- These are the live ordinals of a type whose rows have the key that the JSON spells, along the paths of these texts, of which an index is kept.
 abbrev pub FindsUnder : List (List ℕ) → Data → Position → ℕ → List ℕ → Type 0
-FindsUnder texts values now t ordinals =
-    (paths : List Path) × IsKept texts now t paths
-    × ((key : List Value) × SpellsKey now.schemas paths values key × AreMatches now.schemas (rows_now now) t paths key ordinals)
+FindsUnder texts values now type_index ordinals =
+    (paths : List Path) × IsKept texts now type_index paths
+    × ((key : List Value) × SpellsKey now.schemas paths values key × AreMatches now.schemas (rows_now now) type_index paths key ordinals)
 
 -- Why no rows are looked up: there is no such key; no index is kept; or the JSON spells no key.
 abbrev pub LookUpRefusal : Name → List (List ℕ) → Data → Position → ℕ → Refusal → Type 0
-LookUpRefusal name texts values now t NoIndex =
-    HasShape IsObject now.schemas t × ((paths : List Path) × AreKeyPaths now.schemas t texts paths × ¬ Contains now.indexes (index_by t paths))
-LookUpRefusal name texts values now t BadKey =
-    (paths : List Path) × IsKept texts now t paths × ((key : List Value) → ¬ SpellsKey now.schemas paths values key)
-LookUpRefusal name texts values now t refusal = PathsRefusal now.schemas t name texts refusal
+LookUpRefusal name texts values now type_index NoIndex =
+    HasShape IsObject now.schemas type_index × ((paths : List Path) × AreKeyPaths now.schemas type_index texts paths × ¬ Contains now.indexes (index_by type_index paths))
+LookUpRefusal name texts values now type_index BadKey =
+    (paths : List Path) × IsKept texts now type_index paths × ((key : List Value) → ¬ SpellsKey now.schemas paths values key)
+LookUpRefusal name texts values now type_index refusal = PathsRefusal now.schemas type_index name texts refusal
 
 -- What `find` answers of a type: the ordinals of the rows that have the key.
 abbrev pub ListsFound : Name → List (List ℕ) → Data → Position → ℕ → Reply → Type 0
-ListsFound name texts values now t (reply.Find ordinals) = FindsUnder texts values now t ordinals
-ListsFound name texts values now t (reply.Refused refusal) = LookUpRefusal name texts values now t refusal
-ListsFound name texts values now t _ = ⊥
+ListsFound name texts values now type_index (reply.Find ordinals) = FindsUnder texts values now type_index ordinals
+ListsFound name texts values now type_index (reply.Refused refusal) = LookUpRefusal name texts values now type_index refusal
+ListsFound name texts values now type_index _ = ⊥
 
 abbrev pub FindReply : Option Position → Name → List (List ℕ) → Data → Reply → Type 0
 FindReply consumer name texts values answer = AnswersOf consumer name (ListsFound name texts values) answer
 
 -- Why the record with a key is not shown: no row has the key, or two or more have it, of which the first two are told; or it has too many nodes.
 abbrev pub GetRefusal : Name → Data → Position → ℕ → Refusal → Type 0
-GetRefusal name values now t NoMatch = FindsUnder [] values now t []
-GetRefusal name values now t (Ambiguous first second) = (rest : List ℕ) × FindsUnder [] values now t (first ∷ second ∷ rest)
-GetRefusal name values now t (TooLarge Nodes) =
-    (ordinal : ℕ) × FindsUnder [] values now t (ordinal ∷ []) × (number_of_limit Nodes < node_count (record_at now (rows_now now) t ordinal))
-GetRefusal name values now t refusal = LookUpRefusal name [] values now t refusal
+GetRefusal name values now type_index NoMatch = FindsUnder [] values now type_index []
+GetRefusal name values now type_index (Ambiguous first second) = (rest : List ℕ) × FindsUnder [] values now type_index (first ∷ second ∷ rest)
+GetRefusal name values now type_index (TooLarge Nodes) =
+    (ordinal : ℕ) × FindsUnder [] values now type_index (ordinal ∷ []) × (number_of_limit Nodes < node_count (record_at now (rows_now now) type_index ordinal))
+GetRefusal name values now type_index refusal = LookUpRefusal name [] values now type_index refusal
 
 -- What `get` answers of a type: the one record that has the primary key, and its ordinal.
 abbrev pub ShowsFound : Name → Data → Position → ℕ → Reply → Type 0
-ShowsFound name values now t (reply.Get ordinal value) =
-    FindsUnder [] values now t (ordinal ∷ []) × (node_count (record_at now (rows_now now) t ordinal) ≤ number_of_limit Nodes)
-    × PrintsTree now.schemas t (record_at now (rows_now now) t ordinal) (view value)
-ShowsFound name values now t (reply.Refused refusal) = GetRefusal name values now t refusal
-ShowsFound name values now t _ = ⊥
+ShowsFound name values now type_index (reply.Get ordinal value) =
+    FindsUnder [] values now type_index (ordinal ∷ []) × (node_count (record_at now (rows_now now) type_index ordinal) ≤ number_of_limit Nodes)
+    × PrintsTree now.schemas type_index (record_at now (rows_now now) type_index ordinal) (view value)
+ShowsFound name values now type_index (reply.Refused refusal) = GetRefusal name values now type_index refusal
+ShowsFound name values now type_index _ = ⊥
 
 abbrev pub GetReply : Option Position → Name → Data → Reply → Type 0
 GetReply consumer name values answer = AnswersOf consumer name (ShowsFound name values) answer

@@ -55,22 +55,22 @@ HasKeyTexts schemas t texts asked = IsSomeAnd (slice_get schemas t) (λ schema. 
 
 -- These are the paths of the key: each text resolves to its path.
 abbrev pub AreKeyPaths : List Schema → ℕ → List (List ℕ) → List Path → Type 0
-AreKeyPaths schemas t texts paths =
-    (asked : List (List ℕ)) × HasKeyTexts schemas t texts (Some asked) × AllZip (λ text path. Resolves schemas t text path) asked paths
+AreKeyPaths schemas type_index texts paths =
+    (asked : List (List ℕ)) × HasKeyTexts schemas type_index texts (Some asked) × AllZip (λ text path. Resolves schemas type_index text path) asked paths
 
 -- The first of some texts that resolves to no path.
 abbrev pub IsFirstLost : List Schema → ℕ → List (List ℕ) → List ℕ → Type 0
-IsFirstLost schemas t [] lost = ⊥
-IsFirstLost schemas t (text ∷ texts) lost =
-    ((lost ≡ text) × ((path : Path) → ¬ Resolves schemas t text path)) ⊎ (((path : Path) × Resolves schemas t text path) × IsFirstLost schemas t texts lost)
+IsFirstLost schemas type_index [] lost = ⊥
+IsFirstLost schemas type_index (text ∷ texts) lost =
+    ((lost ≡ text) × ((path : Path) → ¬ Resolves schemas type_index text path)) ⊎ (((path : Path) × Resolves schemas type_index text path) × IsFirstLost schemas type_index texts lost)
 
 -- The text that does not lead to a key: the first one that does not resolve, or an empty one where there is no primary key to ask for.
 abbrev pub IsBadPath : List Schema → ℕ → List (List ℕ) → List ℕ → Type 0
-IsBadPath schemas t texts lost =
-    (HasKeyTexts schemas t texts None × (lost ≡ [])) ⊎ ((asked : List (List ℕ)) × HasKeyTexts schemas t texts (Some asked) × IsFirstLost schemas t asked lost)
+IsBadPath schemas type_index texts lost =
+    (HasKeyTexts schemas type_index texts None × (lost ≡ [])) ⊎ ((asked : List (List ℕ)) × HasKeyTexts schemas type_index texts (Some asked) × IsFirstLost schemas type_index asked lost)
 
 -- Why a type at an index, which has this name, has no such key: its rows are no records; or a text does not lead to a key.
 abbrev pub PathsRefusal : List Schema → ℕ → Name → List (List ℕ) → Refusal → Type 0
-PathsRefusal schemas t name texts (WrongKind other) = (other ≡ name) × ¬ HasShape IsObject schemas t
-PathsRefusal schemas t name texts (BadPath lost) = HasShape IsObject schemas t × IsBadPath schemas t texts lost
-PathsRefusal schemas t name texts _ = ⊥
+PathsRefusal schemas type_index name texts (WrongKind other) = (other ≡ name) × ¬ HasShape IsObject schemas type_index
+PathsRefusal schemas type_index name texts (BadPath lost) = HasShape IsObject schemas type_index × IsBadPath schemas type_index texts lost
+PathsRefusal schemas type_index name texts _ = ⊥

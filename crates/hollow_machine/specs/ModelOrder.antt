@@ -29,7 +29,7 @@ IsNamed value t name = IsSomeAnd (at t value) (λ schema. HasText schema (codes 
 abbrev pub ModelRefusal : Machine → Data → Refusal → Type 0
 ModelRefusal machine value ModelFixed = (machine.producer ≡ None) → ⊥
 ModelRefusal machine value (BadModel rule name) =
-    (machine.producer ≡ None) × ((t : ℕ) × BreaksRule value rule t × IsNamed value t name)
+    (machine.producer ≡ None) × ((type_index : ℕ) × BreaksRule value rule type_index × IsNamed value type_index name)
 ModelRefusal machine value _ = ⊥
 
 -- What the order answers, and the machine behind it: a new producer of so many types, or as it was.

@@ -158,6 +158,6 @@ abbrev pub GivesNoTrees : List Schema → Adding → Refusal → Type 0
 GivesNoTrees schemas add (NoType name) = IsSpelledAnd add (λ json. IsFirstUnknown schemas json name)
 GivesNoTrees schemas add (BadRecord fault) =
     IsSpelledAnd add (λ json. AreTypes schemas json
-    × ((t : ℕ) × IsSomeAnd (slice_get schemas t) (λ schema. schema.name ≡ fault.type_name)
-    × IsFirstUnread schemas (entries schemas json) t fault.index fault.reason))
+    × ((type_index : ℕ) × IsSomeAnd (slice_get schemas type_index) (λ schema. schema.name ≡ fault.type_name)
+    × IsFirstUnread schemas (entries schemas json) type_index fault.index fault.reason))
 GivesNoTrees schemas add _ = ⊥

@@ -39,7 +39,7 @@ IsStored store version position = (blob : List ℕ) × (told (Some store) (Snaps
 -- ordinal.
 abbrev pub NamesDuplicate : Position → EqualRows → Type 0
 NamesDuplicate position rows =
-    (t : ℕ) × IsSomeAnd (slice_get position.schemas t) (λ schema. schema.name ≡ rows.type_name) × IsFirstDuplicate (rows_now position) t rows.first rows.second
+    (type_index : ℕ) × IsSomeAnd (slice_get position.schemas type_index) (λ schema. schema.name ≡ rows.type_name) × IsFirstDuplicate (rows_now position) type_index rows.first rows.second
 
 -- Why the order is refused: the version is not the announced one; or it is, and its snapshot cannot be loaded; or it has two equal rows.
 abbrev pub RestoreRefusal : Store → ℕ → Refusal → Type 0

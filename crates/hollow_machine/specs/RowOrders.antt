@@ -25,7 +25,7 @@ use Rattle.hollow_machine.specs.Forms.{OrderForm, looking}
 -- What is answered of the type at an index, where there is one of the name.
 abbrev pub AnswersAt : Position → Option ℕ → Name → (Position → ℕ → Reply → Type 0) → Reply → Type 0
 AnswersAt now None name Answers answer = answer ≡ reply.Refused (NoType name)
-AnswersAt now (Some t) name Answers answer = Answers now t answer
+AnswersAt now (Some type_index) name Answers answer = Answers now type_index answer
 
 -- What is answered of a type of this name: that the consumer has no state, that its model has no such type, or what is asked.
 abbrev pub AnswersOf : Option Position → Name → (Position → ℕ → Reply → Type 0) → Reply → Type 0
@@ -39,8 +39,8 @@ pub record AreLive (table : Table) (type_index : ℕ) (ordinals : List ℕ) : Ty
 
 -- What `live` answers of a type.
 abbrev pub ListsLive : Position → ℕ → Reply → Type 0
-ListsLive now t (reply.Live ordinals) = AreLive (rows_now now) t ordinals
-ListsLive now t _ = ⊥
+ListsLive now type_index (reply.Live ordinals) = AreLive (rows_now now) type_index ordinals
+ListsLive now type_index _ = ⊥
 
 abbrev pub LiveReply : Option Position → Name → Reply → Type 0
 LiveReply consumer name answer = AnswersOf consumer name ListsLive answer
@@ -51,14 +51,15 @@ record_at now table t ordinal = unfold_row now.schemas table t ordinal
 
 -- The JSON is the record that a row of a table has, which is live and has not too many nodes.
 abbrev pub ShowsRowIn : Table → ℕ → Position → ℕ → Data → Type 0
-ShowsRowIn table ordinal now t json =
-    IsLive table t ordinal × (node_count (record_at now table t ordinal) ≤ number_of_limit Nodes) × PrintsTree now.schemas t (record_at now table t ordinal) json
+ShowsRowIn table ordinal now type_index json =
+    IsLive table type_index ordinal × (node_count (record_at now table type_index ordinal) ≤ number_of_limit Nodes)
+    × PrintsTree now.schemas type_index (record_at now table type_index ordinal) json
 
 -- Why a row of a table is not shown: its ordinal is not live, or its record has too many nodes.
 abbrev pub RowRefusalIn : Table → Name → ℕ → Position → ℕ → Refusal → Type 0
-RowRefusalIn table name ordinal now t (NoRow row) = (row.type_name ≡ name) × (row.ordinal ≡ ordinal) × ¬ IsLive table t ordinal
-RowRefusalIn table name ordinal now t (TooLarge Nodes) = IsLive table t ordinal × (number_of_limit Nodes < node_count (record_at now table t ordinal))
-RowRefusalIn table name ordinal now t _ = ⊥
+RowRefusalIn table name ordinal now type_index (NoRow row) = (row.type_name ≡ name) × (row.ordinal ≡ ordinal) × ¬ IsLive table type_index ordinal
+RowRefusalIn table name ordinal now type_index (TooLarge Nodes) = IsLive table type_index ordinal × (number_of_limit Nodes < node_count (record_at now table type_index ordinal))
+RowRefusalIn table name ordinal now type_index _ = ⊥
 
 -- Why a row of the consumer's state is not shown.
 abbrev pub RowRefusal : Name → ℕ → Position → ℕ → Refusal → Type 0
@@ -66,9 +67,9 @@ RowRefusal name ordinal now t refusal = RowRefusalIn (rows_now now) name ordinal
 
 -- What `row` answers of a type: the record under an ordinal.
 abbrev pub ShowsRow : Name → ℕ → Position → ℕ → Reply → Type 0
-ShowsRow name ordinal now t (reply.Row value) = ShowsRowIn (rows_now now) ordinal now t (view value)
-ShowsRow name ordinal now t (reply.Refused refusal) = RowRefusal name ordinal now t refusal
-ShowsRow name ordinal now t _ = ⊥
+ShowsRow name ordinal now type_index (reply.Row value) = ShowsRowIn (rows_now now) ordinal now type_index (view value)
+ShowsRow name ordinal now type_index (reply.Refused refusal) = RowRefusal name ordinal now type_index refusal
+ShowsRow name ordinal now type_index _ = ⊥
 
 abbrev pub RowReply : Option Position → Name → ℕ → Reply → Type 0
 RowReply consumer name ordinal answer = AnswersOf consumer name (ShowsRow name ordinal) answer
@@ -83,10 +84,10 @@ ShowsGone now t ordinal entry = (entry.0 ≡ ordinal) × PrintsTree now.schemas 
 
 -- What `past` answers of a type: the records that left in the last step, by rising ordinal, or that these have too many nodes together.
 abbrev pub ShowsPast : Position → ℕ → Reply → Type 0
-ShowsPast now t (reply.Past entries) =
-    (ordinals : List ℕ) × AreGone now t ordinals × (nodes_gone now t ordinals ≤ number_of_limit Nodes) × AllZip (ShowsGone now t) ordinals entries
-ShowsPast now t (reply.Refused (TooLarge Nodes)) = (ordinals : List ℕ) × AreGone now t ordinals × (number_of_limit Nodes < nodes_gone now t ordinals)
-ShowsPast now t _ = ⊥
+ShowsPast now type_index (reply.Past entries) =
+    (ordinals : List ℕ) × AreGone now type_index ordinals × (nodes_gone now type_index ordinals ≤ number_of_limit Nodes) × AllZip (ShowsGone now type_index) ordinals entries
+ShowsPast now type_index (reply.Refused (TooLarge Nodes)) = (ordinals : List ℕ) × AreGone now type_index ordinals × (number_of_limit Nodes < nodes_gone now type_index ordinals)
+ShowsPast now type_index _ = ⊥
 
 abbrev pub PastReply : Option Position → Name → Reply → Type 0
 PastReply consumer name answer = AnswersOf consumer name ShowsPast answer

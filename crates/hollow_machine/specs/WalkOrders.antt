@@ -38,10 +38,10 @@ KeepsWalk now path after = KeepsOne (number_of_limit Walks) now.walks path after
 
 -- Why no walk index of the type at an index is kept: the text leads to no value; there is no room; or there would be too many entries.
 abbrev pub RefusesWalk : List ℕ → Position → ℕ → Refusal → Type 0
-RefusesWalk text now t (BadPath lost) = (lost ≡ text) × IsLostWalk now.schemas t text
-RefusesWalk text now t (TooLarge Walks) = (path : WalkPath) × WalkResolves now.schemas t text path × HasNoWalkRoom now path
-RefusesWalk text now t (TooLarge Entries) = (path : WalkPath) × WalkResolves now.schemas t text path × PassesEntries now path
-RefusesWalk text now t _ = ⊥
+RefusesWalk text now type_index (BadPath lost) = (lost ≡ text) × IsLostWalk now.schemas type_index text
+RefusesWalk text now type_index (TooLarge Walks) = (path : WalkPath) × WalkResolves now.schemas type_index text path × HasNoWalkRoom now path
+RefusesWalk text now type_index (TooLarge Entries) = (path : WalkPath) × WalkResolves now.schemas type_index text path × PassesEntries now path
+RefusesWalk text now type_index _ = ⊥
 
 -- Why the order is refused: the consumer has no state, its model has no such type, or what there is to the type.
 abbrev pub WalkIndexRefusal : Option Position → Name → List ℕ → Refusal → Type 0
@@ -51,9 +51,9 @@ WalkIndexRefusal consumer name text refusal =
     IsSomeAnd consumer (λ now. IsSomeAnd (index_of_type now.schemas name) (λ t. RefusesWalk text now t refusal))
 
 -- A walk index of the type by the path of the text is kept, and so many live rows reach a value along it.
-pub record WalksAlong (machine : Machine) (text : List ℕ) (now : Position) (t keys : ℕ) (next : Machine) : Type 0 where
+pub record WalksAlong (machine : Machine) (text : List ℕ) (now : Position) (type_index keys : ℕ) (next : Machine) : Type 0 where
   pub path : WalkPath
-  pub resolves : WalkResolves now.schemas t text path
+  pub resolves : WalkResolves now.schemas type_index text path
   pub counts : CountsWalked now path keys
   pub after : List WalkPath
   pub keeps : KeepsWalk now path after
@@ -73,9 +73,9 @@ walkindex_form = moving (λ machine asked reply next. WalkIndexStep machine aske
 
 -- the kind of what stands at the end of parts from the type at an index
 abbrev pub kind_walked : List Schema → ℕ → List WalkPart → Option FieldKind
-kind_walked schemas t [] = None
-kind_walked schemas t (part ∷ []) = option_and_then (λ schema. part_kind schema.shape part) (slice_get schemas t)
-kind_walked schemas t (part ∷ next ∷ rest) = option_and_then (λ u. kind_walked schemas u (next ∷ rest)) (type_by schemas t part)
+kind_walked schemas type_index [] = None
+kind_walked schemas type_index (part ∷ []) = option_and_then (λ schema. part_kind schema.shape part) (slice_get schemas type_index)
+kind_walked schemas type_index (part ∷ next ∷ rest) = option_and_then (λ u. kind_walked schemas u (next ∷ rest)) (type_by schemas type_index part)
 
 -- The JSON spells this value of what stands at the end of the path, which is not null; the least INT and the least LONG count as null.
 pub record SpellsEnd (schemas : List Schema) (path : WalkPath) (json : Data) (value : Value) : Type 0 where
@@ -89,22 +89,22 @@ IsWalkKept text now t path = WalkResolves now.schemas t text path × Contains no
 
 -- These are the live ordinals of a type whose rows reach the value that the JSON spells, along the path of this text, of which a walk index is kept.
 abbrev pub FindsWalked : List ℕ → Data → Position → ℕ → List ℕ → Type 0
-FindsWalked text json now t ordinals =
-    (path : WalkPath) × IsWalkKept text now t path
-    × ((value : Value) × SpellsEnd now.schemas path json value × AreWalkMatches now.schemas (rows_now now) t path.parts value ordinals)
+FindsWalked text json now type_index ordinals =
+    (path : WalkPath) × IsWalkKept text now type_index path
+    × ((value : Value) × SpellsEnd now.schemas path json value × AreWalkMatches now.schemas (rows_now now) type_index path.parts value ordinals)
 
 -- Why no rows are looked up: the text leads to no value; no walk index is kept; or the JSON spells no value of what stands at the path's end.
 abbrev pub WalkFindRefusal : List ℕ → Data → Position → ℕ → Refusal → Type 0
-WalkFindRefusal text json now t (BadPath lost) = (lost ≡ text) × IsLostWalk now.schemas t text
-WalkFindRefusal text json now t NoIndex = (path : WalkPath) × WalkResolves now.schemas t text path × ¬ Contains now.walks path
-WalkFindRefusal text json now t BadKey = (path : WalkPath) × IsWalkKept text now t path × ((value : Value) → ¬ SpellsEnd now.schemas path json value)
-WalkFindRefusal text json now t _ = ⊥
+WalkFindRefusal text json now type_index (BadPath lost) = (lost ≡ text) × IsLostWalk now.schemas type_index text
+WalkFindRefusal text json now type_index NoIndex = (path : WalkPath) × WalkResolves now.schemas type_index text path × ¬ Contains now.walks path
+WalkFindRefusal text json now type_index BadKey = (path : WalkPath) × IsWalkKept text now type_index path × ((value : Value) → ¬ SpellsEnd now.schemas path json value)
+WalkFindRefusal text json now type_index _ = ⊥
 
 -- What `walkfind` answers of a type: the ordinals of the rows that reach the value.
 abbrev pub ListsWalked : List ℕ → Data → Position → ℕ → Reply → Type 0
-ListsWalked text json now t (reply.WalkFind ordinals) = FindsWalked text json now t ordinals
-ListsWalked text json now t (reply.Refused refusal) = WalkFindRefusal text json now t refusal
-ListsWalked text json now t _ = ⊥
+ListsWalked text json now type_index (reply.WalkFind ordinals) = FindsWalked text json now type_index ordinals
+ListsWalked text json now type_index (reply.Refused refusal) = WalkFindRefusal text json now type_index refusal
+ListsWalked text json now type_index _ = ⊥
 
 abbrev pub WalkFindReply : Option Position → Name → List ℕ → Data → Reply → Type 0
 WalkFindReply consumer name text json answer = AnswersOf consumer name (ListsWalked text json) answer

@@ -1,5 +1,5 @@
 -- The end of the script: from what its parts tell to what the command answers.
-use Rattle.std.proofs.Common.{◌≡◌, inl, inr, ℕ, ℤ, pos, List, [], ◌∷◌, true, false, Option, Some, None, Result, Ok, Err, length, ◌⊎◌, refl, sym, ap, ◌∙◌, subst}
+use Rattle.std.proofs.Common.{◌≡◌, inl, inr, ℕ, ℤ, pos, List, [], ◌∷◌, Bool, true, false, Option, Some, None, Result, Ok, Err, length, ◌⊎◌, refl, sym, ap, ◌∙◌, subst}
 use Rattle.std.specs.Prelude.{IfSome, IsErrAnd, OnErr}
 use Rattle.std.specs.List.{range_with_len}
 use Rattle.std.proofs.lemmas.List.{append-nil}
@@ -12,20 +12,22 @@ use Rattle.schema_model.specs.declared.model.faults.ModelFault.{ModelFault}
 use Rattle.schema_model.specs.declared.model.faults.ModelFault.TheVariants.{Broken}
 use Rattle.schema_model.specs.declared.model.rule.Rule.{Rule}
 use Rattle.schema_model.specs.declared.schema.Schema.{Schema}
+use Rattle.schema_model.specs.declared.schema.name.Name.{Name}
 use Rattle.write_engine.specs.Cycle.{no_rows}
 use Rattle.write_engine.specs.Production.{IsStart, Production}
 use Rattle.state_blobs.specs.Published.{Published, new_producer, published_of}
 use Rattle.hol_orders.specs.declared.order_stop.OrderStop.{OrderStop}
 use Rattle.hol_answers.specs.Reply.{is_refusal}
+use Rattle.hol_answers.specs.declared.refusal.Refusal.{Refusal}
 use Rattle.hol_answers.specs.declared.reply.Made.{Made}
 use Rattle.hol_answers.specs.declared.reply.Reply.{Reply}
-use Rattle.hol_answers.specs.declared.reply.Reply.TheVariants.{Make, Refused}
+use Rattle.hol_answers.specs.declared.reply.Reply.TheVariants.{Cycle, Make, Refused}
 use Rattle.hollow_machine.specs.CheckOrder.{CheckReply}
 use Rattle.hollow_machine.specs.Kept.{IsResting}
 use Rattle.hollow_machine.specs.Made.{LeavesCycles, StopsCycles}
 use Rattle.hollow_machine.specs.MakeCommand.{MakeReply, SumsUp, film_machine, there_and_back}
 use Rattle.hollow_machine.specs.State.{Machine, started, with_producer}
-use Rattle.hollow_make.specs.Parts.{HaltsMake, HaltsScript, IsEnd, TellsCycles, TellsEnd, TellsMake, TellsScript, machine_at}
+use Rattle.hollow_make.specs.Parts.{HaltsMake, HaltsScript, IsEnd, TellsCycles, TellsEnd, TellsMake, TellsScript, machine_at, publishes}
 
 -- The script's schemas break no rule.
 pub not_broken : (schemas : List Schema) (result : Result (List Schema) ModelFault) (rule : Rule) (type_index : ℕ) → result ≡ Err (Broken rule type_index) → schemas ≡ film_schemas
@@ -86,13 +88,21 @@ script_result seed rows cycles held mid held' first now published refused (Ok an
 script_result seed rows cycles None mid held' first now published refused (Err stop) none tells ends same = tt
 script_result seed rows cycles (Some store) mid held' first now published refused (Err stop) none tells ends same = tt
 
+-- An answer that is no refusal is not refused.
+pub not_refused : (answer : Reply) → ((why : Refusal) → answer ≡ Refused why → ⊥) → is_refusal answer ≡ false
+not_refused (Refused why) not = absurd (not why refl)
+not_refused _ not = refl
+
+-- And one of no cycle publishes nothing.
+pub none_published : (answer : Reply) → ((changed : List Name) (published : Bool) (version : ℕ) → answer ≡ Cycle changed published version → ⊥) → false ≡ publishes answer
+none_published (Cycle changed published version) not = absurd (not changed published version refl)
+none_published _ not = refl
+
 -- A check that is refused is the end of the script.
-pub ends_refused : (held : Option Store) (published : List ℕ) (rows : Table) (answer : Reply) → IfSome held (λ store. CheckReply store (there_and_back published) answer) → is_refusal answer ≡ true
-    → TellsEnd {E = OrderStop} published rows held (Ok answer)
-ends_refused None published rows answer check refused = tt
-ends_refused (Some store) published rows (Make made) check refused = absurd check
-ends_refused (Some store) published rows (Refused why) check refused = (check, refused)
-ends_refused (Some store) published rows _ check refused = absurd cc
+pub ends_refused : (held : Option Store) (published : List ℕ) (rows : Table) (answer : Reply) (why : Refusal) → IfSome held (λ store. CheckReply store (there_and_back published) answer) → answer ≡ Refused why
+    → TellsEnd {E = OrderStop} published rows held (Ok (Refused why))
+ends_refused None published rows answer why check is = tt
+ends_refused (Some store) published rows answer why check is = (subst (λ (r : Reply). CheckReply store (there_and_back published) r) is check, refl)
 
 -- And behind one that is not comes the summary.
 pub ends_made : (held : Option Store) (published : List ℕ) (rows : Table) (answer : Reply) (made : Made) → IfSome held (λ store. CheckReply store (there_and_back published) answer) → is_refusal answer ≡ false

@@ -11,6 +11,7 @@ use Rattle.hol_io.specs.Store.{Store}
 use Rattle.write_engine.specs.Production.{Production}
 use Rattle.hol_orders.specs.declared.order_stop.OrderStop.{OrderStop}
 use Rattle.hol_answers.specs.Reply.{is_refusal}
+use Rattle.hol_answers.specs.declared.refusal.Refusal.{Refusal}
 use Rattle.hol_answers.specs.declared.reply.Reply.{Reply}
 use Rattle.hol_answers.specs.declared.reply.Reply.TheVariants.{Cycle, Refused}
 use Rattle.hollow_machine.specs.CycleOrder.{CycleStep}
@@ -155,6 +156,11 @@ run_step seed rows held mid held' first before after place published versions an
         let at_cycles = subst (λ ns. PassesCycles seed rows (machine_at store (Some first)) ns (published ++ versions_published answer) (machine_at next (Some after))) (sym cycles) more in
         (next, told, subst (λ ns. PassesCycles seed rows (machine_at store (Some first)) (range_with_len 1 (place + 1)) ns (machine_at next (Some after))) same at_cycles)
 
+-- what is noted of a cycle is the version that its answer publishes
+pub noted_is_published : (place : ℕ) (published versions : List ℕ) (is_published : Bool) (answer : Reply) → versions ≡ published ++ (if is_published then (place + 1) ∷ [] else []) → is_published ≡ publishes answer
+    → versions ≡ published ++ (if publishes answer then (place + 1) ∷ [] else [])
+noted_is_published place published versions is_published answer are is = are ∙ ap (λ (b : Bool). published ++ (if b then (place + 1) ∷ [] else [])) is
+
 -- all cycles were run
 pub run_end : (seed rows cycles : ℕ) (held held' : Option Store) (first now : Production) (place : ℕ) (published : List ℕ) → place ≡ cycles → HasRun seed rows held first place held' now published
     → TellsCycles {E = OrderStop} seed rows cycles held first held' now published (Ok None)
@@ -164,12 +170,12 @@ run_end seed rows cycles (Some store) held' first now place published all run =
     (next, told, subst (λ n. PassesCycles seed rows (machine_at store (Some first)) (range_with_len 1 n) published (machine_at next (Some now))) all passes)
 
 -- a cycle was refused
-pub run_refused : (seed rows cycles : ℕ) (held mid held' : Option Store) (first before after : Production) (place : ℕ) (published : List ℕ) (answer : Reply) → place < cycles → HasRun seed rows held first place mid before published
-    → MovesBy seed rows (place + 1) mid before held' after answer → is_refusal answer ≡ true → TellsCycles {E = OrderStop} seed rows cycles held first held' after published (Ok (Some answer))
-run_refused seed rows cycles None mid held' first before after place published answer inside run moves refused = tt
-run_refused seed rows cycles (Some store) mid held' first before after place published (Refused why) inside run moves refused =
+pub run_refused : (seed rows cycles : ℕ) (held mid held' : Option Store) (first before after : Production) (place : ℕ) (published : List ℕ) (answer : Reply) (why : Refusal) → place < cycles → HasRun seed rows held first place mid before published
+    → MovesBy seed rows (place + 1) mid before held' after answer → answer ≡ Refused why → TellsCycles {E = OrderStop} seed rows cycles held first held' after published (Ok (Some (Refused why)))
+run_refused seed rows cycles None mid held' first before after place published answer why inside run moves refused = tt
+run_refused seed rows cycles (Some store) mid held' first before after place published answer why inside run moves refused =
     let (there, is, passes) = run.passes in
-    let (next, told, step) = step_at seed rows (place + 1) mid held' there before after (Refused why) is moves in
+    let (next, told, step) = step_at seed rows (place + 1) mid held' there before after (Refused why) is (subst (λ (r : Reply). MovesBy seed rows (place + 1) mid before held' after r) refused moves) in
     let rest = cycles - (place + 1) in
     let all : cycles ≡ place + suc rest = omega (arith, inside) in
     let one : 1 + place ≡ place + 1 = omega arith in (
@@ -190,7 +196,6 @@ run_refused seed rows cycles (Some store) mid held' first before after place pub
         },
       ),
     )
-run_refused seed rows cycles (Some store) mid held' first before after place published _ inside run moves refused = absurd cc
 
 -- versions below a cycle of the script are published
 pub are_published : (place cycles : ℕ) (published : List ℕ) → place ≤ cycles → cycles ≤ 1000 → AreBelow (place + 1) published → ArePublished published

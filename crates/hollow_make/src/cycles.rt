@@ -3,9 +3,10 @@ ghost use Rattle.std.specs.Prelude.{◌≡◌, ◌≤◌, ◌<◌, ◌++◌, ◌
 ghost use Rattle.hol_io.specs.Causes.{Rose};
 ghost use Rattle.film_script.specs.Films.{film_schemas};
 ghost use Rattle.hollow_machine.specs.Kept.{IsResting};
-ghost use Rattle.hollow_make.specs.Parts.{HaltsScript, TellsCycles, publishes};
+ghost use Rattle.hollow_make.specs.Parts.{HaltsScript, TellsCycles};
 ghost use Rattle.hollow_make.specs.Walked.{ArePublished};
 
+use crate::part::go_on;
 use crate::progress::Progress;
 use hol_answers::Reply;
 use hol_io::BlobStore;
@@ -42,34 +43,21 @@ pub(crate) fn run_cycles<S: BlobStore, P: Progress>(
         let cycle = place + 1;
         progress.cycle(cycle, cycles);
         let reply = film_cycle(alloc, store, producer, seed, rows, cycle)?;
-        if reply.is_refusal() {
-            return Ok(Some(reply));
+        match go_on(reply) {
+            Ok(is_published) => note(published, is_published, cycle)?,
+            Err(refusal) => return Ok(Some(Reply::Refused(refusal))),
         }
-        note(published, &reply, cycle)?;
     }
     Ok(None)
 }
 
-// Notes the version of a cycle that is published.
-fn note(published: &mut Versions, reply: &Reply, cycle: u32) -> Result<(), AllocError>
-    ensures ok { OnOk result (published.new ≡ published.old ++ (if publishes reply.now then cycle ∷ [] else [])) }
+// Notes the version of a cycle, if it is published.
+fn note(published: &mut Versions, is_published: bool, cycle: u32) -> Result<(), AllocError>
+    ensures ok { OnOk result (published.new ≡ published.old ++ (if is_published then cycle ∷ [] else [])) }
     ensures err { OnErr result (published.new ≡ published.old) }
 {
-    if is_published(reply) {
+    if is_published {
         published.push(u64::from(cycle))?;
     }
     Ok(())
-}
-
-// Whether an answer tells that a state was published.
-fn is_published(reply: &Reply) -> bool
-    ensures { result ≡ publishes reply.now }
-{
-    matches!(
-        reply,
-        Reply::Cycle {
-            published: true,
-            ..
-        }
-    )
 }

@@ -2,6 +2,7 @@
 #![tactic(auto)]
 
 mod cycles;
+mod part;
 mod progress;
 mod script;
 mod summary;

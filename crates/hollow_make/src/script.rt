@@ -8,6 +8,7 @@ ghost use Rattle.hollow_make.specs.Parts.{HaltsMake, HaltsScript, TellsEnd, Tell
 ghost use Rattle.hollow_make.specs.Walked.{ArePublished};
 
 use crate::cycles::run_cycles;
+use crate::part::go_on;
 use crate::progress::Progress;
 use crate::summary::summary;
 use crate::walk::check_walk;
@@ -122,8 +123,8 @@ fn end_script<S: BlobStore, P: Progress>(
     ensures later { (S.seen store.old).faults ≤ (S.seen store.new).faults }
 {
     let reply = check_walk(alloc, store, published, progress)?;
-    if reply.is_refusal() {
-        return Ok(reply);
+    match go_on(reply) {
+        Ok(_) => Ok(Reply::Make(summary(alloc, producer, published)?)),
+        Err(refusal) => Ok(Reply::Refused(refusal)),
     }
-    Ok(Reply::Make(summary(alloc, producer, published)?))
 }

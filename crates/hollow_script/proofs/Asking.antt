@@ -1,5 +1,5 @@
 -- What a line asks for, and that what waits is written before.
-use Rattle.std.proofs.Common.{◌≡◌, ◌<◌, ◌≤◌, ◌⊎◌, inl, inr, List, [], ◌∷◌, ℕ, length, Bool, true, false, Option, Some, None, Ok, Err, refl, sym, ◌∙◌, subst}
+use Rattle.std.proofs.Common.{◌≡◌, ◌<◌, ◌≤◌, ◌⊎◌, inl, inr, List, [], ◌∷◌, ℕ, length, Bool, true, false, Option, Some, None, Result, Ok, Err, refl, sym, ◌∙◌, subst}
 use Rattle.std.specs.Prelude.{IsErrOf}
 use Rattle.hol_io.specs.Lines.{Reading}
 use Rattle.hol_io.specs.Store.{Store}
@@ -130,13 +130,19 @@ module _ (bytes : List ℕ) (given : List (List ℕ)) (left : Option (List ℕ))
   asked_halts held held' keep keep' now found it stop.Store is told others unput asks halts same = puts_ahead held held' keep keep' now found it stop.Store is told asks halts same
   asked_halts held held' keep keep' now found it stop.Memory is told others unput asks halts same = inr (puts_ahead held held' keep keep' now found it stop.Memory is told asks halts same)
 
--- as an order moves the machine, so does what asks for it
-pub order_moves : (held held' : Option Store) (keep keep' : Keep) (it : Asked) (order : Order) (reply : Reply) → it ≡ asked.Order order →
+-- an answer moves the machine whatever else would have stopped the order
+pub order_moves : (held held' : Option Store) (keep keep' : Keep) (order : Order) (reply : Reply) →
     MovesKept {E = OrderStop} (λ machine answer next. Step machine order answer next) held keep held' keep' (Ok reply) →
-    MovesKept {E = ScriptStop} (λ machine answer next. AskedStep machine it answer next) held keep held' keep' (Ok reply)
-order_moves None held' keep keep' it order reply is moves = tt
-order_moves (Some store) held' keep keep' it order reply is moves =
-    (moves.0, moves.1, subst (λ a. AskedStep (machine_with store keep) a reply (machine_with moves.0 keep')) (sym is) moves.2)
+    MovesKept {E = ScriptStop} (λ machine answer next. Step machine order answer next) held keep held' keep' (Ok reply)
+order_moves None held' keep keep' order reply moves = tt
+order_moves (Some store) held' keep keep' order reply moves = moves
+
+-- as an order moves the machine, so does what asks for it
+pub as_order_moves : (held held' : Option Store) (keep keep' : Keep) (it : Asked) (order : Order) (result : Result Reply ScriptStop) → it ≡ asked.Order order →
+    MovesKept (λ machine answer next. Step machine order answer next) held keep held' keep' result →
+    MovesKept (λ machine answer next. AskedStep machine it answer next) held keep held' keep' result
+as_order_moves held held' keep keep' it order result is moves =
+    subst (λ a. MovesKept (λ machine answer next. AskedStep machine a answer next) held keep held' keep' result) (sym is) moves
 
 -- what is refused leaves the machine as it was
 pub refused_moves : (held : Option Store) (keep : Keep) (it : Asked) (refusal : Refusal) → it ≡ asked.Refused refusal →
@@ -145,17 +151,24 @@ refused_moves None keep it refusal is = tt
 refused_moves (Some store) keep it refusal is =
     (store, refl, subst (λ a. AskedStep (machine_with store keep) a (Refused refusal) (machine_with store keep)) (sym is) (refl, refl))
 
+-- where an order stops it leaves the same of the store, whatever the stop is called
+pub order_halts : (held held' : Option Store) (keep : Keep) (order : Order) (why : OrderStop) (other : ScriptStop) →
+    HaltsKept {E = OrderStop} (OrderPuts order) held keep held' (Err why) → HaltsKept {E = ScriptStop} (OrderPuts order) held keep held' (Err other)
+order_halts None held' keep order why other halts = tt
+order_halts (Some store) held' keep order why other halts = halts
+
 -- what an order leaves of the store that stops, what asks for it leaves
-pub order_halts : (held held' : Option Store) (keep : Keep) (it : Asked) (order : Order) (why : OrderStop) (other : ScriptStop) → it ≡ asked.Order order →
-    HaltsKept {E = OrderStop} (OrderPuts order) held keep held' (Err why) → HaltsKept {E = ScriptStop} (AskedPuts it) held keep held' (Err other)
-order_halts None held' keep it order why other is halts = tt
-order_halts (Some store) held' keep it order why other is halts =
+pub as_order_halts : (held held' : Option Store) (keep : Keep) (it : Asked) (order : Order) (result : Result Reply ScriptStop) → it ≡ asked.Order order →
+    HaltsKept (OrderPuts order) held keep held' result → HaltsKept (AskedPuts it) held keep held' result
+as_order_halts None held' keep it order result is halts = tt
+as_order_halts (Some store) held' keep it order (Ok reply) is halts = tt
+as_order_halts (Some store) held' keep it order (Err why) is halts =
     (halts.0, halts.1, subst (λ a. HasPart (AskedPuts a (machine_with store keep)) store halts.0) (sym is) halts.2)
 
 -- an order that was not begun leaves all
-pub none_halts : (held : Option Store) (keep : Keep) (it : Asked) (why : ScriptStop) → HaltsKept {E = ScriptStop} (AskedPuts it) held keep held (Err why)
-none_halts None keep it why = tt
-none_halts (Some store) keep it why = (store, refl, inl refl)
+pub none_halts : (held : Option Store) (keep : Keep) (order : Order) (why : ScriptStop) → HaltsKept {E = ScriptStop} (OrderPuts order) held keep held (Err why)
+none_halts None keep order why = tt
+none_halts (Some store) keep order why = (store, refl, inl refl)
 
 -- an order that is not one that may put is none
 pub may_not : (P : Type 0) (test : Bool) → test ≡ false → (P → test ≡ true) → P → ⊥

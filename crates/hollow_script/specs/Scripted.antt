@@ -188,7 +188,7 @@ StopsAhead Keeps bytes first held before after waiting =
 abbrev pub HasStopped : List ℕ → Store → Option (List ℕ) → Option Reading → Option Store → Keep → Option (List ℕ) → Option (List ℕ) → List ℕ → ScriptStop → Type 0
 HasStopped bytes first left' reading' held keep before after waiting Source =
     (took : List ℕ) × Consumes (Some bytes) left' took × StandsBehind first (finished took) held before after waiting
-HasStopped bytes first left' reading' held keep before after waiting Sink = (mid : Option (List ℕ)) × StandsBetween bytes first held before mid waiting × FailsWithin waiting mid after
+HasStopped bytes first left' reading' held keep before after waiting Sink = (middle : Option (List ℕ)) × StandsBetween bytes first held before middle waiting × FailsWithin waiting middle after
 HasStopped bytes first left' reading' held keep before after waiting StoreFailed = StopsAhead (FailsAt (HasAsked bytes left' reading') keep) bytes first held before after waiting
 HasStopped bytes first left' reading' held keep before after waiting Memory = StopsAhead (LacksMemoryAt (HasAsked bytes left' reading') keep) bytes first held before after waiting
 HasStopped bytes first left' reading' held keep before after waiting TooLong = StandsBehind first (finished (take longest_input bytes)) held before after waiting

@@ -7,12 +7,12 @@ use hol_answers::Refusal;
 use hol_orders::{Order, OrderFault, OrderReader, OrderStop};
 use std::alloc::Global;
 
-/// What a line asks for.
+/// What a line asks for: an order that is to be answered, or nothing.
 #[derive(Drop)]
 pub enum Asked {
-    /// An order.
+    /// The order that the line spells.
     Order(Order),
-    /// Nothing, for this reason.
+    /// Nothing: the line spells no order (`BadOrder`), or is longer than a line may be (`LineTooLong`).
     Refused(Refusal),
 }
 

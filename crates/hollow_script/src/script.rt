@@ -5,9 +5,11 @@ ghost use Rattle.hol_io.specs.Causes.{Rose};
 ghost use Rattle.hol_io.specs.Lines.{IsAhead, Takes, starts};
 ghost use Rattle.hol_io.specs.Store.{Store};
 ghost use Rattle.hol_io.specs.Turn.{EndsInput, HasLimits, IsEnded, LendsLine};
+ghost use Rattle.hol_orders.specs.Order.{IsOrder};
 ghost use Rattle.hollow_machine.specs.Kept.{IsResting};
-ghost use Rattle.hollow_machine.specs.Puts.{MayPut};
+ghost use Rattle.hollow_machine.specs.Puts.{MayPut, OrderPuts};
 ghost use Rattle.hollow_machine.specs.Script.{longest_line};
+ghost use Rattle.hollow_machine.specs.Step.{Step};
 ghost use Rattle.hollow_script.specs.Asked.{AskedPuts, AskedStep, MeetsOrder};
 ghost use Rattle.hollow_script.specs.Kept.{HaltsKept, KeepsEdits, KeepsNothing, KeepsReader, MovesKept, SameProducer};
 ghost use Rattle.hollow_script.specs.Scripted.{AllAnswered, AllWritten, AnswersNext, AreTaken, AsksNext, HasGiven, HasReplied, HasStopped, IsAnswered, RepliesNext, ServesNext, TakesPast, TurnsNext, WritesReplies, WritesWaiting, longest_input};
@@ -340,9 +342,43 @@ fn answer_asked<O: Sink, S: BlobStore>(
 {
     match asked {
         Asked::Order(order) => {
-            make_way(&order, out, waiting)?;
-            Ok(answer(alloc, &order, store, keep)?)
+            let answered = answer_order(alloc, &order, out, store, keep, waiting);
+            drop(order);
+            answered
         }
         Asked::Refused(refusal) => Ok(Reply::Refused(refusal)),
     }
+}
+
+// Answers an order. What waits is written before one that may put begins.
+fn answer_order<O: Sink, S: BlobStore>(
+    alloc: Global,
+    order: &Order,
+    out: &mut O,
+    store: &mut S,
+    keep: &mut Keep,
+    waiting: &mut Vec<u8>,
+) -> Result<Reply, ScriptStop>
+    requires order { IsOrder order.now }
+    requires resting { IfSome keep.old.producer IsResting }
+    requires reading { KeepsReader keep.old }
+    requires edits { KeepsEdits keep.old }
+    ensures step { MovesKept (λ machine reply next. Step machine order.now reply next)
+        (S.seen store.old).held keep.old (S.seen store.new).held keep.new result }
+    ensures halts { HaltsKept (OrderPuts order.now) (S.seen store.old).held keep.old (S.seen store.new).held result }
+    ensures undone { OnErr result (SameProducer keep.old keep.new) }
+    ensures quiet { ((S.seen store.new).held ≡ (S.seen store.old).held) ⊎ (waiting.new.items ≡ []) }
+    ensures unput { IsErrOf result ScriptStop.Sink → (S.seen store.new).held ≡ (S.seen store.old).held }
+    ensures put { WritesWaiting (O.taken out.old) (O.taken out.new) waiting.old.items waiting.new.items result }
+    ensures resting { IfSome keep.new.producer IsResting }
+    ensures reading { KeepsReader keep.new }
+    ensures edits { KeepsEdits keep.new }
+    ensures sink_fault { IsErrOf result ScriptStop.Sink → Rose (O.faults out.old) (O.faults out.new) }
+    ensures later { O.faults out.old ≤ O.faults out.new }
+    ensures store_fault { IsErrOf result ScriptStop.Store → Rose (S.seen store.old).faults (S.seen store.new).faults }
+    ensures store_later { (S.seen store.old).faults ≤ (S.seen store.new).faults }
+    ensures others { IfErr result (λ stop. (stop ≡ ScriptStop.Memory) ⊎ ((stop ≡ ScriptStop.Store) ⊎ (stop ≡ ScriptStop.Sink))) }
+{
+    make_way(order, out, waiting)?;
+    Ok(answer(alloc, order, store, keep)?)
 }

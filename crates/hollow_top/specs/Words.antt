@@ -49,5 +49,5 @@ pub record BeginsPlainly (text : List ℕ) : Type 0 where
 
 -- What reading a text as a number of a range answers.
 abbrev pub TellsNumber : ℕ → ℕ → List ℕ → Option ℕ → Type 0
-TellsNumber least most text None = (n : ℕ) → IsFrom least most n → decimal n ≢ text
-TellsNumber least most text (Some n) = IsFrom least most n × (decimal n ≡ text)
+TellsNumber least most text None = (value : ℕ) → IsFrom least most value → decimal value ≢ text
+TellsNumber least most text (Some value) = IsFrom least most value × (decimal value ≡ text)

@@ -235,7 +235,7 @@ fn serve_make<O: Sink, S: BlobStore, P: Progress>(
     }
 }
 
-// The same, and tells whether the line is a refusal.
+// Publishes a chain that is made of three numbers, checks it, writes the one line, and tells whether this is a refusal.
 fn make_line<O: Sink, S: BlobStore, P: Progress>(
     alloc: Global,
     seed: u32,

@@ -15,11 +15,11 @@ pub enum Command {
     Show(u64),
     /// `make SEED ROWS CYCLES`: a chain of states that is made of three numbers.
     Make {
-        /// From 0 to 999,999.
+        /// What titles and years are made of, from 0 to 999,999.
         seed: u32,
-        /// From 1 to 500,000.
+        /// How many films there are, from 1 to 500,000.
         rows: u32,
-        /// From 1 to 1,000.
+        /// How many cycles there are, from 1 to 1,000.
         cycles: u32,
     },
 }

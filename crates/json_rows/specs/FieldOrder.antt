@@ -14,7 +14,7 @@ Order = List (String Global × ℕ)
 -- the members in this order: each name, with the data at its place
 abbrev pub members_at : Order → List Data → Members
 members_at [] printed = no_members
-members_at (m ∷ order) printed = member (string_bytes m.0) (slice_index_or printed m.1 null) (members_at order printed)
+members_at (named ∷ order) printed = member (string_bytes named.0) (slice_index_or printed named.1 null) (members_at order printed)
 
 -- Each place is below a bound.
 abbrev pub AreBelow : ℕ → Order → Type 0

@@ -30,8 +30,8 @@ IsTextData units printed =
 -- BYTES as a text of two lower-case hexadecimal digits for each byte, and a REFERENCE as the ordinal that it names
 abbrev pub IsValueData : Value → Data → Type 0
 IsValueData Value.Null printed = printed ≡ null
-IsValueData (Value.Int n) printed = printed ≡ number (of_integer n)
-IsValueData (Value.Long n) printed = printed ≡ number (of_integer n)
+IsValueData (Value.Int value) printed = printed ≡ number (of_integer value)
+IsValueData (Value.Long value) printed = printed ≡ number (of_integer value)
 IsValueData (Value.Bool flag) printed = printed ≡ boolean flag
 IsValueData (Value.Text units) printed = IsTextData units printed
 IsValueData (Value.Bytes bytes) printed = printed ≡ string (encode_lower bytes)

@@ -45,7 +45,7 @@ pub(crate) fn put_field<R: ColumnRows>(
     }
 }
 
-// The same by a copy of the value.
+// Puts the value of a field of the record under a live ordinal, of which a copy is made.
 fn put_copy<R: ColumnRows>(
     alloc: Global,
     rows: &R,

@@ -14,7 +14,7 @@ use std::alloc::{AllocError, Global};
 /// What the lines of the rows of a type have in common.
 #[derive(Drop)]
 pub struct LineForm<'a> {
-    /// The type.
+    /// The schema of the type.
     pub schema: &'a Schema,
     /// The fields in byte order of their names: for each the text before its value, which is a comma behind another field,
     /// the name in quotes, and a colon, with the place of the field. Types of other kinds than OBJECT have none.
@@ -23,7 +23,7 @@ pub struct LineForm<'a> {
     pub end: String,
 }
 
-/// What the lines of the rows of a type have in common. It fails only for want of memory.
+/// What the lines of the rows of a type have in common. It fails only where memory is refused.
 pub(crate) fn line_form(alloc: Global, schema: &Schema) -> Result<LineForm<'_>, AllocError>
     ensures formed { IfOk result IsLineForm }
     ensures schema { IfOk result (λ form. form.schema.now ≡ schema.now) }

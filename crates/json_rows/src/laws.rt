@@ -7,5 +7,5 @@ ghost use Rattle.json_rows.specs.StoredRow.{IsRowData};
 
 /// A row prints as one value at most.
 pub fn one_row_value()
-    ensures { (shape : Shape) (row : Row) (a b : Data) → IsRowData shape row a → IsRowData shape row b → a ≡ b }
+    ensures { (shape : Shape) (row : Row) (one other : Data) → IsRowData shape row one → IsRowData shape row other → one ≡ other }
 {}

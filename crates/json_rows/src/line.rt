@@ -21,7 +21,7 @@ use row_model::{Row, Value};
 use std::alloc::{AllocError, Global};
 
 /// Puts the line of the row under a live ordinal behind what stands in `out`: the JSON object of its ordinal, of the row as `row_value` prints it, and
-/// of the name of its type, without spaces, and a newline. Of records and lists that stand packed none is made. It fails only for want of memory, and then
+/// of the name of its type, without spaces, and a newline. Of records and lists that stand packed none is made. It fails only where memory is refused, and then
 /// `out` stays as it was.
 pub fn put_row_line<R: ColumnRows>(
     alloc: Global,
@@ -216,7 +216,8 @@ fn put_record(
     Ok(())
 }
 
-/// Puts the array of these ordinals behind what stands in `out`, without spaces. It fails only for want of memory, and then a front of the array may stand there.
+/// Puts the array of these ordinals behind what stands in `out`, without spaces. It fails only where memory is refused, and then a front of the array may stand
+/// there.
 pub fn put_ordinals(ordinals: &[u32], out: &mut Vec<u8>) -> Result<(), AllocError>
     ensures put { OnOk result (PutsItems ordinals.now out.old.items out.new.items) }
     ensures front { take (length out.old.items) out.new.items ≡ out.old.items }

@@ -8,7 +8,7 @@ use std::alloc::{AllocError, Global};
 use std::collections::BTreeMap;
 
 /// The fields of a type in byte order of their names: each name, with the place of the field. Types of other kinds than
-/// OBJECT have none. It fails only for want of memory.
+/// OBJECT have none. It fails only where memory is refused.
 pub(crate) fn field_order(
     alloc: Global,
     schema: &Schema,

@@ -22,13 +22,13 @@ pub struct TypeLines<'a> {
 pub enum Standing<'a> {
     /// The records stand packed: the columns of their fields, in order.
     Columns(Vec<Column<'a>>),
-    /// The lists stand packed.
+    /// The lists stand packed: their pointers and elements.
     Lists(PackedItems<'a>),
     /// The rows stand elsewhere, or are sets or maps: each is lent.
     Lent,
 }
 
-/// The lines of the rows of a type, made once for all of them. It fails only for want of memory.
+/// The lines of the rows of a type, made once for all of them. It fails only where memory is refused.
 pub fn type_lines<'a, R: ColumnRows>(
     alloc: Global,
     rows: &'a R,

@@ -12,7 +12,7 @@ use std::alloc::{AllocError, Global};
 
 /// A stored row of a type of the model as JSON. A record is an object with every field of the type, its members in byte
 /// order of their names, each a value as `leaf_value` prints it. A list or a set is the array of its ordinals, and a map the
-/// array of its pairs of ordinals. It fails only for want of memory.
+/// array of its pairs of ordinals. It fails only where memory is refused.
 pub fn row_value(
     alloc: Global,
     model: &Model,
@@ -59,7 +59,7 @@ fn record_value(alloc: Global, fields: &[Field], values: &[FieldValue]) -> Resul
 
 /// The value of a field as JSON: `null`, a number for INT and LONG, `true` or `false`, for a STRING its text, or the array of its
 /// units where they are not well-formed UTF-16, for BYTES lower-case hexadecimal digits, and for a REFERENCE its ordinal. It
-/// fails only for want of memory.
+/// fails only where memory is refused.
 pub fn leaf_value(alloc: Global, value: &FieldValue) -> Result<Value, AllocError>
     ensures { IfOk result (λ printed. IsValueData value.now (view printed)) }
 {

@@ -13,17 +13,17 @@ use Rattle.json_values.specs.declared.fault.ValueFault.{ValueFault}
 
 -- whether a signed number has so many bits
 abbrev pub has_bits : ℕ → ℤ → Bool
-has_bits bits (pos n) = nat_lt n (2 ^ (bits - 1))
-has_bits bits (negsuc n) = nat_lt n (2 ^ (bits - 1))
+has_bits bits (pos size) = nat_lt size (2 ^ (bits - 1))
+has_bits bits (negsuc size) = nat_lt size (2 ^ (bits - 1))
 
 -- the number, where there is one of so many bits
 abbrev pub read_signed : ℕ → Option ℤ → Result ℤ Reason
 read_signed bits None = Err NumberOutOfRange
-read_signed bits (Some n) = if has_bits bits n then Ok n else Err NumberOutOfRange
+read_signed bits (Some value) = if has_bits bits value then Ok value else Err NumberOutOfRange
 
 -- the signed number of a JSON value
 abbrev pub read_number : ℕ → Data → Result ℤ Reason
-read_number bits (number n) = read_signed bits (as_i64 n)
+read_number bits (number found) = read_signed bits (as_i64 found)
 read_number bits _ = Err OtherKind
 
 -- true or false
@@ -33,9 +33,9 @@ read_flag _ = Err OtherKind
 
 -- a unit of a STRING, which is given as the array of its units
 abbrev pub read_unit : Data → Result ℕ Reason
-read_unit (number (unsigned n)) = if nat_lt n (2 ^ 16) then Ok n else Err UnitOutOfRange
-read_unit (number (negative n)) = Err UnitOutOfRange
-read_unit (number (float x)) = Err UnitOutOfRange
+read_unit (number (unsigned unit)) = if nat_lt unit (2 ^ 16) then Ok unit else Err UnitOutOfRange
+read_unit (number (negative unit)) = Err UnitOutOfRange
+read_unit (number (float unit)) = Err UnitOutOfRange
 read_unit _ = Err OtherKind
 
 -- one thing before others, where both are there; the first fault counts
@@ -67,7 +67,7 @@ read_bytes _ = Err OtherKind
 
 -- a value made of what was read
 abbrev pub made_of : {A : Type 0} → (A → Value) → Result A Reason → Result Value Reason
-made_of make (Ok x) = Ok (make x)
+made_of make (Ok found) = Ok (make found)
 made_of make (Err reason) = Err reason
 
 -- the value of a field of this kind, which is not null
@@ -86,6 +86,6 @@ read_value kind value = read_kind kind value
 
 -- What each answer tells of what there is to read.
 abbrev pub Tells : {A : Type 0} → Result A Reason → Result A ValueFault → Type 0
-Tells read (Ok x) = read ≡ Ok x
+Tells read (Ok found) = read ≡ Ok found
 Tells read (Err (ValueFault.Field reason)) = read ≡ Err reason
 Tells read (Err ValueFault.Memory) = Unit {0}

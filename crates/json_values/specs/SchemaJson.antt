@@ -30,13 +30,13 @@ HasText value name text = get name value ≡ Some (string text)
 -- Each item stands for the one at its place.
 abbrev pub ItemsAre : {A : Type 0} → (Data → A → Type 0) → Items → List A → Type 0
 ItemsAre R no_items [] = Unit {0}
-ItemsAre R (item value items) (x ∷ xs) = R value x × ItemsAre R items xs
+ItemsAre R (item value items) (one ∷ others) = R value one × ItemsAre R items others
 ItemsAre R _ _ = ⊥
 
 -- The value is an array, and each item stands for the one at its place.
 abbrev pub IsArrayOf : {A : Type 0} → (Data → A → Type 0) → Data → List A → Type 0
-IsArrayOf R (array items) xs = ItemsAre R items xs
-IsArrayOf R _ xs = ⊥
+IsArrayOf R (array items) things = ItemsAre R items things
+IsArrayOf R _ things = ⊥
 
 abbrev pub IsText : Data → Name → Type 0
 IsText value text = value ≡ string text

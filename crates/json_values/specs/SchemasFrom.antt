@@ -28,25 +28,25 @@ HasFloatAt value t = IsSomeAnd (at t value) HasFloat
 
 -- The type at an index breaks a rule, in a list in which FLOAT and DOUBLE are told from the schemas that the list otherwise stands for.
 abbrev pub BreaksWithFloats : Data → List Schema → Rule → ℕ → Type 0
-BreaksWithFloats value schemas Rule.FloatField t = HasFloatAt value t
-BreaksWithFloats value schemas rule t = BreaksAt schemas rule t
+BreaksWithFloats value schemas Rule.FloatField type_index = HasFloatAt value type_index
+BreaksWithFloats value schemas rule type_index = BreaksAt schemas rule type_index
 
 -- This is the first rule that some type breaks, and the first type that breaks it.
-pub record IsFirstWithFloats (value : Data) (schemas : List Schema) (rule : Rule) (t : ℕ) : Type 0 where
-  pub earlier : (before : Rule) → rule_place before < rule_place rule → (u : ℕ) → BreaksWithFloats value schemas before u → ⊥
-  pub broken : BreaksWithFloats value schemas rule t
-  pub least : (u : ℕ) → u < t → BreaksWithFloats value schemas rule u → ⊥
+pub record IsFirstWithFloats (value : Data) (schemas : List Schema) (rule : Rule) (type_index : ℕ) : Type 0 where
+  pub earlier : (before : Rule) → rule_place before < rule_place rule → (other : ℕ) → BreaksWithFloats value schemas before other → ⊥
+  pub broken : BreaksWithFloats value schemas rule type_index
+  pub least : (other : ℕ) → other < type_index → BreaksWithFloats value schemas rule other → ⊥
 
 -- The value is a list of schemas with a FLOAT or a DOUBLE, and breaks this rule first, at this type.
 abbrev pub IsRefused : Data → Rule → ℕ → Type 0
-IsRefused value rule t =
-    (schemas : List Schema) × StandsForWithFloats value schemas × ((u : ℕ) × HasFloatAt value u) × IsFirstWithFloats value schemas rule t
+IsRefused value rule type_index =
+    (schemas : List Schema) × StandsForWithFloats value schemas × ((other : ℕ) × HasFloatAt value other) × IsFirstWithFloats value schemas rule type_index
 
 -- What each answer tells of the value.
 abbrev pub TellsSchemas : Data → Result (List Schema) SchemasFault → Type 0
 TellsSchemas value (Ok schemas) = StandsFor value schemas
 TellsSchemas value (Err Shape) = AreSchemas value → ⊥
-TellsSchemas value (Err (Broken rule t)) = IsRefused value rule t
+TellsSchemas value (Err (Broken rule type_index)) = IsRefused value rule type_index
 TellsSchemas value (Err Memory) = Unit {0}
 
 -- Want of memory may come in place of any answer.
@@ -56,8 +56,8 @@ IsFreeSchemas _ = ⊥
 
 -- What a search for the first type with a FLOAT or a DOUBLE tells.
 abbrev pub TellsFloat : Data → Option ℕ → Type 0
-TellsFloat value None = (t : ℕ) → HasFloatAt value t → ⊥
-TellsFloat value (Some t) = HasFloatAt value t × ((u : ℕ) → u < t → HasFloatAt value u → ⊥)
+TellsFloat value None = (type_index : ℕ) → HasFloatAt value type_index → ⊥
+TellsFloat value (Some type_index) = HasFloatAt value type_index × ((other : ℕ) → other < type_index → HasFloatAt value other → ⊥)
 
 -- No type breaks a rule that is tried before FloatField.
 abbrev pub KeepsFirstRules : List Schema → Type 0
@@ -69,12 +69,12 @@ BreaksFirstRule schemas rule t = (rule_place rule < 3) × IsFirstBroken schemas 
 
 -- What the test of the rules before FloatField tells.
 abbrev pub TellsFirstRules : {T : Type 0} → List Schema → Result T ModelFault → Type 0
-TellsFirstRules schemas (Ok x) = KeepsFirstRules schemas
-TellsFirstRules schemas (Err (ModelFault.Broken rule t)) = BreaksFirstRule schemas rule t
+TellsFirstRules schemas (Ok made) = KeepsFirstRules schemas
+TellsFirstRules schemas (Err (ModelFault.Broken rule type_index)) = BreaksFirstRule schemas rule type_index
 TellsFirstRules schemas (Err ModelFault.Memory) = Unit {0}
 
 -- What the refusal of schemas whose first type with a FLOAT or a DOUBLE is at this index tells.
 abbrev pub TellsRefusal : List Schema → ℕ → SchemasFault → Type 0
-TellsRefusal schemas first (Broken rule t) = BreaksFirstRule schemas rule t ⊎ ((rule ≡ Rule.FloatField) × (t ≡ first) × KeepsFirstRules schemas)
+TellsRefusal schemas first (Broken rule type_index) = BreaksFirstRule schemas rule type_index ⊎ ((rule ≡ Rule.FloatField) × (type_index ≡ first) × KeepsFirstRules schemas)
 TellsRefusal schemas first Memory = Unit {0}
 TellsRefusal schemas first _ = ⊥

@@ -39,7 +39,7 @@ fn has_float_field(schema: &Value) -> bool
 }
 
 fn is_float_among(fields: &Value) -> bool
-    ensures { IsTrue result ↔ ((k : ℕ) × IsSomeAnd (at k (view fields.now)) IsFloatField) }
+    ensures { IsTrue result ↔ ((place : ℕ) × IsSomeAnd (at place (view fields.now)) IsFloatField) }
 {
     match fields {
         Value::Array(fields) => some_is_float(fields.as_slice()),
@@ -48,7 +48,7 @@ fn is_float_among(fields: &Value) -> bool
 }
 
 fn some_is_float(fields: &[Value]) -> bool
-    ensures { IsTrue result ↔ ((k : ℕ) × IsSomeAnd (at k (array (items_view fields.now))) IsFloatField) }
+    ensures { IsTrue result ↔ ((place : ℕ) × IsSomeAnd (at place (array (items_view fields.now))) IsFloatField) }
 {
     for field in fields {
         if is_float(field) {

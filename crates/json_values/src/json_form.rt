@@ -21,7 +21,7 @@ pub(crate) trait JsonForm: Drop + Sized {
     fn is_form(value: &Value) -> bool
         ensures { IsTrue result ↔ ((one : Self) × stands (view value.now) one) };
 
-    /// The one for which a value stands. It fails only for want of memory.
+    /// The one for which a value stands. It fails only where memory is refused.
     fn from_form(alloc: Global, value: &Value) -> Result<Self, AllocError>
         requires { (one : Self) × stands (view value.now) one }
         ensures { IfOk result (stands (view value.now)) };
@@ -39,7 +39,7 @@ pub(crate) fn each_is_form<T: JsonForm>(values: &[Value]) -> bool
     true
 }
 
-/// Those for which the values of an array stand. It fails only for want of memory.
+/// Those for which the values of an array stand. It fails only where memory is refused.
 pub(crate) fn all_from_forms<T: JsonForm>(
     alloc: Global,
     values: &[Value],

@@ -32,7 +32,8 @@ pub fn key_from(
     }
 }
 
-// The same of the values of an array.
+// The values of a key, one for each path, from the values of an array. `Shape` where these are not as many as the paths, each a value of the field at the end
+// of its path that is not null.
 fn parts_from(
     alloc: Global,
     model: &Model,

@@ -14,7 +14,7 @@ use schema_model::{Field, FieldKind, Name, Names, Schema, Shape};
 use serde_json::Value;
 use std::alloc::{AllocError, Global};
 
-/// The schema for which a value stands; a FLOAT or a DOUBLE is taken as a BOOLEAN. It fails only for want of memory.
+/// The schema for which a value stands; a FLOAT or a DOUBLE is taken as a BOOLEAN. It fails only where memory is refused.
 pub(crate) fn schema_from(alloc: Global, value: &Value) -> Result<Schema, AllocError>
     requires { (schema : Schema) × IsSchema IsKindOrFloat (view value.now) schema }
     ensures { IfOk result (IsSchema IsKindOrFloat (view value.now)) }
@@ -88,7 +88,7 @@ fn map_from(alloc: Global, value: &Value) -> Result<Shape, AllocError>
     Ok(Shape::Map(key, element))
 }
 
-/// The field for which a value stands; a FLOAT or a DOUBLE is taken as a BOOLEAN. It fails only for want of memory.
+/// The field for which a value stands; a FLOAT or a DOUBLE is taken as a BOOLEAN. It fails only where memory is refused.
 pub(crate) fn field_from(alloc: Global, value: &Value) -> Result<Field, AllocError>
     requires { (field : Field) × IsField IsKindOrFloat (view value.now) field }
     ensures { IfOk result (IsField IsKindOrFloat (view value.now)) }

@@ -26,7 +26,7 @@ pub fn value_from(alloc: Global, kind: &FieldKind, value: &Value) -> Result<Fiel
     }
 }
 
-// The same of a value that is not null.
+// The value of a field of a kind without a reference, from a JSON value that is not null. `Field` where it gives none.
 fn kind_value(alloc: Global, kind: &FieldKind, value: &Value) -> Result<FieldValue, ValueFault>
     requires plain { IsPlain kind.now }
     ensures { Tells (read_kind kind.now (view value.now)) result }

@@ -1,5 +1,5 @@
 -- Lemmas on words of which the records of some places are written, one after the other.
-use Rattle.std.proofs.Common.{◌≡◌, ℕ, ◌+◌, ◌*◌, ◌-◌, ◌^◌, ◌<◌, ◌≤◌, inl, inr, List, length, None, refl, sym, subst, ◌∙◌, arith}
+use Rattle.std.proofs.Common.{◌≡◌, ℕ, ◌+◌, ◌*◌, ◌-◌, ◌^◌, ◌<◌, ◌≤◌, inl, inr, List, length, None, sym, subst, ◌∙◌, arith}
 use Rattle.std.specs.Prelude.{Contains, sum}
 use Rattle.std.proofs.lemmas.Bool.{cases_eq, cases_lt}
 use Rattle.bit_array.specs.Element.{number_of}
@@ -20,15 +20,6 @@ pub record WrittenBelow (Is : List ℕ → ℕ → Type 0) (widths old first pla
   pub small : from < 2 ^ 32
 
 module _ (Is : List ℕ → ℕ → Type 0) (widths old places : List ℕ) where
-  pub none_written : WrittenBelow Is widths old old places 0
-  none_written = record {
-    long = refl;
-    others = λ place not. refl;
-    behind = λ limit all below. below;
-    written = λ place at low. absurd (omega (arith, low));
-    small = omega arith;
-  }
-
   pub one_written : IsByBits Is widths → (first first' : List ℕ) (from o : ℕ) → WrittenBelow Is widths old first places from → IsNextMember from places o → o < 2 ^ 32 - 1 → length first' ≡ length first
       → AreOthersKept widths first first' o → IsEndKept widths first first' o → Is first' o → WrittenBelow Is widths old first' places (o + 1)
   one_written moves first first' from o done next small long others end here = record {

@@ -21,21 +21,6 @@ use Rattle.row_packing.proofs.Suiting.{shape_is}
 use Rattle.kept_sections.specs.Moved.{AreCopied, SpellsRowUnder}
 use Rattle.kept_sections.proofs.Changing.{IsByBits, WrittenBelow, one_written}
 
--- Words of the same length have as much room.
-pub room_same : (shape : Shape) (widths first first' : List ℕ) (place : ℕ) (row : Row) → HasRecordRoom shape widths first place row → length first' ≡ length first → HasRecordRoom shape widths first' place row
-room_same shape widths first first' place row room same = record {
-  object = room.object;
-  fixed = room.fixed;
-  holds = record {
-    few = room.holds.few;
-    wide = room.holds.wide;
-    within = (let was = room.holds.within in omega (arith, was, same));
-    below = room.holds.below;
-  };
-  fits = room.fits;
-  numbers = room.numbers;
-}
-
 -- What a place spells depends on the bits of its record alone.
 pub spells_moves : (shape : Shape) (table : Table) (type_index : ℕ) (widths : List ℕ) → AreFixed (shape_fields shape) → IsByBits (SpellsRowUnder shape table type_index widths) widths
 spells_moves shape table type_index widths fixed a b place same is = λ row areas at long. row_moved shape widths a b areas areas place place (stored_row row) fixed refl same (is row areas at long)

@@ -22,6 +22,7 @@ use Rattle.row_widths.proofs.RecordSpreads.{digits_some, most_bits-append}
 use Rattle.row_packing.specs.Chosen.{KeepsCounts, chosen_total}
 use Rattle.row_packing.proofs.BucketPlaces.{buckets_sum}
 use Rattle.row_packing.proofs.Suiting.{rows_bytes_few}
+use Rattle.row_packing.proofs.TypeLimits.{sum_zero}
 use Rattle.kept_sums.specs.Sums.{AreFew, bytes_at, bytes_in, items_in, most_by}
 
 -- ---- digits
@@ -97,12 +98,8 @@ values_most (row ∷ rows) =
 
 -- ---- items
 
-sum_none : (rows : List Row) → sum_by (λ row. 0) rows ≡ 0
-sum_none [] = refl
-sum_none (row ∷ rows) = let step = sum_by-cons (λ (r : Row). 0) row rows in let rest = sum_none rows in omega (arith, step, rest)
-
 pub total_is : (shape : Shape) (rows : List Row) (items : ℕ) → items ≡ sum_by (items_in shape) rows → min items (2 ^ 25 + 1) ≡ chosen_total shape rows
-total_is (Shape.Object key fields) rows items is = let none = sum_none rows in omega (arith, is, none)
+total_is (Shape.Object key fields) rows items is = let none = sum_zero rows in omega (arith, is, none)
 total_is (Shape.List element) rows items is = let all = length-flat_map elements_of_row rows in omega (arith, is, all)
 total_is (Shape.Set element) rows items is = let all = buckets_sum rows in omega (arith, is, all)
 total_is (Shape.Map key value) rows items is = let all = buckets_sum rows in omega (arith, is, all)

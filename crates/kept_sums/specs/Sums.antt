@@ -77,8 +77,8 @@ items_in (Shape.Map key value) row = bucket_count (length (pairs_of row))
 
 -- The most that one of some rows has, 0 where there is none.
 abbrev pub most_by : {X : Type 0} → (X → ℕ) → List X → ℕ
-most_by f [] = 0
-most_by f (x ∷ xs) = max (f x) (most_by f xs)
+most_by measure [] = 0
+most_by measure (one ∷ others) = max (measure one) (most_by measure others)
 
 -- One where two numbers are the same.
 abbrev pub one_if : ℕ → ℕ → ℕ

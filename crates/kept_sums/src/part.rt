@@ -44,7 +44,7 @@ impl Part {
     #[tactic(auto, using(crate::proofs::Summing::counted_more))]
     pub(crate) fn add(&mut self, bits: u32, bytes: u64) -> Result<(), AllocError>
         requires { bits ≤ 64 }
-        ensures counts { OnOk result ((n : ℕ) → get_or self.new.counts n 0 ≡ get_or self.old.counts n 0 + one_if bits n) }
+        ensures counts { OnOk result ((place : ℕ) → get_or self.new.counts place 0 ≡ get_or self.old.counts place 0 + one_if bits place) }
         ensures bytes { OnOk result (self.new.bytes ≡ self.old.bytes + bytes) }
     {
         let place = bits as usize;
@@ -59,7 +59,7 @@ impl Part {
     #[tactic(auto, using(crate::proofs::Summing::counted_less))]
     pub(crate) fn take(&mut self, bits: u32, bytes: u64)
         requires { bits ≤ 64 }
-        ensures counts { (n : ℕ) → get_or self.new.counts n 0 ≡ get_or self.old.counts n 0 - one_if bits n }
+        ensures counts { (place : ℕ) → get_or self.new.counts place 0 ≡ get_or self.old.counts place 0 - one_if bits place }
         ensures bytes { self.new.bytes ≡ self.old.bytes - bytes }
     {
         let place = bits as usize;
@@ -70,7 +70,7 @@ impl Part {
     /// The most bits that a row takes, 0 where there is none.
     pub(crate) fn most(&self) -> u32
         ensures few { result ≤ 64 }
-        ensures none { (n : ℕ) → result < n → get_or self.now.counts n 0 ≡ 0 }
+        ensures none { (bits : ℕ) → result < bits → get_or self.now.counts bits 0 ≡ 0 }
         ensures some { (result ≡ 0) ⊎ (0 < get_or self.now.counts result 0) }
     {
         most_of(self.counts.as_slice())
@@ -90,7 +90,7 @@ impl Part {
 fn most_of(counts: &[u32]) -> u32
     requires { length counts.now ≡ 65 }
     ensures few { result ≤ 64 }
-    ensures none { (n : ℕ) → result < n → get_or counts.now n 0 ≡ 0 }
+    ensures none { (place : ℕ) → result < place → get_or counts.now place 0 ≡ 0 }
     ensures some { (result ≡ 0) ⊎ (0 < get_or counts.now result 0) }
 {
     let mut bits: u32 = 64;

@@ -27,7 +27,7 @@ pub(crate) fn bits_at(shape: &Shape, part: usize, row: &Row) -> u32
     }
 }
 
-// The same of the value of a field, 0 where there is none.
+// How many bits the value of a field takes, 0 where there is none.
 #[tactic(auto, using(crate::proofs::RowParts::most_there, crate::proofs::RowParts::most_none))]
 fn value_bits_at(values: &[Value], part: usize) -> u32
     ensures is { result ≡ most_bits (value_at part values.now) }
@@ -39,7 +39,7 @@ fn value_bits_at(values: &[Value], part: usize) -> u32
     }
 }
 
-// The same of a set or a map.
+// How many bits a part of a set or a map takes: its size, the number after its greatest element or key, or its greatest value.
 #[tactic(auto, using(crate::proofs::RowParts::values_part))]
 fn bucket_bits(part: usize, row: &Row) -> u32
     ensures is { result ≡ bucket_bits part row.now }

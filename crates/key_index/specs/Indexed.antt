@@ -33,14 +33,14 @@ indexed_code =
 
 -- These are the keys of the live rows of a type along some paths.
 abbrev pub AreKeysOf : List Schema → Table → ℕ → List Path → KeyMap → Type 0
-AreKeysOf schemas table t paths keys =
-    (ordinal : ℕ) → MatchOption (row_at table t ordinal) (get keys ordinal ≡ None) (λ row. get keys ordinal ≡ Some (key_of schemas table t paths ordinal))
+AreKeysOf schemas table type_index paths keys =
+    (ordinal : ℕ) → MatchOption (row_at table type_index ordinal) (get keys ordinal ≡ None) (λ row. get keys ordinal ≡ Some (key_of schemas table type_index paths ordinal))
 
 -- The index is that of a type by some paths, over the rows of a state.
-pub record IsIndexBy (schemas : List Schema) (table : Table) (t : ℕ) (paths : List Path) (index : Indexed) : Type 0 where
-  pub type_is : index.type_index ≡ t
+pub record IsIndexBy (schemas : List Schema) (table : Table) (type_index : ℕ) (paths : List Path) (index : Indexed) : Type 0 where
+  pub type_is : index.type_index ≡ type_index
   pub paths_are : index.paths ≡ paths
-  pub keys_are : AreKeysOf schemas table t paths index.keys
+  pub keys_are : AreKeysOf schemas table type_index paths index.keys
 
 -- These are the indexed ordinals under which a row has the key, rising.
 pub record AreUnder (keys : KeyMap) (key : List Value) (ordinals : List ℕ) : Type 0 where
@@ -57,13 +57,13 @@ abbrev pub CountsLive : Table → ℕ → ℕ → ℕ → Type 0
 CountsLive table t before after = (ordinals : List ℕ) × Rises ordinals × ((ordinal : ℕ) → Contains ordinals ordinal ↔ IsLive table t ordinal) × (after ≡ before + length ordinals)
 
 -- The live rows of a state are the indexed ones without those that are removed and with those that are added, and each that stays has its key.
-pub record Follows (keys : KeyMap) (schemas : List Schema) (table : Table) (t : ℕ) (paths : List Path) (removed added : List ℕ) : Type 0 where
+pub record Follows (keys : KeyMap) (schemas : List Schema) (table : Table) (type_index : ℕ) (paths : List Path) (removed added : List ℕ) : Type 0 where
   pub removed_rise : Rises removed
   pub added_rise : Rises added
   pub removed_there : All (λ ordinal. IsSome (get keys ordinal)) removed
   pub added_free : All (λ ordinal. get keys ordinal ≡ None) added
-  pub live : (ordinal : ℕ) → IsLive table t ordinal ↔ ((IsSome (get keys ordinal) × ¬ Contains removed ordinal) ⊎ Contains added ordinal)
-  pub stays : (ordinal : ℕ) → IsLive table t ordinal → ¬ Contains added ordinal → get keys ordinal ≡ Some (key_of schemas table t paths ordinal)
+  pub live : (ordinal : ℕ) → IsLive table type_index ordinal ↔ ((IsSome (get keys ordinal) × ¬ Contains removed ordinal) ⊎ Contains added ordinal)
+  pub stays : (ordinal : ℕ) → IsLive table type_index ordinal → ¬ Contains added ordinal → get keys ordinal ≡ Some (key_of schemas table type_index paths ordinal)
 
 -- Two states agree: what is live in both has one row.
 abbrev pub HaveOneRow : Table → Table → Type 0

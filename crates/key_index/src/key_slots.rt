@@ -143,7 +143,7 @@ fn widen_large(slots: &mut Vec<Slot>, room: u32) -> Result<(), AllocError>
     Ok(())
 }
 
-// The same in slots for keys of any kind.
+// Slots for keys of any kind that hold what these small slots hold.
 fn large_slots(alloc: Global, slots: &[SmallSlot]) -> Result<Vec<Slot>, AllocError>
     ensures { IfOk result (λ large. large.items ≡ map slot_of slots.now) }
 {

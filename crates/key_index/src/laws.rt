@@ -8,8 +8,8 @@ ghost use Rattle.key_index.specs.Indexed.{HaveOneRow};
 
 /// A row that stays from one state to another that agrees with it has its key in both: each row that it names stays too.
 pub fn kept_key()
-    ensures { (schemas : List Schema) (old new : Table) (t ordinal : ℕ) (paths : List Path)
+    ensures { (schemas : List Schema) (old new : Table) (type_index ordinal : ℕ) (paths : List Path)
         → IsTableOf schemas old → IsTableOf schemas new → IsClosed schemas old → IsClosed schemas new → HaveOneRow old new
-        → All (IsResolved schemas t) paths → IsLive old t ordinal → IsLive new t ordinal
-        → key_of schemas new t paths ordinal ≡ key_of schemas old t paths ordinal }
+        → All (IsResolved schemas type_index) paths → IsLive old type_index ordinal → IsLive new type_index ordinal
+        → key_of schemas new type_index paths ordinal ≡ key_of schemas old type_index paths ordinal }
 {}

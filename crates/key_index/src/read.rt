@@ -67,7 +67,7 @@ fn value_along<R: ColumnRows>(
     value_along(alloc, rows, next, named, rest)
 }
 
-// A value that is not null.
+// The value, unless it is null.
 fn unless_null(value: Value) -> Option<Value>
     ensures { result ≡ not_null (Some value) }
 {

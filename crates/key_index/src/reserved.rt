@@ -16,11 +16,11 @@ use schema_model::Paths;
 use std::alloc::{AllocError, Global};
 use std::sync::ledger::Ledger;
 
-/// A row that comes.
+/// A row that comes, under its ordinal.
 #[derive(Drop)]
 pub(crate) struct AddedRow {
     pub(crate) ordinal: u32,
-    /// The row with its key.
+    /// What stands for it in the index: its key, or that it has none.
     pub(crate) slot: Slot,
 }
 
@@ -69,7 +69,7 @@ fn are_small(rows: &[AddedRow]) -> bool
     rows.iter().all(|row| row.slot.is_small())
 }
 
-// Drops rows.
+// Takes the rows under these ordinals out of the index.
 fn remove_all(rows: &mut KeyRows, removed: &[u32])
     ensures { rows.new ≡ record rows.old { keys = without rows.old.keys removed.now } }
 {
@@ -78,7 +78,7 @@ fn remove_all(rows: &mut KeyRows, removed: &[u32])
     }
 }
 
-// Puts rows with their keys.
+// Puts the rows that come into the index, which has room for them. It takes no memory.
 fn put_all(rows: &mut KeyRows, added: AddedRows)
     requires { All (Fits rows.old) added }
     ensures { rows.new ≡ record rows.old { keys = with_added rows.old.keys added } }

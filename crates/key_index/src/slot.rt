@@ -85,7 +85,7 @@ impl Slot {
         self.small().is_some()
     }
 
-    /// The same in a small slot, where that has room for its key.
+    /// What stands under the ordinal, in a small slot; none where that has no room for its key.
     #[inline(always)]
     pub(crate) fn small(&self) -> Option<SmallSlot>
         ensures same { IfSome result (λ small. slot_of small ≡ self.now) }
@@ -137,7 +137,7 @@ impl SmallSlot {
         }
     }
 
-    /// The same in a slot for keys of any kind.
+    /// What stands under the ordinal, in a slot for keys of any kind.
     pub(crate) fn large(self) -> Slot
         ensures { result ≡ slot_of self }
     {

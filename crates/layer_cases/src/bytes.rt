@@ -12,7 +12,7 @@ pub fn tell(out: &mut String, alloc: Global, word: &str, spelled: &str) -> Resul
     }
 }
 
-/// The same of bytes, of a run of gaps at most a hundred.
+/// Tells what bytes are: a VInt (`vint`), a STRING (`string`), a text in Java UTF (`utf`), or a run of gaps, of at most a hundred bytes.
 fn tell_bytes(out: &mut String, alloc: Global, word: &str, bytes: &[u8]) -> Result<(), AllocError> {
     match word {
         "vint" => write!(out, "{:?}", get_vint(bytes, 0)),

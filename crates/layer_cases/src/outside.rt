@@ -23,7 +23,7 @@ pub fn tell(out: &mut String, alloc: Global, word: &str, rest: &str) -> Result<(
     }
 }
 
-/// The same of a budget and an input, in which a stroke stands for the end of a line.
+/// Tells what the turns give of an input within a budget, where these calls fail. A stroke in the input stands for the end of a line.
 fn tell_input(
     out: &mut String,
     alloc: Global,

@@ -44,7 +44,7 @@ fn put_lines(alloc: Global, out: &mut Vec<u8>) -> Result<(), AllocError> {
     )
 }
 
-/// What they are.
+/// The lines of these answers, in their order.
 const LINES: &str = r#"null
 {"ok":"model","types":1}
 {"at":31,"blob":"snapshot-1","error":19,"name":"BadBlob","ordinal":7,"reason":45,"type":"A"}

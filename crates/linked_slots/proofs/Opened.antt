@@ -1,15 +1,14 @@
 -- What the fields of chains say of what contracts see, and what each call makes of it.
-use Rattle.std.proofs.Common.{◌≡◌, ◌<◌, ℕ, Bool, true, false, cond, List, [], ◌∷◌, Option, Some, None, length, get_or, set, map, refl, arith, ◌∙◌, sym, ap, subst, inl}
-use Rattle.std.specs.Prelude.{nat_eq, option_map, slice_get, is_some, IsSome, ltb}
-use Rattle.std.proofs.lemmas.Bool.{ltb-true, ltb-false}
+use Rattle.std.proofs.Common.{◌≡◌, ◌≢◌, ◌<◌, ◌^◌, ◌-◌, ℕ, Bool, true, false, cond, List, [], ◌∷◌, Option, Some, None, length, get_or, set, map, refl, arith, ◌∙◌, sym, ap, subst, inl}
+use Rattle.std.specs.Prelude.{nat_eq, not, option_map, slice_get, is_some, IsSome}
 use Rattle.std.proofs.lemmas.List.{get_or-map, length-set, length-map}
-use Rattle.std.proofs.lemmas.Option.{slice_get-get_or, slice_get_past, slice_get_within}
-use Rattle.linked_slots.specs.Chained.{Chained, bucket_of, hash_of, links_under, without}
-use Rattle.linked_slots.specs.Links.{AreFor, before_set, next_set, chains_from, free_link, front_or, hash_at, none, with_before}
+use Rattle.std.proofs.lemmas.Option.{slice_get_within}
+use Rattle.linked_slots.specs.Chained.{Among, Chained, bucket_of, hash_of, links_under, without}
+use Rattle.linked_slots.specs.Links.{AreFor, before_set, next_set, chains_from, free_link, free_next, front_or, hash_at, none, with_before}
 use Rattle.linked_slots.specs.declared.link.Link.{Link}
 use Rattle.linked_slots.proofs.Writes.{link_written, neighbour_hidden}
 use Rattle.linked_slots.proofs.Walks.{chains_are, closed, hash_is}
-use Rattle.linked_slots.proofs.Changes.{link_hashes, link_made, unlink_hashes, unlink_made}
+use Rattle.linked_slots.proofs.Changes.{link_hashes, slot_within, link_made, unlink_hashes, unlink_made}
 
 abbrev pub shown : List ℕ → List Link → Chained
 shown heads links = record { slots = length links; chains = chains_from heads links }
@@ -29,14 +28,6 @@ some_link (Some link) h = (link, refl, flag link.linked h)
     flag true h = refl
     flag false h = absurd cc
 
--- what `get` gives
-pub read_some : (xs ys : List Link) (slot : ℕ) (link : Link) → ys ≡ xs → true ≡ ltb slot (length ys) → link ≡ get_or ys slot link → slice_get xs slot ≡ Some link
-read_some xs ys slot link e within is =
-    ap (λ (zs : List Link). slice_get zs slot) (sym e) ∙ slice_get-get_or ys slot link (ltb-true slot (length ys) (sym within)) ∙ ap (λ (l : Link). Some l) (sym is)
-
-pub read_past : (xs ys : List Link) (slot : ℕ) → ys ≡ xs → false ≡ ltb slot (length ys) → slice_get xs slot ≡ None
-read_past xs ys slot e past = ap (λ (zs : List Link). slice_get zs slot) (sym e) ∙ slice_get_past ys slot (ltb-false slot (length ys) (sym past))
-
 -- no slots and no buckets
 pub nothing : (heads : List ℕ) (links : List Link) → heads ≡ [] → links ≡ [] → AreFor heads links []
 nothing heads links e k =
@@ -49,13 +40,6 @@ nothing heads links e k =
       hashed = λ b t hash h. absurd h;
       found = λ t hash h. absurd cc;
     }))
-
-flag_is : (link : Link) → is_some (hash_at (Some link)) ≡ link.linked
-flag_is link = by_flag link.linked
-  where
-    by_flag : (b : Bool) → is_some (cond b (Some link.hash) None) ≡ b
-    by_flag true = refl
-    by_flag false = refl
 
 module _ (heads : List ℕ) (links : List Link) (now : Chained) (inside : AreFor heads links (chains_from heads links)) (view_is : shown heads links ≡ now) where
   pub opened : AreFor heads links now.chains
@@ -70,23 +54,19 @@ module _ (heads : List ℕ) (links : List Link) (now : Chained) (inside : AreFor
   pub hash_now : (t : ℕ) → hash_of now t ≡ hash_at (slice_get links t)
   hash_now t = hash_is heads links now.chains t opened
 
-  pub linked_some : (slot : ℕ) (link : Link) → slice_get links slot ≡ Some link → link.linked ≡ is_some (hash_of now slot)
-  linked_some slot link is = sym (ap is_some (hash_now slot ∙ ap hash_at is) ∙ flag_is link)
-
-  pub linked_none : (slot : ℕ) → slice_get links slot ≡ None → false ≡ is_some (hash_of now slot)
-  linked_none slot is = sym (ap is_some (hash_now slot ∙ ap hash_at is))
-
-  pub hash_some : (slot : ℕ) (link : Link) → slice_get links slot ≡ Some link → hash_at (Some link) ≡ hash_of now slot
-  hash_some slot link is = sym (hash_now slot ∙ ap hash_at is)
-
-  pub hash_none : (slot : ℕ) → slice_get links slot ≡ None → None ≡ hash_of now slot
-  hash_none slot is = sym (hash_now slot ∙ ap hash_at is)
-
   pub linked_within : (slot : ℕ) → IsSome (hash_of now slot) → slot < length links
   linked_within slot h = let l = some_link (slice_get links slot) (subst IsSome (hash_now slot) h) in slice_get_within links slot l.0 l.1
 
   pub head_is : (b x : ℕ) → b < length now.chains → x ≡ get_or heads b x → x ≡ front_or none (get_or now.chains b [])
   head_is b x within is = is ∙ ap (λ (hs : List ℕ). get_or hs b x) opened.heads_are ∙ get_or-map (front_or none) now.chains b [] x within
+
+  -- no head stands for a slot that is not linked
+  pub head_apart : (b x : ℕ) → b < length now.chains → x ≡ get_or heads b x → x ≢ free_next
+  head_apart b x within is e = front_apart (get_or now.chains b []) (λ t h. slot_within heads links now.chains opened b t h) (sym (head_is b x within is) ∙ e)
+    where
+      front_apart : (c : List (ℕ × ℕ)) → ((t : ℕ) → Among t c → t < length links) → front_or none c ≡ free_next → ⊥
+      front_apart [] below e = absurd (omega arith)
+      front_apart (y ∷ ys) below e = let b : y.0 < length links = below y.0 (inl refl) in let few : length links < 2 ^ 32 - 1 = opened.few in absurd (omega arith)
 
   -- ---- link
 
@@ -103,7 +83,7 @@ module _ (heads : List ℕ) (links : List Link) (now : Chained) (inside : AreFor
     writes t =
         link_written more slot t (record { linked = true; hash = hash; before = none; next = next }) (let s : length links ≡ now.slots = long in omega arith)
         ∙ ap (λ o. cond (nat_eq t slot) (Some (record { linked = true; hash = hash; before = none; next = next })) o) (reads t)
-        ∙ neighbour_hidden links next slot place slot t (Some (record { linked = true; hash = hash; before = none; next = next })) opened.few place_is
+        ∙ neighbour_hidden links next slot place slot t (Some (record { linked = true; hash = hash; before = none; next = next })) (omega (arith, opened.few)) place_is
         ∙ ap (λ (k : ℕ). cond (nat_eq t slot) (Some (record { linked = true; hash = hash; before = none; next = k })) (before_set k slot (slice_get links) t)) front_is
 
     free_at : hash_at (slice_get links slot) ≡ None
@@ -125,21 +105,26 @@ module _ (heads : List ℕ) (links : List Link) (now : Chained) (inside : AreFor
         (ap (λ (k : ℕ). get_or now.chains k []) b_is) free_at writes t
         ∙ ap (λ o. cond (nat_eq t slot) (Some hash) o) (sym (hash_now t))
 
+  flag_at : (slot : ℕ) (link : Link) → IsSome (hash_of now slot) → slice_get links slot ≡ Some link → link.linked ≡ true
+  flag_at slot link is_linked there =
+      let l = some_link (slice_get links slot) (subst IsSome (hash_now slot) is_linked) in
+      let e : Some link ≡ Some l.0 = sym there ∙ l.1 in
+      let k : link ≡ l.0 = cc in
+      ap (λ (m : Link). m.linked) k ∙ l.2
+
+  -- nothing that is not a slot follows one that is linked
+  pub linked_apart : (slot : ℕ) (link : Link) → IsSome (hash_of now slot) → slice_get links slot ≡ Some link → link.linked ≡ not (nat_eq link.next free_next) → link.next ≢ free_next
+  linked_apart slot link is_linked there told e =
+      let k : true ≡ false = sym (flag_at slot link is_linked there) ∙ told ∙ ap (λ (n : ℕ). not (nat_eq n free_next)) e in absurd cc
+
   -- ---- unlink
 
-  module _ (heads_new : List ℕ) (one two : List Link) (slot b place : ℕ) (link : Link) (is_linked : IsSome (hash_of now slot)) (link_is : link ≡ get_or links slot link)
+  module _ (heads_new : List ℕ) (one two : List Link) (slot b place : ℕ) (link : Link) (is_linked : IsSome (hash_of now slot)) (there : slice_get links slot ≡ Some link)
       (b_is : b ≡ bucket_of now link.hash) (within : b < length now.chains) (heads_are : heads_new ≡ cond (nat_eq link.before none) (set heads b link.next) heads)
       (place_is : place ≡ cond (nat_eq link.next none) slot link.next) (reads_one : (t : ℕ) → slice_get one t ≡ next_set link.before link.next (slice_get links) t) (reads_two : (t : ℕ) → slice_get two t ≡ before_set place link.before (slice_get one) t)
       (same_one : length one ≡ length links) (same_two : length two ≡ length one) where
-    there : slice_get links slot ≡ Some link
-    there = slice_get-get_or links slot link (linked_within slot is_linked) ∙ ap (λ (l : Link). Some l) (sym link_is)
-
     flag : link.linked ≡ true
-    flag =
-        let l = some_link (slice_get links slot) (subst IsSome (hash_now slot) is_linked) in
-        let e : Some link ≡ Some l.0 = sym there ∙ l.1 in
-        let k : link ≡ l.0 = cc in
-        ap (λ (m : Link). m.linked) k ∙ l.2
+    flag = flag_at slot link is_linked there
 
     gone : (t : ℕ) → slice_get (set two slot free_link) t ≡ cond (nat_eq t slot) (Some free_link) (before_set link.next link.before (next_set link.before link.next (slice_get links)) t)
     gone t =

@@ -3,7 +3,8 @@ ghost use Rattle.std.specs.Prelude.{◌≡◌, ◌<◌, ◌↔◌, ℕ, [], ◌�
 ghost use Rattle.std.specs.Int.{IsPowerOfTwo};
 ghost use Rattle.linked_slots.specs.Chained.{Among, AreApart, IsAt, IsBuckets, Shows, fallen, IsReserved, IsSpread, IsWhole, all_of, hash_among, with_hash, bucket_of, chain_of, hash_of, left_at, links_under, without};
 
-use crate::link::{Link, NONE, all_links, neighbour_or, set_before, set_follower, some_slot};
+use crate::link::{Link, NONE, all_links, neighbour_or, set_follower, some_slot};
+use crate::links::Links;
 use std::alloc::{AllocError, Global};
 use std::marker::Model;
 
@@ -14,7 +15,7 @@ pub struct Chains {
     /// The first slot of each bucket, `NONE` for none.
     heads: Vec<u32>,
     /// What stands at each slot.
-    links: Vec<Link>,
+    links: Links,
 }
 
 impl Model for Chains {
@@ -26,9 +27,9 @@ impl Model for Chains {
 
     ghost coded = { chained_code };
 
-    ghost view = { λ a. record { slots = length a.links.items; chains = chains_from a.heads.items a.links.items } };
+    ghost view = { λ a. record { slots = length a.links; chains = chains_from a.heads.items a.links } };
 
-    ghost invariant = { λ a. AreLinked a.heads.items a.links.items };
+    ghost invariant = { λ a. AreLinked a.heads.items a.links };
 }
 
 impl Chains {
@@ -39,7 +40,7 @@ impl Chains {
         Chains {
             alloc,
             heads: Vec::new(alloc),
-            links: Vec::new(alloc),
+            links: Links::new(alloc),
         }
     }
 
@@ -50,8 +51,8 @@ impl Chains {
     {
         let mut heads = Vec::new(alloc);
         heads.resize(buckets as usize, NONE)?;
-        let mut links = Vec::new(alloc);
-        links.resize(slots as usize, Link::free())?;
+        let mut links = Links::new(alloc);
+        links.grow(slots as usize)?;
         Ok(Chains {
             alloc,
             heads,
@@ -96,13 +97,13 @@ impl Chains {
         }
     }
 
-    // Reserves slots.
+    // Adds slots, none of them linked, until there are so many at least. Where memory is refused all stays as it was.
     fn add_slots(&mut self, slots: u32) -> Result<(), AllocError>
         ensures ok { OnOk result (self.new ≡ record self.old { slots = max self.old.slots slots }) }
         ensures err { OnErr result (self.new ≡ self.old) }
     {
         if slots as usize > self.links.len() {
-            self.links.resize(slots as usize, Link::free())?;
+            self.links.grow(slots as usize)?;
         }
         Ok(())
     }
@@ -147,13 +148,16 @@ impl Chains {
         let bucket = self.bucket(hash);
         let next = self.heads[bucket];
         let place = neighbour_or(next, slot);
-        set_before(&mut self.links, place, slot);
-        self.links[slot as usize] = Link {
-            linked: true,
-            hash,
-            before: NONE,
-            next,
-        };
+        self.links.set_before(place, slot);
+        self.links.put(
+            slot,
+            Link {
+                linked: true,
+                hash,
+                before: NONE,
+                next,
+            },
+        );
         self.heads[bucket] = slot;
     }
 
@@ -164,7 +168,7 @@ impl Chains {
         ensures hashes { (other : ℕ) → hash_of self.new other ≡ (if nat_eq other slot then None else hash_of self.old other) }
         ensures shows { (links : List (ℕ × ℕ)) → Shows self.old links → Shows self.new (without slot links) }
     {
-        let link = self.links[slot as usize];
+        let link = self.links.link(slot);
         let bucket = self.bucket(link.hash);
         set_follower(
             &mut self.heads,
@@ -174,8 +178,8 @@ impl Chains {
             link.next,
         );
         let place = neighbour_or(link.next, slot);
-        set_before(&mut self.links, place, link.before);
-        self.links[slot as usize] = Link::free();
+        self.links.set_before(place, link.before);
+        self.links.put(slot, Link::free());
     }
 
     /// Whether a slot is linked.
@@ -183,10 +187,7 @@ impl Chains {
     pub fn linked(&self, slot: u32) -> bool
         ensures { result ≡ is_some (hash_of self.now slot) }
     {
-        match self.links.get(slot as usize) {
-            Some(link) => link.linked,
-            None => false,
-        }
+        self.links.hash(slot).is_some()
     }
 
     /// The hash with which a slot is linked, if it is.
@@ -194,10 +195,7 @@ impl Chains {
     pub fn hash(&self, slot: u32) -> Option<u32>
         ensures { result ≡ hash_of self.now slot }
     {
-        match self.links.get(slot as usize) {
-            Some(link) => link.linked_hash(),
-            None => None,
-        }
+        self.links.hash(slot)
     }
 
     /// The first slot of the chain of a hash, where a walk along it begins.
@@ -221,6 +219,6 @@ impl Chains {
         ensures left { (hash : ℕ) → IsAt self.now hash (Some slot) → left_at self.now hash (Some slot) ≡ slot ∷ left_at self.now hash result }
         ensures at { (hash : ℕ) → IsAt self.now hash (Some slot) → IsAt self.now hash result }
     {
-        some_slot(self.links[slot as usize].next)
+        some_slot(self.links.next(slot))
     }
 }

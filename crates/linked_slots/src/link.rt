@@ -1,12 +1,16 @@
 //! What stands at a slot, and writes of its neighbours.
-ghost use Rattle.std.specs.Prelude.{◌≡◌, ◌<◌, ◌≤◌, ◌^◌, ℕ, length, slice_get, slice_set, nat_eq, if◌then◌else◌, slice_index, Some, None, List, ◌++◌, vec_len, replicate, take, IfOk, OnErr, OnOk};
-ghost use Rattle.linked_slots.specs.Links.{none, AreLinked, chains_from, front_or, IsChain, next_set, before_set, walk};
+ghost use Rattle.std.specs.Prelude.{◌≡◌, ◌≢◌, ◌≤◌, ◌<◌, ℕ, length, slice_get, slice_set, nat_eq, if◌then◌else◌, Some, None, ◌++◌, IfOk, OnOk};
+ghost use Rattle.linked_slots.specs.Links.{none, free_next, AreLinked, chains_from, front_or, IsChain, next_set, before_set, walk};
 ghost use Rattle.linked_slots.specs.Chained.{all_of};
 
+use crate::links::Links;
 use std::alloc::{AllocError, Global};
 
-/// No slot.
+/// No slot: what stands behind the last slot of a chain, before its first one, and at the head of an empty bucket.
 pub(crate) const NONE: u32 = u32::MAX;
+
+/// What follows a slot that is not linked.
+pub(crate) const FREE: u32 = u32::MAX - 1;
 
 /// What stands at a slot: whether it is linked, its hash, and its neighbours in its chain, `NONE` at the ends.
 #[derive(Clone, Copy)]
@@ -19,8 +23,7 @@ pub(crate) struct Link {
 
 impl Link {
     ghost use Rattle.std.specs.Prelude.{◌≡◌};
-    ghost use Rattle.std.specs.Prelude.{Some};
-    ghost use Rattle.linked_slots.specs.Links.{free_link, hash_at};
+    ghost use Rattle.linked_slots.specs.Links.{free_link};
 
     /// A slot that is not linked.
     pub(crate) fn free() -> Link
@@ -30,59 +33,30 @@ impl Link {
             linked: false,
             hash: 0,
             before: NONE,
-            next: NONE,
+            next: FREE,
         }
-    }
-
-    /// The hash, where the slot is linked.
-    #[inline(always)]
-    pub(crate) fn linked_hash(&self) -> Option<u32>
-        ensures { result ≡ hash_at (Some self.now) }
-    {
-        if self.linked { Some(self.hash) } else { None }
-    }
-}
-
-/// Writes what follows a slot, if there is such a slot.
-#[tactic(auto, using(crate::proofs::Writes::next_written, crate::proofs::Writes::next_past))]
-pub(crate) fn set_next(links: &mut Vec<Link>, slot: u32, next: u32)
-    ensures reads { (t : ℕ) → slice_get links.new.items t ≡ next_set slot next (slice_get links.old.items) t }
-    ensures len { length links.new.items ≡ length links.old.items }
-{
-    if (slot as usize) < links.len() {
-        links[slot as usize].next = next;
-    }
-}
-
-/// Writes what stands before a slot, if there is such a slot.
-#[tactic(auto, using(crate::proofs::Writes::before_written, crate::proofs::Writes::before_past))]
-pub(crate) fn set_before(links: &mut Vec<Link>, slot: u32, before: u32)
-    ensures reads { (t : ℕ) → slice_get links.new.items t ≡ before_set slot before (slice_get links.old.items) t }
-    ensures len { length links.new.items ≡ length links.old.items }
-{
-    if (slot as usize) < links.len() {
-        links[slot as usize].before = before;
     }
 }
 
 /// Writes what follows a slot, or where there is no such slot the head of a bucket.
 pub(crate) fn set_follower(
     heads: &mut Vec<u32>,
-    links: &mut Vec<Link>,
+    links: &mut Links,
     bucket: usize,
     before: u32,
     next: u32,
 )
     requires bucket { bucket < length heads.old.items }
-    requires few { length links.old.items ≤ none }
+    requires few { length links.old ≤ none }
+    requires next { next ≢ free_next }
     ensures heads { heads.new.items ≡ (if nat_eq before none then slice_set heads.old.items bucket next else heads.old.items) }
-    ensures reads { (t : ℕ) → slice_get links.new.items t ≡ next_set before next (slice_get links.old.items) t }
-    ensures len { length links.new.items ≡ length links.old.items }
+    ensures reads { (place : ℕ) → slice_get links.new place ≡ next_set before next (slice_get links.old) place }
+    ensures len { length links.new ≡ length links.old }
 {
     if before == NONE {
         heads[bucket] = next;
     }
-    set_next(links, before, next);
+    links.set_next(before, next);
 }
 
 /// The neighbour of a slot, or the slot itself where it has none. A slot that is then written whole has so its neighbour written without a branch: one
@@ -94,7 +68,7 @@ pub(crate) fn neighbour_or(neighbour: u32, slot: u32) -> u32
     if neighbour == NONE { slot } else { neighbour }
 }
 
-/// A slot, where it is one.
+/// The slot that a head or a neighbour is; `None` where it is `NONE`.
 #[inline(always)]
 pub(crate) fn some_slot(slot: u32) -> Option<u32>
     ensures { result ≡ (if nat_eq slot none then None else Some slot) }
@@ -103,7 +77,7 @@ pub(crate) fn some_slot(slot: u32) -> Option<u32>
 }
 
 /// Adds the chain that begins at a head to a list.
-fn add_chain(links: &[Link], head: u32, order: &mut Vec<(u32, u32)>) -> Result<(), AllocError>
+fn add_chain(links: &Links, head: u32, order: &mut Vec<(u32, u32)>) -> Result<(), AllocError>
     requires few { length links.now ≤ none }
     requires front { head ≡ front_or none (walk (slice_get links.now) (length links.now) head) }
     requires chained { IsChain (slice_get links.now) none (walk (slice_get links.now) (length links.now) head) none }
@@ -111,7 +85,7 @@ fn add_chain(links: &[Link], head: u32, order: &mut Vec<(u32, u32)>) -> Result<(
 {
     let mut slot = head;
     while slot != NONE {
-        let link = links[slot as usize];
+        let link = links.link(slot);
         order.push((slot, link.hash))?;
         slot = link.next;
     }
@@ -122,7 +96,7 @@ fn add_chain(links: &[Link], head: u32, order: &mut Vec<(u32, u32)>) -> Result<(
 pub(crate) fn all_links(
     alloc: Global,
     heads: &[u32],
-    links: &[Link],
+    links: &Links,
 ) -> Result<Vec<(u32, u32)>, AllocError>
     requires { AreLinked heads.now links.now }
     ensures { IfOk result (λ order. order.items ≡ all_of (chains_from heads.now links.now)) }

@@ -42,7 +42,7 @@ fn copy_elements(from: Elements<'_>, words: &mut [u64], start: u64, width: u32)
     requires few { 64 * length words.old < 2 ^ 64 }
     requires small { All (λ element. element < 2 ^ width) (elements_of from) }
     ensures are { elements_between words.new width start (start + length (elements_of from.entry)) ≡ elements_of from.entry }
-    ensures before { (at v : ℕ) → at + v ≤ start * width → element_of words.new at v ≡ element_of words.old at v }
+    ensures before { (at len : ℕ) → at + len ≤ start * width → element_of words.new at len ≡ element_of words.old at len }
     ensures bits { number_of words.old < 2 ^ (start * width) → number_of words.new < 2 ^ ((start + length (elements_of from.entry)) * width) }
 {
     let mut at = start * u64::from(width);

@@ -10,11 +10,11 @@ use std::alloc::Global;
 /// Elements of one width that stand in words behind one another.
 #[derive(Clone, Copy)]
 pub struct Elements<'a> {
-    /// The words.
+    /// The words in which they stand, maybe beside others.
     pub words: &'a [u64],
     /// How many elements of the words stand before these.
     pub start: u64,
-    /// How many they are.
+    /// How many elements these are.
     pub len: u64,
     /// The width of each, in bits.
     pub width: u32,

@@ -18,7 +18,7 @@ const STEP: u64 = 64;
 /// steps, but for one that is bad.
 #[derive(Drop)]
 pub struct Lists<'a> {
-    /// The lists.
+    /// The lists that are tested.
     pub rows: ListRows<'a>,
     /// The width of an element, in bits.
     width: u32,

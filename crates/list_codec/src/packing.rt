@@ -125,7 +125,7 @@ fn put_elements(words: &mut [u64], start: u64, width: u32, elements: &[u32])
     requires few { 64 * length words.old < 2 ^ 64 }
     requires small { All (λ element. element < 2 ^ width) elements.now }
     ensures are { elements_between words.new width start (start + length elements.now) ≡ elements.now }
-    ensures before { (at v : ℕ) → at + v ≤ start * width → element_of words.new at v ≡ element_of words.old at v }
+    ensures before { (at len : ℕ) → at + len ≤ start * width → element_of words.new at len ≡ element_of words.old at len }
     ensures bits { number_of words.old < 2 ^ (start * width) → number_of words.new < 2 ^ ((start + length elements.now) * width) }
 {
     let mut at = start * u64::from(width);

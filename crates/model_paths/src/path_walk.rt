@@ -26,9 +26,9 @@ pub(crate) fn field_of(fields: &[Field], name: &str) -> Option<u32>
     requires { length fields.now ≤ 1024 }
     ensures { TellsField fields.now name.now result }
 {
-    for (i, field) in fields.iter().enumerate() {
+    for (place, field) in fields.iter().enumerate() {
         if field.name.text() == name {
-            return Some(i as u32);
+            return Some(place as u32);
         }
     }
     None
@@ -55,7 +55,7 @@ pub(crate) fn follow_only_fields(
     fields: &mut Ordinals,
 ) -> Result<(), PathFault>
     requires indexed { Indexes (type_names schemas.now) index.now }
-    requires shallow { (u : ℕ) → RefersTo schemas.now kind.now u → ¬ HasChain (type_graph schemas.now) depth u }
+    requires shallow { (target : ℕ) → RefersTo schemas.now kind.now target → ¬ HasChain (type_graph schemas.now) depth target }
     ensures { TellsWay (GoesOn schemas.now kind.now) fields.old fields.new result }
 {
     let FieldKind::Reference(name) = kind else {

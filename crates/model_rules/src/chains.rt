@@ -15,7 +15,7 @@ fn has_marked(row: &[u32], marks: &[bool]) -> bool
     row.iter().any(|type_index| marks.get(*type_index as usize).copied().unwrap_or(false))
 }
 
-/// The first marked type.
+/// The index of the first marked type; none where no type is marked.
 fn first_mark(marks: &[bool]) -> Option<usize>
     ensures { result ≡ position (λ mark. mark) marks.now }
 {
@@ -48,7 +48,7 @@ fn marks_after(alloc: Global, graph: &[Ordinals], count: u32) -> Result<Vec<bool
 /// Marks the types from which chains of every length can be followed.
 #[tactic(auto, unfolding(crate::specs::RuleTests::chained))]
 fn endless_marks(alloc: Global, graph: &[Ordinals]) -> Result<Vec<bool>, AllocError>
-    ensures { IfOk result (λ marks. (k : ℕ) × (marks.items ≡ chained graph.now k) × (chained graph.now (k + 1) ≡ chained graph.now k)) }
+    ensures { IfOk result (λ marks. (rounds : ℕ) × (marks.items ≡ chained graph.now rounds) × (chained graph.now (rounds + 1) ≡ chained graph.now rounds)) }
 {
     let mut marks = vec![in alloc; true; graph.len()]?;
     loop {

@@ -48,8 +48,8 @@ fn has_repeated_field(alloc: Global, fields: &[Field]) -> Result<bool, AllocErro
     ensures { IfOk result (λ repeated. IsTrue repeated ↔ SomeIndex (field_names fields.now) (StandsEarlier (field_names fields.now))) }
 {
     let mut index = BTreeMap::new(alloc);
-    for (i, field) in fields.iter().enumerate() {
-        if !add_name(alloc, &mut index, field.name.text(), i as u32)? {
+    for (place, field) in fields.iter().enumerate() {
+        if !add_name(alloc, &mut index, field.name.text(), place as u32)? {
             return Ok(true);
         }
     }

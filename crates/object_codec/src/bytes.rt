@@ -6,11 +6,11 @@ use std::alloc::AllocError;
 /// Bytes that stand in words, eight in each, the first one lowest.
 #[derive(Clone, Copy)]
 pub struct PackedBytes<'a> {
-    /// The words.
+    /// The words in which they stand, maybe beside others.
     pub words: &'a [u64],
     /// How many bytes of the words stand before these.
     pub start: u64,
-    /// How many they are.
+    /// How many bytes these are.
     pub len: u64,
     ghost inside: { 8 * (start + len) ≤ 64 * length words.now },
     ghost counted: { 8 * (start + len) < 2 ^ 64 },
@@ -29,7 +29,7 @@ impl<'a> PackedBytes<'a> {
         bit_array::element(self.words, (self.start + at) * 8, 8) as u8
     }
 
-    /// Those from one place up to another.
+    /// Those from one place up to another, still where they stand.
     #[inline(always)]
     pub fn between(self, start: u64, end: u64) -> PackedBytes<'a>
         requires rises { start ≤ end }
@@ -43,7 +43,7 @@ impl<'a> PackedBytes<'a> {
         }
     }
 
-    /// Writes them at the end.
+    /// Writes them at the end. Where memory is refused some of them may be there.
     pub fn put(self, out: &mut Vec<u8>) -> Result<(), AllocError>
         ensures { OnOk result (out.new.items ≡ out.old.items ++ bytes_of self.entry) }
     {

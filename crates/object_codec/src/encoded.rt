@@ -95,7 +95,7 @@ fn push_bytes(alloc: Global, area: &mut Octets, value: &Value) -> Result<(), All
     added
 }
 
-/// The same, in the vector of the bytes.
+/// Adds the bytes of a value at the end of a vector: those of a STRING or BYTES, and none of any other value.
 fn add_bytes(bytes: &mut Vec<u8>, value: &Value) -> Result<(), AllocError>
     ensures ok { OnOk result (bytes.new.items ≡ bytes.old.items ++ value_bytes value.now) }
     ensures are { (units : List ℕ) → value.now ≡ StoredValue.Text units → AreUnits units }

@@ -128,7 +128,7 @@ pub fn put_row(
     put_laid(alloc, layout, first, areas, place, row)
 }
 
-/// The same, as the records are laid out.
+/// Writes the record of a place into words and behind the bytes of the fields, at the layout of the records; it needs and leaves what `put_row` does.
 fn put_laid(
     alloc: Global,
     layout: Layout<'_>,

@@ -12,7 +12,7 @@ use schema_model::{FieldKind, Reason};
 /// What the element of a field gives.
 #[derive(Clone, Copy)]
 pub enum Part {
-    /// Nothing.
+    /// Nothing, in a field of any kind.
     Null,
     /// The value of an INT.
     Int(i32),

@@ -38,7 +38,7 @@ pub fn read<P: Parts>(
     read_row(alloc, schema, widths, parts, place)
 }
 
-/// The same record, by what each answer tells.
+/// The record that the parts of an OBJECT type spell at a place, or the reason of its first field that has no value.
 fn read_row<P: Parts>(
     alloc: Global,
     schema: &Schema,

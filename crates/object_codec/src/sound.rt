@@ -27,7 +27,7 @@ pub fn first_fault(
     areas: &[Octets],
     places: &[u32],
 ) -> Result<Option<(u32, Reason)>, AllocError>
-    requires { (k : ℕ) → k < length places.now → HoldsPlace fields.now widths.now first.now areas.now (slice_index places.now k) }
+    requires { (index : ℕ) → index < length places.now → HoldsPlace fields.now widths.now first.now areas.now (slice_index places.now index) }
     ensures tells { IfOk result (λ found. MatchOption found (SpellSome fields.now widths.now first.now areas.now places.now (length places.now)) (IsFirstFault fields.now widths.now first.now areas.now places.now)) }
     ensures plain { HavePlain areas.now → IfErr result (λ error. ⊥) }
 {
@@ -37,7 +37,7 @@ pub fn first_fault(
     first_by_field(alloc, fields, widths, first, areas, places)
 }
 
-/// The same of some places.
+/// The first of these places, of which there is one at least, that spells no record, and why; none where each spells one.
 fn first_by_field(
     alloc: Global,
     fields: &[Field],
@@ -47,7 +47,7 @@ fn first_by_field(
     places: &[u32],
 ) -> Result<Option<(u32, Reason)>, AllocError>
     requires some { 0 < length places.now }
-    requires holds { (k : ℕ) → k < length places.now → HoldsPlace fields.now widths.now first.now areas.now (slice_index places.now k) }
+    requires holds { (index : ℕ) → index < length places.now → HoldsPlace fields.now widths.now first.now areas.now (slice_index places.now index) }
     ensures tells { IfOk result (λ found. MatchOption found (SpellSome fields.now widths.now first.now areas.now places.now (length places.now)) (IsFirstFault fields.now widths.now first.now areas.now places.now)) }
     ensures plain { HavePlain areas.now → IfErr result (λ error. ⊥) }
 {
@@ -89,7 +89,7 @@ fn first_in_field(
     places: &[u32],
 ) -> Result<Option<(usize, Reason)>, AllocError>
     requires wide { IsKindWidth kind.now width }
-    requires within { (k : ℕ) → k < length places.now → IsWithin first.now size (slice_index places.now k) before width }
+    requires within { (index : ℕ) → index < length places.now → IsWithin first.now size (slice_index places.now index) before width }
     ensures tells { IfOk result (TellsColumn kind.now (parts_in first.now size before width area.now) places.now) }
     ensures plain { ArePlain area.now → IfErr result (λ error. ⊥) }
 {
@@ -148,7 +148,7 @@ fn first_bad_part(
 ) -> Option<(usize, Reason)>
     requires told { IsToldByParts kind.now area.now }
     requires wide { IsKindWidth kind.now width }
-    requires within { (k : ℕ) → k < length places.now → IsWithin first.now size (slice_index places.now k) before width }
+    requires within { (index : ℕ) → index < length places.now → IsWithin first.now size (slice_index places.now index) before width }
     ensures { TellsColumn kind.now (parts_in first.now size before width area.now) places.now result }
 {
     for (index, place) in places.iter().enumerate() {
@@ -171,7 +171,7 @@ fn first_bad_text(
     places: &[u32],
 ) -> Result<Option<(usize, Reason)>, AllocError>
     requires wide { 1 ≤ width }
-    requires within { (k : ℕ) → k < length places.now → IsWithin first.now size (slice_index places.now k) before width }
+    requires within { (index : ℕ) → index < length places.now → IsWithin first.now size (slice_index places.now index) before width }
     ensures { IfOk result (TellsColumn Text (parts_in first.now size before width area.now) places.now) }
 {
     let mut spans = Spans::new(alloc);

@@ -91,7 +91,7 @@ fn behind_end(bytes: &[u8], place: usize) -> usize
     requires { place < length bytes.now }
     ensures further { place < result }
     ensures inside { result ≤ length bytes.now }
-    ensures on { (k : ℕ) → place ≤ k → k + 1 < result → 128 ≤ slice_index bytes.now k }
+    ensures on { (index : ℕ) → place ≤ index → index + 1 < result → 128 ≤ slice_index bytes.now index }
 {
     for at in place..bytes.len() {
         if bytes[at] < 0x80 {

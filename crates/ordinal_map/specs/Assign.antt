@@ -33,8 +33,8 @@ IsPut previous current row ordinal = Holds previous current row ordinal ⊎ IsNe
 -- No row is under two ordinals and no ordinal has two rows, also where one of the two is in the previous state and the other in the current one.
 -- Each ordinal is below 2^22.
 pub record Agree (previous current : RowMap) : Type 0 where
-  pub one_ordinal : (row : Row) (a b : ℕ) → Holds previous current row a → Holds previous current row b → a ≡ b
-  pub one_row : (ordinal : ℕ) (a b : Row) → Holds previous current a ordinal → Holds previous current b ordinal → a ≡ b
+  pub one_ordinal : (row : Row) (first second : ℕ) → Holds previous current row first → Holds previous current row second → first ≡ second
+  pub one_row : (ordinal : ℕ) (first second : Row) → Holds previous current first ordinal → Holds previous current second ordinal → first ≡ second
   pub low : (ordinal : ℕ) → IsTaken previous current ordinal → ordinal < 2 ^ 22
 
 -- one past the greatest ordinal, 0 for none

@@ -57,6 +57,6 @@ pub record AreKept (rows : List (Option Row)) (chains : Chained) (previous curre
   pub few : length rows ≤ 2 ^ 22
   pub roomy : IsRoomy chains
   pub hashed : AreHashed rows chains
-  pub once : (row : Row) (a b : ℕ) → row_under rows a ≡ Some row → row_under rows b ≡ Some row → a ≡ b
+  pub once : (row : Row) (first second : ℕ) → row_under rows first ≡ Some row → row_under rows second ≡ Some row → first ≡ second
   pub live : (ordinal : ℕ) → IsSome (row_under rows ordinal) ↔ (Contains previous ordinal ⊎ Contains current ordinal)
   pub taken : (ordinal : ℕ) → ordinal < filled → IsSome (row_under rows ordinal)

@@ -137,7 +137,7 @@ impl OrdinalMap {
             || self.previous.first_beside(&self.current, 0).is_some()
     }
 
-    /// Makes room for the links of rows up to an ordinal, so that they are not made anew while these rows are put: 16 bytes an ordinal, and 8 for
+    /// Makes room for the links of rows up to an ordinal, so that they are not made anew while these rows are put: 12 bytes an ordinal, and 8 for
     /// the heads of the chains, of as many as the next power of two. Both states stay as they are, also where memory is refused.
     pub fn reserve(&mut self, ordinal: u32) -> Result<(), AllocError>
         requires { ordinal < 2 ^ 22 }
@@ -223,7 +223,8 @@ impl OrdinalMap {
         self.restore_hashed(hash, ordinal, row)
     }
 
-    // The same of a row whose hash is known, by what each answer tells.
+    // Puts a row whose hash is known into the previous state, under an ordinal that is free, or names another ordinal that has the row; the current state has
+    // no rows.
     fn restore_hashed(&mut self, hash: u32, ordinal: u32, row: Row) -> Result<(), RestoreRowFault>
         requires free { get self.old.previous ordinal ≡ None }
         requires low { ordinal < 2 ^ 22 }

@@ -6,7 +6,7 @@ use Rattle.std.specs.List.Sorted.{IsStrictlyIncreasing}
 -- A rising list of ordinals, which are below 2 ^ 32 - 1.
 pub record AreOrdinals (set : List ℕ) : Type 0 where
   pub rising : IsStrictlyIncreasing set
-  pub small : All (λ o. o < 2 ^ 32 - 1) set
+  pub small : All (λ ordinal. ordinal < 2 ^ 32 - 1) set
 
 -- The members below a number.
 unfoldable pub members_below : ℕ → List ℕ → List ℕ
@@ -26,11 +26,11 @@ bound_of (m ∷ rest) = max (m + 1) (bound_of rest)
 unfoldable pub least_from : ℕ → List ℕ → Option ℕ
 least_from o set = find (λ m. nat_le o m) set
 
--- The number is that member: one that is not below `o`, and not above any other such member.
-pub record IsNextMember (o : ℕ) (set : List ℕ) (next : ℕ) : Type 0 where
+-- The number is that member: one that is not below `ordinal`, and not above any other such member.
+pub record IsNextMember (ordinal : ℕ) (set : List ℕ) (next : ℕ) : Type 0 where
   pub member : Contains set next
-  pub from : o ≤ next
-  pub least : (m : ℕ) → Contains set m → o ≤ m → next ≤ m
+  pub from : ordinal ≤ next
+  pub least : (other : ℕ) → Contains set other → ordinal ≤ other → next ≤ other
 
 -- What each answer of a look-up of the next member tells.
 abbrev pub TellsNext : ℕ → List ℕ → Option ℕ → Type 0
@@ -50,4 +50,4 @@ pub record IsLeastFree (from : ℕ) (set other : List ℕ) (least : ℕ) : Type 
   pub free : Contains set least → ⊥
   pub other_free : Contains other least → ⊥
   pub reached : from ≤ least
-  pub below : (m : ℕ) → from ≤ m → m < least → Contains set m ⊎ Contains other m
+  pub below : (number : ℕ) → from ≤ number → number < least → Contains set number ⊎ Contains other number

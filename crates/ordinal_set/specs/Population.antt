@@ -14,7 +14,7 @@ population_of words = filter (has_bit words) (range_with_len 0 (64 * length word
 -- The words reach no further than the ordinals do.
 pub record FitOrdinals (words : List ℕ) : Type 0 where
   pub few : length words ≤ 2 ^ 26
-  pub small : (o : ℕ) → has_bit words o ≡ true → o < 2 ^ 32 - 1
+  pub small : (ordinal : ℕ) → has_bit words ordinal ≡ true → ordinal < 2 ^ 32 - 1
 
 -- No member is above the greatest number, and there is none where that is none.
 abbrev pub AreUpTo : Option ℕ → List ℕ → Type 0

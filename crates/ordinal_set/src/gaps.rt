@@ -18,9 +18,9 @@ pub enum GapFault {
 }
 
 impl From<AllocError> for GapFault {
-    ghost from_gives = { λ _ e. e ≡ memory };
+    ghost from_gives = { λ _ fault. fault ≡ memory };
 
-    fn from(_e: AllocError) -> GapFault {
+    fn from(_error: AllocError) -> GapFault {
         GapFault::Memory
     }
 }
@@ -42,7 +42,7 @@ pub fn put_gaps(out: &mut Vec<u8>, list: &Ordinals) -> Result<(), AllocError>
     written
 }
 
-/// The same, but that the first numbers may stand at the end where memory is refused.
+/// Writes an ordinal run, whose numbers rise, at the end. Where memory is refused the first numbers may stand there.
 fn push_gaps(out: &mut Vec<u8>, list: &[u32]) -> Result<(), AllocError>
     requires { IsStrictlyIncreasing list.now }
     ensures ok { OnOk result (out.new.items ≡ out.old.items ++ gap_bytes list.now) }
@@ -70,7 +70,7 @@ pub fn read_gaps(alloc: Global, bytes: &[u8]) -> Result<GapList, GapFault>
     all_gaps(alloc, bytes)
 }
 
-/// The same, by what each answer tells.
+/// The numbers of an ordinal run, which need not rise, or the place of the first VInt that is null, too long or not whole.
 fn all_gaps(alloc: Global, bytes: &[u8]) -> Result<GapList, GapFault>
     requires { length bytes.now < 2 ^ 32 }
     ensures { TellsGaps bytes.now result }

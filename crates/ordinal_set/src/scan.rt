@@ -7,7 +7,7 @@ use std::alloc::AllocError;
 
 /// Puts zeros behind the words until they are so many.
 pub(crate) fn lengthen(words: &mut Vec<u64>, len: usize) -> Result<(), AllocError>
-    ensures kept { (k : ℕ) → slice_index words.new.items k ≡ slice_index words.old.items k }
+    ensures kept { (place : ℕ) → slice_index words.new.items place ≡ slice_index words.old.items place }
     ensures reached { OnOk result (len ≤ vec_len words.new) }
     ensures few { vec_len words.new ≤ max (vec_len words.old) len }
 {
@@ -18,23 +18,23 @@ pub(crate) fn lengthen(words: &mut Vec<u64>, len: usize) -> Result<(), AllocErro
 }
 
 /// Whether the bit of a number is set.
-pub(crate) fn has_set(words: &[u64], o: u32) -> bool
-    ensures { result ≡ has_bit words.now o }
+pub(crate) fn has_set(words: &[u64], ordinal: u32) -> bool
+    ensures { result ≡ has_bit words.now ordinal }
 {
-    let place = (o / 64) as usize;
-    place < words.len() && (words[place] >> (o % 64)) & 1 == 1
+    let place = (ordinal / 64) as usize;
+    place < words.len() && (words[place] >> (ordinal % 64)) & 1 == 1
 }
 
-/// The least ordinal whose bit is set and that is not below `o`.
-pub(crate) fn next_set(words: &[u64], o: u32) -> Option<u32>
+/// The least ordinal whose bit is set and that is not below `ordinal`.
+pub(crate) fn next_set(words: &[u64], ordinal: u32) -> Option<u32>
     requires { length words.now ≤ 2 ^ 26 }
-    ensures { TellsNext o (population_of words.now) result }
+    ensures { TellsNext ordinal (population_of words.now) result }
 {
-    let place = (o / 64) as usize;
+    let place = (ordinal / 64) as usize;
     if place >= words.len() {
         return None;
     }
-    let word = words[place] & (u64::MAX << (o % 64));
+    let word = words[place] & (u64::MAX << (ordinal % 64));
     if word != 0 {
         return Some(place as u32 * 64 + word.trailing_zeros());
     }
@@ -74,13 +74,13 @@ pub(crate) fn last_set(words: &[u64]) -> u32
 }
 
 /// Clears the bit of a number.
-pub(crate) fn clear_bit(words: &mut Vec<u64>, o: u32)
-    ensures bits { (m : ℕ) → has_bit words.new.items m ≡ (has_bit words.old.items m && not (m == o)) }
+pub(crate) fn clear_bit(words: &mut Vec<u64>, ordinal: u32)
+    ensures bits { (number : ℕ) → has_bit words.new.items number ≡ (has_bit words.old.items number && not (number == ordinal)) }
     ensures len { length words.new.items ≡ length words.old.items }
 {
-    let place = (o / 64) as usize;
+    let place = (ordinal / 64) as usize;
     if place < words.len() {
-        words[place] &= !(1 << (o % 64));
+        words[place] &= !(1 << (ordinal % 64));
     }
 }
 

@@ -49,24 +49,24 @@ impl OrdinalSet {
     }
 
     /// Puts an ordinal in. Where memory is refused the set stays as it was.
-    pub fn insert(&mut self, o: u32) -> Result<(), AllocError>
-        requires { o < 2 ^ 32 - 1 }
-        ensures ok { OnOk result (self.new ≡ with_ordinal o self.old) }
+    pub fn insert(&mut self, ordinal: u32) -> Result<(), AllocError>
+        requires { ordinal < 2 ^ 32 - 1 }
+        ensures ok { OnOk result (self.new ≡ with_ordinal ordinal self.old) }
         ensures err { OnErr result (self.new ≡ self.old) }
         ensures ordinals { AreOrdinals self.new }
     {
-        let place = (o / 64) as usize;
+        let place = (ordinal / 64) as usize;
         lengthen(&mut self.words, place + 1)?;
-        self.words[place] |= 1 << (o % 64);
+        self.words[place] |= 1 << (ordinal % 64);
         Ok(())
     }
 
     /// Takes a number out.
-    pub fn remove(&mut self, o: u32)
-        ensures removed { self.new ≡ without_ordinal o self.old }
+    pub fn remove(&mut self, ordinal: u32)
+        ensures removed { self.new ≡ without_ordinal ordinal self.old }
         ensures ordinals { AreOrdinals self.new }
     {
-        clear_bit(&mut self.words, o);
+        clear_bit(&mut self.words, ordinal);
     }
 
     /// Takes all numbers out.
@@ -77,11 +77,11 @@ impl OrdinalSet {
     }
 
     /// Whether a number is in the set.
-    pub fn contains(&self, o: u32) -> bool
-        ensures member { IsTrue result ↔ Contains self.now o }
+    pub fn contains(&self, ordinal: u32) -> bool
+        ensures member { IsTrue result ↔ Contains self.now ordinal }
         ensures ordinals { AreOrdinals self.now }
     {
-        has_set(&self.words, o)
+        has_set(&self.words, ordinal)
     }
 
     /// One past the greatest number of the set, 0 for none.
@@ -92,13 +92,13 @@ impl OrdinalSet {
         last_set(&self.words)
     }
 
-    /// The least number of the set that is not below `o`; `None` where there is none.
-    pub fn next_from(&self, o: u32) -> Option<u32>
-        ensures next { result ≡ least_from o self.now }
-        ensures tells { TellsNext o self.now result }
+    /// The least number of the set that is not below `ordinal`; `None` where there is none.
+    pub fn next_from(&self, ordinal: u32) -> Option<u32>
+        ensures next { result ≡ least_from ordinal self.now }
+        ensures tells { TellsNext ordinal self.now result }
         ensures ordinals { AreOrdinals self.now }
     {
-        next_set(&self.words, o)
+        next_set(&self.words, ordinal)
     }
 
     /// The numbers of the set, rising.
@@ -108,9 +108,9 @@ impl OrdinalSet {
     {
         let mut list = Ordinals::new(alloc);
         let mut from = 0;
-        while let Some(o) = self.next_from(from) {
-            list.push(o)?;
-            from = o + 1;
+        while let Some(ordinal) = self.next_from(from) {
+            list.push(ordinal)?;
+            from = ordinal + 1;
         }
         Ok(list)
     }
@@ -122,22 +122,22 @@ impl OrdinalSet {
         self.least_free_from(other, 0)
     }
 
-    /// The least number that is not below `o` and in neither set.
-    pub fn least_free_from(&self, other: &OrdinalSet, o: u32) -> u32
-        ensures { IsLeastFree o self.now other.now result }
+    /// The least number that is not below `ordinal` and in neither set.
+    pub fn least_free_from(&self, other: &OrdinalSet, ordinal: u32) -> u32
+        ensures { IsLeastFree ordinal self.now other.now result }
     {
-        next_clear(&self.words, &other.words, o)
+        next_clear(&self.words, &other.words, ordinal)
     }
 
-    /// The least number of the set that is not below `o` and that the other one lacks; `None` where there is none. Where the two agree,
+    /// The least number of the set that is not below `ordinal` and that the other one lacks; `None` where there is none. Where the two agree,
     /// 64 numbers are passed at a time.
-    pub fn first_beside(&self, other: &OrdinalSet, o: u32) -> Option<u32>
-        ensures first { result ≡ least_from o (lacking self.now other.now) }
-        ensures tells { TellsNext o (lacking self.now other.now) result }
+    pub fn first_beside(&self, other: &OrdinalSet, ordinal: u32) -> Option<u32>
+        ensures first { result ≡ least_from ordinal (lacking self.now other.now) }
+        ensures tells { TellsNext ordinal (lacking self.now other.now) result }
         ensures ordinals { AreOrdinals self.now }
         ensures others { AreOrdinals other.now }
     {
-        next_beside(&self.words, &other.words, o)
+        next_beside(&self.words, &other.words, ordinal)
     }
 
     /// The numbers of the set that the other one lacks, rising. Where the two agree, 64 numbers are passed at a time.
@@ -147,9 +147,9 @@ impl OrdinalSet {
     {
         let mut list = Ordinals::new(alloc);
         let mut from = 0;
-        while let Some(o) = self.first_beside(other, from) {
-            list.push(o)?;
-            from = o + 1;
+        while let Some(ordinal) = self.first_beside(other, from) {
+            list.push(ordinal)?;
+            from = ordinal + 1;
         }
         Ok(list)
     }

@@ -5,16 +5,16 @@ ghost use Rattle.ordinal_set.specs.Population.{population_of, FitOrdinals};
 
 use crate::scan::word_at;
 
-/// The least ordinal not below `o` whose bit is set in the words and clear in the others.
-pub(crate) fn next_beside(words: &[u64], others: &[u64], o: u32) -> Option<u32>
+/// The least ordinal not below `ordinal` whose bit is set in the words and clear in the others.
+pub(crate) fn next_beside(words: &[u64], others: &[u64], ordinal: u32) -> Option<u32>
     requires { length words.now ≤ 2 ^ 26 }
-    ensures { TellsNext o (lacking (population_of words.now) (population_of others.now)) result }
+    ensures { TellsNext ordinal (lacking (population_of words.now) (population_of others.now)) result }
 {
-    let place = (o / 64) as usize;
+    let place = (ordinal / 64) as usize;
     if place >= words.len() {
         return None;
     }
-    let word = words[place] & !word_at(others, place) & (u64::MAX << (o % 64));
+    let word = words[place] & !word_at(others, place) & (u64::MAX << (ordinal % 64));
     if word != 0 {
         return Some(place as u32 * 64 + word.trailing_zeros());
     }
@@ -37,17 +37,17 @@ fn first_beside(words: &[u64], others: &[u64], from: usize) -> Option<u32>
     None
 }
 
-/// The least number not below `o` whose bit is clear in both word arrays.
-pub(crate) fn next_clear(words: &[u64], others: &[u64], o: u32) -> u32
+/// The least number not below `ordinal` whose bit is clear in both word arrays.
+pub(crate) fn next_clear(words: &[u64], others: &[u64], ordinal: u32) -> u32
     requires words { FitOrdinals words.now }
     requires others { FitOrdinals others.now }
-    ensures { IsLeastFree o (population_of words.now) (population_of others.now) result }
+    ensures { IsLeastFree ordinal (population_of words.now) (population_of others.now) result }
 {
-    let place = (o / 64) as usize;
+    let place = (ordinal / 64) as usize;
     if place >= words.len().max(others.len()) {
-        return o;
+        return ordinal;
     }
-    let below = (1 << (o % 64)) - 1;
+    let below = (1 << (ordinal % 64)) - 1;
     let word = word_at(words, place) | word_at(others, place) | below;
     if word != u64::MAX {
         return place as u32 * 64 + word.trailing_ones();

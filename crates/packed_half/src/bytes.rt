@@ -26,7 +26,7 @@ fn word_of(bytes: &[u8]) -> u64
     }
 }
 
-/// The same, byte by byte.
+/// The word of up to eight bytes, the first the lowest, put together byte by byte.
 fn short_word(bytes: &[u8]) -> u64
     requires { length bytes.now ≤ 8 }
     ensures { result ≡ packed_bytes bytes.now }

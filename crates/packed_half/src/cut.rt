@@ -17,7 +17,7 @@ pub(crate) struct CutWords<'a> {
 }
 
 impl<'a> HalfRows<'a> {
-    /// The parts.
+    /// The parts: the words of the places, those of the elements or buckets, those of the bytes, and how many bytes each field has.
     pub(crate) fn cut(&self) -> CutWords<'a>
         ensures first { result.first.now ≡ take (place_words self.now.shape.now self.now.half.now) self.now.words.now }
         ensures second { result.second.now ≡ take (item_words self.now.shape.now self.now.half.now) (behind_places self.now.shape.now self.now.half.now self.now.words.now) }

@@ -16,7 +16,7 @@ use std::alloc::{AllocError, Global};
 
 /// Rows by ordinal, wherever they come from.
 pub trait NewRows {
-    /// The rows.
+    /// The rows, by ordinal.
     ghost rows: { Self → RowMap };
 
     /// They may be those of a type of this shape.

@@ -18,7 +18,7 @@ pub struct HalfRows<'a> {
     pub shape: &'a Shape,
     /// What describes the words.
     pub half: &'a HalfShape,
-    /// The words.
+    /// The words: those of the places, those of the elements or buckets, and those of the bytes.
     pub words: &'a [u64],
 }
 

@@ -8,7 +8,7 @@ pub(crate) struct FilmCycle {
     pub(crate) seed: u32,
     /// How many films there are.
     pub(crate) rows: u32,
-    /// The number of the cycle.
+    /// The number of the cycle, from 1: the version of the state that it makes.
     pub(crate) cycle: u32,
 }
 

@@ -7,9 +7,9 @@ use schema_model::Limit;
 use std::alloc::AllocError;
 
 /// Why a cycle ends before its state is published.
-#[derive(Debug, Drop)]
+#[derive(Drop)]
 pub enum CycleEnd {
-    /// It is refused.
+    /// It is refused, for this reason.
     Refused(Refusal),
     /// It stops before it is answered.
     Stopped(OrderStop),

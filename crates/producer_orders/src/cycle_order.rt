@@ -60,7 +60,7 @@ pub fn cycle<S: BlobStore>(
     }
 }
 
-// The same of a producer.
+// Publishes the next state of this producer by the records of the order. A refusal leaves the store and the producer as they were.
 fn spelled_cycle<S: BlobStore>(
     alloc: Global,
     store: &mut S,

@@ -44,7 +44,7 @@ pub fn grow(
     }
 }
 
-// The same of a producer.
+// Gives this producer the model that the value stands for, and tells how many types it has. Refused with `BadModel` and `NotGrown`, in this order.
 fn grow_producer(alloc: Global, value: &Value, producer: &mut Producer) -> Result<Reply, OrderStop>
     requires schemas { AreSchemas (view value.now) }
     requires resting { IsResting producer.old }

@@ -21,9 +21,9 @@ use write_engine::Producer;
 /// How far the records of a type were added as trees straight from their tokens, and whether these are too many.
 #[derive(Clone, Copy)]
 pub(crate) enum Plain {
-    /// All of them.
+    /// All of them, and whether they are too many.
     All(bool),
-    /// Those before a place. Of the one at it nothing is told.
+    /// Those before a place, and whether they are too many. Of the one at it nothing is told.
     Front(u64, bool),
 }
 

@@ -77,7 +77,7 @@ fn take_spelled(alloc: Global, producer: &mut Producer, add: &Added) -> Result<(
     take_known(alloc, producer, add)
 }
 
-// The same of records whose types are known.
+// Adds the records of an order, whose types are known, to a producer.
 #[tactic(auto, using(crate::proofs::Makings::are_taken, crate::proofs::Makings::too_many))]
 fn take_known(alloc: Global, producer: &mut Producer, add: &Added) -> Result<(), CycleEnd>
     requires resting { IsResting producer.old }

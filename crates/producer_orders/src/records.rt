@@ -175,7 +175,7 @@ pub(crate) fn add_record(
     }
 }
 
-// The same of a record that refers to no others, as its row.
+// Adds the row of a record that refers to no others behind others, but where these are too many already; tells whether they all are too many.
 fn add_row(
     producer: &mut Producer,
     type_index: u32,

@@ -22,7 +22,7 @@ pub fn unknown_type(alloc: Global, model: &Model, add: &Added) -> Result<Option<
     }
 }
 
-// The same of the names of an object.
+// The first name of a member of a JSON object that is that of no type; `None` exactly where each is that of a type.
 fn unknown_name(alloc: Global, model: &Model, add: &Value) -> Result<Option<Name>, AllocError>
     requires { AreRecords (view add.now) }
     ensures { IfOk result (TellsUnknown model.now (view add.now)) }

@@ -118,7 +118,7 @@ impl Bench {
         Ok(true)
     }
 
-    /// The input goes on.
+    /// The input goes on with a text and its end.
     pub fn ask(&mut self, text: &str, end: &str) -> anyhow::Result<bool> {
         self.next.input.extend_from_slice(text.as_bytes())?;
         self.next.input.extend_from_slice(end.as_bytes())?;
@@ -183,7 +183,7 @@ impl Bench {
         Ok(Vec::from_slice(self.alloc, self.blobs.0.as_slice())?)
     }
 
-    /// Its faulty twin.
+    /// The blob of the case with its fault.
     pub fn faulty_blob(&self) -> anyhow::Result<Vec<u8>> {
         Ok(Vec::from_slice(self.alloc, self.blobs.1.as_slice())?)
     }
@@ -198,7 +198,7 @@ impl Bench {
         self.answer_over(words, &mut store)
     }
 
-    /// The same over any store.
+    /// The status of a command line over any store. What it wrote is kept.
     pub fn answer_over<S: BlobStore>(&mut self, words: &str, store: &mut S) -> anyhow::Result<u8> {
         let line = words_of(self.alloc, words)?;
         let mut input = self.next.source(self.alloc)?;

@@ -25,7 +25,7 @@ pub struct Cases {
     alloc: Global,
     /// The scene of the case that runs.
     scene: Scene,
-    /// Its title.
+    /// The title of that case.
     title: String,
     /// The models by their names.
     models: Vec<(String, String)>,

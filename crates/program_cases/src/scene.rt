@@ -31,12 +31,12 @@ pub struct Scene {
     pub alloc: Global,
     /// What the commands are run on.
     pub bench: Bench,
-    /// The store.
+    /// The store that stays from command to command.
     pub store: MemStore,
 }
 
 impl Scene {
-    /// An empty store.
+    /// A bench with nothing on it, and an empty store.
     pub fn new(alloc: Global) -> Scene {
         Scene {
             alloc,

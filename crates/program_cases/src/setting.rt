@@ -11,13 +11,13 @@ const PIECE: usize = 7;
 /// What the next run has beside its words.
 #[derive(Drop)]
 pub struct Setting {
-    /// The input.
+    /// The bytes of its input.
     pub input: Vec<u8>,
     /// What it is to write.
     pub wanted: Vec<u8>,
     /// How many bytes the source gives a call.
     pub piece: usize,
-    /// How much the sink takes.
+    /// How many bytes the sink takes in all.
     pub room: usize,
     /// The calls of the source that fail.
     pub calls: Vec<u64>,
@@ -41,14 +41,14 @@ impl Setting {
         }
     }
 
-    /// The source.
+    /// The source that gives the input.
     pub fn source(&self, alloc: Global) -> Result<MemSource, AllocError> {
         let input = Vec::from_slice(alloc, self.input.as_slice())?;
         let calls = Vec::from_slice(alloc, self.calls.as_slice())?;
         Ok(MemSource::new(input, self.piece.max(1), calls))
     }
 
-    /// The sink.
+    /// The sink that takes what it writes.
     pub fn sink(&self, alloc: Global) -> Result<MemSink, AllocError> {
         let writes = Vec::from_slice(alloc, self.writes.as_slice())?;
         MemSink::new(alloc, self.room, 7, writes)

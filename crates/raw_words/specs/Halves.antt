@@ -7,9 +7,9 @@ use Rattle.raw_words.specs.declared.half.Half.TheInside.{Inside}
 abbrev pub half_words : Inside → List ℕ
 half_words h = take h.len h.block.words
 
-pub record IsHalf (h : Inside) : Type 0 where
-  pub places : length h.block.words ≡ h.capacity
-  pub full : h.block.room ≡ 0
-  pub within : h.len ≤ h.capacity
-  pub fits : h.capacity * 8 < 2 ^ 63
-  pub deed : IfSome h.deed (λ d. IsDeedTo d h.block.first h.capacity h.alloc)
+pub record IsHalf (half : Inside) : Type 0 where
+  pub places : length half.block.words ≡ half.capacity
+  pub full : half.block.room ≡ 0
+  pub within : half.len ≤ half.capacity
+  pub fits : half.capacity * 8 < 2 ^ 63
+  pub deed : IfSome half.deed (λ d. IsDeedTo d half.block.first half.capacity half.alloc)

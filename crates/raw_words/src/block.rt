@@ -97,7 +97,7 @@ impl Block {
         }
     }
 
-    /// The words.
+    /// The words, to be read. `count` is how many they are.
     pub(crate) fn words(&self, count: usize) -> &[u64]
         requires all { count ≡ length self.now.words }
         requires size { count * 8 < 2 ^ 63 }
@@ -106,7 +106,7 @@ impl Block {
         unsafe { std::slice::from_raw_parts(self.first.cast_const(), count) }
     }
 
-    /// The first words, to be written.
+    /// The first `count` words, to be written.
     pub(crate) fn front_mut(&mut self, count: usize) -> &mut [u64]
         requires within { count ≤ length self.old.words }
         requires size { count * 8 < 2 ^ 63 }

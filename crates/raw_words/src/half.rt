@@ -105,7 +105,7 @@ impl Half {
         true
     }
 
-    /// The words.
+    /// The words, to be read.
     pub(crate) fn words(&self) -> &[u64]
         ensures { result.now ≡ self.now }
     {

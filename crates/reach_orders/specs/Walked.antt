@@ -19,9 +19,9 @@ use Rattle.reach_orders.specs.declared.walk_way.WalkWay.TheVariants as way
 
 -- The walk path to which a text resolves from the type at an index, or that it leads to no value.
 abbrev pub TellsWay : List Schema → ℕ → List ℕ → WalkWay → Type 0
-TellsWay schemas t text (way.Resolved path) = WalkResolves schemas t text path
-TellsWay schemas t text (way.Refused (BadPath lost)) = (lost ≡ text) × IsLostWalk schemas t text
-TellsWay schemas t text (way.Refused _) = ⊥
+TellsWay schemas type_index text (way.Resolved path) = WalkResolves schemas type_index text path
+TellsWay schemas type_index text (way.Refused (BadPath lost)) = (lost ≡ text) × IsLostWalk schemas type_index text
+TellsWay schemas type_index text (way.Refused _) = ⊥
 
 -- The value of what stands at the end of the path, or that the JSON spells none.
 abbrev pub TellsEnd : List Schema → WalkPath → Data → Result Value KeyFault → Type 0
@@ -31,11 +31,11 @@ TellsEnd schemas path json (Err key_fault.Memory) = Unit {0}
 
 -- The walk index of the type at an index that a position keeps from then on, or why it keeps none.
 abbrev pub TellsKept : List ℕ → Position → ℕ → Option Position → Reply → Type 0
-TellsKept text now t after (reply.WalkIndex keys) =
-    (path : WalkPath) × WalkResolves now.schemas t text path × CountsWalked now path keys
+TellsKept text now type_index after (reply.WalkIndex keys) =
+    (path : WalkPath) × WalkResolves now.schemas type_index text path × CountsWalked now path keys
     × ((walks : List WalkPath) × KeepsWalk now path walks × (after ≡ Some (record now { walks = walks })))
-TellsKept text now t after (reply.Refused why) = RefusesWalk text now t why × (after ≡ Some now)
-TellsKept text now t after _ = ⊥
+TellsKept text now type_index after (reply.Refused why) = RefusesWalk text now type_index why × (after ≡ Some now)
+TellsKept text now type_index after _ = ⊥
 
 -- The rows that reach the value along a path of which a walk index is kept, or that the JSON spells no value.
 abbrev pub TellsAlong : WalkPath → Data → Reply → Position → Type 0

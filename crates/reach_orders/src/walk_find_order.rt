@@ -35,7 +35,8 @@ pub fn walk_find(
     Ok(find_walked(alloc, consumer, type_index, path, value)?)
 }
 
-// The same of the type at an index.
+// Tells the ordinals of the rows of the type at an index that reach a value along the walk path of a text, rising. Refused with `BadPath`, `NoIndex` and
+// `BadKey`, in this order.
 fn find_walked(
     alloc: Global,
     consumer: &Consumer,
@@ -59,7 +60,8 @@ fn find_walked(
     }
 }
 
-// The same in the walk index of this number, which is kept of the path.
+// Tells the ordinals that the walk index of this number, which is kept of the path, finds by a value, rising. Refused with `BadKey` where the value is none of
+// what stands at the path's end, or a null.
 fn find_along(
     alloc: Global,
     consumer: &Consumer,

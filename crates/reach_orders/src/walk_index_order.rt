@@ -40,7 +40,8 @@ pub fn walk_index(
     keep_walk::<Brand>(Blank::new(1), alloc, consumer, type_index, path)
 }
 
-// The same of the type at an index. The steps of walk indexes are counted on a blank that nobody reads.
+// The consumer keeps an index of the rows of the type at an index by the values that they reach along the walk path of a text. The steps of walk indexes are
+// counted on a blank that nobody reads.
 fn keep_walk<L: Ledger>(
     blank: Blank,
     alloc: Global,

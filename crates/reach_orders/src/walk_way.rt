@@ -8,12 +8,12 @@ use model_paths::resolve_walk;
 use schema_model::{Model, Name, PathFault, WalkPath};
 use std::alloc::{AllocError, Global};
 
-/// Where a text leads.
+/// Where the text of a walk path leads from a type.
 #[derive(Drop)]
 pub(crate) enum WalkWay {
     /// To values, along this path.
     Resolved(WalkPath),
-    /// To none.
+    /// To no value: `BadPath`.
     Refused(Refusal),
 }
 

@@ -120,8 +120,8 @@ impl Consumer {
     /// as before, the rows before the last step too.
     ///
     /// The indexes and walk indexes stay, and answer of the new rows, but for those walk indexes that would have more than 2^22 entries: these are dropped. A
-    /// step is counted for each ordinal that comes in the type of each index and walk index that stays, and at most as many for one that is dropped. After want
-    /// of memory no more are, and only where the blob moves the state; after another fault none is.
+    /// step is counted for each ordinal that comes in the type of each index and walk index that stays, and at most as many for one that is dropped. Where
+    /// memory is refused no more are, and only where the blob moves the state; after another fault none is.
     pub fn step<S: BlobStore, L: Ledger>(
         &mut self,
         store: &mut S,
@@ -150,14 +150,14 @@ impl Consumer {
         step(self, store, name, steps)
     }
 
-    /// The tag of its state.
+    /// The tag of its state; `None` where it has no state.
     pub fn tag(&self) -> Option<i64>
         ensures { result ≡ option_map (λ position. position.tag) self.now }
     {
         self.tag
     }
 
-    /// The model of its state.
+    /// The model of its state; `None` where it has no state.
     pub fn model(&self) -> Option<&Model>
         ensures { MatchOption result (self.now ≡ None) (λ model. IsSomeAnd self.now (λ position. position.schemas ≡ model.now)) }
     {
@@ -167,7 +167,7 @@ impl Consumer {
         }
     }
 
-    /// The rows of its state.
+    /// The rows of its state, where it has one.
     pub fn now(&self) -> Now<'_>
         requires { IsSome self.now }
         ensures schemas { IsSomeAnd self.now (λ position. position.schemas ≡ result.schemas) }
@@ -273,7 +273,7 @@ impl Consumer {
         &self.model
     }
 
-    /// The states of these types.
+    /// What is kept of each of these types, in model order: its rows in its current half.
     pub(crate) fn states(&self) -> &[TypeState]
         ensures table { table_of (current_halves result.now) ≡ table_at self.now }
         ensures schemas { map (λ state. state.schema) result.now ≡ schemas_at self.now }

@@ -49,7 +49,7 @@ pub(crate) fn ready_both<L: Ledger>(
     }
 }
 
-// The same, up to the first for which memory is refused.
+// Makes the indexes of both kinds ready for the rows that come, one after another. Where memory is refused some of them may be ready.
 fn ready_all_of<L: Ledger>(
     indexes: &mut [KeyIndex],
     walks: &mut [WalkIndex],

@@ -46,7 +46,7 @@ impl Walker {
         }
     }
 
-    // Its rows.
+    // The rows of its state, none where it has no state.
     fn rows(&self) -> Now<'_>
         ensures schemas { result.schemas ≡ schemas_at self.now }
         ensures table { result.table ≡ table_at self.now }

@@ -22,7 +22,7 @@ pub(crate) struct Cell {
 }
 
 impl Cell {
-    /// The element.
+    /// The element that stands there in these words.
     #[tactic(auto, using(object_codec::proofs::FieldWidths::element_below))]
     #[inline(always)]
     pub(crate) fn element(self, words: &[u64]) -> u64

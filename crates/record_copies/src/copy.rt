@@ -38,7 +38,8 @@ pub fn copy_records(widths: &[u32], from: &[u64], places_before: u64, to: &mut [
     copy_bits(from, 0, to, 0, bits);
 }
 
-/// The same where the whole words of the records stand there already, with zeros behind them: copies what bits the records have behind these words.
+/// Copies what bits the records of the first places, as many as both word arrays have, take behind their whole words, which stand in `to` already, with zeros
+/// behind them. Places that `to` has beside these stay clear, and no bit stands behind.
 pub fn copy_rest(widths: &[u32], from: &[u64], places_before: u64, to: &mut [u64], places: u64)
     requires source { places_before * sum widths.now ≤ 64 * length from.now }
     requires inside { places * sum widths.now ≤ 64 * length to.old }

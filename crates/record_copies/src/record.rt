@@ -30,7 +30,7 @@ pub struct RecordPlace<'a> {
     pub widths: &'a [u32],
     /// The width of a record, which is that of its fields together, in bits.
     pub size: u64,
-    /// The place.
+    /// The place: how many records stand before it.
     pub place: u64,
 }
 

@@ -54,13 +54,13 @@ PrintsTyped Follow (Some schema) tree printed = PrintsShape Follow schema.shape 
 
 abbrev pub PrintsAt : (ℕ → PlainTree → Data → Type 0) → Option ℕ → PlainTree → Data → Type 0
 PrintsAt Prints None tree printed = ⊥
-PrintsAt Prints (Some t) tree printed = Prints t tree printed
+PrintsAt Prints (Some type_index) tree printed = Prints type_index tree printed
 
 -- What the record of a type prints as that is no deeper than this many types.
 abbrev pub PrintsWithin : List Schema → ℕ → ℕ → PlainTree → Data → Type 0
-PrintsWithin schemas zero t tree printed = ⊥
-PrintsWithin schemas (suc depth) t tree printed =
-    PrintsTyped (λ name part. PrintsAt (PrintsWithin schemas depth) (index_of_type schemas name) part) (slice_get schemas t) tree printed
+PrintsWithin schemas zero type_index tree printed = ⊥
+PrintsWithin schemas (suc depth) type_index tree printed =
+    PrintsTyped (λ name part. PrintsAt (PrintsWithin schemas depth) (index_of_type schemas name) part) (slice_get schemas type_index) tree printed
 
 -- What the record of a type of a model prints as, of which none is more than 32 types deep.
 abbrev pub PrintsTree : List Schema → ℕ → PlainTree → Data → Type 0

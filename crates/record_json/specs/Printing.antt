@@ -74,10 +74,10 @@ PrintsValued Follow follow fields values printed =
 -- how many nodes so many things have together
 abbrev pub count_of : {A : Type 0} → (A → ℕ) → List A → ℕ
 count_of nodes [] = 0
-count_of nodes (x ∷ xs) = nodes x + count_of nodes xs
+count_of nodes (one ∷ others) = nodes one + count_of nodes others
 
 -- What each answer tells of what prints: it does, and its nodes were taken off; or they are more than there were.
 abbrev pub TellsPrinted : {A T : Type 0} → (T → A) → (A → Type 0) → ℕ → ℕ → ℕ → Result T PrintFault → Type 0
-TellsPrinted seen Prints nodes before after (Ok x) = Prints (seen x) × (after + nodes ≡ before)
+TellsPrinted seen Prints nodes before after (Ok printed) = Prints (seen printed) × (after + nodes ≡ before)
 TellsPrinted seen Prints nodes before after (Err Nodes) = before < nodes
 TellsPrinted seen Prints nodes before after (Err Memory) = Unit {0}

@@ -21,7 +21,7 @@ use Rattle.json_values.specs.declared.fault.ValueFault.{ValueFault}
 
 -- what is made of what was read
 abbrev pub made : {A B : Type 0} → (A → B) → Result A Reason → Result B Reason
-made make (Ok x) = Ok (make x)
+made make (Ok found) = Ok (make found)
 made make (Err reason) = Err reason
 
 -- a member of this name is a field
@@ -100,12 +100,12 @@ read_typed follow (Some schema) value = read_shape follow schema.shape value
 
 abbrev pub read_at : (ℕ → Data → Result PlainTree Reason) → Option ℕ → Data → Result PlainTree Reason
 read_at read None value = Err OtherKind
-read_at read (Some t) value = read t value
+read_at read (Some type_index) value = read type_index value
 
 -- the record of a type that is no deeper than this many types
 abbrev pub read_within : List Schema → ℕ → ℕ → Data → Result PlainTree Reason
-read_within schemas zero t value = Err OtherKind
-read_within schemas (suc depth) t value = read_typed (λ name part. read_at (read_within schemas depth) (index_of_type schemas name) part) (slice_get schemas t) value
+read_within schemas zero type_index value = Err OtherKind
+read_within schemas (suc depth) type_index value = read_typed (λ name part. read_at (read_within schemas depth) (index_of_type schemas name) part) (slice_get schemas type_index) value
 
 -- the record of the type of this name
 abbrev pub read_named : List Schema → ℕ → Name → Data → Result PlainTree Reason
@@ -117,6 +117,6 @@ read_tree schemas t value = read_within schemas 32 t value
 
 -- What each answer tells of what there is to read.
 abbrev pub TellsAs : {A B : Type 0} → (A → B) → Result B Reason → Result A ValueFault → Type 0
-TellsAs seen read (Ok x) = read ≡ Ok (seen x)
+TellsAs seen read (Ok found) = read ≡ Ok (seen found)
 TellsAs seen read (Err (ValueFault.Field reason)) = read ≡ Err reason
 TellsAs seen read (Err ValueFault.Memory) = Unit {0}

@@ -192,7 +192,7 @@ fn pair_from(
     }
 }
 
-// The same of the items of an array.
+// A key of a map and its value, from the items of an array, of which there are to be two.
 #[cycle(reading)]
 fn both_from(
     alloc: Global,

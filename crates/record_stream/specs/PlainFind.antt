@@ -6,8 +6,8 @@ use Rattle.serde_json.specs.Read.{number_of}
 
 -- The text is that of a number, or that of a text.
 abbrev pub IsScalar : Data → List ℕ → Type 0
-IsScalar (number n) text = IsNumber text × (number_of text ≡ Some n)
-IsScalar (string s) text = text ≡ quoted s
+IsScalar (number found) text = IsNumber text × (number_of text ≡ Some found)
+IsScalar (string bytes) text = text ≡ quoted bytes
 IsScalar _ text = ⊥
 
 -- The line is a look-up by one path, whose value has this text.

@@ -40,7 +40,7 @@ pub fn split_change(alloc: Global, line: &str) -> Result<Option<ChangeParts>, Al
     }
 }
 
-// The same, where there are some.
+// The parts of the change that a line is. `Invalid` tells nothing of the line.
 fn change_in(alloc: Global, line: &str) -> Result<ChangeParts, ReadFault>
     ensures same { IfOk result (λ parts. parts.put ≡ line.now) }
     ensures read { IfOk result (λ parts. read line.now ≡ Some (change_data (view parts.version) (view parts.tag) (added_by line.now) (view parts.remove))) }

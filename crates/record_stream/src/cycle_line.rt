@@ -41,7 +41,7 @@ pub fn split_cycle(alloc: Global, line: &str) -> Result<Option<CycleParts>, Allo
     }
 }
 
-// The same, where there are some.
+// The parts of the cycle that a line is. `Invalid` tells nothing of the line.
 fn cycle_in(alloc: Global, line: &str) -> Result<CycleParts, ReadFault>
     ensures same { IfOk result (λ parts. parts.add ≡ line.now) }
     ensures read { IfOk result (λ parts. read line.now ≡ Some (cycle_data (view parts.version) (view parts.tag) (added_by line.now) parts.snapshot)) }

@@ -48,7 +48,7 @@ pub fn split_find(
     }
 }
 
-// The same of the tokens of a line.
+// The parts of the look-up that the tokens of a line are. `Invalid` tells nothing of the line.
 fn find_ahead(alloc: Global, reader: &mut Reader<'_>) -> Result<FindParts, ReadFault>
     ensures { IfOk result (λ parts. converted of_json (value 127 reader.old) ≡ Some (find_data (string_bytes parts.type_name) (view parts.paths) (view parts.values), [])) }
 {

@@ -82,7 +82,7 @@ pub(crate) fn take_plain(line: &str) -> Option<(&str, &str)>
 
 // Whether none of the bytes is a backslash or a control byte.
 fn is_plain(bytes: &[u8]) -> bool
-    ensures { IsTrue result → (k : ℕ) → k < length bytes.now → (slice_index bytes.now k ≢ 92) × (32 ≤ slice_index bytes.now k) }
+    ensures { IsTrue result → (place : ℕ) → place < length bytes.now → (slice_index bytes.now place ≢ 92) × (32 ≤ slice_index bytes.now place) }
 {
     for byte in bytes {
         if *byte == b'\\' || *byte < b' ' {

@@ -20,7 +20,7 @@ pub struct RecordLine {
     pub(crate) holder: Holder,
     // The names of the types, each with an empty array.
     pub(crate) names: Value,
-    // The same as they stand in the line, where one may be there twice.
+    // The names of the types in the order of the line, where one may be there twice.
     pub(crate) order: Vec<String>,
 }
 

@@ -31,7 +31,7 @@ pub(crate) fn read_value(
             Some(number) => Ok(Value::Number(number)),
             None => Err(ReadFault::Invalid),
         },
-        Token::Bool(b) => Ok(Value::Bool(b)),
+        Token::Bool(flag) => Ok(Value::Bool(flag)),
         Token::Null => Ok(Value::Null),
         Token::EndObject | Token::EndArray | Token::Key(_) | Token::Bad => Err(ReadFault::Invalid),
         Token::BeginArray => {

@@ -32,7 +32,7 @@ pub(crate) fn leaf_tree(alloc: Global, kind: &FieldKind, token: Token<'_>) -> Re
     }
 }
 
-// The same of a value.
+// The value of a field of a kind without a reference, as a tree, from a JSON value.
 fn value_leaf(alloc: Global, kind: &FieldKind, value: &Value) -> Result<Tree, Unread>
     requires plain { IsPlain kind.now }
     ensures { IfOk result (λ tree. made leaf (read_value kind.now (view value.now)) ≡ Ok (plain tree)) }

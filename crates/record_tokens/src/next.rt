@@ -32,7 +32,7 @@ pub enum Record {
 /// What stands next in the array of the records of a type.
 #[derive(Drop)]
 pub enum NextTree {
-    /// A record.
+    /// A record, which is passed.
     Record(Record),
     /// The bracket that closes the array, which is passed.
     End,
@@ -123,7 +123,7 @@ fn read_behind(
     }
 }
 
-// The same as a tree.
+// The record whose first token was read, as a tree.
 fn whole_behind(
     alloc: Global,
     model: &Model,

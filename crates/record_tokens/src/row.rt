@@ -72,7 +72,7 @@ fn stored_leaf(alloc: Global, kind: &FieldKind, token: Token<'_>) -> Result<Valu
     Ok(stored(leaf_value(alloc, kind, token)?))
 }
 
-// The same, as it is read. A text goes into it at once.
+// The value of a field of a kind without a reference, from its token, as it is read. A text goes into it at once.
 fn leaf_value(alloc: Global, kind: &FieldKind, token: Token<'_>) -> Result<Value, Unread>
     requires plain { IsPlain kind.now }
     ensures read { IfOk result (λ value. (json : Data) × (scalar (token_of token.entry) ≡ Some json) × (read_value kind.now json ≡ Ok value)) }

@@ -78,7 +78,7 @@ fn named_behind(
     }
 }
 
-// The same, with its first token.
+// The record of the type of this name, whose first token is still ahead.
 #[cycle(taking)]
 fn named_ahead(
     alloc: Global,

@@ -30,21 +30,21 @@ AreKeysApart pairs = AllPairs (λ earlier later. ¬ SameTree earlier.0 later.0) 
 
 abbrev mutual
   pub FitsTree : List Schema → ℕ → PlainTree → Type 0
-  FitsTree schemas t (leaf value) = ⊥
-  FitsTree schemas t (object trees) = IsSomeAnd (option_and_then object_fields (shape_at schemas t)) (λ fields. FitFields schemas fields trees)
-  FitsTree schemas t (list trees) = IsSomeAnd (option_and_then (list_element schemas) (shape_at schemas t)) (λ element. FitAll schemas element trees)
-  FitsTree schemas t (set trees) = IsSomeAnd (option_and_then (set_element schemas) (shape_at schemas t)) (λ element. FitAll schemas element trees)
-  FitsTree schemas t (map pairs) = IsSomeAnd (option_and_then (map_types schemas) (shape_at schemas t)) (λ types. FitPairs schemas types pairs) × AreKeysApart pairs
+  FitsTree schemas type_index (leaf value) = ⊥
+  FitsTree schemas type_index (object trees) = IsSomeAnd (option_and_then object_fields (shape_at schemas type_index)) (λ fields. FitFields schemas fields trees)
+  FitsTree schemas type_index (list trees) = IsSomeAnd (option_and_then (list_element schemas) (shape_at schemas type_index)) (λ element. FitAll schemas element trees)
+  FitsTree schemas type_index (set trees) = IsSomeAnd (option_and_then (set_element schemas) (shape_at schemas type_index)) (λ element. FitAll schemas element trees)
+  FitsTree schemas type_index (map pairs) = IsSomeAnd (option_and_then (map_types schemas) (shape_at schemas type_index)) (λ types. FitPairs schemas types pairs) × AreKeysApart pairs
 
   -- a tree for each field: a value, or what a REFERENCE refers to
   pub FitFields : List Schema → List Field → PlainTrees → Type 0
   FitFields schemas fields no_trees = fields ≡ []
   FitFields schemas fields (tree_then tree trees) =
-      IsConsAnd fields (λ field others. IsLeafOr tree (FitsLeaf field.kind) (IsSomeAnd (referred schemas field.kind) (λ t. FitsTree schemas t tree)) × FitFields schemas others trees)
+      IsConsAnd fields (λ field others. IsLeafOr tree (FitsLeaf field.kind) (IsSomeAnd (referred schemas field.kind) (λ type_index. FitsTree schemas type_index tree)) × FitFields schemas others trees)
 
   pub FitAll : List Schema → ℕ → PlainTrees → Type 0
-  FitAll schemas t no_trees = Unit {0}
-  FitAll schemas t (tree_then tree trees) = FitsTree schemas t tree × FitAll schemas t trees
+  FitAll schemas type_index no_trees = Unit {0}
+  FitAll schemas type_index (tree_then tree trees) = FitsTree schemas type_index tree × FitAll schemas type_index trees
 
   pub FitPairs : List Schema → ℕ × ℕ → PlainPairs → Type 0
   FitPairs schemas types no_pairs = Unit {0}

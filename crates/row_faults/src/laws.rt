@@ -11,13 +11,13 @@ ghost use Rattle.type_rows.specs.Patches.{IsMovedBy};
 ghost use Rattle.row_faults.specs.LoadFault.{FailsLoad};
 ghost use Rattle.row_faults.specs.MoveFault.{FailsMove};
 
-/// A section has one first fault at most, beside want of memory, and none where it loads rows.
+/// A section has one first fault at most, out of memory aside, and none where it loads rows.
 pub fn one_load_fault()
     ensures once { (shape : Shape) (section : Section) (a b : RowFault) → a ≢ Memory → b ≢ Memory → FailsLoad shape section a → FailsLoad shape section b → a ≡ b }
     ensures apart { (shape : Shape) (section : Section) (rows : RowMap) (fault : RowFault) → fault ≢ Memory → Loads shape section rows → FailsLoad shape section fault → ⊥ }
 {}
 
-/// A patch of some rows has one first fault at most, beside want of memory, and none where it moves them.
+/// A patch of some rows has one first fault at most, out of memory aside, and none where it moves them.
 pub fn one_move_fault()
     ensures once { (shape : Shape) (patch : PatchSection) (old : RowMap) (a b : RowFault) → a ≢ Memory → b ≢ Memory → FailsMove shape patch old a → FailsMove shape patch old b → a ≡ b }
     ensures apart { (shape : Shape) (patch : PatchSection) (old new : RowMap) (fault : RowFault) → fault ≢ Memory → IsMovedBy shape patch old new → FailsMove shape patch old fault → ⊥ }

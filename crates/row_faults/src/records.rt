@@ -96,7 +96,7 @@ pub(crate) fn sums_by_widths(
     Ok(Some(Sums { items: 0, lengths }))
 }
 
-/// How many bytes a part has.
+/// How many variable bytes a part has; 0 for one of a fixed kind, and for null.
 #[inline(always)]
 fn run_length(part: Part) -> u64
     ensures { result ≡ run_bytes part }
@@ -234,7 +234,7 @@ fn column_length(shape: &Shape, section: &Section, index: usize, before: u64, li
     length
 }
 
-/// The same of each field.
+/// How many variable bytes each field has in the records of an OBJECT; the greatest number where they are more.
 fn column_lengths(
     alloc: Global,
     shape: &Shape,

@@ -34,7 +34,7 @@ pub fn test_section(alloc: Global, schema: &Schema, section: &Section) -> Result
     }
 }
 
-/// The same, where each live ordinal has a place.
+/// What the rows of a section add up to, or its first fault, as `test_section` tells of it; each live ordinal has a place.
 fn test_live(alloc: Global, schema: &Schema, section: &Section) -> Result<Sums, RowFault>
     requires readable { IsReadable schema.now.shape section.now }
     requires placed { HoldsNowhere (HasNoPlace section.now.live (places_of section.now.max)) }

@@ -30,7 +30,7 @@ pub fn values_hash(values: &[Value]) -> u32
     (mix(mix_values(values), 0) / 0x1_0000_0000) as u32
 }
 
-// All of a row.
+// The mix of all numbers of a row.
 fn mix_row(row: &Row) -> u64
     ensures { result ≡ mixed_row row.now }
 {
@@ -41,7 +41,7 @@ fn mix_row(row: &Row) -> u64
     }
 }
 
-// One more number.
+// Mixes one number more.
 #[tactic(auto, unfolding(crate::specs::Hash::mixed))]
 #[inline(always)]
 fn mix(hash: u64, number: u64) -> u64
@@ -50,7 +50,7 @@ fn mix(hash: u64, number: u64) -> u64
     (hash.rotate_left(5) ^ number).wrapping_mul(FACTOR)
 }
 
-// The values of a record.
+// The mix of the values of a record.
 fn mix_values(values: &[Value]) -> u64
     ensures { result ≡ fold mixed_value 0 values.now }
 {
@@ -61,7 +61,7 @@ fn mix_values(values: &[Value]) -> u64
     hash
 }
 
-// One more value.
+// Mixes one value more.
 #[inline(always)]
 fn mix_value(hash: u64, value: &Value) -> u64
     ensures { result ≡ mixed_value hash value.now }
@@ -77,7 +77,7 @@ fn mix_value(hash: u64, value: &Value) -> u64
     }
 }
 
-// The units of a text, behind its length.
+// Mixes the units of a text, whose length is mixed already.
 fn mix_units(hash: u64, units: &[u16]) -> u64
     ensures { result ≡ fold mixed hash units.now }
 {
@@ -88,7 +88,7 @@ fn mix_units(hash: u64, units: &[u16]) -> u64
     mixed
 }
 
-// Bytes, behind their number.
+// Mixes bytes, whose number is mixed already.
 fn mix_bytes(hash: u64, bytes: &[u8]) -> u64
     ensures { result ≡ fold mixed hash bytes.now }
 {
@@ -99,7 +99,7 @@ fn mix_bytes(hash: u64, bytes: &[u8]) -> u64
     mixed
 }
 
-// The ordinals of a list or a set.
+// The mix of the ordinals of a list or a set.
 fn mix_ordinals(ordinals: &[u32]) -> u64
     ensures { result ≡ fold mixed 0 ordinals.now }
 {
@@ -110,7 +110,7 @@ fn mix_ordinals(ordinals: &[u32]) -> u64
     hash
 }
 
-// The pairs of a map.
+// The mix of the pairs of a map.
 fn mix_pairs(pairs: &[(u32, u32)]) -> u64
     ensures { result ≡ fold mixed_pair 0 pairs.now }
 {

@@ -50,11 +50,11 @@ unless_null value = value
 
 -- The value to which fields lead from the row under an ordinal; none where a null stands on the way or at its end.
 abbrev pub value_along : List Schema → Table → ℕ → ℕ → List ℕ → Option Value
-value_along schemas table t ordinal [] = None
-value_along schemas table t ordinal (field ∷ []) = unless_null (value_in (row_at table t ordinal) field)
-value_along schemas table t ordinal (field ∷ next ∷ rest) =
-    option_and_then (λ u. option_and_then (λ named. value_along schemas table u named (next ∷ rest)) (ordinal_in (value_in (row_at table t ordinal) field)))
-    (type_behind schemas t field)
+value_along schemas table type_index ordinal [] = None
+value_along schemas table type_index ordinal (field ∷ []) = unless_null (value_in (row_at table type_index ordinal) field)
+value_along schemas table type_index ordinal (field ∷ next ∷ rest) =
+    option_and_then (λ target. option_and_then (λ named. value_along schemas table target named (next ∷ rest)) (ordinal_in (value_in (row_at table type_index ordinal) field)))
+    (type_behind schemas type_index field)
 
 -- a first thing before others, where all are there
 abbrev pub with_first : {A : Type 0} → Option A → Option (List A) → Option (List A)
@@ -67,11 +67,11 @@ key_of schemas table t [] ordinal = Some []
 key_of schemas table t (path ∷ paths) ordinal = with_first (value_along schemas table t ordinal path.fields) (key_of schemas table t paths ordinal)
 
 -- These are the live ordinals of a type whose rows have the key, rising.
-pub record AreMatches (schemas : List Schema) (table : Table) (t : ℕ) (paths : List Path) (key : List Value) (ordinals : List ℕ) : Type 0 where
+pub record AreMatches (schemas : List Schema) (table : Table) (type_index : ℕ) (paths : List Path) (key : List Value) (ordinals : List ℕ) : Type 0 where
   pub rising : Rises ordinals
-  pub are : (ordinal : ℕ) → Contains ordinals ordinal ↔ (IsLive table t ordinal × (key_of schemas table t paths ordinal ≡ Some key))
+  pub are : (ordinal : ℕ) → Contains ordinals ordinal ↔ (IsLive table type_index ordinal × (key_of schemas table type_index paths ordinal ≡ Some key))
 
 -- These are the live ordinals of a type whose rows have a key, rising.
-pub record AreKeyed (schemas : List Schema) (table : Table) (t : ℕ) (paths : List Path) (ordinals : List ℕ) : Type 0 where
+pub record AreKeyed (schemas : List Schema) (table : Table) (type_index : ℕ) (paths : List Path) (ordinals : List ℕ) : Type 0 where
   pub rising : Rises ordinals
-  pub are : (ordinal : ℕ) → Contains ordinals ordinal ↔ (IsLive table t ordinal × IsSome (key_of schemas table t paths ordinal))
+  pub are : (ordinal : ℕ) → Contains ordinals ordinal ↔ (IsLive table type_index ordinal × IsSome (key_of schemas table type_index paths ordinal))

@@ -27,24 +27,24 @@ type_by schemas t part = option_and_then (λ schema. option_and_then (λ kind. t
 -- The row under an ordinal reaches a value along these parts: the last one is a field that has it, and is not null; each one before names a row that
 -- reaches it along the rest.
 abbrev pub Reach : List Schema → Table → ℕ → List WalkPart → ℕ → Value → Type 0
-Reach schemas table t [] ordinal value = ⊥
-Reach schemas table t (FieldPart i ∷ []) ordinal value = unless_null (value_in (row_at table t ordinal) i) ≡ Some value
-Reach schemas table t (part ∷ []) ordinal value = ⊥
-Reach schemas table t (part ∷ next ∷ rest) ordinal value =
-    (u : ℕ) × (row : Row) × (named : ℕ) × (type_by schemas t part ≡ Some u) × (row_at table t ordinal ≡ Some row) × Contains (named_by part row) named
-    × Reach schemas table u (next ∷ rest) named value
+Reach schemas table type_index [] ordinal value = ⊥
+Reach schemas table type_index (FieldPart field ∷ []) ordinal value = unless_null (value_in (row_at table type_index ordinal) field) ≡ Some value
+Reach schemas table type_index (part ∷ []) ordinal value = ⊥
+Reach schemas table type_index (part ∷ next ∷ rest) ordinal value =
+    (target : ℕ) × (row : Row) × (named : ℕ) × (type_by schemas type_index part ≡ Some target) × (row_at table type_index ordinal ≡ Some row) × Contains (named_by part row) named
+    × Reach schemas table target (next ∷ rest) named value
 
 -- These are the live ordinals of a type whose rows reach the value, rising.
-pub record AreWalkMatches (schemas : List Schema) (table : Table) (t : ℕ) (parts : List WalkPart) (value : Value) (ordinals : List ℕ) : Type 0 where
+pub record AreWalkMatches (schemas : List Schema) (table : Table) (type_index : ℕ) (parts : List WalkPart) (value : Value) (ordinals : List ℕ) : Type 0 where
   pub rising : Rises ordinals
-  pub are : (ordinal : ℕ) → Contains ordinals ordinal ↔ (IsLive table t ordinal × Reach schemas table t parts ordinal value)
+  pub are : (ordinal : ℕ) → Contains ordinals ordinal ↔ (IsLive table type_index ordinal × Reach schemas table type_index parts ordinal value)
 
 -- These are the live ordinals of a type whose rows reach a value, rising.
-pub record AreWalked (schemas : List Schema) (table : Table) (t : ℕ) (parts : List WalkPart) (ordinals : List ℕ) : Type 0 where
+pub record AreWalked (schemas : List Schema) (table : Table) (type_index : ℕ) (parts : List WalkPart) (ordinals : List ℕ) : Type 0 where
   pub rising : Rises ordinals
-  pub are : (ordinal : ℕ) → Contains ordinals ordinal ↔ (IsLive table t ordinal × (value : Value) × Reach schemas table t parts ordinal value)
+  pub are : (ordinal : ℕ) → Contains ordinals ordinal ↔ (IsLive table type_index ordinal × (value : Value) × Reach schemas table type_index parts ordinal value)
 
 -- These are the entries of an index along the parts: the pairs of a live ordinal and a value that its row reaches, each once.
-pub record AreEntries (schemas : List Schema) (table : Table) (t : ℕ) (parts : List WalkPart) (entries : List (ℕ × Value)) : Type 0 where
+pub record AreEntries (schemas : List Schema) (table : Table) (type_index : ℕ) (parts : List WalkPart) (entries : List (ℕ × Value)) : Type 0 where
   pub once : AllPairs (λ earlier later. earlier ≢ later) entries
-  pub are : (ordinal : ℕ) (value : Value) → Contains entries (ordinal, value) ↔ (IsLive table t ordinal × Reach schemas table t parts ordinal value)
+  pub are : (ordinal : ℕ) (value : Value) → Contains entries (ordinal, value) ↔ (IsLive table type_index ordinal × Reach schemas table type_index parts ordinal value)

@@ -36,9 +36,9 @@ tree_of_live follow _ _ = PlainTree.leaf Value.Null
 
 -- the tree of a row of a type that is no deeper than this many types
 abbrev pub unfold_within : List Schema → Table → ℕ → ℕ → ℕ → PlainTree
-unfold_within schemas table zero t ordinal = PlainTree.leaf Value.Null
-unfold_within schemas table (suc depth) t ordinal =
-    tree_of_live (λ name named. tree_of_type (index_of_type schemas name) (λ u. unfold_within schemas table depth u named)) (slice_get schemas t) (row_at table t ordinal)
+unfold_within schemas table zero type_index ordinal = PlainTree.leaf Value.Null
+unfold_within schemas table (suc depth) type_index ordinal =
+    tree_of_live (λ name named. tree_of_type (index_of_type schemas name) (λ target. unfold_within schemas table depth target named)) (slice_get schemas type_index) (row_at table type_index ordinal)
 
 -- the tree of a live row of a closed table; no type of a model is more than 32 types deep
 unfoldable pub unfold_row : List Schema → Table → ℕ → ℕ → PlainTree

@@ -15,7 +15,7 @@ pub enum LentRow<'a> {
 }
 
 impl LentRow<'_> {
-    /// The row.
+    /// The row, whether it stands somewhere or was made.
     pub fn row(&self) -> &Row
         ensures { result.now ≡ lent_row self.now }
     {

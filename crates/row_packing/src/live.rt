@@ -26,7 +26,7 @@ pub fn live_ordinals<R: Rows>(
     Ok(set)
 }
 
-/// The same where they stand as a set, which is copied.
+/// The ordinals under which a type of a state has rows, copied from the set that the state keeps of them.
 pub fn live_set<R: OrdinalRows>(
     alloc: Global,
     rows: &R,

@@ -63,7 +63,7 @@ struct Spread {
 }
 
 impl Spread {
-    /// The same with one row more.
+    /// How many buckets rows take, and the greatest of their sizes, elements or keys, and values, with one row more.
     fn with(self, row: &Row) -> Spread
         ensures buckets { result.buckets ≡ min (self.buckets + bucket_count (length (pairs_of row.now))) (2 ^ 128 - 1) }
         ensures size { result.size ≡ max self.size (length (pairs_of row.now)) }

@@ -49,7 +49,7 @@ struct Spread {
 }
 
 impl Spread {
-    /// The same with the elements of one row more.
+    /// How many elements there are, and the greatest of them, with those of one row more.
     fn with(self, row: &Row) -> Spread
         ensures count { result.count ≡ min (self.count + length (elements_of_row row.now)) (2 ^ 64 - 1) }
         ensures greatest { result.greatest ≡ max self.greatest (greatest_of (elements_of_row row.now)) }

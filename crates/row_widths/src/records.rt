@@ -96,7 +96,7 @@ struct Spread {
 }
 
 impl Spread {
-    /// The same with one value more.
+    /// What the values of a field take, with one value more.
     fn with(self, value: &Value) -> Spread
         ensures bits { result.bits ≡ max self.bits (value_bits value.now) }
         ensures bytes { result.bytes ≡ min (self.bytes + length (value_bytes value.now)) (2 ^ 64 - 1) }
@@ -150,7 +150,7 @@ fn gather<A: Rows, B: Rows>(
     Ok(spreads)
 }
 
-/// The same with the values of one record more.
+/// Counts the values of one record more into what the values of each field take.
 fn add_record(spreads: &mut [Spread], values: &[Value])
     requires { (index : ℕ) → index < length spreads.old → (spread_at spreads.old index).bytes ≤ 2 ^ 64 - 1 }
     ensures { (index : ℕ) → index < length spreads.old → IsSpreadWith (value_at index values.now) (spread_at spreads.old index) (spread_at spreads.new index) }

@@ -23,7 +23,7 @@ pub fn put_schema(out: &mut Vec<u8>, schema: &Schema) -> Result<(), AllocError>
     written
 }
 
-// The same, but that a front of it may stand at the end where memory is refused. So it is with all that follow.
+// Writes a schema at the end. Where memory is refused a front of it may stand there, and so it is with the part of a schema that each function below writes.
 fn push_schema(out: &mut Vec<u8>, schema: &Schema) -> Result<(), AllocError>
     requires { IsSpellable schema.now }
     ensures ok { OnOk result (out.new.items ≡ out.old.items ++ schema_bytes schema.now) }

@@ -53,4 +53,4 @@ Agree schema other = ShapesAgree schema.shape other.shape
 -- The schemas of two models that have one name agree.
 abbrev pub ModelsAgree : List Schema → List Schema → Type 0
 ModelsAgree schemas others =
-    (t u : ℕ) (schema other : Schema) → slice_get schemas t ≡ Some schema → slice_get others u ≡ Some other → schema.name ≡ other.name → Agree schema other
+    (type_index other_index : ℕ) (schema other : Schema) → slice_get schemas type_index ≡ Some schema → slice_get others other_index ≡ Some other → schema.name ≡ other.name → Agree schema other

@@ -63,9 +63,9 @@ abbrev pub BreaksAt : List Schema → Rule → ℕ → Type 0
 BreaksAt schemas rule t = (s : Schema) × (slice_get schemas t ≡ Some s) × Breaks schemas rule t s
 
 -- This is the first type that breaks the rule.
-pub record IsFirstBreaking (schemas : List Schema) (rule : Rule) (t : ℕ) : Type 0 where
-  pub broken : BreaksAt schemas rule t
-  pub least : (u : ℕ) → u < t → ¬ BreaksAt schemas rule u
+pub record IsFirstBreaking (schemas : List Schema) (rule : Rule) (type_index : ℕ) : Type 0 where
+  pub broken : BreaksAt schemas rule type_index
+  pub least : (index : ℕ) → index < type_index → ¬ BreaksAt schemas rule index
 
 -- No type breaks the rule.
 abbrev pub IsKept : List Schema → Rule → Type 0
@@ -87,7 +87,7 @@ abbrev pub IsModel : List Schema → Type 0
 IsModel schemas = (rule : Rule) → IsKept schemas rule
 
 -- This is the first rule that some type breaks, and the first type that breaks it.
-pub record IsFirstBroken (schemas : List Schema) (rule : Rule) (t : ℕ) : Type 0 where
+pub record IsFirstBroken (schemas : List Schema) (rule : Rule) (type_index : ℕ) : Type 0 where
   pub earlier : (before : Rule) → rule_place before < rule_place rule → IsKept schemas before
-  pub broken : BreaksAt schemas rule t
-  pub least : (u : ℕ) → u < t → ¬ BreaksAt schemas rule u
+  pub broken : BreaksAt schemas rule type_index
+  pub least : (index : ℕ) → index < type_index → ¬ BreaksAt schemas rule index

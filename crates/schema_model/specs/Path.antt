@@ -26,16 +26,16 @@ RefersTo schemas kind t = (name : List ℕ) × (referenced kind ≡ Some name) �
 -- Where its names are used up, a path ends at a field that is no REFERENCE, or goes on through the only field of the referenced OBJECT.
 abbrev pub GoesOn : List Schema → FieldKind → List ℕ → Type 0
 GoesOn schemas kind [] = referenced kind ≡ None
-GoesOn schemas kind (i ∷ more) =
-    (u : ℕ) × (field : Field) × RefersTo schemas kind u × HasOnlyField schemas u field × (i ≡ 0) × GoesOn schemas field.kind more
+GoesOn schemas kind (place ∷ more) =
+    (target : ℕ) × (field : Field) × RefersTo schemas kind target × HasOnlyField schemas target field × (place ≡ 0) × GoesOn schemas field.kind more
 
 -- From the type at an index these names lead through these fields, each by its place in its type, to a value.
 abbrev pub Leads : List Schema → ℕ → List (List ℕ) → List ℕ → Type 0
-Leads schemas t [] fields = ⊥
-Leads schemas t (name ∷ names) [] = ⊥
-Leads schemas t (name ∷ []) (i ∷ more) = (field : Field) × HasField schemas t i field × (field.name ≡ name) × GoesOn schemas field.kind more
-Leads schemas t (name ∷ next ∷ names) (i ∷ more) =
-    (field : Field) × (u : ℕ) × HasField schemas t i field × (field.name ≡ name) × RefersTo schemas field.kind u × Leads schemas u (next ∷ names) more
+Leads schemas type_index [] fields = ⊥
+Leads schemas type_index (name ∷ names) [] = ⊥
+Leads schemas type_index (name ∷ []) (place ∷ more) = (field : Field) × HasField schemas type_index place field × (field.name ≡ name) × GoesOn schemas field.kind more
+Leads schemas type_index (name ∷ next ∷ names) (place ∷ more) =
+    (field : Field) × (target : ℕ) × HasField schemas type_index place field × (field.name ≡ name) × RefersTo schemas field.kind target × Leads schemas target (next ∷ names) more
 
 -- The path resolves a text: it begins at the type, and goes through the fields to which the text's names lead.
 abbrev pub Resolves : List Schema → ℕ → List ℕ → Path → Type 0

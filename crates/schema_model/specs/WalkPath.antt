@@ -29,9 +29,9 @@ part_kind (Map key value) MapValue = Some (Reference value)
 part_kind shape part = None
 
 -- The type at an index has the part of this name, and this stands there.
-pub record HasPart (schemas : List Schema) (t : ℕ) (name : List ℕ) (part : WalkPart) (kind : FieldKind) : Type 0 where
+pub record HasPart (schemas : List Schema) (type_index : ℕ) (name : List ℕ) (part : WalkPart) (kind : FieldKind) : Type 0 where
   pub schema : Schema
-  pub at : slice_get schemas t ≡ Some schema
+  pub at : slice_get schemas type_index ≡ Some schema
   pub named : part_name schema.shape part ≡ Some name
   pub holds : part_kind schema.shape part ≡ Some kind
 
@@ -41,11 +41,11 @@ WalksOn schemas kind parts = (fields : List ℕ) × (parts ≡ map FieldPart fie
 
 -- From the type at an index these names lead through these parts to a value.
 abbrev pub LeadsAlong : List Schema → ℕ → List (List ℕ) → List WalkPart → Type 0
-LeadsAlong schemas t [] parts = ⊥
-LeadsAlong schemas t (name ∷ names) [] = ⊥
-LeadsAlong schemas t (name ∷ []) (part ∷ more) = (kind : FieldKind) × HasPart schemas t name part kind × WalksOn schemas kind more
-LeadsAlong schemas t (name ∷ next ∷ names) (part ∷ more) =
-    (kind : FieldKind) × (u : ℕ) × HasPart schemas t name part kind × RefersTo schemas kind u × LeadsAlong schemas u (next ∷ names) more
+LeadsAlong schemas type_index [] parts = ⊥
+LeadsAlong schemas type_index (name ∷ names) [] = ⊥
+LeadsAlong schemas type_index (name ∷ []) (part ∷ more) = (kind : FieldKind) × HasPart schemas type_index name part kind × WalksOn schemas kind more
+LeadsAlong schemas type_index (name ∷ next ∷ names) (part ∷ more) =
+    (kind : FieldKind) × (target : ℕ) × HasPart schemas type_index name part kind × RefersTo schemas kind target × LeadsAlong schemas target (next ∷ names) more
 
 -- The walk path resolves a text, which is cut at each '.': it begins at the type, and goes through the parts to which the text's names lead.
 abbrev pub WalkResolves : List Schema → ℕ → List ℕ → WalkPath → Type 0

@@ -40,7 +40,7 @@ impl Duplicate for FieldKind {
 pub struct Field {
     /// Its name, which no other field of the type has.
     pub name: Name,
-    /// What it holds.
+    /// What it holds: values of a kind, or references to rows of the type that it names.
     pub kind: FieldKind,
 }
 

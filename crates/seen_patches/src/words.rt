@@ -47,8 +47,8 @@ fn put_column(from: &[u64], source: Option<Column>, to: &mut [u64], target: Colu
     requires target { IsHeld to.old places target }
     requires source { IfSome source (λ column. IsHeld from.now places column × (column.width ≡ target.width)) }
     ensures put { (place : ℕ) → place < places → column_element to.new place target ≡ element_or from.now place source (2 ^ target.width - 1) }
-    ensures earlier { (place at v : ℕ) → at + v ≤ target.before → element_of to.new (place * target.size + at) v ≡ element_of to.old (place * target.size + at) v }
-    ensures behind { (at v : ℕ) → places * target.size ≤ at → element_of to.new at v ≡ element_of to.old at v }
+    ensures earlier { (place at len : ℕ) → at + len ≤ target.before → element_of to.new (place * target.size + at) len ≡ element_of to.old (place * target.size + at) len }
+    ensures behind { (at len : ℕ) → places * target.size ≤ at → element_of to.new at len ≡ element_of to.old at len }
     ensures long { length to.new ≡ length to.old }
 {
     for place in 0..places {

@@ -50,9 +50,9 @@ pub fn seen_twice()
 
 /// Through a model that grows the own one a type is seen at its own index, with its rows, and no two rows of a type become one.
 pub fn seen_once()
-    ensures there { (own grown : List Schema) (table : Table) → IsModel own → IsModel grown → Grows own grown → (t ordinal : ℕ) (schema other : Schema)
-        → slice_get own t ≡ Some schema → slice_get grown t ≡ Some other
-        → row_at (view grown own table) t ordinal ≡ option_map (seen_row schema.shape other.shape) (row_at table t ordinal) }
-    ensures once { (own grown : List Schema) (table : Table) → IsModel own → IsModel grown → Grows own grown → IsTableOf own table → (t ordinal another : ℕ) (row : Row)
-        → row_at (view grown own table) t ordinal ≡ Some row → row_at (view grown own table) t another ≡ Some row → row_at table t ordinal ≡ row_at table t another }
+    ensures there { (own grown : List Schema) (table : Table) → IsModel own → IsModel grown → Grows own grown → (type_index ordinal : ℕ) (schema other : Schema)
+        → slice_get own type_index ≡ Some schema → slice_get grown type_index ≡ Some other
+        → row_at (view grown own table) type_index ordinal ≡ option_map (seen_row schema.shape other.shape) (row_at table type_index ordinal) }
+    ensures once { (own grown : List Schema) (table : Table) → IsModel own → IsModel grown → Grows own grown → IsTableOf own table → (type_index ordinal another : ℕ) (row : Row)
+        → row_at (view grown own table) type_index ordinal ≡ Some row → row_at (view grown own table) type_index another ≡ Some row → row_at table type_index ordinal ≡ row_at table type_index another }
 {}

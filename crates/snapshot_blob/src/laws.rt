@@ -44,13 +44,13 @@ pub fn each_place()
 /// body answers it, and else its fault is that of the body. A snapshot begins with its header, and where that is stuck,
 /// it is at fault there.
 pub fn header_and_body()
-    ensures items { (blob : List ℕ) (head : Header) (n : ℕ) (parts : List TypePart) → HeaderIs blob n head → body.Stands blob n parts (length blob)
+    ensures items { (blob : List ℕ) (head : Header) (behind : ℕ) (parts : List TypePart) → HeaderIs blob behind head → body.Stands blob behind parts (length blob)
         → snapshot.Stands blob 0 (head, parts) (length blob) }
     ensures begins { (blob : List ℕ) (head : Header) (schemas : List Schema) (halves : List Half) → IsAccepted blob head schemas halves
-        → (n : ℕ) × HeaderIs blob n head × (length blob ≤ number_of_limit Blob) }
-    ensures accepted { (blob : List ℕ) (head : Header) (n : ℕ) (found : Body) → HeaderIs blob n head → length blob ≤ number_of_limit Blob → TellsBody blob n (Ok found)
+        → (behind : ℕ) × HeaderIs blob behind head × (length blob ≤ number_of_limit Blob) }
+    ensures accepted { (blob : List ℕ) (head : Header) (behind : ℕ) (found : Body) → HeaderIs blob behind head → length blob ≤ number_of_limit Blob → TellsBody blob behind (Ok found)
         → IsAccepted blob head found.model (next_halves found.states) }
-    ensures blamed { (blob : List ℕ) (head : Header) (n : ℕ) (fault : BlobFault) → HeaderIs blob n head → length blob ≤ number_of_limit Blob → (body_of blob n).Fails fault
+    ensures blamed { (blob : List ℕ) (head : Header) (behind : ℕ) (fault : BlobFault) → HeaderIs blob behind head → length blob ≤ number_of_limit Blob → (body_of blob behind).Fails fault
         → (snapshot_of blob).Fails fault }
     ensures stuck { (blob : List ℕ) (place : ℕ) (why : Reason) → length blob ≤ number_of_limit Blob → StuckInHeader blob place why → (snapshot_of blob).Fails (Bad place why) }
 {}

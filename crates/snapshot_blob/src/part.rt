@@ -22,7 +22,7 @@ pub struct TypePart {
     pub at: u64,
     /// Its schema.
     pub schema: Schema,
-    /// Its rows.
+    /// Its section: the layout, the packed rows and the live ordinals.
     pub section: Section,
 }
 
@@ -78,7 +78,7 @@ fn type_part<S: BlobStore>(cursor: &mut Cursor, store: &mut S) -> Result<TypePar
     })
 }
 
-// So many types.
+// So many types, one behind the other.
 fn type_parts<S: BlobStore>(
     alloc: Global,
     cursor: &mut Cursor,

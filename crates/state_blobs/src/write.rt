@@ -60,8 +60,8 @@ pub fn write_blobs(
     write_planned(alloc, producer, plan, None, version, tag, with_snapshot)
 }
 
-/// The same by what was measured of each type, with no walk over rows to choose by. Where the rows of the cycle are lent as they are packed for its snapshot, it is
-/// written of these.
+/// Writes the blobs of a producer's cycle by what was measured of each type, with no walk over rows to choose by. The snapshot of a later state is written only
+/// where it is asked for. Where the rows of the cycle are lent as they are packed for its snapshot, it is written of these.
 pub fn write_blobs_by(
     alloc: Global,
     producer: &Producer,
@@ -189,7 +189,7 @@ fn plan_of(alloc: Global, producer: &Producer) -> Result<Plan, AllocError>
     Plan::new(alloc, &previous, &current)
 }
 
-// The same by what was measured of each type.
+// What the blobs of the cycle are written by, from what was measured of each type.
 fn plan_by(alloc: Global, producer: &Producer, measured: &[Measured]) -> Result<Plan, AllocError>
     requires kept { TellsTypes producer.now.schemas producer.now.previous producer.now.current None }
     requires measured { AreMeasured producer.now.schemas producer.now.previous producer.now.current measured.now }

@@ -104,7 +104,7 @@ fn kept_part(
     Ok(PastPart::new(came, gone, rows))
 }
 
-// The same ordinals, in 32 bits each.
+// Ordinals that are below 2^32, in 32 bits each.
 fn narrowed(alloc: Global, ordinals: &[u64]) -> Result<Ordinals, AllocError>
     requires { All (λ ordinal. ordinal < 2 ^ 32) ordinals.now }
     ensures { IfOk result (λ narrow. narrow ≡ ordinals.now) }

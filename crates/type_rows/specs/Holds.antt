@@ -36,8 +36,8 @@ FitsWidth _ width end _ = ⊥
 -- Each part of a record fits its width; the end offsets are given by field.
 abbrev pub FitsWidths : List Field → List ℕ → (ℕ → ℕ) → List Value → Type 0
 FitsWidths fields widths ends record_values =
-    (f : ℕ) (field : Field) (value : Value) → slice_get fields f ≡ Some field → slice_get record_values f ≡ Some value
-    → FitsWidth field.kind (slice_index widths f) (ends f) value
+    (index : ℕ) (field : Field) (value : Value) → slice_get fields index ≡ Some field → slice_get record_values index ≡ Some value
+    → FitsWidth field.kind (slice_index widths index) (ends index) value
 
 -- The elements of a list fit the widths of its type, where so many elements stand up to its end.
 pub record FitsList (widths : List ℕ) (items : ℕ) (ordinals : List ℕ) : Type 0 where

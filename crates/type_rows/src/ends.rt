@@ -25,7 +25,7 @@ pub struct Ends {
 impl Ends {
     /// Where no rows of a type of this shape end.
     pub fn new(alloc: Global, shape: &Shape) -> Result<Ends, AllocError>
-        ensures zero { IfOk result (λ ends. (f : ℕ) → slice_index ends.offsets.items f ≡ 0) }
+        ensures zero { IfOk result (λ ends. (field : ℕ) → slice_index ends.offsets.items field ≡ 0) }
         ensures long { IfOk result (λ ends. length ends.offsets.items ≡ length (shape_fields shape.now)) }
         ensures none { IfOk result (λ ends. ends.items ≡ 0) }
     {
@@ -43,7 +43,7 @@ impl Ends {
         requires long { length self.old.offsets.items ≡ length (shape_fields shape.now) }
         requires kind { IsOfKind shape.now row.now }
         ensures fits { IsTrue result ↔ FitsBehind shape.now widths.now self.old.offsets.items self.old.items row.now }
-        ensures offsets { IsTrue result → (f : ℕ) → slice_index self.new.offsets.items f ≡ slice_index self.old.offsets.items f + part_bytes f row.now }
+        ensures offsets { IsTrue result → (field : ℕ) → slice_index self.new.offsets.items field ≡ slice_index self.old.offsets.items field + part_bytes field row.now }
         ensures items { IsTrue result → self.new.items ≡ self.old.items + items_of_row row.now }
         ensures long { length self.new.offsets.items ≡ length self.old.offsets.items }
     {
@@ -72,7 +72,7 @@ impl Ends {
     /// Takes off a row that is laid out.
     pub(crate) fn take_off(&mut self, row: &Row)
         requires { HasParts (length self.old.offsets.items) row.now }
-        ensures offsets { (f : ℕ) → slice_index self.new.offsets.items f ≡ slice_index self.old.offsets.items f - part_bytes f row.now }
+        ensures offsets { (field : ℕ) → slice_index self.new.offsets.items field ≡ slice_index self.old.offsets.items field - part_bytes field row.now }
         ensures items { self.new.items ≡ self.old.items - items_of_row row.now }
         ensures long { length self.new.offsets.items ≡ length self.old.offsets.items }
     {

@@ -17,17 +17,17 @@ pub enum RowFault {
 }
 
 impl From<AllocError> for RowFault {
-    ghost from_gives = { λ _ e. e ≡ row_memory };
+    ghost from_gives = { λ _ fault. fault ≡ row_memory };
 
-    fn from(_e: AllocError) -> RowFault {
+    fn from(_error: AllocError) -> RowFault {
         RowFault::Memory
     }
 }
 
 impl<T: Drop> From<AllocFailed<T>> for RowFault {
-    ghost from_gives = { λ _ e. e ≡ row_memory };
+    ghost from_gives = { λ _ fault. fault ≡ row_memory };
 
-    fn from(_e: AllocFailed<T>) -> RowFault {
+    fn from(_error: AllocFailed<T>) -> RowFault {
         RowFault::Memory
     }
 }

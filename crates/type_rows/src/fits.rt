@@ -50,9 +50,9 @@ pub(crate) fn add_values(
     requires widths { length widths.now ≡ length fields.now }
     requires values { length values.now ≡ length fields.now }
     requires ends { length ends.old ≡ length fields.now }
-    requires narrow { (f : ℕ) → slice_index widths.now f ≤ 64 }
+    requires narrow { (field : ℕ) → slice_index widths.now field ≤ 64 }
     ensures fits { IsTrue result ↔ FitsWidths fields.now widths.now (end_after ends.old values.now) values.now }
-    ensures ends { IsTrue result → (f : ℕ) → slice_index ends.new f ≡ end_after ends.old values.now f }
+    ensures ends { IsTrue result → (field : ℕ) → slice_index ends.new field ≡ end_after ends.old values.now field }
 {
     for (index, field) in fields.iter().enumerate() {
         let value = &values[index];
@@ -68,7 +68,7 @@ pub(crate) fn add_values(
 /// Takes the bytes of each value off the end offset of its field.
 pub(crate) fn take_values(values: &[Value], ends: &mut [u64])
     requires { length values.now ≤ length ends.old }
-    ensures { (f : ℕ) → slice_index ends.new f ≡ end_before ends.old values.now f }
+    ensures { (field : ℕ) → slice_index ends.new field ≡ end_before ends.old values.now field }
 {
     for (index, value) in values.iter().enumerate() {
         ends[index] = ends[index].saturating_sub(value_len(value));

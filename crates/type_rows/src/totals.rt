@@ -17,9 +17,9 @@ use std::alloc::{AllocError, Global};
 /// What some rows of a type add up to: where they end when they are laid out one behind the other, and how many variable bytes they have.
 #[derive(Debug, Drop)]
 pub struct Totals {
-    /// Where the rows end.
+    /// Where they end: how many bytes each field has, and how many elements or buckets there are.
     pub ends: Ends,
-    /// How many variable bytes they have.
+    /// How many variable bytes they have, those of all fields together.
     pub bytes: u64,
 }
 

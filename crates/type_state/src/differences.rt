@@ -61,7 +61,7 @@ impl Differences {
         }
     }
 
-    /// The same. The difference under the ordinal is looked for at a place of those that are removed first.
+    /// Whether a row stands under an ordinal, whose difference is looked for first at a place of those that are removed. It takes no memory.
     pub(crate) fn is_live_at(&self, rows: &PackedRows<'_>, place: usize, ordinal: u32) -> bool
         requires { AreApart self.now }
         ensures { IsTrue result ↔ IsSome (get (rows_with rows.now.rows self.now) ordinal) }

@@ -41,7 +41,7 @@ fn put_difference(
     }
 }
 
-/// The same for each of some differences.
+/// Writes the row that comes under the ordinal of each of some differences, or clears its place where none does; an ordinal without a place is passed over.
 fn put_differences(
     schema: &Schema,
     widths: &[u32],

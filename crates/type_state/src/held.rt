@@ -58,7 +58,7 @@ fn lay_out(
     requires kinds { AreOfKind schema.now.shape (rows_with rows.now.rows next.now.differences) }
     requires apart { AreApart next.now.differences }
     requires bound { next.now.outline.bound ≡ bound_of (keys (rows_with rows.now.rows next.now.differences)) }
-    requires zero { (f : ℕ) → slice_index ends.old.offsets.items f ≡ 0 }
+    requires zero { (field : ℕ) → slice_index ends.old.offsets.items field ≡ 0 }
     requires long { length ends.old.offsets.items ≡ length (shape_fields schema.now.shape) }
     requires none { ends.old.items ≡ 0 }
     ensures { MatchResult result (AreLaidOut schema.now.shape next.now.outline.widths (values (rows_with rows.now.rows next.now.differences)) ends.new.offsets.items ends.new.items) (FailsHeld schema.now.shape next.now.own (layout_at next.now.outline) (rows_with rows.now.rows next.now.differences)) }
@@ -116,7 +116,8 @@ fn test_all(
     Ok(Totals { ends, bytes })
 }
 
-/// The same, where the current rows are held by their widths: all rows are walked only where it is not told by those that come and go.
+/// Tests that the layout of a half holds its rows, and that they keep the limit on words, then that on bytes; gives what they add up to. The current rows are
+/// held by their widths: all rows are walked only where it is not told by those that come and go.
 pub(crate) fn test_held(
     alloc: Global,
     schema: &Schema,

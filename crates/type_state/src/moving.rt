@@ -96,7 +96,7 @@ fn half_of(alloc: Global, rows: &PackedRows<'_>, counted: CountedPlan) -> Result
 
 /// The half that a patch moves the current one to, at the patch's layout, which holds its rows within the limits.
 ///
-/// Each fault but want of memory is the first of the patch, as `TypeState::move_next` tells of it.
+/// Each fault but out of memory is the first of the patch, as `TypeState::move_next` tells of it.
 pub(crate) fn moved(
     alloc: Global,
     schema: &Schema,

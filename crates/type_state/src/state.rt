@@ -97,7 +97,7 @@ impl TypeState {
     /// Reads the live rows of a section of a snapshot into the next half, at the section's layout. The current half stays as it is. What the
     /// other one holds where the section is refused is not said.
     ///
-    /// The fault is the first one of the section, and each comes exactly where it is that, or want of memory in its place (`row_faults` has the law
+    /// The fault is the first one of the section, and each comes exactly where it is that, or out of memory comes in its place (`row_faults` has the law
     /// that there is one at most). The ordinals are tried first, then the places, the widths, the limit on words and that on bytes. `At` names an
     /// ordinal: `BadOrdinals` the least live one above the max ordinal, `BadPointers`, `BadText`, `BadValue` and `BadBuckets` the first whose place
     /// spells no row, `BadWidth` the first whose row the widths cannot hold when the live rows are laid out with no place between them. `Limit`
@@ -125,7 +125,7 @@ impl TypeState {
     /// Lays out in the next half the current rows without those that a patch removes and with those that it adds, at the patch's layout. The
     /// current half stays as it is. What the other one holds where the patch is refused is not said.
     ///
-    /// The fault is the first one of the patch, and each comes exactly where it is that, or want of memory in its place (`row_faults` has the law
+    /// The fault is the first one of the patch, and each comes exactly where it is that, or out of memory comes in its place (`row_faults` has the law
     /// that there is one at most). The ordinals are tried first, then the places of the added ones, the widths, the limit on words and that on
     /// bytes. `At` names an ordinal: `BadOrdinals` the first removed one that does not rise or is not live, else the first added one that does not
     /// rise, has no place or is live, else the least that stays and has no place; `BadPointers`, `BadText`, `BadValue` and `BadBuckets` the first

@@ -31,7 +31,7 @@ fn number_fits(column: &Column<'_>, place: u64, width: u32) -> bool
     number < all_ones(width) || number == all_ones(column.width)
 }
 
-/// The same of the row under an ordinal, if one stands there.
+/// Whether the number of a field in the record under an ordinal is null, or fits another width beside null; true where no row stands there.
 #[inline(always)]
 fn fits_under(
     rows: &PackedRows<'_>,
@@ -47,7 +47,7 @@ fn fits_under(
     !rows.is_live(ordinal) || number_fits(column, u64::from(ordinal), width)
 }
 
-/// The same of the rows under the ordinals from one up to another.
+/// Whether the number of a field is null, or fits another width beside null, in each row under an ordinal from `from` on and below `to`.
 fn run_fits(
     rows: &PackedRows<'_>,
     column: &Column<'_>,
@@ -68,7 +68,7 @@ fn run_fits(
     true
 }
 
-/// The same of all rows but those under the ordinals of some differences, which rise.
+/// Whether the number of a field is null, or fits another width beside null, in all rows but those under the ordinals of some differences, which rise.
 fn column_fits(
     rows: &PackedRows<'_>,
     column: &Column<'_>,

@@ -42,8 +42,8 @@ pub(crate) fn lay_moved_next(
     lay_other_next(alloc, schema, current, next, twin)
 }
 
-/// The same where the current words may be copied: the next half begins with those that its records fill, and no word is cleared before that is
-/// copied over.
+/// Lays out the rows of a move in the next half of two where the current words may be copied: that half begins with copies of those that the records of both
+/// fill. Words are cleared before others are copied over them only in a new block. Where memory is refused the next half has no words.
 #[tactic(auto, using(crate::proofs::Fitting::moved_fit))]
 fn lay_copied_next(
     schema: &Schema,
@@ -73,7 +73,7 @@ fn lay_copied_next(
     Ok(())
 }
 
-/// The same of all others, in words of zeros.
+/// Lays out the rows of any move in the next half of two, in words of zeros. Where memory is refused the next half has no words.
 #[tactic(auto, using(crate::proofs::Fitting::moved_fit))]
 fn lay_other_next(
     alloc: Global,

@@ -15,7 +15,7 @@ use std::alloc::{AllocError, Global};
 
 /// A choice of rows for each of some types.
 pub trait RowsByType: Drop {
-    /// The rows of a type.
+    /// What has the rows of one of the types.
     type Of: OneType;
 
     /// The rows of each type, by ordinal.

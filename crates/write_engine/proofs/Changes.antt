@@ -1,5 +1,5 @@
 -- The types whose rows differ in the two states are found one after another.
-use Rattle.std.proofs.Common.{rules, ◌≡◌, ℕ, zero, suc, ◌+◌, ◌<◌, ◌≤◌, ◌⊎◌, ◌↔◌, inl, inr, List, [], ◌∷◌, ◌++◌, length, get_or, map, refl, sym, ap, subst, ◌∙◌, arith}
+use Rattle.std.proofs.Common.{◌≡◌, ℕ, zero, suc, ◌+◌, ◌<◌, ◌≤◌, ◌⊎◌, ◌↔◌, inl, inr, List, [], ◌∷◌, ◌++◌, length, get_or, map, refl, sym, ap, subst, ◌∙◌, arith}
 use Rattle.std.specs.Prelude.{All, Contains}
 use Rattle.std.specs.FinMap.{empty}
 use Rattle.std.proofs.lemmas.List.Elements.{All-push, Contains-append_left, Contains-push, Contains-push_cases}
@@ -34,16 +34,6 @@ below_or (suc t) (suc k) h = further (below_or t k (omega (arith, h)))
     further : (t < k) ⊎ (k ≡ t) → (suc t < suc k) ⊎ (suc k ≡ suc t)
     further (inl a) = inl (omega (arith, a))
     further (inr e) = inr (ap suc e)
-
-pub below_start : (maps : List States) → ChangedBelow maps 0 []
-below_start maps = record {
-  rising = λ i j d before inside. absurd (omega (arith, inside));
-  low = λ i d inside. absurd (omega (arith, inside));
-  same = λ t. (λ c. absurd (none t c), λ h. absurd (omega (arith, h.0)));
-}
-  where
-    none : (t : ℕ) → Contains [] t → ⊥
-    none t c = search rules
 
 module _ (maps : List States) (k : ℕ) (changed : List ℕ) (s : States) (inside : k < length maps) (is : s ≡ get_or maps k s) (below : ChangedBelow maps k changed) where
   both : (read : States → RowMap) → rows_in (map read maps) k ≡ read s

@@ -12,5 +12,5 @@ TablesAgree previous current = (t : ℕ) → Agree (rows_in previous t) (rows_in
 
 -- a table holds no row twice in one type, and its ordinals are below 2^22
 pub record HoldsOnce (table : Table) : Type 0 where
-  pub once : (t a b : ℕ) (row : Row) → get (rows_in table t) a ≡ Some row → get (rows_in table t) b ≡ Some row → a ≡ b
-  pub low : (t ordinal : ℕ) → IsSome (get (rows_in table t) ordinal) → ordinal < 2 ^ 22
+  pub once : (type_index first second : ℕ) (row : Row) → get (rows_in table type_index) first ≡ Some row → get (rows_in table type_index) second ≡ Some row → first ≡ second
+  pub low : (type_index ordinal : ℕ) → IsSome (get (rows_in table type_index) ordinal) → ordinal < 2 ^ 22

@@ -23,10 +23,10 @@ abbrev pub with_row : Table → ℕ → ℕ → Row → Table
 with_row table t ordinal row = slice_set table t (insert (rows_in table t) ordinal row)
 
 -- The row is put: it gets its ordinal, which is below 2^22, and stands there afterwards.
-pub record PutsRow (previous : Table) (t : ℕ) (row : Row) (before : Table) (ordinal : ℕ) (after : Table) : Type 0 where
-  pub put : IsPut (rows_in previous t) (rows_in before t) row ordinal
+pub record PutsRow (previous : Table) (type_index : ℕ) (row : Row) (before : Table) (ordinal : ℕ) (after : Table) : Type 0 where
+  pub put : IsPut (rows_in previous type_index) (rows_in before type_index) row ordinal
   pub low : ordinal < 2 ^ 22
-  pub after_is : after ≡ with_row before t ordinal row
+  pub after_is : after ≡ with_row before type_index ordinal row
 
 -- the ordinals of a set: each of the elements' once, rising
 pub record IsSetOf (elements ordinals : List ℕ) : Type 0 where
@@ -41,21 +41,21 @@ pub record IsMapOf (added pairs : List (ℕ × ℕ)) : Type 0 where
 abbrev mutual
   -- Adding a tree to a type gives its row an ordinal, and changes the table of the rows so far.
   pub Adds : List Schema → Table → ℕ → PlainTree → Table → ℕ → Table → Type 0
-  Adds schemas previous t (leaf value) before ordinal after = ⊥
-  Adds schemas previous t (object trees) before ordinal after =
-      (fields : List Field) × (values : List Value) × (middle : Table) × (option_and_then object_fields (shape_at schemas t) ≡ Some fields)
-      × AddsFields schemas previous fields trees before values middle × PutsRow previous t (Row.Object values) middle ordinal after
-  Adds schemas previous t (list trees) before ordinal after =
-      (element : ℕ) × (ordinals : List ℕ) × (middle : Table) × (option_and_then (list_element schemas) (shape_at schemas t) ≡ Some element)
-      × AddsAll schemas previous element trees before ordinals middle × PutsRow previous t (Row.List ordinals) middle ordinal after
-  Adds schemas previous t (set trees) before ordinal after =
-      (element : ℕ) × (ordinals : List ℕ) × (middle : Table) × (option_and_then (set_element schemas) (shape_at schemas t) ≡ Some element)
+  Adds schemas previous type_index (leaf value) before ordinal after = ⊥
+  Adds schemas previous type_index (object trees) before ordinal after =
+      (fields : List Field) × (values : List Value) × (middle : Table) × (option_and_then object_fields (shape_at schemas type_index) ≡ Some fields)
+      × AddsFields schemas previous fields trees before values middle × PutsRow previous type_index (Row.Object values) middle ordinal after
+  Adds schemas previous type_index (list trees) before ordinal after =
+      (element : ℕ) × (ordinals : List ℕ) × (middle : Table) × (option_and_then (list_element schemas) (shape_at schemas type_index) ≡ Some element)
+      × AddsAll schemas previous element trees before ordinals middle × PutsRow previous type_index (Row.List ordinals) middle ordinal after
+  Adds schemas previous type_index (set trees) before ordinal after =
+      (element : ℕ) × (ordinals : List ℕ) × (middle : Table) × (option_and_then (set_element schemas) (shape_at schemas type_index) ≡ Some element)
       × AddsAll schemas previous element trees before ordinals middle
-      × ((members : List ℕ) × IsSetOf ordinals members × PutsRow previous t (Row.Set members) middle ordinal after)
-  Adds schemas previous t (map pairs) before ordinal after =
-      (types : ℕ × ℕ) × (added : List (ℕ × ℕ)) × (middle : Table) × (option_and_then (map_types schemas) (shape_at schemas t) ≡ Some types)
+      × ((members : List ℕ) × IsSetOf ordinals members × PutsRow previous type_index (Row.Set members) middle ordinal after)
+  Adds schemas previous type_index (map pairs) before ordinal after =
+      (types : ℕ × ℕ) × (added : List (ℕ × ℕ)) × (middle : Table) × (option_and_then (map_types schemas) (shape_at schemas type_index) ≡ Some types)
       × AddsPairs schemas previous types pairs before added middle
-      × ((members : List (ℕ × ℕ)) × IsMapOf added members × PutsRow previous t (Row.Map members) middle ordinal after)
+      × ((members : List (ℕ × ℕ)) × IsMapOf added members × PutsRow previous type_index (Row.Map members) middle ordinal after)
 
   -- The fields in schema order: a value as a blob holds it, or the ordinal of what a REFERENCE refers to.
   pub AddsFields : List Schema → Table → List Field → PlainTrees → Table → List Value → Table → Type 0
@@ -63,21 +63,23 @@ abbrev mutual
   AddsFields schemas previous fields (tree_then tree trees) before values after =
       (field : Field) × (others : List Field) × (value : Value) × (rest : List Value) × (middle : Table) × (fields ≡ field ∷ others) × (values ≡ value ∷ rest)
       × IsLeafOr tree (λ found. FitsLeaf field.kind found × IsValueInRange found × (value ≡ stored_value found) × (middle ≡ before))
-      ((t : ℕ) × (ordinal : ℕ) × (referred schemas field.kind ≡ Some t) × Adds schemas previous t tree before ordinal middle × (value ≡ Value.Ref ordinal))
+      ((type_index : ℕ) × (ordinal : ℕ) × (referred schemas field.kind ≡ Some type_index) × Adds schemas previous type_index tree before ordinal middle × (value ≡ Value.Ref ordinal))
       × AddsFields schemas previous others trees middle rest after
 
   -- The elements in their order.
   pub AddsAll : List Schema → Table → ℕ → PlainTrees → Table → List ℕ → Table → Type 0
-  AddsAll schemas previous t no_trees before ordinals after = (ordinals ≡ []) × (after ≡ before)
-  AddsAll schemas previous t (tree_then tree trees) before ordinals after =
-      (ordinal : ℕ) × (rest : List ℕ) × (middle : Table) × (ordinals ≡ ordinal ∷ rest) × Adds schemas previous t tree before ordinal middle × AddsAll schemas previous t trees middle rest after
+  AddsAll schemas previous type_index no_trees before ordinals after = (ordinals ≡ []) × (after ≡ before)
+  AddsAll schemas previous type_index (tree_then tree trees) before ordinals after =
+      (ordinal : ℕ) × (rest : List ℕ) × (middle : Table) × (ordinals ≡ ordinal ∷ rest) × Adds schemas previous type_index tree before ordinal middle
+      × AddsAll schemas previous type_index trees middle rest after
 
   -- The pairs in their order, each key before its value.
   pub AddsPairs : List Schema → Table → ℕ × ℕ → PlainPairs → Table → List (ℕ × ℕ) → Table → Type 0
   AddsPairs schemas previous types no_pairs before added after = (added ≡ []) × (after ≡ before)
   AddsPairs schemas previous types (pair_then key value pairs) before added after =
-      (k : ℕ) × (v : ℕ) × (rest : List (ℕ × ℕ)) × (keyed : Table) × (middle : Table) × (added ≡ (k, v) ∷ rest) × Adds schemas previous types.0 key before k keyed
-      × Adds schemas previous types.1 value keyed v middle × AddsPairs schemas previous types pairs middle rest after
+      (key_ordinal : ℕ) × (value_ordinal : ℕ) × (rest : List (ℕ × ℕ)) × (keyed : Table) × (middle : Table)
+      × (added ≡ (key_ordinal, value_ordinal) ∷ rest) × Adds schemas previous types.0 key before key_ordinal keyed
+      × Adds schemas previous types.1 value keyed value_ordinal middle × AddsPairs schemas previous types pairs middle rest after
 
 -- The records, each with its type, are added one after another.
 abbrev pub AddsRecords : List Schema → Table → List (ℕ × PlainTree) → Table → Table → Type 0

@@ -8,10 +8,10 @@ use Rattle.row_packing.specs.TypeLimit.{TellsLimit}
 
 -- The first limit that a type passes, in model order; none where each type keeps all.
 abbrev pub TellsTypes : List Schema → Table → Table → Option Limit → Type 0
-TellsTypes schemas previous current None = (t : ℕ) → t < length schemas → TellsLimit (shape_at schemas t) previous current t None
+TellsTypes schemas previous current None = (type_index : ℕ) → type_index < length schemas → TellsLimit (shape_at schemas type_index) previous current type_index None
 TellsTypes schemas previous current (Some limit) =
-    (t : ℕ) × (t < length schemas) × ((earlier : ℕ) → earlier < t → TellsLimit (shape_at schemas earlier) previous current earlier None)
-    × TellsLimit (shape_at schemas t) previous current t (Some limit)
+    (type_index : ℕ) × (type_index < length schemas) × ((earlier : ℕ) → earlier < type_index → TellsLimit (shape_at schemas earlier) previous current earlier None)
+    × TellsLimit (shape_at schemas type_index) previous current type_index (Some limit)
 
 -- A state of these changed types is to be published: it is the first one, or it changes a type. (the last version, the changed types)
 abbrev pub IsToPublish : ℕ → List ℕ → Type 0

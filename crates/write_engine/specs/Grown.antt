@@ -26,9 +26,9 @@ padded_row count (Row.Object values) = Row.Object (padded count values)
 padded_row count row = row
 
 -- The type has the same schema in the grown model.
-pub record HasStayed (own grown : List Schema) (t : ℕ) : Type 0 where
-  pub known : t < length own
-  pub same : slice_get grown t ≡ slice_get own t
+pub record HasStayed (own grown : List Schema) (type_index : ℕ) : Type 0 where
+  pub known : type_index < length own
+  pub same : slice_get grown type_index ≡ slice_get own type_index
 
 -- The rows are those of a producer whose cycle is not open, and the other model grows its own.
 pub record MayGrow (own grown : List Schema) (maps : List States) : Type 0 where
@@ -45,11 +45,11 @@ seen_of own grown maps = view grown own (previous_of maps)
 -- The first types of the grown model have maps of their own, which have the rows that are seen, but for those types that stay.
 pub record AreFresh (own grown : List Schema) (maps fresh : List States) (count : ℕ) : Type 0 where
   pub many : length fresh ≡ count
-  pub rows : (t : ℕ) (states : States) → slice_get fresh t ≡ Some states → ¬ HasStayed own grown t → HasRowsOf (seen_of own grown maps) t states
+  pub rows : (type_index : ℕ) (states : States) → slice_get fresh type_index ≡ Some states → ¬ HasStayed own grown type_index → HasRowsOf (seen_of own grown maps) type_index states
 
 -- Of the types that stay the first ones have their old maps again, and those of the others are where they were.
 pub record AreKept (own grown : List Schema) (maps left fresh : List States) (count : ℕ) : Type 0 where
   pub many : length fresh ≡ length grown
-  pub rows : (t : ℕ) (states : States) → slice_get fresh t ≡ Some states → (¬ HasStayed own grown t) ⊎ (t < count) → HasRowsOf (seen_of own grown maps) t states
+  pub rows : (type_index : ℕ) (states : States) → slice_get fresh type_index ≡ Some states → (¬ HasStayed own grown type_index) ⊎ (type_index < count) → HasRowsOf (seen_of own grown maps) type_index states
   pub all_left : length left ≡ length maps
-  pub behind : (t : ℕ) → count ≤ t → slice_get left t ≡ slice_get maps t
+  pub behind : (type_index : ℕ) → count ≤ type_index → slice_get left type_index ≡ slice_get maps type_index

@@ -50,7 +50,7 @@ pub record IsProducing (schemas : List Schema) (maps : List States) : Type 0 whe
 -- The types whose rows differ in the two tables, rising.
 pub record AreChanged (previous current : Table) (changed : List ℕ) : Type 0 where
   pub rising : Rises changed
-  pub same : (t : ℕ) → Contains changed t ↔ (¬ (rows_in current t ≡ rows_in previous t))
+  pub same : (type_index : ℕ) → Contains changed type_index ↔ (¬ (rows_in current type_index ≡ rows_in previous type_index))
 
 -- The rows of the previous state and those of the cycle so far, by type; the previous state's tag and version; whether the cycle is closed, and the
 -- limit that it passes where it is.

@@ -22,14 +22,14 @@ abbrev pub HasDistinctRows : Table → ℕ → Type 0
 HasDistinctRows table t = (first second : ℕ) → ¬ AreEqualRows table t first second
 
 -- The equal rows of a type that are named: those of which the second one has the least ordinal.
-pub record IsFirstOfType (table : Table) (t first second : ℕ) : Type 0 where
-  pub equal : AreEqualRows table t first second
-  pub least : (a b : ℕ) → AreEqualRows table t a b → second ≤ b
+pub record IsFirstOfType (table : Table) (type_index first second : ℕ) : Type 0 where
+  pub equal : AreEqualRows table type_index first second
+  pub least : (one other : ℕ) → AreEqualRows table type_index one other → second ≤ other
 
 -- The equal rows of a table that are named: those of the first type that has such, in model order.
-pub record IsFirstDuplicate (table : Table) (t first second : ℕ) : Type 0 where
-  pub here : IsFirstOfType table t first second
-  pub earlier : (type_index : ℕ) → type_index < t → HasDistinctRows table type_index
+pub record IsFirstDuplicate (table : Table) (type_index first second : ℕ) : Type 0 where
+  pub here : IsFirstOfType table type_index first second
+  pub earlier : (before : ℕ) → before < type_index → HasDistinctRows table before
 
 -- The producer whose previous state has these rows, under this tag and version, and whose cycle is open and has no rows.
 abbrev pub restored_of : List Schema → Table → ℤ → ℕ → Production
@@ -38,11 +38,11 @@ restored_of schemas table tag version =
 
 -- want of memory may come in place of any answer
 abbrev pub IsFreeRestore : RestoreFault → Type 0
-IsFreeRestore (Duplicate t first second) = ⊥
+IsFreeRestore (Duplicate type_index first second) = ⊥
 IsFreeRestore Memory = Unit {0}
 
 -- What each answer tells: that no row stands twice, and which producer it is; or which equal rows are the first.
 abbrev pub TellsRestored : List Schema → Table → ℤ → ℕ → Result Production RestoreFault → Type 0
 TellsRestored schemas table tag version (Ok producer) = HoldsOnce table × (producer ≡ restored_of schemas table tag version)
-TellsRestored schemas table tag version (Err (Duplicate t first second)) = IsFirstDuplicate table t first second
+TellsRestored schemas table tag version (Err (Duplicate type_index first second)) = IsFirstDuplicate table type_index first second
 TellsRestored schemas table tag version (Err Memory) = Unit {0}

@@ -10,7 +10,7 @@ use Rattle.row_model.specs.Table.{Table, IsLive, row_at}
 use Rattle.write_engine.specs.Cycle.{rows_in}
 
 -- a row of the table names the row of the type under the ordinal
-pub record IsNamed (schemas : List Schema) (table : Table) (t ordinal : ℕ) : Type 0 where
+pub record IsNamed (schemas : List Schema) (table : Table) (named_type ordinal : ℕ) : Type 0 where
   pub type_index : ℕ
   pub place : ℕ
   pub schema : Schema
@@ -19,12 +19,12 @@ pub record IsNamed (schemas : List Schema) (table : Table) (t ordinal : ℕ) : T
   pub schema_is : slice_get schemas type_index ≡ Some schema
   pub row_is : row_at table type_index place ≡ Some row
   pub names : Contains (references_of_row schema.shape row) (name, ordinal)
-  pub type_is : index_of_type schemas name ≡ Some t
+  pub type_is : index_of_type schemas name ≡ Some named_type
 
 -- The row may leave the table, which stays closed: it is there, and no row names it.
-pub record MayLeave (schemas : List Schema) (table : Table) (t ordinal : ℕ) : Type 0 where
-  pub live : IsLive table t ordinal
-  pub unnamed : ¬ IsNamed schemas table t ordinal
+pub record MayLeave (schemas : List Schema) (table : Table) (type_index ordinal : ℕ) : Type 0 where
+  pub live : IsLive table type_index ordinal
+  pub unnamed : ¬ IsNamed schemas table type_index ordinal
 
 -- the table with a row less
 abbrev pub without_row : Table → ℕ → ℕ → Table

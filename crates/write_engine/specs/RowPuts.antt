@@ -12,9 +12,9 @@ use Rattle.write_engine.specs.Cycle.{PutsRow, rows_in}
 
 -- The row may stand in a type beside the rows of a table: it fits the type, its numbers are in range, a blob can hold it, and each row that it names is
 -- live.
-pub record FitsRow (schemas : List Schema) (table : Table) (t : ℕ) (row : Row) : Type 0 where
+pub record FitsRow (schemas : List Schema) (table : Table) (type_index : ℕ) (row : Row) : Type 0 where
   pub schema : Schema
-  pub type : slice_get schemas t ≡ Some schema
+  pub type : slice_get schemas type_index ≡ Some schema
   pub fits : FitsShape schema.shape row
   pub range : IsRowInRange row
   pub stored : IsStored row
@@ -22,6 +22,6 @@ pub record FitsRow (schemas : List Schema) (table : Table) (t : ℕ) (row : Row)
 
 -- What each answer tells: that the row is put under this ordinal; or that its ordinal would be 2^22. Where it is not put the rows stay as they were.
 abbrev pub TellsRowPut : Table → ℕ → Row → Table → Result ℕ PutRowFault → Table → Type 0
-TellsRowPut previous t row before (Ok ordinal) after = PutsRow previous t row before ordinal after
-TellsRowPut previous t row before (Err TooMany) after = IsPut (rows_in previous t) (rows_in before t) row (2 ^ 22) × (after ≡ before)
-TellsRowPut previous t row before (Err Memory) after = after ≡ before
+TellsRowPut previous type_index row before (Ok ordinal) after = PutsRow previous type_index row before ordinal after
+TellsRowPut previous type_index row before (Err TooMany) after = IsPut (rows_in previous type_index) (rows_in before type_index) row (2 ^ 22) × (after ≡ before)
+TellsRowPut previous type_index row before (Err Memory) after = after ≡ before

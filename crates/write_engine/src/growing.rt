@@ -58,7 +58,7 @@ fn fresh_maps(
     Ok(fresh)
 }
 
-// The same of one type.
+// A map for a type of the grown model: with its rows, or without any where the type stays.
 fn fresh_map(
     alloc: Global,
     model: &Model,

@@ -14,12 +14,12 @@ ghost use Rattle.write_engine.specs.Production.{AreChanged};
 
 /// A record more is added to what the records before it have made.
 pub fn one_record_more()
-    ensures { (schemas : List Schema) (previous : Table) (records : List (ℕ × PlainTree)) (before middle after : Table) (t : ℕ) (tree : PlainTree) (ordinal : ℕ) → AddsRecords schemas previous records before middle → Adds schemas previous t tree middle ordinal after → AddsRecords schemas previous (records ++ (t, tree) ∷ []) before after }
+    ensures { (schemas : List Schema) (previous : Table) (records : List (ℕ × PlainTree)) (before middle after : Table) (type_index : ℕ) (tree : PlainTree) (ordinal : ℕ) → AddsRecords schemas previous records before middle → Adds schemas previous type_index tree middle ordinal after → AddsRecords schemas previous (records ++ (type_index, tree) ∷ []) before after }
 {}
 
 /// Each step of a cycle keeps the two tables in agreement.
 pub fn added_in_agreement()
-    ensures tree { (schemas : List Schema) (previous before after : Table) (t : ℕ) (tree : PlainTree) (ordinal : ℕ) → Adds schemas previous t tree before ordinal after → TablesAgree previous before → TablesAgree previous after }
+    ensures tree { (schemas : List Schema) (previous before after : Table) (type_index : ℕ) (tree : PlainTree) (ordinal : ℕ) → Adds schemas previous type_index tree before ordinal after → TablesAgree previous before → TablesAgree previous after }
     ensures start { (previous : Table) (count : ℕ) → HoldsOnce previous → TablesAgree previous (no_rows count) }
 {}
 
@@ -27,8 +27,8 @@ pub fn added_in_agreement()
 /// previous state has another row in the next one.
 pub fn next_state()
     ensures once { (schemas : List Schema) (previous next : Table) (records : List (ℕ × PlainTree)) → HoldsOnce previous → Next schemas previous records next → HoldsOnce next }
-    ensures kept { (schemas : List Schema) (previous next : Table) (records : List (ℕ × PlainTree)) (t a b : ℕ) (row : Row) → HoldsOnce previous → Next schemas previous records next → get (rows_in previous t) a ≡ Some row → get (rows_in next t) b ≡ Some row → a ≡ b }
-    ensures same { (schemas : List Schema) (previous next : Table) (records : List (ℕ × PlainTree)) (t ordinal : ℕ) (a b : Row) → HoldsOnce previous → Next schemas previous records next → get (rows_in previous t) ordinal ≡ Some a → get (rows_in next t) ordinal ≡ Some b → a ≡ b }
+    ensures kept { (schemas : List Schema) (previous next : Table) (records : List (ℕ × PlainTree)) (type_index first second : ℕ) (row : Row) → HoldsOnce previous → Next schemas previous records next → get (rows_in previous type_index) first ≡ Some row → get (rows_in next type_index) second ≡ Some row → first ≡ second }
+    ensures same { (schemas : List Schema) (previous next : Table) (records : List (ℕ × PlainTree)) (type_index ordinal : ℕ) (first second : Row) → HoldsOnce previous → Next schemas previous records next → get (rows_in previous type_index) ordinal ≡ Some first → get (rows_in next type_index) ordinal ≡ Some second → first ≡ second }
 {}
 
 /// The next state is closed, and its rows fit the types and are in range.
@@ -38,7 +38,7 @@ pub fn next_is_closed()
 
 /// A tree is added in one way, and records make one next state.
 pub fn one_next_state()
-    ensures tree { (schemas : List Schema) (previous before after other : Table) (t : ℕ) (tree : PlainTree) (ordinal another : ℕ) → TablesAgree previous before → Adds schemas previous t tree before ordinal after → Adds schemas previous t tree before another other → (ordinal ≡ another) × (after ≡ other) }
+    ensures tree { (schemas : List Schema) (previous before after other : Table) (type_index : ℕ) (tree : PlainTree) (ordinal another : ℕ) → TablesAgree previous before → Adds schemas previous type_index tree before ordinal after → Adds schemas previous type_index tree before another other → (ordinal ≡ another) × (after ≡ other) }
     ensures state { (schemas : List Schema) (previous next other : Table) (records : List (ℕ × PlainTree)) → HoldsOnce previous → Next schemas previous records next → Next schemas previous records other → next ≡ other }
 {}
 

@@ -313,7 +313,7 @@ impl Producer {
         put_one(&mut self.maps, type_index, row)
     }
 
-    /// Makes room for the links of the rows of a type up to an ordinal, so that they are not made anew while these rows are put: 16 bytes an
+    /// Makes room for the links of the rows of a type up to an ordinal, so that they are not made anew while these rows are put: 12 bytes an
     /// ordinal, and 8 for the heads of the chains, of as many as the next power of two. The producer stays as it is, also where memory is refused.
     pub fn reserve(&mut self, type_index: u32, ordinal: u32) -> Result<(), AllocError>
         requires known { type_index < length self.old.schemas }
@@ -377,7 +377,8 @@ impl Producer {
         Ok(self.close_with(changed, measured))
     }
 
-    /// The same by what was measured of each type, with no walk over rows.
+    /// Closes the cycle by what was measured of each type, with no walk over rows, tells which types it has changed, and finds the limit that it passes. After
+    /// a refusal the cycle is open, with its rows.
     pub fn close_by(&mut self, measured: List<Measured>) -> Result<Closed, AllocError>
         requires open { self.old.closed ≡ false }
         requires measured { AreMeasured self.old.schemas self.old.previous self.old.current measured }

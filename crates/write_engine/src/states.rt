@@ -51,7 +51,7 @@ pub(crate) fn keep_all(maps: &mut Vec<OrdinalMap>) -> Result<(), AllocError>
     kept
 }
 
-// The same, but that some current states may have their rows where memory is refused.
+// Puts the rows of each type's previous state into its current one, which has none. Where memory is refused some current states may have their rows.
 fn keep_some(maps: &mut Vec<OrdinalMap>) -> Result<(), AllocError>
     requires { current_of maps.old.items ≡ no_rows (length maps.old.items) }
     ensures kept { OnOk result (maps.new.items ≡ map filled maps.old.items) }

@@ -65,8 +65,8 @@ pub record IsChain (chain : Chain) : Type 0 where
   pub versions : (version : ℕ) (state : ChainState) → HasVersion chain version state → IsVersion version
   pub sound : (version : ℕ) (state : ChainState) → HasVersion chain version state → IsSound state
   pub follow : (version : ℕ) (state : ChainState) → HasVersion chain version state → (state.parent ≡ 0) ⊎ Follows chain version state
-  pub tags : (u v : ℕ) (a b : ChainState) → HasVersion chain u a → HasVersion chain v b → a.tag ≡ b.tag → u ≡ v
-  pub line : (u v : ℕ) (a b : ChainState) → HasVersion chain u a → HasVersion chain v b → IsTrue a.published → IsTrue b.published → a.parent ≡ b.parent → u ≡ v
+  pub tags : (first second : ℕ) (one other : ChainState) → HasVersion chain first one → HasVersion chain second other → one.tag ≡ other.tag → first ≡ second
+  pub line : (first second : ℕ) (one other : ChainState) → HasVersion chain first one → HasVersion chain second other → IsTrue one.published → IsTrue other.published → one.parent ≡ other.parent → first ≡ second
 
 -- The last published version, 0 where no state is published.
 pub record IsLastPublished (chain : Chain) (version : ℕ) : Type 0 where

@@ -22,7 +22,8 @@ IsQuietRow own mine row = own ≡ mine
 -- So are the rows of the types of a table that have one name in both models.
 abbrev pub IsQuietTable : List Schema → List Schema → Table → Type 0
 IsQuietTable mine own table =
-    (t u ordinal : ℕ) (schema other : Schema) (row : Row) → slice_get own t ≡ Some schema → slice_get mine u ≡ Some other → schema.name ≡ other.name → row_at table t ordinal ≡ Some row
+    (type_index seen_index ordinal : ℕ) (schema other : Schema) (row : Row) → slice_get own type_index ≡ Some schema → slice_get mine seen_index ≡ Some other
+    → schema.name ≡ other.name → row_at table type_index ordinal ≡ Some row
     → IsQuietRow schema.shape other.shape row
 
 -- So are those of a state, where a consumer sees it through its own model.

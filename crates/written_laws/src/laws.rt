@@ -58,10 +58,10 @@ pub fn short_delta()
 /// A blob is a delta between two tags alone, whatever the model, and against a model in which no two types have one name it is one of one patch at
 /// most. A patch moves a table to one table at most.
 pub fn one_patch()
-    ensures tags { (schemas others : List Schema) (blob : List ℕ) (a b c d : ℤ) (p q : List TypePatch) → DeltaIs schemas blob a b p → DeltaIs others blob c d q → (a ≡ c) × (b ≡ d) }
-    ensures patch { (schemas : List Schema) (blob : List ℕ) (a b c d : ℤ) (p q : List TypePatch) → IsKept schemas DuplicateName → DeltaIs schemas blob a b p → DeltaIs schemas blob c d q
-        → p ≡ q }
-    ensures table { (patch : List TypePatch) (old a b : Table) → Moved patch old a → Moved patch old b → a ≡ b }
+    ensures tags { (schemas others : List Schema) (blob : List ℕ) (origin destination start end : ℤ) (patch other : List TypePatch) → DeltaIs schemas blob origin destination patch → DeltaIs others blob start end other → (origin ≡ start) × (destination ≡ end) }
+    ensures patch { (schemas : List Schema) (blob : List ℕ) (origin destination start end : ℤ) (patch other : List TypePatch) → IsKept schemas DuplicateName → DeltaIs schemas blob origin destination patch → DeltaIs schemas blob start end other
+        → patch ≡ other }
+    ensures table { (patch : List TypePatch) (old one other : Table) → Moved patch old one → Moved patch old other → one ≡ other }
 {}
 
 /// A store without blobs holds the chain without states.
@@ -86,10 +86,10 @@ pub fn chain_step()
 
 /// The model of a published state of a chain grows that of each earlier published one, so that they agree with each other.
 pub fn published_grow()
-    ensures grows { (chain : Chain) (u v : ℕ) (a b : ChainState) → IsChain chain → HasVersion chain u a → HasVersion chain v b → IsTrue a.published → IsTrue b.published → u ≤ v
-        → Grows a.model b.model }
-    ensures agree { (chain : Chain) (u v : ℕ) (a b : ChainState) → IsChain chain → HasVersion chain u a → HasVersion chain v b → IsTrue a.published → IsTrue b.published
-        → ModelsAgree a.model b.model }
+    ensures grows { (chain : Chain) (version later : ℕ) (state next : ChainState) → IsChain chain → HasVersion chain version state → HasVersion chain later next → IsTrue state.published → IsTrue next.published → version ≤ later
+        → Grows state.model next.model }
+    ensures agree { (chain : Chain) (version later : ℕ) (state next : ChainState) → IsChain chain → HasVersion chain version state → HasVersion chain later next → IsTrue state.published → IsTrue next.published
+        → ModelsAgree state.model next.model }
 {}
 
 /// What is seen of a state of a chain is a closed table of the model through which it is seen, where nothing is seen of what has one name and two kinds. So it is

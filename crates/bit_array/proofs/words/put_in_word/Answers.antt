@@ -6,7 +6,7 @@ pub overflow_add-words : goal.overflow_add-words
 overflow_add-words c =
     let word = slice_index_or c.args.words.now c.args.place 0 in
     let old = c.in_word-old.ensures in
-    record { fits = (word_changed word c.args.shift c.args.w c.args.value c.in_word-old.result old.fits c.requires.width c.requires.small old.digits).fits }
+    record { fits = (word_changed word c.args.shift c.args.width c.args.value c.in_word-old.result old.fits c.requires.width c.requires.small old.digits).fits }
 
 pub returns : goal.returns
 returns c =
@@ -16,5 +16,5 @@ returns c =
     let value = c.args.value in
     let old = c.in_word-old.result in
     let told = c.in_word-old.ensures in
-    let changed = word_changed word shift c.args.w value old told.fits c.requires.width c.requires.small told.digits in
-    block_in_word words c.args.place shift c.args.w value (word - old * 2 ^ shift % 2 ^ 64 + value * 2 ^ shift % 2 ^ 64) old c.requires.inside told.is changed.sum
+    let changed = word_changed word shift c.args.width value old told.fits c.requires.width c.requires.small told.digits in
+    block_in_word words c.args.place shift c.args.width value (word - old * 2 ^ shift % 2 ^ 64 + value * 2 ^ shift % 2 ^ 64) old c.requires.inside told.is changed.sum

@@ -1,14 +1,11 @@
-use Rattle.std.proofs.Common.{◌≡◌, ◌∙◌, ◌++◌, ◌∷◌, [], ℕ, List, sym, ap, subst, arith}
+use Rattle.std.proofs.Common.{◌≡◌, ◌++◌, ◌∷◌, [], ℕ, List, sym, ap, subst, arith}
 use Rattle.schema_model.specs.declared.schema.Schema.{Schema}
 use Rattle.write_engine.specs.Production.{Production}
 use Rattle.hol_incremental.specs.Counts.{size_of}
 use Rattle.hol_incremental.specs.Drops.{AreUnnamed, IsDropping, IsHeld}
 use Rattle.hol_incremental.specs.EditKeys.{AreTallied}
+use Rattle.hol_incremental.proofs.PutCalls.{kept_then}
 use Rattle.hol_incremental.proofs.drops.drop_all.Goals as goal
-
--- a cycle whose rows alone have changed, and then once more
-kept_then : (a b c : Production) → b ≡ record a { current = b.current } → c ≡ record b { current = c.current } → c ≡ record a { current = c.current }
-kept_then a b c one two = two ∙ ap (λ (p : Production). record p { current = c.current }) one
 
 pub loop-row-preserved : goal.loop-row-preserved
 loop-row-preserved g c =

@@ -1,7 +1,8 @@
 use Rattle.std.proofs.Common.{◌≡◌, ◌∙◌, ℕ, List, get_or, inl, inr, sym, subst}
 use Rattle.std.specs.Prelude.{Contains}
+use Rattle.write_engine.proofs.Gathering.{take_whole}
 use Rattle.hol_incremental.specs.Leaves.{LeaveMore}
-use Rattle.hol_incremental.proofs.LeaveSteps.{leave_known, leave_next, leave_one, taken_all}
+use Rattle.hol_incremental.proofs.LeaveSteps.{leave_known, leave_next, leave_one}
 use Rattle.hol_incremental.proofs.leaving.add_all.Goals.{then-not-contains+then-not-contains-2+in_ok-insert, else-not-contains, else-not-contains-via-then-not-contains+else-not-contains-2, else-not-contains-via-else-not-contains}
 use Rattle.hol_incremental.proofs.leaving.add_all.Goals as goal
 
@@ -29,5 +30,5 @@ loop-ordinal-preserved c =
 
 pub returns : goal.returns
 returns c =
-    subst (λ (xs : List ℕ). LeaveMore (λ row. (row.0 ≡ c.args.type_index) × Contains xs row.1) c.args.tops.now c.args.leaving.now c.loop-ordinal.leaving) (taken_all c.args.ordinals.now c.loop-ordinal.ordinal-index c.loop-ordinal-test.false)
+    subst (λ (xs : List ℕ). LeaveMore (λ row. (row.0 ≡ c.args.type_index) × Contains xs row.1) c.args.tops.now c.args.leaving.now c.loop-ordinal.leaving) (take_whole c.args.ordinals.now c.loop-ordinal.ordinal-index c.loop-ordinal-test.false)
     c.loop-ordinal.invariant

@@ -8,7 +8,7 @@ use Rattle.ordinal_set.proofs.scan.clear_bit.Goals as goal
 pub returns-then-place-len-clause-bits : goal.returns-then-place-len-clause-bits
 returns-then-place-len-clause-bits c =
     let words = c.args.words.now.items in
-    let o = c.args.o in
+    let o = c.args.ordinal in
     let inside : o / 64 < length words = omega arith in
     let read = get_or_read words (o / 64) c.index_mut.result.now inside c.index_mut.ensures.value 0 in
     λ m.
@@ -18,4 +18,4 @@ returns-then-place-len-clause-bits c =
     (bits_cleared words o inside m)
 
 pub returns-else-place-len-clause-bits : goal.returns-else-place-len-clause-bits
-returns-else-place-len-clause-bits c = bits_past c.args.words.now.items c.args.o (omega arith)
+returns-else-place-len-clause-bits c = bits_past c.args.words.now.items c.args.ordinal (omega arith)

@@ -12,14 +12,14 @@ pub returns-then-place-words : goal.returns-then-place-words
 returns-then-place-words c =
     let words = c.args.words.now in
     let others = c.args.others.now in
-    subst (λ set. TellsNext c.args.o set None) (population_beside words others (λ k. (c.type_inv.others k).fits))
-    (next_none (beside words others) c.args.o (λ m from within. absurd (omega (arith, length_beside words others))))
+    subst (λ set. TellsNext c.args.ordinal set None) (population_beside words others (λ k. (c.type_inv.others k).fits))
+    (next_none (beside words others) c.args.ordinal (λ m from within. absurd (omega (arith, length_beside words others))))
 
 pub returns-then-word-ne0 : goal.returns-then-word-ne0
 returns-then-word-ne0 c =
     let words = c.args.words.now in
     let others = c.args.others.now in
-    let o = c.args.o in
+    let o = c.args.ordinal in
     let place = o / 64 in
     let mask = (2 ^ 64 - 1) * 2 ^ (o % 64) % 2 ^ 64 in
     let here = bit_and (get_or words place 0) (2 ^ 64 - 1 - c.word_at.result) in
@@ -36,7 +36,7 @@ pub returns : goal.returns
 returns c =
     let words = c.args.words.now in
     let others = c.args.others.now in
-    let o = c.args.o in
+    let o = c.args.ordinal in
     let place = o / 64 in
     let mask = (2 ^ 64 - 1) * 2 ^ (o % 64) % 2 ^ 64 in
     let here = bit_and (get_or words place 0) (2 ^ 64 - 1 - c.word_at.result) in

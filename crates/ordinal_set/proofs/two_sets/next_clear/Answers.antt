@@ -8,11 +8,11 @@ use Rattle.ordinal_set.proofs.LeastFree.{both_at, filled_words, least_from_later
 use Rattle.ordinal_set.proofs.two_sets.next_clear.Goals as goal
 
 pub returns-then-place-max : goal.returns-then-place-max
-returns-then-place-max c = least_past c.args.words.now c.args.others.now c.args.o c.args.o (omega arith) (omega (arith, c.max.ensures)) (λ m from under. absurd (omega arith))
+returns-then-place-max c = least_past c.args.words.now c.args.others.now c.args.ordinal c.args.ordinal (omega arith) (omega (arith, c.max.ensures)) (λ m from under. absurd (omega arith))
 
 pub overflow_add-result : goal.overflow_add-result
 overflow_add-result c =
-    let o = c.args.o in
+    let o = c.args.ordinal in
     let both = bit_or c.word_at.result c.word_at-2.result in
     let below = 1 * 2 ^ (o % 64) % 2 ^ 64 - 1 in
     let fits : bit_or both below < 2 ^ 64 = or_lt 64 both below (or_lt 64 c.word_at.result c.word_at-2.result c.word_at.type_inv c.word_at-2.type_inv) (omega arith) in
@@ -23,7 +23,7 @@ pub returns-then-word : goal.returns-then-word
 returns-then-word c =
     let words = c.args.words.now in
     let others = c.args.others.now in
-    let o = c.args.o in
+    let o = c.args.ordinal in
     let place = o / 64 in
     let both = bit_or c.word_at.result c.word_at-2.result in
     let below = 1 * 2 ^ (o % 64) % 2 ^ 64 - 1 in
@@ -38,7 +38,7 @@ pub first_clear-requires-clause-few : goal.first_clear-requires-clause-few
 first_clear-requires-clause-few c =
     let words = c.args.words.now in
     let others = c.args.others.now in
-    let o = c.args.o in
+    let o = c.args.ordinal in
     let place = o / 64 in
     let below = 1 * 2 ^ (o % 64) % 2 ^ 64 - 1 in
     let filled = bit_or (both_at words others place) (2 ^ (o % 64) - 1) in
@@ -52,7 +52,7 @@ pub returns : goal.returns
 returns c =
     let words = c.args.words.now in
     let others = c.args.others.now in
-    let o = c.args.o in
+    let o = c.args.ordinal in
     let place = o / 64 in
     let below = 1 * 2 ^ (o % 64) % 2 ^ 64 - 1 in
     let filled = bit_or (both_at words others place) (2 ^ (o % 64) - 1) in

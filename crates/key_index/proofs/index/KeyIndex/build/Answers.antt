@@ -41,3 +41,15 @@ loop-ordinal-preserved g c =
         few = omega (arith, c.loop-ordinal.invariant.few, ap (λ ss. length (slots_in ss)) w.slots-is);
       }
     ]
+
+pub returns-clause-counted : goal.returns-clause-counted
+returns-clause-counted g c =
+    let built = c.loop-ordinal.invariant.built in (
+      built.live,
+      built.rising,
+      (λ ordinal. (
+        (λ there. ((built.are ordinal).0 there).0),
+        (λ live. let below : ordinal < c.bound-bound.result = c.bound-bound.ensures.above ordinal live in (built.are ordinal).1 (live, omega arith)),
+      )),
+      built.count,
+    )

@@ -7,7 +7,7 @@ use Rattle.ordinal_set.proofs.set.OrdinalSet.contains.Goals as goal
 
 pub returns-clause-member : goal.returns-clause-member
 returns-clause-member c =
-    let o = c.args.o in
+    let o = c.args.ordinal in
     let bit = c.has_set.ensures ∙ ap (λ words. has_bit words o) c.deref.ensures.value in
     subst (λ set. IsTrue c.has_set.result ↔ Contains set o) c.self.view_is (member_by_bit c.self.inside.words.items o c.has_set.result bit)
 

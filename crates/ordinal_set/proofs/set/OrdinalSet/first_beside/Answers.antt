@@ -14,9 +14,9 @@ returns c =
     let others = subst AreOrdinals c.other.view_is (ordinals-population c.other.inside.words.items c.other.invariant) in
     let seen = ap population_of c.deref.ensures.value ∙ c.self.view_is in
     let other_seen = ap population_of c.deref-2.ensures.value ∙ c.other.view_is in
-    let tells = subst (λ xs. TellsNext c.args.o (lacking set xs) c.next_beside.result) other_seen (subst (λ xs. TellsNext c.args.o (lacking xs (population_of c.deref-2.result.now)) c.next_beside.result) seen c.next_beside.ensures) in
+    let tells = subst (λ xs. TellsNext c.args.ordinal (lacking set xs) c.next_beside.result) other_seen (subst (λ xs. TellsNext c.args.ordinal (lacking xs (population_of c.deref-2.result.now)) c.next_beside.result) seen c.next_beside.ensures) in
     record {
-      first = least_from-told c.args.o (lacking set other) c.next_beside.result (ordinals-lacking set other ordinals).rising tells;
+      first = least_from-told c.args.ordinal (lacking set other) c.next_beside.result (ordinals-lacking set other ordinals).rising tells;
       tells = tells;
       ordinals = ordinals;
       others = others;

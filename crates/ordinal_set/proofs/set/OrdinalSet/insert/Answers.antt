@@ -24,7 +24,7 @@ pub invariant_of-self-2 : goal.invariant_of-self-2
 invariant_of-self-2 c =
     let few = c.in_ok-lengthen.ensures.few in
     let grown = c.lengthen.new.words.items in
-    let o = c.args.o in
+    let o = c.args.ordinal in
     let fit : FitOrdinals grown =
     fit_alike c.self.inside.words.items grown c.self.invariant c.in_ok-lengthen.ensures.kept (omega (arith, c.lengthen.new.words.ok, c.self.inside.words.ok)) in
     let inside : o / 64 < length grown = omega (arith, c.lengthen.new.words.ok, c.in_ok-lengthen.ensures.reached) in
@@ -37,7 +37,7 @@ invariant_of-self-2 c =
 pub returns-clause-ok : goal.returns-clause-ok
 returns-clause-ok c =
     let grown = c.lengthen.new.words.items in
-    let o = c.args.o in
+    let o = c.args.ordinal in
     let inside : o / 64 < length grown = omega (arith, c.lengthen.new.words.ok, c.in_ok-lengthen.ensures.reached) in
     let read = get_or_read grown (o / 64) c.index_mut.result.now inside c.index_mut.ensures.value 0 in
     ap (λ word. population_of (set grown (o / 64) (bit_or word (1 * 2 ^ (o % 64) % 2 ^ 64)))) read
@@ -46,5 +46,5 @@ returns-clause-ok c =
 
 pub returns-clause-ordinals : goal.returns-clause-ordinals
 returns-clause-ordinals c =
-    let o = c.args.o in
+    let o = c.args.ordinal in
     ordinals-population (set c.lengthen.new.words.items (o / 64) (bit_or c.index_mut.result.now (1 * 2 ^ (o % 64) % 2 ^ 64))) (invariant_of-self-2 c)

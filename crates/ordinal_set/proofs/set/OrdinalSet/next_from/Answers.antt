@@ -9,8 +9,8 @@ pub returns-clause-next : goal.returns-clause-next
 returns-clause-next c =
     let ordinals = subst AreOrdinals c.self.view_is (ordinals-population c.self.inside.words.items c.self.invariant) in
     let tells =
-    subst (λ set. TellsNext c.args.o set c.next_set.result) (ap population_of c.deref.ensures.value ∙ c.self.view_is) c.next_set.ensures in
-    least_from-told c.args.o c.args.self.now c.next_set.result ordinals.rising tells
+    subst (λ set. TellsNext c.args.ordinal set c.next_set.result) (ap population_of c.deref.ensures.value ∙ c.self.view_is) c.next_set.ensures in
+    least_from-told c.args.ordinal c.args.self.now c.next_set.result ordinals.rising tells
 
 pub returns-clause-ordinals : goal.returns-clause-ordinals
 returns-clause-ordinals c = subst AreOrdinals c.self.view_is (ordinals-population c.self.inside.words.items c.self.invariant)

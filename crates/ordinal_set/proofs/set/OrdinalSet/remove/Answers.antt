@@ -7,10 +7,10 @@ use Rattle.ordinal_set.proofs.set.OrdinalSet.remove.Goals as goal
 pub returns-clause-removed : goal.returns-clause-removed
 returns-clause-removed c =
     let old = c.self.inside.words.items in
-    population_without old c.clear_bit.new.words.items c.args.o c.clear_bit.ensures.len c.clear_bit.ensures.bits ∙ ap (without_ordinal c.args.o) c.self.view_is
+    population_without old c.clear_bit.new.words.items c.args.ordinal c.clear_bit.ensures.len c.clear_bit.ensures.bits ∙ ap (without_ordinal c.args.ordinal) c.self.view_is
 
 pub returns-clause-ordinals : goal.returns-clause-ordinals
 returns-clause-ordinals c =
     let old = c.self.inside.words.items in
     let new = c.clear_bit.new.words.items in
-    ordinals-population new (fit_without old new c.args.o c.self.invariant c.clear_bit.ensures.len c.clear_bit.ensures.bits)
+    ordinals-population new (fit_without old new c.args.ordinal c.self.invariant c.clear_bit.ensures.len c.clear_bit.ensures.bits)
