@@ -1,5 +1,5 @@
 -- Lemmas on what is told of a run: why it spells no set or map of so many pairs, and that it spells one.
-use Rattle.std.proofs.Common.{◌≡◌, ℕ, ◌≤◌, List, length, Ok, arith, refl, sym, subst, ◌∙◌}
+use Rattle.std.proofs.Common.{◌≡◌, ℕ, ◌≤◌, List, length, MatchOption, Option, None, Some, Ok, arith, refl, sym, subst, ◌∙◌}
 use Rattle.std.specs.Int.{IsPowerOfTwo}
 use Rattle.std.specs.List.Sorted.{IsPermutation, IsNonDecreasingBy}
 use Rattle.std.proofs.lemmas.List.Sorted.{length_permutation, All-permutation, IsPermutation-trans, IsPermutation-sym}
@@ -58,3 +58,13 @@ spells run taken sorted count counted opens are same rises =
 -- nor is a key found elsewhere than it stands
 pub spells_counted : (run : List Bucket) (count : ℕ) → IsCounted run count → FindsEach run → SpellsSome run count
 spells_counted run count counted finds = spells_found run (length run) count refl counted.ranges counted.taken counted.room counted.power finds
+
+-- ---- an answer of the walk over a run
+
+pub told_none : (P : Type 0) (Q : ℕ → Type 0) (found : Option ℕ) → found ≡ None → MatchOption found P Q → P
+told_none P Q None is told = told
+told_none P Q (Some taken) is told = absurd cc
+
+pub told_some : (P : Type 0) (Q : ℕ → Type 0) (found : Option ℕ) (taken : ℕ) → found ≡ Some taken → MatchOption found P Q → Q taken
+told_some P Q None taken is told = absurd cc
+told_some P Q (Some other) taken is told = let same : other ≡ taken = cc in subst Q same told

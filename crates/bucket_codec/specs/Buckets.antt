@@ -52,6 +52,12 @@ IsFar run most = most < min (steps_within run (length run)) (2 ^ 64 - 1)
 abbrev pub SpellsSome : List Bucket → ℕ → Type 0
 SpellsSome run count = (pairs : List (ℕ × ℕ)) × SpellsRun run pairs × (count ≡ length pairs)
 
+-- The run may spell a set or map of so many pairs, whatever buckets are taken.
+pub record HasRoom (run : List Bucket) (count : ℕ) : Type 0 where
+  pub ranges : All IsPairInRange (taken_of run)
+  pub room : count < length run
+  pub power : IsPowerOfTwo (length run)
+
 -- The run may spell a set or map of so many pairs, wherever its keys stand.
 pub record IsCounted (run : List Bucket) (count : ℕ) : Type 0 where
   pub ranges : All IsPairInRange (taken_of run)

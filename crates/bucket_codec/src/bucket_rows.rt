@@ -48,6 +48,7 @@ impl<'a> BucketRows<'a> {
     }
 
     /// The number of elements or pairs at a place.
+    #[inline(always)]
     pub fn size(&self, place: u64) -> u64
         requires { HoldsAt self.now place }
         ensures { result ≡ size_at self.now.widths.now self.now.first.now place }
@@ -60,6 +61,7 @@ impl<'a> BucketRows<'a> {
     }
 
     /// How many buckets the run of a place has by its pointers; 0 where they fall. So many are walked where the place is read.
+    #[inline(always)]
     pub fn run_length(&self, place: u64) -> u64
         requires { HoldsAt self.now place }
         ensures { result ≡ end_at self.now.widths.now self.now.first.now place - start_at self.now.widths.now self.now.first.now place }
@@ -68,6 +70,7 @@ impl<'a> BucketRows<'a> {
     }
 
     /// The buckets of a place; none where the pointers bound none that there are.
+    #[inline(always)]
     pub fn buckets(&self, place: u64) -> Option<Buckets<'a>>
         requires { HoldsAt self.now place }
         ensures { MatchOption result (IsSpanAt self.now place → ⊥) (λ buckets. IsSpanAt self.now place × (run_of buckets ≡ run_at self.now.widths.now self.now.first.now self.now.second.now place)) }

@@ -1,5 +1,5 @@
 //! Whether look-ups in buckets find each key where it stands.
-ghost use Rattle.std.specs.Prelude.{◌≡◌, ◌+◌, ◌-◌, ◌%◌, ◌<◌, All, MatchBool, MatchOption};
+ghost use Rattle.std.specs.Prelude.{◌≡◌, ◌+◌, ◌-◌, ◌%◌, ◌<◌, All, MatchBool, MatchOption, length};
 ghost use Rattle.std.specs.Int.{IsPowerOfTwo};
 ghost use Rattle.bucket_codec.specs.Hash.{hash_of};
 ghost use Rattle.bucket_codec.specs.Run.{bucket_at, taken_of, IsPairInRange};
@@ -9,24 +9,26 @@ use crate::buckets::{Buckets, round};
 use crate::hash::hash_int;
 
 impl<'a> Buckets<'a> {
-    /// Whether each key stands where it is found from its home on, which no key does that stands twice; none where the keys stand more than
-    /// so many steps behind their homes, all together.
-    pub(crate) fn finds_each(self, most: u64) -> Option<bool>
+    /// How many buckets are taken where each key stands where it is found from its home on, which no key does that stands twice, and nothing where
+    /// one does not; none where the keys stand more than so many steps behind their homes, all together. It is told in one walk over the buckets.
+    pub(crate) fn count_found(self, most: u64) -> Option<Option<u64>>
         requires power { IsPowerOfTwo self.len }
         requires ranges { All IsPairInRange (taken_of (run_of self)) }
-        ensures { MatchOption result (IsFar (run_of self.entry) most) (λ found. MatchBool found (FindsEach (run_of self.entry)) (FindsEach (run_of self.entry) → ⊥)) }
+        ensures { MatchOption result (IsFar (run_of self.entry) most) (λ found. MatchOption found (FindsEach (run_of self.entry) → ⊥) (λ taken. FindsEach (run_of self.entry) × (taken ≡ length (taken_of (run_of self.entry))))) }
     {
         let mut gone: u64 = 0;
+        let mut taken: u64 = 0;
         for index in 0..self.len {
             let Some(steps) = self.steps_at(index) else {
-                return Some(false);
+                return Some(None);
             };
             gone = gone.saturating_add(steps);
             if gone > most {
                 return None;
             }
+            taken += self.taken_at(index);
         }
-        Some(true)
+        Some(Some(taken))
     }
 
     /// How many steps the key of the bucket at an index stands behind its home, and 0 where the bucket is empty; none where it is not found.

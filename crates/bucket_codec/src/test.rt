@@ -4,7 +4,7 @@ ghost use Rattle.std.specs.Int.{IsPowerOfTwo};
 ghost use Rattle.row_model.specs.declared.packed.PlaceFault.TheVariants.{Bad};
 ghost use Rattle.bucket_codec.specs.Run.{bucket_at, taken_of, IsPairInRange};
 ghost use Rattle.bucket_codec.specs.Taken.{HasBadValue, TellsPairs};
-ghost use Rattle.bucket_codec.specs.Buckets.{run_of, FitsAt, IsCounted, IsFaultOf, TellsRunTest};
+ghost use Rattle.bucket_codec.specs.Buckets.{run_of, FitsAt, HasRoom, IsCounted, IsFaultOf, TellsRunTest};
 ghost use Rattle.bucket_codec.specs.BucketRows.{HoldsAt, SpellsAt, FailsAt};
 
 use crate::bucket_rows::BucketRows;
@@ -21,17 +21,17 @@ const MOST_STEPS: u64 = 16;
 impl<'a> BucketRows<'a> {
     /// Why no set or map is spelled at a place; none where one is.
     ///
-    /// It walks the buckets twice, three times where an element, a key or a value has more than 32 bits, and goes the way from the home of each
-    /// key to where the key stands. It takes memory only where the keys stand far behind their homes, as in no run that the format's writer
+    /// It walks the buckets once, twice where an element, a key or a value has more than 32 bits, and goes the way from the home of each key to
+    /// where the key stands. It takes memory only where the keys stand far behind their homes, as in no run that the format's writer
     /// makes: then to read the place takes less time.
     pub fn fault(&self, alloc: Global, place: u64) -> Result<Option<Reason>, AllocError>
         requires { HoldsAt self.now place }
         ensures { IfOk result (λ found. MatchOption found ((pairs : List (ℕ × ℕ)) × SpellsAt self.now place pairs) (FailsAt self.now place)) }
     {
-        let most = self.run_length(place).saturating_mul(MOST_STEPS);
         let Some(buckets) = self.buckets(place) else {
             return Ok(Some(Reason::BadPointers));
         };
+        let most = buckets.len.saturating_mul(MOST_STEPS);
         match buckets.test(self.size(place), most) {
             Tested::Spells => Ok(None),
             Tested::Fails(reason) => Ok(Some(reason)),
@@ -57,13 +57,18 @@ impl<'a> Buckets<'a> {
     fn test(self, count: u64, most: u64) -> Tested
         ensures { TellsRunTest (run_of self.entry) count most result }
     {
-        if let Some(reason) = self.count_fault(count) {
+        if let Some(reason) = self.room_fault(count) {
             return Tested::Fails(reason);
         }
-        match self.finds_each(most) {
+        match self.count_found(most) {
             None => Tested::Far,
-            Some(false) => Tested::Fails(Reason::BadBuckets),
-            Some(true) => Tested::Spells,
+            Some(None) => Tested::Fails(Reason::BadBuckets),
+            Some(Some(taken)) => {
+                if taken != count {
+                    return Tested::Fails(Reason::BadBuckets);
+                }
+                Tested::Spells
+            }
         }
     }
 
@@ -72,11 +77,21 @@ impl<'a> Buckets<'a> {
     pub(crate) fn count_fault(self, count: u64) -> Option<Reason>
         ensures { MatchOption result (IsCounted (run_of self.entry) count) (λ reason. TellsPairs (run_of self.entry) count (Err (Bad reason))) }
     {
-        if !self.are_in_range() {
-            return Some(Reason::BadValue);
+        if let Some(reason) = self.room_fault(count) {
+            return Some(reason);
         }
         if self.taken() != count {
             return Some(Reason::BadBuckets);
+        }
+        None
+    }
+
+    /// The same, whatever buckets are taken.
+    fn room_fault(self, count: u64) -> Option<Reason>
+        ensures { MatchOption result (HasRoom (run_of self.entry) count) (λ reason. TellsPairs (run_of self.entry) count (Err (Bad reason))) }
+    {
+        if !self.are_in_range() {
+            return Some(Reason::BadValue);
         }
         if count >= self.len {
             return Some(Reason::BadBuckets);
@@ -131,7 +146,8 @@ impl<'a> Buckets<'a> {
     }
 
     /// 1 where the bucket at an index is taken, and 0 where it is empty.
-    fn taken_at(self, index: u64) -> u64
+    #[inline(always)]
+    pub(crate) fn taken_at(self, index: u64) -> u64
         requires { index < self.len }
         ensures is { result ≡ length (taken_of (bucket_at (run_of self.entry) index ∷ [])) }
         ensures one { result ≤ 1 }

@@ -5,6 +5,7 @@ pub mod Taken
 pub mod Copied
 pub mod Sources
 pub mod StoredRows
+pub mod Gaps
 mod Shifts
 mod WordBytes
 mod Parts

@@ -6,12 +6,10 @@ ghost use Rattle.object_codec.specs.Cell.{IsWithin};
 ghost use Rattle.object_codec.specs.Encoded.{IsTaken};
 ghost use Rattle.object_codec.specs.ObjectPlace.{IsKindWidth, part_at};
 ghost use Rattle.object_codec.specs.Part.{IsSpan, end_of};
-ghost use Rattle.object_codec.specs.Bytes.{bytes_of};
 ghost use Rattle.record_copies.specs.Parts.{HasRoomFor, IsRunTaken, widened};
 
-use crate::bytes::add_bytes;
 use crate::cell::Cell;
-use crate::record::WordRecords;
+use crate::source::RecordSource;
 use bit_array::all_ones;
 use hol_varint::Octets;
 use schema_model::FieldKind;
@@ -19,10 +17,10 @@ use std::alloc::{AllocError, Global};
 
 /// Adds the bytes of a field's part to others, and answers the element of the width that holds its value behind them.
 #[inline(always)]
-pub(crate) fn take_part(
+pub(crate) fn take_part<S: RecordSource>(
     alloc: Global,
     kind: &FieldKind,
-    from: &WordRecords<'_>,
+    from: &S,
     cell: Cell,
     width: u32,
     area: &mut Octets,
@@ -30,22 +28,22 @@ pub(crate) fn take_part(
     requires narrow { width ≤ 64 }
     requires wide { IsKindWidth kind.now width }
     requires wide_there { IsKindWidth kind.now cell.width }
-    requires within { IsWithin from.now.first.now cell.size cell.place cell.before cell.width }
-    requires room { (value : Value) × HasRoomFor kind.now (part_at from.now.first.now cell.size cell.place cell.before cell.width (area_of (map bytes_of from.now.areas.now) cell.field)) width area.old value }
-    ensures { IfOk result (λ element. (value : Value) → HasRoomFor kind.now (part_at from.now.first.now cell.size cell.place cell.before cell.width (area_of (map bytes_of from.now.areas.now) cell.field)) width area.old value
+    requires within { IsWithin (S.record_words from.now) cell.size cell.place cell.before cell.width }
+    requires room { (value : Value) × HasRoomFor kind.now (part_at (S.record_words from.now) cell.size cell.place cell.before cell.width (area_of (S.field_bytes from.now) cell.field)) width area.old value }
+    ensures { IfOk result (λ element. (value : Value) → HasRoomFor kind.now (part_at (S.record_words from.now) cell.size cell.place cell.before cell.width (area_of (S.field_bytes from.now) cell.field)) width area.old value
         → IsTaken kind.now width element area.old area.new (Some value)) }
 {
     match kind {
         FieldKind::Text => take_run(alloc, from, cell, width, area),
         FieldKind::Bytes => take_run(alloc, from, cell, width, area),
-        _ => Ok(number(cell.width, width, cell.element(from.first))),
+        _ => Ok(number(cell.width, width, cell.element(from.words()))),
     }
 }
 
 /// Adds the bytes of a STRING or BYTES to others, and answers the element of the width: where they end then, with the null bit for a null.
-fn take_run(
+fn take_run<S: RecordSource>(
     alloc: Global,
-    from: &WordRecords<'_>,
+    from: &S,
     cell: Cell,
     width: u32,
     area: &mut Octets,
@@ -53,16 +51,16 @@ fn take_run(
     requires some { 1 ≤ width }
     requires narrow { width ≤ 64 }
     requires some_there { 1 ≤ cell.width }
-    requires within { IsWithin from.now.first.now cell.size cell.place cell.before cell.width }
-    requires span { IsSpan (part_at from.now.first.now cell.size cell.place cell.before cell.width (area_of (map bytes_of from.now.areas.now) cell.field)) }
-    requires end { length area.old + (end_of (part_at from.now.first.now cell.size cell.place cell.before cell.width (area_of (map bytes_of from.now.areas.now) cell.field))
-        - (part_at from.now.first.now cell.size cell.place cell.before cell.width (area_of (map bytes_of from.now.areas.now) cell.field)).start) < 2 ^ (width - 1) }
-    ensures { IfOk result (λ element. IsRunTaken (part_at from.now.first.now cell.size cell.place cell.before cell.width (area_of (map bytes_of from.now.areas.now) cell.field)) width element area.old area.new) }
+    requires within { IsWithin (S.record_words from.now) cell.size cell.place cell.before cell.width }
+    requires span { IsSpan (part_at (S.record_words from.now) cell.size cell.place cell.before cell.width (area_of (S.field_bytes from.now) cell.field)) }
+    requires end { length area.old + (end_of (part_at (S.record_words from.now) cell.size cell.place cell.before cell.width (area_of (S.field_bytes from.now) cell.field))
+        - (part_at (S.record_words from.now) cell.size cell.place cell.before cell.width (area_of (S.field_bytes from.now) cell.field)).start) < 2 ^ (width - 1) }
+    ensures { IfOk result (λ element. IsRunTaken (part_at (S.record_words from.now) cell.size cell.place cell.before cell.width (area_of (S.field_bytes from.now) cell.field)) width element area.old area.new) }
 {
     let null_bit = 1 << (cell.width - 1);
-    let element = cell.element(from.first);
-    let start = cell.start(from.first);
-    push_run(alloc, from, cell.field, start, element % null_bit, area)?;
+    let element = cell.element(from.words());
+    let start = cell.start(from.words());
+    from.push_run(alloc, cell.field, start, element % null_bit, area)?;
     Ok(end_element(width, area.len() as u64, element >= null_bit))
 }
 
@@ -79,26 +77,6 @@ fn end_element(width: u32, end: u64, is_null: bool) -> u64
         return end + (1 << (width - 1));
     }
     end
-}
-
-/// Adds the bytes of a field from one offset up to another to others, which stay where they are if there are none.
-#[inline(always)]
-fn push_run(
-    alloc: Global,
-    from: &WordRecords<'_>,
-    field: u32,
-    start: u64,
-    end: u64,
-    area: &mut Octets,
-) -> Result<(), AllocError>
-    requires rises { start ≤ end }
-    requires inside { end ≤ length (area_of (map bytes_of from.now.areas.now) field) }
-    ensures { OnOk result (area.new ≡ area.old ++ take (end - start) (drop start (area_of (map bytes_of from.now.areas.now) field))) }
-{
-    if start == end {
-        return Ok(());
-    }
-    add_bytes(alloc, from.areas[field as usize].between(start, end), area)
 }
 
 /// The element of a number in another width: all ones, which is null, stays all ones.

@@ -1,27 +1,17 @@
 //! A record copied from its place in some words to a place in others.
-ghost use Rattle.std.specs.Prelude.{◌≡◌, OnOk, Some, map, sum};
+ghost use Rattle.std.specs.Prelude.{◌≡◌, OnOk, Some, sum};
 ghost use Rattle.schema_model.specs.Parts.{shape_fields};
 ghost use Rattle.row_model.specs.declared.row.Row.{Row};
 ghost use Rattle.object_codec.specs.ObjectPlace.{HoldsPlace, SpellsObjectRow};
 ghost use Rattle.object_codec.specs.Packing.{HasRoom, IsRowPut};
-ghost use Rattle.object_codec.specs.Bytes.{bytes_of};
 
 use crate::cell::Cell;
 use crate::part::take_part;
+use crate::source::RecordSource;
 use bit_array::set_element;
 use hol_varint::Octets;
-use object_codec::PackedBytes;
 use schema_model::Schema;
 use std::alloc::{AllocError, Global};
-
-/// Records all of whose parts stand in words: the bytes of each field eight in a word.
-#[derive(Clone, Copy)]
-pub struct WordRecords<'a> {
-    /// The words of the records.
-    pub first: &'a [u64],
-    /// The bytes of each field.
-    pub areas: &'a [PackedBytes<'a>],
-}
 
 /// A place in words whose records have a field of each of these widths.
 #[derive(Clone, Copy)]
@@ -38,10 +28,10 @@ pub struct RecordPlace<'a> {
 ///
 /// The place that is copied from spells a record, and there is room for it. The places before keep what they spell, and no bit behind the place
 /// is written. Memory is taken for the bytes alone; where it is refused, the bytes of some fields may be there.
-pub fn copy_record(
+pub fn copy_record<S: RecordSource>(
     alloc: Global,
     schema: &Schema,
-    from: &WordRecords<'_>,
+    from: &S,
     there: RecordPlace<'_>,
     here: RecordPlace<'_>,
     first: &mut [u64],
@@ -49,10 +39,10 @@ pub fn copy_record(
 ) -> Result<(), AllocError>
     requires there_size { there.size ≡ sum there.widths.now }
     requires here_size { here.size ≡ sum here.widths.now }
-    requires holds { HoldsPlace (shape_fields schema.now.shape) there.widths.now from.now.first.now (map bytes_of from.now.areas.now) there.place }
-    requires room { (row : Row) × SpellsObjectRow schema.now.shape there.widths.now from.now.first.now (map bytes_of from.now.areas.now) there.place row × HasRoom schema.now.shape here.widths.now first.old areas.old here.place (Some row) }
-    ensures put { OnOk result ((row : Row) → SpellsObjectRow schema.now.shape there.entry.widths.now from.now.first.now (map bytes_of from.now.areas.now) there.entry.place row → IsRowPut schema.now.shape here.entry.widths.now first.old areas.old first.new areas.new here.entry.place (Some row)) }
-    ensures same { OnOk result ((row : Row) → SpellsObjectRow schema.now.shape there.entry.widths.now from.now.first.now (map bytes_of from.now.areas.now) there.entry.place row → SpellsObjectRow schema.now.shape here.entry.widths.now first.new areas.new here.entry.place row) }
+    requires holds { HoldsPlace (shape_fields schema.now.shape) there.widths.now (S.record_words from.now) (S.field_bytes from.now) there.place }
+    requires room { (row : Row) × SpellsObjectRow schema.now.shape there.widths.now (S.record_words from.now) (S.field_bytes from.now) there.place row × HasRoom schema.now.shape here.widths.now first.old areas.old here.place (Some row) }
+    ensures put { OnOk result ((row : Row) → SpellsObjectRow schema.now.shape there.entry.widths.now (S.record_words from.now) (S.field_bytes from.now) there.entry.place row → IsRowPut schema.now.shape here.entry.widths.now first.old areas.old first.new areas.new here.entry.place (Some row)) }
+    ensures same { OnOk result ((row : Row) → SpellsObjectRow schema.now.shape there.entry.widths.now (S.record_words from.now) (S.field_bytes from.now) there.entry.place row → SpellsObjectRow schema.now.shape here.entry.widths.now first.new areas.new here.entry.place row) }
 {
     let fields = schema.shape.fields();
     let mut before = 0;

@@ -7,7 +7,7 @@ ghost use Rattle.record_copies.specs.Run.{AreStanding, HasRunRoom, IsRunPut};
 
 use crate::bytes::add_bytes;
 use crate::column::Column;
-use crate::record::WordRecords;
+use crate::source::WordRecords;
 use bit_array::{copy_bits, total_width};
 use hol_varint::Octets;
 use object_codec::{PackedBytes, has_bytes};

@@ -79,11 +79,6 @@ removed_stands rows ds apart k d inside =
 pub agree_added : (rows : RowMap) (ds : Differences) → AreApart ds → AgreeAt (differing rows ds.removed.items) rows ds.added.items
 agree_added rows ds apart o live = get_differing 0 rows ds.removed.items o (from_sorted (keys_of ds.removed.items) apart.removed) ∙ ap (λ f. either f (get rows o)) (apart.apart o live)
 
--- What is told where all is counted tells more.
-pub if_done : {E P Q : Type 0} (result : Result Bool E) → (P → Q) → IfOk result (λ done. IsTrue done → P) → IfOk result (λ done. IsTrue done → Q)
-if_done (Ok done) more h = λ t. more (h t)
-if_done (Err e) more h = h
-
 -- The differences of both parts are counted.
 pub both_counted : (rows : RowMap) (ds : Differences) (removed added : List Difference) (before middle after : Totals) → AreApart ds → removed ≡ ds.removed.items → added ≡ ds.added.items → IsCounted rows removed before middle → IsCounted rows added middle after
     → AreTotals (values rows) before → AreTotals (values (rows_with rows ds)) after

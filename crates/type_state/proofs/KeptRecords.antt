@@ -69,6 +69,17 @@ module _
   record_room there old bytes room =
       (row.0, record_spelled, subst (λ (n : ℕ). HasRoom given there old bytes n (Some row.0)) (sym place_is) (subst (λ (r : Option Row). HasRoom given there old bytes ordinal r) row.1 room))
 
+  -- The same of any place that is copied to.
+  pub room_at : (there old : List ℕ) (bytes : List (List ℕ)) (to : ℕ) → HasRoom given there old bytes to (get (half_rows shape half words) ordinal)
+      → (r : Row) × SpellsObjectRow given widths first areas place r × HasRoom given there old bytes to (Some r)
+  room_at there old bytes to room = (row.0, record_spelled, subst (λ (r : Option Row). HasRoom given there old bytes to r) row.1 room)
+
+  pub put_at : {E : Type 0} (result : Result (Unit {0}) E) (there old new : List ℕ) (old_bytes bytes : List (List ℕ)) (to : ℕ)
+      → OnOk result ((r : Row) → SpellsObjectRow given widths first areas place r → IsRowPut given there old old_bytes new bytes to (Some r))
+      → OnOk result (IsRowPut given there old old_bytes new bytes to (get (half_rows shape half words) ordinal))
+  put_at result there old new old_bytes bytes to put =
+      on_ok result _ _ (λ h. subst (λ (r : Option Row). IsRowPut given there old old_bytes new bytes to r) (sym row.1) (h row.0 record_spelled)) put
+
   pub record_put : {E : Type 0} (result : Result (Unit {0}) E) (there old new : List ℕ) (old_bytes bytes : List (List ℕ))
       → OnOk result ((r : Row) → SpellsObjectRow given widths first areas place r → IsRowPut given there old old_bytes new bytes place (Some r))
       → OnOk result (IsRowPut given there old old_bytes new bytes ordinal (get (half_rows shape half words) ordinal))

@@ -2,9 +2,7 @@ pub mod AddedRows
 pub mod AddedUp
 pub mod Bounds
 pub mod Changes
-pub mod CopiedBytes
-pub mod CopiedRecords
-pub mod CopiedRuns
+pub mod CopiedRows
 pub mod CountedRows
 pub mod DifferingRows
 pub mod FieldBytes
@@ -20,14 +18,18 @@ pub mod KeptRuns
 pub mod KindsKept
 pub mod LaidOut
 pub mod Layouts
+pub mod LeavingRows
 pub mod LiveSets
 pub mod Lookups
 pub mod MembersBelow
 pub mod MovedHalf
 pub mod Moves
+pub mod MovedItems
 pub mod MovesExact
 pub mod NextStates
+pub mod OldCopies
 pub mod OldPlaces
+pub mod PartCounts
 pub mod PassedOrdinals
 pub mod ReadPlaces
 pub mod RecordedRows
@@ -35,4 +37,5 @@ pub mod RowSums
 pub mod SectionHalves
 pub mod StayingRows
 pub mod StoredPlaces
+pub mod TightPlaces
 pub mod Widening

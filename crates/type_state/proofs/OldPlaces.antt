@@ -39,17 +39,17 @@ zip_more P (w ∷ xs) (v ∷ ys) x y all one = (all.0, zip_more P xs ys x y all.
 zip_more P [] (v ∷ ys) x y all one = absurd all
 zip_more P (w ∷ xs) [] x y all one = absurd all
 
-zip_of : {A B : Type 0} (P : A → B → Type 0) (xs : List A) (ys : List B) → length ys ≡ length xs → ((k : ℕ) (x : A) (y : B) → slice_get xs k ≡ Some x → slice_get ys k ≡ Some y → P x y) → AllZip P xs ys
+pub zip_of : {A B : Type 0} (P : A → B → Type 0) (xs : List A) (ys : List B) → length ys ≡ length xs → ((k : ℕ) (x : A) (y : B) → slice_get xs k ≡ Some x → slice_get ys k ≡ Some y → P x y) → AllZip P xs ys
 zip_of P [] [] long each = tt
 zip_of P [] (y ∷ ys) long each = absurd (omega (arith, long))
 zip_of P (x ∷ xs) [] long each = absurd (omega (arith, long))
 zip_of P (x ∷ xs) (y ∷ ys) long each = (each 0 x y refl refl, zip_of P xs ys (omega (arith, long)) (λ k. each (suc k)))
 
-in_range : {X : Type 0} (f : ℕ → X) (n k : ℕ) → k < n → slice_get (map f (range_with_len 0 n)) k ≡ Some (f k)
+pub in_range : {X : Type 0} (f : ℕ → X) (n k : ℕ) → k < n → slice_get (map f (range_with_len 0 n)) k ≡ Some (f k)
 in_range f n k inside =
     slice_get-get_or (map f (range_with_len 0 n)) k (f k) (omega (arith, inside, length-map-range_with_len f 0 n)) ∙ ap Some (get_or-map-range_with_len f 0 n k k (f k) inside (omega arith))
 
-row_there : (row : Option Row) → IsSome row → (r : Row) × (row ≡ Some r)
+pub row_there : (row : Option Row) → IsSome row → (r : Row) × (row ≡ Some r)
 row_there None some = absurd (false≢true some)
 row_there (Some r) some = (r, refl)
 
@@ -68,7 +68,7 @@ record_spells (Shape.Set element) section place row object spells = absurd objec
 record_spells (Shape.Map key value) section place row object spells = absurd object
 
 -- The row that a place spells is the one that is computed of it.
-one_row : (shape : Shape) (widths first : List ℕ) (areas : List (List ℕ)) (place : ℕ) (row : Row) → IsObject shape → SpellsObjectRow shape widths first areas place row → record_row shape widths first areas place ≡ row
+pub one_row : (shape : Shape) (widths first : List ℕ) (areas : List (List ℕ)) (place : ℕ) (row : Row) → IsObject shape → SpellsObjectRow shape widths first areas place row → record_row shape widths first areas place ≡ row
 one_row shape widths first areas place row object spells =
     let parts = parts_up_to widths 0 first [] areas place in
     spelled shape parts place row (record_spells shape parts place row object spells)

@@ -3,6 +3,7 @@ pub mod Differences
 pub mod FirstFaults
 pub mod Kept
 pub mod KeptRecords
+pub mod Leaving
 pub mod LeftDifferences
 pub mod Live
 pub mod Lookup

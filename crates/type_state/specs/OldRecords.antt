@@ -1,10 +1,13 @@
 -- Records without STRING and BYTES that a type had, which stay packed one behind the other.
-use Rattle.std.specs.Prelude.{◌≡◌, ℕ, ◌+◌, ◌*◌, ◌^◌, ◌<◌, ◌≤◌, List, [], length, map, slice_get, IsSome, Some}
+use Rattle.std.specs.Prelude.{◌≡◌, ℕ, ◌+◌, ◌*◌, ◌^◌, ◌<◌, ◌≤◌, List, [], length, map, slice_get, IsSome, Option, Some}
+use Rattle.std.specs.FinMap.{get}
+use Rattle.std.specs.List.Sorted.{IsStrictlyIncreasing}
 use Rattle.std.specs.Coded.{Coded, coded_list}
 use Rattle.std.specs.List.{range_with_len}
 use Rattle.bit_array.specs.Element.{element_of}
 use Rattle.schema_model.specs.Parts.{shape_fields}
 use Rattle.schema_model.specs.declared.schema.Shape.{Shape}
+use Rattle.row_model.specs.Table.{RowMap}
 use Rattle.row_model.specs.declared.row.Row.{Row}
 use Rattle.row_model.specs.contracts.row.Row as row_contract
 use Rattle.object_codec.specs.ObjectPlace.{HoldsPlace, IsObject, SpellsObjectRow}
@@ -37,6 +40,18 @@ pub record CanPack (shape : Shape) (half : HalfShape) (count : ℕ) : Type 0 whe
   pub fixed : AreFixed (shape_fields shape)
   pub places : IsSome half.max
   pub few : count < 2 ^ 32
+
+-- Some rows of a half may be copied one by one, one at least: records under rising ordinals, of a half that has places.
+pub record CanCopyEach (shape : Shape) (half : HalfShape) (ordinals : List ℕ) : Type 0 where
+  pub some : 0 < length ordinals
+  pub object : IsObject shape
+  pub places : IsSome half.max
+  pub few : length ordinals < 2 ^ 32
+  pub rises : IsStrictlyIncreasing ordinals
+
+-- The rows under some ordinals.
+abbrev pub rows_under : RowMap → List ℕ → List (Option Row)
+rows_under rows ordinals = map (get rows) ordinals
 
 -- The words hold the record of this size of each ordinal.
 abbrev pub HoldsEach : List ℕ → ℕ → List ℕ → Type 0

@@ -10,8 +10,10 @@ ghost use Rattle.type_rows.specs.Totals.{AreTotals};
 ghost use Rattle.type_state.specs.Differences.{AreApart, rows_with};
 ghost use Rattle.type_state.specs.Moving.{IsHeld};
 ghost use Rattle.type_state.specs.Counted.{ComeFitting, HoldsLast};
+ghost use Rattle.type_state.specs.Leaving.{AreStanding};
 
 use crate::counting::exchange_rows;
+use crate::leaving::{Leaving, leaving_of};
 use crate::packed_rows::PackedRows;
 use crate::planning::Plan;
 use crate::staying::stay_fitting;
@@ -22,42 +24,31 @@ use type_rows::{MOST_ITEMS, Outline, Totals, counted_words};
 
 /// Counts the rows that come and go, and tells whether each part of those that come fits its width and the bytes keep the limit.
 fn count_change(
-    alloc: Global,
     totals: &mut Totals,
     shape: &Shape,
     next: &Plan,
+    leaving: &Leaving<'_>,
     rows: &PackedRows<'_>,
-) -> Result<bool, AllocError>
+) -> bool
     requires widths { length next.now.outline.widths ≡ width_count shape.now }
     requires narrow { (part : ℕ) → slice_index next.now.outline.widths part ≤ 64 }
     requires long { length totals.old.ends.offsets.items ≡ length (shape_fields shape.now) }
-    requires before { AreOfKind shape.now rows.now.rows }
+    requires standing { AreStanding rows.now.rows leaving.now }
+    requires enough { length leaving.now.columns.items ≤ length (shape_fields shape.now) }
     requires kinds { AreOfKind shape.now (rows_with rows.now.rows next.now.differences) }
     requires apart { AreApart next.now.differences }
     requires totals { AreTotals (values rows.now.rows) totals.old }
-    ensures totals { IfOk result (λ done. IsTrue done → AreTotals (values (rows_with rows.now.rows next.now.differences)) totals.new) }
-    ensures fits { IfOk result (λ done. IsTrue done → ComeFitting shape.now next.now.outline.widths next.now.differences) }
-    ensures long { IfOk result (λ done. IsTrue done → length totals.new.ends.offsets.items ≡ length (shape_fields shape.now)) }
+    ensures totals { IsTrue result → AreTotals (values (rows_with rows.now.rows next.now.differences)) totals.new }
+    ensures fits { IsTrue result → ComeFitting shape.now next.now.outline.widths next.now.differences }
+    ensures long { IsTrue result → length totals.new.ends.offsets.items ≡ length (shape_fields shape.now) }
 {
     let widths = next.outline.widths.as_slice();
-    if !exchange_rows(
-        alloc,
-        totals,
-        shape,
-        widths,
-        rows,
-        next.differences.removed.as_slice(),
-    )? {
-        return Ok(false);
+    let removed = next.differences.removed.as_slice();
+    if !exchange_rows(totals, shape, widths, leaving, rows, removed) {
+        return false;
     }
-    exchange_rows(
-        alloc,
-        totals,
-        shape,
-        widths,
-        rows,
-        next.differences.added.as_slice(),
-    )
+    let added = next.differences.added.as_slice();
+    exchange_rows(totals, shape, widths, leaving, rows, added)
 }
 
 /// Lays out the last row again, behind all the others, and tells whether each part of it fits its width there and the limits are kept.
@@ -107,11 +98,14 @@ pub(crate) fn totals_by_change(
     if !stay_fitting(rows, &schema.shape, widths, removed) {
         return Ok(None);
     }
+    let Some(leaving) = leaving_of(alloc, rows, &schema.shape)? else {
+        return Ok(None);
+    };
     let mut sums = rows.totals(alloc)?;
     if sums.ends.offsets.len() != schema.shape.fields().len() {
         return Ok(None);
     }
-    if !count_change(alloc, &mut sums, &schema.shape, next, rows)? {
+    if !count_change(&mut sums, &schema.shape, next, &leaving, rows) {
         return Ok(None);
     }
     match next.differences.find(alloc, rows, next.outline.bound - 1)? {

@@ -93,6 +93,36 @@ impl<'a> KeptRecords<'a> {
         copy_record(alloc, schema, &self.records, there, here, first, areas)
     }
 
+    /// Copies the record under a live ordinal, whose width in bits is given, to a place in other words, and its bytes behind those of the fields.
+    ///
+    /// Memory is taken for the bytes alone; where it is refused, those of some fields may be there.
+    #[inline(always)]
+    pub(crate) fn copy_to(
+        self,
+        alloc: Global,
+        schema: &Schema,
+        size_there: u64,
+        here: RecordPlace<'_>,
+        first: &mut [u64],
+        areas: &mut [Octets],
+        ordinal: u32,
+    ) -> Result<(), AllocError>
+        requires kept { AreKept self }
+        requires shape { self.shape.now ≡ schema.now.shape }
+        requires live { IsSome (get (kept_rows self) ordinal) }
+        requires size_there { size_there ≡ sum self.half.now.widths }
+        requires size { here.size ≡ sum here.widths.now }
+        requires room { HasRoom schema.now.shape here.widths.now first.old areas.old here.place (get (kept_rows self) ordinal) }
+        ensures { OnOk result (IsRowPut schema.now.shape here.entry.widths.now first.old areas.old first.new areas.new here.entry.place (get (kept_rows self.entry) ordinal)) }
+    {
+        let there = RecordPlace {
+            widths: self.half.widths.as_slice(),
+            size: size_there,
+            place: u64::from(ordinal),
+        };
+        copy_record(alloc, schema, &self.records, there, here, first, areas)
+    }
+
     /// Copies the record of a place, whose width in bits is given, to the same place in other words, and its bytes behind those of the fields. Where
     /// no row is live the place is written as an empty one.
     ///

@@ -13,7 +13,7 @@ ghost use Rattle.type_state.specs.Differences.{AreApart, rows_with};
 ghost use Rattle.type_state.specs.KeptRecords.{AreKept, kept_rows};
 ghost use Rattle.type_state.specs.Recorded.{CanCopyRuns};
 
-use crate::copied::are_same;
+use crate::copied_rows::are_same;
 use crate::kept_records::KeptRecords;
 use crate::left_differences::{behind, first_ordinal, row_at};
 use crate::moving::Move;

@@ -8,9 +8,7 @@ ghost use Rattle.packed_half.specs.Half.{layout_in, words_for};
 ghost use Rattle.packed_half.specs.LaidOut.{IsLaidOut};
 ghost use Rattle.packed_half.specs.Laying.{CanLay};
 
-use crate::copied::{copy_section, stand_alike};
-use crate::copied_areas::{copy_areas, records_stand_alike};
-use crate::copied_lists::{copy_lists, lists_stand_alike};
+use crate::copied_rows::{copy_rows, stand_alike};
 use crate::section_rows::SectionRows;
 use crate::turning::clear_next;
 use hol_varint::Duplicate;
@@ -84,15 +82,7 @@ pub(crate) fn lay_section(
     ensures { OnOk result ((rows : RowMap) → Loads schema.now.shape section.now rows → IsLaidOut schema.now.shape half.now words.new rows) }
 {
     if stand_alike(&schema.shape, section, half) {
-        copy_section(&schema.shape, section, half, words);
-        return Ok(());
-    }
-    if lists_stand_alike(&schema.shape, section, half) {
-        copy_lists(&schema.shape, section, half, words);
-        return Ok(());
-    }
-    if records_stand_alike(&schema.shape, section, half) {
-        copy_areas(&schema.shape, section, half, words);
+        copy_rows(&schema.shape, section, half, words);
         return Ok(());
     }
     let rows = SectionRows::new(schema, section);

@@ -1,12 +1,13 @@
-//! Records without STRING and BYTES that a type had, packed one behind the other at the widths at which they stood.
+//! Records that a type had, packed one behind the other at the widths at which they stood.
 ghost use Rattle.std.specs.Prelude.{◌≡◌, ◌<◌, ◌≤◌, ◌+◌, ◌*◌, ◌^◌, ℕ, [], All, IfOk, IsSome, IsTrue, Some, length, replicate, slice_get};
 ghost use Rattle.std.specs.FinMap.{get};
 ghost use Rattle.std.specs.List.{AllZip};
 ghost use Rattle.bit_array.specs.Element.{element_of, words_of};
 ghost use Rattle.type_state.specs.Kept.{IsHalf, half_rows};
-ghost use Rattle.type_state.specs.OldRecords.{AreCopies, CanPack, HasCopies, HoldsEach};
+ghost use Rattle.type_state.specs.OldRecords.{AreCopies, CanCopyEach, CanPack, HasCopies, HoldsEach};
 
 use crate::kept_runs::empty_areas;
+use crate::old_copies::copies_of_records;
 use bit_array::{copy_bits, total_width, words_for};
 use hol_varint::Duplicate;
 use packed_half::{HalfRows, HalfShape};
@@ -17,7 +18,7 @@ use std::alloc::{AllocError, Global};
 use std::marker::Model;
 
 /// How many records are packed at least: for fewer a copy of the schema takes more than their rows.
-const FEWEST: usize = 64;
+pub(crate) const FEWEST: usize = 64;
 
 /// Records that a type had. Contracts see the list of their rows.
 #[derive(Drop)]
@@ -56,7 +57,7 @@ pub(crate) fn can_pack(shape: &Shape, half: &HalfShape, count: usize) -> bool
 }
 
 /// As many words of zeros as so many bits take.
-fn zeros(alloc: Global, bits: u64) -> Result<Vec<u64>, AllocError>
+pub(crate) fn zeros(alloc: Global, bits: u64) -> Result<Vec<u64>, AllocError>
     ensures { IfOk result (λ words. words.items ≡ replicate (words_of bits) 0) }
 {
     vec![in alloc; 0; words_for(bits) as usize]
@@ -111,6 +112,27 @@ impl OldRecords {
                 second: Words::new(alloc),
                 areas: Areas::from_vec(areas),
             },
+            count: ordinals.len(),
+        })
+    }
+
+    /// The records of a half under live ordinals, which rise, each copied with its bytes.
+    pub(crate) fn copied(
+        alloc: Global,
+        schema: &Schema,
+        current: HalfRows<'_>,
+        ordinals: &[u32],
+    ) -> Result<OldRecords, AllocError>
+        requires shape { current.shape.now ≡ schema.now.shape }
+        requires kept { IsHalf schema.now.shape current.half.now current.words.now }
+        requires can { CanCopyEach schema.now.shape current.half.now ordinals.now }
+        requires live { All (λ ordinal. IsSome (get (half_rows schema.now.shape current.half.now current.words.now) ordinal)) ordinals.now }
+        ensures { IfOk result (AllZip (λ ordinal row. get (half_rows schema.now.shape current.entry.half.now current.entry.words.now) ordinal ≡ Some row) ordinals.now) }
+    {
+        Ok(OldRecords {
+            schema: schema.copy(alloc)?,
+            widths: current.half.widths.copy(alloc)?,
+            packed: copies_of_records(alloc, schema, current, ordinals)?,
             count: ordinals.len(),
         })
     }

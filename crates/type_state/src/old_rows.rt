@@ -5,6 +5,7 @@ ghost use Rattle.std.specs.List.{AllZip};
 ghost use Rattle.row_model.specs.Lent.{lent_row};
 ghost use Rattle.type_state.specs.Kept.{IsHalf, half_rows};
 
+use crate::old_copies::can_copy_each;
 use crate::old_records::{OldRecords, can_pack};
 use crate::packed_rows::PackedRows;
 use hol_varint::{Duplicate, List};
@@ -17,7 +18,7 @@ use type_views::TypeRows;
 
 /// Rows that a type had, in the order of the ordinals under which they stood. Contracts see the list of them.
 ///
-/// Many records without STRING and BYTES stay packed, and each is made when it is asked for.
+/// Many records stay packed, and each is made when it is asked for.
 #[derive(Drop)]
 pub struct OldRows {
     store: Store,
@@ -85,6 +86,12 @@ impl OldRows {
     {
         if can_pack(&schema.shape, current.half, ordinals.len()) {
             let records = OldRecords::of(alloc, schema, current, ordinals)?;
+            return Ok(OldRows {
+                store: Store::Packed(records),
+            });
+        }
+        if can_copy_each(&schema.shape, current.half, ordinals) {
+            let records = OldRecords::copied(alloc, schema, current, ordinals)?;
             return Ok(OldRows {
                 store: Store::Packed(records),
             });

@@ -1,57 +1,56 @@
-use Rattle.std.proofs.Common.{map, ◌+◌, ◌*◌, ℕ, List, get_or, length, ap, subst, sym, ◌∙◌, arith, refl, Fits, w64, set}
+use Rattle.std.proofs.Common.{◌+◌, ◌*◌, ℕ, List, get_or, length, ap, subst, sym, ◌∙◌, arith, refl, Fits, w64, set}
 use Rattle.schema_model.specs.declared.schema.Field.{Field}
 use Rattle.object_codec.specs.Cell.{IsWithin}
 use Rattle.object_codec.proofs.FieldWidths.{place_fits, widths_long, within, wide_at}
 use Rattle.object_codec.proofs.RowPuts.{area_lent}
 use Rattle.record_copies.proofs.Copied.{CopiedSoFar, ready, copied_none, copied_more, all_copied}
-use Rattle.object_codec.specs.Bytes.{bytes_of}
 use Rattle.record_copies.proofs.StoredRows.{put_as_is}
 use Rattle.record_copies.proofs.record.copy_record.Goals as goal
 
 pub overflow_mul-at : goal.overflow_mul-at
-overflow_mul-at c =
+overflow_mul-at g c =
     subst (λ (size : ℕ). Fits w64 (c.args.here.place * size)) (sym c.requires.here_size) (record { fits = place_fits _ _ _ _ _ c.requires.room.2.holds })
 
 pub loop-index-init : goal.loop-index-init
-loop-index-init c = copied_none _ _ _ _ _ _ _ _ _ c.args.here.place _ c.args.here.size c.requires.here_size refl
+loop-index-init g c = copied_none _ _ _ _ _ _ _ _ _ c.args.here.place _ c.args.here.size c.requires.here_size refl
 
 pub bounds-here-index : goal.bounds-here-index
-bounds-here-index c =
+bounds-here-index g c =
     let long = ap (λ (fs : List Field). length fs) c.fields-fields.ensures in
     omega (arith, widths_long _ _ _ _ _ c.requires.room.2.holds, long)
 
 pub bounds-there-index : goal.bounds-there-index
-bounds-there-index c =
+bounds-there-index g c =
     let long = ap (λ (fs : List Field). length fs) c.fields-fields.ensures in
     omega (arith, widths_long _ _ _ _ _ c.requires.holds, long)
 
 pub take_part-requires-clause-narrow : goal.take_part-requires-clause-narrow
-take_part-requires-clause-narrow c =
+take_part-requires-clause-narrow g c =
     let long = ap (λ (fs : List Field). length fs) c.fields-fields.ensures in
     (within _ _ _ _ _ c.loop-index.index _ c.requires.room.2.holds (omega arith) refl).narrow
 
 pub take_part-requires-clause-wide : goal.take_part-requires-clause-wide
-take_part-requires-clause-wide c =
+take_part-requires-clause-wide g c =
     let long = ap (λ (fs : List Field). length fs) c.fields-fields.ensures in
     let field = c.index-fields-index.result in
     wide_at _ _ _ _ _ c.loop-index.index field c.requires.room.2.holds (omega arith) (c.index-fields-index.is ∙ ap (λ (fs : List Field). get_or fs c.loop-index.index field) c.fields-fields.ensures)
 
 pub take_part-requires-clause-wide_there : goal.take_part-requires-clause-wide_there
-take_part-requires-clause-wide_there c =
+take_part-requires-clause-wide_there g c =
     let long = ap (λ (fs : List Field). length fs) c.fields-fields.ensures in
     let field = c.index-fields-index.result in
     wide_at _ _ _ _ _ c.loop-index.index field c.requires.holds (omega arith) (c.index-fields-index.is ∙ ap (λ (fs : List Field). get_or fs c.loop-index.index field) c.fields-fields.ensures)
 
 pub take_part-requires-clause-within : goal.take_part-requires-clause-within
-take_part-requires-clause-within c =
+take_part-requires-clause-within g c =
     let long = ap (λ (fs : List Field). length fs) c.fields-fields.ensures in
     subst
-    (λ (size : ℕ). IsWithin c.args.from.now.first.now size c.args.there.place c.loop-index.before (get_or c.args.there.widths.now c.loop-index.index 0))
+    (λ (size : ℕ). IsWithin (g.S.RecordSource.record_words c.args.from.now) size c.args.there.place c.loop-index.before (get_or c.args.there.widths.now c.loop-index.index 0))
     (sym c.requires.there_size)
     (within _ _ _ _ _ c.loop-index.index c.loop-index.before c.requires.holds (omega arith) c.loop-index.invariant.summed)
 
 pub take_part-requires-clause-room : goal.take_part-requires-clause-room
-take_part-requires-clause-room c =
+take_part-requires-clause-room g c =
     let done = c.loop-index.invariant.put c.requires.room.0 c.requires.room.1 in
     let long = ap (λ (fs : List Field). length fs) c.fields-fields.ensures in
     let areas = c.loop-index.areas in
@@ -63,12 +62,12 @@ take_part-requires-clause-room c =
     (given.0, given.2)
 
 pub set_element-requires-clause-width : goal.set_element-requires-clause-width
-set_element-requires-clause-width c =
+set_element-requires-clause-width g c =
     let long = ap (λ (fs : List Field). length fs) c.fields-fields.ensures in
     (within _ _ _ _ _ c.loop-index.index _ c.requires.room.2.holds (omega arith) refl).narrow
 
 pub set_element-requires-clause-inside : goal.set_element-requires-clause-inside
-set_element-requires-clause-inside c =
+set_element-requires-clause-inside g c =
     let long = ap (λ (fs : List Field). length fs) c.fields-fields.ensures in
     let held = (within _ _ _ _ _ c.loop-index.index _ c.requires.room.2.holds (omega arith) refl).words_hold in
     let done = c.loop-index.invariant.put c.requires.room.0 c.requires.room.1 in
@@ -77,7 +76,7 @@ set_element-requires-clause-inside c =
     omega (arith, held, position, words)
 
 pub set_element-requires-clause-small : goal.set_element-requires-clause-small
-set_element-requires-clause-small c =
+set_element-requires-clause-small g c =
     let done = c.loop-index.invariant.put c.requires.room.0 c.requires.room.1 in
     let long = ap (λ (fs : List Field). length fs) c.fields-fields.ensures in
     let areas = c.loop-index.areas in
@@ -89,13 +88,13 @@ set_element-requires-clause-small c =
     (c.in_ok-element.ensures given.0 given.2).below
 
 pub overflow_add-before : goal.overflow_add-before
-overflow_add-before c =
+overflow_add-before g c =
     let long = ap (λ (fs : List Field). length fs) c.fields-fields.ensures in
     let held = (within _ _ _ _ _ c.loop-index.index c.loop-index.before c.requires.holds (omega arith) c.loop-index.invariant.summed).fits in
     subst (λ (w : ℕ). Fits w64 (c.loop-index.before + w)) (sym c.from-before.ensures) (record { fits = omega (arith, held) })
 
 pub overflow_add-at : goal.overflow_add-at
-overflow_add-at c =
+overflow_add-at g c =
     let long = ap (λ (fs : List Field). length fs) c.fields-fields.ensures in
     let held = (within _ _ _ _ _ c.loop-index.index _ c.requires.room.2.holds (omega arith) refl).fits in
     let done = c.loop-index.invariant.put c.requires.room.0 c.requires.room.1 in
@@ -103,7 +102,7 @@ overflow_add-at c =
     subst (λ (w : ℕ). Fits w64 (c.loop-index.at + w)) (sym c.from-at.ensures) (record { fits = omega (arith, held, position) })
 
 pub loop-index-preserved : goal.loop-index-preserved
-loop-index-preserved c =
+loop-index-preserved g c =
     let shape = c.args.schema.now.shape in
     let fields = c.fields-fields.result.now in
     let there = c.args.there.widths.now in
@@ -113,8 +112,8 @@ loop-index-preserved c =
     let long = ap (λ (fs : List Field). length fs) c.fields-fields.ensures in
     let done = c.loop-index.invariant.put c.requires.room.0 c.requires.room.1 in
     let lent = area_lent c.loop-index.areas index c.index-areas-index.result (omega (arith, long, done.filled, c.requires.room.2.holds.filled)) in
-    let from_first = c.args.from.now.first.now in
-    let from_areas = map bytes_of c.args.from.now.areas.now in
+    let from_first = (g.S.RecordSource.record_words c.args.from.now) in
+    let from_areas = g.S.RecordSource.field_bytes c.args.from.now in
     subst (λ (w : ℕ). CopiedSoFar shape fields there from_first from_areas c.args.there.place widths c.args.first.now c.args.areas.now c.set_element.new.words areas c.args.here.place (index + 1) (c.loop-index.before + w) (c.loop-index.at + c.from-at.result)) (sym c.from-before.ensures)
     (subst (λ (w : ℕ). CopiedSoFar shape fields there from_first from_areas c.args.there.place widths c.args.first.now c.args.areas.now c.set_element.new.words areas c.args.here.place (index + 1) (c.loop-index.before + get_or there index 0) (c.loop-index.at + w)) (sym c.from-at.ensures)
     (copied_more shape fields there from_first from_areas c.args.there.place widths c.args.first.now c.args.areas.now c.loop-index.first c.set_element.new.words c.loop-index.areas c.args.here.place index c.loop-index.before
@@ -123,12 +122,12 @@ loop-index-preserved c =
     c.set_element.ensures.block c.set_element.ensures.is c.set_element.ensures.others c.set_element.auto.words))
 
 pub returns-clause-put : goal.returns-clause-put
-returns-clause-put c =
+returns-clause-put g c =
     all_copied c.args.schema.now.shape c.fields-fields.result.now _ _ _ _ _ _ _ c.loop-index.first c.loop-index.areas c.args.here.place c.loop-index.index c.loop-index.before c.loop-index.at c.requires.room.0
     c.loop-index.invariant c.requires.room.1 c.requires.room.2 c.fields-fields.ensures (omega arith)
 
 pub returns-clause-same : goal.returns-clause-same
-returns-clause-same c =
+returns-clause-same g c =
     λ row spelled.
     put_as_is c.args.schema.now.shape _ _ _ _ _ _ _ c.loop-index.first c.loop-index.areas c.args.here.place row c.requires.holds spelled
     (all_copied c.args.schema.now.shape c.fields-fields.result.now _ _ _ _ _ _ _ c.loop-index.first c.loop-index.areas c.args.here.place c.loop-index.index c.loop-index.before c.loop-index.at c.requires.room.0

@@ -6,16 +6,16 @@ use Rattle.type_state.specs.Counted.{StayFitting}
 use Rattle.type_state.proofs.Changes.{held_by_last, totals_again}
 use Rattle.type_state.proofs.change.totals_by_change.Goals as goal
 
-pub returns-in-Some-clause-held : goal.returns-in-Some-clause-held
-returns-in-Some-clause-held c =
+pub returns-in-Some-2-clause-held : goal.returns-in-Some-2-clause-held
+returns-in-Some-2-clause-held c =
     let told : StayFitting c.args.schema.now.shape c.as_slice-widths.result.now c.as_slice-removed.result.now c.args.rows.now.rows = c.stay_fitting.ensures (search rules) in
     let stay : StayFitting c.args.schema.now.shape c.args.next.now.outline.widths c.args.next.now.differences.removed.items c.args.rows.now.rows =
     subst (λ (removed : List Difference). StayFitting c.args.schema.now.shape c.args.next.now.outline.widths removed c.args.rows.now.rows) c.as_slice-removed.ensures.value
     (subst (λ (widths : List ℕ). StayFitting c.args.schema.now.shape widths c.as_slice-removed.result.now c.args.rows.now.rows) c.as_slice-widths.ensures told) in
     held_by_last c.args.schema.now.shape c.args.next.now.own (layout_at c.args.next.now.outline) c.args.rows.now.rows c.args.next.now.differences c.requires.apart stay (search rules)
-    (c.args.next.now.outline.bound - 1) c.in-Some.last c.count_change.new.totals c.holds_last.new.totals (search rules) (c.requires.kinds (c.args.next.now.outline.bound - 1) c.in-Some.last (search rules)) (search rules) (c.holds_last.ensures (search rules))
+    (c.args.next.now.outline.bound - 1) c.in-Some-2.last c.count_change.new.totals c.holds_last.new.totals (search rules) (c.requires.kinds (c.args.next.now.outline.bound - 1) c.in-Some-2.last (search rules)) (search rules) (c.holds_last.ensures (search rules))
 
-pub returns-in-Some-clause-totals : goal.returns-in-Some-clause-totals
-returns-in-Some-clause-totals c =
-    totals_again c.args.schema.now.shape c.args.next.now.own (layout_at c.args.next.now.outline) (rows_with c.args.rows.now.rows c.args.next.now.differences) (c.args.next.now.outline.bound - 1) c.in-Some.last c.count_change.new.totals c.holds_last.new.totals
+pub returns-in-Some-2-clause-totals : goal.returns-in-Some-2-clause-totals
+returns-in-Some-2-clause-totals c =
+    totals_again c.args.schema.now.shape c.args.next.now.own (layout_at c.args.next.now.outline) (rows_with c.args.rows.now.rows c.args.next.now.differences) (c.args.next.now.outline.bound - 1) c.in-Some-2.last c.count_change.new.totals c.holds_last.new.totals
     (search rules) (search rules) (c.holds_last.ensures (search rules))

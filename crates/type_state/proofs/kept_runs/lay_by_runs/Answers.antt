@@ -2,7 +2,7 @@ use Rattle.std.proofs.Common.{sym, ◌∙◌}
 use Rattle.packed_half.proofs.Parted.{cut_zeros}
 use Rattle.type_state.specs.Differences.{rows_with}
 use Rattle.type_state.specs.KeptRecords.{kept_rows}
-use Rattle.type_state.proofs.CopiedRecords.{item_count_is, place_count_is}
+use Rattle.type_state.proofs.PartCounts.{item_count_is, place_count_is}
 use Rattle.type_state.proofs.KeptRuns.{bytes_room, fields_empty, half_by_runs, written_over}
 use Rattle.type_state.proofs.kept_runs.lay_by_runs.Goals as goal
 

@@ -1,29 +1,15 @@
-use Rattle.std.proofs.Common.{arith, sym, subst, ◌∙◌}
-use Rattle.std.specs.Int.{IsPowerOfTwo}
+use Rattle.std.proofs.Common.{sym, ◌∙◌}
 use Rattle.bucket_codec.specs.Buckets.{run_of}
-use Rattle.bucket_codec.proofs.RunBuckets.{length-run_in}
-use Rattle.bucket_codec.proofs.Spelled.{other_count, no_room, no_power}
+use Rattle.bucket_codec.proofs.Spelled.{other_count}
 use Rattle.bucket_codec.proofs.buckets.Buckets.count_fault.Goals as goal
 
 pub returns-then-taken-count : goal.returns-then-taken-count
-returns-then-taken-count c = (c.if-not-are_in_range.ensures, other_count (run_of c.args.self) c.args.count c.taken.result c.taken.ensures c.if-taken-count.true)
-
-pub returns-then-not-is_power_of_two : goal.returns-then-not-is_power_of_two
-returns-then-not-is_power_of_two c =
-    let long = length-run_in c.args.self.words.now c.args.self.key_width c.args.self.value_width c.args.self.start c.args.self.len in
-    (c.if-not-are_in_range.ensures, no_power (run_of c.args.self) c.args.self.len c.args.count long c.if-not-is_power_of_two.ensures)
-
-pub returns-then-count-self : goal.returns-then-count-self
-returns-then-count-self c =
-    let long = length-run_in c.args.self.words.now c.args.self.key_width c.args.self.value_width c.args.self.start c.args.self.len in
-    (c.if-not-are_in_range.ensures, no_room (run_of c.args.self) c.args.self.len c.args.count long c.if-count-self.true)
+returns-then-taken-count c = (c.in_default.ensures.ranges, other_count (run_of c.args.self) c.args.count c.taken.result c.taken.ensures c.if-taken-count.true)
 
 pub returns : goal.returns
-returns c =
-    let long = length-run_in c.args.self.words.now c.args.self.key_width c.args.self.value_width c.args.self.start c.args.self.len in
-    record {
-      ranges = c.if-not-are_in_range.ensures;
-      taken = sym c.if-taken-count.false ∙ c.taken.ensures;
-      room = omega (arith, long, c.if-count-self.false);
-      power = subst (λ n. IsPowerOfTwo n) (sym long) c.if-not-is_power_of_two.ensures;
-    }
+returns c = record {
+  ranges = c.in_default.ensures.ranges;
+  taken = sym c.if-taken-count.false ∙ c.taken.ensures;
+  room = c.in_default.ensures.room;
+  power = c.in_default.ensures.power;
+}
