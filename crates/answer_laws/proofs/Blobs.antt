@@ -3,6 +3,7 @@ use Rattle.std.proofs.Common.{◌≡◌, ℕ, List, Option, None, Some, IfSome, 
 use Rattle.std.specs.Prelude.{IsSomeAnd}
 use Rattle.hol_io.specs.declared.name.BlobName.{BlobName}
 use Rattle.hol_io.specs.declared.name.BlobName.TheVariants.{Snapshot}
+use Rattle.hol_io.specs.Name.{step_name}
 use Rattle.hol_io.specs.Store.{told}
 use Rattle.blob_grammar.specs.Decided.{AreBytes}
 use Rattle.blob_frame.specs.declared.fault.BlobFault.{BlobFault}
@@ -20,7 +21,7 @@ use Rattle.hol_answers.specs.Refusal.{bad_item, other_origin}
 use Rattle.hollow_machine.specs.Blobs.{SnapshotRefusal, TellsOf}
 use Rattle.hollow_machine.specs.LoadOrder.{load_form}
 use Rattle.hollow_machine.specs.State.{Machine, loaded_to, stepped_to}
-use Rattle.hollow_machine.specs.StepOrder.{StepRefusal, step_form, step_name}
+use Rattle.hollow_machine.specs.StepOrder.{StepRefusal, step_form}
 use Rattle.step_laws.proofs.SettledSteps.{load_or_fault, step_or_fault}
 use Rattle.answer_laws.specs.Answered.{IsAnsweredBy, IsSound}
 

@@ -5,11 +5,12 @@ use Rattle.std.specs.List.{last_or}
 use Rattle.std.proofs.lemmas.List.{length-map}
 use Rattle.hol_io.specs.declared.name.BlobName.{BlobName}
 use Rattle.hol_io.specs.declared.name.BlobName.TheVariants.{Snapshot}
+use Rattle.hol_io.specs.Name.{step_name}
 use Rattle.hol_io.specs.Store.{Store, told}
 use Rattle.type_state.specs.State.{Half}
 use Rattle.blob_frame.specs.declared.fault.BlobFault.{BlobFault}
 use Rattle.blob_frame.specs.declared.fault.BlobFault.TheVariants as fault
-use Rattle.chain_check.specs.Walk.{Arrives, Both, Comes, Goes, HasSnapshot, Passes, Stops, Visits, compared_in, name_of_call, name_of_step}
+use Rattle.chain_check.specs.Walk.{Arrives, Both, Comes, Goes, HasSnapshot, Passes, Stops, Visits, compared_in, name_of_call}
 use Rattle.read_engine.specs.Position.{Position, rows_now}
 use Rattle.read_engine.specs.Taking.{StepsBy}
 use Rattle.step_laws.specs.Typed.{HasTypes}
@@ -77,7 +78,7 @@ module _ (machine : Machine) (sound : IsSound machine) where
   stepping : (from to : ℕ) (walker : Option Position) → IfSome walker HasTypes → ((there : Position) → HasTypes there → WalkSteps held from to walker (Some there) (Ok tt) → ⊥)
       → ((why : Refusal) → IsPlain why → WalkSteps held from to walker walker (Err why) → ⊥) → ⊥
   stepping from to walker typed goes stops =
-      let name = name_of_step from to in
+      let name = step_name from to in
       let content = told held name in
       steps_or_refused name content (sound.bytes name) walker typed
       (λ blob position there steps. goes position (stepped_typed walker typed blob position steps)

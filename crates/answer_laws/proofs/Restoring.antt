@@ -19,8 +19,8 @@ use Rattle.row_model.specs.Table.{IsLive, Table, row_at}
 use Rattle.row_model.proofs.RowsFrom.{get_in}
 use Rattle.type_rows.specs.Layout.{places_of}
 use Rattle.type_state.specs.State.{Half}
-use Rattle.row_faults.proofs.MoveFaults.{key_of_live}
-use Rattle.row_faults.proofs.OnceFirst.{some_once}
+use Rattle.type_rows.proofs.MoveFaults.{key_of_live}
+use Rattle.type_rows.proofs.OnceFirst.{some_once}
 use Rattle.blob_frame.specs.declared.fault.BlobFault.{BlobFault}
 use Rattle.blob_frame.specs.declared.fault.BlobFault.TheVariants as fault
 use Rattle.blob_faults.proofs.LeastNumber.{no_number}

@@ -5,3 +5,4 @@ pub mod Blocks
 pub mod SameWords
 pub mod Runs
 pub mod WordRuns
+pub mod ZeroWords

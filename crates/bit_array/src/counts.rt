@@ -1,7 +1,9 @@
 //! Counts of digits, bits and words.
-ghost use Rattle.std.specs.Prelude.{◌≡◌, ◌-◌, ◌^◌, ◌<◌, ◌≤◌, sum};
+ghost use Rattle.std.specs.Prelude.{◌≡◌, ◌-◌, ◌^◌, ◌<◌, ◌≤◌, IfOk, length, replicate, sum};
 ghost use Rattle.bit_array.specs.Digits.{digit_count};
-ghost use Rattle.bit_array.specs.Element.{words_of};
+ghost use Rattle.bit_array.specs.Element.{number_of, words_of};
+
+use std::alloc::{AllocError, Global};
 
 /// How many binary digits a number has, 0 for 0: the least width in bits that holds it.
 pub fn digits(number: u64) -> u32
@@ -18,6 +20,16 @@ pub fn words_for(bits: u64) -> u64
     ensures { result ≡ words_of bits }
 {
     bits.div_ceil(64)
+}
+
+/// As many words of zeros as so many bits take.
+#[tactic(auto, using(crate::proofs::ZeroWords::zeros_long, crate::proofs::ZeroWords::zeros_none))]
+pub fn zeros(alloc: Global, bits: u64) -> Result<Vec<u64>, AllocError>
+    ensures words { IfOk result (λ words. words.items ≡ replicate (words_of bits) 0) }
+    ensures long { IfOk result (λ words. length words.items ≡ words_of bits) }
+    ensures none { IfOk result (λ words. number_of words.items ≡ 0) }
+{
+    vec![in alloc; 0; words_for(bits) as usize]
 }
 
 /// The element of a width, in bits, that has ones alone: null where a format has it so. At width 0 it is 0.

@@ -6,5 +6,5 @@ mod counts;
 mod words;
 
 pub use copy::copy_bits;
-pub use counts::{all_ones, digits, total_width, words_for};
+pub use counts::{all_ones, digits, total_width, words_for, zeros};
 pub use words::{element, element_at, set_element};

@@ -25,15 +25,15 @@ use Rattle.type_rows.specs.Layout.{counted_words, places_of, record_bits}
 use Rattle.type_rows.specs.Loads.{Loads, layout_of}
 use Rattle.type_rows.specs.WellFormed.{IsWidth}
 use Rattle.type_rows.specs.WordsHeld.{bytes_held}
-use Rattle.row_faults.specs.LoadFault.{FailsLoad, load_tests}
-use Rattle.row_faults.specs.Ordinals.{HasNoPlace, HoldsNowhere}
+use Rattle.type_rows.specs.LoadFault.{FailsLoad, load_tests}
+use Rattle.type_rows.specs.Ordinals.{HasNoPlace, HoldsNowhere}
 use Rattle.type_rows.specs.Fails.{Fails}
-use Rattle.row_faults.specs.Places.{SpellsSome}
-use Rattle.row_faults.specs.Sums.{IsOfRows}
-use Rattle.row_faults.specs.Tests.{LeadsHeld}
-use Rattle.row_faults.specs.Widths.{FirstUnheld}
-use Rattle.row_faults.proofs.FirstPlaces.{SpellBefore, failed_here, rows_tested, spelled_more, spelled_none}
-use Rattle.row_faults.proofs.FoundRows.{listed_below}
+use Rattle.type_rows.specs.Places.{SpellsSome}
+use Rattle.type_rows.specs.Sums.{IsOfRows}
+use Rattle.type_rows.specs.Tests.{LeadsHeld}
+use Rattle.type_rows.specs.Widths.{FirstUnheld}
+use Rattle.type_rows.proofs.FirstPlaces.{SpellBefore, failed_here, rows_tested, spelled_more, spelled_none}
+use Rattle.type_rows.proofs.FoundRows.{listed_below}
 use Rattle.type_rows.specs.Rows.{pairs_at}
 use Rattle.type_rows.proofs.ReadRuns.{pairs_or_fail}
 use Rattle.type_rows.proofs.ReadValues.{record_or_fails}

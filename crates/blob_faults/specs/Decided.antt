@@ -19,10 +19,10 @@ use Rattle.type_rows.specs.Loads.{Loads}
 use Rattle.type_rows.specs.Patches.{IsMovedBy}
 use Rattle.type_rows.proofs.SectionRows as section_rows
 use Rattle.type_rows.proofs.MovedRows as moved_rows
-use Rattle.row_faults.specs.LoadFault.{FailsLoad}
-use Rattle.row_faults.specs.MoveFault.{FailsMove}
-use Rattle.row_faults.proofs.LoadFaults.{load_fault_once, load_or_fault}
-use Rattle.row_faults.proofs.MoveFaults.{move_fault_once, moved_or_fault}
+use Rattle.type_rows.specs.LoadFault.{FailsLoad}
+use Rattle.type_rows.specs.MoveFault.{FailsMove}
+use Rattle.type_rows.proofs.LoadFaults.{load_fault_once, load_or_fault}
+use Rattle.type_rows.proofs.MoveFaults.{move_fault_once, moved_or_fault}
 use Rattle.blob_grammar.specs.Form.{Form}
 use Rattle.blob_frame.specs.declared.fault.BlobFault.{BlobFault}
 use Rattle.blob_frame.specs.declared.fault.BlobFault.TheVariants as fault

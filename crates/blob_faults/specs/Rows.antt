@@ -11,8 +11,8 @@ use Rattle.type_rows.specs.declared.section.Section.{Section}
 use Rattle.type_rows.specs.Layout.{places_of}
 use Rattle.type_rows.specs.Loads.{Loads}
 use Rattle.type_rows.specs.Patches.{IsMovedBy}
-use Rattle.row_faults.specs.LoadFault.{FailsLoad}
-use Rattle.row_faults.specs.MoveFault.{FailsMove}
+use Rattle.type_rows.specs.LoadFault.{FailsLoad}
+use Rattle.type_rows.specs.MoveFault.{FailsMove}
 use Rattle.blob_frame.specs.declared.fault.BlobFault.TheVariants as fault
 use Rattle.blob_faults.specs.Blame.{BlamesRows, BlamesRow}
 use Rattle.blob_faults.specs.Judge.{Judge, ◌>>=◌, test}

@@ -6,7 +6,7 @@ use Rattle.std.proofs.lemmas.List.FromFn.{get_or-map-range_with_len}
 use Rattle.std.proofs.lemmas.Nat.{mod-pow-add, pow_pos, same_from_place, shr-shr}
 use Rattle.bit_array.specs.Element.{AreWords, element_of, number_of, words_of}
 use Rattle.bit_array.proofs.Elements.{element_of-lt}
-use Rattle.list_codec.proofs.Places.{number_zeros}
+use Rattle.bit_array.proofs.ZeroWords.{number_zeros}
 use Rattle.blob_writing.proofs.PackingLists.{elements_written}
 use Rattle.blob_writing.proofs.SettingBlocks.{length-zeros, zero_words}
 

@@ -1,6 +1,5 @@
 -- Lemmas on the bits behind what is written, which stay, and on the values of empty buckets, which are 0.
-use Rattle.std.proofs.Common.{◌≡◌, ◌≢◌, ℕ, zero, suc, ◌+◌, ◌*◌, ◌/◌, ◌%◌, ◌^◌, ◌<◌, ◌≤◌, ◌⊎◌, inr, List, length, None, Some, arith, refl, sym, ap, ⊎_elim, ◌∙◌}
-use Rattle.std.specs.Prelude.{replicate}
+use Rattle.std.proofs.Common.{◌≡◌, ◌≢◌, ℕ, ◌+◌, ◌*◌, ◌/◌, ◌%◌, ◌^◌, ◌<◌, ◌≤◌, ◌⊎◌, inr, List, None, Some, arith, sym, ap, ⊎_elim, ◌∙◌}
 use Rattle.std.proofs.Math.Nat.{mod-eq_of_lt, div-lt_iff_lt-mul}
 use Rattle.std.proofs.lemmas.Bool.{cases_order}
 use Rattle.std.proofs.lemmas.Nat.{pow_pos}
@@ -12,12 +11,6 @@ use Rattle.bucket_codec.specs.Filled.{KeepsBack}
 
 pub back_both : (a b c : List ℕ) (first second limit : ℕ) → KeepsBack a b first → KeepsBack b c second → first ≤ limit → second ≤ limit → KeepsBack a c limit
 back_both a b c first second limit h k p q = λ i v behind. k i v (omega arith) ∙ h i v (omega arith)
-
--- words of zeros are the number 0
-number_zeros : (count : ℕ) → number_of (replicate count 0) ≡ 0
-unfolding number_of
-number_zeros zero = refl
-number_zeros (suc count) = let rest = number_zeros count in omega arith
 
 -- what is written into zeros has no bit behind
 none_behind : (old new : List ℕ) (bits : ℕ) → number_of old ≡ 0 → KeepsBack old new bits → number_of new < 2 ^ bits
@@ -34,10 +27,10 @@ none_behind old new bits is kept =
     omega (arith, under)
 
 -- the same of words that were made as zeros, and of the count and the width as the code holds them
-pub none_behind_zeros : (made old new words : List ℕ) (count width count' width' : ℕ) → made ≡ replicate (length made) 0 → old ≡ made → words ≡ new → count' ≡ count → width' ≡ width
+pub none_behind_zeros : (made old new words : List ℕ) (count width count' width' : ℕ) → number_of made ≡ 0 → old ≡ made → words ≡ new → count' ≡ count → width' ≡ width
     → KeepsBack old new (count' * width') → number_of words < 2 ^ (count * width)
 none_behind_zeros made old new words count width count' width' zeros is_old is count_is width_is kept =
-    let none : number_of old ≡ 0 = ap number_of (is_old ∙ zeros) ∙ number_zeros (length made) in
+    let none : number_of old ≡ 0 = ap number_of is_old ∙ zeros in
     let below : number_of new < 2 ^ (count' * width') = none_behind old new (count' * width') none kept in
     let same : count' * width' ≡ count * width = ap (λ n. n * width') count_is ∙ ap (λ w. count * w) width_is in
     let power : 2 ^ (count' * width') ≡ 2 ^ (count * width) = ap (λ n. 2 ^ n) same in

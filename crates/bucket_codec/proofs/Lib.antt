@@ -1,7 +1,7 @@
 pub mod BucketCounts
 pub mod Places
 pub mod Members
-mod RunBuckets
+pub mod RunBuckets
 mod Sorted
 mod Streaks
 mod LookUps
@@ -14,6 +14,7 @@ mod Inserts
 mod Writing
 mod Behind
 mod Clearing
+pub mod CopiedRuns
 mod Fills
 mod Rows
 pub mod Placed

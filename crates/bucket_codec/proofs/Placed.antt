@@ -68,7 +68,7 @@ lays_some widths first0 first1 second place start size count vw (Some q) r is st
     ∙ ap (λ (x : Row). inserted (bucket_count (length (pairs_of q))) (pairs_of x)) same
 
 -- each width has at most 64 bits, one that is not there 0
-narrow_any : (widths : List ℕ) (index : ℕ) → All (λ width. width ≤ 64) widths → get_or widths index 0 ≤ 64
+pub narrow_any : (widths : List ℕ) (index : ℕ) → All (λ width. width ≤ 64) widths → get_or widths index 0 ≤ 64
 narrow_any widths index all =
     ⊎_elim
     (λ (inside : index < length widths). All-get_or (λ (width : ℕ). width ≤ 64) widths index 0 inside all)

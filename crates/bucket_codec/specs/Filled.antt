@@ -34,3 +34,9 @@ pub record FillsRun (old new : List ℕ) (key_width value_width start size : ℕ
   pub zeros : (index : ℕ) → start ≤ index → index < start + size → IsZeroIfEmpty new key_width value_width index
   pub front : KeepsFront old new (start * (key_width + value_width))
   pub back : KeepsBack old new ((start + size) * (key_width + value_width))
+
+-- The run of so many buckets from a start on is this one, and no bit outside has changed.
+pub record IsCopied (old new : List ℕ) (key_width value_width start size : ℕ) (run : List Bucket) : Type 0 where
+  pub is : run_in new key_width value_width start size ≡ run
+  pub front : KeepsFront old new (start * (key_width + value_width))
+  pub back : KeepsBack old new ((start + size) * (key_width + value_width))

@@ -6,7 +6,7 @@ use Rattle.row_model.specs.Row.{FitsShape, Rises}
 use Rattle.schema_model.specs.declared.schema.Shape.{Shape}
 use Rattle.row_model.specs.declared.row.Row.{Row}
 use Rattle.bucket_codec.specs.BucketCount.{bucket_count}
-use Rattle.bucket_codec.specs.Run.{keys_of, IsZeroIfEmpty}
+use Rattle.bucket_codec.specs.Run.{Bucket, keys_of, IsZeroIfEmpty, SpellsRun}
 use Rattle.bucket_codec.specs.BucketPlace.{pointer_width, size_width, key_width, value_width, place_width, bucket_width, start_at, end_at, size_at, run_at, IsWidthCount, SpellsBucketRow, SpellsPairs}
 use Rattle.bucket_codec.specs.Inserted.{inserted}
 
@@ -99,6 +99,12 @@ abbrev pub PacksPairs : List ℕ → ℕ → List ℕ → List ℕ → ℕ → O
 PacksPairs widths total first second place None = (end_at widths first place ≡ start_at widths first place) × (size_at widths first place ≡ 0)
 PacksPairs widths total first second place (Some row) =
     (end_at widths first place ≡ start_at widths first place + bucket_count (length (pairs_of row))) × SpellsPairs widths total first second place (pairs_of row)
+
+-- The run is that of a row of so many elements or pairs: it spells these, in as many buckets as they take.
+pub record IsRunOf (run : List Bucket) (size : ℕ) (row : Row) : Type 0 where
+  pub spells : SpellsRun run (pairs_of row)
+  pub sized : size ≡ length (pairs_of row)
+  pub tight : length run ≡ bucket_count size
 
 -- The row of a place, if it has one, has fewer than 2^32 elements or pairs.
 abbrev pub IsFew : Option Row → Type 0

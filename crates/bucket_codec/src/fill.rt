@@ -102,7 +102,7 @@ impl Run {
     }
 
     /// Writes the key and the value of a bucket.
-    fn put(self, words: &mut [u64], place: u64, key: u64, value: u64)
+    pub(crate) fn put(self, words: &mut [u64], place: u64, key: u64, value: u64)
         requires held { HoldsRun words.old self.key_width self.value_width self.start self.size }
         requires inside { place < self.size }
         requires key { key < 2 ^ self.key_width }

@@ -3,6 +3,7 @@
 
 mod bucket_rows;
 mod buckets;
+mod copied;
 mod fill;
 mod found;
 mod hash;
@@ -19,6 +20,7 @@ mod tested;
 
 pub use bucket_rows::BucketRows;
 pub use buckets::Buckets;
+pub use copied::copy_buckets;
 pub use hash::{buckets_for, buckets_for_any, hash_int};
 pub use lookup::{at, has};
 pub use packing::{pack, put_row, size_of};

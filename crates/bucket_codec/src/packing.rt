@@ -1,5 +1,5 @@
 //! Rows of sets and maps, packed.
-ghost use Rattle.std.specs.Prelude.{◌≡◌, ℕ, ◌+◌, ◌*◌, ◌^◌, ◌<◌, ◌≤◌, List, [], length, replicate, vec_len, All, Option, Some, None, option_copied, slice_index_or, IfOk, OnOk};
+ghost use Rattle.std.specs.Prelude.{◌≡◌, ℕ, ◌+◌, ◌*◌, ◌^◌, ◌<◌, ◌≤◌, List, [], length, vec_len, All, Option, Some, None, option_copied, slice_index_or, IfOk, OnOk};
 ghost use Rattle.bit_array.specs.Element.{number_of, words_of};
 ghost use Rattle.row_model.specs.declared.row.Row.{Row as StoredRow};
 ghost use Rattle.bucket_codec.specs.Filled.{KeepsFront, KeepsBack};
@@ -10,7 +10,7 @@ ghost use Rattle.bucket_codec.specs.Packed.{pairs_of, buckets_of, bucket_total, 
 use crate::hash::buckets_for;
 use crate::place::{map_value_width, place_bits, put_pointers};
 use crate::run::Run;
-use bit_array::words_for;
+use bit_array::zeros;
 use row_model::{Areas, Packed, PlacedRows, Row, Widths, Words, row_of_place};
 use schema_model::Schema;
 use std::alloc::{AllocError, Global};
@@ -52,14 +52,6 @@ pub fn pack<P: PlacedRows>(
         second: Words::from_vec(second),
         areas: Areas::new(alloc),
     })
-}
-
-/// As many words of zeros as so many bits take.
-fn zeros(alloc: Global, bits: u64) -> Result<Vec<u64>, AllocError>
-    ensures long { IfOk result (λ words. length words.items ≡ words_of bits) }
-    ensures zero { IfOk result (λ words. words.items ≡ replicate (length words.items) 0) }
-{
-    vec![in alloc; 0; words_for(bits) as usize]
 }
 
 /// The width of a bucket in bits.

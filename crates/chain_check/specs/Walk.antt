@@ -1,9 +1,10 @@
 -- A walk over versions: the calls that lead it from one to the next, where its state and a fresh one are compared, and what a check of it answers.
-use Rattle.std.specs.Prelude.{Bool, true, false, IfSome, is_some, filter, ◌≡◌, ◌≢◌, ◌<◌, ◌+◌, ◌⊎◌, ℕ, ℤ, List, [], ◌∷◌, ◌++◌, Option, None, Some, Result, Ok, Err, length, nat_lt, if◌then◌else◌, slice_index}
+use Rattle.std.specs.Prelude.{Bool, true, false, IfSome, is_some, filter, ◌≡◌, ◌≢◌, ◌<◌, ◌+◌, ◌⊎◌, ℕ, ℤ, List, [], ◌∷◌, ◌++◌, Option, None, Some, Result, Ok, Err, length, slice_index}
 use Rattle.std.specs.FinMap.{get}
 use Rattle.std.specs.List.{last_or}
 use Rattle.hol_io.specs.declared.name.BlobName.{BlobName}
-use Rattle.hol_io.specs.declared.name.BlobName.TheVariants.{Snapshot, Delta, Reverse}
+use Rattle.hol_io.specs.declared.name.BlobName.TheVariants.{Snapshot}
+use Rattle.hol_io.specs.Name.{step_name}
 use Rattle.hol_io.specs.Store.{Store}
 use Rattle.schema_model.specs.declared.schema.name.Name.{Name}
 use Rattle.schema_model.specs.declared.schema.Schema.{Schema}
@@ -34,14 +35,10 @@ pub record Both (W : Type 0) : Type 0 where
 abbrev pub NeighboursDiffer : List ℕ → Type 0
 NeighboursDiffer versions = (place : ℕ) → place + 1 < length versions → slice_index versions place ≢ slice_index versions (place + 1)
 
--- The blob that leads from a version to another one.
-abbrev pub name_of_step : ℕ → ℕ → BlobName
-name_of_step from to = (if nat_lt from to then Delta from to else Reverse from to)
-
 -- The blob that leads a walk to a version: the snapshot of the first one, and else what leads there from the version before.
 abbrev pub name_of_call : Option ℕ → ℕ → BlobName
 name_of_call None to = Snapshot to
-name_of_call (Some from) to = name_of_step from to
+name_of_call (Some from) to = step_name from to
 
 -- Whether the store has the snapshot of a version, as far as it tells what it holds.
 abbrev pub HasSnapshot : Option Store → ℕ → Bool → Type 0

@@ -2,9 +2,10 @@
 ghost use Rattle.std.specs.Prelude.{◌≡◌, ◌≢◌, ◌≤◌, ◌<◌, ℕ, None, Some, Ok, Err, Option, IfErr, IfOk, IfSome, OnOk, length, slice_index, take};
 ghost use Rattle.std.specs.List.{last_or};
 ghost use Rattle.hol_io.specs.Causes.{Rose};
+ghost use Rattle.hol_io.specs.Name.{step_name};
 ghost use Rattle.hol_varint.specs.Yields.{Yields};
 ghost use Rattle.schema_model.specs.declared.schema.name.Name.{Name};
-ghost use Rattle.chain_check.specs.Walk.{Both, Differs, IsFree, IsStoreOr, NeighboursDiffer, Passes, TellsCheck, TellsFresh, TellsVersion, calls_by, compared_in, name_of_step};
+ghost use Rattle.chain_check.specs.Walk.{Both, Differs, IsFree, IsStoreOr, NeighboursDiffer, Passes, TellsCheck, TellsFresh, TellsVersion, calls_by, compared_in};
 
 use crate::{Place, Walk, compare};
 use hol_io::{BlobName, BlobStore, StoreFailed};
@@ -157,19 +158,8 @@ fn go_on<W: Walk, S: BlobStore>(
     ensures unput { (S.seen store.new).puts ≡ (S.seen store.old).puts }
 {
     match walker.walk_step(store, from, to) {
-        Err(fault) => Err(CheckFault::Walk(step_name(from, to), fault)),
+        Err(fault) => Err(CheckFault::Walk(BlobName::between(from, to), fault)),
         Ok(()) => compare_afresh(alloc, walker, fresh, store, to),
-    }
-}
-
-// The blob that leads from a version to another one.
-fn step_name(from: u64, to: u64) -> BlobName
-    ensures { result ≡ name_of_step from to }
-{
-    if from < to {
-        BlobName::Delta(from, to)
-    } else {
-        BlobName::Reverse(from, to)
     }
 }
 

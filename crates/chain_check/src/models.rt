@@ -5,7 +5,7 @@ ghost use Rattle.schema_model.specs.declared.schema.Schema.{Schema};
 ghost use Rattle.schema_model.specs.Growth.{Agree};
 ghost use Rattle.chain_check.specs.Compare.{FirstOtherType};
 
-use schema_growth::{agree, laws, same_schema};
+use schema_growth::{agree_by_place, laws, same_schema};
 use schema_model::{Model, Schema};
 
 /// The schema of the first type of a walked model that a fresh one has under a schema that does not agree; `None` exactly where the models agree.
@@ -29,7 +29,7 @@ fn agrees_with(model: &Model, schema: &Schema) -> bool
     laws::fields_apart();
     match model.index_of(schema.name.text()) {
         None => true,
-        Some(place) => agree(schema, model.schema(place)),
+        Some(place) => agree_by_place(schema, model.schema(place)),
     }
 }
 

@@ -4,8 +4,9 @@ use Rattle.std.specs.Prelude.{IfSome}
 use Rattle.std.specs.FinMap.{get}
 use Rattle.hol_io.specs.declared.name.BlobName.{BlobName}
 use Rattle.hol_io.specs.declared.name.BlobName.TheVariants.{Snapshot}
+use Rattle.hol_io.specs.Name.{step_name}
 use Rattle.hol_io.specs.Store.{Store}
-use Rattle.chain_check.specs.Walk.{compared_in, name_of_step}
+use Rattle.chain_check.specs.Walk.{compared_in}
 use Rattle.read_engine.specs.Position.{Position}
 use Rattle.read_engine.specs.Taking.{StepsBy}
 use Rattle.hol_orders.specs.declared.kind.Kind.{Kind}
@@ -42,22 +43,22 @@ module _ (store : Store) where
   loads_typed version before now (position, (blob, at, loads), is) = subst (λ (consumer : Option Position). IfSome consumer IsTyped) (sym is) (load_typed blob position loads)
 
   -- what a step from this position is answered in place of a refusal
-  steps_not : (from to : ℕ) (at position : Position) (blob : List ℕ) (refusal : Refusal) → IsTyped at → stored_at (name_of_step from to) ≡ Some blob → StepsBy blob at position
-      → StepRefusal (name_of_step from to) (stored_at (name_of_step from to)) (Some at) refusal → ⊥
-  steps_not from to at position blob refusal typed there steps refuses = no_refusal (name_of_step from to) (stored_at (name_of_step from to)) blob at position there typed steps refusal refuses
+  steps_not : (from to : ℕ) (at position : Position) (blob : List ℕ) (refusal : Refusal) → IsTyped at → stored_at (step_name from to) ≡ Some blob → StepsBy blob at position
+      → StepRefusal (step_name from to) (stored_at (step_name from to)) (Some at) refusal → ⊥
+  steps_not from to at position blob refusal typed there steps refuses = no_refusal (step_name from to) (stored_at (step_name from to)) blob at position there typed steps refusal refuses
 
   steps_one : (from to : ℕ) (before now also : Option Position) (one other : Result (Unit {0}) Refusal) → IfSome before IsTyped → WalkSteps (Some store) from to before now one
       → WalkSteps (Some store) from to before also other → (one ≡ other) × (now ≡ also)
   steps_one from to None now also (Ok done) other typed one two = absurd one
   steps_one from to None now also (Err refusal) (Ok done) typed one two = absurd two
   steps_one from to (Some at) now also (Ok done) (Ok finished) typed (blob, position, there, steps, is) (bytes, place, there_too, steps_too, is_too) =
-      let same = some_one (stored_at (name_of_step from to)) bytes blob there_too there in
+      let same = some_one (stored_at (step_name from to)) bytes blob there_too there in
       let moved = step_once blob at position place typed steps (subst (λ (b : List ℕ). StepsBy b at place) same steps_too) in
       (refl, is ∙ ap Some moved ∙ sym is_too)
   steps_one from to (Some at) now also (Ok done) (Err refusal) typed (blob, position, there, steps, is) other = absurd (steps_not from to at position blob refusal typed there steps other.0)
   steps_one from to (Some at) now also (Err refusal) (Ok done) typed one (blob, position, there, steps, is) = absurd (steps_not from to at position blob refusal typed there steps one.0)
   steps_one from to before now also (Err r) (Err s) typed one other =
-      (ap Err (one_step_refusal (name_of_step from to) (stored_at (name_of_step from to)) before r s one.0 other.0), one.1 ∙ sym other.1)
+      (ap Err (one_step_refusal (step_name from to) (stored_at (step_name from to)) before r s one.0 other.0), one.1 ∙ sym other.1)
 
   steps_typed : (from to : ℕ) (before now : Option Position) → IfSome before IsTyped → WalkSteps (Some store) from to before now (Ok tt) → IfSome now IsTyped
   steps_typed from to None now typed steps = absurd steps

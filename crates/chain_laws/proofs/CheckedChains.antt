@@ -4,6 +4,7 @@ use Rattle.std.specs.Prelude.{Contains}
 use Rattle.std.specs.List.{last_or}
 use Rattle.std.proofs.lemmas.List.{get_or-append-add, get_or_append_left}
 use Rattle.hol_io.specs.declared.name.BlobName.TheVariants.{Snapshot}
+use Rattle.hol_io.specs.Name.{step_name}
 use Rattle.hol_io.specs.Store.{Store}
 use Rattle.schema_model.specs.declared.schema.name.Name.{Name}
 use Rattle.schema_model.specs.declared.schema.Schema.{Schema}
@@ -11,7 +12,7 @@ use Rattle.schema_model.specs.Growth.{ModelsAgree}
 use Rattle.row_model.specs.View.{view}
 use Rattle.chain_check.specs.declared.place.Place.{Place}
 use Rattle.chain_check.specs.Compare.{AreSame}
-use Rattle.chain_check.specs.Walk.{Both, Differs, Goes, Passes, name_of_step}
+use Rattle.chain_check.specs.Walk.{Both, Differs, Goes, Passes}
 use Rattle.chain_check.proofs.OnePlace.{one_place}
 use Rattle.read_engine.specs.Position.{Position, rows_now}
 use Rattle.hollow_machine.specs.CheckOrder.{WalkLoads, WalkSteps, both_new, state_at, walk_calls}
@@ -92,7 +93,7 @@ module _ (store : Store) (chain : Chain) (holds : HoldsChain store chain) (versi
     where
       from_position : WalkSteps (Some store) from to (Some stood.position) now (Ok tt) → IsAtVersion to now
       from_position (blob, position, there, taken, is) =
-          let (is_in, at_version) = steps_at store chain holds (name_of_step from to) blob from to stood.position position (step_between from to) there stood.in_chain taken in
+          let (is_in, at_version) = steps_at store chain holds (step_name from to) blob from to stood.position position (step_between from to) there stood.in_chain taken in
           record {
             position = position;
             is = is;

@@ -4,6 +4,7 @@ use Rattle.std.specs.Prelude.{IsSomeAnd, nat_lt}
 use Rattle.std.specs.FinMap.{get}
 use Rattle.hol_io.specs.declared.name.BlobName.{BlobName}
 use Rattle.hol_io.specs.declared.name.BlobName.TheVariants.{Snapshot, Delta, Reverse}
+use Rattle.hol_io.specs.Name.{step_name}
 use Rattle.schema_model.specs.declared.schema.Schema.{Schema}
 use Rattle.type_state.specs.Views.{table_of}
 use Rattle.blob_frame.specs.declared.fault.BlobFault.TheVariants as fault
@@ -27,7 +28,7 @@ use Rattle.hollow_machine.proofs.Refusals.{one_step_refusal, some_one}
 use Rattle.hollow_machine.specs.Blobs.{SnapshotRefusal}
 use Rattle.hollow_machine.specs.LoadOrder.{LoadStep}
 use Rattle.hollow_machine.specs.State.{Machine, loaded_to, stepped_to}
-use Rattle.hollow_machine.specs.StepOrder.{StepRefusal, StepStep, step_name}
+use Rattle.hollow_machine.specs.StepOrder.{StepRefusal, StepStep}
 use Rattle.written_laws.specs.Chain.{Chain, ChainState, HasVersion}
 use Rattle.written_laws.specs.HoldsChain.{HoldsChain, IsStep, IsThere}
 use Rattle.written_laws.specs.SeenChain.{IsAgreeing}

@@ -4,6 +4,7 @@ use Rattle.std.specs.Prelude.{All, IfSome}
 use Rattle.std.specs.FinMap.{get}
 use Rattle.std.proofs.lemmas.List.Elements.{All-cons, All-take}
 use Rattle.hol_io.specs.declared.name.BlobName.{BlobName}
+use Rattle.hol_io.specs.Name.{step_name}
 use Rattle.schema_model.specs.declared.schema.Schema.{Schema}
 use Rattle.row_model.specs.Table.{Table}
 use Rattle.hol_orders.specs.declared.kind.Kind.{Kind}
@@ -12,7 +13,7 @@ use Rattle.hol_answers.specs.declared.reply.Reply.TheVariants as reply
 use Rattle.read_engine.specs.Position.{Position, rows_now}
 use Rattle.read_engine.specs.Taking.{StepsBy}
 use Rattle.hollow_machine.specs.State.{Machine, past_behind, stepped_to}
-use Rattle.hollow_machine.specs.StepOrder.{StepStep, step_form, step_name}
+use Rattle.hollow_machine.specs.StepOrder.{StepStep, step_form}
 use Rattle.written_laws.specs.Chain.{Chain}
 use Rattle.written_laws.specs.HoldsChain.{HoldsChain}
 use Rattle.chain_laws.specs.Consumers.{IsIn, IsOld, IsReaderAt, IsReaderOf}

@@ -1,5 +1,6 @@
 -- The headline: what a script over a store that holds a chain comes to, line by line.
 use Rattle.std.specs.Prelude.{◌≡◌, ◌≢◌, ℕ, ℤ, List, [], ◌∷◌, ◌++◌, Some, true}
+use Rattle.hol_io.specs.Name.{step_name}
 use Rattle.serde_json.specs.View.{view}
 use Rattle.serde_json.specs.declared.value.Value.{Value}
 use Rattle.schema_model.specs.declared.schema.name.Name.{Name}
@@ -18,7 +19,6 @@ use Rattle.hollow_machine.specs.Forms.{answers_of_state}
 use Rattle.hollow_machine.specs.Script.{LineStep}
 use Rattle.hollow_machine.specs.State.{Machine, stepped_to}
 use Rattle.hollow_machine.specs.Step.{Step, form}
-use Rattle.hollow_machine.specs.StepOrder.{step_name}
 use Rattle.written_laws.specs.Chain.{Chain}
 use Rattle.chain_laws.specs.Consumers.{Agrees, Arrives, Fresh, IsIn, IsReaderOf, IsUnlikeAt, ModelsOfChainAgree, StartsAt}
 use Rattle.chain_laws.specs.Growth.{GrowsBy}

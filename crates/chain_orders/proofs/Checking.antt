@@ -3,11 +3,12 @@ use Rattle.std.proofs.Common.{◌≡◌, ℕ, List, [], ◌∷◌, Option, Some,
 use Rattle.std.specs.Prelude.{IfOk, IfSome, length}
 use Rattle.hol_io.specs.declared.name.BlobName.{BlobName}
 use Rattle.hol_io.specs.declared.name.BlobName.TheVariants.{Snapshot}
+use Rattle.hol_io.specs.Name.{step_name}
 use Rattle.hol_io.specs.Store.{Store, told}
 use Rattle.blob_frame.specs.declared.fault.BlobFault.{BlobFault}
 use Rattle.blob_frame.specs.declared.fault.BlobFault.TheVariants as blob_fault
 use Rattle.hol_varint.specs.Yields.{Yields}
-use Rattle.chain_check.specs.Walk.{Arrives, Both, Calls, Comes, Differs, Goes, IsFree, Passes, PassesBy, Refuses, Stops, TellsCheck, Visits, calls_by, compared_in, name_of_call, name_of_step}
+use Rattle.chain_check.specs.Walk.{Arrives, Both, Calls, Comes, Differs, Goes, IsFree, Passes, PassesBy, Refuses, Stops, TellsCheck, Visits, calls_by, compared_in, name_of_call}
 use Rattle.chain_check.specs.declared.checking.CheckFault.{CheckFault}
 use Rattle.chain_check.specs.declared.checking.CheckFault.TheVariants as check_fault
 use Rattle.read_engine.specs.Position.{Position}
@@ -83,10 +84,10 @@ module _ (store : Store) where
   load_refused version before now fault why walks is = (snapshot_refused (Snapshot version) (told held (Snapshot version)) fault why is walks.tells, walks.refused)
 
   step_refused : (from to : ℕ) (before now : Option Position) (fault : BlobFault) (why : Refusal) → WalksStep held from to before now (Err fault)
-      → TellsOf (name_of_step from to) fault why → WalkSteps held from to before now (Err why)
+      → TellsOf (step_name from to) fault why → WalkSteps held from to before now (Err why)
   step_refused from to None now fault why walks is = absurd walks.steps
   step_refused from to (Some at) now fault why walks is =
-      let name = name_of_step from to in (delta_refused name (told held name) at fault why is walks.steps.tells, walks.refused)
+      let name = step_name from to in (delta_refused name (told held name) at fault why is walks.steps.tells, walks.refused)
 
   call_refused : (from : Option ℕ) (to : ℕ) (before now : Option Position) (fault : BlobFault) (why : Refusal) → Goes walker_calls held from to before now (Err fault)
       → TellsOf (name_of_call from to) fault why → Goes walk_calls held from to before now (Err why)
@@ -184,7 +185,7 @@ stopped_reply store versions now name (refusal.Mismatch difference) is = absurd 
 
     no_step : (from to : ℕ) (before after : Option Position) → ¬ WalkSteps (Some store) from to before after (Err (refusal.Mismatch difference))
     no_step from to None after (is, same) = cc
-    no_step from to (Some at) after ((found, fails, is), same) = no_mismatch (name_of_step from to) found difference is
+    no_step from to (Some at) after ((found, fails, is), same) = no_mismatch (step_name from to) found difference is
 
     no_stop : (from : Option ℕ) (to : ℕ) (before after : Both (Option Position)) → ¬ Refuses walk_calls (Some store) from to before name (refusal.Mismatch difference) after
     no_stop None to before after (inl (named, walks, same)) = no_load to before.walker after.walker walks

@@ -2,7 +2,7 @@
 ghost use Rattle.std.specs.Prelude.{◌≡◌, ◌<◌, ◌↔◌, ◌&&◌, IfOk, IsSomeAnd, IsTrue, length, slice_get, zip};
 ghost use Rattle.std.specs.List.{list_all};
 ghost use Rattle.row_model.specs.Row.{references_of_row, references_of_value};
-ghost use Rattle.closed_rows.specs.Dangling.{IsClosedAt, IsPlain, IsPlainType, TellsDangling, TellsType, are_live, is_live_reference};
+ghost use Rattle.closed_rows.specs.Dangling.{IsClosedAt, IsPlain, IsPlainType, TellsType, are_live, is_live_reference};
 
 use row_model::{Row, Rows, Value};
 use schema_model::{Field, FieldKind, Name, Shape};
@@ -15,22 +15,6 @@ pub struct Dangling {
     pub type_index: u32,
     /// The ordinal of the row.
     pub ordinal: u32,
-}
-
-/// The first row that names an ordinal that is not live, in the order of the types and then of the ordinals; `None`
-/// exactly where the rows are closed.
-pub fn first_dangling<R: Rows>(alloc: Global, rows: &R) -> Result<Option<Dangling>, AllocError>
-    ensures { IfOk result (TellsDangling (R.schemas rows.now) (R.table rows.now)) }
-{
-    for type_index in 0..rows.model().len() {
-        if let Some(ordinal) = dangling_in(alloc, rows, type_index)? {
-            return Ok(Some(Dangling {
-                type_index,
-                ordinal,
-            }));
-        }
-    }
-    Ok(None)
 }
 
 /// The least ordinal of a type whose row names one that is not live; `None` exactly where all rows of the type name live

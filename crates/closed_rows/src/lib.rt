@@ -3,4 +3,4 @@
 
 mod dangling;
 
-pub use dangling::{Dangling, dangling_in, first_dangling, is_closed_at, is_plain_type};
+pub use dangling::{Dangling, dangling_in, is_closed_at, is_plain_type};

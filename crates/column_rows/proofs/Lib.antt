@@ -2,5 +2,6 @@ pub mod Closing
 pub mod FieldValues
 pub mod Lives
 pub mod LookedAt
-pub mod Spelled
 pub mod SameRows
+pub mod Spelled
+pub mod Tables

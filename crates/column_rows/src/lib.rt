@@ -13,6 +13,8 @@ mod runs;
 mod same;
 mod same_items;
 mod same_values;
+mod state_rows;
+mod type_rows;
 mod values;
 
 pub use closed::{are_closed, are_closed_at};
@@ -21,4 +23,6 @@ pub use items::PackedItems;
 pub use made::column_of;
 pub use rows::ColumnRows;
 pub use same::are_same;
-pub use values::field_value;
+pub use state_rows::{RowsByType, StateRows};
+pub use type_rows::{OneType, TypeColumns, TypeRows};
+pub use values::{field_value, value_in};

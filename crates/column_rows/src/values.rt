@@ -51,7 +51,8 @@ fn lent_value<R: ColumnRows>(
 }
 
 /// The value of a field of a record.
-fn value_in(row: &Row, field: u32) -> Option<&Value>
+#[inline(always)]
+pub fn value_in(row: &Row, field: u32) -> Option<&Value>
     ensures { option_copied result ≡ field_of (Some row.now) field }
 {
     match row {

@@ -1,72 +1,22 @@
 -- What is counted of each type.
 use Rattle.std.proofs.Common.{◌≡◌, ℕ, zero, suc, ◌+◌, ◌<◌, ◌≤◌, List, [], ◌∷◌, ◌++◌, Option, Some, None, length, take, refl, sym, ap, subst, ◌∙◌, arith}
 use Rattle.std.specs.Prelude.{ℤ, IsSome, IsSomeAnd, slice_get}
-use Rattle.std.specs.FinMap.{get, keys, values}
-use Rattle.std.specs.List.Sorted.{IsStrictlyIncreasing}
+use Rattle.std.specs.FinMap.{keys, values}
 use Rattle.std.specs.Option.{option_and_then, option_map}
 use Rattle.std.proofs.lemmas.Bool.{false≢true}
 use Rattle.std.proofs.lemmas.List.{length-append, length-map}
 use Rattle.std.proofs.lemmas.Option.{slice_get-map}
-use Rattle.ordinal_set.proofs.Members.{no_member, same_rising}
 use Rattle.schema_model.specs.declared.schema.Schema.{Schema}
 use Rattle.schema_model.specs.declared.schema.name.Name.{Name}
-use Rattle.row_model.specs.Table.{IsBound, IsLive, RowMap, Table, row_at}
 use Rattle.type_rows.specs.WordsHeld.{bytes_held}
 use Rattle.type_state.specs.State.{Half}
 use Rattle.type_state.specs.WordsHeld.{words_held}
-use Rattle.type_state.proofs.LiveSets.{key_stands, keys_rise, live_key}
 use Rattle.read_engine.specs.Position.{IsOfType, IsPosition, Position, rows_now}
 use Rattle.hol_answers.specs.declared.refusal.Refusal.TheVariants.{NoState}
 use Rattle.hol_answers.specs.declared.reply.Reply.TheVariants.{Refused, Stat}
 use Rattle.hol_answers.specs.declared.stat.TypeCounts.{TypeCounts}
 use Rattle.hollow_machine.specs.StatOrder.{StatReply, counts_of, counts_of_types}
-use Rattle.consumer_orders.specs.Counted.{AreCountsAt, CountsLive}
-use Rattle.consumer_orders.proofs.LiveLists.{AreLiveBelow, all_listed, one_listed, one_passed}
-
--- ---- live rows
-
--- So many rows of a type are live below a limit.
-abbrev pub CountsBelow : Table → ℕ → ℕ → ℕ → Type 0
-CountsBelow table t limit count = (ordinals : List ℕ) × AreLiveBelow table t limit ordinals × (count ≡ length ordinals) × (count ≤ limit)
-
-pub none_counted : (table : Table) (t : ℕ) → CountsBelow table t 0 0
-none_counted table t = (
-  [],
-  record {
-    rising = λ i j d before inside. absurd (omega (arith, inside));
-    low = λ i d inside. absurd (omega (arith, inside));
-    are = λ ordinal. (λ among. absurd (no_member ordinal among), λ found. absurd (omega (arith, found.0)));
-  },
-  refl,
-  omega arith,
-)
-
-module _ (table : Table) (t limit count : ℕ) (counted : CountsBelow table t limit count) where
-  pub one_counted : IsLive table t limit → CountsBelow table t (limit + 1) (count + 1)
-  one_counted live =
-      let long = length-append counted.0 (limit ∷ []) in
-      (counted.0 ++ limit ∷ [], one_listed table t limit counted.0 counted.1 live, omega (arith, long, counted.2), omega (arith, counted.3))
-
-  pub none_more : (¬ IsLive table t limit) → CountsBelow table t (limit + 1) count
-  none_more never = (counted.0, one_passed table t limit counted.0 counted.1 never, counted.2, omega (arith, counted.3))
-
-  pub all_counted : IsBound table t limit → CountsLive table t count
-  all_counted bound = (counted.0, all_listed table t limit counted.0 counted.1 bound, counted.2)
-
--- These are the ordinals of its rows.
-pub live_rows : (table : Table) (t count : ℕ) (rows : RowMap) → slice_get table t ≡ Some rows → CountsLive table t count → count ≡ length (keys rows)
-live_rows table t count rows there (ordinals, are, long) = long ∙ ap (λ (os : List ℕ). length os) same
-  where
-    row_is : (o : ℕ) → row_at table t o ≡ get rows o
-    row_is o = ap (option_and_then (λ (rs : RowMap). get rs o)) there
-
-    rises : IsStrictlyIncreasing ordinals
-    rises k inside = are.rising k (k + 1) 0 (omega arith) inside
-
-    same : ordinals ≡ keys rows
-    same =
-        same_rising ordinals (keys rows) rises (keys_rise rows) (λ o among. live_key rows o (subst IsSome (row_is o) ((are.are o).0 among)))
-        (λ o among. (are.are o).1 (subst IsSome (sym (row_is o)) (key_stands rows o among)))
+use Rattle.consumer_orders.specs.Counted.{AreCountsAt}
 
 -- ---- the types of a model
 
@@ -142,22 +92,18 @@ half_there [] t inside = absurd (omega (arith, inside))
 half_there (h ∷ halves) zero inside = (h, refl)
 half_there (h ∷ halves) (suc t) inside = half_there halves t (omega (arith, inside))
 
-module _ (t : ℕ) (schemas : List Schema) (table : Table) (schema : Schema) (name : Name) (live words bytes : ℕ) (max : Option ℕ) (there : slice_get schemas t ≡ Some schema)
-    (named : name ≡ schema.name) (counted : CountsLive table t live) where
-  pub counts_are : (consumer : Option Position) → IsSomeAnd consumer (λ now. now.schemas ≡ schemas) → IsSomeAnd consumer (λ now. rows_now now ≡ table) → IsSomeAnd consumer IsPosition
-      → IsSomeAnd consumer (λ now. t < length now.schemas) → IsSomeAnd consumer (λ now. IsOfType now t (λ schema half. max ≡ half.layout.max))
+module _ (t : ℕ) (schemas : List Schema) (schema : Schema) (name : Name) (live words bytes : ℕ) (max : Option ℕ) (there : slice_get schemas t ≡ Some schema) (named : name ≡ schema.name) where
+  pub counts_are : (consumer : Option Position) → IsSomeAnd consumer (λ now. now.schemas ≡ schemas) → IsSomeAnd consumer IsPosition → IsSomeAnd consumer (λ now. t < length now.schemas)
+      → IsSomeAnd consumer (λ now. IsOfType now t (λ schema half. live ≡ length (keys half.rows))) → IsSomeAnd consumer (λ now. IsOfType now t (λ schema half. max ≡ half.layout.max))
       → IsSomeAnd consumer (λ now. IsOfType now t (λ schema half. words ≡ words_held schema.shape half)) → IsSomeAnd consumer (λ now. IsOfType now t (λ schema half. bytes ≡ bytes_held (values half.rows)))
       → IsSomeAnd consumer (λ now. AreCountsAt now t (record { type_name = name; live = live; max = max; words = words; bytes = bytes }))
-  counts_are None same rows position inside max_is words_are bytes_are = absurd same
-  counts_are (Some now) same rows position inside max_is words_are bytes_are =
+  counts_are None same position inside live_is max_is words_are bytes_are = absurd same
+  counts_are (Some now) same position inside live_is max_is words_are bytes_are =
       let long = length-map now.halves (λ (h : Half). h.rows) in
       let (half, held) = half_there now.halves t (omega (arith, inside, long, position.rows.types)) in
       let here : slice_get now.schemas t ≡ Some schema = ap (λ (ss : List Schema). slice_get ss t) same ∙ there in
-      let stands : slice_get table t ≡ Some half.rows =
-      ap (λ (tb : Table). slice_get tb t) (sym rows) ∙ slice_get-map (λ (h : Half). h.rows) now.halves t ∙ ap (option_map (λ (h : Half). h.rows)) held
-      in
-      let live_is = live_rows table t live half.rows stands counted in
+      let live_here = live_is schema half here held in
       let max_here = max_is schema half here held in
       let words_here = words_are schema half here held in
       let bytes_here = bytes_are schema half here held in
-      (schema, half, here, held, (λ i. record { type_name = named i; live = live_is i; max = max_here i; words = words_here i; bytes = bytes_here i }))
+      (schema, half, here, held, (λ i. record { type_name = named i; live = live_here i; max = max_here i; words = words_here i; bytes = bytes_here i }))

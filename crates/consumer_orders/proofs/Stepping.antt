@@ -4,6 +4,7 @@ use Rattle.std.specs.Prelude.{IsSome, nat_lt}
 use Rattle.std.specs.Option.{is_some, option_map}
 use Rattle.hol_io.specs.declared.name.BlobName.{BlobName}
 use Rattle.hol_io.specs.declared.name.BlobName.TheVariants.{Delta, Reverse}
+use Rattle.hol_io.specs.Name.{step_name}
 use Rattle.hol_io.specs.Store.{Store, told}
 use Rattle.hol_history.specs.History.{PastSteps, tables_of}
 use Rattle.blob_frame.specs.declared.fault.BlobFault.{BlobFault}
@@ -18,7 +19,7 @@ use Rattle.hollow_machine.specs.Blobs.{TellsOf}
 use Rattle.hollow_machine.specs.Kept.{MovesReader, Reader, kept_with_reader, machine_of, reader_of}
 use Rattle.hollow_machine.specs.PlanOrders.{Applies}
 use Rattle.hollow_machine.specs.State.{Machine}
-use Rattle.hollow_machine.specs.StepOrder.{StepStep, step_name}
+use Rattle.hollow_machine.specs.StepOrder.{StepStep}
 use Rattle.consumer_orders.proofs.Loading.{same_tag}
 use Rattle.consumer_orders.proofs.Reading.{machine_stepped}
 

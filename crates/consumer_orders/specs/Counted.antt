@@ -1,16 +1,10 @@
 -- What is counted of a type, where the consumer stands.
-use Rattle.std.specs.Prelude.{◌≡◌, ℕ, List, Some, length, slice_get}
+use Rattle.std.specs.Prelude.{◌≡◌, ℕ, Some, slice_get}
 use Rattle.schema_model.specs.declared.schema.Schema.{Schema}
-use Rattle.row_model.specs.Table.{Table}
 use Rattle.type_state.specs.State.{Half}
 use Rattle.read_engine.specs.Position.{Position}
 use Rattle.hol_answers.specs.declared.stat.TypeCounts.{TypeCounts}
-use Rattle.hollow_machine.specs.RowOrders.{AreLive}
 use Rattle.hollow_machine.specs.StatOrder.{counts_of}
-
--- So many rows of a type are live.
-abbrev pub CountsLive : Table → ℕ → ℕ → Type 0
-CountsLive table t count = (ordinals : List ℕ) × AreLive table t ordinals × (count ≡ length ordinals)
 
 -- This is told of the type at an index.
 abbrev pub AreCountsAt : Position → ℕ → TypeCounts → Type 0

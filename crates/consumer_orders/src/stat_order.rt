@@ -1,7 +1,7 @@
 //! The order `stat`.
 ghost use Rattle.std.specs.Prelude.{◌≡◌, ◌<◌, IfErr, IfOk, IsSome, IsSomeAnd, length};
 ghost use Rattle.hollow_machine.specs.StatOrder.{StatReply, counts_of_types};
-ghost use Rattle.consumer_orders.specs.Counted.{AreCountsAt, CountsLive};
+ghost use Rattle.consumer_orders.specs.Counted.{AreCountsAt};
 
 use hol_answers::{Refusal, Reply, TypeCounts, TypesCounts};
 use hol_orders::OrderStop;
@@ -50,22 +50,9 @@ fn counts_of_type(
     let name = &rows.model().schema(type_index).name;
     Ok(TypeCounts {
         type_name: name.copy(alloc)?,
-        live: count_live(&rows, type_index),
+        live: consumer.live_count(type_index),
         max: consumer.max(type_index),
         words: consumer.words_held(type_index),
         bytes: consumer.bytes_held(type_index),
     })
-}
-
-// How many rows of a type are live.
-fn count_live<R: Rows>(rows: &R, type_index: u32) -> u64
-    ensures { CountsLive (R.table rows.now) type_index result }
-{
-    let mut count: u64 = 0;
-    for ordinal in 0..rows.bound(type_index) {
-        if rows.is_live(type_index, ordinal) {
-            count += 1;
-        }
-    }
-    count
 }

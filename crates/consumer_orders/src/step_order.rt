@@ -2,12 +2,12 @@
 ghost use Rattle.std.specs.Prelude.{◌≡◌, ◌≢◌, ◌≤◌, ◌<◌, ◌∷◌, IfSome, IsErrOf, IsSome, OnOk, take};
 ghost use Rattle.hol_io.specs.declared.name.BlobName.TheVariants.{Announced};
 ghost use Rattle.hol_io.specs.Causes.{Rose};
+ghost use Rattle.hol_io.specs.Name.{IsStepName, step_name};
 ghost use Rattle.hol_history.specs.History.{StandsOn, tables_of};
 ghost use Rattle.hollow_machine.specs.Kept.{AreClosed, IsReader, MovesReader, reader_of};
 ghost use Rattle.hollow_machine.specs.PlanOrders.{Applies};
-ghost use Rattle.hollow_machine.specs.StepOrder.{StepStep, step_name};
+ghost use Rattle.hollow_machine.specs.StepOrder.{StepStep};
 ghost use Rattle.read_engine.specs.Position.{rows_now};
-ghost use Rattle.read_engine.specs.Taking.{IsStepName};
 ghost use Rattle.consumer_orders.specs.Unmoved.{Unmoved};
 
 use crate::load_order::load;
@@ -46,7 +46,13 @@ pub fn step<S: BlobStore>(
     ensures store_fault { IsErrOf result OrderStop.Store → Rose (S.seen store.old).faults (S.seen store.new).faults }
     ensures later { (S.seen store.old).faults ≤ (S.seen store.new).faults }
 {
-    apply(store, consumer, version, history, &name_of_step(from, to))
+    apply(
+        store,
+        consumer,
+        version,
+        history,
+        &BlobName::between(from, to),
+    )
 }
 
 /// The consumer takes the blob of a name: it loads the version of a snapshot, as `load` does, or moves along a delta or a reverse delta to its second version,
@@ -170,17 +176,5 @@ fn keep_before(
             history.clear();
             Err(refused)
         }
-    }
-}
-
-// The blob that leads from one version to another: the delta to a later one, and the reverse delta to an earlier one.
-fn name_of_step(from: u64, to: u64) -> BlobName
-    ensures name { result ≡ step_name from to }
-    ensures blob { result ≢ Announced }
-{
-    if from < to {
-        BlobName::Delta(from, to)
-    } else {
-        BlobName::Reverse(from, to)
     }
 }

@@ -17,7 +17,7 @@ use crate::patch::{PatchPart, PatchParts};
 use blob_faults::counts_fault;
 use blob_frame::BlobFault;
 use hol_varint::{Duplicate, List};
-use schema_growth::agree;
+use schema_growth::agree_by_place;
 use schema_model::{Model, Schema};
 use seen_patches::seen_section;
 use std::alloc::{AllocError, Global};
@@ -80,7 +80,7 @@ fn index_for(alloc: Global, model: &Model, schema: &Schema) -> Result<Option<u32
     let Some(type_index) = model.index_of(schema.name.text()) else {
         return Ok(None);
     };
-    if agree(schema, model.schema(type_index)) {
+    if agree_by_place(schema, model.schema(type_index)) {
         return Ok(Some(type_index));
     }
     let name = schema.name.copy(alloc)?;

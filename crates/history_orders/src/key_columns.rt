@@ -11,11 +11,11 @@ ghost use Rattle.history_orders.specs.Older.{HasMatches};
 ghost use Rattle.history_orders.specs.Scanned.{HasNumbered, HasWordsBelow};
 ghost use Rattle.history_orders.specs.Valued.{AreBytesOf, HasLed, HasNaming, HasValued, HasValuedBelow};
 
-use crate::key_rows::type_behind;
 use crate::number_scan::{near, next_with};
 use bit_array::all_ones;
 use column_rows::ColumnRows;
 use hol_varint::put_units;
+use key_index::type_behind;
 use object_codec::{Column, PackedBytes, ValueRef, stored_number};
 use row_model::{Rows, Value, Values};
 use schema_model::{Model, Paths};

@@ -1,14 +1,15 @@
 //! The rows of a type that have a key, wherever they stand: a pass over all of them.
 ghost use Rattle.std.specs.Prelude.{◌≡◌, ◌<◌, ◌↔◌, IfOk, IsTrue, Some, length};
 ghost use Rattle.std.specs.List.Sorted.{IsStrictlyIncreasing};
-ghost use Rattle.std.specs.Option.{option_copied};
-ghost use Rattle.row_model.specs.Key.{AreMatches, key_of, type_behind as type_led_to, unless_null, value_along, value_in as field_of};
+ghost use Rattle.row_model.specs.Key.{AreMatches, key_of, unless_null, value_along};
 ghost use Rattle.row_model.specs.Table.{IsClosed, IsLive};
 ghost use Rattle.history_orders.specs.Older.{HasMatches};
 
+use column_rows::value_in;
 use hol_varint::Ordinals;
-use row_model::{Row, Rows, Value, Values};
-use schema_model::{FieldKind, Model, Path, Paths};
+use key_index::type_behind;
+use row_model::{Rows, Value, Values};
+use schema_model::{Path, Paths};
 use std::alloc::{AllocError, Global};
 
 /// The live ordinals of a type whose rows have a key along these paths, rising. It looks at each row of the type.
@@ -159,17 +160,6 @@ fn has_value<R: Rows>(
     has_value(alloc, rows, next, *named, rest, value)
 }
 
-/// The value of a field of a record.
-#[inline(always)]
-pub(crate) fn value_in(row: &Row, field: u32) -> Option<&Value>
-    ensures { option_copied result ≡ field_of (Some row.now) field }
-{
-    match row {
-        Row::Object(values) => values.as_slice().get(field as usize),
-        _ => None,
-    }
-}
-
 /// Whether a value is this one, which no null is.
 #[inline(always)]
 pub(crate) fn is_value(found: &Value, value: &Value) -> bool
@@ -183,17 +173,5 @@ pub(crate) fn is_value(found: &Value, value: &Value) -> bool
         (Value::Bytes(bytes), Value::Bytes(others)) => bytes == others,
         (Value::Ref(ordinal), Value::Ref(another)) => ordinal == another,
         _ => false,
-    }
-}
-
-/// The type to which a field of a type leads.
-pub(crate) fn type_behind(model: &Model, type_index: u32, field: u32) -> Option<u32>
-    requires { type_index < length model.now }
-    ensures { result ≡ type_led_to model.now type_index field }
-{
-    let fields = model.schema(type_index).shape.fields();
-    match &fields.get(field as usize)?.kind {
-        FieldKind::Reference(name) => model.index_of(name.text()),
-        _ => None,
     }
 }

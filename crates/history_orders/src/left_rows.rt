@@ -6,7 +6,8 @@ ghost use Rattle.row_model.specs.Table.{Table, row_at};
 ghost use Rattle.hol_history.specs.History.{versions};
 ghost use Rattle.history_orders.specs.Left.{HasAll, HasLeft, HasLeftSince};
 
-use crate::key_rows::{is_value, value_in};
+use crate::key_rows::is_value;
+use column_rows::value_in;
 use hol_history::{History, Part};
 use row_model::{Row, Value, Values};
 use schema_model::Paths;

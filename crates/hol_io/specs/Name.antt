@@ -1,5 +1,5 @@
 -- The names of blobs: which there are, their texts, and the order in which a store lists them.
-use Rattle.std.specs.Prelude.{◌≡◌, ◌≢◌, ℕ, ◌^◌, ◌<◌, ◌≤◌, List, [], ◌∷◌, ◌++◌, codes, Option, None, Some}
+use Rattle.std.specs.Prelude.{◌≡◌, ◌≢◌, ℕ, ◌^◌, ◌<◌, ◌≤◌, nat_lt, if◌then◌else◌, List, [], ◌∷◌, ◌++◌, codes, Option, None, Some}
 use Rattle.std.specs.Fmt.{decimal}
 use Rattle.std.specs.declared.cmp.Ordering.{Ordering}
 use Rattle.std.specs.Ordering.{nat_cmp, on}
@@ -17,6 +17,16 @@ name_key Announced = 3 ∷ []
 -- Snapshots, deltas, reverse deltas, the announced version, each kind by its numbers rising.
 abbrev pub name_cmp : BlobName → BlobName → Ordering
 name_cmp = on name_key (slice_cmp nat_cmp)
+
+-- What leads from one version to another: the delta to a later one, and the reverse delta to another one.
+abbrev pub step_name : ℕ → ℕ → BlobName
+step_name from to = if nat_lt from to then Delta from to else Reverse from to
+
+-- It leads from one version to another.
+abbrev pub IsStepName : BlobName → Type 0
+IsStepName (Delta from to) = Unit {0}
+IsStepName (Reverse from to) = Unit {0}
+IsStepName _ = ⊥
 
 -- Two versions in decimal with a dash between them.
 abbrev pub text_of_step : ℕ → ℕ → List ℕ

@@ -18,6 +18,23 @@ pub enum BlobName {
     Announced,
 }
 
+impl BlobName {
+    ghost use Rattle.std.specs.Prelude.{◌≡◌};
+    ghost use Rattle.hol_io.specs.Name.{IsStepName, step_name};
+
+    /// What leads from one version to another: the delta to a later one, and the reverse delta to another one.
+    pub fn between(from: u64, to: u64) -> BlobName
+        ensures name { result ≡ step_name from to }
+        ensures step { IsStepName result }
+    {
+        if from < to {
+            BlobName::Delta(from, to)
+        } else {
+            BlobName::Reverse(from, to)
+        }
+    }
+}
+
 /// The text of a name, its numbers in decimal: `snapshot-7`, `delta-6-7`, `reversedelta-7-6` or
 /// `announced.version`.
 pub fn name_text(alloc: Global, name: &BlobName) -> Result<String, AllocError>

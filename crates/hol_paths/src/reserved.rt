@@ -22,12 +22,9 @@ use hol_io::Steps;
 use hol_varint::Ordinals;
 use object_codec::Column;
 use row_model::{Rows, Values};
-use schema_model::{WalkPart, WalkPath};
+use schema_model::{MAX_ENTRIES, WalkPart, WalkPath};
 use std::alloc::{AllocError, Global};
 use std::sync::ledger::Ledger;
-
-// No more entries than these: the limit `entries`, 2^22.
-const MOST: usize = 0x40_0000;
 
 /// The places of the entries that leave, rising, and the entries that come.
 #[derive(Drop)]
@@ -345,7 +342,7 @@ pub(crate) fn read_next<R: ColumnRows, L: Ledger>(
     let there = entries.len();
     let gone = leaving.len();
     let stay = there - gone;
-    let most = MOST - stay;
+    let most = MAX_ENTRIES as usize - stay;
     let coming = read_added(alloc, rows, path, added.as_slice(), most, entries, steps)?;
     let reserved = make_ready(alloc, entries, leaving, coming, keyed)?;
     Ok(reserved)

@@ -2,9 +2,10 @@
 use Rattle.std.specs.Prelude.{◌≡◌, ℕ, List, Option, Some, None, Result, Ok, Err, IfSome, IsSomeAnd, length}
 use Rattle.hol_io.specs.declared.name.BlobName.{BlobName}
 use Rattle.hol_io.specs.declared.name.BlobName.TheVariants.{Snapshot}
+use Rattle.hol_io.specs.Name.{step_name}
 use Rattle.hol_io.specs.Store.{Store, told}
 use Rattle.chain_check.specs.Compare.{State}
-use Rattle.chain_check.specs.Walk.{Both, Calls, Differs, Passes, Stops, compared_in, name_of_step, state_by}
+use Rattle.chain_check.specs.Walk.{Both, Calls, Differs, Passes, Stops, compared_in, state_by}
 use Rattle.read_engine.specs.Position.{Position}
 use Rattle.read_engine.specs.Taking.{StepsBy}
 use Rattle.read_engine.specs.Walking.{schemas_at, table_at, tag_at}
@@ -28,8 +29,8 @@ WalkLoads held version before now (Err refusal) = SnapshotRefusal (Snapshot vers
 
 abbrev pub WalkSteps : Option Store → ℕ → ℕ → Option Position → Option Position → Result (Unit {0}) Refusal → Type 0
 WalkSteps held from to before now (Ok done) =
-    IsSomeAnd before (λ at. (blob : List ℕ) × (position : Position) × (told held (name_of_step from to) ≡ Some blob) × StepsBy blob at position × (now ≡ Some position))
-WalkSteps held from to before now (Err refusal) = StepRefusal (name_of_step from to) (told held (name_of_step from to)) before refusal × (now ≡ before)
+    IsSomeAnd before (λ at. (blob : List ℕ) × (position : Position) × (told held (step_name from to) ≡ Some blob) × StepsBy blob at position × (now ≡ Some position))
+WalkSteps held from to before now (Err refusal) = StepRefusal (step_name from to) (told held (step_name from to)) before refusal × (now ≡ before)
 
 abbrev pub walk_calls : Calls (Option Position) Refusal
 walk_calls = record { loads = WalkLoads; steps = WalkSteps; state = state_by tag_at schemas_at table_at }

@@ -1,7 +1,7 @@
 -- The order `step`: what it answers, and the machine behind it.
-use Rattle.std.specs.Prelude.{◌≡◌, ℕ, List, Option, Some, None, IsSomeAnd, if◌then◌else◌, nat_lt}
+use Rattle.std.specs.Prelude.{◌≡◌, ℕ, List, Option, Some, None, IsSomeAnd}
 use Rattle.hol_io.specs.declared.name.BlobName.{BlobName}
-use Rattle.hol_io.specs.declared.name.BlobName.TheVariants.{Delta, Reverse}
+use Rattle.hol_io.specs.Name.{step_name}
 use Rattle.hol_io.specs.Store.{told}
 use Rattle.blob_frame.specs.declared.fault.BlobFault.{BlobFault}
 use Rattle.read_engine.specs.Judged.{RefusesStep}
@@ -14,10 +14,6 @@ use Rattle.hol_answers.specs.declared.reply.Reply.TheVariants.{Refused, Step}
 use Rattle.hollow_machine.specs.Blobs.{TellsOf}
 use Rattle.hollow_machine.specs.State.{Machine, stepped_to}
 use Rattle.hollow_machine.specs.Forms.{OrderForm, moving}
-
--- The blob that leads from one version to another one: the delta where versions rise, and else the reverse delta.
-abbrev pub step_name : ℕ → ℕ → BlobName
-step_name from to = if nat_lt from to then Delta from to else Reverse from to
 
 -- Why what a name holds does not move a consumer: its fault.
 abbrev pub DeltaRefusal : BlobName → Option (List ℕ) → Position → Refusal → Type 0

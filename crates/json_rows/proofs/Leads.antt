@@ -1,13 +1,14 @@
 -- The leads of fields that stand in byte order.
-use Rattle.std.proofs.Common.{◌≡◌, ℕ, ◌+◌, ◌<◌, ◌≤◌, true, false, nat_lt, List, [], ◌∷◌, ◌++◌, length, drop, get_or, String, Global, string_bytes, refl, sym, ap, ◌∙◌, subst, arith, append_assoc}
+use Rattle.std.proofs.Common.{◌≡◌, ℕ, ◌+◌, ◌<◌, ◌≤◌, true, false, nat_lt, Result, Ok, Err, List, [], ◌∷◌, ◌++◌, length, drop, take, get_or, String, Global, string_bytes, refl, sym, ap, ◌∙◌, subst, arith, append_assoc}
+use Rattle.std.specs.Prelude.{IfOk}
 use Rattle.std.proofs.lemmas.Bool.{lt-ltb}
-use Rattle.std.proofs.lemmas.List.{drop_more, drop_all}
+use Rattle.std.proofs.lemmas.List.{drop_more, drop_all, map-append, take_all, take_more}
 use Rattle.json.specs.Print.{quoted}
 use Rattle.schema_model.specs.declared.schema.Field.{Field}
 use Rattle.serde_json.specs.Data.{Data, null}
 use Rattle.serde_json.specs.Written.{comma_if, compact_text, members_text}
 use Rattle.json_rows.specs.FieldOrder.{Order, members_at, AreBelow, IsByteOrder}
-use Rattle.json_rows.specs.LineForm.{text_at, AreLeads}
+use Rattle.json_rows.specs.LineForm.{text_at, AreLeads, places_of}
 use Rattle.json_rows.proofs.Orders.{place_within}
 
 -- one more lead, before what stands behind the fields
@@ -27,9 +28,10 @@ later n = lt-ltb 0 (n + 1) (omega arith)
 pub record HaveLeads (order : Order) (count : ℕ) (leads : Order) : Type 0 where
   pub text : (printed : List Data) → text_at leads printed (members_text (nat_lt 0 count) (members_at (drop count order) printed)) ≡ members_text false (members_at order printed)
   pub below : (bound : ℕ) → AreBelow bound order → AreBelow bound leads
+  pub places : places_of leads ≡ places_of (take count order)
 
 pub none_lead : (order : Order) → HaveLeads order 0 []
-none_lead order = record { text = λ printed. refl; below = λ bound all. tt }
+none_lead order = record { text = λ printed. refl; below = λ bound all. tt; places = refl }
 
 -- the text of a member, with its lead in front
 lead_text : (comma name value rest : List ℕ) → (comma ++ (name ++ 58 ∷ [])) ++ (value ++ rest) ≡ comma ++ (name ++ 58 ∷ (value ++ rest))
@@ -53,6 +55,10 @@ one_leads order leads more count field lead fits field_is lead_is more_is have =
   below = λ bound all.
       let within : field.1 < bound = subst (λ m. m.1 < bound) (sym field_is) (place_within bound order count field all fits) in
       subst (AreBelow bound) (sym more_is) (below-more bound leads (lead, field.1) (have.below bound all) within);
+  places =
+      ap places_of more_is ∙ map-append (λ (m : String Global × ℕ). m.1) leads ((lead, field.1) ∷ []) ∙ ap (λ ps. ps ++ field.1 ∷ []) have.places
+      ∙ sym (map-append (λ (m : String Global × ℕ). m.1) (take count order) (field ∷ []))
+      ∙ ap places_of (ap (λ m. take count order ++ m ∷ []) field_is ∙ sym (take_more order count field fits));
 }
 
 pub all_leads : (fields : List Field) (order leads : Order) (count : ℕ) → length order ≤ count → IsByteOrder fields order → HaveLeads order count leads → AreLeads fields leads
@@ -63,3 +69,10 @@ all_leads fields order leads count done ordered have = record {
       ∙ have.text printed ∙ ap (members_text false) (ordered.members printed long);
   below = have.below (length fields) ordered.below;
 }
+
+pub all_places : (order leads : Order) (count : ℕ) → length order ≤ count → HaveLeads order count leads → places_of leads ≡ places_of order
+all_places order leads count done have = have.places ∙ ap places_of (take_all count order done)
+
+pub if_ok_both : {T E : Type 0} (r : Result T E) (P Q R : T → Type 0) → ((x : T) → P x → Q x → R x) → IfOk r P → IfOk r Q → IfOk r R
+if_ok_both (Ok x) P Q R each one other = each x one other
+if_ok_both (Err e) P Q R each one other = tt

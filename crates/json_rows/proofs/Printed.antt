@@ -26,7 +26,7 @@ text_prints units =
       | inr none ↦ (numbers_data units, inr (none, refl))
     ]
 
-value_prints : (value : Value) → (printed : Data) × IsValueData value printed
+pub value_prints : (value : Value) → (printed : Data) × IsValueData value printed
 value_prints Value.Null = (null, refl)
 value_prints (Value.Int n) = (number (of_integer n), refl)
 value_prints (Value.Long n) = (number (of_integer n), refl)

@@ -1,11 +1,11 @@
 -- What the lines of the rows of a type have in common.
-use Rattle.std.specs.Prelude.{◌≡◌, ℕ, List, [], ◌∷◌, ◌++◌, false, codes, length, slice_index_or, zip, string_bytes}
+use Rattle.std.specs.Prelude.{◌≡◌, ℕ, List, [], ◌∷◌, ◌++◌, false, codes, length, map, slice_index_or, zip, string_bytes}
 use Rattle.json.specs.Print.{quoted}
 use Rattle.serde_json.specs.Data.{Data, null}
 use Rattle.serde_json.specs.Written.{compact_text, members_text}
 use Rattle.schema_model.specs.declared.schema.Field.{Field}
 use Rattle.schema_model.specs.Parts.{field_names, shape_fields}
-use Rattle.json_rows.specs.FieldOrder.{Order, AreBelow}
+use Rattle.json_rows.specs.FieldOrder.{Order, AreBelow, IsByteOrder}
 use Rattle.json_rows.specs.StoredRow.{members_of_fields}
 use Rattle.json_rows.specs.declared.form.LineForm.{LineForm}
 
@@ -20,6 +20,15 @@ pub record AreLeads (fields : List Field) (leads : Order) : Type 0 where
   pub text : (printed : List Data) → length printed ≡ length fields
       → text_at leads printed (125 ∷ []) ≡ members_text false (members_of_fields (zip (field_names fields) printed))
   pub below : AreBelow (length fields) leads
+
+-- the places of the fields in an order
+abbrev pub places_of : Order → List ℕ
+places_of order = map (λ lead. lead.1) order
+
+-- The leads are those of these fields, each of them once, in byte order of their names.
+pub record AreWholeLeads (fields : List Field) (leads : Order) : Type 0 where
+  pub texts : AreLeads fields leads
+  pub ordered : (order : Order) × IsByteOrder fields order × (places_of leads ≡ places_of order)
 
 -- The form is that of the lines of its type.
 pub record IsLineForm (form : LineForm) : Type 0 where

@@ -45,6 +45,36 @@ pub(crate) fn put_field<R: ColumnRows>(
     }
 }
 
+/// Puts the value of a field of the record under a live ordinal behind what stands in `out`, as `leaf_value` prints it. It fails only where memory is refused, and
+/// then a front of the value may stand there. Where the records stand packed a copy is made of BYTES alone, and of a STRING that is not printable ASCII.
+pub fn put_field_of<R: ColumnRows>(
+    alloc: Global,
+    rows: &R,
+    type_index: u32,
+    field: u32,
+    ordinal: u32,
+    out: &mut Vec<u8>,
+) -> Result<(), AllocError>
+    requires live { IsLive (R.table rows.now) type_index ordinal }
+    requires there { IsSome (field_of (row_at (R.table rows.now) type_index ordinal) field) }
+    ensures put { OnOk result ((value : ValueOf) → field_of (row_at (R.table rows.now) type_index ordinal) field ≡ Some value
+        → PutsAll (IsValueData value) out.old.items out.new.items) }
+    ensures front { take (length out.old.items) out.new.items ≡ out.old.items }
+{
+    match rows.column(type_index, field) {
+        Some(column) => put_field(
+            alloc,
+            rows,
+            &column,
+            type_index,
+            field as usize,
+            ordinal,
+            out,
+        ),
+        None => put_copy(alloc, rows, type_index, field, ordinal, out),
+    }
+}
+
 // Puts the value of a field of the record under a live ordinal, of which a copy is made.
 fn put_copy<R: ColumnRows>(
     alloc: Global,

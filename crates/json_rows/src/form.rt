@@ -3,7 +3,8 @@ ghost use Rattle.std.specs.Prelude.{List, ◌≡◌, ◌++◌, ◌∷◌, [], co
 ghost use Rattle.json.specs.Print.{quoted as quoted_text};
 ghost use Rattle.serde_json.specs.Written.{comma_if};
 ghost use Rattle.json_rows.specs.FieldOrder.{IsByteOrder};
-ghost use Rattle.json_rows.specs.LineForm.{AreLeads, IsLineForm};
+ghost use Rattle.json_rows.specs.LineForm.{AreLeads, AreWholeLeads, IsLineForm, places_of};
+ghost use Rattle.schema_model.specs.Parts.{shape_fields};
 ghost use Rattle.schema_model.specs.declared.schema.Field.{Field};
 
 use crate::order::field_order;
@@ -34,9 +35,20 @@ pub(crate) fn line_form(alloc: Global, schema: &Schema) -> Result<LineForm<'_>, 
     Ok(LineForm { schema, leads, end })
 }
 
+/// The fields of a type in byte order of their names: for each the text before its value, which is a comma behind another
+/// field, the name in quotes, and a colon, with the place of the field. Types of other kinds than OBJECT have none. It fails only
+/// where memory is refused.
+pub fn record_leads(alloc: Global, schema: &Schema) -> Result<Vec<(String, usize)>, AllocError>
+    ensures { IfOk result (λ leads. AreWholeLeads (shape_fields schema.now.shape) leads.items) }
+{
+    let order = field_order(alloc, schema)?;
+    leads_of(alloc, order.as_slice())
+}
+
 // The text before the value of each field.
 fn leads_of(alloc: Global, order: &[(String, usize)]) -> Result<Vec<(String, usize)>, AllocError>
-    ensures { IfOk result (λ leads. (fields : List Field) → IsByteOrder fields order.now → AreLeads fields leads.items) }
+    ensures leads { IfOk result (λ leads. (fields : List Field) → IsByteOrder fields order.now → AreLeads fields leads.items) }
+    ensures places { IfOk result (λ leads. places_of leads.items ≡ places_of order.now) }
 {
     let mut leads = Vec::with_capacity(alloc, order.len())?;
     for (index, member) in order.iter().enumerate() {

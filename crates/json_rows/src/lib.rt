@@ -12,7 +12,8 @@ mod standing;
 mod stored;
 mod value;
 
-pub use form::LineForm;
+pub use field::put_field_of;
+pub use form::{LineForm, record_leads};
 pub use line::{put_ordinals, put_row_line};
 pub use standing::{Standing, TypeLines, type_lines};
 pub use stored::{leaf_value, row_value};

@@ -74,8 +74,9 @@ fn kind_behind<'a>(model: &'a Model, type_index: u32, fields: &[u32]) -> &'a Fie
     }
 }
 
-// One value of a key.
-fn part_from(alloc: Global, kind: &FieldKind, value: &Value) -> Result<FieldValue, KeyFault>
+/// The value of a kind, as one of a key. `Shape` where the JSON is of another kind, out of its range, or null, as which the least
+/// INT and the least LONG count.
+pub fn part_from(alloc: Global, kind: &FieldKind, value: &Value) -> Result<FieldValue, KeyFault>
     requires plain { IsPlain kind.now }
     ensures { TellsPart (key_part (read_value kind.now (view value.now))) result }
 {
@@ -90,10 +91,8 @@ fn part_from(alloc: Global, kind: &FieldKind, value: &Value) -> Result<FieldValu
 fn unless_null(value: FieldValue) -> Result<FieldValue, KeyFault>
     ensures { TellsPart (if_stored value (stored_value value)) result }
 {
-    match value {
-        FieldValue::Null | FieldValue::Int(i32::MIN) | FieldValue::Long(i64::MIN) => {
-            Err(KeyFault::Shape)
-        }
+    match value.stored() {
+        FieldValue::Null => Err(KeyFault::Shape),
         value => Ok(value),
     }
 }

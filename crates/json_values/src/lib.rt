@@ -12,7 +12,7 @@ mod schemas;
 mod values;
 
 pub use fault::{KeyFault, SchemasFault, ValueFault};
-pub use key::key_from;
+pub use key::{key_from, part_from};
 pub use schema_shape::are_schemas;
 pub use schemas::schemas_from;
 pub use values::value_from;

@@ -1,6 +1,5 @@
 //! Records of OBJECT types without STRING and BYTES, kept for the next state: copied as they stand, and written and cleared where rows came or left.
-ghost use Rattle.std.specs.Prelude.{◌≡◌, ◌*◌, ◌^◌, ◌<◌, ◌≤◌, ◌↔◌, ℕ, List, Contains, IfOk, IsTrue, OnOk, length, replicate, sum};
-ghost use Rattle.bit_array.specs.Element.{words_of};
+ghost use Rattle.std.specs.Prelude.{◌≡◌, ◌*◌, ◌^◌, ◌<◌, ◌≤◌, ◌↔◌, ℕ, List, Contains, IfOk, IsTrue, OnOk, length, sum};
 ghost use Rattle.row_model.specs.Table.{IsLive};
 ghost use Rattle.ordinal_set.specs.Ordinals.{lacking};
 ghost use Rattle.row_packing.specs.Chosen.{IsGreatestOrdinal, shape_at};
@@ -10,7 +9,7 @@ ghost use Rattle.kept_sections.specs.Moved.{AreCopied, AreReplaced, AreWritten, 
 ghost use Rattle.kept_sections.specs.Sections.{IsPackedOf, IsSection};
 
 use crate::section::PackedSection;
-use bit_array::{total_width, words_for};
+use bit_array::{total_width, zeros};
 use hol_varint::Duplicate;
 use ordinal_set::OrdinalSet;
 use record_copies::{clear_record, copy_records, is_fixed, put_record};
@@ -102,13 +101,6 @@ fn copied_words(
     let mut first = zeros(alloc, bits)?;
     copy_records(widths, from, before, first.as_mut_slice(), places);
     Ok(first)
-}
-
-/// As many words of zeros as so many bits take.
-fn zeros(alloc: Global, bits: u64) -> Result<Vec<u64>, AllocError>
-    ensures { IfOk result (λ words. words.items ≡ replicate (words_of bits) 0) }
-{
-    vec![in alloc; 0; words_for(bits) as usize]
 }
 
 /// Clears the places of the ordinals that the old state has and the new one lacks.

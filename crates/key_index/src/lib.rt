@@ -12,4 +12,4 @@ mod simple_key;
 mod slot;
 
 pub use index::KeyIndex;
-pub use read::read_key;
+pub use read::{read_key, type_behind};

@@ -77,8 +77,8 @@ fn unless_null(value: Value) -> Option<Value>
     }
 }
 
-// The type to which a field of a type leads.
-fn type_behind(model: &Model, type_index: u32, field: u32) -> Option<u32>
+/// The type to which a field of a type leads.
+pub fn type_behind(model: &Model, type_index: u32, field: u32) -> Option<u32>
     requires { type_index < length model.now }
     ensures { result ≡ type_led_to model.now type_index field }
 {

@@ -10,6 +10,7 @@ use Rattle.std.proofs.lemmas.List.Elements.{All-take, All-drop}
 use Rattle.std.proofs.lemmas.List.FromFn.{length-map-range_with_len}
 use Rattle.std.proofs.lemmas.Option.{slice_get_within, unwrap_or-slice_get}
 use Rattle.bit_array.specs.Element.{number_of, element_of, words_of}
+use Rattle.bit_array.proofs.ZeroWords.{number_zeros}
 use Rattle.schema_model.specs.declared.schema.Shape.{Shape}
 use Rattle.row_model.specs.declared.row.Row.{Row}
 use Rattle.row_model.specs.Row.{FitsShape}
@@ -44,11 +45,6 @@ counted_more rows place count lent elements there are counted =
     omega (arith, counted, split, long)
 
 -- ---- places packed one after the other
-
-pub number_zeros : (count : ℕ) → number_of (replicate count 0) ≡ 0
-unfolding number_of
-number_zeros zero = refl
-number_zeros (suc count) = let rest = number_zeros count in omega arith
 
 pub record PackedSoFar (widths : List ℕ) (rows : List Place) (first second : List ℕ) (place end : ℕ) : Type 0 where
   pub words : WordsOf widths rows first second place end

@@ -7,7 +7,7 @@ ghost use Rattle.list_codec.specs.ListPlace.{pointer_width, element_width, end_a
 ghost use Rattle.list_codec.specs.Widths.{elements_of_row};
 ghost use Rattle.list_codec.specs.Packing.{HasRoom, CanPack, IsPacked, WordsOf, elements_of_place, elements_of_places};
 
-use bit_array::{set_element, words_for};
+use bit_array::{set_element, zeros};
 use row_model::{Areas, LentRow, Packed, PlacedRows, Row, Widths, Words};
 use schema_model::Schema;
 use std::alloc::{AllocError, Global};
@@ -45,8 +45,8 @@ fn pack_words<P: PlacedRows>(
     requires small { All (λ element. element < 2 ^ element_width widths.now) (elements_of_places (P.places rows.now)) }
     ensures { IfOk result (λ words. WordsOf widths.now (P.places rows.now) words.0.items words.1.items (length (P.places rows.now)) (length (elements_of_places (P.places rows.now)))) }
 {
-    let mut first = zeros(alloc, rows.count() as u64, *widths.get(0))?;
-    let mut second = zeros(alloc, count_of(alloc, rows)?, *widths.get(1))?;
+    let mut first = zeros_for(alloc, rows.count() as u64, *widths.get(0))?;
+    let mut second = zeros_for(alloc, count_of(alloc, rows)?, *widths.get(1))?;
     let mut end = 0;
     for place in 0..rows.count() {
         let lent = rows.place(alloc, place)?;
@@ -80,7 +80,7 @@ fn count_of<P: PlacedRows>(alloc: Global, rows: &P) -> Result<u64, AllocError>
 }
 
 /// Words of zeros for so many elements of a width.
-fn zeros(alloc: Global, count: u64, width: u32) -> Result<Vec<u64>, AllocError>
+fn zeros_for(alloc: Global, count: u64, width: u32) -> Result<Vec<u64>, AllocError>
     ensures long { IfOk result (λ words. length words.items ≡ words_of (count * width)) }
     ensures few { IfOk result (λ words. 64 * length words.items < 2 ^ 64) }
     ensures zero { IfOk result (λ words. words.items ≡ replicate (length words.items) 0) }
@@ -89,7 +89,7 @@ fn zeros(alloc: Global, count: u64, width: u32) -> Result<Vec<u64>, AllocError>
     if bits > 1 << 63 {
         return Err(AllocError);
     }
-    vec![in alloc; 0; words_for(bits as u64) as usize]
+    zeros(alloc, bits as u64)
 }
 
 /// Writes a list at a place: its elements from a start on, counted in elements, and its end, which is answered, as the pointer.

@@ -11,6 +11,7 @@ use Rattle.std.proofs.lemmas.Nat.{pow_pos}
 use Rattle.std.proofs.lemmas.Option.{slice_get_read, slice_get_within, get_or_from_slice_get}
 use Rattle.std.proofs.lemmas.Slice.Zip.{AllZip-long}
 use Rattle.bit_array.specs.Element.{number_of, words_of}
+use Rattle.bit_array.proofs.ZeroWords.{zeros_long, zeros_none}
 use Rattle.row_model.specs.Areas.{area_of}
 use Rattle.schema_model.specs.Parts.{shape_fields}
 use Rattle.row_model.specs.Row.{FitsKind, FitsShape, stored_row}
@@ -99,15 +100,6 @@ no_column_bytes index kind (row ∷ rows) fit none =
 
 -- ---- the places
 
-number_zeros : (count : ℕ) → number_of (replicate count 0) ≡ 0
-unfolding number_of
-number_zeros zero = refl
-number_zeros (suc count) = let rest = number_zeros count in omega arith
-
-length-zeros : (count : ℕ) → length {A = ℕ} (replicate count 0) ≡ count
-length-zeros zero = refl
-length-zeros (suc count) = ap suc (length-zeros count)
-
 -- where there is a place, the widths are those of the kinds
 wide_where : (rows : List Place) (place : ℕ) (fields : List Field) (widths : List ℕ) → place < length rows → AllZip (IsWidthFor rows) fields widths → AllZip IsFieldWidth fields widths
 wide_where [] place fields widths inside wide = absurd (omega arith)
@@ -130,11 +122,11 @@ pub packed_none : (shape : Shape) (widths : List ℕ) (rows : List Place) (first
 packed_none shape widths rows first areas can zeros none =
     let fields = shape_fields shape in
     let bytes : areas ≡ bytes_from 0 fields [] = none ∙ bytes_of_none 0 fields in
-    let nothing = ap number_of zeros ∙ number_zeros (words_of (length rows * sum widths)) in
+    let nothing = zeros_none first (words_of (length rows * sum widths)) zeros in
     record {
       spelled = λ before row earlier. absurd (omega arith);
       bytes = bytes;
-      words = ap (λ (ws : List ℕ). length ws) zeros ∙ length-zeros (words_of (length rows * sum widths));
+      words = zeros_long first (words_of (length rows * sum widths)) zeros;
       follows = zip_all (λ field part. HasBytes field.kind → part.start ≡ length part.area) fields widths first areas (sum widths) 0 0 (AllZip-long (IsWidthFor rows) fields widths can.wide)
           (ap (λ (a : List (List ℕ)). length a) bytes ∙ length-bytes_from 0 fields [])
           (λ k field inside is has. sym (ap (λ (a : List (List ℕ)). length (area_of a k)) bytes ∙ ap (λ (bs : List ℕ). length bs) (bytes_at 0 fields [] k inside)));

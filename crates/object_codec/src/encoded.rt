@@ -1,5 +1,5 @@
 //! The element and the bytes of one value, as they are written.
-ghost use Rattle.std.specs.Prelude.{ℕ, List, ◌≡◌, ◌↔◌, ◌+◌, ◌-◌, ◌^◌, ◌<◌, ◌≤◌, ◌++◌, length, slice_get, unwrap_or, IfOk, IfSome, IsTrue, OnOk};
+ghost use Rattle.std.specs.Prelude.{ℕ, List, ◌≡◌, ◌+◌, ◌-◌, ◌^◌, ◌<◌, ◌≤◌, ◌++◌, length, slice_get, unwrap_or, IfOk, IfSome, OnOk};
 ghost use Rattle.hol_varint.specs.TextUnits.{AreUnits};
 ghost use Rattle.row_model.specs.Row.{FitsKind};
 ghost use Rattle.row_model.specs.declared.row.Value.{Value as StoredValue};
@@ -8,7 +8,8 @@ ghost use Rattle.object_codec.specs.Stored.{stored_number as number_of_stored, g
 ghost use Rattle.object_codec.specs.Packing.{HasBytes, HoldsValue};
 ghost use Rattle.object_codec.specs.Encoded.{end_element as end_of_value, IsTaken, gap_element as element_of_gap};
 
-use crate::stored::stored_number;
+use crate::end_offset::EndOffset;
+use crate::stored::{has_bytes, stored_number};
 use bit_array::all_ones;
 use hol_varint::{Octets, put_units};
 use row_model::Value;
@@ -43,14 +44,6 @@ pub(crate) fn take_value(
     Ok(end_element(width, area.len() as u64, value))
 }
 
-/// Whether the values of a field of a kind have bytes.
-#[inline(always)]
-fn has_bytes(kind: &FieldKind) -> bool
-    ensures { IsTrue result ↔ HasBytes kind.now }
-{
-    matches!(kind, FieldKind::Text | FieldKind::Bytes)
-}
-
 /// The element of a field where there is no row, its bytes ending at `end`.
 fn gap_element(kind: &FieldKind, end: u64) -> u64
     ensures { result ≡ element_of_gap kind.now end }
@@ -78,10 +71,8 @@ fn end_element(width: u32, end: u64, value: &Value) -> u64
     requires end { end < 2 ^ (width - 1) }
     ensures { result ≡ end_of_value width end value.now }
 {
-    match value {
-        Value::Null => end + (1 << (width - 1)),
-        _ => end,
-    }
+    let is_null = matches!(value, Value::Null);
+    EndOffset { end, is_null }.element(width)
 }
 
 /// Adds the bytes of a value to those of its field.

@@ -4,6 +4,7 @@
 mod bytes;
 mod column;
 mod encoded;
+mod end_offset;
 mod fixed;
 pub mod laws;
 mod packing;
@@ -18,7 +19,8 @@ mod value_ref;
 
 pub use bytes::PackedBytes;
 pub use column::Column;
-pub use packing::{pack, put_row};
+pub use end_offset::EndOffset;
+pub use packing::{no_bytes, pack, put_row};
 pub use part::{Part, read_part};
 pub use record::read;
 pub use sound::{first_fault, is_free};

@@ -6,7 +6,7 @@ ghost use Rattle.object_codec.specs.Packing.{HasRoom, IsRowPut, CanPack, IsPacke
 
 use crate::encoded::take_value;
 use crate::stored::values_of;
-use bit_array::{set_element, total_width, words_for};
+use bit_array::{set_element, total_width, zeros};
 use hol_varint::Octets;
 use row_model::{Areas, Packed, PlacedRows, Row, Value, Widths, Words, row_of_place};
 use schema_model::Schema;
@@ -67,15 +67,8 @@ fn layout_of<'a>(schema: &'a Schema, widths: &'a [u32]) -> Layout<'a>
     }
 }
 
-/// As many words of zeros as so many bits take.
-fn zeros(alloc: Global, bits: u64) -> Result<Vec<u64>, AllocError>
-    ensures { IfOk result (λ words. words.items ≡ replicate (words_of bits) 0) }
-{
-    vec![in alloc; 0; words_for(bits) as usize]
-}
-
 /// The bytes of so many fields before any is written.
-fn no_bytes(alloc: Global, fields: usize) -> Result<Vec<Octets>, AllocError>
+pub fn no_bytes(alloc: Global, fields: usize) -> Result<Vec<Octets>, AllocError>
     ensures { IfOk result (λ areas. areas.items ≡ replicate fields []) }
 {
     let mut areas = Vec::with_capacity(alloc, fields)?;

@@ -1,10 +1,11 @@
 //! What the element of a field gives, with the bytes of a STRING or BYTES where they stand.
-ghost use Rattle.std.specs.Prelude.{ℕ, List, ◌≡◌, ◌+◌, ◌-◌, ◌*◌, ◌^◌, ◌<◌, ◌≤◌, length, IfOk};
+ghost use Rattle.std.specs.Prelude.{ℕ, List, ◌≡◌, ◌+◌, ◌-◌, ◌*◌, ◌<◌, ◌≤◌, length, IfOk};
 ghost use Rattle.bit_array.specs.Element.{element_of};
 ghost use Rattle.schema_model.specs.declared.schema.FieldKind.TheVariants.{Text};
 ghost use Rattle.object_codec.specs.ObjectPlace.{start_at, part_at, IsKindWidth};
 ghost use Rattle.object_codec.specs.Parts.{IsRunWithin, TellsPart, TellsRun};
 
+use crate::end_offset::EndOffset;
 use crate::fixed::{boolean_part, int_part, long_part, reference_part};
 use bit_array::element;
 use schema_model::{FieldKind, Reason};
@@ -72,10 +73,8 @@ fn run(
     ensures within { IfOk result (IsRunWithin bytes) }
     ensures tells { (place before : ℕ) (area : List ℕ) → at ≡ place * size + before → before + width ≤ size → bytes ≡ length area → TellsRun (part_at first.now size place before width area) result }
 {
-    let null_bit = 1 << (width - 1);
     let start = start(first, at, width, size);
-    let end = element % null_bit;
-    let is_null = element >= null_bit;
+    let EndOffset { end, is_null } = EndOffset::of(element, width);
     if start > end || end > bytes || (is_null && end != start) {
         return Err(Reason::BadPointers);
     }
@@ -97,5 +96,5 @@ fn start(first: &[u64], at: u64, width: u32, size: u64) -> u64
     if at < size {
         return 0;
     }
-    element(first, at - size, width) % (1 << (width - 1))
+    EndOffset::of(element(first, at - size, width), width).end
 }

@@ -1,6 +1,5 @@
 //! The values of a record as they are written.
 ghost use Rattle.std.specs.Prelude.{◌≡◌, ◌↔◌, ◌≤◌, ◌-◌, ◌^◌, length, min, IfSome, IsTrue};
-ghost use Rattle.row_model.specs.declared.row.Value.{Value as StoredValue};
 ghost use Rattle.object_codec.specs.Packing.{HasBytes};
 ghost use Rattle.object_codec.specs.Stored.{values_of_row, stored_number as number_of_stored, greatest_number, value_bytes as bytes_of_value};
 
@@ -24,34 +23,13 @@ pub fn stored_number(value: &Value) -> Option<u64>
     ensures below { IfSome result (λ number. number ≤ greatest_number value.now) }
 {
     match value {
-        Value::Int(number) => int_number(*number),
-        Value::Long(number) => long_number(*number),
+        Value::Int(i32::MIN) | Value::Long(i64::MIN) => None,
+        Value::Int(number) => Some(u64::from(zigzag32(*number))),
+        Value::Long(number) => Some(zigzag64(*number)),
         Value::Bool(flag) => Some(u64::from(*flag)),
         Value::Ref(ordinal) => Some(u64::from(*ordinal)),
         _ => None,
     }
-}
-
-/// The number that an element holds for an INT, none for the least one.
-fn int_number(number: i32) -> Option<u64>
-    ensures is { result ≡ number_of_stored (StoredValue.Int number) }
-    ensures below { IfSome result (λ number. number ≤ 2 ^ 32 - 2) }
-{
-    if number == i32::MIN {
-        return None;
-    }
-    Some(u64::from(zigzag32(number)))
-}
-
-/// The number that an element holds for a LONG, none for the least one.
-fn long_number(number: i64) -> Option<u64>
-    ensures is { result ≡ number_of_stored (StoredValue.Long number) }
-    ensures below { IfSome result (λ number. number ≤ 2 ^ 64 - 2) }
-{
-    if number == i64::MIN {
-        return None;
-    }
-    Some(zigzag64(number))
 }
 
 /// Whether the values of a field of this kind have variable bytes.

@@ -6,3 +6,4 @@ pub mod LeastFree
 pub mod GapRuns
 pub mod PopulationBytes
 pub mod OnePopulation
+pub mod Counts

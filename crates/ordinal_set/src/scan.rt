@@ -73,6 +73,18 @@ pub(crate) fn last_set(words: &[u64]) -> u32
     0
 }
 
+/// How many bits are set.
+pub(crate) fn count_set(words: &[u64]) -> u64
+    requires { length words.now ≤ 2 ^ 26 }
+    ensures { result ≡ length (population_of words.now) }
+{
+    let mut count: u64 = 0;
+    for word in words {
+        count += u64::from(word.count_ones());
+    }
+    count
+}
+
 /// Clears the bit of a number.
 pub(crate) fn clear_bit(words: &mut Vec<u64>, ordinal: u32)
     ensures bits { (number : ℕ) → has_bit words.new.items number ≡ (has_bit words.old.items number && not (number == ordinal)) }

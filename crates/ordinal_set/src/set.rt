@@ -1,10 +1,10 @@
 //! Sets of ordinals.
-ghost use Rattle.std.specs.Prelude.{ℕ, List, ◌≡◌, ◌-◌, ◌^◌, ◌<◌, ◌↔◌, [], ◌++◌, vec_len, Contains, IfOk, IsTrue, OnOk, OnErr};
+ghost use Rattle.std.specs.Prelude.{ℕ, List, ◌≡◌, ◌-◌, ◌^◌, ◌<◌, ◌↔◌, [], ◌++◌, length, vec_len, Contains, IfOk, IsTrue, OnOk, OnErr};
 ghost use Rattle.ordinal_set.specs.Ordinals.{AreOrdinals, with_ordinal, without_ordinal, lacking, bound_of, least_from, TellsNext, IsLeastFree};
 ghost use Rattle.ordinal_set.specs.Population.{population_of, AreUpTo, IsPopulation};
 
 use crate::population::{population_words, push_words};
-use crate::scan::{clear_bit, has_set, last_set, lengthen, next_set};
+use crate::scan::{clear_bit, count_set, has_set, last_set, lengthen, next_set};
 use crate::two_sets::{next_beside, next_clear};
 use hol_varint::{Duplicate, Ordinals};
 use std::alloc::{AllocError, Global};
@@ -82,6 +82,13 @@ impl OrdinalSet {
         ensures ordinals { AreOrdinals self.now }
     {
         has_set(&self.words, ordinal)
+    }
+
+    /// How many numbers there are in the set.
+    pub fn len(&self) -> u64
+        ensures { result ≡ length self.now }
+    {
+        count_set(&self.words)
     }
 
     /// One past the greatest number of the set, 0 for none.

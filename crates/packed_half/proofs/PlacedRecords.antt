@@ -25,6 +25,7 @@ use Rattle.type_rows.specs.Holds.{FitsWidth, FitsRow, HoldsRow}
 use Rattle.type_rows.specs.Layout.{places_of}
 use Rattle.type_rows.specs.WellFormed.{IsWidth}
 use Rattle.type_rows.specs.WordsHeld.{value_bytes, part_bytes, field_bytes}
+use Rattle.type_rows.proofs.ValueBytes.{value_count}
 use Rattle.packed_half.specs.declared.half.HalfShape.{HalfShape}
 use Rattle.packed_half.specs.LaidOut.{IsTight}
 use Rattle.packed_half.specs.Laying.{CanLay, ArePlaced, places_in, parts_in}
@@ -32,15 +33,6 @@ use Rattle.packed_half.proofs.Holding.{each_held, all_held, none_below}
 use Rattle.packed_half.proofs.RowPlaces.{all_values, at_place, place_at, place_is, place_or, placed_in, places_long, row_of, sum_places, values_places}
 
 -- ---- the bytes of a field
-
-value_count : (value : Value) → length (bytes_of_value value) ≡ value_bytes value
-value_count Value.Null = refl
-value_count (Value.Int number) = refl
-value_count (Value.Long number) = refl
-value_count (Value.Bool flag) = refl
-value_count (Value.Text units) = refl
-value_count (Value.Bytes bytes) = refl
-value_count (Value.Ref ordinal) = refl
 
 option_count : (value : Option Value) → byte_count (option_to_list value) ≡ option_map_or value_bytes value 0
 option_count None = refl

@@ -11,15 +11,15 @@ use Rattle.row_model.specs.declared.row.Row.{Row}
 use Rattle.row_model.specs.Row.{FitsShape}
 use Rattle.row_model.specs.Table.{RowMap}
 use Rattle.bucket_codec.specs.BucketCount.{bucket_count}
-use Rattle.bucket_codec.specs.BucketPlace.{pointer_width, size_width, key_width, value_width, place_width, bucket_width, start_at, IsWidthCount, HoldsPointers}
-use Rattle.bucket_codec.specs.Packed.{set_pair, pairs_of, buckets_of, bucket_total, HoldsRow as HoldsParts, IsPackableRow, IsWritable, PacksPairs, PacksPlace}
+use Rattle.bucket_codec.specs.BucketPlace.{pointer_width, size_width, key_width, value_width, place_width, bucket_width, start_at, IsWidthCount}
+use Rattle.bucket_codec.specs.Packed.{set_pair, pairs_of, buckets_of, bucket_total, HoldsRow as HoldsParts, IsPackableRow, PacksPairs, PacksPlace}
 use Rattle.type_rows.specs.Ends.{IsOfKind}
 use Rattle.type_rows.specs.Holds.{FitsRow, HoldsRow}
 use Rattle.type_rows.specs.Layout.{places_of, place_bits, item_bits, items_of_row, item_count}
 use Rattle.type_rows.specs.Loads.{Spells}
 use Rattle.packed_half.specs.declared.half.HalfShape.{HalfShape}
 use Rattle.packed_half.specs.LaidOut.{IsTight}
-use Rattle.packed_half.specs.Laying.{CanLay, ArePlaced, HasRuns, places_in, parts_in}
+use Rattle.packed_half.specs.Laying.{CanLay, ArePlaced, HasRuns, HasRunRoom, places_in, parts_in}
 use Rattle.packed_half.proofs.Holding.{each_held, all_held, none_below}
 use Rattle.packed_half.proofs.RowPlaces.{all_values, at_place, place_or, placed_in, places_long, row_of, sum_places, sum_where, values_places}
 use Rattle.packed_half.proofs.RunsKept.{IsBegun, begun_all, packs_place, within_total, writable}
@@ -57,7 +57,7 @@ run_widths (Shape.Object key fields) half rows runs can = absurd runs
 
 -- ---- what the widths hold of a row
 
-row_items : (shape : Shape) (row : Row) → HasRuns shape → FitsShape shape row → bucket_count (length (pairs_of row)) ≡ items_of_row row
+pub row_items : (shape : Shape) (row : Row) → HasRuns shape → FitsShape shape row → bucket_count (length (pairs_of row)) ≡ items_of_row row
 row_items (Shape.Set element) (Row.Set ordinals) runs fits = ap bucket_count (length-map ordinals set_pair)
 row_items (Shape.Map key value) (Row.Map pairs) runs fits = refl
 row_items (Shape.Set element) (Row.Object values) runs fits = absurd fits
@@ -107,16 +107,6 @@ buckets_here : (row : Option Row) → buckets_of row ≡ at_place row_buckets ro
 buckets_here None = refl
 buckets_here (Some row) = refl
 
--- what a place has, as it is to be written
-pub record IsReady (widths first second : List ℕ) (place start : ℕ) (row : Option Row) : Type 0 where
-  pub three : 3 ≤ length widths
-  pub holds : HoldsPointers widths first place
-  pub writable : IsWritable widths row
-  pub starts : start_at widths first place ≡ start
-  pub pointer : start + buckets_of row < 2 ^ pointer_width widths
-  pub inside : (start + buckets_of row) * bucket_width widths ≤ 64 * length second
-  pub bits : 64 * length second < 2 ^ 64
-
 module _ (shape : Shape) (half : HalfShape) (rows : RowMap) (runs : HasRuns shape) (can : CanLay shape half rows) where
   pub buckets_are : bucket_total (places_in rows (places_of half.max)) ≡ half.total
   buckets_are =
@@ -153,48 +143,44 @@ module _ (shape : Shape) (half : HalfShape) (rows : RowMap) (runs : HasRuns shap
       (long, second_long, omega (arith, can.room, second_long, there))
 
   -- a place can be written
-  pub run_ready : (widths first0 second0 first second : List ℕ) (place end : ℕ) (row : Option Row) → widths ≡ half.widths → first0 ≡ replicate (words_of (places_of half.max * place_width half.widths)) 0
-      → second0 ≡ replicate (words_of (half.total * bucket_width half.widths)) 0 → IsBegun widths (places_in rows (places_of half.max)) first0 second0 first second place end → place < places_of half.max
-      → row ≡ get rows place → IsReady widths first second place end row
-  run_ready widths first0 second0 first second place end row same zeros second_zeros begun inside is =
-      subst (λ (ws : List ℕ). IsReady ws first second place end row) (sym same) (ready (subst (λ (ws : List ℕ). IsBegun ws (places_in rows (places_of half.max)) first0 second0 first second place end) same begun))
-    where
-      ready : IsBegun half.widths (places_in rows (places_of half.max)) first0 second0 first second place end → IsReady half.widths first second place end row
-      ready begun =
-          let places = places_in rows (places_of half.max) in
-          let all = places_long rows (places_of half.max) in
-          let at : row ≡ get_or places place None = is ∙ place_or rows (places_of half.max) place None inside in
-          let long = run_words first0 second0 zeros second_zeros in
-          let within : end + buckets_of row ≤ bucket_total places = within_total places place end row (omega arith) at begun.ends in
-          let few = can.few in
-          let first_long = begun.long in
-          let second_long = begun.wide in
-          let below = pointers in
-          let total = buckets_are in
-          let up : (place + 1) * place_width half.widths ≤ places_of half.max * place_width half.widths = mul-le-mul_right (place_width half.widths) (let h : place + 1 ≤ places_of half.max = omega arith in h) in
-          let bits = ap (λ (n : ℕ). n * bucket_width half.widths) buckets_are in
-          record {
-            three = widths_are.three;
-            holds = record { narrow = widths_are.narrow; within = omega (arith, up, long.0, first_long); below = omega arith };
-            writable = subst (λ (r : Option Row). IsWritable half.widths r) (sym is) (writable shape half.widths (length half.widths) (get rows place) widths_are.counted (packable_row place (get rows place) refl));
-            starts = begun.starts;
-            pointer = omega arith;
-            inside =
-                let up : (end + buckets_of row) * bucket_width half.widths ≤ bucket_total places * bucket_width half.widths = mul-le-mul_right (bucket_width half.widths) within in
-                omega (arith, up, bits, long.1, second_long);
-            bits = omega (arith, long.2, second_long);
-          }
+  pub run_room : (first0 second0 first second : List ℕ) (place end : ℕ) → first0 ≡ replicate (words_of (places_of half.max * place_width half.widths)) 0
+      → second0 ≡ replicate (words_of (half.total * bucket_width half.widths)) 0 → IsBegun half.widths (places_in rows (places_of half.max)) first0 second0 first second place end → place < places_of half.max
+      → HasRunRoom half.widths first second place end (get rows place)
+  run_room first0 second0 first second place end zeros second_zeros begun inside =
+      let places = places_in rows (places_of half.max) in
+      let all = places_long rows (places_of half.max) in
+      let row = get rows place in
+      let at : row ≡ get_or places place None = place_or rows (places_of half.max) place None inside in
+      let long = run_words first0 second0 zeros second_zeros in
+      let within : end + buckets_of row ≤ bucket_total places = within_total places place end row (omega arith) at begun.ends in
+      let few = can.few in
+      let first_long = begun.long in
+      let second_long = begun.wide in
+      let below = pointers in
+      let total = buckets_are in
+      let up : (place + 1) * place_width half.widths ≤ places_of half.max * place_width half.widths = mul-le-mul_right (place_width half.widths) (let h : place + 1 ≤ places_of half.max = omega arith in h) in
+      let bits = ap (λ (n : ℕ). n * bucket_width half.widths) buckets_are in
+      record {
+        three = widths_are.three;
+        holds = record { narrow = widths_are.narrow; within = omega (arith, up, long.0, first_long); below = omega arith };
+        writable = writable shape half.widths (length half.widths) row widths_are.counted (packable_row place row refl);
+        starts = begun.starts;
+        pointer = omega arith;
+        inside =
+            let up : (end + buckets_of row) * bucket_width half.widths ≤ bucket_total places * bucket_width half.widths = mul-le-mul_right (bucket_width half.widths) within in
+            omega (arith, up, bits, long.1, second_long);
+        bits = omega (arith, long.2, second_long);
+      }
 
   -- all places are written
-  pub runs_done : (widths first0 second0 first second : List ℕ) (place end : ℕ) → widths ≡ half.widths → IsBegun widths (places_in rows (places_of half.max)) first0 second0 first second place end → place ≡ places_of half.max
+  pub runs_done : (first0 second0 first second : List ℕ) (place end : ℕ) → IsBegun half.widths (places_in rows (places_of half.max)) first0 second0 first second place end → place ≡ places_of half.max
       → (o : ℕ) → o < places_of half.max → PacksPairs half.widths half.total first second o (get rows o)
-  runs_done widths first0 second0 first second place end same begun all o inside =
+  runs_done first0 second0 first second place end begun all o inside =
       let places = places_in rows (places_of half.max) in
       let long = places_long rows (places_of half.max) in
-      let total : end ≡ half.total = begun_all widths places first0 second0 first second place end (omega arith) begun ∙ buckets_are in
-      subst (λ (ws : List ℕ). PacksPairs ws half.total first second o (get rows o)) same
-      (subst (λ (n : ℕ). PacksPairs widths n first second o (get rows o)) total
-      (subst (λ (r : Option Row). PacksPairs widths end first second o r) (sym (place_or rows (places_of half.max) o None inside)) (begun.packs o (omega arith))))
+      let total : end ≡ half.total = begun_all half.widths places first0 second0 first second place end (omega arith) begun ∙ buckets_are in
+      subst (λ (n : ℕ). PacksPairs half.widths n first second o (get rows o)) total
+      (subst (λ (r : Option Row). PacksPairs half.widths end first second o r) (sym (place_or rows (places_of half.max) o None inside)) (begun.packs o (omega arith)))
 
   pub place_packed : (first second : List ℕ) → ((o : ℕ) → o < places_of half.max → PacksPairs half.widths half.total first second o (get rows o)) → (place : ℕ) → place < places_of half.max
       → PacksPlace shape half.widths half.total first second place (get rows place)

@@ -3,6 +3,10 @@ use Rattle.std.specs.Prelude.{◌≡◌, ℕ, ◌+◌, ◌*◌, ◌^◌, ◌<◌
 use Rattle.std.specs.List.{range_with_len}
 use Rattle.std.specs.FinMap.{get, keys, values}
 use Rattle.bit_array.specs.Element.{number_of}
+use Rattle.bucket_codec.specs.BucketPlace as bucket
+use Rattle.bucket_codec.specs.BucketPlace.{HoldsPointers}
+use Rattle.bucket_codec.specs.Filled.{KeepsFront}
+use Rattle.bucket_codec.specs.Packed.{buckets_of, IsWritable, PacksPairs}
 use Rattle.list_codec.specs.ListPlace.{end_at, element_width, pointer_width, SpellsList}
 use Rattle.schema_model.specs.declared.limit.Limit.TheVariants.{Bytes, Ordinals}
 use Rattle.schema_model.specs.declared.schema.Shape.{Shape}
@@ -76,3 +80,21 @@ pub record IsListPut (widths old_first old_second first second : List ℕ) (plac
   pub earlier : (before total : ℕ) (list : List ℕ) → before < place → total ≤ start → SpellsList widths total old_first old_second before list → SpellsList widths total first second before list
   pub pointer_bits : number_of old_first < 2 ^ (place * pointer_width widths) → number_of first < 2 ^ ((place + 1) * pointer_width widths)
   pub element_bits : number_of old_second < 2 ^ (start * element_width widths) → number_of second < 2 ^ (end * element_width widths)
+
+-- The set or map of a place can be written there, if it has one, with its buckets from a start on: the widths hold it, and there are the words.
+pub record HasRunRoom (widths first second : List ℕ) (place start : ℕ) (row : Option Row) : Type 0 where
+  pub three : 3 ≤ length widths
+  pub holds : HoldsPointers widths first place
+  pub writable : IsWritable widths row
+  pub starts : bucket.start_at widths first place ≡ start
+  pub pointer : start + buckets_of row < 2 ^ bucket.pointer_width widths
+  pub inside : (start + buckets_of row) * bucket.bucket_width widths ≤ 64 * length second
+  pub bits : 64 * length second < 2 ^ 64
+
+-- It is written, its buckets from a start up to an end, counted in buckets: the place has it, and no bit of the places and buckets before has changed.
+pub record IsRunPut (widths old_first old_second first second : List ℕ) (place start end : ℕ) (row : Option Row) : Type 0 where
+  pub ends : end ≡ start + buckets_of row
+  pub pointer : bucket.end_at widths first place ≡ end
+  pub packed : PacksPairs widths end first second place row
+  pub first_front : KeepsFront old_first first (place * bucket.place_width widths)
+  pub second_front : KeepsFront old_second second (start * bucket.bucket_width widths)

@@ -20,3 +20,4 @@ pub use laying::lay_out;
 pub use lists::{elements_in, put_elements};
 pub use new_rows::NewRows;
 pub use rows::HalfRows;
+pub use runs::put_run;

@@ -1,14 +1,14 @@
 //! Rows that are to be laid out, each asked for as its place comes.
 ghost use Rattle.std.specs.Prelude.{◌≡◌, ℕ, List, Some, IsSome, IfOk, OnOk};
-ghost use Rattle.std.specs.FinMap.{get, keys};
+ghost use Rattle.std.specs.FinMap.{get};
 ghost use Rattle.row_model.specs.Table.{RowMap};
 ghost use Rattle.schema_model.specs.declared.schema.Shape.{Shape};
 ghost use Rattle.object_codec.specs.Packing.{HasRoom, IsRowPut};
 ghost use Rattle.list_codec.specs.Packing.{HasRoom as HasListRoom, elements_of_place};
-ghost use Rattle.packed_half.specs.Laying.{IsListPut};
+ghost use Rattle.packed_half.specs.Laying.{HasRuns, HasRunRoom, IsListPut, IsRunPut};
 
-use crate::HalfShape;
 use crate::lists::{elements_in, put_elements};
+use crate::runs::put_run;
 use hol_varint::Octets;
 use row_model::{Row, Widths};
 use schema_model::Schema;
@@ -77,20 +77,24 @@ pub trait NewRows {
         let elements = elements_in(&row);
         Ok(put_elements(widths, first, second, u64::from(ordinal), start, elements))
     }
-}
-
-/// The row under an ordinal, none where no row is live there.
-pub(crate) fn row_under<N: NewRows>(
-    alloc: Global,
-    half: &HalfShape,
-    new: &N,
-    ordinal: u32,
-) -> Result<Option<Row>, AllocError>
-    requires { keys (N.rows new.now) ≡ half.now.live }
-    ensures { IfOk result (λ row. row ≡ get (N.rows new.now) ordinal) }
-{
-    if !half.live.contains(ordinal) {
-        return Ok(None);
+    /// Writes the set or map under an ordinal that has one at its place, its buckets from a start on, and answers where they end.
+    ///
+    /// Memory is taken for the set or map.
+    fn put_run(
+        &self,
+        alloc: Global,
+        widths: &[u32],
+        first: &mut [u64],
+        second: &mut [u64],
+        ordinal: u32,
+        start: u64,
+    ) -> Result<u64, AllocError>
+        requires suits { (shape : Shape) × HasRuns shape × suits self.now shape }
+        requires live { IsSome (get (rows self.now) ordinal) }
+        requires room { HasRunRoom widths.now first.old second.old ordinal start (get (rows self.now) ordinal) }
+        ensures { IfOk result (λ end. IsRunPut widths.now first.old second.old first.new second.new ordinal start end (get (rows self.now) ordinal)) }
+    {
+        let row = self.new_row(alloc, ordinal)?;
+        Ok(put_run(widths, first, second, u64::from(ordinal), start, Some(&row)))
     }
-    Ok(Some(new.new_row(alloc, ordinal)?))
 }

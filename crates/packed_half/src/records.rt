@@ -1,5 +1,5 @@
 //! Records, laid out in the words of a half.
-ghost use Rattle.std.specs.Prelude.{◌≡◌, ◌*◌, ℕ, List, [], length, replicate, sum, IfOk, OnOk};
+ghost use Rattle.std.specs.Prelude.{◌≡◌, ◌*◌, ℕ, List, [], length, replicate, sum, OnOk};
 ghost use Rattle.std.specs.FinMap.{get, keys};
 ghost use Rattle.bit_array.specs.Element.{words_of};
 ghost use Rattle.schema_model.specs.Parts.{shape_fields};
@@ -12,6 +12,7 @@ ghost use Rattle.packed_half.specs.Laying.{CanLay, ArePlaced, places_in};
 use crate::bytes::put_areas;
 use crate::{HalfShape, NewRows};
 use hol_varint::Octets;
+use object_codec::no_bytes;
 use schema_model::Schema;
 use std::alloc::{AllocError, Global};
 use type_rows::place_count;
@@ -36,17 +37,6 @@ pub(crate) fn lay_records<N: NewRows>(
     put_records(alloc, schema, half, new, first, areas.as_mut_slice())?;
     put_areas(bytes, areas.as_slice());
     Ok(())
-}
-
-/// The bytes of so many fields before any is written.
-fn no_bytes(alloc: Global, fields: usize) -> Result<Vec<Octets>, AllocError>
-    ensures { IfOk result (λ areas. areas.items ≡ replicate fields []) }
-{
-    let mut areas = Vec::with_capacity(alloc, fields)?;
-    for _ in 0..fields {
-        areas.push(Octets::new(alloc))?;
-    }
-    Ok(areas)
 }
 
 /// Writes the records of all places, and adds the bytes of each field behind one another.

@@ -2,15 +2,12 @@
 ghost use Rattle.std.specs.Prelude.{◌≡◌, IsSomeAnd, Some};
 ghost use Rattle.serde_json.specs.View.{view};
 ghost use Rattle.closed_rows.specs.Dangling.{IsPlain};
-ghost use Rattle.row_model.specs.Row.{stored_value};
 ghost use Rattle.schema_model.specs.WalkPath.{part_kind};
-ghost use Rattle.json_values.specs.KeyFrom.{TellsPart, if_stored, key_part};
-ghost use Rattle.json_values.specs.ReadValue.{read_value};
 ghost use Rattle.hollow_machine.specs.WalkOrders.{kind_walked};
 ghost use Rattle.reach_orders.specs.Walked.{TellsEnd};
 
 use hol_paths::type_behind;
-use json_values::{KeyFault, ValueFault, value_from};
+use json_values::{KeyFault, part_from};
 use row_model::Value as FieldValue;
 use schema_model::{FieldKind, Model, Shape, WalkPart, WalkPath};
 use serde_json::Value;
@@ -58,29 +55,5 @@ fn field_kind(shape: &Shape, part: WalkPart) -> &FieldKind
     match (shape, part) {
         (Shape::Object(_, fields), WalkPart::Field(place)) => &fields.get(place as usize).kind,
         _ => unreachable!(),
-    }
-}
-
-// The value of a kind, which is not null.
-fn part_from(alloc: Global, kind: &FieldKind, value: &Value) -> Result<FieldValue, KeyFault>
-    requires plain { IsPlain kind.now }
-    ensures { TellsPart (key_part (read_value kind.now (view value.now))) result }
-{
-    match value_from(alloc, kind, value) {
-        Ok(value) => unless_null(value),
-        Err(ValueFault::Memory) => Err(KeyFault::Memory),
-        Err(ValueFault::Field(_)) => Err(KeyFault::Shape),
-    }
-}
-
-// A value that is not null once it is stored.
-fn unless_null(value: FieldValue) -> Result<FieldValue, KeyFault>
-    ensures { TellsPart (if_stored value (stored_value value)) result }
-{
-    match value {
-        FieldValue::Null | FieldValue::Int(i32::MIN) | FieldValue::Long(i64::MIN) => {
-            Err(KeyFault::Shape)
-        }
-        value => Ok(value),
     }
 }

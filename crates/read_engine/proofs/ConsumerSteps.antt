@@ -12,7 +12,7 @@ use Rattle.blob_faults.specs.Judge.{◌>>=◌, each_of, item_at, nothing}
 use Rattle.blob_faults.specs.Rows.{closed, moves}
 use Rattle.delta_blob.specs.Reads.{IsCountLimit, IsDeltaFault, IsWholePart, TellsDelta}
 use Rattle.row_model.specs.Table.{RowMap, Table}
-use Rattle.row_faults.specs.MoveFault.{FailsMove}
+use Rattle.type_rows.specs.MoveFault.{FailsMove}
 use Rattle.schema_model.specs.declared.limit.Limit.{Limit}
 use Rattle.schema_model.specs.declared.limit.Limit.TheVariants.{Bytes, Items, Ordinals, Words}
 use Rattle.schema_model.specs.declared.schema.Shape.{Shape}

@@ -3,7 +3,6 @@
 use Rattle.std.specs.Prelude.{◌≡◌, ◌≢◌, ◌≤◌, ◌<◌, ◌⊎◌, ℕ, ℤ, List, [], Option, Some, None, Result, Ok, Err, IsErrAnd, length, slice_get}
 use Rattle.std.specs.Option.{option_map}
 use Rattle.hol_io.specs.declared.name.BlobName.{BlobName}
-use Rattle.hol_io.specs.declared.name.BlobName.TheVariants.{Delta, Reverse}
 use Rattle.schema_model.specs.declared.limit.Limit.TheVariants.{Blob}
 use Rattle.schema_model.specs.Limit.{number_of_limit}
 use Rattle.type_rows.specs.Layout.{Layout}
@@ -62,12 +61,6 @@ pub record FollowsFrom (from to : Position) : Type 0 where
   pub before : to.before ≡ rows_now from
   pub indexes : to.indexes ≡ from.indexes
   pub walks : KeepsWalks from.schemas (rows_now to) from.walks to.walks
-
--- The name is that of a delta or of a reverse delta.
-abbrev pub IsStepName : BlobName → Type 0
-IsStepName (Delta from to) = Unit {0}
-IsStepName (Reverse from to) = Unit {0}
-IsStepName _ = ⊥
 
 -- What each answer to a load tells of what the name holds, by the position behind it.
 abbrev pub TellsLoad : BlobName → Option (List ℕ) → Option Position → Result (Unit {0}) BlobFault → Type 0

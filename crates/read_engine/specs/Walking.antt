@@ -2,10 +2,10 @@
 use Rattle.std.specs.Prelude.{◌≡◌, ℕ, ℤ, pos, List, [], Option, None, Some, Result, IfErr, IfSome, IsSome, IsSomeAnd, OnErr, OnOk, Ok}
 use Rattle.std.proofs.Common.{◌∙◌, inl, inr, sym}
 use Rattle.hol_io.specs.declared.name.BlobName.TheVariants.{Snapshot}
+use Rattle.hol_io.specs.Name.{step_name}
 use Rattle.hol_io.specs.Store.{Store, told}
 use Rattle.schema_model.specs.declared.schema.Schema.{Schema}
 use Rattle.row_model.specs.Table.{Table}
-use Rattle.chain_check.specs.Walk.{name_of_step}
 use Rattle.blob_frame.specs.declared.fault.BlobFault.{BlobFault}
 use Rattle.snapshot_blob.specs.Snapshot.{IsSnapshotFault}
 use Rattle.read_engine.specs.Position.{Position, rows_now}
@@ -36,9 +36,9 @@ pub record WalksLoad (held : Option Store) (version : ℕ) (before now : Option 
 
 -- What a step from a version to another one answers from a position: what a consumer's step does along the delta or the reverse delta between them.
 pub record StepsOn (held : Option Store) (from to : ℕ) (at : Position) (now : Option Position) (answer : Result (Unit {0}) BlobFault) : Type 0 where
-  pub tells : IfSome held (λ store. TellsStep (name_of_step from to) (told held (name_of_step from to)) at now answer)
-  pub exact : IfSome held (λ store. StepsExactly (name_of_step from to) (told held (name_of_step from to)) at now answer)
-  pub kind : IfErr answer (IsStepFault (name_of_step from to) at.tag)
+  pub tells : IfSome held (λ store. TellsStep (step_name from to) (told held (step_name from to)) at now answer)
+  pub exact : IfSome held (λ store. StepsExactly (step_name from to) (told held (step_name from to)) at now answer)
+  pub kind : IfErr answer (IsStepFault (step_name from to) at.tag)
 
 -- The same of a walker, which has a position and keeps one.
 pub record WalksStep (held : Option Store) (from to : ℕ) (before now : Option Position) (answer : Result (Unit {0}) BlobFault) : Type 0 where

@@ -1,9 +1,10 @@
 //! A consumer: at first it has no state; a load gives it one, and steps move it.
 ghost use Rattle.std.specs.Prelude.{◌≡◌, ◌≢◌, ◌≤◌, ◌<◌, ◌↔◌, ◌⊎◌, Contains, Err, IfErr, IfSome, IsSome, IsSomeAnd, IsTrue, MatchOption, None, OnErr, OnOk, length, map};
-ghost use Rattle.std.specs.FinMap.{values};
+ghost use Rattle.std.specs.FinMap.{keys, values};
 ghost use Rattle.std.specs.Option.{option_map};
 ghost use Rattle.hol_io.specs.declared.name.BlobName.TheVariants.{Snapshot};
 ghost use Rattle.hol_io.specs.Causes.{Rose};
+ghost use Rattle.hol_io.specs.Name.{IsStepName};
 ghost use Rattle.hol_io.specs.Store.{told};
 ghost use Rattle.row_model.specs.Table.{row_at};
 ghost use Rattle.bucket_codec.specs.Run.{FindsIn};
@@ -16,7 +17,7 @@ ghost use Rattle.state_moves.specs.Halves.{current_halves};
 ghost use Rattle.read_engine.specs.Gone.{AreGone, HasLeft};
 ghost use Rattle.read_engine.specs.Indexes.{CountsStep};
 ghost use Rattle.read_engine.specs.Position.{IsOfType, IsPosition, Position, rows_now};
-ghost use Rattle.read_engine.specs.Taking.{CountsPart, FollowsFrom, IsStepFault, IsStepName, LoadsExactly, StepsExactly, TellsLoad, TellsStep};
+ghost use Rattle.read_engine.specs.Taking.{CountsPart, FollowsFrom, IsStepFault, LoadsExactly, StepsExactly, TellsLoad, TellsStep};
 ghost use Rattle.read_engine.specs.Walking.{schemas_at, table_at, tag_at};
 
 use crate::indexes::KeyIndexes;
@@ -222,6 +223,14 @@ impl Consumer {
         ensures { IsSomeAnd self.now (λ position. FindsIn (pairs_of (row_at (rows_now position) type_index ordinal)) key result) }
     {
         self.states.get(type_index as usize).at(ordinal, key)
+    }
+
+    /// How many rows of a type are live.
+    pub fn live_count(&self, type_index: u32) -> u64
+        requires { IsSomeAnd self.now (λ position. type_index < length position.schemas) }
+        ensures { IsSomeAnd self.now (λ position. IsOfType position type_index (λ schema half. result ≡ length (keys half.rows))) }
+    {
+        self.states.get(type_index as usize).live_count()
     }
 
     /// How many words the rows of a type take where they stand.

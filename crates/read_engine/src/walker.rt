@@ -1,8 +1,7 @@
 //! A consumer that walks along a chain.
 ghost use Rattle.std.specs.Prelude.{◌≡◌, ◌≢◌, ◌≤◌, ◌<◌, Err, IsSome, None};
 ghost use Rattle.hol_io.specs.Causes.{Rose};
-ghost use Rattle.chain_check.specs.Walk.{name_of_step};
-ghost use Rattle.read_engine.specs.Taking.{IsStepName};
+ghost use Rattle.hol_io.specs.Name.{IsStepName, step_name};
 ghost use Rattle.read_engine.specs.Walking.{WalksStep, schemas_at, table_at};
 
 use crate::Consumer;
@@ -168,17 +167,5 @@ fn step_along<S: BlobStore, L: Ledger>(
     let mut steps = Steps::<L>::new(blank);
     walker
         .consumer
-        .step(store, &step_name(from, to), &mut steps)
-}
-
-// The blob that leads from a version to another one.
-fn step_name(from: u64, to: u64) -> BlobName
-    ensures name { result ≡ name_of_step from to }
-    ensures step { IsStepName result }
-{
-    if from < to {
-        BlobName::Delta(from, to)
-    } else {
-        BlobName::Reverse(from, to)
-    }
+        .step(store, &BlobName::between(from, to), &mut steps)
 }

@@ -4,6 +4,7 @@ ghost use Rattle.record_copies.specs.Column.{CanShift, IsShifted, Lies, start_in
 
 use crate::run::Run;
 use bit_array::{element, set_element};
+use object_codec::EndOffset;
 
 /// Where the elements of a field stand: in records of a size, behind the bits of the fields before it.
 #[derive(Clone, Copy)]
@@ -30,7 +31,7 @@ impl Column {
             return 0;
         }
         let at = (place - 1) * self.size + self.before;
-        element(words, at, self.width) % (1 << (self.width - 1))
+        EndOffset::of(element(words, at, self.width), self.width).end
     }
 
     /// Makes each element of a run less by one number and greater by another.

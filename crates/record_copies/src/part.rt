@@ -1,5 +1,5 @@
 //! The part of one field, copied into an element of another width and behind other bytes.
-ghost use Rattle.std.specs.Prelude.{ℕ, List, ◌≡◌, ◌+◌, ◌-◌, ◌*◌, ◌^◌, ◌<◌, ◌≤◌, ◌++◌, length, map, take, drop, IfOk, OnOk, IsTrue, IsFalse, Some};
+ghost use Rattle.std.specs.Prelude.{◌≡◌, ◌+◌, ◌-◌, ◌^◌, ◌<◌, ◌≤◌, length, IfOk, Some};
 ghost use Rattle.row_model.specs.Areas.{area_of};
 ghost use Rattle.row_model.specs.declared.row.Value.{Value};
 ghost use Rattle.object_codec.specs.Cell.{IsWithin};
@@ -12,6 +12,7 @@ use crate::cell::Cell;
 use crate::source::RecordSource;
 use bit_array::all_ones;
 use hol_varint::Octets;
+use object_codec::EndOffset;
 use schema_model::FieldKind;
 use std::alloc::{AllocError, Global};
 
@@ -57,26 +58,14 @@ fn take_run<S: RecordSource>(
         - (part_at (S.record_words from.now) cell.size cell.place cell.before cell.width (area_of (S.field_bytes from.now) cell.field)).start) < 2 ^ (width - 1) }
     ensures { IfOk result (λ element. IsRunTaken (part_at (S.record_words from.now) cell.size cell.place cell.before cell.width (area_of (S.field_bytes from.now) cell.field)) width element area.old area.new) }
 {
-    let null_bit = 1 << (cell.width - 1);
-    let element = cell.element(from.words());
+    let there = EndOffset::of(cell.element(from.words()), cell.width);
     let start = cell.start(from.words());
-    from.push_run(alloc, cell.field, start, element % null_bit, area)?;
-    Ok(end_element(width, area.len() as u64, element >= null_bit))
-}
-
-/// The element of a STRING or BYTES whose bytes end at `end`, with the null bit for a null.
-#[inline(always)]
-fn end_element(width: u32, end: u64, is_null: bool) -> u64
-    requires some { 1 ≤ width }
-    requires narrow { width ≤ 64 }
-    requires end { end < 2 ^ (width - 1) }
-    ensures null { IsTrue is_null → result ≡ end + 2 ^ (width - 1) }
-    ensures some { IsFalse is_null → result ≡ end }
-{
-    if is_null {
-        return end + (1 << (width - 1));
-    }
-    end
+    from.push_run(alloc, cell.field, start, there.end, area)?;
+    let moved = EndOffset {
+        end: area.len() as u64,
+        ..there
+    };
+    Ok(moved.element(width))
 }
 
 /// The element of a number in another width: all ones, which is null, stays all ones.

@@ -14,18 +14,18 @@ pub record IsPrintedFront {A : Type 0} (Prints : A → Data → Type 0) (nodes :
   pub parts : AllZip Prints (take i xs) printed
   pub spent : now + count_of nodes (take i xs) ≡ before
 
-count_append : {A : Type 0} (nodes : A → ℕ) (xs : List A) (x : A) → count_of nodes (xs ++ x ∷ []) ≡ count_of nodes xs + nodes x
+pub count_append : {A : Type 0} (nodes : A → ℕ) (xs : List A) (x : A) → count_of nodes (xs ++ x ∷ []) ≡ count_of nodes xs + nodes x
 count_append nodes [] x = omega arith
 count_append nodes (y ∷ xs) x = let rest = count_append nodes xs x in omega (arith, rest)
 
 -- a front has no more nodes than the whole
-front_count : {A : Type 0} (nodes : A → ℕ) (xs : List A) (i : ℕ) → count_of nodes (take i xs) ≤ count_of nodes xs
+pub front_count : {A : Type 0} (nodes : A → ℕ) (xs : List A) (i : ℕ) → count_of nodes (take i xs) ≤ count_of nodes xs
 front_count nodes xs zero = omega arith
 front_count nodes [] (suc i) = omega arith
 front_count nodes (x ∷ xs) (suc i) = let rest = front_count nodes xs i in omega (arith, rest)
 
 -- the front with one thing more
-longer : {A : Type 0} (xs : List A) (i : ℕ) (x : A) → i < length xs → x ≡ slice_index_or xs i x → take (i + 1) xs ≡ take i xs ++ x ∷ []
+pub longer : {A : Type 0} (xs : List A) (i : ℕ) (x : A) → i < length xs → x ≡ slice_index_or xs i x → take (i + 1) xs ≡ take i xs ++ x ∷ []
 longer xs i x inside at = take_more xs i x inside ∙ ap (λ y. take i xs ++ y ∷ []) (sym at)
 
 pub printed_none : {A : Type 0} (Prints : A → Data → Type 0) (nodes : A → ℕ) (xs : List A) (before : ℕ) → IsPrintedFront Prints nodes xs 0 before before []

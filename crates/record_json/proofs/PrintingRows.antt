@@ -33,7 +33,7 @@ told_as seen P Q n m before after (Err Nodes) each same told = subst (λ k. befo
 told_as seen P Q n m before after (Err Memory) each same told = tt
 
 -- one node more was taken off before
-told_after : {A T : Type 0} (seen : T → A) (P Q : A → Type 0) (n m before between after : ℕ) (r : Result T PrintFault) → between + 1 ≡ before → ((x : A) → P x → Q x) → 1 + n ≡ m
+pub told_after : {A T : Type 0} (seen : T → A) (P Q : A → Type 0) (n m before between after : ℕ) (r : Result T PrintFault) → between + 1 ≡ before → ((x : A) → P x → Q x) → 1 + n ≡ m
     → TellsPrinted seen P n between after r → TellsPrinted seen Q m before after r
 told_after seen P Q n m before between after (Ok x) one each same told = let spent = told.1 in (each (seen x) told.0, omega (arith, one, same, spent))
 told_after seen P Q n m before between after (Err Nodes) one each same told = omega (arith, one, same, told)
@@ -59,7 +59,7 @@ trees_print Prints f [] (part ∷ parts) each = absurd each
 trees_print Prints f (x ∷ xs) [] each = absurd each
 trees_print Prints f (x ∷ xs) (part ∷ parts) each = (each.0, trees_print Prints f xs parts each.1)
 
-trees_count : {A : Type 0} (f : A → PlainTree) (xs : List A) → count_of (λ x. node_count (f x)) xs ≡ node_count_of_trees (trees_of_list (map f xs))
+pub trees_count : {A : Type 0} (f : A → PlainTree) (xs : List A) → count_of (λ x. node_count (f x)) xs ≡ node_count_of_trees (trees_of_list (map f xs))
 trees_count f [] = refl
 trees_count f (x ∷ xs) = ap (λ n. node_count (f x) + n) (trees_count f xs)
 
@@ -70,7 +70,7 @@ pairs_print Prints f [] (part ∷ parts) each = absurd each
 pairs_print Prints f (x ∷ xs) [] each = absurd each
 pairs_print Prints f (x ∷ xs) (part ∷ parts) each = (each.0, pairs_print Prints f xs parts each.1)
 
-pairs_count : {A : Type 0} (f : A → PlainTree × PlainTree) (xs : List A) → count_of (λ x. count_pair (f x)) xs ≡ node_count_of_pairs (pairs_of_list (map f xs))
+pub pairs_count : {A : Type 0} (f : A → PlainTree × PlainTree) (xs : List A) → count_of (λ x. count_pair (f x)) xs ≡ node_count_of_pairs (pairs_of_list (map f xs))
 pairs_count f [] = refl
 pairs_count f (x ∷ xs) = let rest = pairs_count f xs in omega (arith, rest)
 
@@ -147,7 +147,7 @@ module _ (schemas : List Schema) (table : Table) where
     pub named_deep : 1 ≤ depth
     named_deep = deep_enough schemas depth t (type_inside schemas name t (sym is)) there_at.1
 
-    again : suc (depth - 1) ≡ depth
+    pub again : suc (depth - 1) ≡ depth
     again = let deep = named_deep in omega (arith, deep)
 
     pub named_shallow : IsShallow schemas (suc (depth - 1)) t
@@ -185,7 +185,7 @@ none_at : (schemas : List Schema) (depth : ℕ) (o : Option ℕ) (value : Value)
 none_at schemas depth None value printed prints = prints
 none_at schemas depth (Some t) value printed prints = none_within schemas depth t value printed prints
 
-reference_prints : (schemas : List Schema) (depth : ℕ) (name : Name) (tree : PlainTree) (printed : Data) → PrintsNamed schemas depth name tree printed → PrintsReference (PrintsNamed schemas depth) name tree printed
+pub reference_prints : (schemas : List Schema) (depth : ℕ) (name : Name) (tree : PlainTree) (printed : Data) → PrintsNamed schemas depth name tree printed → PrintsReference (PrintsNamed schemas depth) name tree printed
 reference_prints schemas depth name (leaf value) printed prints = absurd (none_at schemas depth (index_of_type schemas name) value printed prints)
 reference_prints schemas depth name (object trees) printed prints = prints
 reference_prints schemas depth name (list trees) printed prints = prints

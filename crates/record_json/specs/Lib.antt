@@ -1,3 +1,4 @@
+pub mod Forms
 pub mod InRange
 pub mod KeysApart
 pub mod NamesApart

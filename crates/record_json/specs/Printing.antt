@@ -1,5 +1,5 @@
 -- Which rows can be printed, what their trees are by the names of their types, and what each answer tells of them.
-use Rattle.std.specs.Prelude.{List, [], ◌∷◌, ℕ, ◌+◌, ◌<◌, ◌≡◌, Result, Ok, Err, All, IsSomeAnd, zip}
+use Rattle.std.specs.Prelude.{List, [], ◌∷◌, ℕ, ◌+◌, ◌<◌, ◌≡◌, Some, Result, Ok, Err, All, IsSomeAnd, length, zip}
 use Rattle.std.specs.List.{AllZip}
 use Rattle.serde_json.specs.Data.{Data, array, object}
 use Rattle.serde_json.specs.View.{items_of}
@@ -7,13 +7,16 @@ use Rattle.schema_model.specs.declared.schema.name.Name.{Name}
 use Rattle.schema_model.specs.declared.schema.Field.{Field}
 use Rattle.schema_model.specs.declared.schema.FieldKind.{FieldKind}
 use Rattle.schema_model.specs.declared.schema.Schema.{Schema}
+use Rattle.row_model.specs.declared.row.Row.{Row}
 use Rattle.row_model.specs.declared.row.Value.{Value}
 use Rattle.schema_model.specs.Model.{HasChain, type_graph}
 use Rattle.schema_model.specs.Parts.{field_names, index_of_type}
 use Rattle.row_model.specs.PlainTree.{PlainTree, node_count}
 use Rattle.row_model.specs.Row.{FitsKind, references_of_value}
-use Rattle.row_model.specs.Table.{Table, IsLive}
+use Rattle.row_model.specs.Table.{Table, IsLive, row_at}
+use Rattle.row_model.specs.Key.{value_in}
 use Rattle.row_model.specs.Unfold.{tree_of_type, tree_of_value, unfold_within}
+use Rattle.json_rows.specs.RowLine.{PutsAll}
 use Rattle.json_rows.specs.StoredRow.{members_of_fields}
 use Rattle.record_json.specs.PrintTree.{PrintsAt, PrintsField, PrintsWithin}
 use Rattle.record_json.specs.declared.print_fault.PrintFault.{PrintFault}
@@ -81,3 +84,20 @@ abbrev pub TellsPrinted : {A T : Type 0} → (T → A) → (A → Type 0) → �
 TellsPrinted seen Prints nodes before after (Ok printed) = Prints (seen printed) × (after + nodes ≡ before)
 TellsPrinted seen Prints nodes before after (Err Nodes) = before < nodes
 TellsPrinted seen Prints nodes before after (Err Memory) = Unit {0}
+
+-- ---- what is put as text
+
+-- What each answer tells of the text of what prints: whatever it prints as, the text of that is put, and its nodes were taken off; or they are more than there were.
+abbrev pub TellsPut : (Data → Type 0) → ℕ → List ℕ → List ℕ → ℕ → ℕ → Result (Unit {0}) PrintFault → Type 0
+TellsPut Prints nodes old new before after result = TellsPrinted (λ (x : Unit {0}). x) (λ x. PutsAll Prints old new) nodes before after result
+
+-- under the ordinal stands a record with a value for each of these fields, and each of them can be printed
+abbrev pub HasRecord : List Schema → Table → ℕ → List Field → ℕ → ℕ → Type 0
+HasRecord schemas table depth fields t ordinal =
+    (values : List Value) × (row_at table t ordinal ≡ Some (Row.Object values)) × (length fields ≡ length values)
+    × All (λ valued. CanPrintValue schemas table depth valued.0.kind valued.1) (zip fields values)
+
+-- the record under the ordinal has a value of the field, which can be printed
+abbrev pub HasValue : List Schema → Table → ℕ → FieldKind → ℕ → ℕ → ℕ → Type 0
+HasValue schemas table depth kind t field ordinal =
+    (value : Value) × (value_in (row_at table t ordinal) field ≡ Some value) × CanPrintValue schemas table depth kind value

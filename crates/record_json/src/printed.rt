@@ -11,6 +11,7 @@ ghost use Rattle.record_json.specs.PrintTree.{PrintsField, PrintsPair, PrintsSha
 ghost use Rattle.record_json.specs.Printing.{CanPrint, CanPrintPair, CanPrintValue, IsFreePrint, IsShallow, PrintsItems, PrintsNamed, PrintsValued, TellsPrinted, count_of, count_pair, tree_of_field, unfold_named, unfold_pair};
 
 use crate::PrintFault;
+use crate::leaves::take_node;
 use json_rows::leaf_value;
 use row_model::{Row, Rows, Value as FieldValue};
 use schema_model::{Field, FieldKind, Name, Shape};
@@ -98,17 +99,6 @@ fn shaped_value<R: Rows>(
         }
         _ => unreachable!(),
     }
-}
-
-// Takes one node off.
-fn take_node(budget: &mut u64) -> Result<(), PrintFault>
-    ensures { TellsPrinted (λ (x : Unit {0}). x) (λ x. Unit {0}) 1 budget.old budget.new result }
-{
-    if *budget == 0 {
-        return Err(PrintFault::Nodes);
-    }
-    *budget -= 1;
-    Ok(())
 }
 
 // The record of the type of this name.

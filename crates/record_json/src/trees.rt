@@ -10,7 +10,7 @@ use crate::tree_parts::{list_of, map_of, object_of, pair_of, set_of};
 use crate::tree_values::{are_all_fields, value_tree};
 use json_values::ValueFault;
 use record_trees::{Tree, TreePairs, Trees};
-use schema_model::{Field, FieldKind, Model, Name, Reason, Shape};
+use schema_model::{Field, FieldKind, MAX_DEPTH, Model, Name, Reason, Shape};
 use serde_json::Value;
 use std::alloc::Global;
 
@@ -29,7 +29,7 @@ pub fn tree_from(
     requires { type_index < length model.now }
     ensures { TellsAs plain (read_tree model.now type_index (view value.now)) result }
 {
-    tree_within(alloc, model, 32, type_index, value)
+    tree_within(alloc, model, MAX_DEPTH, type_index, value)
 }
 
 // The record of a type that is no deeper than so many types.

@@ -17,7 +17,7 @@ use json::{Reader, Token};
 use record_stream::RECORD_DEPTH;
 use record_trees::Tree;
 use row_model::Row;
-use schema_model::{Model, Shape};
+use schema_model::{MAX_DEPTH, Model, Shape};
 use std::alloc::{AllocError, Global};
 
 /// A record that was read from its tokens.
@@ -134,5 +134,13 @@ fn whole_behind(
     requires { type_index < length model.now }
     ensures { IfOk result (λ tree. Takes (read_tree model.now type_index) record_depth (token_of token.entry ∷ reader.old) (plain tree) reader.new) }
 {
-    tree_behind(alloc, model, 32, type_index, token, reader, RECORD_DEPTH)
+    tree_behind(
+        alloc,
+        model,
+        MAX_DEPTH,
+        type_index,
+        token,
+        reader,
+        RECORD_DEPTH,
+    )
 }

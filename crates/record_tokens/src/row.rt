@@ -69,7 +69,7 @@ fn stored_leaf(alloc: Global, kind: &FieldKind, token: Token<'_>) -> Result<Valu
     ensures { IfOk result (λ value. (json : Data) × (found : RowValue) × (scalar (token_of token.entry) ≡ Some json) × (read_value kind.now json ≡ Ok found)
         × IsValueInRange found × (value ≡ stored_value found)) }
 {
-    Ok(stored(leaf_value(alloc, kind, token)?))
+    Ok(leaf_value(alloc, kind, token)?.stored())
 }
 
 // The value of a field of a kind without a reference, from its token, as it is read. A text goes into it at once.
@@ -85,15 +85,5 @@ fn leaf_value(alloc: Global, kind: &FieldKind, token: Token<'_>) -> Result<Value
         Ok(value) => Ok(value),
         Err(ValueFault::Field(_)) => Err(Unread::Other),
         Err(ValueFault::Memory) => Err(Unread::Memory),
-    }
-}
-
-// A value as a blob holds it: the least INT and LONG are null.
-fn stored(value: Value) -> Value
-    ensures { result ≡ stored_value value }
-{
-    match value {
-        Value::Int(i32::MIN) | Value::Long(i64::MIN) => Value::Null,
-        value => value,
     }
 }

@@ -1,4 +1,7 @@
 //! The rows of a type, and the values of a record.
+ghost use Rattle.std.specs.Prelude.{◌≡◌};
+ghost use Rattle.row_model.specs.Row.{stored_value};
+
 use crate::{Pairs, Values};
 use hol_varint::{Duplicate, Octets, Ordinals, Units};
 use std::alloc::{AllocError, Global};
@@ -20,6 +23,18 @@ pub enum Value {
     Bytes(Octets),
     /// The ordinal of a REFERENCE.
     Ref(u32),
+}
+
+impl Value {
+    /// The value as a blob holds it: the least INT and the least LONG are null.
+    pub fn stored(self) -> Value
+        ensures { result ≡ stored_value self }
+    {
+        match self {
+            Value::Int(i32::MIN) | Value::Long(i64::MIN) => Value::Null,
+            value => value,
+        }
+    }
 }
 
 impl Duplicate for Value {

@@ -11,18 +11,9 @@ use Rattle.object_codec.specs.Stored.{values_of_row, value_at, column, values_by
 use Rattle.object_codec.specs.Widths.{byte_count, records_of, rows_bytes}
 use Rattle.object_codec.proofs.ByteCounts.{byte_count-append}
 use Rattle.type_rows.specs.WordsHeld.{value_bytes, row_bytes, part_bytes, field_bytes, bytes_held}
+use Rattle.type_rows.proofs.ValueBytes.{value_count}
 use Rattle.row_packing.proofs.Greatest.{sum_same}
 use Rattle.row_packing.proofs.RowsUnder.{at_place}
-
--- the bytes of a value, counted
-value_count : (value : Value) → length (bytes_of_value value) ≡ value_bytes value
-value_count Value.Null = refl
-value_count (Value.Int number) = refl
-value_count (Value.Long number) = refl
-value_count (Value.Bool flag) = refl
-value_count (Value.Text units) = refl
-value_count (Value.Bytes bytes) = refl
-value_count (Value.Ref ordinal) = refl
 
 values_count : (values : List Value) → byte_count values ≡ sum_by value_bytes values
 values_count values = length-flat_map bytes_of_value values ∙ sum_same (λ value. length (bytes_of_value value)) value_bytes values value_count

@@ -6,6 +6,6 @@ mod growth;
 pub mod laws;
 mod same;
 
-pub use agreement::agree;
+pub use agreement::{agree, agree_by_place};
 pub use growth::grows;
 pub use same::same_schema;

@@ -15,4 +15,4 @@ pub mod Readable
 pub mod Reading
 pub mod SameFields
 pub mod SomeSeen
-pub mod Zeros
+pub mod BitsKept

@@ -1,5 +1,5 @@
 //! What a consumer sees of a blob's records: their elements, in words of its own.
-ghost use Rattle.std.specs.Prelude.{◌≡◌, ◌+◌, ◌-◌, ◌*◌, ◌^◌, ◌<◌, ◌≤◌, ◌⊎◌, ℕ, All, IfOk, IfSome, length, map, replicate, sum};
+ghost use Rattle.std.specs.Prelude.{◌≡◌, ◌+◌, ◌-◌, ◌*◌, ◌^◌, ◌<◌, ◌≤◌, ◌⊎◌, ℕ, All, IfOk, IfSome, length, map, sum};
 ghost use Rattle.bit_array.specs.Element.{AreWords, element_of, number_of, words_of};
 ghost use Rattle.seen_patches.specs.ByName.{item_named};
 ghost use Rattle.seen_patches.specs.Elements.{IsHeld, column_element, element_or, elements_in, elements_of};
@@ -7,7 +7,7 @@ ghost use Rattle.seen_patches.specs.Seen.{seen_elements, seen_widths};
 
 use crate::column::{Column, columns_of};
 use crate::named_fields::NamedFields;
-use bit_array::{all_ones, element, set_element, total_width, words_for};
+use bit_array::{all_ones, element, set_element, total_width, zeros};
 use row_model::Words;
 use schema_model::Field;
 use std::alloc::{AllocError, Global};
@@ -18,15 +18,6 @@ const MOST_PLACES: usize = 0x1000_0000;
 /// The most bits that are laid out, in 2^28 words. Within the limits there are fewer: 64 for each word that the limit lets the blob's columns have, and
 /// at each of 2^22 places 2 for each of 1,024 fields that the blob lacks.
 const MOST_BITS: u64 = 0x4_0000_0000;
-
-/// As many words of zeros as so many bits take.
-#[tactic(auto, using(crate::proofs::Zeros::zeros_long, crate::proofs::Zeros::zeros_below))]
-fn zeros(alloc: Global, bits: u64) -> Result<Vec<u64>, AllocError>
-    ensures long { IfOk result (λ words. length words.items ≡ words_of bits) }
-    ensures below { IfOk result (λ words. number_of words.items < 2 ^ bits) }
-{
-    vec![in alloc; 0; words_for(bits) as usize]
-}
 
 /// The element of a column at a place; all ones, which is null, where there is no column.
 #[inline(always)]

@@ -4,7 +4,7 @@ use Rattle.std.specs.Prelude.{All}
 use Rattle.std.proofs.lemmas.List.{length-map}
 use Rattle.std.proofs.lemmas.List.Elements.{All-map}
 use Rattle.row_model.specs.Table.{RowMap}
-use Rattle.row_faults.proofs.LoadFaults.{holds_at}
+use Rattle.type_rows.proofs.LoadFaults.{holds_at}
 use Rattle.blob_grammar.specs.Decided.{AreBytes}
 use Rattle.blob_faults.specs.Judge.{◌>>=◌, each_of, nothing}
 use Rattle.blob_faults.specs.Models.{are_model}

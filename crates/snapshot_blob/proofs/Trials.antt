@@ -13,7 +13,7 @@ use Rattle.closed_rows.specs.Dangling.{TellsDangling}
 use Rattle.row_model.specs.Table.{RowMap, Table, IsClosed}
 use Rattle.type_rows.specs.declared.fault.RowFault.{RowFault}
 use Rattle.type_rows.specs.declared.section.Section.{Section}
-use Rattle.row_faults.specs.LoadFault.{FailsLoad}
+use Rattle.type_rows.specs.LoadFault.{FailsLoad}
 use Rattle.type_state.specs.State.{Half, State}
 use Rattle.type_state.specs.Views.{next_halves, table_of}
 use Rattle.blob_frame.specs.declared.fault.BlobFault.{BlobFault}

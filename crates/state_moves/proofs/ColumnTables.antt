@@ -7,7 +7,7 @@ use Rattle.object_codec.specs.declared.column.Column.{Column}
 use Rattle.row_model.specs.declared.row.Row.{Row}
 use Rattle.row_model.specs.Table.{RowMap}
 use Rattle.column_rows.specs.declared.items.PackedItems.{PackedItems}
-use Rattle.type_views.specs.OneType.{AreListsIn, AreRunsIn, IsColumnIn}
+use Rattle.column_rows.specs.OneType.{AreListsIn, AreRunsIn, IsColumnIn}
 use Rattle.row_model.specs.Before.{PastPart, left_rows, rows_before}
 use Rattle.state_moves.proofs.PastRows.{live_kept}
 

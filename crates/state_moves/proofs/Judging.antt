@@ -12,7 +12,7 @@ use Rattle.closed_rows.specs.Dangling.{TellsDangling}
 use Rattle.row_model.specs.Table.{IsClosed, RowMap, Table}
 use Rattle.type_rows.specs.declared.fault.RowFault.{RowFault}
 use Rattle.type_rows.specs.declared.patch.PatchSection.{PatchSection}
-use Rattle.row_faults.specs.MoveFault.{FailsMove}
+use Rattle.type_rows.specs.MoveFault.{FailsMove}
 use Rattle.type_state.specs.State.{State}
 use Rattle.type_state.specs.Views.{table_of}
 use Rattle.delta_blob.specs.declared.patch.PatchPart.{PatchPart}

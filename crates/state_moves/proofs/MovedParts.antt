@@ -7,7 +7,7 @@ use Rattle.row_model.specs.Table.{IsClosed, IsTableOf}
 use Rattle.type_rows.specs.Patches.{IsReadablePatch}
 use Rattle.type_state.specs.State.{Half, State}
 use Rattle.type_state.specs.Views.{table_of}
-use Rattle.type_views.specs.Content.{Content}
+use Rattle.column_rows.specs.Content.{Content}
 use Rattle.delta_blob.specs.declared.patch.PatchPart.{PatchPart}
 use Rattle.delta_blob.specs.Reads.{IsWholePart}
 use Rattle.blob_frame.specs.declared.fault.BlobFault.{BlobFault}

@@ -16,7 +16,7 @@ use Rattle.row_model.specs.declared.row.Row.{Row}
 use Rattle.row_model.specs.Table.{RowMap}
 use Rattle.row_model.proofs.RowEntries.{skips, finds}
 use Rattle.row_model.specs.Before.{PastPart, is_new, left_rows, rows_before, with_rows}
-use Rattle.type_views.specs.OneType.{IsRowsBound}
+use Rattle.column_rows.specs.OneType.{IsRowsBound}
 use Rattle.state_moves.specs.Past.{IsLeftAt}
 
 -- ---- numbers that rise

@@ -30,19 +30,19 @@ use Rattle.type_rows.specs.Loads.{SectionIs, Spells}
 use Rattle.type_rows.specs.Patches.{AddsRows, IsMovedBy, IsReadablePatch, MovesRows, patch_layout, places_in}
 use Rattle.type_rows.specs.WordsHeld.{bytes_held}
 use Rattle.type_rows.proofs.Removal.{has_or}
-use Rattle.row_faults.specs.First.{FirstFails, NoneFails}
-use Rattle.row_faults.specs.LoadFault.{FailsLoad}
-use Rattle.row_faults.specs.MoveFault.{AddedPass, FailsMove, LeadsTo, OrdinalsPass, RemovedPass, StayingPass, move_tests}
-use Rattle.row_faults.specs.Ordinals.{FailsAdded, FailsRemoved, StaysOutside}
+use Rattle.type_rows.specs.First.{FirstFails, NoneFails}
+use Rattle.type_rows.specs.LoadFault.{FailsLoad}
+use Rattle.type_rows.specs.MoveFault.{AddedPass, FailsMove, LeadsTo, OrdinalsPass, RemovedPass, StayingPass, move_tests}
+use Rattle.type_rows.specs.Ordinals.{FailsAdded, FailsRemoved, StaysOutside}
 use Rattle.type_rows.specs.Fails.{Fails}
-use Rattle.row_faults.specs.Places.{FirstPlaceFails}
-use Rattle.row_faults.specs.Sums.{IsOfRows}
-use Rattle.row_faults.specs.Tests.{LeadsHeld}
-use Rattle.row_faults.specs.Widths.{FirstUnheld}
-use Rattle.row_faults.proofs.FoundRows.{row_there}
-use Rattle.row_faults.proofs.LoadFaults.{holds_at}
-use Rattle.row_faults.proofs.MoveFaults.{key_of_live, live_key}
-use Rattle.row_faults.proofs.OnceFirst.{some_once}
+use Rattle.type_rows.specs.Places.{FirstPlaceFails}
+use Rattle.type_rows.specs.Sums.{IsOfRows}
+use Rattle.type_rows.specs.Tests.{LeadsHeld}
+use Rattle.type_rows.specs.Widths.{FirstUnheld}
+use Rattle.type_rows.proofs.FoundRows.{row_there}
+use Rattle.type_rows.proofs.LoadFaults.{holds_at}
+use Rattle.type_rows.proofs.MoveFaults.{key_of_live, live_key}
+use Rattle.type_rows.proofs.OnceFirst.{some_once}
 use Rattle.type_state.proofs.PassedOrdinals.{addable, fails_adds, removable}
 use Rattle.blob_faults.specs.Blame.{row_blame}
 use Rattle.blob_faults.specs.Judge.{◌>>=◌, each_of, item_at, nothing}

@@ -8,13 +8,12 @@ ghost use Rattle.state_moves.specs.Halves.{current_halves};
 ghost use Rattle.row_model.specs.Before.{FitsPast, rows_before, table_before};
 
 use crate::past::{PastPart, part_at};
-use column_rows::PackedItems;
+use column_rows::{OneType, PackedItems, RowsByType, StateRows, TypeColumns, TypeRows};
 use object_codec::Column;
 use row_model::{LentRow, Row};
 use schema_model::Model;
 use std::alloc::{AllocError, Global};
 use type_state::{PackedRows, TypeState, state_at};
-use type_views::{OneType, RowsByType, StateRows, TypeColumns, TypeRows};
 
 /// The rows before the last step of the types of a model.
 pub type Before<'a> = StateRows<'a, TypesBefore<'a>>;
@@ -40,7 +39,7 @@ impl<'a> std::marker::Model for TypesBefore<'a> {
     ghost use Rattle.std.specs.List.{AllZip};
     ghost use Rattle.row_model.specs.Table.{Table};
     ghost use Rattle.type_state.specs.Views.{table_of};
-    ghost use Rattle.type_views.specs.Content.{table_code};
+    ghost use Rattle.column_rows.specs.Content.{table_code};
     ghost use Rattle.state_moves.specs.Halves.{current_halves};
     ghost use Rattle.row_model.specs.Before.{FitsPast, table_before};
 
@@ -78,7 +77,7 @@ pub struct RowsBefore<'a> {
 
 impl<'a> std::marker::Model for RowsBefore<'a> {
     ghost use Rattle.row_model.specs.Table.{RowMap};
-    ghost use Rattle.type_views.specs.Content.{rows_code};
+    ghost use Rattle.column_rows.specs.Content.{rows_code};
     ghost use Rattle.row_model.specs.Before.{FitsPast, rows_before};
 
     ghost Value = { RowMap };

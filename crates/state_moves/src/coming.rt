@@ -4,9 +4,9 @@ ghost use Rattle.type_state.specs.Views.{table_of};
 ghost use Rattle.state_moves.specs.Moving.{AreComing, coming_half, coming_halves};
 
 use crate::moved::is_named;
+use column_rows::{RowsByType, StateRows};
 use schema_model::Model;
 use type_state::{PackedRows, TypeState, state_at};
-use type_views::{RowsByType, StateRows};
 
 /// The rows that come in a step, by the types of a model.
 pub type Coming<'a> = StateRows<'a, ComingTypes<'a>>;
@@ -31,7 +31,7 @@ impl<'a> std::marker::Model for ComingTypes<'a> {
     ghost use Rattle.std.specs.List.{AllZip};
     ghost use Rattle.row_model.specs.Table.{Table};
     ghost use Rattle.type_state.specs.Views.{table_of};
-    ghost use Rattle.type_views.specs.Content.{table_code};
+    ghost use Rattle.column_rows.specs.Content.{table_code};
     ghost use Rattle.state_moves.specs.Moving.{IsComingLaid, coming_halves};
 
     ghost Value = { Table };

@@ -4,9 +4,9 @@ ghost use Rattle.row_model.specs.Table.{IsTableOf, row_at};
 ghost use Rattle.type_state.specs.Views.{table_of};
 ghost use Rattle.state_moves.specs.Halves.{current_halves};
 
+use column_rows::{RowsByType, StateRows};
 use schema_model::Model;
 use type_state::{PackedRows, TypeState, state_at};
-use type_views::{RowsByType, StateRows};
 
 /// The current rows of the types of a model.
 pub type Now<'a> = StateRows<'a, CurrentTypes<'a>>;

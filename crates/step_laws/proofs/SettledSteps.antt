@@ -10,8 +10,8 @@ use Rattle.row_model.specs.BothStates.{rows_in}
 use Rattle.row_model.specs.Table.{Table}
 use Rattle.type_rows.specs.Patches.{places_in}
 use Rattle.type_state.specs.Views.{table_of}
-use Rattle.row_faults.proofs.LoadFaults.{holds_at}
-use Rattle.row_faults.proofs.OnceFirst.{some_once}
+use Rattle.type_rows.proofs.LoadFaults.{holds_at}
+use Rattle.type_rows.proofs.OnceFirst.{some_once}
 use Rattle.blob_grammar.specs.Decided.{AreBytes}
 use Rattle.blob_frame.specs.declared.fault.BlobFault.{BlobFault}
 use Rattle.blob_frame.specs.declared.fault.BlobFault.TheVariants as fault

@@ -20,7 +20,7 @@ use Rattle.type_rows.specs.Patches.{AddsRows, IsMovedBy, MovesRows, patch_layout
 use Rattle.seen_patches.proofs.Patched.{ordinals_kept}
 use Rattle.type_state.specs.State.{Half}
 use Rattle.type_state.specs.Views.{table_of}
-use Rattle.row_faults.proofs.OnceFirst.{some_once}
+use Rattle.type_rows.proofs.OnceFirst.{some_once}
 use Rattle.delta_blob.specs.declared.part.DeltaPart.{DeltaPart}
 use Rattle.delta_blob.specs.declared.patch.PatchPart.{PatchPart}
 use Rattle.delta_blob.specs.Fits.{Fits, FitsTable, HoldsTable}

@@ -1,10 +1,10 @@
 //! How many variable bytes and how many items values and rows have.
 ghost use Rattle.std.specs.Prelude.{◌≡◌, ◌-◌, ◌^◌, ◌<◌, min, sum_by};
 ghost use Rattle.bucket_codec.specs.BucketCount.{bucket_count};
-ghost use Rattle.type_rows.specs.WordsHeld.{value_bytes, row_bytes};
+ghost use Rattle.type_rows.specs.WordsHeld.{value_bytes as bytes_of_value, row_bytes};
 
 use bucket_codec::buckets_for;
-use hol_varint::units_len;
+use object_codec::value_bytes;
 use row_model::{Row, Value};
 use schema_model::MAX_WORDS;
 
@@ -14,24 +14,14 @@ use schema_model::MAX_WORDS;
 /// Elements of no bits take no words, and a run may stand at many places, so a short blob can have any number of both.
 pub const MOST_ITEMS: u64 = 64 * MAX_WORDS;
 
-/// How many variable bytes a value has; the greatest number where they are more.
-pub(crate) fn value_len(value: &Value) -> u64
-    ensures { result ≡ min (value_bytes value.now) (2 ^ 64 - 1) }
-{
-    match value {
-        Value::Text(units) => units_len(units.as_slice()),
-        Value::Bytes(bytes) => bytes.len() as u64,
-        _ => 0,
-    }
-}
-
 /// How many variable bytes some values have; the greatest number where they are more.
+#[tactic(auto, using(crate::proofs::ValueBytes::value_count))]
 fn values_len(values: &[Value]) -> u64
-    ensures { result ≡ min (sum_by value_bytes values.now) (2 ^ 64 - 1) }
+    ensures { result ≡ min (sum_by bytes_of_value values.now) (2 ^ 64 - 1) }
 {
     let mut len: u64 = 0;
     for value in values {
-        len = len.saturating_add(value_len(value));
+        len = len.saturating_add(value_bytes(value));
     }
     len
 }

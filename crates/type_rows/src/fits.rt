@@ -1,24 +1,13 @@
 //! Which records the widths of an OBJECT's fields can hold.
-ghost use Rattle.std.specs.Prelude.{◌≡◌, ◌↔◌, ◌+◌, ◌-◌, ◌^◌, ◌≤◌, ℕ, length, slice_index, IsTrue};
+ghost use Rattle.std.specs.Prelude.{◌≡◌, ◌↔◌, ◌-◌, ◌≤◌, ℕ, length, slice_index, IsTrue};
 ghost use Rattle.type_rows.specs.Holds.{FitsWidth, FitsWidths};
 ghost use Rattle.type_rows.specs.Ends.{end_after, end_before};
 
-use crate::count::value_len;
 use bit_array::all_ones;
 use hol_varint::{zigzag32, zigzag64};
+use object_codec::{EndOffset, value_bytes};
 use row_model::Value;
 use schema_model::{Field, FieldKind};
-
-/// The top bit of a width, 1 for none.
-fn null_bit(width: u32) -> u64
-    requires { width ≤ 64 }
-    ensures { result ≡ 2 ^ (width - 1) }
-{
-    if width == 0 {
-        return 1;
-    }
-    1 << (width - 1)
-}
 
 /// Whether a value fits the width of a field of this kind, which ends at an offset.
 fn fits_width(kind: &FieldKind, width: u32, end: u64, value: &Value) -> bool
@@ -34,8 +23,8 @@ fn fits_width(kind: &FieldKind, width: u32, end: u64, value: &Value) -> bool
         (FieldKind::Long, Value::Long(number)) => zigzag64(*number) < all_ones(width),
         (FieldKind::Boolean, Value::Null) => width == 2,
         (FieldKind::Boolean, Value::Bool(_)) => width == 2,
-        (FieldKind::Text, _) => end < null_bit(width),
-        (FieldKind::Bytes, _) => end < null_bit(width),
+        (FieldKind::Text, _) => EndOffset::fits(end, width),
+        (FieldKind::Bytes, _) => EndOffset::fits(end, width),
         _ => false,
     }
 }
@@ -56,7 +45,7 @@ pub(crate) fn add_values(
 {
     for (index, field) in fields.iter().enumerate() {
         let value = &values[index];
-        let end = ends[index].saturating_add(value_len(value));
+        let end = ends[index].saturating_add(value_bytes(value));
         if !fits_width(&field.kind, widths[index], end, value) {
             return false;
         }
@@ -71,6 +60,6 @@ pub(crate) fn take_values(values: &[Value], ends: &mut [u64])
     ensures { (field : ℕ) → slice_index ends.new field ≡ end_before ends.old values.now field }
 {
     for (index, value) in values.iter().enumerate() {
-        ends[index] = ends[index].saturating_sub(value_len(value));
+        ends[index] = ends[index].saturating_sub(value_bytes(value));
     }
 }

@@ -14,8 +14,8 @@ use Rattle.type_rows.specs.Loads.{Spells, IsSpelledIn}
 use Rattle.type_rows.specs.Patches.{places_in}
 use Rattle.type_rows.specs.Differing.{Difference}
 use Rattle.type_rows.specs.Fails.{Fails}
-use Rattle.row_faults.specs.Places.{FirstPlaceFails, SpellsSome}
-use Rattle.row_faults.proofs.MoveFaults.{counted}
+use Rattle.type_rows.specs.Places.{FirstPlaceFails, SpellsSome}
+use Rattle.type_rows.proofs.MoveFaults.{counted}
 use Rattle.type_state.specs.Moving.{AreAdded}
 use Rattle.type_state.specs.Differences.{present}
 

@@ -6,7 +6,7 @@ use Rattle.std.specs.FinMap.{entries, find, get, keys}
 use Rattle.ordinal_set.specs.Ordinals.{bound_of}
 use Rattle.row_model.specs.Table.{RowMap}
 use Rattle.type_rows.proofs.Entries.{below_bound, found_live, greatest, least_bound}
-use Rattle.type_views.specs.OneType.{IsRowsBound}
+use Rattle.column_rows.specs.OneType.{IsRowsBound}
 use Rattle.type_state.specs.declared.differences.Differences.{Differences}
 use Rattle.type_state.specs.Differences.{AreApart, AreBelow, rows_with}
 use Rattle.type_state.proofs.DifferingRows.{with_neither}

@@ -27,7 +27,7 @@ use Rattle.packed_half.specs.declared.half.HalfShape.{HalfShape}
 use Rattle.packed_half.specs.Half.{areas_in, behind_items, behind_places, byte_words, item_words, place_words, section_in}
 use Rattle.packed_half.specs.Laying.{HasRuns}
 use Rattle.packed_half.proofs.Looking.{list_holds, live_inside, object_holds, runs_hold, spelled_there}
-use Rattle.type_views.specs.OneType.{AreListsIn, AreRunsIn, IsColumnIn}
+use Rattle.column_rows.specs.OneType.{AreListsIn, AreRunsIn, IsColumnIn}
 use Rattle.type_state.specs.Kept.{IsHalf, IsPacked, half_rows}
 
 some_there : {A : Type 0} (o : Option A) (x : A) → o ≡ Some x → IsSome o

@@ -13,8 +13,8 @@ use Rattle.type_rows.specs.Layout.{Layout}
 use Rattle.type_rows.specs.Loads.{IsLoadFault}
 use Rattle.type_rows.specs.Patches.{IsMovedBy, IsReadablePatch, RefusesMove, patch_layout}
 use Rattle.type_rows.proofs.MovedRows.{kinds_moved}
-use Rattle.row_faults.specs.MoveFault.{FailsMove, LeadsTo}
-use Rattle.row_faults.proofs.MoveFaults.{moved_or_fault}
+use Rattle.type_rows.specs.MoveFault.{FailsMove, LeadsTo}
+use Rattle.type_rows.proofs.MoveFaults.{moved_or_fault}
 use Rattle.type_state.specs.FirstFaults.{FailsHeld}
 use Rattle.type_state.specs.Moving.{IsHeld, IsMoved}
 use Rattle.type_state.proofs.Lookups.{key_live}

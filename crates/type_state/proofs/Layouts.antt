@@ -21,9 +21,9 @@ use Rattle.type_rows.proofs.Entries.{below_bound, entries_rise}
 use Rattle.type_rows.proofs.Rising.{RiseFrom, none_is_not}
 use Rattle.type_rows.specs.declared.ends.Ends.{Ends}
 use Rattle.type_rows.specs.declared.fault.RowFault.{RowFault}
-use Rattle.row_faults.specs.Sums.{AreLaid}
-use Rattle.row_faults.specs.Widths.{FirstUnheld}
-use Rattle.row_faults.proofs.Laying.{first_unheld}
+use Rattle.type_rows.specs.Sums.{AreLaid}
+use Rattle.type_rows.specs.Widths.{FirstUnheld}
+use Rattle.type_rows.proofs.Laying.{first_unheld}
 use Rattle.type_state.specs.FirstFaults.{FailsHeld, FailsSlot}
 use Rattle.type_state.specs.Moving.{AreLaidOut, FitsSlot, LaysSlot}
 use Rattle.type_state.proofs.Lookups.{found, none_below, skipped}

@@ -37,7 +37,7 @@ use Rattle.type_rows.specs.Layout.{items_of_row}
 use Rattle.type_rows.specs.Totals.{AreLess, HasParts}
 use Rattle.type_rows.specs.WordsHeld.{part_bytes, row_bytes, value_bytes}
 use Rattle.type_rows.proofs.Takings.{Taking, all_taken, begun as begun_taking, taken_more}
-use Rattle.type_views.specs.OneType.{AreListsIn, AreRunsIn, IsColumnIn, IsRowsBound}
+use Rattle.column_rows.specs.OneType.{AreListsIn, AreRunsIn, IsColumnIn, IsRowsBound}
 use Rattle.type_state.specs.Leaving.{AreColumns, AreReadAt, AreStanding, HasColumns, HasItems, StandsIn}
 use Rattle.type_state.specs.declared.leaving.Items.{Items}
 use Rattle.type_state.specs.declared.leaving.Leaving.{Leaving}

@@ -22,8 +22,8 @@ use Rattle.type_rows.specs.Patches.{MovesRows}
 use Rattle.type_rows.proofs.Entries.{below_bound}
 use Rattle.type_rows.proofs.Removal.{has_or}
 use Rattle.type_rows.proofs.Rising.{RiseFrom, none_is_not, from_sorted}
-use Rattle.row_faults.specs.MoveFault.{LeadsTo}
-use Rattle.row_faults.proofs.MoveFaults.{key_of_live}
+use Rattle.type_rows.specs.MoveFault.{LeadsTo}
+use Rattle.type_rows.proofs.MoveFaults.{key_of_live}
 use Rattle.type_state.specs.declared.differences.Differences.{Differences}
 use Rattle.type_state.specs.Differences.{AreApart, AreBelow, present, removal, rows_with}
 use Rattle.type_state.specs.Moving.{IsDifferent, IsMoved}

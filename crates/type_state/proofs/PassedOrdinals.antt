@@ -12,10 +12,10 @@ use Rattle.type_rows.specs.declared.patch.PatchSection.{PatchSection}
 use Rattle.type_rows.specs.Layout.{places_of}
 use Rattle.type_rows.specs.Patches.{places_in}
 use Rattle.type_rows.proofs.Removal.{has_or}
-use Rattle.row_faults.specs.MoveFault.{AddedPass, FailsMove, OrdinalsPass, RemovedPass}
-use Rattle.row_faults.proofs.FirstPlaces.{no_ordinals, no_width}
-use Rattle.row_faults.proofs.MoveFaults.{key_of_live, live_key}
-use Rattle.row_faults.proofs.PatchOrdinals.{added_rise, removed_rise}
+use Rattle.type_rows.specs.MoveFault.{AddedPass, FailsMove, OrdinalsPass, RemovedPass}
+use Rattle.type_rows.proofs.FirstPlaces.{no_ordinals, no_width}
+use Rattle.type_rows.proofs.MoveFaults.{key_of_live, live_key}
+use Rattle.type_rows.proofs.PatchOrdinals.{added_rise, removed_rise}
 use Rattle.type_state.specs.FirstFaults.{FailsAdds}
 use Rattle.type_state.specs.Moving.{AreAddable, AreRemovable}
 

@@ -13,10 +13,10 @@ use Rattle.packed_half.specs.LaidOut.{IsLaidOut, lengths_of}
 use Rattle.packed_half.specs.Laying.{CanLay, EachRowOf}
 use Rattle.packed_half.proofs.Parted.{words_few}
 use Rattle.packed_half.proofs.RowPlaces.{entry_of}
-use Rattle.row_faults.specs.LoadFault.{FailsLoad}
-use Rattle.row_faults.specs.Sums.{AreSums}
-use Rattle.row_faults.specs.declared.sums.Sums.{Sums}
-use Rattle.row_faults.proofs.LoadFaults.{load_or_fault}
+use Rattle.type_rows.specs.LoadFault.{FailsLoad}
+use Rattle.type_rows.specs.Sums.{AreSums}
+use Rattle.type_rows.specs.declared.sums.Sums.{Sums}
+use Rattle.type_rows.proofs.LoadFaults.{load_or_fault}
 use Rattle.type_rows.specs.Rows.{rows_in}
 use Rattle.type_rows.proofs.LiveRows.{rows_are}
 use Rattle.type_rows.specs.declared.section.Section.{Section}

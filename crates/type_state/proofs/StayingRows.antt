@@ -13,7 +13,7 @@ use Rattle.row_model.specs.Table.{RowMap}
 use Rattle.object_codec.specs.ObjectPlace.{IsObject}
 use Rattle.type_rows.specs.Differing.{Difference}
 use Rattle.type_rows.specs.Holds.{FitsWidth, HoldsRows}
-use Rattle.type_views.specs.OneType.{IsRowsBound}
+use Rattle.column_rows.specs.OneType.{IsRowsBound}
 use Rattle.type_state.specs.Counted.{FitsSomewhere, IsNoNarrower, StayFitting}
 use Rattle.type_state.specs.Staying.{FieldStays, FitsBesideNull, FitsUnder}
 use Rattle.type_state.proofs.Lookups.{found, skipped}

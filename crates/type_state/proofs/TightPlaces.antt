@@ -26,9 +26,9 @@ use Rattle.bucket_codec.specs.BucketRows.{HoldsAt, IsSpanAt}
 use Rattle.list_codec.specs.ListPlace.{HasElements, IsList, SpellsList}
 use Rattle.list_codec.specs.ListRows.{HasElementsAt, HoldsAt as HoldsListAt}
 use Rattle.list_codec.specs.declared.list_rows.ListRows.{ListRows}
-use Rattle.row_faults.specs.RunItems.{AreListsOf, IsOfSection}
-use Rattle.row_faults.proofs.RunFaults.{holds_at, holds_lists, of_lists, of_section}
-use Rattle.row_faults.proofs.RunsFit.{items_told}
+use Rattle.type_rows.specs.RunItems.{AreListsOf, IsOfSection}
+use Rattle.type_rows.proofs.RunFaults.{holds_at, holds_lists, of_lists, of_section}
+use Rattle.type_rows.proofs.RunsFit.{items_told}
 use Rattle.type_rows.specs.declared.section.Section.{Section}
 use Rattle.type_rows.specs.Layout.{places_of}
 use Rattle.type_rows.specs.Loads.{Spells}

@@ -14,9 +14,9 @@ use Rattle.type_rows.specs.declared.section.Section.{Section}
 use Rattle.type_rows.specs.Layout.{Layout}
 use Rattle.type_rows.specs.Holds.{HoldsRows}
 use Rattle.type_rows.specs.Patches.{places_in}
-use Rattle.row_faults.specs.Places.{FirstPlaceFails}
-use Rattle.row_faults.specs.Tests.{PassBytes, PassWords}
-use Rattle.row_faults.specs.Widths.{FirstUnheld}
+use Rattle.type_rows.specs.Places.{FirstPlaceFails}
+use Rattle.type_rows.specs.Tests.{PassBytes, PassWords}
+use Rattle.type_rows.specs.Widths.{FirstUnheld}
 use Rattle.type_state.specs.Moving.{FitsSlot}
 
 -- The place of an added ordinal is the first that spells no row; want of memory may come in place of any answer, here as below.

@@ -11,7 +11,7 @@ use Rattle.column_rows.specs.Columns.{HasValueOf}
 use Rattle.column_rows.specs.Items.{IsListThere, IsRunThere}
 use Rattle.type_rows.specs.Layout.{items_of_row}
 use Rattle.type_rows.specs.Totals.{HasParts}
-use Rattle.type_views.specs.OneType.{IsColumnIn}
+use Rattle.column_rows.specs.OneType.{IsColumnIn}
 use Rattle.type_state.specs.declared.leaving.Items.{Items}
 use Rattle.type_state.specs.declared.leaving.Leaving.{Leaving}
 

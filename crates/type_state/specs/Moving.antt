@@ -15,7 +15,7 @@ use Rattle.type_rows.specs.Layout.{Layout, item_count, items_of_row, places_of}
 use Rattle.type_rows.specs.WordsHeld.{field_bytes, bytes_held, part_bytes, row_bytes}
 use Rattle.type_rows.specs.Holds.{HoldsRows, KeepsLimits}
 use Rattle.type_rows.specs.Patches.{AddsRows, FitsOrdinals, MovesRows, patch_layout}
-use Rattle.row_faults.specs.MoveFault.{OrdinalsPass}
+use Rattle.type_rows.specs.MoveFault.{OrdinalsPass}
 use Rattle.type_state.specs.declared.differences.Differences.{Differences}
 use Rattle.type_state.specs.Differences.{present, removal}
 

@@ -2,7 +2,7 @@
 ghost use Rattle.std.specs.Prelude.{◌≡◌, IfSome, IsTrue};
 ghost use Rattle.packed_half.specs.Half.{section_in};
 ghost use Rattle.packed_half.specs.Laying.{HasRuns};
-ghost use Rattle.type_views.specs.OneType.{AreListsIn, AreRunsIn, IsColumnIn};
+ghost use Rattle.column_rows.specs.OneType.{AreListsIn, AreRunsIn, IsColumnIn};
 ghost use Rattle.type_state.specs.Kept.{IsHalf, half_rows};
 
 use crate::field_bytes::bytes_of_field;

@@ -15,10 +15,10 @@ ghost use Rattle.type_state.specs.Leaving.{AreStanding};
 use crate::differences::Difference;
 use crate::leaving::Leaving;
 use crate::packed_rows::PackedRows;
+use column_rows::TypeRows;
 use row_model::Row;
 use schema_model::Shape;
 use type_rows::Totals;
-use type_views::TypeRows;
 
 /// Whether rows add up to nothing: they have no items and no variable bytes.
 fn are_nothing(totals: &Totals) -> bool

@@ -8,10 +8,10 @@ ghost use Rattle.row_model.specs.Table.{RowMap};
 ghost use Rattle.type_state.specs.Differences.{AreApart, rows_with};
 
 use crate::packed_rows::PackedRows;
+use column_rows::TypeRows;
 use hol_varint::Duplicate;
 use row_model::Row;
 use std::alloc::{AllocError, Global};
-use type_views::TypeRows;
 
 /// What stands under an ordinal: a row or none.
 pub(crate) type Difference = (u32, Option<Row>);

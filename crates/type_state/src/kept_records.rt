@@ -5,12 +5,13 @@ ghost use Rattle.object_codec.specs.Packing.{HasRoom, IsRowPut};
 ghost use Rattle.list_codec.specs.ListPlace.{IsList};
 ghost use Rattle.list_codec.specs.Packing.{HasRoom as HasListRoom, elements_of_place};
 ghost use Rattle.packed_half.specs.Half.{section_in};
-ghost use Rattle.packed_half.specs.Laying.{IsListPut};
+ghost use Rattle.packed_half.specs.Laying.{HasRuns, HasRunRoom, IsListPut, IsRunPut};
 ghost use Rattle.object_codec.specs.Bytes.{bytes_of};
 ghost use Rattle.type_state.specs.Kept.{IsHalf, half_rows};
 ghost use Rattle.type_state.specs.KeptRecords.{AreKept, kept_rows};
 
 use bit_array::total_width;
+use bucket_codec::{BucketRows, copy_buckets};
 use hol_varint::Octets;
 use list_codec::{ListRows, copy_list};
 use object_codec::{PackedBytes, put_row};
@@ -182,6 +183,44 @@ impl<'a> KeptRecords<'a> {
         };
         match lists.elements(place) {
             Some(elements) => copy_list(elements, widths.as_slice(), first, second, place, start),
+            None => unreachable!(),
+        }
+    }
+    /// Copies the set or map under a live ordinal to a place in other words, its buckets from a start on, and answers where they end. It takes no
+    /// memory.
+    #[inline(always)]
+    pub(crate) fn copy_run(
+        self,
+        widths: &[u32],
+        first: &mut [u64],
+        second: &mut [u64],
+        ordinal: u32,
+        place: u64,
+        start: u64,
+    ) -> u64
+        requires kept { AreKept self }
+        requires runs { HasRuns self.shape.now }
+        requires live { IsSome (get (kept_rows self) ordinal) }
+        requires room { HasRunRoom widths.now first.old second.old place start (get (kept_rows self) ordinal) }
+        ensures { IsRunPut widths.now first.old second.old first.new second.new place start result (get (kept_rows self.entry) ordinal) }
+    {
+        let there = u64::from(ordinal);
+        let runs = BucketRows {
+            widths: self.half.widths.as_slice(),
+            total: self.half.total,
+            first: self.records.first,
+            second: self.second,
+        };
+        match runs.buckets(there) {
+            Some(buckets) => copy_buckets(
+                buckets,
+                runs.size(there),
+                widths,
+                first,
+                second,
+                place,
+                start,
+            ),
             None => unreachable!(),
         }
     }

@@ -14,13 +14,12 @@ ghost use Rattle.type_state.specs.Leaving.{AreColumns, AreReadAt, AreStanding, H
 
 use crate::packed_rows::PackedRows;
 use bucket_codec::{BucketRows, buckets_for};
-use column_rows::PackedItems;
+use column_rows::{PackedItems, TypeColumns, TypeRows};
 use list_codec::ListRows;
 use object_codec::{Column, ValueRef, has_bytes};
 use schema_model::{Field, Shape};
 use std::alloc::{AllocError, Global};
 use type_rows::Totals;
-use type_views::{TypeColumns, TypeRows};
 
 /// The items of the rows of a type, where they stand packed.
 #[derive(Clone, Copy)]

@@ -3,7 +3,7 @@ ghost use Rattle.std.specs.Prelude.{◌≡◌, [], IfErr, MatchResult, OnErr, On
 ghost use Rattle.row_model.specs.Table.{RowMap};
 ghost use Rattle.type_rows.specs.Loads.{IsLoadFault, Loads, RefusesLoad, layout_of};
 ghost use Rattle.type_rows.specs.WellFormed.{IsReadable};
-ghost use Rattle.row_faults.specs.LoadFault.{FailsLoad};
+ghost use Rattle.type_rows.specs.LoadFault.{FailsLoad};
 ghost use Rattle.packed_half.specs.Half.{layout_in, words_for};
 ghost use Rattle.packed_half.specs.LaidOut.{IsLaidOut};
 ghost use Rattle.packed_half.specs.Laying.{CanLay};
@@ -14,10 +14,9 @@ use crate::turning::clear_next;
 use hol_varint::Duplicate;
 use packed_half::{HalfShape, lay_out, words_of_half};
 use raw_words::{Halves, TwinWords};
-use row_faults::{Sums, test_section};
 use schema_model::Schema;
 use std::alloc::{AllocError, Global};
-use type_rows::{RowFault, Section};
+use type_rows::{RowFault, Section, Sums, test_section};
 
 /// What the half of a section's rows is to be, where the section loads rows.
 pub(crate) fn half_of_section(

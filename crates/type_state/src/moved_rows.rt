@@ -1,4 +1,4 @@
-//! The rows that a patch moves others to: each made as it is asked for, and its record or list copied as it stands where the patch keeps it.
+//! The rows that a patch moves others to: each made as it is asked for, and its record, list, set or map copied as it stands where the patch keeps it.
 ghost use Rattle.std.specs.Prelude.{◌≡◌};
 ghost use Rattle.type_state.specs.Differences.{AreApart, rows_with};
 ghost use Rattle.type_state.specs.KeptRecords.{AreKept, kept_rows};
@@ -8,7 +8,7 @@ use crate::kept_records::KeptRecords;
 use crate::packed_rows::PackedRows;
 use hol_varint::Octets;
 use object_codec::put_row;
-use packed_half::{NewRows, elements_in, put_elements};
+use packed_half::{NewRows, elements_in, put_elements, put_run};
 use row_model::{Row, Widths};
 use schema_model::Schema;
 use std::alloc::{AllocError, Global};
@@ -102,6 +102,24 @@ impl NewRows for MovedRows<'_> {
             None => self
                 .records
                 .copy_list(widths, first, second, ordinal, start),
+        })
+    }
+
+    fn put_run(
+        &self,
+        _alloc: Global,
+        widths: &[u32],
+        first: &mut [u64],
+        second: &mut [u64],
+        ordinal: u32,
+        start: u64,
+    ) -> Result<u64, AllocError> {
+        let place = u64::from(ordinal);
+        Ok(match self.differences.at(ordinal) {
+            Some(row) => put_run(widths, first, second, place, start, row.as_ref()),
+            None => self
+                .records
+                .copy_run(widths, first, second, ordinal, place, start),
         })
     }
 }

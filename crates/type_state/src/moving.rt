@@ -5,7 +5,7 @@ ghost use Rattle.packed_half.specs.Half.{layout_in, words_for};
 ghost use Rattle.packed_half.specs.LaidOut.{IsLaidOut};
 ghost use Rattle.packed_half.specs.Laying.{CanLay};
 ghost use Rattle.type_rows.specs.Loads.{IsLoadFault};
-ghost use Rattle.row_faults.specs.MoveFault.{FailsMove};
+ghost use Rattle.type_rows.specs.MoveFault.{FailsMove};
 ghost use Rattle.type_rows.specs.Outline.{layout_at};
 ghost use Rattle.type_rows.specs.Patches.{IsReadablePatch, RefusesMove, patch_layout};
 ghost use Rattle.type_state.specs.Differences.{AreApart, AreBelow, rows_with};

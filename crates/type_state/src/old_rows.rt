@@ -8,13 +8,13 @@ ghost use Rattle.type_state.specs.Kept.{IsHalf, half_rows};
 use crate::old_copies::can_copy_each;
 use crate::old_records::{OldRecords, can_pack};
 use crate::packed_rows::PackedRows;
+use column_rows::TypeRows;
 use hol_varint::{Duplicate, List};
 use packed_half::HalfRows;
 use row_model::{LentRow, Row};
 use schema_model::Schema;
 use std::alloc::{AllocError, Global};
 use std::marker::Model;
-use type_views::TypeRows;
 
 /// Rows that a type had, in the order of the ordinals under which they stood. Contracts see the list of them.
 ///

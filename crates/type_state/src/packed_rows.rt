@@ -5,7 +5,7 @@ ghost use Rattle.type_rows.specs.Totals.{AreTotals};
 ghost use Rattle.type_state.specs.Kept.{IsHalf, half_rows};
 
 use crate::columns::{column_in, lists_in, runs_in};
-use column_rows::PackedItems;
+use column_rows::{OneType, PackedItems, TypeColumns, TypeRows};
 use object_codec::Column;
 use ordinal_set::OrdinalSet;
 use packed_half::{HalfRows, HalfShape, bytes_of_half};
@@ -14,7 +14,6 @@ use schema_model::Schema;
 use std::alloc::{AllocError, Global};
 use std::marker::Model;
 use type_rows::{Ends, Totals};
-use type_views::{OneType, TypeColumns, TypeRows};
 
 /// The rows of a half of a type, where they stand packed.
 #[derive(Drop)]

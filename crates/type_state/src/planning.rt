@@ -8,7 +8,7 @@ ghost use Rattle.type_rows.specs.Patches.{IsMovedBy, IsReadablePatch, patch_layo
 ghost use Rattle.type_rows.specs.Ends.{AreOfKind};
 ghost use Rattle.type_rows.specs.Outline.{layout_at};
 ghost use Rattle.type_rows.specs.Totals.{AreTotals};
-ghost use Rattle.row_faults.specs.MoveFault.{FailsMove};
+ghost use Rattle.type_rows.specs.MoveFault.{FailsMove};
 ghost use Rattle.type_state.specs.Differences.{AreApart, AreBelow, removal, rows_with};
 ghost use Rattle.type_state.specs.Moving.{IsDifferent, IsMoved};
 
@@ -16,12 +16,11 @@ use crate::added::read_added;
 use crate::differences::{Difference, Differences};
 use crate::held::test_held;
 use crate::packed_rows::PackedRows;
+use column_rows::TypeRows;
 use hol_varint::Duplicate;
-use row_faults::first_bad_ordinal;
 use schema_model::{Reason, Schema};
 use std::alloc::{AllocError, Global};
-use type_rows::{Outline, PatchSection, RowFault, Totals};
-use type_views::TypeRows;
+use type_rows::{Outline, PatchSection, RowFault, Totals, first_bad_ordinal};
 
 /// The rows that a patch moves others to, as differences from these, and their layout.
 #[derive(Debug, Drop)]

@@ -1,5 +1,5 @@
 //! The state of one type: its current rows, and those of the state before or of the next one.
-ghost use Rattle.std.specs.Prelude.{◌≡◌, ◌↔◌, All, Some, IsSome, IfErr, IfOk, IsTrue, MatchResult, OnOk};
+ghost use Rattle.std.specs.Prelude.{◌≡◌, ◌↔◌, All, Some, IsSome, IfErr, IfOk, IsTrue, MatchResult, OnOk, length};
 ghost use Rattle.std.specs.FinMap.{get, keys, values};
 ghost use Rattle.ordinal_set.specs.Ordinals.{bound_of};
 ghost use Rattle.hol_varint.specs.Yields.{Yields};
@@ -10,8 +10,8 @@ ghost use Rattle.type_state.specs.Lookup.{elements_of, pairs_of};
 ghost use Rattle.type_rows.specs.WellFormed.{IsReadable};
 ghost use Rattle.type_rows.specs.Loads.{IsLoadFault, IsFreeRow, Loads, TellsLoad, layout_of};
 ghost use Rattle.type_rows.specs.Patches.{IsMovedBy, IsReadablePatch, RefusesMove, TellsMove, patch_layout};
-ghost use Rattle.row_faults.specs.LoadFault.{FailsLoad};
-ghost use Rattle.row_faults.specs.MoveFault.{FailsMove};
+ghost use Rattle.type_rows.specs.LoadFault.{FailsLoad};
+ghost use Rattle.type_rows.specs.MoveFault.{FailsMove};
 ghost use Rattle.packed_half.specs.Half.{layout_in};
 ghost use Rattle.type_state.specs.Moved.{IsMoveOf};
 ghost use Rattle.type_state.specs.Kept.{IsBare};
@@ -24,6 +24,7 @@ use crate::moving::{Move, moved};
 use crate::old_rows::OldRows;
 use crate::packed_rows::PackedRows;
 use crate::turning::{clear_next, lay_moved_next};
+use column_rows::TypeRows;
 use ordinal_set::OrdinalSet;
 use packed_half::{HalfRows, HalfShape, bytes_of_half};
 use raw_words::TwinWords;
@@ -33,7 +34,6 @@ use std::alloc::{AllocError, Global};
 use std::marker::Model;
 use std::mem;
 use type_rows::{PatchSection, RowFault, Section};
-use type_views::TypeRows;
 
 /// The rows of one type: those of its current state, and beside them those of the state before or of the next one, each in words of its own.
 ///
@@ -97,7 +97,7 @@ impl TypeState {
     /// Reads the live rows of a section of a snapshot into the next half, at the section's layout. The current half stays as it is. What the
     /// other one holds where the section is refused is not said.
     ///
-    /// The fault is the first one of the section, and each comes exactly where it is that, or out of memory comes in its place (`row_faults` has the law
+    /// The fault is the first one of the section, and each comes exactly where it is that, or out of memory comes in its place (`type_rows` has the law
     /// that there is one at most). The ordinals are tried first, then the places, the widths, the limit on words and that on bytes. `At` names an
     /// ordinal: `BadOrdinals` the least live one above the max ordinal, `BadPointers`, `BadText`, `BadValue` and `BadBuckets` the first whose place
     /// spells no row, `BadWidth` the first whose row the widths cannot hold when the live rows are laid out with no place between them. `Limit`
@@ -125,7 +125,7 @@ impl TypeState {
     /// Lays out in the next half the current rows without those that a patch removes and with those that it adds, at the patch's layout. The
     /// current half stays as it is. What the other one holds where the patch is refused is not said.
     ///
-    /// The fault is the first one of the patch, and each comes exactly where it is that, or out of memory comes in its place (`row_faults` has the law
+    /// The fault is the first one of the patch, and each comes exactly where it is that, or out of memory comes in its place (`type_rows` has the law
     /// that there is one at most). The ordinals are tried first, then the places of the added ones, the widths, the limit on words and that on
     /// bytes. `At` names an ordinal: `BadOrdinals` the first removed one that does not rise or is not live, else the first added one that does not
     /// rise, has no place or is live, else the least that stays and has no place; `BadPointers`, `BadText`, `BadValue` and `BadBuckets` the first
@@ -192,6 +192,13 @@ impl TypeState {
         ensures { result ≡ self.entry.now.current.layout.max }
     {
         self.now.max
+    }
+
+    /// How many rows the current state has.
+    pub fn live_count(&self) -> u64
+        ensures { result ≡ length (keys self.entry.now.current.rows) }
+    {
+        self.current().live().len()
     }
 
     /// How many words the current rows take where they stand: at the layout of the blob that last named the type, with nothing between them.

@@ -8,16 +8,16 @@ ghost use Rattle.object_codec.specs.Part.{SpellsValue};
 ghost use Rattle.object_codec.specs.Columns.{IsReadAt, part_of};
 ghost use Rattle.type_rows.specs.Holds.{HoldsRows};
 ghost use Rattle.type_rows.specs.Layout.{width_count};
-ghost use Rattle.type_views.specs.OneType.{IsColumnIn};
+ghost use Rattle.column_rows.specs.OneType.{IsColumnIn};
 ghost use Rattle.type_state.specs.Counted.{IsNoNarrower, StayFitting};
 ghost use Rattle.type_state.specs.Staying.{FieldStays, FitsBesideNull, FitsUnder};
 
 use crate::differences::Difference;
 use crate::packed_rows::PackedRows;
 use bit_array::{all_ones, element};
+use column_rows::{TypeColumns, TypeRows};
 use object_codec::Column;
 use schema_model::{Field, FieldKind, Shape};
-use type_views::{TypeColumns, TypeRows};
 
 /// Whether the number of a field in the record at a place is null, or fits another width beside null.
 #[inline(always)]

@@ -9,7 +9,7 @@ ghost use Rattle.object_codec.specs.ObjectPlace.{IsObject};
 ghost use Rattle.packed_half.specs.LaidOut.{IsTight};
 ghost use Rattle.record_copies.specs.Fixed.{AreFixed};
 ghost use Rattle.schema_model.specs.Parts.{shape_fields};
-ghost use Rattle.row_faults.specs.RunItems.{AreListsOf, IsOfSection};
+ghost use Rattle.type_rows.specs.RunItems.{AreListsOf, IsOfSection};
 ghost use Rattle.type_rows.specs.Layout.{places_of};
 ghost use Rattle.type_rows.specs.Loads.{Spells};
 ghost use Rattle.type_rows.specs.WellFormed.{IsReadable};

@@ -4,8 +4,8 @@ ghost use Rattle.type_state.specs.Views.{AreNext, table_of, next_halves};
 
 use crate::packed_rows::PackedRows;
 use crate::states::{TypeStates, state_at};
+use column_rows::{RowsByType, StateRows};
 use schema_model::Model;
-use type_views::{RowsByType, StateRows};
 
 /// The rows that stand in the next halves of the types of a model.
 pub type NextRows<'a> = StateRows<'a, NextTypes<'a>>;

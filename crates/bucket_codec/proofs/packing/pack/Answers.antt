@@ -29,14 +29,14 @@ returns-clause-first_bits g c =
     let count = length (g.P.PlacedRows.places c.args.rows.now) in
     let first = c.from_vec.ensures ∙ written_over c.put_rows.new.first _ _ (sym (c.put_rows.auto.first ∙ c.as_mut_slice.ensures.len)) in
     none_behind_zeros c.in_ok-first.first.items c.as_mut_slice.result.now c.put_rows.new.first c.from_vec.result count (place_width c.args.widths.now) count _
-    c.in_ok-first.ensures.zero c.as_mut_slice.ensures.value first refl (ap place_width c.as_slice-widths.ensures) c.in_ok-put_rows.ensures.first
+    c.in_ok-first.ensures.none c.as_mut_slice.ensures.value first refl (ap place_width c.as_slice-widths.ensures) c.in_ok-put_rows.ensures.first
 
 pub returns-clause-second_bits : goal.returns-clause-second_bits
 returns-clause-second_bits g c =
     let count = bucket_total (g.P.PlacedRows.places c.args.rows.now) in
     let second = c.from_vec-2.ensures ∙ written_over c.put_rows.new.second _ _ (sym (c.put_rows.auto.second ∙ c.as_mut_slice-2.ensures.len)) in
     none_behind_zeros c.in_ok-second.second.items c.as_mut_slice-2.result.now c.put_rows.new.second c.from_vec-2.result count (bucket_width c.args.widths.now) count _
-    c.in_ok-second.ensures.zero c.as_mut_slice-2.ensures.value second refl (ap bucket_width c.as_slice-widths.ensures) c.in_ok-put_rows.ensures.second
+    c.in_ok-second.ensures.none c.as_mut_slice-2.ensures.value second refl (ap bucket_width c.as_slice-widths.ensures) c.in_ok-put_rows.ensures.second
 
 pub returns-clause-whole : goal.returns-clause-whole
 returns-clause-whole g c =

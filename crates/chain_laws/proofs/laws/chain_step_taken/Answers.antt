@@ -1,4 +1,4 @@
-use Rattle.hollow_machine.specs.StepOrder.{step_name}
+use Rattle.hol_io.specs.Name.{step_name}
 use Rattle.chain_laws.proofs.ConsumerOrders.{step_between, step_named, step_only, step_taken}
 use Rattle.chain_laws.proofs.PlannedMoves.{agrees_there}
 use Rattle.chain_laws.proofs.UnlikeSteps.{unlike_only, unlike_refused}

@@ -1,4 +1,4 @@
-use Rattle.hollow_machine.specs.StepOrder.{step_name}
+use Rattle.hol_io.specs.Name.{step_name}
 use Rattle.chain_laws.proofs.Lawful.{says_both}
 use Rattle.chain_laws.proofs.OneMove.{one_load, one_move}
 use Rattle.chain_laws.proofs.PlanLaws.{one_goto}

@@ -1,4 +1,4 @@
-use Rattle.hollow_machine.specs.StepOrder.{step_name}
+use Rattle.hol_io.specs.Name.{step_name}
 use Rattle.chain_laws.proofs.ConsumerOrders.{other_only, other_refused}
 use Rattle.chain_laws.proofs.laws.other_origin_refused.Goals as goal
 

@@ -14,5 +14,5 @@ returns c =
     let there : slice_get c.now-rows.result.schemas c.args.type_index ≡ Some c.schema.result.now =
     ap (λ (ss : List Schema). slice_get ss c.args.type_index) (sym c.model.ensures.model) ∙ c.schema.ensures.value
     in
-    counts_are c.args.type_index c.now-rows.result.schemas c.now-rows.result.table c.schema.result.now c.in_ok-copy.field-0 c.count_live.result c.words_held.result c.bytes_held.result c.max.result there
-    c.in_ok-copy.ensures c.count_live.ensures c.args.consumer.now c.now-rows.ensures.schemas c.now-rows.ensures.table c.now-rows.ensures.position c.requires c.max.ensures c.words_held.ensures c.bytes_held.ensures
+    counts_are c.args.type_index c.now-rows.result.schemas c.schema.result.now c.in_ok-copy.field-0 c.live_count.result c.words_held.result c.bytes_held.result c.max.result there c.in_ok-copy.ensures
+    c.args.consumer.now c.now-rows.ensures.schemas c.now-rows.ensures.position c.requires c.live_count.ensures c.max.ensures c.words_held.ensures c.bytes_held.ensures

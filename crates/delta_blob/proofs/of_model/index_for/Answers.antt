@@ -1,5 +1,5 @@
 use Rattle.schema_growth.proofs.Growths.{fields_apart}
 use Rattle.delta_blob.proofs.of_model.index_for.Goals as goal
 
-pub agree-requires : goal.agree-requires
-agree-requires c = fields_apart c.args.model.now c.in-Some.type_index c.schema.result.now c.schema.ensures.model c.schema.ensures.value
+pub agree_by_place-requires : goal.agree_by_place-requires
+agree_by_place-requires c = fields_apart c.args.model.now c.in-Some.type_index c.schema.result.now c.schema.ensures.model c.schema.ensures.value

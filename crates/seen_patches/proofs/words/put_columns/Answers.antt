@@ -2,7 +2,7 @@ use Rattle.std.proofs.Common.{◌≡◌, ◌∙◌, ℕ, ◌+◌, ◌*◌, ap, s
 use Rattle.std.proofs.lemmas.Option.{slice_get_read}
 use Rattle.seen_patches.specs.ByName.{item_named}
 use Rattle.seen_patches.proofs.PutColumns as columns
-use Rattle.seen_patches.proofs.Zeros.{bits_kept}
+use Rattle.seen_patches.proofs.BitsKept.{bits_kept}
 use Rattle.seen_patches.proofs.words.put_columns.Goals as goal
 
 pub put_column-requires-clause-target : goal.put_column-requires-clause-target

@@ -6,13 +6,13 @@ use Rattle.type_rows.proofs.fits.add_values.Goals as goal
 pub returns-then-not-fits_width-clause-fits : goal.returns-then-not-fits_width-clause-fits
 returns-then-not-fits_width-clause-fits c = (
   λ t. absurd (false≢true t),
-  λ all. absurd (refused c.args.fields.now c.args.widths.now c.args.values.now c.args.ends.now c.loop-index.ends c.loop-index.index c.index-fields-index.result c.index-values-index.result c.value_len.result c.saturating_add-end.result
+  λ all. absurd (refused c.args.fields.now c.args.widths.now c.args.values.now c.args.ends.now c.loop-index.ends c.loop-index.index c.index-fields-index.result c.index-values-index.result c.value_bytes.result c.saturating_add-end.result
       c.loop-index.invariant (search rules) (search rules) all),
 )
 
 pub loop-index-preserved : goal.loop-index-preserved
 loop-index-preserved c =
-    stepped c.args.fields.now c.args.widths.now c.args.values.now c.args.ends.now c.loop-index.ends c.loop-index.index c.index-fields-index.result c.index-values-index.result c.value_len.result c.saturating_add-end.result
+    stepped c.args.fields.now c.args.widths.now c.args.values.now c.args.ends.now c.loop-index.ends c.loop-index.index c.index-fields-index.result c.index-values-index.result c.value_bytes.result c.saturating_add-end.result
     c.loop-index.invariant (search rules) (search rules)
 
 pub returns-clause-fits : goal.returns-clause-fits

@@ -7,7 +7,7 @@ use Rattle.type_rows.specs.Ends.{AreOfKind}
 use Rattle.type_rows.specs.Holds.{HoldsRows}
 use Rattle.type_rows.specs.Loads.{IsLoadFault}
 use Rattle.type_rows.specs.Patches.{RefusesMove}
-use Rattle.row_faults.specs.MoveFault.{FailsMove}
+use Rattle.type_rows.specs.MoveFault.{FailsMove}
 use Rattle.type_state.specs.declared.differences.Differences.{Differences}
 use Rattle.type_state.specs.PackedRows.{Standing}
 use Rattle.type_state.specs.declared.moving.Move.{Move}

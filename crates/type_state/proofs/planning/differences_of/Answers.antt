@@ -1,6 +1,6 @@
 use Rattle.std.proofs.Common.{◌<◌, ◌^◌, List, ℕ, map, ap, ◌∙◌, subst, sym, arith, rules}
 use Rattle.std.specs.Prelude.{All}
-use Rattle.row_faults.specs.MoveFault.{FailsMove, OrdinalsPass}
+use Rattle.type_rows.specs.MoveFault.{FailsMove, OrdinalsPass}
 use Rattle.type_state.specs.Differences.{removal}
 use Rattle.type_state.proofs.PassedOrdinals.{addable, fails_adds, removable}
 use Rattle.type_state.proofs.planning.differences_of.Goals as goal

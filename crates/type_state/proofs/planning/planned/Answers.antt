@@ -1,7 +1,7 @@
 use Rattle.std.proofs.Common.{rules, ◌≤◌, ◌∙◌, ap, sym, subst, length}
 use Rattle.std.specs.Prelude.{slice_index}
 use Rattle.type_rows.specs.Outline.{layout_at}
-use Rattle.row_faults.specs.MoveFault.{FailsMove}
+use Rattle.type_rows.specs.MoveFault.{FailsMove}
 use Rattle.type_rows.proofs.Places.{wide_long, wide_narrow}
 use Rattle.type_state.specs.Differences.{rows_with}
 use Rattle.type_state.proofs.HeldMoves.{fails_held, moved_by, moved_kinds}

@@ -1,7 +1,7 @@
 use Rattle.std.proofs.Common.{rules, ◌≡◌, [], subst}
 use Rattle.std.specs.Prelude.{IfSome}
 use Rattle.row_model.specs.Table.{RowMap}
-use Rattle.type_views.specs.OneType.{IsColumnIn}
+use Rattle.column_rows.specs.OneType.{IsColumnIn}
 use Rattle.state_moves.proofs.ColumnTables.{column_stays}
 use Rattle.state_moves.proofs.before.RowsBeforeTypeColumns.column.Goals as goal
 

@@ -1,7 +1,7 @@
 use Rattle.std.proofs.Common.{rules, ◌≡◌, [], subst}
 use Rattle.std.specs.Prelude.{IfSome}
 use Rattle.row_model.specs.Table.{RowMap}
-use Rattle.type_views.specs.OneType.{AreListsIn}
+use Rattle.column_rows.specs.OneType.{AreListsIn}
 use Rattle.state_moves.proofs.ColumnTables.{lists_stay}
 use Rattle.state_moves.proofs.before.RowsBeforeTypeColumns.lists.Goals as goal
 

@@ -1,7 +1,7 @@
 use Rattle.std.proofs.Common.{rules, ◌≡◌, [], subst}
 use Rattle.std.specs.Prelude.{IfSome}
 use Rattle.row_model.specs.Table.{RowMap}
-use Rattle.type_views.specs.OneType.{AreRunsIn}
+use Rattle.column_rows.specs.OneType.{AreRunsIn}
 use Rattle.state_moves.proofs.ColumnTables.{runs_stay}
 use Rattle.state_moves.proofs.before.RowsBeforeTypeColumns.runs.Goals as goal
 

@@ -1,6 +1,6 @@
 use Rattle.std.proofs.Common.{◌∙◌, ap, subst}
 use Rattle.ordinal_set.specs.Ordinals.{bound_of}
-use Rattle.type_views.specs.OneType.{IsRowsBound}
+use Rattle.column_rows.specs.OneType.{IsRowsBound}
 use Rattle.type_state.specs.PackedRows.{Standing}
 use Rattle.type_state.specs.Kept.{half_rows}
 use Rattle.type_state.proofs.Bounds.{rows_bound}

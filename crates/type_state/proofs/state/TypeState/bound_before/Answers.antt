@@ -1,6 +1,6 @@
 use Rattle.std.proofs.Common.{subst}
 use Rattle.row_model.specs.Table.{RowMap}
-use Rattle.type_views.specs.OneType.{IsRowsBound}
+use Rattle.column_rows.specs.OneType.{IsRowsBound}
 use Rattle.type_state.proofs.Bounds.{bound_of_rows}
 use Rattle.type_state.proofs.state.TypeState.bound_before.Goals as goal
 

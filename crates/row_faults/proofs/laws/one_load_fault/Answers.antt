@@ -1,5 +1,0 @@
-use Rattle.row_faults.proofs.LoadFaults.{load_fault_once, load_or_fault}
-use Rattle.row_faults.proofs.laws.one_load_fault.Goals as goal
-
-pub returns : goal.returns
-returns c = record { once = load_fault_once; apart = load_or_fault }

@@ -1,5 +1,0 @@
-use Rattle.row_faults.proofs.MoveFaults.{move_fault_once, moved_or_fault}
-use Rattle.row_faults.proofs.laws.one_move_fault.Goals as goal
-
-pub returns : goal.returns
-returns c = record { once = move_fault_once; apart = moved_or_fault }

@@ -1,6 +1,0 @@
-use Rattle.row_faults.specs.Ordinals.{FailsRemoved}
-use Rattle.row_faults.proofs.Walks.{Walked}
-use Rattle.row_faults.proofs.ordinals.first_bad_removed.Given as goal
-
-abbrev pub invariant-loop-ordinal : goal.invariant-loop-ordinal
-invariant-loop-ordinal l = Walked (FailsRemoved l.live l.removed) l.removed l.ordinal-index l.from

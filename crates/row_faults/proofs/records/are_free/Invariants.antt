@@ -1,5 +1,0 @@
-use Rattle.row_faults.specs.Free.{AreFree}
-use Rattle.row_faults.proofs.records.are_free.Given as goal
-
-abbrev pub invariant-loop-index : goal.invariant-loop-index
-invariant-loop-index l = AreFree l.fields l.widths l.index

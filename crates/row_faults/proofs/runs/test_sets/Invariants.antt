@@ -1,5 +1,0 @@
-use Rattle.row_faults.proofs.FirstPlaces.{SpellBefore}
-use Rattle.row_faults.proofs.runs.test_sets.Given as goal
-
-abbrev pub invariant-loop-ordinal : goal.invariant-loop-ordinal
-invariant-loop-ordinal l = SpellBefore l.shape l.section l.live l.ordinal-index
